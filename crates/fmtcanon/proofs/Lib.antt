@@ -1,0 +1,4 @@
+pub mod PlainLemmas
+pub mod CanonicalLemmas
+pub mod PresenceLemmas
+pub mod WordLemmas

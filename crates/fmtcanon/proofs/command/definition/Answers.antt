@@ -1,0 +1,14 @@
+use Rattle.std.proofs.Common.{◌≡◌, ◌∙◌, ap₂}
+use Rattle.std.proofs.lemmas.Result.{IfOk-weaker}
+use Rattle.clap.specs.Simple.{App, app_of, with_subcommand}
+use Rattle.clap.specs.declared.builder.command.Command.{Command}
+use Rattle.fmtcanon.specs.Words.{the_command}
+use Rattle.fmtcanon.proofs.command.definition.Goals as goal
+
+-- one more subcommand
+next : (r command sub : Command) (a s : App) → app_of r ≡ with_subcommand (app_of command) (app_of sub).top → app_of command ≡ a → app_of sub ≡ s → app_of r ≡ with_subcommand a s.top
+next r command sub a s e p q = e ∙ ap₂ (λ (x y : App). with_subcommand x y.top) p q
+
+pub returns : goal.returns
+unfolding the_command
+returns c = IfOk-weaker c.adding.result _ _ (λ r h. next r _ _ _ _ h c.top.ensures c.in_ok-on_format.ensures.0) c.adding.ensures

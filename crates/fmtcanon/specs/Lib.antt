@@ -1,0 +1,7 @@
+pub mod Plain
+pub mod Reading
+pub mod Canonicals
+pub mod Words
+pub mod Tasks
+pub mod Outcomes
+pub mod Runs

@@ -1,0 +1,40 @@
+-- What a run leaves, by its outcome.
+use Rattle.std.specs.Prelude.{◌++◌, List, codes}
+use Rattle.std.specs.Io.KnownBytes.{Keeps}
+use Rattle.pf_values.specs.declared.counting.Counted.{Counted}
+use Rattle.pf_values.specs.Canonical.{IsCanonicalOf}
+use Rattle.pf_values.specs.Counting.{Known, WritesAll, WritesFirst, device_of}
+use Rattle.pf_values.specs.Text.{Text}
+use Rattle.fmtcanon.specs.declared.outcome.Outcome.{Outcome}
+use Rattle.fmtcanon.specs.declared.outcome.Outcome.TheVariants.{Done, Refused, Usage, Write, Memory}
+use Rattle.fmtcanon.specs.Plain.{IsRefusedPlainly}
+use Rattle.fmtcanon.specs.Tasks.{Names}
+use Rattle.fmtcanon.specs.Words.{IsTaken}
+
+-- a text and a newline
+abbrev pub line : Text → Text
+line t = t ++ codes "\n"
+
+module _ {W : Type 0} (contents : W → Known) (old new : Counted W) where
+  -- nothing went out
+  abbrev pub KeepsAll : Type 0
+  KeepsAll = Keeps (contents (device_of old)) (contents (device_of new))
+
+  -- just these bytes went out, or the first of them and a call failed
+  abbrev pub LeavesBytes : Text → Outcome → Type 0
+  LeavesBytes bytes Done = WritesAll contents old new bytes
+  LeavesBytes bytes (Write written) = WritesFirst contents old new bytes written
+  LeavesBytes bytes _ = ⊥
+
+  -- the canonical string of a format and a newline, or nothing
+  abbrev pub LeavesCanonical : Text → Outcome → Type 0
+  LeavesCanonical format (Refused refusal) = IsRefusedPlainly format refusal × KeepsAll
+  LeavesCanonical format (Usage text) = ⊥
+  LeavesCanonical format Memory = KeepsAll
+  LeavesCanonical format outcome = (canonical : Text) × IsCanonicalOf format canonical × LeavesBytes (line canonical) outcome
+
+  -- Words that clap takes are not answered with Usage. For want of memory nothing goes out.
+  abbrev pub Leaves : List Text → Outcome → Type 0
+  Leaves words (Usage text) = (IsTaken words → ⊥) × KeepsAll
+  Leaves words Memory = KeepsAll
+  Leaves words outcome = (format : Text) × Names words (codes "canon") format × LeavesCanonical format outcome

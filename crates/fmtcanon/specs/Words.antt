@@ -1,0 +1,30 @@
+-- What the words of a call mean, by clap's definition of the command.
+use Rattle.std.specs.Prelude.{◌≡◌, true, List, codes}
+use Rattle.clap.specs.Simple.{App, Shape, new_app, new_rule, on_top, with_rule, with_subcommand}
+use Rattle.clap.specs.Takes.{takes}
+use Rattle.clap.specs.Walk.{Rule}
+use Rattle.pf_values.specs.Text.{Text}
+
+-- an argument that is wanted
+abbrev pub wanted : Text → Rule
+wanted id = record (new_rule id) { required = true }
+
+-- a subcommand with the argument F
+abbrev pub on_format : Text → App
+on_format name = with_rule (new_app name) (wanted (codes "F"))
+
+-- The words come without the program's name, and a subcommand is wanted.
+abbrev pub top_app : App
+top_app = on_top (λ s. record s {
+  no_binary_name = true;
+  subcommand_required = true;
+  disable_help_subcommand = true;
+}) (new_app (codes "fmtcanon"))
+
+-- the command
+unfoldable pub the_command : App
+the_command = with_subcommand top_app (on_format (codes "canon")).top
+
+-- clap's definition of the command takes the words
+abbrev pub IsTaken : List Text → Type 0
+IsTaken words = takes the_command words ≡ true

@@ -1,0 +1,41 @@
+//! The definition of the command for `clap`.
+ghost use Rattle.std.specs.Prelude.{◌≡◌, IfOk, false};
+ghost use Rattle.clap.specs.Simple.{with_subcommand};
+ghost use Rattle.clap.specs.Words.{app_of};
+ghost use Rattle.clap.specs.declared.builder.command.Command.TheViews.{out-Command as fields_of};
+ghost use Rattle.fmtcanon.specs.Words.{on_format, the_command, top_app};
+
+use clap::{Arg, Command};
+use std::alloc::{AllocError, Global};
+
+/// The command, as `clap` sees it.
+pub fn definition<'a>(alloc: Global) -> Result<Command<'a>, AllocError>
+    ensures { IfOk result (λ command. app_of command ≡ the_command) }
+{
+    adding(top(alloc), on_format(alloc, "canon")?)
+}
+
+// The command without its subcommands.
+fn top<'a>(alloc: Global) -> Command<'a>
+    ensures { app_of result ≡ top_app }
+{
+    Command::new(alloc, "fmtcanon")
+        .no_binary_name(true)
+        .subcommand_required(true)
+        .disable_help_subcommand(true)
+}
+
+// A subcommand with a format.
+fn on_format<'a>(alloc: Global, name: &'a str) -> Result<Command<'a>, AllocError>
+    ensures { IfOk result (λ command. (app_of command ≡ on_format name.now) × ((fields_of command).has_globals ≡ false)) }
+{
+    Command::new(alloc, name).arg(Arg::new(alloc, "F").required(true))
+}
+
+// The command with one more subcommand.
+fn adding<'a>(command: Command<'a>, sub: Command<'a>) -> Result<Command<'a>, AllocError>
+    requires { (fields_of sub).has_globals ≡ false }
+    ensures { IfOk result (λ r. app_of r ≡ with_subcommand (app_of command.entry) (app_of sub.entry).top) }
+{
+    command.subcommand(sub)
+}

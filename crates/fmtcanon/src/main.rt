@@ -1,0 +1,64 @@
+//! The program: it runs the command of its words over the standard streams.
+#![tactic(auto)]
+
+mod bare;
+mod canonical;
+mod command;
+mod outcome;
+mod reader;
+mod refusal;
+mod report;
+mod run;
+mod task;
+#[cfg(test)]
+mod tests;
+
+use outcome::Outcome;
+use pf_values::Counted;
+use report::report;
+use run::run;
+use std::alloc::AllocError;
+use std::env;
+use std::io;
+use std::io::{BufReader, BufWriter, ErrorKind};
+use std::process::ExitCode;
+
+fn main(rt: HostRuntime) -> ExitCode {
+    let outcome = match run_words(&rt) {
+        Ok(outcome) => outcome,
+        Err(AllocError) => Outcome::Memory,
+    };
+    report(&outcome, &mut Counted::new(rt.stderr()));
+    ExitCode::from(outcome.status())
+}
+
+// The buffers stand below the counts, so that what `run` says went out is what the buffer took.
+fn run_words(rt: &HostRuntime) -> Result<Outcome, AllocError> {
+    let words = match words_of(rt) {
+        Ok(words) => words,
+        Err(error) if error.kind() == ErrorKind::OutOfMemory => return Err(AllocError),
+        Err(_) => {
+            let text = String::from_str(rt.alloc(), "error: a word is not UTF-8\n")?;
+            return Ok(Outcome::Usage(text));
+        }
+    };
+    let texts: Vec<&str> = words.iter().map(|word| word.as_str()).collect(rt.alloc())?;
+    let Ok(reader) = BufReader::new(rt.alloc(), rt.stdin()) else {
+        return Err(AllocError);
+    };
+    let Ok(writer) = BufWriter::new(rt.alloc(), rt.stdout()) else {
+        return Err(AllocError);
+    };
+    let mut reader = Counted::new(reader);
+    let mut writer = Counted::new(writer);
+    Ok(run(rt.alloc(), &texts, &mut reader, &mut writer))
+}
+
+// The words without the program's name.
+fn words_of(rt: &HostRuntime) -> io::Result<Vec<String>> {
+    let mut words = Vec::new(rt.alloc());
+    for word in env::args(rt)?.skip(1) {
+        words.push(word)?;
+    }
+    Ok(words)
+}

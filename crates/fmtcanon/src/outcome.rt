@@ -1,0 +1,38 @@
+//! How a run ended.
+ghost use Rattle.std.specs.Prelude.{◌≡◌};
+ghost use Rattle.fmtcanon.specs.Outcomes.{status_of};
+
+use crate::refusal::Refusal;
+
+/// How a run ended.
+#[derive(Debug, Drop)]
+pub enum Outcome {
+    /// All was written.
+    Done,
+    /// The format is refused, and nothing was written.
+    Refused {
+        /// Why, and where.
+        refusal: Refusal,
+    },
+    /// The words are no command; the text is `clap`'s.
+    Usage(String),
+    /// A write or the flush failed after so many bytes.
+    Write(u128),
+    /// A growth was refused.
+    Memory,
+}
+
+impl Outcome {
+    /// The exit status: 0 where all was written, 2 for a refused format, 3 for wrong words, and 4 for a
+    /// device that failed or want of memory.
+    pub fn status(&self) -> u8
+        ensures { result ≡ status_of self.now }
+    {
+        match self {
+            Outcome::Done => 0,
+            Outcome::Refused { .. } => 2,
+            Outcome::Usage(_) => 3,
+            Outcome::Write(_) | Outcome::Memory => 4,
+        }
+    }
+}

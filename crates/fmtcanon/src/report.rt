@@ -1,0 +1,27 @@
+//! What is said on standard error.
+
+use crate::outcome::Outcome;
+use pf_values::Counted;
+use std::io;
+use std::io::Write;
+
+/// Writes the line of an outcome that has one; the text of `clap` is written as it is. A write that fails
+/// ends it.
+pub fn report<E: Write>(outcome: &Outcome, errors: &mut Counted<E>) {
+    let _ = report_line(outcome, errors);
+}
+
+fn report_line<E: Write>(outcome: &Outcome, errors: &mut Counted<E>) -> io::Result<()> {
+    match outcome {
+        Outcome::Done => Ok(()),
+        Outcome::Refused { refusal } => {
+            let number = refusal.kind.number();
+            let name = refusal.kind.name();
+            let at = refusal.at;
+            writeln!(errors, "refused {number} {name} at byte {at}")
+        }
+        Outcome::Usage(text) => write!(errors, "{text}"),
+        Outcome::Write(_) => writeln!(errors, "write failed"),
+        Outcome::Memory => writeln!(errors, "out of memory"),
+    }
+}

@@ -1,0 +1,66 @@
+//! A run of the program.
+ghost use Rattle.std.specs.Prelude.{◌≡◌, IfOk, IfErr, map};
+ghost use Rattle.pf_values.specs.Canonical.{IsCanonicalOf};
+ghost use Rattle.pf_values.specs.Text.{Text};
+ghost use Rattle.fmtcanon.specs.Canonicals.{IsFaultOf};
+ghost use Rattle.fmtcanon.specs.Runs.{Leaves, LeavesBytes, LeavesCanonical, line};
+
+use crate::canonical::{CanonFault, canonical};
+use crate::outcome::Outcome;
+use crate::task::{NoTask, Task, task_of};
+use pf_values::{Counted, write_bytes};
+use std::alloc::Global;
+use std::io::{Read, Write};
+
+/// Runs the command that the words name; the program's name isn't among them. What a command reads comes
+/// from `reader`, and what it writes goes to `writer`, which is flushed before `Done`. All growths come
+/// before the first byte goes out.
+pub fn run<R: Read, W: Write>(
+    alloc: Global,
+    words: &[&str],
+    reader: &mut Counted<R>,
+    writer: &mut Counted<W>,
+) -> Outcome
+    ensures left { Leaves W.contents writer.old writer.new (map (λ s. s.now) words.now) result }
+    // No command reads yet.
+    ensures unread { reader.new ≡ reader.old }
+{
+    match task_of(alloc, words) {
+        Ok(Task::Canon(format)) => write_canonical(alloc, format, writer),
+        Err(NoTask::Usage(text)) => Outcome::Usage(text),
+        Err(NoTask::Memory) => Outcome::Memory,
+    }
+}
+
+// Writes the canonical string of a format and a newline.
+fn write_canonical<W: Write>(alloc: Global, format: &str, writer: &mut Counted<W>) -> Outcome
+    ensures { LeavesCanonical W.contents writer.old writer.new format.now result }
+{
+    match canonical_line(alloc, format.as_bytes()) {
+        Ok(line) => write_all_of(&line, writer),
+        Err(CanonFault::Refused(refusal)) => Outcome::Refused { refusal },
+        Err(CanonFault::Memory) => Outcome::Memory,
+    }
+}
+
+fn canonical_line(alloc: Global, format: &[u8]) -> Result<Vec<u8>, CanonFault>
+    ensures ok { IfOk result (λ out. (c : Text) × IsCanonicalOf format.now c × (out.items ≡ line c)) }
+    ensures err { IfErr result (IsFaultOf format.now) }
+{
+    let mut out = canonical(alloc, format)?;
+    out.push(b'\n')?;
+    Ok(out)
+}
+
+// Writes bytes, and flushes.
+fn write_all_of<W: Write>(bytes: &[u8], writer: &mut Counted<W>) -> Outcome
+    ensures { LeavesBytes W.contents writer.old writer.new bytes.now result }
+{
+    if let Err(short) = write_bytes(writer, bytes) {
+        return Outcome::Write(short.written as u128);
+    }
+    match writer.flush() {
+        Ok(()) => Outcome::Done,
+        Err(_) => Outcome::Write(bytes.len() as u128),
+    }
+}

@@ -1,0 +1,108 @@
+-- For each directive and argument of its type there is one text that it prints.
+use Rattle.std.proofs.Common.{◌≡◌, [], ◌∷◌, ◌++◌, refl, sym, ap, ◌∙◌, ℤ, pos, false, arith}
+use Rattle.std.specs.Prelude.{nat_abs}
+use Rattle.std.proofs.lemmas.Int.{ints}
+use Rattle.pf_values.specs.declared.conversions.Conv.{Conv}
+use Rattle.pf_values.specs.declared.conversions.Conv.TheVariants.{D, I, U, C, S}
+use Rattle.pf_values.specs.declared.lengths.Length.{Length}
+use Rattle.pf_values.specs.declared.lengths.Length.TheVariants as lengths
+use Rattle.pf_values.specs.Arguments.{Argument, Number, String, HasType, IsValue}
+use Rattle.pf_values.specs.Conversions.{is_signed}
+use Rattle.pf_values.specs.DataModel.{B8, arg_type, bits_under, type_under}
+use Rattle.pf_values.specs.Printing.{Prints, PrintsUnder, PrintsNumber, PrintsOnce, field, shown, sign_or_prefix}
+use Rattle.pf_values.specs.Specification.{Specification}
+use Rattle.pf_values.specs.Text.{Text}
+use Rattle.pf_values.proofs.Printed.{printed_digits, printed_precision, AreDigitsOf-exist, AreDigitsOf-unique, IsPrecision-exists, IsPrecision-unique}
+use Rattle.pf_values.proofs.Values.{wrapped, converted, converted-is, IsConverted-unique}
+
+-- what is printed of a value, without padding
+abbrev pub value_text : Specification → ℤ → Text
+value_text s value = sign_or_prefix s value ++ printed_digits s (printed_precision s value) (nat_abs value)
+
+pub PrintsNumber-value : (s : Specification) (n value : ℤ) → IsValue s n value → PrintsNumber s n (value_text s value)
+PrintsNumber-value s n value h =
+    record {
+      value = value;
+      precision = printed_precision s value;
+      digits = printed_digits s (printed_precision s value) (nat_abs value);
+      value_is = h;
+      precision_is = IsPrecision-exists s value;
+      digits_are = AreDigitsOf-exist s _ _;
+      whole = refl;
+    }
+
+pub PrintsNumber-is : (s : Specification) (n : ℤ) (body : Text) (h : PrintsNumber s n body) → body ≡ value_text s h.value
+PrintsNumber-is s n body h =
+    h.whole
+    ∙ ap (λ t. sign_or_prefix s h.value ++ t) (AreDigitsOf-unique s h.precision (nat_abs h.value) h.digits h.digits_are
+    ∙ ap (λ p. printed_digits s p (nat_abs h.value)) (IsPrecision-unique s h.value h.precision h.precision_is))
+
+-- the value that a directive makes of a number
+abbrev pub value_of : Specification → ℤ → ℤ
+value_of s n = converted (is_signed s.conv) (bits_under s.length) n
+
+-- what is printed of an argument, without padding; an argument of another type has none
+abbrev pub body_under : Conv → Specification → Argument → Text
+body_under C s (Number n) = wrapped 256 n ∷ []
+body_under S s (String bytes) = shown s.precision bytes
+body_under C s (String bytes) = []
+body_under S s (Number n) = []
+body_under _ s (Number n) = value_text s (value_of s n)
+body_under _ s (String bytes) = []
+
+-- what a directive prints for an argument
+abbrev pub printed : Specification → Argument → Text
+printed s argument = field s (body_under s.conv s argument)
+
+-- a body, and no other
+abbrev IsOne : Conv → Specification → Argument → Type 0
+IsOne conv s argument = PrintsUnder conv s argument (body_under conv s argument) × ((other : Text) → PrintsUnder conv s argument other → other ≡ body_under conv s argument)
+
+abbrev IsOneNumber : Specification → ℤ → Type 0
+IsOneNumber s n = PrintsNumber s n (value_text s (value_of s n)) × ((other : Text) → PrintsNumber s n other → other ≡ value_text s (value_of s n))
+
+one_number : (s : Specification) (n : ℤ) → IsOneNumber s n
+one_number s n = (
+  PrintsNumber-value s n _ (converted-is (bits_under s.length) (is_signed s.conv) n),
+  λ other h. PrintsNumber-is s n other h ∙ ap (value_text s) (IsConverted-unique (bits_under s.length) (is_signed s.conv) n h.value _ h.value_is (converted-is (bits_under s.length) (is_signed s.conv) n)),
+)
+
+one_char : (s : Specification) (n : ℤ) → IsOne C s (Number n)
+one_char s n =
+    let byte = converted-is B8 false n in (
+      (wrapped 256 n, byte, refl),
+      λ other h. h.2 ∙ ap (λ b. b ∷ []) (let same = IsConverted-unique B8 false n (pos h.0) (pos (wrapped 256 n)) h.1 byte in omega (arith, ints)),
+    )
+
+no_string : (length : Length) (t : Text) → HasType (String t) (type_under D length) → ⊥
+no_string lengths.None t h = h
+no_string lengths.Ll t h = h
+no_string lengths.Hh t h = h
+no_string lengths.H t h = h
+no_string _ t h = h
+
+no_unsigned_string : (length : Length) (t : Text) → HasType (String t) (type_under U length) → ⊥
+no_unsigned_string lengths.None t h = h
+no_unsigned_string lengths.Ll t h = h
+no_unsigned_string lengths.Hh t h = h
+no_unsigned_string lengths.H t h = h
+no_unsigned_string _ t h = h
+
+one_body : (conv : Conv) (length : Length) (s : Specification) (argument : Argument) → HasType argument (type_under conv length) → IsOne conv s argument
+one_body C length s (Number n) h = one_char s n
+one_body C length s (String t) h = absurd h
+one_body S length s (Number n) h = absurd h
+one_body S length s (String t) h = (refl, λ other same. same)
+one_body D length s (String t) h = absurd (no_string length t h)
+one_body I length s (String t) h = absurd (no_string length t h)
+one_body conv length s (String t) h = absurd (no_unsigned_string length t h)
+one_body _ length s (Number n) h = one_number s n
+
+pub printed-is : (s : Specification) (argument : Argument) → HasType argument (arg_type s) → Prints s argument (printed s argument)
+printed-is s argument h = (body_under s.conv s argument, (one_body s.conv s.length s argument h).0, refl)
+
+pub Prints-unique : (s : Specification) (argument : Argument) (out : Text) → HasType argument (arg_type s) → Prints s argument out → out ≡ printed s argument
+Prints-unique s argument out h g = g.2 ∙ ap (field s) ((one_body s.conv s.length s argument h).1 g.0 g.1)
+
+pub prints_once : PrintsOnce
+prints_once s argument h = (printed s argument, printed-is s argument h, λ other g. Prints-unique s argument other h g)

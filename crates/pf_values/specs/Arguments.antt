@@ -1,0 +1,36 @@
+-- Arguments, their types, and the value that a directive makes of a number.
+use Rattle.std.specs.Prelude.{◌≡◌, ℕ, ◌<◌, ◌^◌, ◌*ℤ◌, ◌+ℤ◌, ℤ, pos, Bool, List}
+use Rattle.std.specs.List.{AllByRecursion, AllZip}
+use Rattle.pf_values.specs.declared.types.ArgType.{ArgType}
+use Rattle.pf_values.specs.declared.types.ArgType.TheVariants.{Str}
+use Rattle.pf_values.specs.Conversions.{is_signed}
+use Rattle.pf_values.specs.DataModel.{FitsIn, IsInRange, bit_count, bits_under}
+use Rattle.pf_values.specs.Specification.{Specification}
+use Rattle.pf_values.specs.Text.{Text}
+
+pub data Argument : Type 0 where
+  Number : (n : ℤ) → Argument
+  String : (bytes : Text) → Argument
+
+-- bytes without a zero byte
+abbrev pub IsString : Text → Type 0
+IsString bytes = AllByRecursion (λ byte. (0 < byte) × (byte < 256)) bytes
+
+abbrev pub HasType : Argument → ArgType → Type 0
+HasType (Number n) type = IsInRange type n
+HasType (String bytes) Str = IsString bytes
+HasType (String bytes) _ = ⊥
+
+-- one argument for each type
+abbrev pub HasTypes : List Argument → List ArgType → Type 0
+HasTypes args types = AllZip HasType args types
+
+-- the number in the range that differs from another by a multiple of 2 ^ bits
+pub record IsConverted (signed : Bool) (bits : ℕ) (from to : ℤ) : Type 0 where
+  pub fits : FitsIn signed bits to
+  pub times : ℤ
+  pub differs : from ≡ to +ℤ times *ℤ pos (2 ^ bits)
+
+-- the value that a directive prints for a number
+abbrev pub IsValue : Specification → ℤ → ℤ → Type 0
+IsValue s argument value = IsConverted (is_signed s.conv) (bit_count (bits_under s.length)) argument value

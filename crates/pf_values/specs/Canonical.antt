@@ -1,0 +1,50 @@
+-- Canonical texts.
+use Rattle.std.specs.Prelude.{◌≡◌, ℕ, List, [], ◌∷◌, ◌++◌, replicate, ◌==◌, if◌then◌else◌, ◌⊎◌, flat_map}
+use Rattle.pf_values.specs.Items.{Item, Byte, Directive, Reads}
+use Rattle.pf_values.specs.Normal.{IsNormal, silent}
+use Rattle.pf_values.specs.Printing.{AreEquivalent}
+use Rattle.pf_values.specs.Spelling.{spelled}
+use Rattle.pf_values.specs.Text.{Text, percent}
+
+-- the one way in which a canonical text writes an item
+abbrev pub written : Item → Text
+written (Byte byte) = if byte == percent then percent ∷ percent ∷ [] else byte ∷ []
+written (Directive s) = spelled s
+
+abbrev pub BeginsWithNoByte : List Item → Type 0
+BeginsWithNoByte [] = Unit {0}
+BeginsWithNoByte (Byte byte ∷ items) = ⊥
+BeginsWithNoByte (Directive s ∷ items) = Unit {0}
+
+-- each directive is normal, or silent and with no byte after it
+abbrev pub AreCanonical : List Item → Type 0
+AreCanonical [] = Unit {0}
+AreCanonical (Byte byte ∷ items) = AreCanonical items
+AreCanonical (Directive s ∷ items) = (IsNormal s ⊎ ((s ≡ silent) × BeginsWithNoByte items)) × AreCanonical items
+
+-- a text of canonical items, each written in the one way
+pub record ReadsCanonically (t : Text) (items : List Item) : Type 0 where
+  pub reads : Reads t items
+  pub canonical : AreCanonical items
+  pub whole : t ≡ flat_map written items
+
+abbrev pub IsCanonicalText : Text → Type 0
+IsCanonicalText t = (items : List Item) × ReadsCanonically t items
+
+-- c is the canonical text of t
+pub record IsCanonicalOf (t c : Text) : Type 0 where
+  pub canonical : IsCanonicalText c
+  pub equivalent : AreEquivalent t c
+
+abbrev pub EndsInNoSilent : List Item → Type 0
+EndsInNoSilent items = (before : List Item) → items ≡ before ++ Directive silent ∷ [] → ⊥
+
+-- the canonical text of t, without the silent directives that end its items
+pub record IsSettled (t settled : Text) : Type 0 where
+  pub canonical : Text
+  pub items : List Item
+  pub waiting : ℕ
+  pub canonical_is : IsCanonicalOf t canonical
+  pub reads : Reads canonical (items ++ replicate waiting (Directive silent))
+  pub no_more : EndsInNoSilent items
+  pub whole : settled ≡ flat_map written items

@@ -1,0 +1,50 @@
+-- How a counted device counts its failures, and what a call that writes leaves.
+use Rattle.std.specs.Prelude.{◌≡◌, ℕ, ◌+◌, ◌-◌, ◌^◌, ◌<◌, ◌≤◌, Bool, true, ◌&&◌, ◌==◌, nat_lt, min, List, length, take, Option, Result, Ok, Err, if◌then◌else◌}
+use Rattle.std.specs.Io.KnownBytes.{Appends}
+use Rattle.pf_values.specs.declared.counting.Counted.{Counted}
+use Rattle.pf_values.specs.declared.writing.ShortWrite.{ShortWrite}
+use Rattle.pf_values.specs.Text.{Text}
+
+module _ {T : Type 0} where
+  abbrev pub device_of : Counted T → T
+  device_of c = c.device
+
+  abbrev pub failures_of : Counted T → ℕ
+  failures_of c = c.failures
+
+-- where the count stays
+abbrev pub max_failures : ℕ
+max_failures = 2 ^ 64 - 1
+
+-- the count after one more call
+abbrev pub failures_after : ℕ → Bool → ℕ
+failures_after failures failed = if failed then min (failures + 1) max_failures else failures
+
+-- an error, or none of some bytes was taken
+abbrev pub write_failed : {E : Type 0} → Result ℕ E → Text → Bool
+write_failed (Ok taken) bytes = (taken == 0) && nat_lt 0 (length bytes)
+write_failed (Err e) bytes = true
+
+-- a call of the device failed in between, unless the count had come to its end
+abbrev pub HasFailed : {T : Type 0} → Counted T → Counted T → Type 0
+HasFailed old new = failures_of old < max_failures → failures_of old < failures_of new
+
+-- what a writer tells that it holds, if it tells that
+abbrev pub Known : Type 0
+Known = Option Text
+
+module _ {W : Type 0} (contents : W → Known) (old new : Counted W) (bytes : Text) where
+  -- all the bytes went out, and no call failed
+  pub record WritesAll : Type 0 where
+    pub appended : Appends (contents (device_of old)) (contents (device_of new)) bytes
+    pub none_failed : failures_of new ≡ failures_of old
+
+  -- exactly the first ones went out, and a call failed
+  pub record WritesFirst (written : ℕ) : Type 0 where
+    pub appended : Appends (contents (device_of old)) (contents (device_of new)) (take written bytes)
+    pub within : written ≤ length bytes
+    pub failed : HasFailed old new
+
+  abbrev pub Writes : Result (Unit {0}) ShortWrite → Type 0
+  Writes (Ok done) = WritesAll
+  Writes (Err short) = WritesFirst short.written × (short.written < length bytes)

@@ -1,0 +1,41 @@
+-- Sets of flags, and the bytes that stand for flags.
+use Rattle.std.specs.Prelude.{ℕ, Bool, true, false, List, [], ◌∷◌, fold}
+use Rattle.pf_values.specs.declared.flags.Flag.{Flag}
+use Rattle.pf_values.specs.declared.flags.Flag.TheVariants.{Minus, Plus, Space, Alt, Zero, Group}
+use Rattle.pf_values.specs.declared.flags.FlagSet.{FlagSet}
+
+abbrev pub has : FlagSet → Flag → Bool
+has flags Minus = flags.minus
+has flags Plus = flags.plus
+has flags Space = flags.space
+has flags Alt = flags.alt
+has flags Zero = flags.zero
+has flags Group = flags.group
+
+abbrev pub no_flags : FlagSet
+no_flags = record { minus = false; plus = false; space = false; alt = false; zero = false; group = false }
+
+abbrev pub with_flag : FlagSet → Flag → FlagSet
+with_flag flags Minus = record flags { minus = true }
+with_flag flags Plus = record flags { plus = true }
+with_flag flags Space = record flags { space = true }
+with_flag flags Alt = record flags { alt = true }
+with_flag flags Zero = record flags { zero = true }
+with_flag flags Group = record flags { group = true }
+
+-- the set of a list of flags, in which one may stand more than once
+abbrev pub flag_set : List Flag → FlagSet
+flag_set flags = fold with_flag no_flags flags
+
+-- `-`, `+`, a space, `#`, `0` and `'`
+abbrev pub flag_byte : Flag → ℕ
+flag_byte Minus = 45
+flag_byte Plus = 43
+flag_byte Space = 32
+flag_byte Alt = 35
+flag_byte Zero = 48
+flag_byte Group = 39
+
+-- the order in which `spelled` writes them
+abbrev pub all_flags : List Flag
+all_flags = Minus ∷ Plus ∷ Space ∷ Alt ∷ Zero ∷ Group ∷ []

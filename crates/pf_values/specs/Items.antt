@@ -1,0 +1,33 @@
+-- The items of a text, and the types of their arguments.
+use Rattle.std.specs.Prelude.{◌≡◌, ◌≢◌, ℕ, ◌≤◌, List, [], ◌∷◌, ◌++◌, length, MatchBool, ◌==◌}
+use Rattle.pf_values.specs.declared.limits.TheConstants.{MAX_TEXT_LEN}
+use Rattle.pf_values.specs.declared.types.ArgType.{ArgType}
+use Rattle.pf_values.specs.DataModel.{arg_type}
+use Rattle.pf_values.specs.Defined.{IsDefined}
+use Rattle.pf_values.specs.Specification.{Specification}
+use Rattle.pf_values.specs.Spelling.{Spells}
+use Rattle.pf_values.specs.Text.{Text, percent}
+
+pub data Item : Type 0 where
+  Byte : (byte : ℕ) → Item
+  Directive : (parts : Specification) → Item
+
+-- what one item is read from: `%%` for the byte `%`, and any other byte but zero for itself
+abbrev pub IsReadAs : Text → Item → Type 0
+IsReadAs t (Byte byte) = MatchBool (byte == percent) (t ≡ percent ∷ percent ∷ []) ((byte ≢ 0) × (t ≡ byte ∷ []))
+IsReadAs t (Directive s) = Spells t s × IsDefined s
+
+-- a text is the texts of its items, one after another
+abbrev pub Reads : Text → List Item → Type 0
+Reads t [] = t ≡ []
+Reads t (item ∷ items) = (first rest : Text) × IsReadAs first item × Reads rest items × (t ≡ first ++ rest)
+
+-- a text is read, and is not too long
+abbrev pub IsAccepted : Text → Type 0
+IsAccepted t = (items : List Item) × Reads t items × (length t ≤ MAX_TEXT_LEN)
+
+-- the types of the directives, in order
+abbrev pub types : List Item → List ArgType
+types [] = []
+types (Byte byte ∷ items) = types items
+types (Directive s ∷ items) = arg_type s ∷ types items

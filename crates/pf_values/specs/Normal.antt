@@ -1,0 +1,111 @@
+-- Which directives are normal: in each form no two print alike.
+use Rattle.std.specs.Prelude.{◌≡◌, ◌≢◌, ℕ, ◌+◌, ◌<◌, ◌≤◌, max, Bool, true, false, Some, None, unwrap_or, IsTrue, IsFalse, MatchBool, IfSome, if◌then◌else◌, ◌||◌}
+use Rattle.pf_values.specs.declared.conversions.Conv.{Conv}
+use Rattle.pf_values.specs.declared.conversions.Conv.TheVariants.{D, I, U, O, X, UpperX, C, S}
+use Rattle.pf_values.specs.declared.flags.Flag.TheVariants.{Minus, Plus, Space, Alt, Zero, Group}
+use Rattle.pf_values.specs.declared.lengths.Length.{Length}
+use Rattle.pf_values.specs.declared.lengths.Length.TheVariants as lengths
+use Rattle.pf_values.specs.Conversions.{is_string}
+use Rattle.pf_values.specs.DataModel.{bits_under, most_digits}
+use Rattle.pf_values.specs.Defined.{IsDefined}
+use Rattle.pf_values.specs.Flags.{has, no_flags}
+use Rattle.pf_values.specs.Specification.{Specification, width_of}
+
+-- the precision of an integer
+abbrev pub precision_of : Specification → ℕ
+precision_of s = unwrap_or s.precision 1
+
+-- the most digits that its value has
+abbrev pub digits_at_most : Specification → ℕ
+digits_at_most s = most_digits s.conv (bits_under s.length)
+
+-- the most digits that are printed
+abbrev pub longest : Specification → ℕ
+longest s = max (precision_of s) (digits_at_most s)
+
+-- 1 with a sign flag, else 0
+abbrev pub sign_len : Specification → ℕ
+sign_len s = if has s.flags Plus || has s.flags Space then 1 else 0
+
+pub record IsNormalString (s : Specification) : Type 0 where
+  pub shows_some : s.precision ≢ Some 0
+  pub width : IfSome s.precision (λ p. width_of s ≤ p)
+  pub left : IsTrue (has s.flags Minus) → 1 < width_of s
+
+-- `u o x X` without `#`
+pub record IsNormalPlain (s : Specification) : Type 0 where
+  pub not_filled : IsFalse (has s.flags Zero)
+  pub precision : precision_of s ≤ digits_at_most s
+  pub least : 0 < width_of s → precision_of s < width_of s
+  pub most : width_of s ≤ digits_at_most s
+  pub left : IsTrue (has s.flags Minus) → (0 < width_of s) × (precision_of s ≡ 0 → 1 < width_of s)
+
+-- `o` with `#`
+pub record IsNormalOctal (s : Specification) : Type 0 where
+  pub right : IsFalse (has s.flags Minus)
+  pub not_filled : IsFalse (has s.flags Zero)
+  pub some_digit : 1 ≤ precision_of s
+  pub precision : precision_of s ≤ digits_at_most s
+  pub least : precision_of s < width_of s
+  pub most : width_of s ≤ digits_at_most s + 1
+
+-- filled with zeros up to the width
+pub record IsNormalFilled (s : Specification) : Type 0 where
+  pub right : IsFalse (has s.flags Minus)
+  pub no_precision : s.precision ≡ None
+  pub width : 2 ≤ width_of s
+
+-- `x X` with `#`, not filled
+pub record IsNormalPrefixed (s : Specification) : Type 0 where
+  pub least : 0 < width_of s → precision_of s < width_of s
+  pub most : width_of s ≤ 2 + longest s
+  pub left : IsTrue (has s.flags Minus) → (0 < width_of s) × (precision_of s ≡ 0 → 3 < width_of s)
+
+-- `d`, not filled
+pub record IsNormalSigned (s : Specification) : Type 0 where
+  pub one_sign : IsTrue (has s.flags Plus) → IsFalse (has s.flags Space)
+  pub least : 0 < width_of s → sign_len s + precision_of s < width_of s
+  pub most : width_of s ≤ 1 + longest s
+  pub right_space : IsFalse (has s.flags Minus) → IsTrue (has s.flags Space) → width_of s ≢ 1 + longest s
+  pub right_bare : IsFalse (has s.flags Minus) → sign_len s ≡ 0 → digits_at_most s ≤ precision_of s → width_of s ≢ 1 + longest s
+  pub left : IsTrue (has s.flags Minus) → (0 < width_of s) × (IsFalse (has s.flags Plus) → precision_of s ≡ 0 → sign_len s + 1 < width_of s)
+
+-- `x X`, with or without `#` and with or without `0`
+abbrev pub IsNormalHexadecimal : Bool → Bool → Specification → Type 0
+IsNormalHexadecimal true true s = IsNormalFilled s
+IsNormalHexadecimal true false s = IsNormalPrefixed s
+IsNormalHexadecimal false _ s = IsNormalPlain s
+
+abbrev pub HasNormalForm : Conv → Specification → Type 0
+HasNormalForm C s = (s.flags ≡ no_flags) × (s.width ≡ None) × (s.precision ≡ None)
+HasNormalForm S s = IsNormalString s
+HasNormalForm U s = IsNormalPlain s
+HasNormalForm O s = MatchBool (has s.flags Alt) (IsNormalOctal s) (IsNormalPlain s)
+HasNormalForm X s = IsNormalHexadecimal (has s.flags Alt) (has s.flags Zero) s
+HasNormalForm UpperX s = IsNormalHexadecimal (has s.flags Alt) (has s.flags Zero) s
+HasNormalForm D s = MatchBool (has s.flags Zero) (IsNormalFilled s × (sign_len s ≡ 0)) (IsNormalSigned s)
+HasNormalForm I s = ⊥
+
+-- `j`, `z` and `t` have another name
+abbrev pub is_kept_length : Length → Bool
+is_kept_length lengths.J = false
+is_kept_length lengths.Z = false
+is_kept_length lengths.T = false
+is_kept_length _ = true
+
+abbrev pub takes_signs : Conv → Bool
+takes_signs D = true
+takes_signs _ = false
+
+pub record IsNormal (s : Specification) : Type 0 where
+  pub defined : IsDefined s
+  pub no_group : IsFalse (has s.flags Group)
+  pub length : IsTrue (is_kept_length s.length)
+  pub no_plus : IsTrue (has s.flags Plus) → IsTrue (takes_signs s.conv)
+  pub no_space : IsTrue (has s.flags Space) → IsTrue (takes_signs s.conv)
+  pub precision : s.precision ≡ Some 1 → IsTrue (is_string s.conv)
+  pub form : HasNormalForm s.conv s
+
+-- `%.0s`, which takes a string and prints nothing
+abbrev pub silent : Specification
+silent = record { flags = no_flags; width = None; precision = Some 0; length = lengths.None; conv = S }

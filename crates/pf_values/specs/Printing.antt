@@ -1,0 +1,132 @@
+-- What a directive prints, and what a text does.
+use Rattle.std.specs.Prelude.{◌≡◌, ℕ, zero, suc, ◌-◌, ◌≤◌, ℤ, pos, negsuc, nat_abs, Bool, true, false, not, ◌&&◌, List, [], ◌∷◌, ◌++◌, length, take, replicate, slice_index, codes, Option, Some, None, unwrap_or, is_none, if◌then◌else◌, MatchBool, ◌↔◌}
+use Rattle.pf_values.specs.declared.conversions.Conv.{Conv}
+use Rattle.pf_values.specs.declared.conversions.Conv.TheVariants.{D, I, X, UpperX, C, S}
+use Rattle.pf_values.specs.declared.flags.Flag.TheVariants.{Minus, Plus, Space, Alt, Zero}
+use Rattle.pf_values.specs.Arguments.{Argument, Number, String, HasType, HasTypes, IsConverted, IsValue}
+use Rattle.pf_values.specs.Conversions.{base_of, is_octal, is_upper}
+use Rattle.pf_values.specs.DataModel.{arg_type}
+use Rattle.pf_values.specs.Digits.{IsNumeral, IsLeastFrom}
+use Rattle.pf_values.specs.Flags.{has}
+use Rattle.pf_values.specs.Items.{Item, Byte, Directive, Reads, types}
+use Rattle.pf_values.specs.Specification.{Specification, width_of}
+use Rattle.pf_values.specs.Text.{Text, space, zero_digit}
+
+abbrev pub BeginsWithZero : Text → Type 0
+BeginsWithZero t = slice_index t 0 ≡ zero_digit
+
+-- an octal numeral whose first digit is 0
+abbrev pub IsOctalFromZero : ℕ → ℕ → Text → Type 0
+IsOctalFromZero precision n t = IsNumeral 8 false precision n t × BeginsWithZero t
+
+-- The digits of a number, at least as many as the precision. `#` raises the precision of an octal number, by as little as makes it begin with 0.
+abbrev pub AreDigitsOf : Specification → ℕ → ℕ → Text → Type 0
+AreDigitsOf s precision n t = MatchBool (is_octal s.conv && has s.flags Alt)
+    ((raised : ℕ) × IsLeastFrom precision (λ p. (u : Text) × IsOctalFromZero p n u) raised × IsOctalFromZero raised n t)
+    (IsNumeral (base_of s.conv) (is_upper s.conv) precision n t)
+
+abbrev pub is_negative : ℤ → Bool
+is_negative (pos n) = false
+is_negative (negsuc n) = true
+
+abbrev pub is_zero : ℕ → Bool
+is_zero zero = true
+is_zero (suc n) = false
+
+-- `-` below 0, and else what the flags ask for
+abbrev pub sign : Specification → ℤ → Text
+sign s value =
+    if is_negative value then codes "-"
+    else (if has s.flags Plus then codes "+" else (if has s.flags Space then codes " " else []))
+
+-- `0x` or `0X`, which 0 doesn't have
+abbrev pub base_prefix : Text → Specification → ℤ → Text
+base_prefix letters s value = if has s.flags Alt && not (is_zero (nat_abs value)) then letters else []
+
+abbrev pub sign_or_prefix_under : Conv → Specification → ℤ → Text
+sign_or_prefix_under D s value = sign s value
+sign_or_prefix_under I s value = sign s value
+sign_or_prefix_under X s value = base_prefix (codes "0x") s value
+sign_or_prefix_under UpperX s value = base_prefix (codes "0X") s value
+sign_or_prefix_under _ s value = []
+
+-- what stands before the digits
+abbrev pub sign_or_prefix : Specification → ℤ → Text
+sign_or_prefix s value = sign_or_prefix_under s.conv s value
+
+-- the flag `0` counts where neither `-` nor a precision is given
+abbrev pub is_zero_filled : Specification → Bool
+is_zero_filled s = has s.flags Zero && not (has s.flags Minus) && is_none s.precision
+
+-- with this precision the sign or prefix and the digits reach the width
+abbrev pub ReachesWidth : Specification → ℤ → ℕ → Type 0
+ReachesWidth s value precision = (t : Text) × AreDigitsOf s precision (nat_abs value) t × (width_of s ≤ length (sign_or_prefix s value ++ t))
+
+-- The precision with which a number is printed: as it is given, or 1. The flag `0` makes it the least with which the width is reached.
+abbrev pub IsPrecision : Specification → ℤ → ℕ → Type 0
+IsPrecision s value precision = MatchBool (is_zero_filled s)
+    (IsLeastFrom 1 (ReachesWidth s value) precision)
+    (precision ≡ unwrap_or s.precision 1)
+
+-- a number, without padding
+pub record PrintsNumber (s : Specification) (argument : ℤ) (body : Text) : Type 0 where
+  pub value : ℤ
+  pub precision : ℕ
+  pub digits : Text
+  pub value_is : IsValue s argument value
+  pub precision_is : IsPrecision s value precision
+  pub digits_are : AreDigitsOf s precision (nat_abs value) digits
+  pub whole : body ≡ sign_or_prefix s value ++ digits
+
+-- the byte that is the number modulo 256
+abbrev pub PrintsChar : ℤ → Text → Type 0
+PrintsChar argument body = (byte : ℕ) × IsConverted false 8 argument (pos byte) × (body ≡ byte ∷ [])
+
+-- no more bytes than the precision, if there is one
+abbrev pub shown : Option ℕ → Text → Text
+shown None bytes = bytes
+shown (Some most) bytes = take most bytes
+
+abbrev pub PrintsUnder : Conv → Specification → Argument → Text → Type 0
+PrintsUnder C s (Number n) body = PrintsChar n body
+PrintsUnder S s (String bytes) body = body ≡ shown s.precision bytes
+PrintsUnder C s (String bytes) body = ⊥
+PrintsUnder S s (Number n) body = ⊥
+PrintsUnder _ s (Number n) body = PrintsNumber s n body
+PrintsUnder _ s (String bytes) body = ⊥
+
+-- the fewest spaces with which a text has this many bytes
+abbrev pub padding : ℕ → Text → Text
+padding width body = replicate (width - length body) space
+
+-- a text in a field of some width, to its left or to its right
+abbrev pub field_of : Bool → ℕ → Text → Text
+field_of left width body = if left then body ++ padding width body else padding width body ++ body
+
+abbrev pub field : Specification → Text → Text
+field s body = field_of (has s.flags Minus) (width_of s) body
+
+-- what a directive prints for an argument
+abbrev pub Prints : Specification → Argument → Text → Type 0
+Prints s argument out = (body : Text) × PrintsUnder s.conv s argument body × (out ≡ field s body)
+
+-- a byte prints itself, and each directive takes the next argument
+abbrev pub PrintsAll : List Item → List Argument → Text → Type 0
+PrintsAll [] [] out = out ≡ []
+PrintsAll [] (argument ∷ args) out = ⊥
+PrintsAll (Byte byte ∷ items) args out = (rest : Text) × PrintsAll items args rest × (out ≡ byte ∷ rest)
+PrintsAll (Directive s ∷ items) [] out = ⊥
+PrintsAll (Directive s ∷ items) (argument ∷ args) out = (first rest : Text) × Prints s argument first × PrintsAll items args rest × (out ≡ first ++ rest)
+
+-- one text may stand for the other: equal types, and equal bytes for all arguments
+pub record AreEquivalent (t u : Text) : Type 0 where
+  pub first : List Item
+  pub second : List Item
+  pub reads_first : Reads t first
+  pub reads_second : Reads u second
+  pub same_types : types first ≡ types second
+  pub same_bytes : (args : List Argument) (out : Text) → HasTypes args (types first) → (PrintsAll first args out ↔ PrintsAll second args out)
+
+-- a directive and an argument of its type print one text
+abbrev pub PrintsOnce : Type 0
+PrintsOnce = (s : Specification) (argument : Argument) → HasType argument (arg_type s) → (out : Text) × Prints s argument out × ((other : Text) → Prints s argument other → other ≡ out)

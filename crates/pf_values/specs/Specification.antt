@@ -1,0 +1,24 @@
+-- The parts of a conversion specification, defined or not.
+use Rattle.std.specs.Prelude.{ℕ, zero, Option, Some, None, unwrap_or}
+use Rattle.pf_values.specs.declared.conversions.Conv.{Conv}
+use Rattle.pf_values.specs.declared.flags.FlagSet.{FlagSet}
+use Rattle.pf_values.specs.declared.lengths.Length.{Length}
+
+pub record Specification : Type 0 where
+  pub flags : FlagSet
+  pub width : Option ℕ
+  pub precision : Option ℕ
+  pub length : Length
+  pub conv : Conv
+
+-- the width, 0 where there is none
+abbrev pub width_of : Specification → ℕ
+width_of s = unwrap_or s.width 0
+
+-- a width of 0 is none
+abbrev pub width_given : Option ℕ → Option ℕ
+width_given (Some zero) = None
+width_given o = o
+
+abbrev pub given : FlagSet → Option ℕ → Option ℕ → Length → Conv → Specification
+given flags width precision length conv = record { flags = flags; width = width_given width; precision = precision; length = length; conv = conv }

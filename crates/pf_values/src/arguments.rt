@@ -1,0 +1,73 @@
+//! Arguments of directives.
+ghost use Rattle.std.specs.Prelude.{◌≡◌, ◌<◌, ◌↔◌, IfSome, IsNone, Contains, All};
+
+use crate::types::ArgType;
+
+/// Bytes without a zero byte: what `%s` sees of a string before its null.
+#[derive(Clone, Copy, Debug)]
+pub struct CBytes<'a> {
+    bytes: &'a [u8],
+    ghost in_range: { All (λ byte. (0 < byte) × (byte < 256)) bytes.now },
+}
+
+impl<'a> CBytes<'a> {
+    ghost use Rattle.pf_values.specs.Arg.{bytes_of};
+
+    /// The bytes, or `None` if a zero byte is among them.
+    pub fn new(bytes: &'a [u8]) -> Option<CBytes<'a>>
+        ensures value { IfSome result (λ s. bytes_of s ≡ bytes.now) }
+        ensures zero { IsNone result ↔ Contains bytes.now 0 }
+    {
+        if bytes.contains(&0) {
+            return None;
+        }
+        Some(CBytes { bytes })
+    }
+
+    /// The bytes.
+    pub fn bytes(self) -> &'a [u8]
+        ensures { result.now ≡ bytes_of self.entry }
+    {
+        self.bytes
+    }
+}
+
+/// An argument: a number of one of the integer types, or a string.
+#[derive(Clone, Copy, Debug)]
+pub enum Arg<'a> {
+    /// An `int`.
+    Int(i32),
+    /// An `unsigned int`.
+    UInt(u32),
+    /// A `long`.
+    Long(i64),
+    /// An `unsigned long`.
+    ULong(u64),
+    /// A `long long`.
+    LongLong(i64),
+    /// An `unsigned long long`.
+    ULongLong(u64),
+    /// A string.
+    Str(CBytes<'a>),
+}
+
+impl<'a> Arg<'a> {
+    ghost use Rattle.pf_values.specs.Arg.{argument_of, type_of};
+    ghost use Rattle.pf_values.specs.Arguments.{HasType};
+
+    /// The type of the argument.
+    pub fn arg_type(self) -> ArgType
+        ensures value { result ≡ type_of self.entry }
+        ensures typed { HasType (argument_of self.entry) result }
+    {
+        match self {
+            Arg::Int(_) => ArgType::Int,
+            Arg::UInt(_) => ArgType::UInt,
+            Arg::Long(_) => ArgType::Long,
+            Arg::ULong(_) => ArgType::ULong,
+            Arg::LongLong(_) => ArgType::LongLong,
+            Arg::ULongLong(_) => ArgType::ULongLong,
+            Arg::Str(_) => ArgType::Str,
+        }
+    }
+}

@@ -1,0 +1,103 @@
+//! A reader or a writer that counts how often it failed.
+ghost use Rattle.std.specs.Prelude.{◌≡◌, is_err};
+ghost use Rattle.std.specs.Io.{ReadsAtMost, WritesAtMost};
+ghost use Rattle.std.specs.Io.KnownBytes.{Keeps, ReadConsumes, WriteAppends};
+ghost use Rattle.pf_values.specs.Counting.{device_of, failures_after, failures_of, write_failed};
+
+use std::io;
+use std::io::{Read, Write};
+
+#[cfg(test)]
+mod tests;
+
+/// A reader or a writer over `T`, with how many of its calls failed.
+///
+/// Each `read`, `write` and `flush` makes one such call of `T`, and repeats none, also not one that was
+/// interrupted. A failure is a call that answered an error, or a write of some bytes that took none. At
+/// the greatest `u64` the count stays.
+#[derive(Debug, Drop)]
+pub struct Counted<T> {
+    device: T,
+    failures: u64,
+}
+
+impl<T> Counted<T> {
+    /// The device, with no failure yet.
+    pub fn new(device: T) -> Counted<T>
+        ensures device { device_of result ≡ device }
+        ensures none { failures_of result ≡ 0 }
+    {
+        Counted {
+            device,
+            failures: 0,
+        }
+    }
+
+    /// How many calls of the device failed.
+    pub fn failures(&self) -> u64
+        ensures { result ≡ failures_of self.now }
+    {
+        self.failures
+    }
+
+    /// The device.
+    pub fn into_inner(self) -> T
+        ensures { result ≡ device_of self }
+    {
+        let Counted {
+            device,
+            failures: _,
+        } = self;
+        device
+    }
+
+    fn count(&mut self, failed: bool)
+        ensures device { device_of self.new ≡ device_of self.old }
+        ensures failures { failures_of self.new ≡ failures_after (failures_of self.old) failed }
+    {
+        if failed {
+            self.failures = self.failures.saturating_add(1);
+        }
+    }
+}
+
+impl<R: Read> Read for Counted<R> {
+    ghost remaining = { λ r. R.remaining (device_of r) };
+
+    fn read(&mut self, buf: &mut [u8]) -> io::Result<usize>
+        ensures bound { ReadsAtMost result buf.new }
+        ensures bytes { ReadConsumes (R.remaining (device_of self.old)) (R.remaining (device_of self.new)) result buf.new }
+        ensures failures { failures_of self.new ≡ failures_after (failures_of self.old) (is_err result) }
+    {
+        let result = self.device.read(buf);
+        self.count(result.is_err());
+        result
+    }
+}
+
+impl<W: Write> Write for Counted<W> {
+    ghost contents = { λ w. W.contents (device_of w) };
+
+    fn write(&mut self, buf: &[u8]) -> io::Result<usize>
+        ensures bound { WritesAtMost result buf.now }
+        ensures bytes { WriteAppends (W.contents (device_of self.old)) (W.contents (device_of self.new)) result buf.now }
+        ensures failures { failures_of self.new ≡ failures_after (failures_of self.old) (write_failed result buf.now) }
+    {
+        let result = self.device.write(buf);
+        let failed = match &result {
+            Ok(taken) => *taken == 0 && !buf.is_empty(),
+            Err(_) => true,
+        };
+        self.count(failed);
+        result
+    }
+
+    fn flush(&mut self) -> io::Result<()>
+        ensures bytes { Keeps (W.contents (device_of self.old)) (W.contents (device_of self.new)) }
+        ensures failures { failures_of self.new ≡ failures_after (failures_of self.old) (is_err result) }
+    {
+        let result = self.device.flush();
+        self.count(result.is_err());
+        result
+    }
+}

@@ -1,0 +1,116 @@
+//! Counting over devices that fail, take nothing or are interrupted.
+use super::*;
+use std::io::{Error, ErrorKind};
+
+#[derive(Clone, Copy, Debug)]
+enum Answer {
+    Takes(usize),
+    Fails(ErrorKind),
+}
+
+// Gives one answer to every call, and counts the calls.
+#[derive(Drop)]
+struct Device {
+    answer: Answer,
+    calls: u32,
+}
+
+impl Device {
+    fn called(&mut self) -> Answer {
+        self.calls = self.calls.saturating_add(1);
+        self.answer
+    }
+}
+
+impl Read for Device {
+    fn read(&mut self, buf: &mut [u8]) -> io::Result<usize> {
+        match self.called() {
+            Answer::Takes(n) => Ok(n.min(buf.len())),
+            Answer::Fails(kind) => Err(Error::from(kind)),
+        }
+    }
+}
+
+impl Write for Device {
+    fn write(&mut self, buf: &[u8]) -> io::Result<usize> {
+        match self.called() {
+            Answer::Takes(n) => Ok(n.min(buf.len())),
+            Answer::Fails(kind) => Err(Error::from(kind)),
+        }
+    }
+
+    fn flush(&mut self) -> io::Result<()> {
+        match self.called() {
+            Answer::Takes(_) => Ok(()),
+            Answer::Fails(kind) => Err(Error::from(kind)),
+        }
+    }
+}
+
+fn counted(answer: Answer) -> Counted<Device> {
+    Counted::new(Device { answer, calls: 0 })
+}
+
+// How many failures a write, a write of nothing, a read and a flush count, one after another.
+fn failures_of_each(answer: Answer) -> ([u64; 4], u32) {
+    let mut device = counted(answer);
+    let _ = device.write(b"abc");
+    let after_write = device.failures();
+    let _ = device.write(b"");
+    let after_nothing = device.failures();
+    let mut place = [0u8; 4];
+    let _ = device.read(&mut place);
+    let after_read = device.failures();
+    let _ = device.flush();
+    let after_flush = device.failures();
+    let calls = device.into_inner().calls;
+    ([after_write, after_nothing, after_read, after_flush], calls)
+}
+
+#[test]
+fn each_call_that_fails_counts_once(rt: HostRuntime) {
+    let rows = [
+        (Answer::Takes(3), [0, 0, 0, 0]),
+        (Answer::Takes(1), [0, 0, 0, 0]),
+        (Answer::Takes(0), [1, 1, 1, 1]),
+        (Answer::Fails(ErrorKind::Other), [1, 2, 3, 4]),
+        (Answer::Fails(ErrorKind::Interrupted), [1, 2, 3, 4]),
+        (Answer::Fails(ErrorKind::WouldBlock), [1, 2, 3, 4]),
+    ];
+    for (answer, want) in rows {
+        let (counts, calls) = failures_of_each(answer);
+        assert_eq!(rt; counts, want, "{answer:?}");
+        assert_eq!(rt; calls, 4, "{answer:?}");
+    }
+}
+
+#[test]
+fn the_greatest_count_stays(rt: HostRuntime) {
+    let device = Device {
+        answer: Answer::Fails(ErrorKind::Other),
+        calls: 0,
+    };
+    let mut counted = Counted {
+        device,
+        failures: u64::MAX - 1,
+    };
+    let _ = counted.write(b"abc");
+    assert_eq!(rt; counted.failures(), u64::MAX);
+    let _ = counted.write(b"abc");
+    let _ = counted.flush();
+    assert_eq!(rt; counted.failures(), u64::MAX);
+    assert_eq!(rt; counted.into_inner().calls, 3);
+}
+
+#[test]
+fn a_call_answers_as_the_device_does(rt: HostRuntime) {
+    let mut place = [0u8; 4];
+    assert_eq!(rt; counted(Answer::Takes(2)).write(b"abc").ok(), Some(2));
+    assert_eq!(rt; counted(Answer::Takes(2)).read(&mut place).ok(), Some(2));
+    assert!(rt; counted(Answer::Takes(2)).flush().is_ok());
+    let interrupted = counted(Answer::Fails(ErrorKind::Interrupted)).write(b"abc");
+    assert_eq!(rt;
+        interrupted.err().map(|e| e.kind()),
+        Some(ErrorKind::Interrupted)
+    );
+}

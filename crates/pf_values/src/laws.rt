@@ -1,0 +1,7 @@
+//! Laws over the definitions alone. Each is the contract of a function that does nothing.
+ghost use Rattle.pf_values.specs.Printing.{PrintsOnce};
+
+/// Each directive and argument of its type print exactly one text.
+pub fn prints_once()
+    ensures { PrintsOnce }
+{}

@@ -1,0 +1,28 @@
+//! What printf formats are made of: flags, length modifiers, conversions, directives, argument types and
+//! arguments, the kinds of refusal, and readers and writers that count their failures. The definitions of
+//! what a format means stand in `specs/`.
+#![tactic(auto)]
+
+mod arguments;
+mod conversions;
+mod counting;
+mod directives;
+mod flags;
+pub mod laws;
+mod lengths;
+pub mod limits;
+mod refusals;
+#[cfg(test)]
+mod tests;
+mod types;
+mod writing;
+
+pub use arguments::{Arg, CBytes};
+pub use conversions::Conv;
+pub use counting::Counted;
+pub use directives::Directive;
+pub use flags::{Flag, FlagSet};
+pub use lengths::Length;
+pub use refusals::RefusalKind;
+pub use types::ArgType;
+pub use writing::{ShortWrite, write_bytes};

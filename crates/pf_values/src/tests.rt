@@ -1,0 +1,269 @@
+//! The tables of the standard, and each public call once.
+use crate::laws::prints_once;
+use crate::{Arg, ArgType, CBytes, Conv, Directive, Flag, FlagSet, Length, RefusalKind};
+
+const CONVERSIONS: [Conv; 8] = [
+    Conv::D,
+    Conv::I,
+    Conv::U,
+    Conv::O,
+    Conv::X,
+    Conv::UpperX,
+    Conv::C,
+    Conv::S,
+];
+
+const FLAGS: [Flag; 6] = [
+    Flag::Minus,
+    Flag::Plus,
+    Flag::Space,
+    Flag::Alt,
+    Flag::Zero,
+    Flag::Group,
+];
+
+const LENGTHS: [Length; 8] = [
+    Length::None,
+    Length::Hh,
+    Length::H,
+    Length::L,
+    Length::Ll,
+    Length::J,
+    Length::Z,
+    Length::T,
+];
+
+// The number of the refusal, or 0.
+fn refused(made: Result<Directive, RefusalKind>) -> u8 {
+    match made {
+        Ok(_) => 0,
+        Err(kind) => kind.number(),
+    }
+}
+
+fn number_of(flags: FlagSet, width: u16, precision: Option<u16>, length: Length, conv: Conv) -> u8 {
+    refused(Directive::new(flags, Some(width), precision, length, conv))
+}
+
+// By conversion, as in the standard's paragraphs on each flag: a row for each of `CONVERSIONS`.
+#[rattlefmt::skip]
+const WITH_FLAG: [[u8; 6]; 8] = [
+    // -  +  ' '  #   0   '
+    [0, 0, 0, 13, 0, 0],    // d
+    [0, 0, 0, 13, 0, 0],    // i
+    [0, 0, 0, 13, 0, 0],    // u
+    [0, 0, 0, 0, 0, 15],    // o
+    [0, 0, 0, 0, 0, 15],    // x
+    [0, 0, 0, 0, 0, 15],    // X
+    [0, 0, 0, 13, 14, 15],  // c
+    [0, 0, 0, 13, 14, 15],  // s
+];
+
+#[test]
+fn each_flag_with_each_conversion(rt: HostRuntime) {
+    for (conv, row) in CONVERSIONS.iter().zip(WITH_FLAG.iter()) {
+        for (flag, want) in FLAGS.iter().zip(row.iter()) {
+            let flags = FlagSet::empty().with(*flag);
+            assert_eq!(rt;
+                number_of(flags, 0, None, Length::None, *conv),
+                *want,
+                "{conv:?} {flag:?}"
+            );
+        }
+    }
+}
+
+// Without a modifier, and then `hh h l ll j z t`.
+#[rattlefmt::skip]
+const WITH_LENGTH: [[u8; 8]; 8] = [
+    [0, 0, 0, 0, 0, 0, 0, 0],          // d
+    [0, 0, 0, 0, 0, 0, 0, 0],          // i
+    [0, 0, 0, 0, 0, 0, 0, 0],          // u
+    [0, 0, 0, 0, 0, 0, 0, 0],          // o
+    [0, 0, 0, 0, 0, 0, 0, 0],          // x
+    [0, 0, 0, 0, 0, 0, 0, 0],          // X
+    [0, 17, 17, 12, 17, 17, 17, 17],   // c
+    [0, 17, 17, 12, 17, 17, 17, 17],   // s
+];
+
+#[test]
+fn each_modifier_with_each_conversion(rt: HostRuntime) {
+    for (conv, row) in CONVERSIONS.iter().zip(WITH_LENGTH.iter()) {
+        for (length, want) in LENGTHS.iter().zip(row.iter()) {
+            assert_eq!(rt;
+                number_of(FlagSet::empty(), 0, None, *length, *conv),
+                *want,
+                "{conv:?} {length:?}"
+            );
+        }
+    }
+}
+
+#[test]
+fn a_precision_with_each_conversion(rt: HostRuntime) {
+    for (conv, want) in CONVERSIONS.iter().zip([0, 0, 0, 0, 0, 0, 16, 0]) {
+        assert_eq!(rt;
+            number_of(FlagSet::empty(), 0, Some(0), Length::None, *conv),
+            want,
+            "{conv:?}"
+        );
+    }
+}
+
+#[test]
+fn the_least_number_counts(rt: HostRuntime) {
+    let alt = FlagSet::empty().with(Flag::Alt);
+    let zero = FlagSet::empty().with(Flag::Zero);
+    let group = FlagSet::empty().with(Flag::Group);
+    let rows = [
+        (number_of(alt, 4096, Some(4096), Length::L, Conv::C), 7),
+        (number_of(alt, 4095, Some(4096), Length::L, Conv::C), 8),
+        (number_of(alt, 4095, Some(4095), Length::L, Conv::C), 12),
+        (
+            number_of(alt.with(Flag::Zero), 0, Some(1), Length::H, Conv::C),
+            13,
+        ),
+        (
+            number_of(zero.with(Flag::Group), 0, Some(1), Length::H, Conv::C),
+            14,
+        ),
+        (number_of(group, 0, Some(1), Length::H, Conv::C), 15),
+        (
+            number_of(FlagSet::empty(), 0, Some(1), Length::H, Conv::C),
+            16,
+        ),
+        (number_of(group, u16::MAX, None, Length::None, Conv::X), 7),
+        (
+            number_of(group, 4095, Some(4095), Length::None, Conv::X),
+            15,
+        ),
+    ];
+    for (i, (kind, want)) in rows.iter().enumerate() {
+        assert_eq!(rt; *kind, *want, "row {i}");
+    }
+}
+
+#[test]
+fn a_directive_has_its_parts(rt: HostRuntime) {
+    let flags = FlagSet::empty()
+        .with(Flag::Minus)
+        .with(Flag::Plus)
+        .with(Flag::Minus);
+    let Ok(made) = Directive::new(flags, Some(4095), Some(0), Length::Ll, Conv::D) else {
+        assert!(rt; false, "refused");
+        return;
+    };
+    for flag in FLAGS {
+        let want = flag == Flag::Minus || flag == Flag::Plus;
+        assert_eq!(rt; made.flags().has(flag), want, "{flag:?}");
+    }
+    assert_eq!(rt; made.width(), Some(4095));
+    assert_eq!(rt; made.precision(), Some(0));
+    assert_eq!(rt; made.length(), Length::Ll);
+    assert_eq!(rt; made.conv(), Conv::D);
+}
+
+#[test]
+fn a_width_of_0_is_none(rt: HostRuntime) {
+    let made = Directive::new(FlagSet::empty(), Some(0), None, Length::None, Conv::U);
+    assert_eq!(rt; made.map(|d| d.width()), Ok(None));
+}
+
+// Without a modifier, and then `hh h l ll j z t`.
+#[rattlefmt::skip]
+const SIGNED_TYPES: [ArgType; 8] = [
+    ArgType::Int, ArgType::Int, ArgType::Int, ArgType::Long,
+    ArgType::LongLong, ArgType::Long, ArgType::Long, ArgType::Long,
+];
+
+#[rattlefmt::skip]
+const UNSIGNED_TYPES: [ArgType; 8] = [
+    ArgType::UInt, ArgType::Int, ArgType::Int, ArgType::ULong,
+    ArgType::ULongLong, ArgType::ULong, ArgType::ULong, ArgType::ULong,
+];
+
+fn type_of(length: Length, conv: Conv) -> Result<ArgType, RefusalKind> {
+    Directive::new(FlagSet::empty(), None, None, length, conv).map(|d| d.arg_type())
+}
+
+#[test]
+fn each_argument_has_its_type(rt: HostRuntime) {
+    for (i, conv) in CONVERSIONS.iter().enumerate() {
+        let table = if i < 2 { SIGNED_TYPES } else { UNSIGNED_TYPES };
+        if i < 6 {
+            for (length, want) in LENGTHS.iter().zip(table.iter()) {
+                assert_eq!(rt; type_of(*length, *conv), Ok(*want), "{conv:?} {length:?}");
+            }
+        }
+    }
+    assert_eq!(rt; type_of(Length::None, Conv::C), Ok(ArgType::Int));
+    assert_eq!(rt; type_of(Length::None, Conv::S), Ok(ArgType::Str));
+}
+
+#[rattlefmt::skip]
+const KINDS: [(RefusalKind, &str); 18] = [
+    (RefusalKind::NulByte, "NulByte"),
+    (RefusalKind::Truncated, "Truncated"),
+    (RefusalKind::Unexpected, "Unexpected"),
+    (RefusalKind::BadPercent, "BadPercent"),
+    (RefusalKind::Star, "Star"),
+    (RefusalKind::Numbered, "Numbered"),
+    (RefusalKind::WidthTooLarge, "WidthTooLarge"),
+    (RefusalKind::PrecisionTooLarge, "PrecisionTooLarge"),
+    (RefusalKind::Float, "Float"),
+    (RefusalKind::Pointer, "Pointer"),
+    (RefusalKind::Count, "Count"),
+    (RefusalKind::Wide, "Wide"),
+    (RefusalKind::AltUndefined, "AltUndefined"),
+    (RefusalKind::ZeroUndefined, "ZeroUndefined"),
+    (RefusalKind::GroupUndefined, "GroupUndefined"),
+    (RefusalKind::PrecisionUndefined, "PrecisionUndefined"),
+    (RefusalKind::LengthUndefined, "LengthUndefined"),
+    (RefusalKind::TooLong, "TooLong"),
+];
+
+#[test]
+fn each_kind_has_its_number_and_name(rt: HostRuntime) {
+    let mut number = 0u8;
+    for (kind, name) in KINDS {
+        number = number.saturating_add(1);
+        assert_eq!(rt; kind.number(), number);
+        assert!(rt; kind.name() == name, "{number}");
+    }
+}
+
+#[test]
+fn a_string_has_no_zero_byte(rt: HostRuntime) {
+    let whole = CBytes::new(b"a\x01\xff");
+    assert!(rt; whole.is_some_and(|s| s.bytes() == b"a\x01\xff".as_slice()));
+    assert!(rt; CBytes::new(b"").is_some_and(|s| s.bytes().is_empty()));
+    for text in [
+        b"\0ab".as_slice(),
+        b"a\0b".as_slice(),
+        b"ab\0".as_slice(),
+        b"\0".as_slice(),
+    ] {
+        assert!(rt; CBytes::new(text).is_none());
+    }
+}
+
+#[test]
+fn an_argument_has_its_type(rt: HostRuntime) {
+    let rows = [
+        (Arg::Int(-1).arg_type(), ArgType::Int),
+        (Arg::UInt(1).arg_type(), ArgType::UInt),
+        (Arg::Long(-1).arg_type(), ArgType::Long),
+        (Arg::ULong(1).arg_type(), ArgType::ULong),
+        (Arg::LongLong(-1).arg_type(), ArgType::LongLong),
+        (Arg::ULongLong(1).arg_type(), ArgType::ULongLong),
+    ];
+    for (found, want) in rows {
+        assert_eq!(rt; found, want);
+    }
+    let Some(text) = CBytes::new(b"a") else {
+        assert!(rt; false, "refused");
+        return;
+    };
+    assert_eq!(rt; Arg::Str(text).arg_type(), ArgType::Str);
+    prints_once();
+}
