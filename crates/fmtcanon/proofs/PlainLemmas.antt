@@ -53,7 +53,7 @@ ends_item old new byte part taken items item part_is is_read plain closed next b
       whole = h.whole ++ part;
       reads = ReadsPlainly-more h.whole part items item h.reads is_read plain;
       split = ap (λ t. t ++ byte ∷ []) h.split ∙ append_assoc h.whole (part_of old.is_open) (byte ∷ []) ∙ ap (λ p. h.whole ++ p) part_is
-      ∙ sym (append-nil (h.whole ++ part)) ∙ ap (λ b. (h.whole ++ part) ++ part_of b) (sym closed);
+          ∙ sym (append-nil (h.whole ++ part)) ∙ ap (λ b. (h.whole ++ part) ++ part_of b) (sym closed);
       place = omega (arith, h.place, length-append taken (byte ∷ []));
       limit = omega arith;
     }
@@ -67,7 +67,7 @@ opens_item old new byte taken items closed is opened next below h =
       whole = h.whole;
       reads = subst (ReadsPlainly h.whole) (sym (append-nil items)) h.reads;
       split = ap (λ t. t ++ byte ∷ []) (h.split ∙ ap (λ b. h.whole ++ part_of b) closed ∙ append-nil h.whole)
-      ∙ ap (λ b. h.whole ++ b ∷ []) is ∙ ap (λ b. h.whole ++ part_of b) (sym opened);
+          ∙ ap (λ b. h.whole ++ b ∷ []) is ∙ ap (λ b. h.whole ++ part_of b) (sym opened);
       place = omega (arith, h.place, length-append taken (byte ∷ []));
       limit = omega arith;
     }

@@ -9,6 +9,9 @@ use crate::reader::{Scanner, Step};
 use crate::refusal::Refusal;
 use std::alloc::{AllocError, AllocFailed, Allocator, Global};
 
+#[cfg(test)]
+mod tests;
+
 /// Why there is no canonical string.
 #[derive(Clone, Copy, Debug, PartialEq, Eq)]
 pub enum CanonFault {

@@ -12,24 +12,28 @@ use std::alloc::{AllocError, Global};
 pub fn definition<'a>(alloc: Global) -> Result<Command<'a>, AllocError>
     ensures { IfOk result (λ command. app_of command ≡ the_command) }
 {
-    adding(top(alloc), on_format(alloc, "canon")?)
+    let about = "Writes the canonical string of a format";
+    adding(top(alloc)?, on_format(alloc, "canon", about)?)
 }
 
 // The command without its subcommands.
-fn top<'a>(alloc: Global) -> Command<'a>
-    ensures { app_of result ≡ top_app }
+fn top<'a>(alloc: Global) -> Result<Command<'a>, AllocError>
+    ensures { IfOk result (λ command. app_of command ≡ top_app) }
 {
     Command::new(alloc, "fmtcanon")
+        .about("Reads printf formats, and brings them to one canonical spelling")
         .no_binary_name(true)
         .subcommand_required(true)
         .disable_help_subcommand(true)
+        .bin_name("fmtcanon")
 }
 
 // A subcommand with a format.
-fn on_format<'a>(alloc: Global, name: &'a str) -> Result<Command<'a>, AllocError>
+fn on_format<'a>(alloc: Global, name: &'a str, about: &'a str) -> Result<Command<'a>, AllocError>
     ensures { IfOk result (λ command. (app_of command ≡ on_format name.now) × ((fields_of command).has_globals ≡ false)) }
 {
-    Command::new(alloc, name).arg(Arg::new(alloc, "F").required(true))
+    let format = Arg::new(alloc, "F").required(true).help("A printf format");
+    Command::new(alloc, name).about(about).arg(format)
 }
 
 // The command with one more subcommand.

@@ -18,10 +18,9 @@ use pf_values::Counted;
 use report::report;
 use run::run;
 use std::alloc::AllocError;
-use std::env;
-use std::io;
 use std::io::{BufReader, BufWriter, ErrorKind};
 use std::process::ExitCode;
+use std::{env, io};
 
 fn main(rt: HostRuntime) -> ExitCode {
     let outcome = match run_words(&rt) {

@@ -10,6 +10,9 @@ use crate::refusal::Refusal;
 use pf_values::RefusalKind;
 use pf_values::limits::MAX_TEXT_LEN;
 
+#[cfg(test)]
+mod tests;
+
 /// What a byte makes.
 #[derive(Clone, Copy, Debug, PartialEq, Eq)]
 pub enum Step {

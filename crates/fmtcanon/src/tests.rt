@@ -1,1 +1,183 @@
-//! Runs.
+//! Runs of the program, and what it reports.
+use crate::outcome::Outcome;
+use crate::refusal::Refusal;
+use crate::report::report;
+use crate::run::run;
+use pf_values::{Counted, RefusalKind};
+use std::alloc::{AllocError, Global};
+use std::io;
+use std::io::{Error, ErrorKind, Write};
+
+// How a run over these words ended, and what it wrote.
+fn ran(alloc: Global, words: &[&str]) -> (Outcome, Vec<u8>) {
+    let mut reader = Counted::new(b"".as_slice());
+    let mut writer = Counted::new(Vec::new(alloc));
+    let outcome = run(alloc, words, &mut reader, &mut writer);
+    (outcome, writer.into_inner())
+}
+
+// What is reported of an outcome.
+fn reported(alloc: Global, outcome: &Outcome) -> Vec<u8> {
+    let mut errors = Counted::new(Vec::new(alloc));
+    report(outcome, &mut errors);
+    errors.into_inner()
+}
+
+#[test]
+fn canon_writes_the_canonical_string(rt: HostRuntime) {
+    let rows = [
+        ("Total: %i of %u%%", "Total: %d of %u%%\n"),
+        ("", "\n"),
+        ("%d%i%u%s", "%d%d%u%s\n"),
+        ("100%%", "100%%\n"),
+        ("%%%%i", "%%%%i\n"),
+        ("%i%%d", "%d%%d\n"),
+        ("d\n\t%i\\n", "d\n\t%d\\n\n"),
+        ("größer als %i", "größer als %d\n"),
+    ];
+    for (format, want) in rows {
+        let (outcome, written) = ran(rt.alloc(), ["canon", format].as_slice());
+        assert!(rt; matches!(outcome, Outcome::Done), "{format}");
+        assert!(rt; written.as_slice() == want.as_bytes(), "{format}");
+        assert_eq!(rt; outcome.status(), 0);
+        assert!(rt; reported(rt.alloc(), &outcome).is_empty());
+    }
+}
+
+#[test]
+fn a_refused_format_writes_nothing(rt: HostRuntime) {
+    let rows = [
+        ("100%", "refused 2 Truncated at byte 4\n"),
+        ("%", "refused 2 Truncated at byte 1\n"),
+        ("%%%", "refused 2 Truncated at byte 3\n"),
+        ("%y", "refused 3 Unexpected at byte 1\n"),
+        ("%5d", "refused 3 Unexpected at byte 1\n"),
+        ("ab%d% d", "refused 3 Unexpected at byte 5\n"),
+        ("\0", "refused 1 NulByte at byte 0\n"),
+        ("ab\0", "refused 1 NulByte at byte 2\n"),
+        ("ab%\0y", "refused 1 NulByte at byte 3\n"),
+    ];
+    for (format, want) in rows {
+        let (outcome, written) = ran(rt.alloc(), ["canon", format].as_slice());
+        assert!(rt; written.is_empty(), "{want}");
+        assert!(rt;
+            reported(rt.alloc(), &outcome).as_slice() == want.as_bytes(),
+            "{want}"
+        );
+        assert_eq!(rt; outcome.status(), 2);
+    }
+}
+
+#[test]
+fn a_format_that_begins_with_a_minus_stands_behind_two(rt: HostRuntime) {
+    let (outcome, written) = ran(rt.alloc(), ["canon", "--", "-%i"].as_slice());
+    assert!(rt; matches!(outcome, Outcome::Done));
+    assert!(rt; written.as_slice() == b"-%d\n".as_slice());
+}
+
+// Words that are no command, and what clap's answer begins with.
+fn is_usage(rt: &HostRuntime, words: &[&str], begins: &str) -> bool {
+    let (outcome, written) = ran(rt.alloc(), words);
+    let told = reported(rt.alloc(), &outcome);
+    let is_told = match &outcome {
+        Outcome::Usage(text) => told.as_slice() == text.as_bytes(),
+        _ => false,
+    };
+    is_told
+        && written.is_empty()
+        && outcome.status() == 3
+        && told.as_slice().starts_with(begins.as_bytes())
+}
+
+#[test]
+fn other_words_are_usage(rt: HostRuntime) {
+    assert!(rt; is_usage(&rt, [].as_slice(), "error: "));
+    assert!(rt; is_usage(&rt, [""].as_slice(), "error: "));
+    assert!(rt; is_usage(&rt, ["nothing"].as_slice(), "error: "));
+    assert!(rt; is_usage(&rt, ["types", "%d"].as_slice(), "error: "));
+    assert!(rt; is_usage(&rt, ["canon"].as_slice(), "error: "));
+    assert!(rt; is_usage(&rt, ["canon", "a", "b"].as_slice(), "error: "));
+    assert!(rt; is_usage(&rt, ["canon", "-%i"].as_slice(), "error: "));
+    assert!(rt; is_usage(&rt, ["--version"].as_slice(), "error: "));
+    assert!(rt; is_usage(&rt, ["--help"].as_slice(), "Reads printf formats"));
+    assert!(rt; is_usage(&rt, ["canon", "--help"].as_slice(), "Writes the canonical"));
+}
+
+#[test]
+fn each_outcome_has_its_status_and_line(rt: HostRuntime) -> Result<(), AllocError> {
+    let refusal = Refusal {
+        kind: RefusalKind::TooLong,
+        at: 1 << 62,
+    };
+    let usage = Outcome::Usage(String::from_str(rt.alloc(), "as it is")?);
+    let rows = [
+        (Outcome::Done, 0, ""),
+        (
+            Outcome::Refused { refusal },
+            2,
+            "refused 18 TooLong at byte 4611686018427387904\n",
+        ),
+        (usage, 3, "as it is"),
+        (Outcome::Write(7), 4, "write failed\n"),
+        (Outcome::Memory, 4, "out of memory\n"),
+    ];
+    for (outcome, status, line) in &rows {
+        assert_eq!(rt; outcome.status(), *status);
+        assert!(rt;
+            reported(rt.alloc(), outcome).as_slice() == line.as_bytes(),
+            "{line}"
+        );
+    }
+    Ok(())
+}
+
+#[test]
+fn what_fits_is_written(rt: HostRuntime) {
+    let want = b"%d of %u%%\n";
+    for room in 0..11usize {
+        let mut place = [0u8; 16];
+        let mut reader = Counted::new(b"".as_slice());
+        let mut writer = Counted::new(&mut place[..room]);
+        let outcome = run(
+            rt.alloc(),
+            ["canon", "%i of %u%%"].as_slice(),
+            &mut reader,
+            &mut writer,
+        );
+        assert!(rt;
+            matches!(outcome, Outcome::Write(n) if n == room as u128),
+            "{room}"
+        );
+        assert_eq!(rt; writer.failures(), 1);
+        assert!(rt; place[..room] == want[..room], "{room}");
+    }
+}
+
+// Takes all bytes, and fails at each flush.
+#[derive(Drop)]
+struct Unflushed(Vec<u8>);
+
+impl Write for Unflushed {
+    fn write(&mut self, buf: &[u8]) -> io::Result<usize> {
+        self.0.write(buf)
+    }
+
+    fn flush(&mut self) -> io::Result<()> {
+        Err(Error::from(ErrorKind::Interrupted))
+    }
+}
+
+#[test]
+fn a_flush_that_fails_is_told_after_all_bytes(rt: HostRuntime) {
+    let mut reader = Counted::new(b"".as_slice());
+    let mut writer = Counted::new(Unflushed(Vec::new(rt.alloc())));
+    let outcome = run(
+        rt.alloc(),
+        ["canon", "%i"].as_slice(),
+        &mut reader,
+        &mut writer,
+    );
+    assert!(rt; matches!(outcome, Outcome::Write(3)));
+    assert_eq!(rt; writer.failures(), 1);
+    assert!(rt; writer.into_inner().0.as_slice() == b"%d\n".as_slice());
+}

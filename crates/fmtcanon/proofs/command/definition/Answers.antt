@@ -11,4 +11,4 @@ next r command sub a s e p q = e ∙ ap₂ (λ (x y : App). with_subcommand x y.
 
 pub returns : goal.returns
 unfolding the_command
-returns c = IfOk-weaker c.adding.result _ _ (λ r h. next r _ _ _ _ h c.top.ensures c.in_ok-on_format.ensures.0) c.adding.ensures
+returns c = IfOk-weaker c.adding.result _ _ (λ r h. next r _ _ _ _ h c.in_ok-top.ensures c.in_ok-on_format.ensures.0) c.adding.ensures

@@ -66,4 +66,3 @@ unreachable-requires-in_default-get_str c =
     let no_fault = ap (λ a. fault_of a words) (sym c.in-Ok.ensures) ∙ c.in-Ok-try_get_matches_from.ensures.kinds (ap is_simple_and_free c.in-Ok.ensures ∙ free_command) in
     let named = asks_canon words (rows_of found) (c.in-Some.ensures.rows ∙ ap (option_map (λ p. p.1)) matches) in
     missing c.get_str.result _ _ (ap is_some (sym c.in_default-get_str.is)) (c.get_str.ensures ∙ first_value-rows found (codes "F")) (canon_given words (rows_of found) no_fault named)
-
