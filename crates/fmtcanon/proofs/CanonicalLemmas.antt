@@ -1,19 +1,18 @@
 -- What the reader's steps write is the canonical text of what it took.
-use Rattle.std.proofs.Common.{◌≡◌, ◌≢◌, ℕ, Bool, true, false, List, [], ◌∷◌, ◌++◌, refl, sym, ap, ap₂, ◌∙◌, subst, inl, inr, map, length, arith, eqb-true, ℤ}
+use Rattle.std.proofs.Common.{◌≡◌, ◌≢◌, ℕ, Bool, true, false, List, [], ◌∷◌, ◌++◌, refl, sym, ap, ap₂, ◌∙◌, subst, inl, map, length, arith, eqb-true, ℤ}
 use Rattle.std.specs.Prelude.{MatchBool, ◌==◌, flat_map, if◌then◌else◌}
 use Rattle.std.proofs.lemmas.Grind.{flat_map-append}
-use Rattle.std.proofs.lemmas.List.{append-nil, map-append}
+use Rattle.std.proofs.lemmas.List.{map-append}
 use Rattle.std.specs.List.{AllByRecursion}
 use Rattle.pf_values.specs.declared.conversions.Conv.{Conv}
 use Rattle.pf_values.specs.declared.conversions.Conv.TheVariants as convs
-use Rattle.pf_values.specs.declared.flags.FlagSet.{FlagSet}
 use Rattle.pf_values.specs.declared.lengths.Length.{Length}
 use Rattle.pf_values.specs.Arguments.{Argument, Number, String}
-use Rattle.pf_values.specs.Canonical.{AreCanonical, IsCanonicalOf, ReadsCanonically, written}
-use Rattle.pf_values.specs.DataModel.{arg_type, type_under}
+use Rattle.pf_values.specs.Canonical.{AreCanonical, IsCanonicalOf, written}
+use Rattle.pf_values.specs.DataModel.{type_under}
 use Rattle.pf_values.specs.Items.{Item, Byte, Directive, IsReadAs, Reads, types}
 use Rattle.pf_values.specs.Normal.{IsNormal}
-use Rattle.pf_values.specs.Printing.{Prints, PrintsAll, PrintsNumber, PrintsUnder}
+use Rattle.pf_values.specs.Printing.{PrintsAll, PrintsNumber, PrintsUnder}
 use Rattle.pf_values.specs.Specification.{Specification}
 use Rattle.pf_values.specs.Text.{Text, percent}
 use Rattle.fmtcanon.specs.declared.bare.Bare.{Bare}
@@ -21,7 +20,7 @@ use Rattle.fmtcanon.specs.declared.bare.Bare.TheVariants.{D, I, U, S}
 use Rattle.fmtcanon.specs.declared.reader.Step.{Step}
 use Rattle.fmtcanon.specs.declared.reader.Step.TheVariants as steps
 use Rattle.fmtcanon.specs.Plain.{IsPlain, ReadsPlainly, conv_of, specification_of}
-use Rattle.fmtcanon.specs.Reading.{Makes, items_of, normal_of, written_for}
+use Rattle.fmtcanon.specs.Reading.{Makes, items_of, written_for}
 use Rattle.fmtcanon.proofs.PlainLemmas.{bare_reads}
 
 -- `i` is another name of `d`

@@ -1,15 +1,12 @@
 -- How the reader of bare directives takes a text, byte by byte, and what is written for it.
-use Rattle.std.specs.Prelude.{◌≡◌, ◌≢◌, ℕ, ◌≤◌, Bool, true, false, List, [], ◌∷◌, ◌++◌, length, map, flat_map}
-use Rattle.pf_values.specs.declared.conversions.Conv.{Conv}
-use Rattle.pf_values.specs.declared.conversions.Conv.TheVariants as convs
+use Rattle.std.specs.Prelude.{◌≡◌, ◌≢◌, ℕ, ◌≤◌, Bool, true, false, List, [], ◌∷◌, ◌++◌, length}
 use Rattle.pf_values.specs.declared.limits.TheConstants.{MAX_TEXT_LEN}
-use Rattle.pf_values.specs.Canonical.{written}
 use Rattle.pf_values.specs.Conversions.{conv_letter}
 use Rattle.pf_values.specs.Items.{Item, Byte, Directive}
 use Rattle.pf_values.specs.Spelling.{spelled}
 use Rattle.pf_values.specs.Text.{Text, percent}
 use Rattle.fmtcanon.specs.declared.bare.Bare.{Bare}
-use Rattle.fmtcanon.specs.declared.bare.Bare.TheVariants.{D, I, U, S}
+use Rattle.fmtcanon.specs.declared.bare.Bare.TheVariants.{D, I}
 use Rattle.fmtcanon.specs.declared.reader.Scanner.{Scanner}
 use Rattle.fmtcanon.specs.declared.reader.Step.{Step}
 use Rattle.fmtcanon.specs.declared.reader.Step.TheVariants as steps

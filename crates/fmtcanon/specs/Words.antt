@@ -1,6 +1,6 @@
 -- What the words of a call mean, by clap's definition of the command.
 use Rattle.std.specs.Prelude.{◌≡◌, true, List, codes}
-use Rattle.clap.specs.Simple.{App, Shape, new_app, new_rule, on_top, with_rule, with_subcommand}
+use Rattle.clap.specs.Simple.{App, new_app, new_rule, on_top, with_rule, with_subcommand}
 use Rattle.clap.specs.Takes.{takes}
 use Rattle.clap.specs.Walk.{Rule}
 use Rattle.pf_values.specs.Text.{Text}

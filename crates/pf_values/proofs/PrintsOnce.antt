@@ -1,5 +1,5 @@
 -- For each directive and argument of its type there is one text that it prints.
-use Rattle.std.proofs.Common.{◌≡◌, [], ◌∷◌, ◌++◌, refl, sym, ap, ◌∙◌, ℤ, pos, false, arith}
+use Rattle.std.proofs.Common.{◌≡◌, [], ◌∷◌, ◌++◌, refl, ap, ◌∙◌, ℤ, pos, false, arith}
 use Rattle.std.specs.Prelude.{nat_abs}
 use Rattle.std.proofs.lemmas.Int.{ints}
 use Rattle.pf_values.specs.declared.conversions.Conv.{Conv}

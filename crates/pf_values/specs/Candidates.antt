@@ -13,7 +13,7 @@ unsigned_candidates bits = map Number (pos 0 ∷ pos 1 ∷ pos 2 ∷ pos (2 ^ bi
 abbrev pub signed_candidates : Bits → List Argument
 signed_candidates bits = map Number (pos 0 ∷ pos 1 ∷ negsuc 0 ∷ negsuc (2 ^ (bit_count bits - 1) - 1) ∷ pos (2 ^ (bit_count bits - 1) - 1) ∷ [])
 
--- The neutral argument first. An int may be converted to 8, 16 or 32 bits, so it has the ends of each.
+-- The neutral argument first. An int may be converted to 8, 16 or 32 bits, so it has the ends of each. A string is nothing, `A`, or too long for any precision.
 abbrev pub candidates : ArgType → List Argument
 candidates Int = map Number (pos 0 ∷ pos 1 ∷ pos 2 ∷ pos 257 ∷ pos 129 ∷ pos 32769
     ∷ negsuc 0 ∷ negsuc 126 ∷ negsuc 32766 ∷ negsuc 2147483646 ∷ negsuc 127 ∷ negsuc 32767 ∷ negsuc 2147483647

@@ -1,11 +1,11 @@
 -- What a directive prints, and what a text does.
 use Rattle.std.specs.Prelude.{◌≡◌, ℕ, zero, suc, ◌-◌, ◌≤◌, ℤ, pos, negsuc, nat_abs, Bool, true, false, not, ◌&&◌, List, [], ◌∷◌, ◌++◌, length, take, replicate, slice_index, codes, Option, Some, None, unwrap_or, is_none, if◌then◌else◌, MatchBool, ◌↔◌}
 use Rattle.pf_values.specs.declared.conversions.Conv.{Conv}
-use Rattle.pf_values.specs.declared.conversions.Conv.TheVariants.{D, I, X, UpperX, C, S}
+use Rattle.pf_values.specs.declared.conversions.Conv.TheVariants.{D, I, O, X, UpperX, C, S}
 use Rattle.pf_values.specs.declared.flags.Flag.TheVariants.{Minus, Plus, Space, Alt, Zero}
 use Rattle.pf_values.specs.Arguments.{Argument, Number, String, HasType, HasTypes, IsConverted, IsValue}
 use Rattle.pf_values.specs.Conversions.{base_of, is_octal, is_upper}
-use Rattle.pf_values.specs.DataModel.{arg_type}
+use Rattle.pf_values.specs.DataModel.{B8, arg_type, bit_count}
 use Rattle.pf_values.specs.Digits.{IsNumeral, IsLeastFrom}
 use Rattle.pf_values.specs.Flags.{has}
 use Rattle.pf_values.specs.Items.{Item, Byte, Directive, Reads, types}
@@ -17,7 +17,7 @@ BeginsWithZero t = slice_index t 0 ≡ zero_digit
 
 -- an octal numeral whose first digit is 0
 abbrev pub IsOctalFromZero : ℕ → ℕ → Text → Type 0
-IsOctalFromZero precision n t = IsNumeral 8 false precision n t × BeginsWithZero t
+IsOctalFromZero precision n t = IsNumeral (base_of O) false precision n t × BeginsWithZero t
 
 -- The digits of a number, at least as many as the precision. `#` raises the precision of an octal number, by as little as makes it begin with 0.
 abbrev pub AreDigitsOf : Specification → ℕ → ℕ → Text → Type 0
@@ -80,7 +80,7 @@ pub record PrintsNumber (s : Specification) (argument : ℤ) (body : Text) : Typ
 
 -- the byte that is the number modulo 256
 abbrev pub PrintsChar : ℤ → Text → Type 0
-PrintsChar argument body = (byte : ℕ) × IsConverted false 8 argument (pos byte) × (body ≡ byte ∷ [])
+PrintsChar argument body = (byte : ℕ) × IsConverted false (bit_count B8) argument (pos byte) × (body ≡ byte ∷ [])
 
 -- no more bytes than the precision, if there is one
 abbrev pub shown : Option ℕ → Text → Text

@@ -267,3 +267,16 @@ fn an_argument_has_its_type(rt: HostRuntime) {
     assert_eq!(rt; Arg::Str(text).arg_type(), ArgType::Str);
     prints_once();
 }
+
+// The caller of CALLING.md.
+fn type_of_a_padded_long(conv: Conv) -> Result<ArgType, RefusalKind> {
+    let flags = FlagSet::empty().with(Flag::Minus);
+    let directive = Directive::new(flags, Some(5), None, Length::L, conv)?;
+    Ok(directive.arg_type())
+}
+
+#[test]
+fn a_caller_gets_a_type_or_a_kind(rt: HostRuntime) {
+    assert_eq!(rt; type_of_a_padded_long(Conv::U), Ok(ArgType::ULong));
+    assert_eq!(rt; type_of_a_padded_long(Conv::C), Err(RefusalKind::Wide));
+}
