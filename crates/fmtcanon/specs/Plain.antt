@@ -13,7 +13,7 @@ use Rattle.pf_values.specs.Specification.{Specification}
 use Rattle.pf_values.specs.Text.{Text, percent}
 use Rattle.fmtcanon.specs.declared.bare.Bare.{Bare}
 use Rattle.fmtcanon.specs.declared.bare.Bare.TheVariants.{D, I, U, S}
-use Rattle.fmtcanon.specs.declared.refusal.Refusal.{Refusal}
+use Rattle.pf_text.specs.declared.refusal.Refusal.{Refusal}
 
 abbrev pub conv_of : Bare → Conv
 conv_of D = convs.D

@@ -1,19 +1,18 @@
 -- What a run leaves, by its outcome.
-use Rattle.std.specs.Prelude.{◌++◌, List, codes}
+use Rattle.std.specs.Prelude.{◌⊎◌, List, codes}
 use Rattle.std.specs.Io.KnownBytes.{Keeps}
 use Rattle.pf_values.specs.declared.counting.Counted.{Counted}
 use Rattle.pf_values.specs.Canonical.{IsCanonicalOf}
 use Rattle.pf_values.specs.Counting.{Known, WritesAll, WritesFirst, device_of}
+use Rattle.pf_values.specs.Refusals.{IsRefusedAt}
 use Rattle.pf_values.specs.Text.{Text}
 use Rattle.fmtcanon.specs.declared.outcome.Outcome.{Outcome}
 use Rattle.fmtcanon.specs.declared.outcome.Outcome.TheVariants.{Done, Refused, Usage, Write, Memory}
+use Rattle.fmtcanon.specs.Lines.{line}
 use Rattle.fmtcanon.specs.Plain.{IsRefusedPlainly}
 use Rattle.fmtcanon.specs.Tasks.{Names}
+use Rattle.fmtcanon.specs.TypeLines.{HasTypeLines}
 use Rattle.fmtcanon.specs.Words.{IsTaken}
-
--- a text and a newline
-abbrev pub line : Text → Text
-line t = t ++ codes "\n"
 
 module _ {W : Type 0} (contents : W → Known) (old new : Counted W) where
   -- nothing went out
@@ -26,6 +25,13 @@ module _ {W : Type 0} (contents : W → Known) (old new : Counted W) where
   LeavesBytes bytes (Write written) = WritesFirst contents old new bytes written
   LeavesBytes bytes _ = ⊥
 
+  -- a line for each argument of a format, or nothing
+  abbrev pub LeavesTypes : Text → Outcome → Type 0
+  LeavesTypes format (Refused refusal) = IsRefusedAt format refusal.kind refusal.at × KeepsAll
+  LeavesTypes format (Usage text) = ⊥
+  LeavesTypes format Memory = KeepsAll
+  LeavesTypes format outcome = (lines : Text) × HasTypeLines format lines × LeavesBytes lines outcome
+
   -- the canonical string of a format and a newline, or nothing
   abbrev pub LeavesCanonical : Text → Outcome → Type 0
   LeavesCanonical format (Refused refusal) = IsRefusedPlainly format refusal × KeepsAll
@@ -33,8 +39,14 @@ module _ {W : Type 0} (contents : W → Known) (old new : Counted W) where
   LeavesCanonical format Memory = KeepsAll
   LeavesCanonical format outcome = (canonical : Text) × IsCanonicalOf format canonical × LeavesBytes (line canonical) outcome
 
+  -- what the command that the words name leaves
+  abbrev pub LeavesNamed : List Text → Outcome → Type 0
+  LeavesNamed words outcome =
+      ((format : Text) × Names words (codes "types") format × LeavesTypes format outcome)
+      ⊎ ((format : Text) × Names words (codes "canon") format × LeavesCanonical format outcome)
+
   -- Words that clap takes are not answered with Usage. For want of memory nothing goes out.
   abbrev pub Leaves : List Text → Outcome → Type 0
   Leaves words (Usage text) = (IsTaken words → ⊥) × KeepsAll
   Leaves words Memory = KeepsAll
-  Leaves words outcome = (format : Text) × Names words (codes "canon") format × LeavesCanonical format outcome
+  Leaves words outcome = LeavesNamed words outcome

@@ -9,7 +9,7 @@ use Rattle.pf_values.specs.Text.{Text}
 use Rattle.fmtcanon.specs.declared.task.NoTask.{NoTask}
 use Rattle.fmtcanon.specs.declared.task.NoTask.TheVariants.{Usage, Memory}
 use Rattle.fmtcanon.specs.declared.task.Task.{Task}
-use Rattle.fmtcanon.specs.declared.task.Task.TheVariants.{Canon}
+use Rattle.fmtcanon.specs.declared.task.Task.TheVariants.{Types, Canon}
 use Rattle.fmtcanon.specs.Words.{IsTaken, the_command}
 
 -- clap finds no fault in the words: they name a command, and have this text as F
@@ -20,6 +20,7 @@ pub record Names (words : List Text) (command : Text) (text : Text) : Type 0 whe
   pub format : first_of (codes "F") rows ≡ Some text
 
 abbrev pub Asks : List Text → Task → Type 0
+Asks words (Types text) = Names words (codes "types") text.now
 Asks words (Canon text) = Names words (codes "canon") text.now
 
 -- words that clap takes have no task for want of memory alone

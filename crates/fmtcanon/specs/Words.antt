@@ -23,7 +23,9 @@ top_app = on_top (λ s. record s {
 
 -- the command
 unfoldable pub the_command : App
-the_command = with_subcommand top_app (on_format (codes "canon")).top
+the_command =
+    let with_types = with_subcommand top_app (on_format (codes "types")).top in
+    with_subcommand with_types (on_format (codes "canon")).top
 
 -- clap's definition of the command takes the words
 abbrev pub IsTaken : List Text → Type 0

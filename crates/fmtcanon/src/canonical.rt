@@ -6,7 +6,7 @@ ghost use Rattle.fmtcanon.specs.declared.canonical.CanonFault.TheVariants.{Memor
 ghost use Rattle.fmtcanon.specs.Reading.{written_for};
 
 use crate::reader::{Scanner, Step};
-use crate::refusal::Refusal;
+use pf_text::Refusal;
 use std::alloc::{AllocError, AllocFailed, Allocator, Global};
 
 #[cfg(test)]

@@ -12,8 +12,10 @@ use std::alloc::{AllocError, Global};
 pub fn definition<'a>(alloc: Global) -> Result<Command<'a>, AllocError>
     ensures { IfOk result (λ command. app_of command ≡ the_command) }
 {
-    let about = "Writes the canonical string of a format";
-    adding(top(alloc)?, on_format(alloc, "canon", about)?)
+    let types = "Writes the types of the arguments of a format, a line each";
+    let canon = "Writes the canonical string of a format";
+    let with_types = adding(top(alloc)?, on_format(alloc, "types", types)?)?;
+    adding(with_types, on_format(alloc, "canon", canon)?)
 }
 
 // The command without its subcommands.

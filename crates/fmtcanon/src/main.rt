@@ -6,12 +6,12 @@ mod canonical;
 mod command;
 mod outcome;
 mod reader;
-mod refusal;
 mod report;
 mod run;
 mod task;
 #[cfg(test)]
 mod tests;
+mod type_lines;
 
 use outcome::Outcome;
 use pf_values::Counted;

@@ -2,7 +2,7 @@
 ghost use Rattle.std.specs.Prelude.{◌≡◌};
 ghost use Rattle.fmtcanon.specs.Outcomes.{status_of};
 
-use crate::refusal::Refusal;
+use pf_text::Refusal;
 
 /// How a run ended.
 #[derive(Debug, Drop)]

@@ -6,7 +6,7 @@ ghost use Rattle.fmtcanon.specs.Plain.{IsRefusedPlainly, ReadsPlainly, plain_let
 ghost use Rattle.fmtcanon.specs.Reading.{IsAfter, Makes, is_more, items_of};
 
 use crate::bare::Bare;
-use crate::refusal::Refusal;
+use pf_text::Refusal;
 use pf_values::RefusalKind;
 use pf_values::limits::MAX_TEXT_LEN;
 

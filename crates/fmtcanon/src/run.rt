@@ -3,11 +3,14 @@ ghost use Rattle.std.specs.Prelude.{◌≡◌, IfOk, IfErr, map};
 ghost use Rattle.pf_values.specs.Canonical.{IsCanonicalOf};
 ghost use Rattle.pf_values.specs.Text.{Text};
 ghost use Rattle.fmtcanon.specs.Canonicals.{IsFaultOf};
-ghost use Rattle.fmtcanon.specs.Runs.{Leaves, LeavesBytes, LeavesCanonical, line};
+ghost use Rattle.fmtcanon.specs.Lines.{line};
+ghost use Rattle.fmtcanon.specs.Runs.{Leaves, LeavesBytes, LeavesCanonical, LeavesTypes};
 
 use crate::canonical::{CanonFault, canonical};
 use crate::outcome::Outcome;
 use crate::task::{NoTask, Task, task_of};
+use crate::type_lines::type_lines;
+use pf_text::TextFault;
 use pf_values::{Counted, write_bytes};
 use std::alloc::Global;
 use std::io::{Read, Write};
@@ -26,9 +29,21 @@ pub fn run<R: Read, W: Write>(
     ensures unread { reader.new ≡ reader.old }
 {
     match task_of(alloc, words) {
+        Ok(Task::Types(format)) => write_types(alloc, format, writer),
         Ok(Task::Canon(format)) => write_canonical(alloc, format, writer),
         Err(NoTask::Usage(text)) => Outcome::Usage(text),
         Err(NoTask::Memory) => Outcome::Memory,
+    }
+}
+
+// Writes the types of a format's arguments, a line for each.
+fn write_types<W: Write>(alloc: Global, format: &str, writer: &mut Counted<W>) -> Outcome
+    ensures { LeavesTypes W.contents writer.old writer.new format.now result }
+{
+    match type_lines(alloc, format.as_bytes()) {
+        Ok(lines) => write_all_of(&lines, writer),
+        Err(TextFault::Refused(refusal)) => Outcome::Refused { refusal },
+        Err(TextFault::Memory) => Outcome::Memory,
     }
 }
 

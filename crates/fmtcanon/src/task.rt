@@ -11,6 +11,8 @@ use std::alloc::Global;
 /// A command with its words.
 #[derive(Clone, Copy, Debug)]
 pub enum Task<'a> {
+    /// The types of the arguments of a format.
+    Types(&'a str),
     /// The canonical string of a format.
     Canon(&'a str),
 }
@@ -36,13 +38,17 @@ pub fn task_of<'a>(alloc: Global, words: &'a [&'a str]) -> Result<Task<'a>, NoTa
         Ok(matches) => matches,
         Err(error) => return Err(no_task(alloc, &error)),
     };
-    let Some((_name, inner)) = matches.subcommand() else {
+    let Some((name, inner)) = matches.subcommand() else {
         unreachable!();
     };
     let Some(format) = inner.get_str("F") else {
         unreachable!();
     };
-    Ok(Task::Canon(format))
+    match name {
+        "types" => Ok(Task::Types(format)),
+        "canon" => Ok(Task::Canon(format)),
+        _ => unreachable!(),
+    }
 }
 
 // What clap answers in place of matches.

@@ -1,8 +1,11 @@
 //! Runs of the program, and what it reports.
+
+mod types;
+
 use crate::outcome::Outcome;
-use crate::refusal::Refusal;
 use crate::report::report;
 use crate::run::run;
+use pf_text::Refusal;
 use pf_values::{Counted, RefusalKind};
 use std::alloc::{AllocError, Global};
 use std::io;
@@ -23,6 +26,21 @@ fn reported(alloc: Global, outcome: &Outcome) -> Vec<u8> {
     errors.into_inner()
 }
 
+// Whether a run is Done and writes this, or is refused, writes nothing and reports this.
+fn answers(alloc: Global, words: &[&str], want: &str) -> bool {
+    let (outcome, written) = ran(alloc, words);
+    let told = reported(alloc, &outcome);
+    match outcome {
+        Outcome::Done => outcome.status() == 0
+            && told.is_empty()
+            && written.as_slice() == want.as_bytes(),
+        Outcome::Refused { .. } => {
+            outcome.status() == 2 && written.is_empty() && told.as_slice() == want.as_bytes()
+        }
+        _ => false,
+    }
+}
+
 #[test]
 fn canon_writes_the_canonical_string(rt: HostRuntime) {
     let rows = [
@@ -36,11 +54,47 @@ fn canon_writes_the_canonical_string(rt: HostRuntime) {
         ("größer als %i", "größer als %d\n"),
     ];
     for (format, want) in rows {
-        let (outcome, written) = ran(rt.alloc(), ["canon", format].as_slice());
+        assert!(rt;
+            answers(rt.alloc(), ["canon", format].as_slice(), want),
+            "{format}"
+        );
+    }
+}
+
+#[test]
+fn types_writes_a_line_for_each_argument(rt: HostRuntime) {
+    let rows = [
+        ("", ""),
+        ("100%%", ""),
+        (
+            "%d %hhu %zu %lld %s",
+            "int\nint\nunsigned long\nlong long\nstring\n",
+        ),
+        ("%u%ld%llu", "unsigned int\nlong\nunsigned long long\n"),
+        ("%*d", "refused 5 Star at byte 1\n"),
+        ("%d%y", "refused 3 Unexpected at byte 3\n"),
+        ("a\0%d", "refused 1 NulByte at byte 1\n"),
+    ];
+    for (format, want) in rows {
+        assert!(rt;
+            answers(rt.alloc(), ["types", format].as_slice(), want),
+            "{format}"
+        );
+    }
+}
+
+#[test]
+fn types_answers_as_the_model(rt: HostRuntime) {
+    for (format, want) in types::TYPES {
+        let (outcome, written) = ran(rt.alloc(), ["types", format].as_slice());
         assert!(rt; matches!(outcome, Outcome::Done), "{format}");
         assert!(rt; written.as_slice() == want.as_bytes(), "{format}");
-        assert_eq!(rt; outcome.status(), 0);
-        assert!(rt; reported(rt.alloc(), &outcome).is_empty());
+    }
+    for (format, want) in types::REFUSED {
+        assert!(rt;
+            answers(rt.alloc(), ["types", format].as_slice(), want),
+            "{format}"
+        );
     }
 }
 
@@ -58,13 +112,10 @@ fn a_refused_format_writes_nothing(rt: HostRuntime) {
         ("ab%\0y", "refused 1 NulByte at byte 3\n"),
     ];
     for (format, want) in rows {
-        let (outcome, written) = ran(rt.alloc(), ["canon", format].as_slice());
-        assert!(rt; written.is_empty(), "{want}");
         assert!(rt;
-            reported(rt.alloc(), &outcome).as_slice() == want.as_bytes(),
+            answers(rt.alloc(), ["canon", format].as_slice(), want),
             "{want}"
         );
-        assert_eq!(rt; outcome.status(), 2);
     }
 }
 
@@ -94,7 +145,10 @@ fn other_words_are_usage(rt: HostRuntime) {
     assert!(rt; is_usage(&rt, [].as_slice(), "error: "));
     assert!(rt; is_usage(&rt, [""].as_slice(), "error: "));
     assert!(rt; is_usage(&rt, ["nothing"].as_slice(), "error: "));
-    assert!(rt; is_usage(&rt, ["types", "%d"].as_slice(), "error: "));
+    assert!(rt; is_usage(&rt, ["types"].as_slice(), "error: "));
+    assert!(rt; is_usage(&rt, ["types", "%d", "%d"].as_slice(), "error: "));
+    assert!(rt; is_usage(&rt, ["show", "%d"].as_slice(), "error: "));
+    assert!(rt; is_usage(&rt, ["stream"].as_slice(), "error: "));
     assert!(rt; is_usage(&rt, ["canon"].as_slice(), "error: "));
     assert!(rt; is_usage(&rt, ["canon", "a", "b"].as_slice(), "error: "));
     assert!(rt; is_usage(&rt, ["canon", "-%i"].as_slice(), "error: "));
@@ -133,24 +187,36 @@ fn each_outcome_has_its_status_and_line(rt: HostRuntime) -> Result<(), AllocErro
 
 #[test]
 fn what_fits_is_written(rt: HostRuntime) {
-    let want = b"%d of %u%%\n";
-    for room in 0..11usize {
-        let mut place = [0u8; 16];
-        let mut reader = Counted::new(b"".as_slice());
-        let mut writer = Counted::new(&mut place[..room]);
-        let outcome = run(
+    assert!(rt;
+        is_cut(
             rt.alloc(),
             ["canon", "%i of %u%%"].as_slice(),
-            &mut reader,
-            &mut writer,
-        );
-        assert!(rt;
-            matches!(outcome, Outcome::Write(n) if n == room as u128),
-            "{room}"
-        );
-        assert_eq!(rt; writer.failures(), 1);
-        assert!(rt; place[..room] == want[..room], "{room}");
+            b"%d of %u%%\n"
+        )
+    );
+    assert!(rt;
+        is_cut(
+            rt.alloc(),
+            ["types", "%i of %u%%"].as_slice(),
+            b"int\nunsigned int\n"
+        )
+    );
+}
+
+// Whether a run of this answer writes just what fits, at each room that is too small.
+fn is_cut(alloc: Global, words: &[&str], want: &[u8]) -> bool {
+    for room in 0..want.len().min(32) {
+        let mut place = [0u8; 32];
+        let mut reader = Counted::new(b"".as_slice());
+        let mut writer = Counted::new(&mut place[..room]);
+        let outcome = run(alloc, words, &mut reader, &mut writer);
+        let failures = writer.failures();
+        let is_told = matches!(outcome, Outcome::Write(n) if n == room as u128);
+        if !is_told || failures != 1 || place[..room] != want[..room] {
+            return false;
+        }
     }
+    true
 }
 
 // Takes all bytes, and fails at each flush.

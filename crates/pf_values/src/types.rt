@@ -1,9 +1,10 @@
 //! Argument types.
 
 /// The type of an argument, in the data model LP64.
-#[derive(Clone, Copy, Debug, PartialEq, Eq)]
+#[derive(Clone, Copy, Debug, Default, PartialEq, Eq)]
 pub enum ArgType {
     /// `int`
+    #[default]
     Int,
     /// `unsigned int`
     UInt,

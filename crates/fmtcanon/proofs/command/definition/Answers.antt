@@ -11,4 +11,6 @@ next r command sub a s e p q = e ∙ ap₂ (λ (x y : App). with_subcommand x y.
 
 pub returns : goal.returns
 unfolding the_command
-returns c = IfOk-weaker c.adding.result _ _ (λ r h. next r _ _ _ _ h c.in_ok-top.ensures c.in_ok-on_format.ensures.0) c.adding.ensures
+returns c =
+    let types = next _ _ _ _ _ c.in_ok-with_types.ensures c.in_ok-top.ensures c.in_ok-on_format.ensures.0 in
+    IfOk-weaker c.adding-2.result _ _ (λ r h. next r _ _ _ _ h types c.in_ok-on_format-2.ensures.0) c.adding-2.ensures

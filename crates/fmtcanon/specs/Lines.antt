@@ -1,0 +1,7 @@
+-- Lines.
+use Rattle.std.specs.Prelude.{◌++◌, codes}
+use Rattle.pf_values.specs.Text.{Text}
+
+-- a text and a newline
+abbrev pub line : Text → Text
+line t = t ++ codes "\n"

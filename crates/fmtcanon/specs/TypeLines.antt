@@ -1,0 +1,31 @@
+-- The types of a format's arguments, as lines.
+use Rattle.std.specs.Prelude.{◌≡◌, List, codes, flat_map}
+use Rattle.pf_text.specs.declared.faults.TextFault.{TextFault}
+use Rattle.pf_text.specs.declared.faults.TextFault.TheVariants.{Memory, Refused}
+use Rattle.pf_values.specs.declared.types.ArgType.{ArgType}
+use Rattle.pf_values.specs.declared.types.ArgType.TheVariants.{Int, UInt, Long, ULong, LongLong, ULongLong, Str}
+use Rattle.pf_values.specs.Items.{Item, Reads, types}
+use Rattle.pf_values.specs.Refusals.{IsRefusedAt}
+use Rattle.pf_values.specs.Text.{Text}
+use Rattle.fmtcanon.specs.Lines.{line}
+
+abbrev pub type_name : ArgType → Text
+type_name Int = codes "int"
+type_name UInt = codes "unsigned int"
+type_name Long = codes "long"
+type_name ULong = codes "unsigned long"
+type_name LongLong = codes "long long"
+type_name ULongLong = codes "unsigned long long"
+type_name Str = codes "string"
+
+abbrev pub type_line : ArgType → Text
+type_line type = line (type_name type)
+
+-- a line for each argument of a format, in order
+abbrev pub HasTypeLines : Text → Text → Type 0
+HasTypeLines format lines = (items : List Item) × Reads format items × (lines ≡ flat_map type_line (types items))
+
+-- why there are none
+abbrev pub HindersTypes : Text → TextFault → Type 0
+HindersTypes format (Refused refusal) = IsRefusedAt format refusal.kind refusal.at
+HindersTypes format Memory = Unit {0}

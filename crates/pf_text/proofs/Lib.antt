@@ -1,0 +1,13 @@
+pub mod Runs
+pub mod Complete
+pub mod Sound
+pub mod Texts
+pub mod Reasons
+pub mod Refusing
+pub mod Unique
+pub mod SpellingLemmas
+pub mod ReadBack
+pub mod LiteralLemmas
+pub mod PieceLemmas
+pub mod SignatureLemmas
+mod Examples

@@ -1,0 +1,6 @@
+pub mod Fronts
+pub mod Letters
+pub mod States
+pub mod History
+pub mod PieceHistory
+pub mod Signatures

@@ -1,0 +1,97 @@
+-- What the pieces of a text have given.
+use Rattle.std.specs.Prelude.{◌≡◌, ◌≢◌, ℕ, ◌+◌, ◌≤◌, true, false, List, [], ◌∷◌, ◌++◌, length, map, Option, Some, None, Result, Ok, Err, if◌then◌else◌}
+use Rattle.std.specs.Iterator.{Count, at_most}
+use Rattle.std.specs.List.{AllByRecursion}
+use Rattle.pf_values.specs.declared.limits.TheConstants.{MAX_TEXT_LEN}
+use Rattle.pf_values.specs.Items.{Item, Byte, Directive, Reads}
+use Rattle.pf_values.specs.Refusals.{IsGoodFront, IsRefusedAt}
+use Rattle.pf_values.specs.Text.{Text, percent}
+use Rattle.pf_text.specs.declared.pieces.Piece.{Piece}
+use Rattle.pf_text.specs.declared.pieces.Piece.TheVariants as pieces
+use Rattle.pf_text.specs.declared.pieces.Pieces.{Pieces}
+use Rattle.pf_text.specs.declared.refusal.Refusal.{Refusal}
+use Rattle.pf_text.specs.declared.scanner.Step.{Step}
+use Rattle.pf_text.specs.History.{EndsRun, IsAfter, IsLiteral, Takes}
+
+-- the items that a piece stands for
+abbrev pub items_of : Piece → List Item
+items_of (pieces.Literal run) = map Byte run.now
+items_of pieces.Percent = Byte percent ∷ []
+items_of (pieces.Directive d) = Directive d ∷ []
+
+-- The pieces of `t` that were given are its first part `read`, with these items. No refusal was given.
+pub record HasGiven (pieces : Pieces) (t read : Text) (items : List Item) : Type 0 where
+  pub going : pieces.is_over ≡ false
+  pub split : t ≡ read ++ pieces.rest.now
+  pub reads : Reads read items
+  pub scanned : IsAfter pieces.scanner read items
+
+-- a run of literal bytes that ends with the text `read` is not empty, and no literal byte follows
+pub record IsLongestRun (run read rest : Text) : Type 0 where
+  pub some : run ≢ []
+  pub literal : AllByRecursion IsLiteral run
+  pub longest : EndsRun read rest
+
+abbrev pub IsPieceBefore : Piece → Text → Text → Type 0
+IsPieceBefore (pieces.Literal run) read rest = IsLongestRun run.now read rest
+IsPieceBefore pieces.Percent read rest = Unit {0}
+IsPieceBefore (pieces.Directive d) read rest = Unit {0}
+
+-- the next piece was given
+pub record GivesPiece (new : Pieces) (t read : Text) (items : List Item) (piece : Piece) : Type 0 where
+  pub more : Text
+  pub given : HasGiven new t (read ++ more) (items ++ items_of piece)
+  pub whole : IsPieceBefore piece (read ++ more) new.rest.now
+
+-- inside a call: the scanner has taken some more bytes, and no item has ended
+pub record IsInside (pieces : Pieces) (t read : Text) (items : List Item) : Type 0 where
+  pub fed : Text
+  pub going : pieces.is_over ≡ false
+  pub split : t ≡ read ++ fed ++ pieces.rest.now
+  pub scanned : IsAfter pieces.scanner (read ++ fed) items
+
+-- and now it has also taken the first byte of the rest, of which it made this step
+pub record IsFed (pieces : Pieces) (step : Step) (t read : Text) (items : List Item) : Type 0 where
+  pub fed : Text
+  pub byte : ℕ
+  pub after : Text
+  pub going : pieces.is_over ≡ false
+  pub split : t ≡ read ++ fed ++ pieces.rest.now
+  pub first : pieces.rest.now ≡ byte ∷ after
+  pub takes : Takes (read ++ fed) items byte step pieces.scanner
+
+-- the text is refused behind the items that were given
+pub record GivesRefusal (t : Text) (items : List Item) (refusal : Refusal) : Type 0 where
+  pub refused : IsRefusedAt t refusal.kind refusal.at
+  pub front : Text
+  pub rest : Text
+  pub part : Text
+  pub split : t ≡ front ++ rest
+  pub place : refusal.at ≡ length front
+  pub good : IsGoodFront front items part
+
+-- the text was given to its end, and is accepted
+pub record GivesEnd (t : Text) (items : List Item) : Type 0 where
+  pub reads : Reads t items
+  pub limit : length t ≤ MAX_TEXT_LEN
+
+abbrev pub GivesNext : Option (Result Piece Refusal) → Pieces → Text → Text → List Item → Type 0
+GivesNext None new t read items = GivesEnd t items
+GivesNext (Some (Ok piece)) new t read items = GivesPiece new t read items piece
+GivesNext (Some (Err refusal)) new t read items = GivesRefusal t items refusal
+
+-- after the end and after a refusal nothing comes
+abbrev pub IsOverAfter : Option (Result Piece Refusal) → Pieces → Type 0
+IsOverAfter None new = new.is_over ≡ true
+IsOverAfter (Some (Ok piece)) new = Unit {0}
+IsOverAfter (Some (Err refusal)) new = new.is_over ≡ true
+
+-- what a call of `next` gives
+pub record Gives (old : Pieces) (result : Option (Result Piece Refusal)) (new : Pieces) : Type 0 where
+  pub next : (t read : Text) (items : List Item) → HasGiven old t read items → GivesNext result new t read items
+  pub over : old.is_over ≡ true → (result ≡ None) × (new ≡ old)
+  pub last : IsOverAfter result new
+
+-- at most one piece for each byte of the rest, and a refusal
+abbrev pub pieces_to_come : Pieces → Count
+pieces_to_come pieces = at_most (if pieces.is_over then 0 else length pieces.rest.now + 1)

@@ -1,0 +1,34 @@
+-- The argument types of a text.
+use Rattle.std.specs.Prelude.{◌≡◌, ◌<◌, ◌≤◌, List, ◌++◌, length}
+use Rattle.pf_values.specs.declared.limits.TheConstants.{MAX_TEXT_LEN}
+use Rattle.pf_values.specs.declared.types.ArgType.{ArgType}
+use Rattle.pf_values.specs.Items.{Item, Reads, types}
+use Rattle.pf_values.specs.Refusals.{IsRefusedAt}
+use Rattle.pf_values.specs.Text.{Text}
+use Rattle.pf_text.specs.declared.faults.TextFault.{TextFault}
+use Rattle.pf_text.specs.declared.faults.TextFault.TheVariants.{Memory, Refused}
+use Rattle.pf_text.specs.declared.signatures.Signature.{Signature}
+
+abbrev pub types_of : Signature → List ArgType
+types_of signature = signature.types.items
+
+-- a text is accepted, and its directives take arguments of these types
+pub record HasTypes (t : Text) (wanted : List ArgType) : Type 0 where
+  pub items : List Item
+  pub reads : Reads t items
+  pub limit : length t ≤ MAX_TEXT_LEN
+  pub types_are : wanted ≡ types items
+
+-- a text begins with items that take more than eight arguments
+pub record TakesManyArguments (t : Text) : Type 0 where
+  pub front : Text
+  pub rest : Text
+  pub items : List Item
+  pub split : t ≡ front ++ rest
+  pub reads : Reads front items
+  pub many : 8 < length (types items)
+
+-- why a text has no signature
+abbrev pub Hinders : Text → TextFault → Type 0
+Hinders t (Refused refusal) = IsRefusedAt t refusal.kind refusal.at
+Hinders t Memory = TakesManyArguments t

@@ -1,0 +1,26 @@
+//! Formats of the C function `printf`: which items a text has, or where and why it is refused; how directives are
+//! spelled; the types of the arguments that a format takes.
+#![tactic(auto)]
+
+mod checking;
+mod faults;
+pub mod laws;
+mod letters;
+mod pieces;
+mod refusal;
+mod scanner;
+mod signatures;
+mod signing;
+mod spelling;
+mod state;
+#[cfg(test)]
+mod tests;
+
+pub use checking::check;
+pub use faults::TextFault;
+pub use pieces::{Piece, Pieces};
+pub use refusal::Refusal;
+pub use scanner::{Scanner, Step};
+pub use signatures::Signature;
+pub use signing::signature;
+pub use spelling::{Spelling, spell};

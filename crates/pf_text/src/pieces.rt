@@ -1,0 +1,110 @@
+//! The pieces of a format in memory: runs of literal bytes, `%%`, and directives.
+ghost use Rattle.std.specs.Prelude.{◌≡◌, ℕ, ◌<◌, List, [], length, MatchOption};
+ghost use Rattle.pf_values.specs.Items.{Item};
+ghost use Rattle.pf_values.specs.Text.{Text};
+
+use crate::refusal::Refusal;
+use crate::scanner::{Scanner, Step};
+use pf_values::Directive;
+
+/// A piece of a format.
+#[derive(Clone, Copy, Debug, PartialEq, Eq)]
+pub enum Piece<'a> {
+    /// A longest run of bytes that stand for themselves, never empty.
+    Literal(&'a [u8]),
+    /// `%%`
+    Percent,
+    /// A conversion specification.
+    Directive(Directive),
+}
+
+/// The pieces of a text, in order, up to its end or to where it is refused. Then the refusal is given once.
+#[derive(Debug, Drop)]
+pub struct Pieces<'a> {
+    rest: &'a [u8],
+    scanner: Scanner,
+    is_over: bool,
+}
+
+impl<'a> Pieces<'a> {
+    ghost use Rattle.pf_text.specs.PieceHistory.{GivesPiece, HasGiven, IsFed, IsInside};
+
+    /// All the pieces of a text.
+    pub fn new(text: &'a [u8]) -> Pieces<'a>
+        ensures { HasGiven result text.now [] [] }
+    {
+        Pieces {
+            rest: text,
+            scanner: Scanner::new(),
+            is_over: false,
+        }
+    }
+
+    // Moves on behind the first byte of the rest, of which the scanner made this step, and behind the run that
+    // a literal byte begins. Gives the piece that ends there, if one does.
+    fn advance(&mut self, step: Step) -> Option<Piece<'a>>
+        requires { 0 < length self.old.rest.now }
+        ensures given { (t read : Text) (items : List Item) → IsFed self.old step t read items
+            → MatchOption result (IsInside self.new t read items) (GivesPiece self.new t read items) }
+        ensures shorter { length self.new.rest.now < length self.old.rest.now }
+        ensures going { self.new.is_over ≡ self.old.is_over }
+    {
+        if let Step::Byte(_) = step {
+            return Some(Piece::Literal(self.take_run()));
+        }
+        self.rest = &self.rest[1..];
+        match step {
+            Step::Percent => Some(Piece::Percent),
+            Step::Directive(directive) => Some(Piece::Directive(directive)),
+            Step::More | Step::Byte(_) => None,
+        }
+    }
+
+    // The run that the first byte of the rest begins, which the scanner has taken.
+    fn take_run(&mut self) -> &'a [u8]
+        requires { 0 < length self.old.rest.now }
+        ensures given { (t read : Text) (items : List Item) (b : ℕ) → IsFed self.old (Step.Byte b) t read items
+            → GivesPiece self.new t read items (Piece.Literal result) }
+        ensures shorter { length self.new.rest.now < length self.old.rest.now }
+        ensures going { self.new.is_over ≡ self.old.is_over }
+    {
+        let more = self.scanner.pass_literals(&self.rest[1..]);
+        let (run, rest) = self.rest.split_at(1 + more);
+        self.rest = rest;
+        run
+    }
+}
+
+impl<'a> Iterator for Pieces<'a> {
+    ghost use Rattle.pf_text.specs.PieceHistory.{Gives, pieces_to_come};
+
+    type Item = Result<Piece<'a>, Refusal>;
+
+    ghost next_gives = { Gives };
+
+    ghost remaining = { pieces_to_come };
+
+    fn next(&mut self) -> Option<Result<Piece<'a>, Refusal>> {
+        if self.is_over {
+            return None;
+        }
+        while let Some(byte) = self.rest.first() {
+            match self.scanner.feed(*byte) {
+                Ok(step) => {
+                    if let Some(piece) = self.advance(step) {
+                        return Some(Ok(piece));
+                    }
+                }
+                Err(refusal) => {
+                    self.is_over = true;
+                    return Some(Err(refusal));
+                }
+            }
+        }
+        self.is_over = true;
+        match self.scanner.finish() {
+            Ok(()) => None,
+            Err(refusal) => Some(Err(refusal)),
+        }
+    }
+}

@@ -1,0 +1,122 @@
+//! A reader of a format, byte by byte.
+ghost use Rattle.std.specs.Prelude.{◌≡◌, ◌+◌, ◌≤◌, length, List, [], MatchResult};
+ghost use Rattle.pf_values.specs.Items.{Item, Reads};
+ghost use Rattle.pf_values.specs.Text.{Text};
+ghost use Rattle.pf_text.specs.History.{IsAfter, HasRefused, Feeds, Finishes, Passes, offset_of, refusal_by, refusing};
+
+use crate::refusal::Refusal;
+use crate::state::{State, next};
+use memchr::memchr2;
+use pf_values::limits::MAX_TEXT_LEN;
+use pf_values::{Directive, RefusalKind};
+
+#[cfg(test)]
+mod tests;
+
+/// What one byte makes (C11 7.21.6.1, paragraphs 3 and 4).
+#[derive(Clone, Copy, Debug, PartialEq, Eq)]
+pub enum Step {
+    /// The byte is inside a specification.
+    More,
+    /// A byte that stands for itself.
+    Byte(u8),
+    /// The end of `%%`.
+    Percent,
+    /// The end of a specification.
+    Directive(Directive),
+}
+
+/// A reader of one text, which may come in any cuts. It is of fixed size.
+#[derive(Clone, Copy, Debug)]
+pub struct Scanner {
+    state: State,
+    offset: u64,
+    refused: Option<Refusal>,
+}
+
+impl Scanner {
+    /// A reader that has taken nothing.
+    pub fn new() -> Scanner
+        ensures { IsAfter result [] [] }
+    {
+        Scanner {
+            state: State::Between,
+            offset: 0,
+            refused: None,
+        }
+    }
+
+    /// Takes one more byte, and tells what it makes: where it ends an item, that item. A refused byte isn't taken,
+    /// and from then on that refusal is all that is answered.
+    pub fn feed(&mut self, byte: u8) -> Result<Step, Refusal>
+        // One more byte of a text is taken, or is refused however the text goes on.
+        ensures fed { (t : Text) (items : List Item) → IsAfter self.old t items → Feeds t items byte result self.new }
+        // A refusal is kept.
+        ensures kept { MatchResult result (λ _. offset_of self.new ≡ offset_of self.old + 1) (λ refusal. HasRefused self.new refusal × (offset_of self.new ≡ offset_of self.old)) }
+        // After a refusal the same is answered.
+        ensures stays { (refusal : Refusal) → HasRefused self.old refusal → (result ≡ Err refusal) × (self.new ≡ self.old) }
+    {
+        if let Some(refusal) = self.refused {
+            return Err(refusal);
+        }
+        if self.offset >= MAX_TEXT_LEN {
+            return self.refuse(RefusalKind::TooLong);
+        }
+        match next(self.state, byte) {
+            Ok((state, step)) => {
+                self.state = state;
+                self.offset += 1;
+                Ok(step)
+            }
+            Err(kind) => self.refuse(kind),
+        }
+    }
+
+    /// Takes the longest run of literal bytes at the front of `text`, and tells how many there are. One call of
+    /// `feed` for each of them would do the same.
+    pub(crate) fn pass_literals(&mut self, text: &[u8]) -> usize
+        ensures within { result ≤ length text.now }
+        ensures passed { (t : Text) (items : List Item) → IsAfter self.old t items → Reads t items → Passes t items text.now result self.new }
+    {
+        let run = memchr2(b'%', 0, text).unwrap_or(text.len());
+        let room = MAX_TEXT_LEN.saturating_sub(self.offset);
+        let taken = (run as u64).min(room);
+        self.offset += taken;
+        taken as usize
+    }
+
+    fn refuse(&mut self, kind: RefusalKind) -> Result<Step, Refusal>
+        ensures { (result ≡ Err (refusal_by self.old kind)) × (self.new ≡ refusing self.old kind) }
+    {
+        let refusal = Refusal {
+            kind,
+            at: self.offset,
+        };
+        self.refused = Some(refusal);
+        Err(refusal)
+    }
+
+    /// Whether the text so far is whole. If not, it is refused as truncated, unless a byte of it was refused.
+    pub fn finish(&self) -> Result<(), Refusal>
+        ensures finished { (t : Text) (items : List Item) → IsAfter self.now t items → Finishes t items result }
+        ensures stays { (refusal : Refusal) → HasRefused self.now refusal → result ≡ Err refusal }
+    {
+        if let Some(refusal) = self.refused {
+            return Err(refusal);
+        }
+        match self.state {
+            State::Between => Ok(()),
+            _ => Err(Refusal {
+                kind: RefusalKind::Truncated,
+                at: self.offset,
+            }),
+        }
+    }
+
+    /// How many bytes were taken.
+    pub fn offset(&self) -> u64
+        ensures { result ≡ offset_of self.now }
+    {
+        self.offset
+    }
+}

@@ -1,0 +1,60 @@
+//! Reading the argument types of a format.
+ghost use Rattle.std.specs.Prelude.{◌≡◌, ◌≤◌, [], MatchResult};
+ghost use Rattle.std.specs.Option.{option_to_list};
+ghost use Rattle.pf_values.specs.Items.{types};
+ghost use Rattle.pf_text.specs.PieceHistory.{items_of};
+ghost use Rattle.pf_text.specs.Signatures.{HasTypes, Hinders, types_of};
+
+use crate::faults::TextFault;
+use crate::pieces::{Piece, Pieces};
+use crate::signatures::Signature;
+use pf_values::ArgType;
+use smallvec::SmallVec;
+use std::alloc::{Allocator, Global};
+
+#[cfg(test)]
+mod tests;
+
+/// The types of the arguments that a format takes. Memory can be refused for more than eight of them only.
+pub fn signature(alloc: Global, text: &[u8]) -> Result<Signature, TextFault>
+    ensures { MatchResult result (λ signature. HasTypes text.now (types_of signature)) (Hinders text.now) }
+{
+    let mut found = SmallVec::new(alloc);
+    match push_types(&mut found, text) {
+        Ok(()) => Ok(Signature { types: found }),
+        Err(fault) => Err(fault),
+    }
+}
+
+fn push_types<A: Allocator + Copy>(
+    found: &mut SmallVec<ArgType, 8, A>,
+    text: &[u8],
+) -> Result<(), TextFault>
+    requires none { found.old.items ≡ [] }
+    requires room { 8 ≤ found.old.capacity }
+    ensures { MatchResult result (λ _. HasTypes text.now found.new.items) (Hinders text.now) }
+{
+    for piece in Pieces::new(text) {
+        let piece = match piece {
+            Ok(piece) => piece,
+            Err(refusal) => return Err(TextFault::Refused(refusal)),
+        };
+        if let Some(arg_type) = arg_type(piece) {
+            if found.push(arg_type).is_err() {
+                return Err(TextFault::Memory);
+            }
+        }
+    }
+    Ok(())
+}
+
+// The type of the argument that a piece takes, if it takes one.
+fn arg_type(piece: Piece<'_>) -> Option<ArgType>
+    ensures { option_to_list result ≡ types (items_of piece.entry) }
+{
+    match piece {
+        Piece::Directive(directive) => Some(directive.arg_type()),
+        Piece::Percent => None,
+        Piece::Literal(_) => None,
+    }
+}

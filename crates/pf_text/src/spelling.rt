@@ -1,0 +1,102 @@
+//! How directives are spelled.
+ghost use Rattle.std.specs.Prelude.{◌≡◌, ◌≤◌, ◌<◌, ◌+◌, ◌++◌, ◌∷◌, [], false, decimal, length};
+ghost use Rattle.arrayvec.specs.ArrayVec.{array_vec_len};
+ghost use Rattle.pf_values.specs.Defined.{is_above_limit};
+ghost use Rattle.pf_values.specs.Lengths.{length_letters};
+ghost use Rattle.pf_values.specs.Spelling.{flags_spelled, precision_spelled, spelled, width_spelled};
+ghost use Rattle.pf_text.specs.Letters.{flags_kept};
+
+use crate::letters::{conv_letter, flag_byte, length_letters};
+use arrayvec::ArrayVec;
+use pf_values::{Directive, Flag, FlagSet, Length};
+
+/// The bytes of a spelling.
+pub type Spelling = ArrayVec<u8, 20>;
+
+/// The order in which flags are spelled.
+const FLAGS: [Flag; 6] = [
+    Flag::Minus,
+    Flag::Plus,
+    Flag::Space,
+    Flag::Alt,
+    Flag::Zero,
+    Flag::Group,
+];
+
+/// The spelling of a directive: each flag once, in the order `-`, `+`, space, `#`, `0`, `'`, and numbers without
+/// zeros in front. A precision of 0 is `.0`. One of the longest is `%-+ 0'4095.4095lld`.
+pub fn spell(directive: &Directive) -> Spelling
+    ensures bytes { result.items ≡ spelled directive.now }
+    ensures short { array_vec_len result ≤ 18 }
+{
+    let mut out = ArrayVec::new();
+    out.push(b'%');
+    push_flags(&mut out, directive.flags());
+    push_width(&mut out, directive.width());
+    push_precision(&mut out, directive.precision());
+    push_letters(&mut out, directive.length());
+    out.push(conv_letter(directive.conv()));
+    out
+}
+
+fn push_flags(out: &mut Spelling, flags: FlagSet)
+    requires { array_vec_len out.old + 6 ≤ 20 }
+    ensures bytes { out.new.items ≡ out.old.items ++ flags_spelled flags }
+    ensures len { array_vec_len out.new ≤ array_vec_len out.old + 6 }
+{
+    for flag in FLAGS {
+        push_flag(out, flags, flag);
+    }
+}
+
+fn push_flag(out: &mut Spelling, flags: FlagSet, flag: Flag)
+    requires { array_vec_len out.old < 20 }
+    ensures { out.new.items ≡ out.old.items ++ flags_kept flags (flag ∷ []) }
+{
+    if flags.has(flag) {
+        out.push(flag_byte(flag));
+    }
+}
+
+fn push_width(out: &mut Spelling, width: Option<u16>)
+    requires small { is_above_limit width ≡ false }
+    requires room { array_vec_len out.old + 4 ≤ 20 }
+    ensures bytes { out.new.items ≡ out.old.items ++ width_spelled width }
+    ensures len { array_vec_len out.new ≤ array_vec_len out.old + 4 }
+{
+    if let Some(width) = width {
+        push_number(out, width);
+    }
+}
+
+fn push_precision(out: &mut Spelling, precision: Option<u16>)
+    requires small { is_above_limit precision ≡ false }
+    requires room { array_vec_len out.old + 5 ≤ 20 }
+    ensures bytes { out.new.items ≡ out.old.items ++ precision_spelled precision }
+    ensures len { array_vec_len out.new ≤ array_vec_len out.old + 5 }
+{
+    if let Some(precision) = precision {
+        out.push(b'.');
+        push_number(out, precision);
+    }
+}
+
+fn push_number(out: &mut Spelling, number: u16)
+    requires { array_vec_len out.old + length (decimal number) ≤ 20 }
+    ensures { out.new.items ≡ out.old.items ++ decimal number }
+{
+    if number < 10 {
+        out.push(b'0' + number as u8);
+        return;
+    }
+    push_number(out, number / 10);
+    out.push(b'0' + (number % 10) as u8);
+}
+
+fn push_letters(out: &mut Spelling, length: Length)
+    requires { array_vec_len out.old + 2 ≤ 20 }
+    ensures bytes { out.new.items ≡ out.old.items ++ length_letters length }
+    ensures len { array_vec_len out.new ≤ array_vec_len out.old + 2 }
+{
+    out.try_extend_from_slice(length_letters(length)).unwrap();
+}

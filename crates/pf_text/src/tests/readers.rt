@@ -1,0 +1,83 @@
+//! What a scanner and the pieces of a text hand out.
+use crate::laws::{reads_once, refused_once};
+use crate::{Piece, Pieces, Refusal, Scanner, Step, check};
+use pf_values::{Conv, Directive, FlagSet, Length, RefusalKind};
+
+fn directive_of_width(width: Option<u16>) -> Result<Directive, RefusalKind> {
+    Directive::new(FlagSet::empty(), width, None, Length::None, Conv::D)
+}
+
+#[test]
+fn steps_up_to_a_directive(rt: HostRuntime) {
+    let mut scanner = Scanner::new();
+    let wanted = directive_of_width(Some(5)).expect(&rt, "defined");
+    assert!(rt; scanner.feed(b'a') == Ok(Step::Byte(b'a')));
+    assert!(rt; scanner.feed(b'%') == Ok(Step::More));
+    assert!(rt; scanner.feed(b'5') == Ok(Step::More));
+    assert!(rt; scanner.feed(b'd') == Ok(Step::Directive(wanted)));
+    assert!(rt; scanner.offset() == 4);
+    assert!(rt; scanner.finish() == Ok(()));
+    assert!(rt; scanner.feed(b'%') == Ok(Step::More));
+    assert!(rt; scanner.feed(b'%') == Ok(Step::Percent));
+    assert!(rt; scanner.offset() == 6);
+    assert!(rt; scanner.finish() == Ok(()));
+}
+
+#[test]
+fn a_refusal_stays(rt: HostRuntime) {
+    let mut scanner = Scanner::new();
+    let early = Refusal {
+        kind: RefusalKind::Truncated,
+        at: 2,
+    };
+    let refusal = Refusal {
+        kind: RefusalKind::BadPercent,
+        at: 2,
+    };
+    assert!(rt; scanner.feed(b'%') == Ok(Step::More));
+    assert!(rt; scanner.feed(b'5') == Ok(Step::More));
+    assert!(rt; scanner.finish() == Err(early));
+    assert!(rt; scanner.feed(b'%') == Err(refusal));
+    assert!(rt; scanner.feed(b'd') == Err(refusal));
+    assert!(rt; scanner.finish() == Err(refusal));
+    assert!(rt; scanner.offset() == 2);
+}
+
+#[test]
+fn pieces_up_to_a_refusal(rt: HostRuntime) {
+    let wanted = directive_of_width(None).expect(&rt, "defined");
+    let refusal = Refusal {
+        kind: RefusalKind::Truncated,
+        at: 8,
+    };
+    let mut pieces = Pieces::new(b"ab%%%dc%");
+    assert!(rt; pieces.next() == Some(Ok(Piece::Literal(b"ab"))));
+    assert!(rt; pieces.next() == Some(Ok(Piece::Percent)));
+    assert!(rt; pieces.next() == Some(Ok(Piece::Directive(wanted))));
+    assert!(rt; pieces.next() == Some(Ok(Piece::Literal(b"c"))));
+    assert!(rt; pieces.next() == Some(Err(refusal)));
+    assert!(rt; pieces.next() == None);
+    assert!(rt; pieces.next() == None);
+}
+
+#[test]
+fn a_whole_text(rt: HostRuntime) {
+    assert!(rt; check(b"x%20d%%") == Ok(()));
+    let mut pieces = Pieces::new(b"x");
+    assert!(rt; pieces.next() == Some(Ok(Piece::Literal(b"x"))));
+    assert!(rt; pieces.next() == None);
+    assert!(rt; pieces.next() == None);
+    reads_once();
+    refused_once();
+}
+
+#[test]
+fn a_refusal_is_told(rt: HostRuntime) -> Result<(), std::alloc::AllocError> {
+    let refusal = Refusal {
+        kind: RefusalKind::Unexpected,
+        at: 3,
+    };
+    let told = format!(in rt.alloc(); "{refusal}")?;
+    assert!(rt; told.as_str() == "refused (Unexpected) at byte 3");
+    Ok(())
+}
