@@ -47,17 +47,6 @@ item_given old new step piece t read items h scanner over rest reads same whole 
       whole = whole (read ++ (h.fed ++ h.byte ∷ [])) new.rest.now;
     }
 
--- no item ended
-pub still_inside : (old new : Pieces) (t read : Text) (items : List Item) (h : IsFed old steps.More t read items)
-    → new.scanner ≡ old.scanner → new.is_over ≡ old.is_over → new.rest.now ≡ h.after → IsInside new t read items
-still_inside old new t read items h scanner over rest =
-    record {
-      fed = h.fed ++ h.byte ∷ [];
-      going = over ∙ h.going;
-      split = split_again t read h.fed old.rest.now h.byte [] new.rest.now h.split (h.first ∙ ap (λ a. h.byte ∷ a) (sym rest));
-      scanned = subst (λ s. IsAfter s (read ++ (h.fed ++ h.byte ∷ [])) items) (sym scanner) (subst (λ u. IsAfter old.scanner u items) (append_assoc read h.fed (h.byte ∷ [])) h.takes.after);
-    }
-
 -- the first byte, and some of what comes after it
 pub front_of : (rest : Text) (byte : ℕ) (after : Text) (n : ℕ) → rest ≡ byte ∷ after → take (1 + n) rest ≡ byte ∷ take n after
 front_of rest byte after n e = let more : 1 + n ≡ suc n = omega arith in rw (e, more) refl

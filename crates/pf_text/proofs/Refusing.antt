@@ -6,7 +6,7 @@ use Rattle.std.proofs.lemmas.List.{append-nil, length-append}
 use Rattle.pf_values.specs.declared.limits.TheConstants.{MAX_TEXT_LEN}
 use Rattle.pf_values.specs.declared.refusals.RefusalKind.{RefusalKind}
 use Rattle.pf_values.specs.declared.refusals.RefusalKind.TheVariants.{Truncated, TooLong}
-use Rattle.pf_values.specs.Items.{Item, Reads, IsAccepted}
+use Rattle.pf_values.specs.Items.{Item, IsAccepted}
 use Rattle.pf_values.specs.Refusals.{IsSplit, IsGoodFront, HasReason, IsRefusedByte, IsRefusedAt}
 use Rattle.pf_values.specs.Text.{Text}
 use Rattle.pf_text.specs.declared.state.State.{State}
@@ -108,6 +108,3 @@ module _ (t part : Text) (items : List Item) (state : State) (h : IsSplit t item
         longest = λ front after others other same limit g. no_more front after same;
         cause = refl;
       }
-
-pub whole_read : (t part : Text) (items : List Item) → IsSplit t items part → part ≡ [] → Reads t items
-whole_read t part items h none = subst (λ u. Reads u items) (sym (h.split ∙ ap (λ p. h.whole ++ p) none ∙ append-nil h.whole)) h.reads
