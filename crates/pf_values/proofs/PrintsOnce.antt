@@ -1,15 +1,15 @@
 -- For each directive and argument of its type there is one text that it prints.
-use Rattle.std.proofs.Common.{◌≡◌, [], ◌∷◌, ◌++◌, refl, ap, ◌∙◌, ℤ, pos, false, arith}
-use Rattle.std.specs.Prelude.{nat_abs}
+use Rattle.std.proofs.Common.{◌≡◌, [], ◌∷◌, ◌++◌, refl, sym, ap, ◌∙◌, ℤ, pos, false, arith}
+use Rattle.std.specs.Prelude.{nat_abs, IsFalse}
 use Rattle.std.proofs.lemmas.Int.{ints}
 use Rattle.pf_values.specs.declared.conversions.Conv.{Conv}
 use Rattle.pf_values.specs.declared.conversions.Conv.TheVariants.{D, I, U, C, S}
 use Rattle.pf_values.specs.declared.lengths.Length.{Length}
 use Rattle.pf_values.specs.declared.lengths.Length.TheVariants as lengths
 use Rattle.pf_values.specs.Arguments.{Argument, Number, String, HasType, IsValue}
-use Rattle.pf_values.specs.Conversions.{is_signed}
+use Rattle.pf_values.specs.Conversions.{is_signed, is_text}
 use Rattle.pf_values.specs.DataModel.{B8, arg_type, bits_under, type_under}
-use Rattle.pf_values.specs.Printing.{Prints, PrintsUnder, PrintsNumber, PrintsOnce, field, shown, sign_or_prefix}
+use Rattle.pf_values.specs.Printing.{Prints, PrintsUnder, PrintsNumber, PrintsOnce, PrintsOnly, field, shown, sign_or_prefix}
 use Rattle.pf_values.specs.Specification.{Specification}
 use Rattle.pf_values.specs.Text.{Text}
 use Rattle.pf_values.proofs.Printed.{printed_digits, printed_precision, AreDigitsOf-exist, AreDigitsOf-unique, IsPrecision-exists, IsPrecision-unique}
@@ -88,6 +88,14 @@ no_unsigned_string lengths.Hh t h = h
 no_unsigned_string lengths.H t h = h
 no_unsigned_string _ t h = h
 
+-- an integer conversion takes no string
+pub takes_number : (conv : Conv) (length : Length) (t : Text) → IsFalse (is_text conv) → HasType (String t) (type_under conv length) → ⊥
+takes_number C length t e h = cc
+takes_number S length t e h = cc
+takes_number D length t e h = no_string length t h
+takes_number I length t e h = no_string length t h
+takes_number _ length t e h = no_unsigned_string length t h
+
 one_body : (conv : Conv) (length : Length) (s : Specification) (argument : Argument) → HasType argument (type_under conv length) → IsOne conv s argument
 one_body C length s (Number n) h = one_char s n
 one_body C length s (String t) h = absurd h
@@ -104,5 +112,8 @@ printed-is s argument h = (body_under s.conv s argument, (one_body s.conv s.leng
 pub Prints-unique : (s : Specification) (argument : Argument) (out : Text) → HasType argument (arg_type s) → Prints s argument out → out ≡ printed s argument
 Prints-unique s argument out h g = g.2 ∙ ap (field s) ((one_body s.conv s.length s argument h).1 g.0 g.1)
 
+pub PrintsOnly-is : (s : Specification) (argument : Argument) (out : Text) → HasType argument (arg_type s) → Prints s argument out → PrintsOnly s argument out
+PrintsOnly-is s argument out h g = (g, λ other f. Prints-unique s argument other h f ∙ sym (Prints-unique s argument out h g))
+
 pub prints_once : PrintsOnce
-prints_once s argument h = (printed s argument, printed-is s argument h, λ other g. Prints-unique s argument other h g)
+prints_once s argument h = (printed s argument, PrintsOnly-is s argument _ h (printed-is s argument h))

@@ -45,6 +45,10 @@ module _ {W : Type 0} (contents : W → Known) (old new : Counted W) (bytes : Te
     pub within : written ≤ length bytes
     pub failed : HasFailed old new
 
+  -- all of them, or the first ones, fewer than all, of which the fault tells how many
+  abbrev pub WritesUpTo : {E : Type 0} → (E → ℕ) → Result (Unit {0}) E → Type 0
+  WritesUpTo written (Ok done) = WritesAll
+  WritesUpTo written (Err fault) = WritesFirst (written fault) × (written fault < length bytes)
+
   abbrev pub Writes : Result (Unit {0}) ShortWrite → Type 0
-  Writes (Ok done) = WritesAll
-  Writes (Err short) = WritesFirst short.written × (short.written < length bytes)
+  Writes result = WritesUpTo (λ short. short.written) result

@@ -1,11 +1,12 @@
 -- The data model: bits, types, ranges and numbers of digits. It is LP64, and stands in these tables alone.
-use Rattle.std.specs.Prelude.{ℕ, ◌-◌, ◌^◌, ◌≤ℤ◌, ◌<ℤ◌, neg_ℤ, ℤ, pos, Bool, true, false}
+use Rattle.std.specs.Prelude.{ℕ, ◌-◌, ◌^◌, ◌≤ℤ◌, ◌<ℤ◌, neg_ℤ, ℤ, pos, Bool, true, false, if◌then◌else◌}
 use Rattle.pf_values.specs.declared.conversions.Conv.{Conv}
 use Rattle.pf_values.specs.declared.conversions.Conv.TheVariants.{D, I, U, O, X, UpperX, C, S}
 use Rattle.pf_values.specs.declared.lengths.Length.{Length}
 use Rattle.pf_values.specs.declared.lengths.Length.TheVariants as lengths
 use Rattle.pf_values.specs.declared.types.ArgType.{ArgType}
 use Rattle.pf_values.specs.declared.types.ArgType.TheVariants.{Int, UInt, Long, ULong, LongLong, ULongLong, Str}
+use Rattle.pf_values.specs.Conversions.{is_text}
 use Rattle.pf_values.specs.Specification.{Specification}
 
 -- how many bits an integer has
@@ -24,6 +25,10 @@ bits_under lengths.Hh = B8
 bits_under lengths.H = B16
 bits_under lengths.None = B32
 bits_under _ = B64
+
+-- the bits of the value that a directive prints, of which a byte and a string have none
+abbrev pub value_bits : Specification → ℕ
+value_bits s = if is_text s.conv then 0 else bit_count (bits_under s.length)
 
 -- the argument types of `d i` and of `u o x X` under a length modifier
 abbrev pub signed_type : Length → ArgType

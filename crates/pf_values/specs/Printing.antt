@@ -127,6 +127,10 @@ pub record AreEquivalent (t u : Text) : Type 0 where
   pub same_types : types first ≡ types second
   pub same_bytes : (args : List Argument) (out : Text) → HasTypes args (types first) → (PrintsAll first args out ↔ PrintsAll second args out)
 
+-- a directive prints this text for an argument, and no other
+abbrev pub PrintsOnly : Specification → Argument → Text → Type 0
+PrintsOnly s argument out = Prints s argument out × ((other : Text) → Prints s argument other → other ≡ out)
+
 -- a directive and an argument of its type print one text
 abbrev pub PrintsOnce : Type 0
-PrintsOnce = (s : Specification) (argument : Argument) → HasType argument (arg_type s) → (out : Text) × Prints s argument out × ((other : Text) → Prints s argument other → other ≡ out)
+PrintsOnce = (s : Specification) (argument : Argument) → HasType argument (arg_type s) → (out : Text) × PrintsOnly s argument out

@@ -2,7 +2,7 @@
 ghost use Rattle.std.specs.Prelude.{◌≡◌, MatchResult};
 ghost use Rattle.pf_values.specs.Defined.{IsDefined, first_broken, refused_as, undefined_kinds};
 ghost use Rattle.pf_values.specs.Specification.{given};
-ghost use Rattle.pf_values.specs.DataModel.{arg_type, signed_type, unsigned_type};
+ghost use Rattle.pf_values.specs.DataModel.{arg_type, bit_count, bits_under, signed_type, unsigned_type, value_bits};
 
 use crate::conversions::Conv;
 use crate::flags::{Flag, FlagSet};
@@ -117,6 +117,27 @@ impl Directive {
             Conv::C => ArgType::Int,
             Conv::S => ArgType::Str,
         }
+    }
+
+    /// The bits of the value that it prints, 0 for `c` and `s`.
+    pub fn bits(&self) -> u8
+        ensures { result ≡ value_bits self.now }
+    {
+        if self.conv.is_text() {
+            return 0;
+        }
+        bits_under(self.length)
+    }
+}
+
+fn bits_under(length: Length) -> u8
+    ensures { result ≡ bit_count (bits_under length) }
+{
+    match length {
+        Length::Hh => 8,
+        Length::H => 16,
+        Length::None => 32,
+        Length::L | Length::Ll | Length::J | Length::Z | Length::T => 64,
     }
 }
 

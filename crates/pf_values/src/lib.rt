@@ -15,6 +15,7 @@ mod refusals;
 #[cfg(test)]
 mod tests;
 mod types;
+mod value_kinds;
 mod writing;
 
 pub use arguments::{Arg, CBytes};
@@ -25,4 +26,5 @@ pub use flags::{Flag, FlagSet};
 pub use lengths::Length;
 pub use refusals::RefusalKind;
 pub use types::ArgType;
+pub use value_kinds::ValueKind;
 pub use writing::{ShortWrite, write_bytes};

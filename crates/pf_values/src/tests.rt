@@ -1,6 +1,6 @@
 //! The tables of the standard, and each public call once.
 use crate::laws::prints_once;
-use crate::{Arg, ArgType, CBytes, Conv, Directive, Flag, FlagSet, Length, RefusalKind};
+use crate::{Arg, ArgType, CBytes, Conv, Directive, Flag, FlagSet, Length, RefusalKind, ValueKind};
 
 const CONVERSIONS: [Conv; 8] = [
     Conv::D,
@@ -198,6 +198,49 @@ fn each_argument_has_its_type(rt: HostRuntime) {
     }
     assert_eq!(rt; type_of(Length::None, Conv::C), Ok(ArgType::Int));
     assert_eq!(rt; type_of(Length::None, Conv::S), Ok(ArgType::Str));
+}
+
+// The bits of a value under each modifier of `LENGTHS`.
+const BITS: [u8; 8] = [32, 8, 16, 64, 64, 64, 64, 64];
+
+fn bits_of(length: Length, conv: Conv) -> Result<u8, RefusalKind> {
+    Directive::new(FlagSet::empty(), None, None, length, conv).map(|d| d.bits())
+}
+
+#[test]
+fn each_value_has_its_bits(rt: HostRuntime) {
+    for conv in CONVERSIONS.iter().take(6) {
+        for (length, want) in LENGTHS.iter().zip(BITS.iter()) {
+            assert_eq!(rt; bits_of(*length, *conv), Ok(*want), "{conv:?} {length:?}");
+        }
+    }
+    assert_eq!(rt; bits_of(Length::None, Conv::C), Ok(0));
+    assert_eq!(rt; bits_of(Length::None, Conv::S), Ok(0));
+}
+
+// The sign and the size of the value of this kind.
+fn value<V: ValueKind>(number: i128) -> (bool, u64) {
+    let value = V::of(number);
+    (value.is_negative(), value.unsigned_abs())
+}
+
+#[test]
+fn each_kind_converts(rt: HostRuntime) {
+    let rows = [
+        (value::<i8>(300), (false, 44)),
+        (value::<i8>(128), (true, 128)),
+        (value::<u8>(257), (false, 1)),
+        (value::<u8>(-1), (false, 255)),
+        (value::<i16>(-32769), (false, 32767)),
+        (value::<u16>(-1), (false, 65535)),
+        (value::<i32>(-1), (true, 1)),
+        (value::<u32>(1 << 32), (false, 0)),
+        (value::<i64>(1 << 63), (true, 1 << 63)),
+        (value::<u64>(-1), (false, 18446744073709551615)),
+    ];
+    for (i, (found, want)) in rows.iter().enumerate() {
+        assert_eq!(rt; found, want, "row {i}");
+    }
 }
 
 #[rattlefmt::skip]

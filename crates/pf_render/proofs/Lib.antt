@@ -1,0 +1,3 @@
+mod DigitLemmas
+mod PartLemmas
+mod IntegerLemmas

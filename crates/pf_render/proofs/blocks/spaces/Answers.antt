@@ -1,0 +1,5 @@
+use Rattle.std.proofs.lemmas.List.{take-replicate}
+use Rattle.pf_render.proofs.blocks.spaces.Goals as goal
+
+pub returns : goal.returns
+returns c = take-replicate c.args.count 4095 32 c.requires

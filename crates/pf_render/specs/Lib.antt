@@ -1,0 +1,3 @@
+pub mod SignedNumbers
+pub mod Zeros
+pub mod Parts

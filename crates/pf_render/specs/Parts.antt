@@ -1,0 +1,8 @@
+-- Texts in parts.
+use Rattle.std.specs.Prelude.{ℕ, List, flat_map}
+use Rattle.std.specs.Borrow.{Bor}
+use Rattle.pf_values.specs.Text.{Text}
+
+-- the text of the parts, one after another
+abbrev pub joined : List (Bor (List ℕ)) → Text
+joined parts = flat_map (λ part. part.now) parts

@@ -1,0 +1,56 @@
+//! What a directive prints for an argument.
+ghost use Rattle.std.specs.Prelude.{◌≡◌, ◌≢◌, IsFalse};
+ghost use Rattle.pf_values.specs.Arg.{argument_of};
+ghost use Rattle.pf_values.specs.Arguments.{HasType, Number, String};
+ghost use Rattle.pf_values.specs.Conversions.{is_text};
+ghost use Rattle.pf_values.specs.Counting.{Writes, WritesUpTo};
+ghost use Rattle.pf_values.specs.DataModel.{arg_type};
+ghost use Rattle.pf_values.specs.Printing.{PrintsOnly};
+ghost use Rattle.pf_values.specs.Text.{Text};
+
+use crate::faults::WriteFault;
+use crate::integers::write_integer;
+use pf_values::{Arg, Counted, Directive, ShortWrite};
+use std::io::Write;
+
+/// Writes what the directive prints for an argument of its type (C11 7.21.6.1). Where the writer fails, or
+/// takes none of some bytes, exactly the first `written` bytes of it went out, fewer than all. It doesn't
+/// flush, and takes no memory.
+pub fn render_one<W: Write>(
+    directive: &Directive,
+    argument: Arg<'_>,
+    writer: &mut Counted<W>,
+) -> Result<(), WriteFault>
+    requires typed { HasType (argument_of argument) (arg_type directive.now) }
+    requires integer { IsFalse (is_text directive.now.conv) }
+    ensures { (out : Text) × PrintsOnly directive.now (argument_of argument.entry) out × WritesUpTo W.contents writer.old writer.new out (λ fault. fault.written) result }
+{
+    write_argument(directive, argument, writer)?;
+    Ok(())
+}
+
+fn write_argument<W: Write>(
+    directive: &Directive,
+    argument: Arg<'_>,
+    writer: &mut Counted<W>,
+) -> Result<(), ShortWrite>
+    requires typed { HasType (argument_of argument) (arg_type directive.now) }
+    requires integer { IsFalse (is_text directive.now.conv) }
+    ensures { (out : Text) × PrintsOnly directive.now (argument_of argument.entry) out × Writes W.contents writer.old writer.new out result }
+{
+    write_integer(directive, number_of(argument), writer)
+}
+
+// The number that an argument is, where it is no string.
+fn number_of(argument: Arg<'_>) -> i128
+    requires { (bytes : Text) → argument_of argument ≢ String bytes }
+    ensures { argument_of argument.entry ≡ Number result }
+{
+    match argument {
+        Arg::Int(n) => i128::from(n),
+        Arg::UInt(n) => i128::from(n),
+        Arg::Long(n) | Arg::LongLong(n) => i128::from(n),
+        Arg::ULong(n) | Arg::ULongLong(n) => i128::from(n),
+        Arg::Str(_) => unreachable!(),
+    }
+}

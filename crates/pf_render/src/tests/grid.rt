@@ -1,0 +1,105 @@
+//! Each conversion under each length modifier, with a dozen shapes and five values. What is printed is
+//! what a C library prints, kept as data: `docs/grid.c` wrote the tables, on glibc 2.36.
+use super::{directive_of, printed, prints};
+use pf_values::{ArgType, Directive};
+use std::alloc::{AllocError, Global};
+use std::test::Fail;
+
+mod hexadecimal;
+mod long;
+mod octal;
+mod signed;
+mod unsigned;
+
+// A format, the bits of its values, and what is printed of 0, 1, -1, and the least and the greatest
+// number of so many bits.
+type ShortRow = (&'static str, u32, [&'static str; 5]);
+
+// The same, where a byte stands many times: for each number what comes before, that byte, how often it
+// stands there, and what comes behind.
+type LongRow = (
+    &'static str,
+    u32,
+    [&'static str; 5],
+    u8,
+    [usize; 5],
+    [&'static str; 5],
+);
+
+// The five numbers, as arguments of the directive: an unsigned type has those of the same bits.
+fn numbers(directive: &Directive, bits: u32) -> [i128; 5] {
+    let half = 1i128 << bits.clamp(1, 64).saturating_sub(1);
+    let least = match directive.arg_type() {
+        ArgType::UInt | ArgType::ULong | ArgType::ULongLong => half,
+        _ => -half,
+    };
+    let minus_one = match directive.arg_type() {
+        ArgType::UInt | ArgType::ULong | ArgType::ULongLong => 2 * half - 1,
+        _ => -1,
+    };
+    [0, 1, minus_one, least, half - 1]
+}
+
+// The first row of which something else is printed, with its number.
+fn first_wrong(
+    alloc: Global,
+    table: &[ShortRow],
+) -> Result<Option<(&'static str, i128)>, AllocError> {
+    for (format, bits, texts) in table {
+        let Some(directive) = directive_of(format) else {
+            return Ok(Some((*format, 0)));
+        };
+        for (number, text) in numbers(&directive, *bits).iter().zip(texts) {
+            if !prints(alloc, format, *number, text)? {
+                return Ok(Some((*format, *number)));
+            }
+        }
+    }
+    Ok(None)
+}
+
+#[test]
+fn short_rows(rt: HostRuntime) -> Result<(), Fail> {
+    assert_eq!(rt; first_wrong(rt.alloc(), &signed::SIGNED)?, None);
+    assert_eq!(rt; first_wrong(rt.alloc(), &unsigned::UNSIGNED)?, None);
+    assert_eq!(rt; first_wrong(rt.alloc(), &octal::OCTAL)?, None);
+    assert_eq!(rt; first_wrong(rt.alloc(), &hexadecimal::HEXADECIMAL)?, None);
+    Ok(())
+}
+
+// Whether a text is `head`, the byte so many times, and `tail`.
+fn is_run(text: &[u8], head: &str, byte: u8, count: usize, tail: &str) -> bool {
+    let Some(rest) = text.strip_prefix(head.as_bytes()) else {
+        return false;
+    };
+    let Some(run) = rest.strip_suffix(tail.as_bytes()) else {
+        return false;
+    };
+    run.len() == count && run.iter().all(|each| *each == byte)
+}
+
+fn first_wrong_run(
+    alloc: Global,
+    table: &[LongRow],
+) -> Result<Option<(&'static str, i128)>, AllocError> {
+    for (format, bits, heads, byte, counts, tails) in table {
+        let Some(directive) = directive_of(format) else {
+            return Ok(Some((*format, 0)));
+        };
+        for (i, number) in numbers(&directive, *bits).iter().enumerate() {
+            let out = printed(alloc, format, *number)?;
+            let out = out.as_deref().unwrap_or(&[]);
+            if i < 5 && !is_run(out, heads[i], *byte, counts[i], tails[i]) {
+                return Ok(Some((*format, *number)));
+            }
+        }
+    }
+    Ok(None)
+}
+
+#[test]
+fn long_rows(rt: HostRuntime) -> Result<(), Fail> {
+    assert_eq!(rt; first_wrong_run(rt.alloc(), &long::DECIMAL)?, None);
+    assert_eq!(rt; first_wrong_run(rt.alloc(), &long::BASED)?, None);
+    Ok(())
+}

@@ -1,0 +1,88 @@
+//! The values that directives print for numbers.
+ghost use Rattle.std.specs.Prelude.{◌≡◌, IsFalse, true, false, ℕ, nat_abs};
+ghost use Rattle.pf_values.specs.Arguments.{IsConverted, IsValue};
+ghost use Rattle.pf_values.specs.Conversions.{is_text};
+ghost use Rattle.pf_values.specs.DataModel.{Bits, bit_count};
+ghost use Rattle.pf_values.specs.Printing.{is_negative};
+
+use pf_values::{Conv, Directive, ValueKind};
+use std::marker::Model;
+
+/// The value that a directive prints for a number, by its sign and its size.
+#[derive(Drop)]
+pub(crate) struct Value {
+    is_negative: bool,
+    size: u64,
+}
+
+impl Model for Value {
+    ghost use Rattle.std.specs.Prelude.{ℤ, ◌<◌, IsTrue};
+    ghost use Rattle.pf_render.specs.SignedNumbers.{signed_number};
+
+    ghost Value = { ℤ };
+
+    ghost view = { λ v. signed_number v.is_negative v.size };
+
+    ghost invariant = { λ v. IsTrue v.is_negative → 0 < v.size };
+}
+
+impl Value {
+    /// The value of the number in the range that the length modifier and the conversion name.
+    pub(crate) fn of(directive: &Directive, number: i128) -> Value
+        requires integer { IsFalse (is_text directive.now.conv) }
+        ensures { IsValue directive.now number result }
+    {
+        match directive.conv() {
+            Conv::D | Conv::I => Value::signed(directive.bits(), number),
+            _ => Value::unsigned(directive.bits(), number),
+        }
+    }
+
+    fn signed(bits: u8, number: i128) -> Value
+        requires { (b : Bits) × (bits ≡ bit_count b) }
+        ensures { IsConverted true bits number result }
+    {
+        match bits {
+            8 => Value::converted::<i8>(number),
+            16 => Value::converted::<i16>(number),
+            32 => Value::converted::<i32>(number),
+            _ => Value::converted::<i64>(number),
+        }
+    }
+
+    fn unsigned(bits: u8, number: i128) -> Value
+        requires { (b : Bits) × (bits ≡ bit_count b) }
+        ensures { IsConverted false bits number result }
+    {
+        match bits {
+            8 => Value::converted::<u8>(number),
+            16 => Value::converted::<u16>(number),
+            32 => Value::converted::<u32>(number),
+            _ => Value::converted::<u64>(number),
+        }
+    }
+
+    fn converted<V: ValueKind>(number: i128) -> Value
+        ensures { IsConverted V.is_signed (bit_count V.bits) number result }
+    {
+        let value = V::of(number);
+        Value {
+            is_negative: value.is_negative(),
+            size: value.unsigned_abs(),
+        }
+    }
+
+    /// Whether the value is below 0.
+    pub(crate) fn is_negative(&self) -> bool
+        ensures { result ≡ is_negative self.now }
+    {
+        self.is_negative
+    }
+
+    /// The value without its sign.
+    pub(crate) fn size(&self) -> u64
+        ensures { result ≡ nat_abs self.now }
+    {
+        self.size
+    }
+}

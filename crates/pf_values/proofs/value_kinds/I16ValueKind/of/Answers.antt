@@ -1,0 +1,9 @@
+use Rattle.std.proofs.Common.{arith, to_z, of_z}
+use Rattle.std.specs.Int.{w16}
+use Rattle.std.proofs.lemmas.Int.{ints}
+use Rattle.pf_values.specs.DataModel.{B16}
+use Rattle.pf_values.proofs.ValueKindLemmas.{signed-converted}
+use Rattle.pf_values.proofs.value_kinds.I16ValueKind.of.Goals as goal
+
+pub returns : goal.returns
+returns c = signed-converted B16 c.args.argument _ c.of.result (to_z w16 (of_z w16 c.cast_signed.result)) (omega (arith, ints)) c.of.ensures (omega (arith, ints))

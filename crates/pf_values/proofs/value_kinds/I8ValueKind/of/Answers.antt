@@ -1,0 +1,8 @@
+use Rattle.std.proofs.Common.{arith, to_z, of_z, w8}
+use Rattle.std.proofs.lemmas.Int.{ints}
+use Rattle.pf_values.specs.DataModel.{B8}
+use Rattle.pf_values.proofs.ValueKindLemmas.{signed-converted}
+use Rattle.pf_values.proofs.value_kinds.I8ValueKind.of.Goals as goal
+
+pub returns : goal.returns
+returns c = signed-converted B8 c.args.argument _ c.of.result (to_z w8 (of_z w8 c.cast_signed.result)) (omega (arith, ints)) c.of.ensures (omega (arith, ints))
