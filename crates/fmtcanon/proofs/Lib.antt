@@ -2,3 +2,8 @@ pub mod PlainLemmas
 pub mod CanonicalLemmas
 pub mod PresenceLemmas
 pub mod WordLemmas
+mod MagnitudeLemmas
+mod ArgumentWordLemmas
+mod FormatArgumentLemmas
+mod PrintingLemmas
+mod RunLemmas

@@ -7,3 +7,6 @@ pub mod Tasks
 pub mod Outcomes
 pub mod TypeLines
 pub mod Runs
+pub mod ArgumentWords
+pub mod UntypedArgs
+pub mod FormatArguments

@@ -7,10 +7,12 @@ use Rattle.pf_values.specs.Counting.{Known, WritesAll, WritesFirst, device_of}
 use Rattle.pf_values.specs.Refusals.{IsRefusedAt}
 use Rattle.pf_values.specs.Text.{Text}
 use Rattle.fmtcanon.specs.declared.outcome.Outcome.{Outcome}
-use Rattle.fmtcanon.specs.declared.outcome.Outcome.TheVariants.{Done, Refused, Usage, Write, Memory}
+use Rattle.fmtcanon.specs.declared.outcome.Outcome.TheVariants.{Done, Refused, BadWord, WrongCount, WrongType, Usage, Write, Memory}
+use Rattle.fmtcanon.specs.declared.format_arguments.ArgumentFault.TheVariants as faults
+use Rattle.fmtcanon.specs.FormatArguments.{HindersArguments, IsPrinted}
 use Rattle.fmtcanon.specs.Lines.{line}
 use Rattle.fmtcanon.specs.Plain.{IsRefusedPlainly}
-use Rattle.fmtcanon.specs.Tasks.{Names}
+use Rattle.fmtcanon.specs.Tasks.{Names, NamesWithWords}
 use Rattle.fmtcanon.specs.TypeLines.{HasTypeLines}
 use Rattle.fmtcanon.specs.Words.{IsTaken}
 
@@ -39,11 +41,22 @@ module _ {W : Type 0} (contents : W → Known) (old new : Counted W) where
   LeavesCanonical format Memory = KeepsAll
   LeavesCanonical format outcome = (canonical : Text) × IsCanonicalOf format canonical × LeavesBytes (line canonical) outcome
 
+  -- what a format prints for the arguments that words give, or nothing
+  abbrev pub LeavesPrinted : Text → List Text → Outcome → Type 0
+  LeavesPrinted format words (Refused refusal) = HindersArguments format words (faults.Refused refusal) × KeepsAll
+  LeavesPrinted format words (BadWord index) = HindersArguments format words (faults.BadWord index) × KeepsAll
+  LeavesPrinted format words (WrongCount wanted given) = HindersArguments format words (faults.WrongCount wanted given) × KeepsAll
+  LeavesPrinted format words (WrongType index) = HindersArguments format words (faults.WrongType index) × KeepsAll
+  LeavesPrinted format words (Usage text) = ⊥
+  LeavesPrinted format words Memory = KeepsAll
+  LeavesPrinted format words outcome = (out : Text) × IsPrinted format words out × LeavesBytes out outcome
+
   -- what the command that the words name leaves
   abbrev pub LeavesNamed : List Text → Outcome → Type 0
   LeavesNamed words outcome =
       ((format : Text) × Names words (codes "types") format × LeavesTypes format outcome)
       ⊎ ((format : Text) × Names words (codes "canon") format × LeavesCanonical format outcome)
+      ⊎ ((format : Text) × (given : List Text) × NamesWithWords words (codes "format") format given × LeavesPrinted format given outcome)
 
   -- Words that clap takes are not answered with Usage. For want of memory nothing goes out.
   abbrev pub Leaves : List Text → Outcome → Type 0

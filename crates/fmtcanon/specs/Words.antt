@@ -1,5 +1,6 @@
 -- What the words of a call mean, by clap's definition of the command.
-use Rattle.std.specs.Prelude.{◌≡◌, true, List, codes}
+use Rattle.std.specs.Prelude.{◌≡◌, true, List, Some, codes}
+use Rattle.clap.specs.Lexer.{usize_max}
 use Rattle.clap.specs.Simple.{App, new_app, new_rule, on_top, with_rule, with_subcommand}
 use Rattle.clap.specs.Takes.{takes}
 use Rattle.clap.specs.Walk.{Rule}
@@ -13,6 +14,14 @@ wanted id = record (new_rule id) { required = true }
 abbrev pub on_format : Text → App
 on_format name = with_rule (new_app name) (wanted (codes "F"))
 
+-- any number of arguments
+abbrev pub any_arguments : Rule
+any_arguments = record (new_rule (codes "ARG")) { range = Some (record { start_inclusive = 0; end_inclusive = usize_max }) }
+
+-- a subcommand with the argument F and any number of ARGs
+abbrev pub on_arguments : Text → App
+on_arguments name = with_rule (on_format name) any_arguments
+
 -- The words come without the program's name, and a subcommand is wanted.
 abbrev pub top_app : App
 top_app = on_top (λ s. record s {
@@ -25,7 +34,8 @@ top_app = on_top (λ s. record s {
 unfoldable pub the_command : App
 the_command =
     let with_types = with_subcommand top_app (on_format (codes "types")).top in
-    with_subcommand with_types (on_format (codes "canon")).top
+    let with_canon = with_subcommand with_types (on_format (codes "canon")).top in
+    with_subcommand with_canon (on_arguments (codes "format")).top
 
 -- clap's definition of the command takes the words
 abbrev pub IsTaken : List Text → Type 0

@@ -1,9 +1,9 @@
 //! The definition of the command for `clap`.
 ghost use Rattle.std.specs.Prelude.{◌≡◌, IfOk, false};
-ghost use Rattle.clap.specs.Simple.{with_subcommand};
+ghost use Rattle.clap.specs.Simple.{with_rule, with_subcommand};
 ghost use Rattle.clap.specs.Words.{app_of};
 ghost use Rattle.clap.specs.declared.builder.command.Command.TheViews.{out-Command as fields_of};
-ghost use Rattle.fmtcanon.specs.Words.{on_format, the_command, top_app};
+ghost use Rattle.fmtcanon.specs.Words.{any_arguments, on_format, the_command, top_app};
 
 use clap::{Arg, Command};
 use std::alloc::{AllocError, Global};
@@ -14,8 +14,11 @@ pub fn definition<'a>(alloc: Global) -> Result<Command<'a>, AllocError>
 {
     let types = "Writes the types of the arguments of a format, a line each";
     let canon = "Writes the canonical string of a format";
+    let format = "Writes what a format prints for arguments, and nothing else";
     let with_types = adding(top(alloc)?, on_format(alloc, "types", types)?)?;
-    adding(with_types, on_format(alloc, "canon", canon)?)
+    let with_canon = adding(with_types, on_format(alloc, "canon", canon)?)?;
+    let on_arguments = taking_arguments(alloc, on_format(alloc, "format", format)?)?;
+    adding(with_canon, on_arguments)
 }
 
 // The command without its subcommands.
@@ -36,6 +39,15 @@ fn on_format<'a>(alloc: Global, name: &'a str, about: &'a str) -> Result<Command
 {
     let format = Arg::new(alloc, "F").required(true).help("A printf format");
     Command::new(alloc, name).about(about).arg(format)
+}
+
+// The subcommand with any number of arguments besides.
+fn taking_arguments<'a>(alloc: Global, command: Command<'a>) -> Result<Command<'a>, AllocError>
+    requires { (fields_of command).has_globals ≡ false }
+    ensures { IfOk result (λ r. (app_of r ≡ with_rule (app_of command.entry) any_arguments) × ((fields_of r).has_globals ≡ false)) }
+{
+    let help = "An argument: `n:` and a decimal number, or `s:` and a string";
+    command.arg(Arg::new(alloc, "ARG").num_args(0..).help(help))
 }
 
 // The command with one more subcommand.

@@ -1,10 +1,14 @@
 //! The program: it runs the command of its words over the standard streams.
 #![tactic(auto)]
 
+mod argument_words;
 mod bare;
 mod canonical;
 mod command;
+mod format_arguments;
+mod laws;
 mod outcome;
+mod printing;
 mod reader;
 mod report;
 mod run;
@@ -12,6 +16,7 @@ mod task;
 #[cfg(test)]
 mod tests;
 mod type_lines;
+mod untyped;
 
 use outcome::Outcome;
 use pf_values::Counted;

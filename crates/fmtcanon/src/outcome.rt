@@ -14,6 +14,17 @@ pub enum Outcome {
         /// Why, and where.
         refusal: Refusal,
     },
+    /// The word of the argument with this index gives no argument, and nothing was written.
+    BadWord(u64),
+    /// There are more or fewer arguments than the format takes, and nothing was written.
+    WrongCount {
+        /// How many it takes.
+        wanted: u64,
+        /// How many there are.
+        given: u64,
+    },
+    /// The argument with this index is not of its type, and nothing was written.
+    WrongType(u64),
     /// The words are no command; the text is `clap`'s.
     Usage(String),
     /// A write or the flush failed after so many bytes.
@@ -23,14 +34,15 @@ pub enum Outcome {
 }
 
 impl Outcome {
-    /// The exit status: 0 where all was written, 2 for a refused format, 3 for wrong words, and 4 for a
-    /// device that failed or want of memory.
+    /// The exit status: 0 where all was written, 2 for a refused format, 3 for wrong words or
+    /// arguments, and 4 for a device that failed or want of memory.
     pub fn status(&self) -> u8
         ensures { result ≡ status_of self.now }
     {
         match self {
             Outcome::Done => 0,
             Outcome::Refused { .. } => 2,
+            Outcome::BadWord(_) | Outcome::WrongCount { .. } | Outcome::WrongType(_) => 3,
             Outcome::Usage(_) => 3,
             Outcome::Write(_) | Outcome::Memory => 4,
         }

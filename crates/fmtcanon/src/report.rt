@@ -20,6 +20,11 @@ fn report_line<E: Write>(outcome: &Outcome, errors: &mut Counted<E>) -> io::Resu
             let at = refusal.at;
             writeln!(errors, "refused {number} {name} at byte {at}")
         }
+        Outcome::BadWord(index) => writeln!(errors, "argument {index}: not an argument"),
+        Outcome::WrongCount { wanted, given } => {
+            writeln!(errors, "argument count: wanted {wanted}, given {given}")
+        }
+        Outcome::WrongType(index) => writeln!(errors, "argument {index}: wrong type"),
         Outcome::Usage(text) => write!(errors, "{text}"),
         Outcome::Write(_) => writeln!(errors, "write failed"),
         Outcome::Memory => writeln!(errors, "out of memory"),

@@ -4,10 +4,12 @@ ghost use Rattle.pf_values.specs.Canonical.{IsCanonicalOf};
 ghost use Rattle.pf_values.specs.Text.{Text};
 ghost use Rattle.fmtcanon.specs.Canonicals.{IsFaultOf};
 ghost use Rattle.fmtcanon.specs.Lines.{line};
-ghost use Rattle.fmtcanon.specs.Runs.{Leaves, LeavesBytes, LeavesCanonical, LeavesTypes};
+ghost use Rattle.fmtcanon.specs.Runs.{Leaves, LeavesBytes, LeavesCanonical, LeavesPrinted, LeavesTypes};
 
 use crate::canonical::{CanonFault, canonical};
+use crate::format_arguments::ArgumentFault;
 use crate::outcome::Outcome;
+use crate::printing::printed;
 use crate::task::{NoTask, Task, task_of};
 use crate::type_lines::type_lines;
 use pf_text::TextFault;
@@ -31,6 +33,7 @@ pub fn run<R: Read, W: Write>(
     match task_of(alloc, words) {
         Ok(Task::Types(format)) => write_types(alloc, format, writer),
         Ok(Task::Canon(format)) => write_canonical(alloc, format, writer),
+        Ok(Task::Format { format, words }) => write_format(alloc, format, &words, writer),
         Err(NoTask::Usage(text)) => Outcome::Usage(text),
         Err(NoTask::Memory) => Outcome::Memory,
     }
@@ -65,6 +68,25 @@ fn canonical_line(alloc: Global, format: &[u8]) -> Result<Vec<u8>, CanonFault>
     let mut out = canonical(alloc, format)?;
     out.push(b'\n')?;
     Ok(out)
+}
+
+// Writes what a format prints for the arguments that the words give.
+fn write_format<W: Write>(
+    alloc: Global,
+    format: &str,
+    words: &[&str],
+    writer: &mut Counted<W>,
+) -> Outcome
+    ensures { LeavesPrinted W.contents writer.old writer.new format.now (map (λ s. s.now) words.now) result }
+{
+    match printed(alloc, format.as_bytes(), words) {
+        Ok(out) => write_all_of(&out, writer),
+        Err(ArgumentFault::Refused(refusal)) => Outcome::Refused { refusal },
+        Err(ArgumentFault::BadWord(index)) => Outcome::BadWord(index),
+        Err(ArgumentFault::WrongCount { wanted, given }) => Outcome::WrongCount { wanted, given },
+        Err(ArgumentFault::WrongType(index)) => Outcome::WrongType(index),
+        Err(ArgumentFault::Memory) => Outcome::Memory,
+    }
 }
 
 // Writes bytes, and flushes.

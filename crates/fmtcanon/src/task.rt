@@ -1,20 +1,27 @@
 //! What the words ask for.
-ghost use Rattle.std.specs.Prelude.{IfOk, IfErr, map};
-ghost use Rattle.clap.specs.Words.{kind_of};
+ghost use Rattle.std.specs.Prelude.{◌≡◌, [], IfOk, IfErr, codes, map, option_map, unwrap_or};
+ghost use Rattle.clap.specs.Words.{found_of, kind_of, matched_of, raw_values};
 ghost use Rattle.fmtcanon.specs.Tasks.{Asks, IsAnsweredBy, IsNoTaskOf};
 
 use crate::command::definition;
-use clap::Error;
 use clap::error::ErrorKind;
-use std::alloc::Global;
+use clap::{ArgMatches, Error};
+use std::alloc::{AllocError, Global};
 
 /// A command with its words.
-#[derive(Clone, Copy, Debug)]
+#[derive(Debug, Drop)]
 pub enum Task<'a> {
     /// The types of the arguments of a format.
     Types(&'a str),
     /// The canonical string of a format.
     Canon(&'a str),
+    /// What a format prints for arguments.
+    Format {
+        /// The format.
+        format: &'a str,
+        /// The words of the arguments.
+        words: Vec<&'a str>,
+    },
 }
 
 /// Why there is no task.
@@ -47,7 +54,21 @@ pub fn task_of<'a>(alloc: Global, words: &'a [&'a str]) -> Result<Task<'a>, NoTa
     match name {
         "types" => Ok(Task::Types(format)),
         "canon" => Ok(Task::Canon(format)),
+        "format" => match given_words(alloc, inner) {
+            Ok(words) => Ok(Task::Format { format, words }),
+            Err(AllocError) => Err(NoTask::Memory),
+        },
         _ => unreachable!(),
+    }
+}
+
+// The words that stand for arguments, of which there may be none.
+fn given_words<'a>(alloc: Global, inner: &ArgMatches<'a>) -> Result<Vec<&'a str>, AllocError>
+    ensures { IfOk result (λ given. map (λ s. s.now) given.items ≡ unwrap_or (option_map raw_values (matched_of (found_of inner.now) (codes "ARG"))) []) }
+{
+    match inner.get_strs("ARG") {
+        Some(words) => Vec::from_slice(alloc, words),
+        None => Ok(Vec::new(alloc)),
     }
 }
 

@@ -1,5 +1,6 @@
 //! Runs of the program, and what it reports.
 
+mod formats;
 mod types;
 
 use crate::outcome::Outcome;
@@ -171,6 +172,16 @@ fn each_outcome_has_its_status_and_line(rt: HostRuntime) -> Result<(), AllocErro
             2,
             "refused 18 TooLong at byte 4611686018427387904\n",
         ),
+        (Outcome::BadWord(0), 3, "argument 0: not an argument\n"),
+        (
+            Outcome::WrongCount {
+                wanted: 2,
+                given: 10,
+            },
+            3,
+            "argument count: wanted 2, given 10\n",
+        ),
+        (Outcome::WrongType(12), 3, "argument 12: wrong type\n"),
         (usage, 3, "as it is"),
         (Outcome::Write(7), 4, "write failed\n"),
         (Outcome::Memory, 4, "out of memory\n"),
@@ -199,6 +210,13 @@ fn what_fits_is_written(rt: HostRuntime) {
             rt.alloc(),
             ["types", "%i of %u%%"].as_slice(),
             b"int\nunsigned int\n"
+        )
+    );
+    assert!(rt;
+        is_cut(
+            rt.alloc(),
+            ["format", "%5d|%s", "n:42", "s:abc"].as_slice(),
+            b"   42|abc"
         )
     );
 }

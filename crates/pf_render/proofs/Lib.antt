@@ -1,3 +1,8 @@
 mod DigitLemmas
 mod PartLemmas
 mod IntegerLemmas
+mod TextLemmas
+mod PrintingLemmas
+mod ItemLemmas
+mod MatchingLemmas
+mod FormatLemmas

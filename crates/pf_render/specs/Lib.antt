@@ -1,3 +1,6 @@
 pub mod SignedNumbers
 pub mod Zeros
 pub mod Parts
+pub mod Counts
+pub mod Matching
+pub mod Rendering

@@ -1,6 +1,8 @@
 //! Why not all was printed.
 ghost use Rattle.std.specs.Prelude.{◌≡◌};
+ghost use Rattle.pf_render.specs.declared.faults.RenderFault.TheVariants as faults;
 
+use pf_text::Refusal;
 use pf_values::ShortWrite;
 use thiserror::Error;
 
@@ -20,4 +22,56 @@ impl From<ShortWrite> for WriteFault {
             written: short.written as u128,
         }
     }
+}
+
+/// Why a format is not rendered into a writer, or not to its end.
+#[derive(Clone, Copy, Debug, PartialEq, Eq, Error)]
+pub enum RenderFault {
+    /// The text is refused.
+    #[error("{0}")]
+    Refused(Refusal),
+    /// The format takes another number of arguments.
+    #[error("wanted {wanted} arguments, given {given}")]
+    WrongCount {
+        /// How many it takes.
+        wanted: u64,
+        /// How many were given.
+        given: u64,
+    },
+    /// The argument with this number, counted from 0, is the first one of another type.
+    #[error("argument {0} has the wrong type")]
+    WrongType(u64),
+    /// The writer failed, or took none of some bytes, after so many bytes.
+    #[error("write failed after {0} bytes")]
+    Write(u128),
+}
+
+impl From<WriteFault> for RenderFault {
+    ghost from_gives = { λ fault wider. wider ≡ faults.Write fault.written };
+
+    fn from(fault: WriteFault) -> RenderFault {
+        RenderFault::Write(fault.written)
+    }
+}
+
+/// Why a format is not rendered into memory.
+#[derive(Clone, Copy, Debug, PartialEq, Eq, Error)]
+pub enum RenderVecFault {
+    /// The text is refused.
+    #[error("{0}")]
+    Refused(Refusal),
+    /// The format takes another number of arguments.
+    #[error("wanted {wanted} arguments, given {given}")]
+    WrongCount {
+        /// How many it takes.
+        wanted: u64,
+        /// How many were given.
+        given: u64,
+    },
+    /// The argument with this number, counted from 0, is the first one of another type.
+    #[error("argument {0} has the wrong type")]
+    WrongType(u64),
+    /// A growth was refused.
+    #[error("out of memory")]
+    Memory,
 }

@@ -2,9 +2,9 @@
 ghost use Rattle.std.specs.Prelude.{◌≡◌, ◌≤◌, ◌+◌, IsFalse, length};
 ghost use Rattle.pf_values.specs.Arguments.{Number};
 ghost use Rattle.pf_values.specs.Conversions.{is_text};
-ghost use Rattle.pf_values.specs.Counting.{Writes};
 ghost use Rattle.pf_values.specs.Printing.{Prints, is_zero_filled, sign_or_prefix};
 ghost use Rattle.pf_values.specs.Text.{Text};
+ghost use Rattle.pf_render.specs.Counts.{WritesCounted};
 ghost use Rattle.pf_render.specs.Zeros.{fewest_digits, precision_for, zeros_for};
 
 use crate::blocks;
@@ -19,9 +19,9 @@ pub(crate) fn write_integer<W: Write>(
     directive: &Directive,
     number: i128,
     writer: &mut Counted<W>,
-) -> Result<(), ShortWrite>
+) -> Result<usize, ShortWrite>
     requires integer { IsFalse (is_text directive.now.conv) }
-    ensures { (out : Text) × Prints directive.now (Number number) out × Writes W.contents writer.old writer.new out result }
+    ensures { (out : Text) × Prints directive.now (Number number) out × WritesCounted W.contents writer.old writer.new out result }
 {
     let value = Value::of(directive, number);
     let digits = Digits::of(value.size(), directive.conv());

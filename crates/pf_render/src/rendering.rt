@@ -1,16 +1,17 @@
 //! What a directive prints for an argument.
-ghost use Rattle.std.specs.Prelude.{◌≡◌, ◌≢◌, IsFalse};
+ghost use Rattle.std.specs.Prelude.{◌≡◌, ◌≢◌, ℤ};
 ghost use Rattle.pf_values.specs.Arg.{argument_of};
 ghost use Rattle.pf_values.specs.Arguments.{HasType, Number, String};
-ghost use Rattle.pf_values.specs.Conversions.{is_text};
-ghost use Rattle.pf_values.specs.Counting.{Writes, WritesUpTo};
+ghost use Rattle.pf_values.specs.Counting.{WritesUpTo};
 ghost use Rattle.pf_values.specs.DataModel.{arg_type};
 ghost use Rattle.pf_values.specs.Printing.{PrintsOnly};
 ghost use Rattle.pf_values.specs.Text.{Text};
+ghost use Rattle.pf_render.specs.Counts.{WritesCounted};
 
 use crate::faults::WriteFault;
 use crate::integers::write_integer;
-use pf_values::{Arg, Counted, Directive, ShortWrite};
+use crate::texts::{write_char, write_string};
+use pf_values::{Arg, Conv, Counted, Directive, ShortWrite};
 use std::io::Write;
 
 /// Writes what the directive prints for an argument of its type (C11 7.21.6.1). Where the writer fails, or
@@ -22,23 +23,26 @@ pub fn render_one<W: Write>(
     writer: &mut Counted<W>,
 ) -> Result<(), WriteFault>
     requires typed { HasType (argument_of argument) (arg_type directive.now) }
-    requires integer { IsFalse (is_text directive.now.conv) }
     ensures { (out : Text) × PrintsOnly directive.now (argument_of argument.entry) out × WritesUpTo W.contents writer.old writer.new out (λ fault. fault.written) result }
 {
     write_argument(directive, argument, writer)?;
     Ok(())
 }
 
-fn write_argument<W: Write>(
+/// The same, and tells how many bytes were written.
+pub(crate) fn write_argument<W: Write>(
     directive: &Directive,
     argument: Arg<'_>,
     writer: &mut Counted<W>,
-) -> Result<(), ShortWrite>
+) -> Result<usize, ShortWrite>
     requires typed { HasType (argument_of argument) (arg_type directive.now) }
-    requires integer { IsFalse (is_text directive.now.conv) }
-    ensures { (out : Text) × PrintsOnly directive.now (argument_of argument.entry) out × Writes W.contents writer.old writer.new out result }
+    ensures { (out : Text) × PrintsOnly directive.now (argument_of argument.entry) out × WritesCounted W.contents writer.old writer.new out result }
 {
-    write_integer(directive, number_of(argument), writer)
+    match directive.conv() {
+        Conv::S => write_string(directive, string_of(argument), writer),
+        Conv::C => write_char(directive, number_of(argument), writer),
+        _ => write_integer(directive, number_of(argument), writer),
+    }
 }
 
 // The number that an argument is, where it is no string.
@@ -52,5 +56,16 @@ fn number_of(argument: Arg<'_>) -> i128
         Arg::Long(n) | Arg::LongLong(n) => i128::from(n),
         Arg::ULong(n) | Arg::ULongLong(n) => i128::from(n),
         Arg::Str(_) => unreachable!(),
+    }
+}
+
+// The bytes of the string that an argument is, where it is no number.
+fn string_of<'a>(argument: Arg<'a>) -> &'a [u8]
+    requires { (number : ℤ) → argument_of argument ≢ Number number }
+    ensures { argument_of argument.entry ≡ String result.now }
+{
+    match argument {
+        Arg::Str(string) => string.bytes(),
+        _ => unreachable!(),
     }
 }

@@ -1,15 +1,19 @@
-//! Integers that directives print. What is printed was told by others: the C standard's readers, test
-//! suites of other programs, and two C libraries.
+//! What directives and formats print. It was told by others: the C standard's readers, test suites of other
+//! programs, and two C libraries.
 
-use crate::{WriteFault, render_one};
-use pf_text::{Piece, Pieces};
-use pf_values::{Arg, ArgType, Conv, Counted, Directive};
+use crate::{WriteFault, render, render_one, render_vec};
+use pf_text::{Piece, Pieces, signature};
+use pf_values::{Arg, ArgType, CBytes, Conv, Counted, Directive};
 use std::alloc::{AllocError, Global};
 use std::io::Write;
 
+mod bytes;
 mod callers;
 mod devices;
+mod faults;
+mod formats;
 mod grid;
+mod long;
 mod rows;
 mod vectors;
 
@@ -25,9 +29,9 @@ fn directive_of(format: &str) -> Option<Directive> {
     }
 }
 
-// The argument of a directive that is this number.
-fn argument_of(directive: &Directive, number: i128) -> Option<Arg<'static>> {
-    match directive.arg_type() {
+// The argument of a type that is this number.
+fn number_of(arg_type: ArgType, number: i128) -> Option<Arg<'static>> {
+    match arg_type {
         ArgType::Int => Some(Arg::Int(i32::try_from(number).ok()?)),
         ArgType::UInt => Some(Arg::UInt(u32::try_from(number).ok()?)),
         ArgType::Long => Some(Arg::Long(i64::try_from(number).ok()?)),
@@ -45,7 +49,7 @@ fn write_number<W: Write>(
     writer: &mut Counted<W>,
 ) -> Option<Result<(), WriteFault>> {
     let directive = directive_of(format)?;
-    let argument = argument_of(&directive, number)?;
+    let argument = number_of(directive.arg_type(), number)?;
     if argument.arg_type() != directive.arg_type() {
         return None;
     }
@@ -69,5 +73,62 @@ fn printed(alloc: Global, format: &str, number: i128) -> Result<Option<Vec<u8>>,
 // Whether the directive prints this of the number.
 fn prints(alloc: Global, format: &str, number: i128, text: &str) -> Result<bool, AllocError> {
     let out = printed(alloc, format, number)?;
+    Ok(out.as_deref() == Some(text.as_bytes()))
+}
+
+// The argument of a type that a word stands for: a number behind `n:`, and a string behind `s:`.
+fn argument(word: &'static str, arg_type: ArgType) -> Option<Arg<'static>> {
+    if let Some(text) = word.strip_prefix("s:") {
+        return Some(Arg::Str(CBytes::new(text.as_bytes())?));
+    }
+    let digits = word.strip_prefix("n:")?;
+    number_of(arg_type, digits.parse::<i128>().ok()?)
+}
+
+// The arguments that the words stand for, as many as the format takes.
+fn arguments(
+    alloc: Global,
+    format: &[u8],
+    words: &[&'static str],
+) -> Result<Option<Vec<Arg<'static>>>, AllocError> {
+    let mut args = Vec::new(alloc);
+    let Ok(types) = signature(alloc, format) else {
+        return Ok(None);
+    };
+    for (word, arg_type) in words.iter().zip(types.as_slice()) {
+        match argument(word, *arg_type) {
+            Some(arg) => args.push(arg)?,
+            None => return Ok(None),
+        }
+    }
+    Ok(Some(args))
+}
+
+// What a format prints into a writer and into memory, where that is the same.
+fn rendered(alloc: Global, format: &[u8], args: &[Arg<'_>]) -> Result<Option<Vec<u8>>, AllocError> {
+    let mut out = Vec::new(alloc);
+    out.reserve(1 << 20)?;
+    let mut writer = Counted::new(out);
+    if render(format, args, &mut writer).is_err() || writer.failures() != 0 {
+        return Ok(None);
+    }
+    let out = writer.into_inner();
+    match render_vec(alloc, format, args) {
+        Ok(bytes) if bytes.as_slice() == out.as_slice() => Ok(Some(bytes)),
+        _ => Ok(None),
+    }
+}
+
+// Whether a format prints this for the arguments that the words stand for.
+fn renders(
+    alloc: Global,
+    format: &str,
+    words: &[&'static str],
+    text: &str,
+) -> Result<bool, AllocError> {
+    let Some(args) = arguments(alloc, format.as_bytes(), words)? else {
+        return Ok(false);
+    };
+    let out = rendered(alloc, format.as_bytes(), args.as_slice())?;
     Ok(out.as_deref() == Some(text.as_bytes()))
 }

@@ -2,6 +2,9 @@ pub mod Numerals
 pub mod Printed
 pub mod Values
 pub mod PrintsOnce
+pub mod Alike
+pub mod Counts
+pub mod NumberTexts
 pub mod ValueKindLemmas
 pub mod WriteLemmas
 mod Examples

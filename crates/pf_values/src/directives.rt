@@ -2,7 +2,8 @@
 ghost use Rattle.std.specs.Prelude.{◌≡◌, MatchResult};
 ghost use Rattle.pf_values.specs.Defined.{IsDefined, first_broken, refused_as, undefined_kinds};
 ghost use Rattle.pf_values.specs.Specification.{given};
-ghost use Rattle.pf_values.specs.DataModel.{arg_type, bit_count, bits_under, signed_type, unsigned_type, value_bits};
+ghost use Rattle.pf_values.specs.DataModel.{arg_type, bits_under, by_bits, signed_type, unsigned_type, value_bits};
+ghost use Rattle.pf_values.specs.Normal.{digits_at_most};
 
 use crate::conversions::Conv;
 use crate::flags::{Flag, FlagSet};
@@ -119,25 +120,39 @@ impl Directive {
         }
     }
 
-    /// The bits of the value that it prints, 0 for `c` and `s`.
+    /// The bits of the value that it prints; 0 for `c` and `s`.
     pub fn bits(&self) -> u8
         ensures { result ≡ value_bits self.now }
     {
         if self.conv.is_text() {
             return 0;
         }
-        bits_under(self.length)
+        by_bits(self.length, 8, 16, 32, 64)
+    }
+
+    /// The most digits that its value has, the sign not counted; 0 for `c` and `s`.
+    pub fn max_digits(&self) -> u8
+        ensures { result ≡ digits_at_most self.now }
+    {
+        match self.conv {
+            Conv::D | Conv::I => by_bits(self.length, 3, 5, 10, 19),
+            Conv::U => by_bits(self.length, 3, 5, 10, 20),
+            Conv::O => by_bits(self.length, 3, 6, 11, 22),
+            Conv::X | Conv::UpperX => by_bits(self.length, 2, 4, 8, 16),
+            Conv::C | Conv::S => 0,
+        }
     }
 }
 
-fn bits_under(length: Length) -> u8
-    ensures { result ≡ bit_count (bits_under length) }
+// One of four, for values of 8, 16, 32 and 64 bits.
+fn by_bits(length: Length, b8: u8, b16: u8, b32: u8, b64: u8) -> u8
+    ensures { result ≡ by_bits (bits_under length) b8 b16 b32 b64 }
 {
     match length {
-        Length::Hh => 8,
-        Length::H => 16,
-        Length::None => 32,
-        Length::L | Length::Ll | Length::J | Length::Z | Length::T => 64,
+        Length::Hh => b8,
+        Length::H => b16,
+        Length::None => b32,
+        Length::L | Length::Ll | Length::J | Length::Z | Length::T => b64,
     }
 }
 

@@ -243,6 +243,36 @@ fn each_kind_converts(rt: HostRuntime) {
     }
 }
 
+// A row for each of `CONVERSIONS`; without a modifier, and then `hh h l ll j z t`.
+#[rattlefmt::skip]
+static MAX_DIGITS: [[u8; 8]; 6] = [
+    [10, 3, 5, 19, 19, 19, 19, 19], // d
+    [10, 3, 5, 19, 19, 19, 19, 19], // i
+    [10, 3, 5, 20, 20, 20, 20, 20], // u
+    [11, 3, 6, 22, 22, 22, 22, 22], // o
+    [8, 2, 4, 16, 16, 16, 16, 16],  // x
+    [8, 2, 4, 16, 16, 16, 16, 16],  // X
+];
+
+fn max_digits_of(length: Length, conv: Conv) -> Result<u8, RefusalKind> {
+    Directive::new(FlagSet::empty(), None, None, length, conv).map(|d| d.max_digits())
+}
+
+#[test]
+fn each_value_has_so_many_digits_at_most(rt: HostRuntime) {
+    for (conv, row) in CONVERSIONS.iter().zip(MAX_DIGITS.iter()) {
+        for (length, want) in LENGTHS.iter().zip(row.iter()) {
+            assert_eq!(rt;
+                max_digits_of(*length, *conv),
+                Ok(*want),
+                "{conv:?} {length:?}"
+            );
+        }
+    }
+    assert_eq!(rt; max_digits_of(Length::None, Conv::C), Ok(0));
+    assert_eq!(rt; max_digits_of(Length::None, Conv::S), Ok(0));
+}
+
 #[rattlefmt::skip]
 const KINDS: [(RefusalKind, &str); 18] = [
     (RefusalKind::NulByte, "NulByte"),

@@ -1,23 +1,32 @@
 //! The caller of CALLING.md.
-use crate::{WriteFault, render_one};
-use pf_values::{Arg, Conv, Counted, Directive, Flag, FlagSet, Length};
+use crate::{RenderFault, render};
+use pf_values::{Arg, CBytes, Counted};
 use std::io::Write;
-use std::test::Fail;
 
-fn write_padded<W: Write>(number: i32, writer: &mut Counted<W>) -> Result<(), WriteFault> {
-    let flags = FlagSet::empty().with(Flag::Plus).with(Flag::Zero);
-    match Directive::new(flags, Some(6), None, Length::None, Conv::D) {
-        Ok(directive) => render_one(&directive, Arg::Int(number), writer),
-        Err(_) => Ok(()),
-    }
+/// Writes a name and a count as a line.
+fn write_line<W: Write>(
+    name: CBytes<'_>,
+    count: u64,
+    writer: &mut Counted<W>,
+) -> Result<(), RenderFault> {
+    let args = [Arg::Str(name), Arg::ULong(count)];
+    render(b"%-8s%5lu\n", &args, writer)
 }
 
 #[test]
-fn a_caller_writes_a_number(rt: HostRuntime) -> Result<(), Fail> {
-    let mut out = Vec::new(rt.alloc());
-    out.reserve(6)?;
-    let mut writer = Counted::new(out);
-    assert_eq!(rt; write_padded(42, &mut writer), Ok(()));
-    assert_eq!(rt; writer.into_inner().as_slice(), b"+00042".as_slice());
-    Ok(())
+fn a_line(rt: HostRuntime) {
+    let Some(name) = CBytes::new(b"bolts") else {
+        panic!(rt; "a zero byte is found");
+    };
+    let mut line = [0u8; 16];
+    let mut writer = Counted::new(line.as_mut_slice());
+    assert_eq!(rt; write_line(name, 42, &mut writer), Ok(()));
+    assert!(rt; line.get(..14) == Some(b"bolts      42\n".as_slice()));
+    let mut little = [0u8; 4];
+    let mut writer = Counted::new(little.as_mut_slice());
+    assert_eq!(rt;
+        write_line(name, 42, &mut writer),
+        Err(RenderFault::Write(4))
+    );
+    assert!(rt; little.as_slice() == b"bolt".as_slice());
 }

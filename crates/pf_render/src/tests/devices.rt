@@ -1,7 +1,7 @@
 //! Devices that take a little at a time, fail, or take nothing.
-use super::{printed, write_number};
-use crate::WriteFault;
-use pf_values::Counted;
+use super::{arguments, printed, write_number};
+use crate::{RenderFault, WriteFault, render};
+use pf_values::{Arg, Counted};
 use std::io;
 use std::io::{Error, ErrorKind, Write};
 use std::test::Fail;
@@ -98,6 +98,57 @@ fn what_fits_goes_out(rt: HostRuntime) {
     }
 }
 
+// A format whose literals and directives print spaces, digits, prefixes, strings, single bytes and nothing.
+const FORMAT: &[u8] = b"ab%%%5d,%-4sz%#x%c%.0s!%%";
+
+const WORDS: [&str; 5] = ["n:42", "s:xy", "n:255", "n:65", "s:zzz"];
+
+const PRINTED: &[u8] = b"ab%   42,xy  z0xffA!%";
+
+#[test]
+fn what_fits_of_a_format_goes_out(rt: HostRuntime) -> Result<(), Fail> {
+    let args = arguments(rt.alloc(), FORMAT, &WORDS)?.expect(&rt, "words of these types");
+    for full in [Some(ErrorKind::Other), Some(ErrorKind::Interrupted), None] {
+        for step in [1usize, 2, 3, 7] {
+            for room in 0..PRINTED.len() + 1 {
+                let mut writer = Counted::new(Narrow {
+                    taken: [0; ROOM],
+                    len: 0,
+                    room,
+                    step,
+                    full,
+                });
+                let answer = render(FORMAT, args.as_slice(), &mut writer);
+                let failures = writer.failures();
+                let narrow = writer.into_inner();
+                assert_eq!(rt; narrow.len, room, "{full:?} {step} {room}");
+                assert!(rt; narrow.took_front_of(PRINTED), "{step} {room}");
+                if room == PRINTED.len() {
+                    assert_eq!(rt; answer, Ok(()), "{step}");
+                    assert_eq!(rt; failures, 0, "{step}");
+                } else {
+                    let written = room as u128;
+                    assert_eq!(rt; answer, Err(RenderFault::Write(written)), "{step} {room}");
+                    assert_eq!(rt; failures, 1, "{step} {room}");
+                }
+            }
+        }
+    }
+    Ok(())
+}
+
+#[test]
+fn room_for_one_byte(rt: HostRuntime) {
+    let mut room = [0u8; 1];
+    let mut writer = Counted::new(room.as_mut_slice());
+    assert_eq!(rt;
+        render(b"%3d|", &[Arg::Int(5)], &mut writer),
+        Err(RenderFault::Write(1))
+    );
+    assert_eq!(rt; writer.failures(), 1);
+    assert_eq!(rt; room, [b' ']);
+}
+
 // Counts its calls and the bytes that it is given.
 #[derive(Drop)]
 struct Calls {
@@ -138,6 +189,26 @@ fn few_calls(rt: HostRuntime) {
         assert!(rt; calls.calls <= 4, "{format}");
         assert_eq!(rt; calls.flushes, 0, "{format}");
     }
+}
+
+// A run of literal bytes goes out as one.
+#[test]
+fn few_calls_for_literals(rt: HostRuntime) {
+    let mut writer = Counted::new(Calls {
+        calls: 0,
+        bytes: 0,
+        flushes: 0,
+    });
+    let answer = render(
+        b"0123456789%%abcdefghij%dABCDEFGHIJ",
+        &[Arg::Int(7)],
+        &mut writer,
+    );
+    assert_eq!(rt; answer, Ok(()));
+    let calls = writer.into_inner();
+    assert_eq!(rt; calls.bytes, 32);
+    assert_eq!(rt; calls.calls, 5);
+    assert_eq!(rt; calls.flushes, 0);
 }
 
 // The greatest padding, and the most zeros behind a sign.

@@ -1,8 +1,8 @@
-use Rattle.std.proofs.Common.{◌≡◌, ◌∙◌, ap₂}
+use Rattle.std.proofs.Common.{◌≡◌, ◌∙◌, ap, ap₂}
 use Rattle.std.proofs.lemmas.Result.{IfOk-weaker}
-use Rattle.clap.specs.Simple.{App, app_of, with_subcommand}
+use Rattle.clap.specs.Simple.{App, app_of, with_rule, with_subcommand}
 use Rattle.clap.specs.declared.builder.command.Command.{Command}
-use Rattle.fmtcanon.specs.Words.{the_command}
+use Rattle.fmtcanon.specs.Words.{any_arguments, the_command}
 use Rattle.fmtcanon.proofs.command.definition.Goals as goal
 
 -- one more subcommand
@@ -13,4 +13,6 @@ pub returns : goal.returns
 unfolding the_command
 returns c =
     let types = next _ _ _ _ _ c.in_ok-with_types.ensures c.in_ok-top.ensures c.in_ok-on_format.ensures.0 in
-    IfOk-weaker c.adding-2.result _ _ (λ r h. next r _ _ _ _ h types c.in_ok-on_format-2.ensures.0) c.adding-2.ensures
+    let canon = next _ _ _ _ _ c.in_ok-with_canon.ensures types c.in_ok-on_format-2.ensures.0 in
+    let arguments = c.in_ok-on_arguments.ensures.0 ∙ ap (λ a. with_rule a any_arguments) c.in_ok-on_format-3.ensures.0 in
+    IfOk-weaker c.adding-3.result _ _ (λ r h. next r _ _ _ _ h canon arguments) c.adding-3.ensures

@@ -1,6 +1,6 @@
 use Rattle.std.proofs.Common.{◌≡◌, ◌∙◌, ap, ap₂, sym, map, refl, true, false, List, [], Option, Some, None, option_map, is_some, unwrap_or, codes, Bor}
 use Rattle.clap.specs.Walk.{Row, Text, first_of, rows_of}
-use Rattle.clap.specs.Matches.{first_value, found_of, subcommand_name_of}
+use Rattle.clap.specs.Matches.{first_value, found_of, matched_of, raw_values, subcommand_name_of}
 use Rattle.clap.specs.Simple.{App, HasMatchesOf, is_simple, subcommand_of, subcommand_rows_of}
 use Rattle.clap.specs.Faults.{fault_of, is_simple_and_free}
 use Rattle.clap.specs.Takes.{takes}
@@ -8,9 +8,9 @@ use Rattle.clap.specs.declared.error.kind.ErrorKind.{ErrorKind}
 use Rattle.clap.specs.declared.error.kind.ErrorKind.TheVariants as kind
 use Rattle.clap.specs.declared.parser.matches.ArgMatches.{ArgMatches}
 use Rattle.clap.specs.declared.parser.matches.ArgMatches.TheViews.{out-ArgMatches}
-use Rattle.clap.proofs.WalkLemmas.{first_value-rows}
+use Rattle.clap.proofs.WalkLemmas.{first_value-rows, raw_values-rows}
 use Rattle.fmtcanon.specs.Words.{IsTaken, the_command}
-use Rattle.fmtcanon.specs.Tasks.{IsAnsweredBy, IsNoTaskOf, Names}
+use Rattle.fmtcanon.specs.Tasks.{IsAnsweredBy, IsNoTaskOf, Names, NamesWithWords}
 use Rattle.fmtcanon.specs.declared.task.NoTask.{NoTask}
 use Rattle.fmtcanon.specs.declared.task.NoTask.TheVariants.{Usage, Memory}
 use Rattle.fmtcanon.proofs.WordLemmas.{at_asked, format_given, free_command, simple_command, subcommand_given}
@@ -49,13 +49,22 @@ asked a words m name inner e matches no_fault n r =
     (p.0, sym p.1 ∙ joined (out-ArgMatches m).subcommand _ name _ n r)
 
 -- the words name the command that the code finds, with this text as F
-named : (words : List Text) (name command : Text) (inner : ArgMatches) (format : Text) → IsAsked words name inner → name ≡ command
+abbrev named : (words : List Text) (name command : Text) (inner : ArgMatches) (format : Text) → IsAsked words name inner → name ≡ command
     → Some format ≡ first_value (found_of inner) (codes "F") → Names words command format
 named words name command inner format a e h = record {
   rows = rows_of (found_of inner);
   no_fault = a.0;
   named = a.1 ∙ ap (λ n. Some (n, rows_of (found_of inner))) e;
   format = sym (h ∙ first_value-rows (found_of inner) (codes "F"));
+}
+
+-- the same, and these words as ARG
+named_with_words : (words : List Text) (name command : Text) (inner : ArgMatches) (format : Text) (given : List Text) → IsAsked words name inner → name ≡ command
+    → Some format ≡ first_value (found_of inner) (codes "F") → given ≡ unwrap_or (option_map raw_values (matched_of (found_of inner) (codes "ARG"))) []
+    → NamesWithWords words command format given
+named_with_words words name command inner format given a e h g = record {
+  names = named words name command inner format a e h;
+  given_are = g ∙ ap (λ o. unwrap_or o []) (raw_values-rows (found_of inner) (codes "ARG"));
 }
 
 missing : {A B : Type 0} (o : Option A) (f : A → B) (x : Option B) → false ≡ is_some o → option_map f o ≡ x → is_some x ≡ true → ⊥
@@ -98,10 +107,16 @@ returns-in-canon-clause-ok c =
     let a = asked _ (texts c.args.words.now) ok.matches _ c.in-Some.inner.now c.in-Ok.ensures ok.ensures.matches ok.ensures.kinds c.in-Some.ensures.name c.in-Some.ensures.rows in
     named _ _ _ c.in-Some.inner.now _ a c.in-canon.is c.in-Some-get_str.ensures
 
+pub returns-in-Ok-given_words-clause-ok : goal.returns-in-Ok-given_words-clause-ok
+returns-in-Ok-given_words-clause-ok c =
+    let ok = c.in-Ok-try_get_matches_from in
+    let a = asked _ (texts c.args.words.now) ok.matches _ c.in-Some.inner.now c.in-Ok.ensures ok.ensures.matches ok.ensures.kinds c.in-Some.ensures.name c.in-Some.ensures.rows in
+    named_with_words _ _ _ c.in-Some.inner.now _ _ a c.in-format.is c.in-Some-get_str.ensures c.in-Ok-given_words.ensures
+
 pub unreachable-requires-in_default-name : goal.unreachable-requires-in_default-name
 unfolding the_command
 unreachable-requires-in_default-name c =
     let ok = c.in-Ok-try_get_matches_from in
     let a = asked _ (texts c.args.words.now) ok.matches _ c.in-Some.inner.now c.in-Ok.ensures ok.ensures.matches ok.ensures.kinds c.in-Some.ensures.name c.in-Some.ensures.rows in
     let name = c.in-Some.name.now in
-    at_asked (λ n. name ≡ n → ⊥) (texts c.args.words.now) name _ (c.in_default-name.not-types, (c.in_default-name.not-canon, tt)) a.1 refl
+    at_asked (λ n. name ≡ n → ⊥) (texts c.args.words.now) name _ (c.in_default-name.not-types, (c.in_default-name.not-canon, (c.in_default-name.not-format, tt))) a.1 refl

@@ -1,0 +1,81 @@
+-- The arguments that words give for a format, why they give none, and what it prints for them.
+use Rattle.std.specs.Prelude.{◌≡◌, ◌≢◌, ℕ, ◌≤◌, List, length, map, take, Some, slice_get}
+use Rattle.std.specs.List.{AllByRecursion, AllZip}
+use Rattle.pf_values.specs.declared.arguments.Arg.{Arg}
+use Rattle.pf_values.specs.declared.limits.TheConstants.{MAX_TEXT_LEN}
+use Rattle.pf_values.specs.declared.types.ArgType.{ArgType}
+use Rattle.pf_values.specs.Arg.{argument_of, type_of}
+use Rattle.pf_values.specs.Arguments.{Argument, HasType, HasTypes}
+use Rattle.pf_values.specs.Items.{IsAccepted, Item, Reads, types}
+use Rattle.pf_values.specs.Printing.{PrintsAll}
+use Rattle.pf_values.specs.Refusals.{IsRefusedAt}
+use Rattle.pf_values.specs.Text.{Text}
+use Rattle.fmtcanon.specs.declared.format_arguments.ArgumentFault.{ArgumentFault}
+use Rattle.fmtcanon.specs.declared.format_arguments.ArgumentFault.TheVariants.{Refused, BadWord, WrongCount, WrongType, Memory}
+use Rattle.fmtcanon.specs.ArgumentWords.{SpellsArgument}
+
+-- each word gives an argument, in order
+abbrev pub SpellArguments : List Text → List Argument → Type 0
+SpellArguments words arguments = AllZip SpellsArgument words arguments
+
+abbrev pub GivesArgument : Text → Type 0
+GivesArgument word = (argument : Argument) × SpellsArgument word argument
+
+-- the word with this index gives no argument, and each before it gives one
+pub record IsFirstBadWord (words : List Text) (index : ℕ) : Type 0 where
+  pub word : Text
+  pub here : slice_get words index ≡ Some word
+  pub bad : GivesArgument word → ⊥
+  pub good_before : AllByRecursion GivesArgument (take index words)
+
+-- the argument with this index is not of its type, and each before it is
+pub record IsFirstWrongType (arguments : List Argument) (wanted : List ArgType) (index : ℕ) : Type 0 where
+  pub argument : Argument
+  pub type : ArgType
+  pub here : slice_get arguments index ≡ Some argument
+  pub type_here : slice_get wanted index ≡ Some type
+  pub wrong : HasType argument type → ⊥
+  pub right_before : HasTypes (take index arguments) (take index wanted)
+
+-- what stops the reading of words, and of types
+abbrev pub IsBadWord : List Text → ArgumentFault → Type 0
+IsBadWord words (BadWord index) = IsFirstBadWord words index
+IsBadWord words Memory = Unit {0}
+IsBadWord words _ = ⊥
+
+abbrev pub IsWrongType : List Argument → List ArgType → ArgumentFault → Type 0
+IsWrongType arguments wanted (WrongType index) = IsFirstWrongType arguments wanted index
+IsWrongType arguments wanted Memory = Unit {0}
+IsWrongType arguments wanted _ = ⊥
+
+-- the items of an accepted format, and the arguments that words give
+pub record IsGiven (format : Text) (words : List Text) (items : List Item) (arguments : List Argument) : Type 0 where
+  pub reads : Reads format items
+  pub limit : length format ≤ MAX_TEXT_LEN
+  pub spelled : SpellArguments words arguments
+
+-- the words give these arguments for a format, each of its type
+pub record AreArgumentsFor (format : Text) (words : List Text) (args : List Arg) : Type 0 where
+  pub items : List Item
+  pub given : IsGiven format words items (map argument_of args)
+  pub typed : HasTypes (map argument_of args) (types items)
+  pub types_are : map type_of args ≡ types items
+
+-- Why there are no arguments: the first that holds, in this order.
+abbrev pub HindersArguments : Text → List Text → ArgumentFault → Type 0
+HindersArguments format words (Refused refusal) = IsRefusedAt format refusal.kind refusal.at
+HindersArguments format words (BadWord index) = IsAccepted format × IsFirstBadWord words index
+HindersArguments format words (WrongCount wanted given) =
+    (items : List Item) × (arguments : List Argument) × IsGiven format words items arguments × (wanted ≡ length (types items)) × (given ≡ length words) × (wanted ≢ given)
+HindersArguments format words (WrongType index) =
+    (items : List Item) × (arguments : List Argument) × IsGiven format words items arguments × (length arguments ≡ length (types items)) × IsFirstWrongType arguments (types items) index
+HindersArguments format words Memory = Unit {0}
+
+-- what a format prints for the arguments that words give, and nothing else
+pub record IsPrinted (format : Text) (words : List Text) (out : Text) : Type 0 where
+  pub items : List Item
+  pub arguments : List Argument
+  pub given : IsGiven format words items arguments
+  pub typed : HasTypes arguments (types items)
+  pub prints : PrintsAll items arguments out
+  pub only : (other : Text) → PrintsAll items arguments other → other ≡ out

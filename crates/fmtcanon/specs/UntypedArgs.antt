@@ -1,0 +1,10 @@
+-- Arguments that have no type yet.
+use Rattle.pf_values.specs.Arg.{bytes_of}
+use Rattle.pf_values.specs.Arguments.{Argument, Number, String}
+use Rattle.fmtcanon.specs.declared.untyped.UntypedArg.{UntypedArg}
+use Rattle.fmtcanon.specs.declared.untyped.UntypedArg.TheVariants as variants
+
+-- the argument that it stands for
+abbrev pub argument_given : UntypedArg → Argument
+argument_given (variants.Number n) = Number n
+argument_given (variants.String s) = String (bytes_of s)

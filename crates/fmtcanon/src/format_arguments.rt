@@ -1,0 +1,99 @@
+//! The arguments that words give for a format.
+ghost use Rattle.std.specs.Prelude.{◌≡◌, IfErr, IfOk, length, map};
+ghost use Rattle.pf_values.specs.Arg.{argument_of, type_of};
+ghost use Rattle.pf_values.specs.Arguments.{HasTypes};
+ghost use Rattle.fmtcanon.specs.FormatArguments.{AreArgumentsFor, HindersArguments, IsBadWord, IsWrongType, SpellArguments};
+ghost use Rattle.fmtcanon.specs.UntypedArgs.{argument_given};
+
+use crate::argument_words::read_argument;
+use crate::untyped::UntypedArg;
+use pf_text::{Refusal, TextFault, signature};
+use pf_values::{Arg, ArgType};
+use std::alloc::Global;
+
+/// Why words give no arguments for a format.
+#[derive(Clone, Copy, Debug, PartialEq, Eq)]
+pub enum ArgumentFault {
+    /// The format is refused.
+    Refused(Refusal),
+    /// The word with this index gives no argument.
+    BadWord(u64),
+    /// There are more or fewer arguments than the format takes.
+    WrongCount {
+        /// How many it takes.
+        wanted: u64,
+        /// How many there are.
+        given: u64,
+    },
+    /// The argument with this index is not of its type.
+    WrongType(u64),
+    /// A growth was refused.
+    Memory,
+}
+
+/// The arguments for a format, each of its type.
+pub fn arguments_for<'a>(
+    alloc: Global,
+    format: &[u8],
+    words: &[&'a str],
+) -> Result<Vec<Arg<'a>>, ArgumentFault>
+    ensures ok { IfOk result (λ args. AreArgumentsFor format.now (map (λ s. s.now) words.now) args.items) }
+    ensures err { IfErr result (HindersArguments format.now (map (λ s. s.now) words.now)) }
+{
+    let wanted = match signature(alloc, format) {
+        Ok(wanted) => wanted,
+        Err(TextFault::Refused(refusal)) => return Err(ArgumentFault::Refused(refusal)),
+        Err(TextFault::Memory) => return Err(ArgumentFault::Memory),
+    };
+    let given = read_words(alloc, words)?;
+    if wanted.len() != given.len() {
+        return Err(ArgumentFault::WrongCount {
+            wanted: wanted.len() as u64,
+            given: given.len() as u64,
+        });
+    }
+    typed(alloc, &given, wanted.as_slice())
+}
+
+// The arguments that the words give.
+fn read_words<'a>(alloc: Global, words: &[&'a str]) -> Result<Vec<UntypedArg<'a>>, ArgumentFault>
+    ensures ok { IfOk result (λ given. SpellArguments (map (λ s. s.now) words.now) (map argument_given given.items)) }
+    ensures err { IfErr result (λ fault. IsBadWord (map (λ s. s.now) words.now) fault) }
+{
+    let mut given = Vec::new(alloc);
+    for word in words {
+        match read_argument(word.as_bytes()) {
+            Some(argument) => {
+                if given.push(argument).is_err() {
+                    return Err(ArgumentFault::Memory);
+                }
+            }
+            None => return Err(ArgumentFault::BadWord(given.len() as u64)),
+        }
+    }
+    Ok(given)
+}
+
+// The arguments at the types that are wanted, of which there are as many.
+fn typed<'a>(
+    alloc: Global,
+    given: &[UntypedArg<'a>],
+    wanted: &[ArgType],
+) -> Result<Vec<Arg<'a>>, ArgumentFault>
+    requires { length given.now ≡ length wanted.now }
+    ensures ok { IfOk result (λ args. (map argument_of args.items ≡ map argument_given given.now) × HasTypes (map argument_of args.items) wanted.now × (map type_of args.items ≡ wanted.now)) }
+    ensures err { IfErr result (λ fault. IsWrongType (map argument_given given.now) wanted.now fault) }
+{
+    let mut args = Vec::new(alloc);
+    for (argument, arg_type) in given.iter().zip(wanted) {
+        match argument.as_type(*arg_type) {
+            Some(arg) => {
+                if args.push(arg).is_err() {
+                    return Err(ArgumentFault::Memory);
+                }
+            }
+            None => return Err(ArgumentFault::WrongType(args.len() as u64)),
+        }
+    }
+    Ok(args)
+}

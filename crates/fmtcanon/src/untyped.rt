@@ -1,0 +1,50 @@
+//! Arguments that have no type yet.
+ghost use Rattle.std.specs.Prelude.{◌≡◌, ◌↔◌, IfSome, IsSome};
+ghost use Rattle.pf_values.specs.Arg.{argument_of, type_of};
+ghost use Rattle.pf_values.specs.Arguments.{HasType, Number};
+ghost use Rattle.pf_values.specs.DataModel.{IsInRange};
+ghost use Rattle.fmtcanon.specs.UntypedArgs.{argument_given};
+
+use pf_values::{Arg, ArgType, CBytes};
+
+#[cfg(test)]
+mod tests;
+
+/// An argument that has no type yet.
+#[derive(Clone, Copy, Debug)]
+pub enum UntypedArg<'a> {
+    /// A number.
+    Number(i128),
+    /// A string.
+    String(CBytes<'a>),
+}
+
+impl<'a> UntypedArg<'a> {
+    /// The argument at a type, or `None` where it is none of the type's.
+    pub fn as_type(self, arg_type: ArgType) -> Option<Arg<'a>>
+        ensures typed { IsSome result ↔ HasType (argument_given self.entry) arg_type }
+        ensures some { IfSome result (λ arg. (type_of arg ≡ arg_type) × (argument_of arg ≡ argument_given self.entry)) }
+    {
+        match self {
+            UntypedArg::Number(number) => number_as(number, arg_type),
+            UntypedArg::String(bytes) if arg_type == ArgType::Str => Some(Arg::Str(bytes)),
+            UntypedArg::String(_) => None,
+        }
+    }
+}
+
+// The number at a type of numbers.
+fn number_as(number: i128, arg_type: ArgType) -> Option<Arg<'static>>
+    ensures typed { IsSome result ↔ IsInRange arg_type number }
+    ensures some { IfSome result (λ arg. (type_of arg ≡ arg_type) × (argument_of arg ≡ Number number)) }
+{
+    match arg_type {
+        ArgType::Int => Some(Arg::Int(i32::try_from(number).ok()?)),
+        ArgType::UInt => Some(Arg::UInt(u32::try_from(number).ok()?)),
+        ArgType::Long => Some(Arg::Long(i64::try_from(number).ok()?)),
+        ArgType::ULong => Some(Arg::ULong(u64::try_from(number).ok()?)),
+        ArgType::LongLong => Some(Arg::LongLong(i64::try_from(number).ok()?)),
+        ArgType::ULongLong => Some(Arg::ULongLong(u64::try_from(number).ok()?)),
+        ArgType::Str => None,
+    }
+}

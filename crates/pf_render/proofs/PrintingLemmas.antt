@@ -1,0 +1,54 @@
+-- What items print for arguments, part by part.
+use Rattle.std.proofs.Common.{◌≡◌, ℕ, ◌+◌, ◌≤◌, List, [], ◌∷◌, ◌++◌, length, map, take, drop, refl, sym, ap, ◌∙◌, arith, append_assoc}
+use Rattle.pf_values.specs.declared.types.ArgType.{ArgType}
+use Rattle.pf_values.specs.Arguments.{Argument, HasType, HasTypes}
+use Rattle.pf_values.specs.Items.{Item, Byte, Directive, types}
+use Rattle.pf_values.specs.Printing.{Prints, PrintsAll}
+use Rattle.pf_values.specs.Text.{Text}
+use Rattle.pf_values.proofs.PrintsOnce.{Prints-unique, printed, printed-is}
+
+pub PrintsAll-exists : (items : List Item) (args : List Argument) → HasTypes args (types items) → (out : Text) × PrintsAll items args out
+PrintsAll-exists [] [] h = ([], refl)
+PrintsAll-exists [] (a ∷ args) h = absurd h
+PrintsAll-exists (Byte byte ∷ items) args h = let rest = PrintsAll-exists items args h in (byte ∷ rest.0, (rest.0, rest.1, refl))
+PrintsAll-exists (Directive s ∷ items) [] h = absurd h
+PrintsAll-exists (Directive s ∷ items) (a ∷ args) h = let rest = PrintsAll-exists items args h.1 in (printed s a ++ rest.0, (printed s a, rest.0, printed-is s a h.0, rest.1, refl))
+
+pub PrintsAll-unique : (items : List Item) (args : List Argument) (out other : Text) → HasTypes args (types items) → PrintsAll items args out → PrintsAll items args other → other ≡ out
+PrintsAll-unique [] [] out other h f g = g ∙ sym f
+PrintsAll-unique [] (a ∷ args) out other h f g = absurd h
+PrintsAll-unique (Byte byte ∷ items) args out other h f g = let rest = PrintsAll-unique items args f.0 g.0 h f.1 g.1 in g.2 ∙ ap (λ t. byte ∷ t) rest ∙ sym f.2
+PrintsAll-unique (Directive s ∷ items) [] out other h f g = absurd h
+PrintsAll-unique (Directive s ∷ items) (a ∷ args) out other h f g =
+    let rest = PrintsAll-unique items args f.1 g.1 h.1 f.3 g.3 in
+    let first : g.0 ≡ f.0 = Prints-unique s a g.0 h.0 g.2 ∙ sym (Prints-unique s a f.0 h.0 f.2) in
+    g.4 ∙ ap (λ t. t ++ g.1) first ∙ ap (λ t. f.0 ++ t) rest ∙ sym f.4
+
+-- items that come before others take the first arguments, and print first
+pub PrintsAll-split : (items more : List Item) (args : List Argument) (out : Text) → PrintsAll (items ++ more) args out
+    → (first rest : Text) × PrintsAll items (take (length (types items)) args) first × PrintsAll more (drop (length (types items)) args) rest × (out ≡ first ++ rest)
+PrintsAll-split [] more args out h = ([], out, refl, h, refl)
+PrintsAll-split (Byte byte ∷ items) more args out h =
+    let r = PrintsAll-split items more args h.0 h.1 in
+    (byte ∷ r.0, r.1, (r.0, r.2, refl), r.3, h.2 ∙ ap (λ t. byte ∷ t) r.4)
+PrintsAll-split (Directive s ∷ items) more [] out h = absurd h
+PrintsAll-split (Directive s ∷ items) more (a ∷ args) out h =
+    let r = PrintsAll-split items more args h.1 h.3 in
+    (h.0 ++ r.0, r.1, (h.0, r.0, h.2, r.2, refl), r.3, h.4 ∙ ap (λ t. h.0 ++ t) r.4 ∙ sym (append_assoc h.0 r.0 r.1))
+
+pub HasTypes-split : (first rest : List ArgType) (args : List Argument) → HasTypes args (first ++ rest)
+    → HasTypes (take (length first) args) first × HasTypes (drop (length first) args) rest × (length first ≤ length args)
+HasTypes-split [] rest args h = (tt, h, omega arith)
+HasTypes-split (type ∷ first) rest [] h = absurd h
+HasTypes-split (type ∷ first) rest (a ∷ args) h = let r = HasTypes-split first rest args h.1 in ((h.0, r.0), r.1, omega (arith, r.2))
+
+-- literal bytes print themselves, and take no argument
+pub PrintsAll-bytes : (bytes : Text) (args : List Argument) → HasTypes args (types (map Byte bytes)) → PrintsAll (map Byte bytes) args bytes
+PrintsAll-bytes [] [] h = refl
+PrintsAll-bytes [] (a ∷ args) h = absurd h
+PrintsAll-bytes (byte ∷ bytes) args h = (bytes, PrintsAll-bytes bytes args h, refl)
+
+pub PrintsAll-none : (items : List Item) (args : List Argument) (out : Text) → items ≡ [] → PrintsAll items args out → out ≡ []
+PrintsAll-none [] [] out e h = h
+PrintsAll-none [] (a ∷ args) out e h = absurd h
+PrintsAll-none (item ∷ items) args out e h = cc

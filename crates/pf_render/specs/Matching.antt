@@ -1,0 +1,31 @@
+-- How arguments match the types that are wanted.
+use Rattle.std.specs.Prelude.{◌≡◌, ◌≢◌, ℕ, ◌<◌, ◌≤◌, List, length, map, take, slice_get, Some}
+use Rattle.std.specs.List.{AllZip}
+use Rattle.pf_values.specs.declared.arguments.Arg.{Arg}
+use Rattle.pf_values.specs.declared.types.ArgType.{ArgType}
+use Rattle.pf_values.specs.Arg.{argument_of, type_of}
+use Rattle.pf_values.specs.Arguments.{HasType, HasTypes}
+use Rattle.pf_values.specs.Text.{Text}
+use Rattle.pf_text.specs.Signatures as signatures
+use Rattle.pf_render.specs.declared.matching.Tally.{Tally}
+
+-- an argument is of a type
+pub record IsOfType (arg : Arg) (type : ArgType) : Type 0 where
+  pub same : type_of arg ≡ type
+  pub typed : HasType (argument_of arg) type
+
+-- there is an argument with this number, and it is of a type
+abbrev pub IsOfTypeAt : List Arg → ℕ → ArgType → Type 0
+IsOfTypeAt args index type = (arg : Arg) × (slice_get args index ≡ Some arg) × IsOfType arg type
+
+-- So many types are wanted. The first arguments are of them, and the next one is not, unless those are all.
+pub record Tallies (tally : Tally) (args : List Arg) (types : List ArgType) : Type 0 where
+  pub wanted_is : tally.wanted ≡ length types
+  pub within : tally.matched ≤ length types
+  pub matching : AllZip IsOfType (take tally.matched args) (take tally.matched types)
+  pub wrong : tally.matched < length types → slice_get (map type_of args) tally.matched ≢ slice_get types tally.matched
+
+-- an accepted text takes just these arguments
+pub record TakesArguments (t : Text) (args : List Arg) : Type 0 where
+  pub takes : signatures.HasTypes t (map type_of args)
+  pub typed : HasTypes (map argument_of args) (map type_of args)

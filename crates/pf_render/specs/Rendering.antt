@@ -1,0 +1,76 @@
+-- What calls that render a format answer.
+use Rattle.std.specs.Prelude.{◌≡◌, ◌≢◌, ℕ, ◌<◌, List, [], length, map, take, slice_get, Result, Ok, Err}
+use Rattle.pf_values.specs.declared.arguments.Arg.{Arg}
+use Rattle.pf_values.specs.declared.counting.Counted.{Counted}
+use Rattle.pf_values.specs.declared.types.ArgType.{ArgType}
+use Rattle.pf_values.specs.Arg.{argument_of, type_of}
+use Rattle.pf_values.specs.Counting.{Known, WritesAll, WritesFirst}
+use Rattle.pf_values.specs.Printing.{PrintsAll}
+use Rattle.pf_values.specs.Refusals.{IsRefusedAt}
+use Rattle.pf_values.specs.Text.{Text}
+use Rattle.pf_text.specs.Signatures.{HasTypes}
+use Rattle.pf_render.specs.declared.faults.RenderFault.{RenderFault}
+use Rattle.pf_render.specs.declared.faults.RenderFault.TheVariants as faults
+use Rattle.pf_render.specs.declared.faults.RenderVecFault.{RenderVecFault}
+use Rattle.pf_render.specs.declared.faults.RenderVecFault.TheVariants as vec_faults
+
+-- an accepted text prints this for arguments of its types, and nothing else
+pub record Renders (t : Text) (args : List Arg) (out : Text) : Type 0 where
+  pub takes : HasTypes t (map type_of args)
+  pub prints : PrintsAll takes.items (map argument_of args) out
+  pub only : (other : Text) → PrintsAll takes.items (map argument_of args) other → other ≡ out
+
+-- the same, and of what is printed this holds
+abbrev pub RendersTo : Text → List Arg → (Text → Type 0) → Type 0
+RendersTo t args IsLeft = (out : Text) × Renders t args out × IsLeft out
+
+-- an accepted text takes another number of arguments
+pub record HasWrongCount (t : Text) (args : List Arg) (wanted given : ℕ) : Type 0 where
+  pub types : List ArgType
+  pub takes : HasTypes t types
+  pub wanted_is : wanted ≡ length types
+  pub given_is : given ≡ length args
+  pub differ : wanted ≢ given
+
+-- two lists are the same before this place, and not there
+pub record DifferFirstAt {A : Type 0} (xs ys : List A) (place : ℕ) : Type 0 where
+  pub same : take place xs ≡ take place ys
+  pub differ : slice_get xs place ≢ slice_get ys place
+
+-- an accepted text takes as many arguments, and this is the first one of another type
+pub record HasWrongType (t : Text) (args : List Arg) (index : ℕ) : Type 0 where
+  pub types : List ArgType
+  pub takes : HasTypes t types
+  pub same_count : length args ≡ length types
+  pub first : DifferFirstAt (map type_of args) types index
+
+-- why nothing is written
+abbrev pub Hinders : Text → List Arg → RenderFault → Type 0
+Hinders t args (faults.Refused refusal) = IsRefusedAt t refusal.kind refusal.at
+Hinders t args (faults.WrongCount wanted given) = HasWrongCount t args wanted given
+Hinders t args (faults.WrongType index) = HasWrongType t args index
+Hinders t args (faults.Write written) = ⊥
+
+-- what a call leaves in a writer, and answers: all that is printed, nothing, or exactly the first bytes
+module _ {W : Type 0} (contents : W → Known) (old new : Counted W) (t : Text) (args : List Arg) where
+  abbrev pub StopsWith : RenderFault → Type 0
+  StopsWith (faults.Write written) = RendersTo t args (λ out. WritesFirst contents old new out written × (written < length out))
+  StopsWith fault = Hinders t args fault × (new ≡ old)
+
+  abbrev pub RendersInto : Result (Unit {0}) RenderFault → Type 0
+  RendersInto (Ok done) = RendersTo t args (λ out. WritesAll contents old new out)
+  RendersInto (Err fault) = StopsWith fault
+
+-- the same of a call that gives what is printed; where that is nothing, it takes no memory
+abbrev pub HindersVec : Text → List Arg → RenderVecFault → Type 0
+HindersVec t args (vec_faults.Refused refusal) = Hinders t args (faults.Refused refusal)
+HindersVec t args (vec_faults.WrongCount wanted given) = Hinders t args (faults.WrongCount wanted given)
+HindersVec t args (vec_faults.WrongType index) = Hinders t args (faults.WrongType index)
+HindersVec t args vec_faults.Memory = RendersTo t args (λ out. out ≢ [])
+
+-- the fault of a call that renders into memory: there a write fails only where a growth is refused
+abbrev pub in_memory : RenderFault → RenderVecFault
+in_memory (faults.Refused refusal) = vec_faults.Refused refusal
+in_memory (faults.WrongCount wanted given) = vec_faults.WrongCount wanted given
+in_memory (faults.WrongType index) = vec_faults.WrongType index
+in_memory (faults.Write written) = vec_faults.Memory

@@ -1,0 +1,44 @@
+//! What a format prints, in memory.
+ghost use Rattle.std.specs.Prelude.{◌≡◌, MatchResult};
+ghost use Rattle.pf_render.specs.Rendering.{HindersVec, Renders, in_memory};
+
+use crate::faults::{RenderFault, RenderVecFault};
+use crate::formats::render;
+use pf_values::{Arg, Counted};
+use std::alloc::{Allocator, Global};
+
+#[cfg(test)]
+mod tests;
+
+/// What a format prints for arguments of its types (C11 7.21.6.1).
+pub fn render_vec(alloc: Global, text: &[u8], args: &[Arg<'_>]) -> Result<Vec<u8>, RenderVecFault>
+    ensures { MatchResult result (λ bytes. Renders text.now args.now bytes.items) (HindersVec text.now args.now) }
+{
+    render_vec_in(alloc, text, args)
+}
+
+fn render_vec_in<A: Allocator>(
+    alloc: A,
+    text: &[u8],
+    args: &[Arg<'_>],
+) -> Result<Vec<u8, A>, RenderVecFault>
+    ensures { MatchResult result (λ bytes. Renders text.now args.now bytes.items) (HindersVec text.now args.now) }
+{
+    let mut writer = Counted::new(Vec::new(alloc));
+    match render(text, args, &mut writer) {
+        Ok(()) => Ok(writer.into_inner()),
+        Err(fault) => Err(in_memory(fault)),
+    }
+}
+
+// The fault of a call that renders into memory: a vector fails only where a growth is refused.
+fn in_memory(fault: RenderFault) -> RenderVecFault
+    ensures { result ≡ in_memory fault }
+{
+    match fault {
+        RenderFault::Refused(refusal) => RenderVecFault::Refused(refusal),
+        RenderFault::WrongCount { wanted, given } => RenderVecFault::WrongCount { wanted, given },
+        RenderFault::WrongType(index) => RenderVecFault::WrongType(index),
+        RenderFault::Write(_) => RenderVecFault::Memory,
+    }
+}

@@ -1,0 +1,95 @@
+//! Bytes that are no ASCII characters, and zero bytes.
+use super::{directive_of, rendered};
+use crate::render_one;
+use pf_values::{Arg, CBytes, Counted};
+use std::test::Fail;
+
+// All bytes but zero and `%`, which a text holds as they are.
+fn plain_bytes() -> [u8; 254] {
+    let mut bytes = [0u8; 254];
+    let mut next = 1u8;
+    for byte in &mut bytes {
+        if next == b'%' {
+            next = next.saturating_add(1);
+        }
+        *byte = next;
+        next = next.saturating_add(1);
+    }
+    bytes
+}
+
+#[test]
+fn bytes_print_themselves(rt: HostRuntime) -> Result<(), Fail> {
+    let bytes = plain_bytes();
+    assert_eq!(rt; bytes.last(), Some(&255));
+    let out = rendered(rt.alloc(), &bytes, &[])?;
+    assert!(rt; out.as_deref() == Some(bytes.as_slice()));
+    Ok(())
+}
+
+#[test]
+fn strings_of_bytes(rt: HostRuntime) -> Result<(), Fail> {
+    let bytes = plain_bytes();
+    let Some(string) = CBytes::new(&bytes) else {
+        panic!(rt; "a zero byte is found");
+    };
+    let out = rendered(rt.alloc(), b"%s", &[Arg::Str(string)])?;
+    assert!(rt; out.as_deref() == Some(bytes.as_slice()));
+    let Some(string) = CBytes::new(b"\xc3\xa9\x80\xff") else {
+        panic!(rt; "a zero byte is found");
+    };
+    let out = rendered(
+        rt.alloc(),
+        b"\xff%.1s|%3.1s|%-4.2s\x80",
+        &[Arg::Str(string); 3],
+    )?;
+    assert!(rt; out.as_deref() == Some(b"\xff\xc3|  \xc3|\xc3\xa9  \x80".as_slice()));
+    Ok(())
+}
+
+// Numbers, and the bytes that they are modulo 256.
+#[rattlefmt::skip]
+static CHARS: [(i32, u8); 14] = [
+    (0, 0),
+    (1, 1),
+    (127, 127),
+    (128, 128),
+    (255, 255),
+    (256, 0),
+    (257, 1),
+    (321, 65),
+    (-1, 255),
+    (-128, 128),
+    (-256, 0),
+    (-257, 255),
+    (2147483647, 255),
+    (-2147483648, 0),
+];
+
+#[test]
+fn chars(rt: HostRuntime) -> Result<(), Fail> {
+    for (number, byte) in &CHARS {
+        let arg = Arg::Int(*number);
+        let out = rendered(rt.alloc(), b"%c", &[arg])?;
+        assert!(rt; out.as_deref() == Some([*byte].as_slice()), "{number}");
+        let out = rendered(rt.alloc(), b"%3c%-2c%1c", &[arg, arg, arg])?;
+        let wanted = [b' ', b' ', *byte, *byte, b' ', *byte];
+        assert!(rt; out.as_deref() == Some(wanted.as_slice()), "{number}");
+    }
+    Ok(())
+}
+
+#[test]
+fn one_string(rt: HostRuntime) -> Result<(), Fail> {
+    let (Some(directive), Some(string)) = (directive_of("%-4.2s"), CBytes::new(b"\xe6\xbc\xa2"))
+    else {
+        panic!(rt; "no directive or no string");
+    };
+    let mut writer = Counted::new(Vec::new(rt.alloc()));
+    assert_eq!(rt;
+        render_one(&directive, Arg::Str(string), &mut writer),
+        Ok(())
+    );
+    assert!(rt; writer.into_inner().as_slice() == b"\xe6\xbc  ".as_slice());
+    Ok(())
+}

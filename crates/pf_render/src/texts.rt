@@ -1,0 +1,46 @@
+//! What directives print of bytes and of strings.
+ghost use Rattle.std.specs.Prelude.{◌≡◌};
+ghost use Rattle.pf_values.specs.declared.conversions.Conv.TheVariants.{C, S};
+ghost use Rattle.pf_values.specs.Arguments.{Number, String};
+ghost use Rattle.pf_values.specs.Printing.{Prints, shown};
+ghost use Rattle.pf_values.specs.Text.{Text};
+ghost use Rattle.pf_render.specs.Counts.{WritesCounted};
+
+use crate::fields::write_field;
+use pf_values::{Counted, Directive, ShortWrite, ValueKind};
+use std::io::Write;
+
+/// Writes the byte that a number is as an `unsigned char` (C11 7.21.6.1, paragraph 8, `c`).
+pub(crate) fn write_char<W: Write>(
+    directive: &Directive,
+    number: i128,
+    writer: &mut Counted<W>,
+) -> Result<usize, ShortWrite>
+    requires char { directive.now.conv ≡ C }
+    ensures { (out : Text) × Prints directive.now (Number number) out × WritesCounted W.contents writer.old writer.new out result }
+{
+    let byte = [u8::of(number)];
+    write_field(directive, b"", b"", &byte, writer)
+}
+
+/// Writes a string, and no more of it than the precision says (C11 7.21.6.1, paragraph 8, `s`).
+pub(crate) fn write_string<W: Write>(
+    directive: &Directive,
+    bytes: &[u8],
+    writer: &mut Counted<W>,
+) -> Result<usize, ShortWrite>
+    requires string { directive.now.conv ≡ S }
+    ensures { (out : Text) × Prints directive.now (String bytes.now) out × WritesCounted W.contents writer.old writer.new out result }
+{
+    write_field(directive, b"", b"", shown(directive, bytes), writer)
+}
+
+// The bytes of a string up to the precision.
+fn shown<'a>(directive: &Directive, bytes: &'a [u8]) -> &'a [u8]
+    ensures { result.now ≡ shown directive.now.precision bytes.now }
+{
+    match directive.precision() {
+        Some(most) => &bytes[..usize::from(most).min(bytes.len())],
+        None => bytes,
+    }
+}
