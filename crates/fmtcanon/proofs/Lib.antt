@@ -1,5 +1,3 @@
-pub mod PlainLemmas
-pub mod CanonicalLemmas
 pub mod PresenceLemmas
 pub mod WordLemmas
 mod MagnitudeLemmas

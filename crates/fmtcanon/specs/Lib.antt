@@ -1,7 +1,4 @@
 pub mod Lines
-pub mod Plain
-pub mod Reading
-pub mod Canonicals
 pub mod Words
 pub mod Tasks
 pub mod Outcomes

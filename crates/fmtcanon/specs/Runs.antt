@@ -2,16 +2,15 @@
 use Rattle.std.specs.Prelude.{◌⊎◌, List, codes}
 use Rattle.std.specs.Io.KnownBytes.{Keeps}
 use Rattle.pf_values.specs.declared.counting.Counted.{Counted}
-use Rattle.pf_values.specs.Canonical.{IsCanonicalOf}
 use Rattle.pf_values.specs.Counting.{Known, WritesAll, WritesFirst, device_of}
 use Rattle.pf_values.specs.Refusals.{IsRefusedAt}
 use Rattle.pf_values.specs.Text.{Text}
+use Rattle.pf_canon.specs.Answers.{IsCanonicalFor}
 use Rattle.fmtcanon.specs.declared.outcome.Outcome.{Outcome}
 use Rattle.fmtcanon.specs.declared.outcome.Outcome.TheVariants.{Done, Refused, BadWord, WrongCount, WrongType, Usage, Write, Memory}
 use Rattle.fmtcanon.specs.declared.format_arguments.ArgumentFault.TheVariants as faults
 use Rattle.fmtcanon.specs.FormatArguments.{HindersArguments, IsPrinted}
 use Rattle.fmtcanon.specs.Lines.{line}
-use Rattle.fmtcanon.specs.Plain.{IsRefusedPlainly}
 use Rattle.fmtcanon.specs.Tasks.{Names, NamesWithWords}
 use Rattle.fmtcanon.specs.TypeLines.{HasTypeLines}
 use Rattle.fmtcanon.specs.Words.{IsTaken}
@@ -36,10 +35,10 @@ module _ {W : Type 0} (contents : W → Known) (old new : Counted W) where
 
   -- the canonical string of a format and a newline, or nothing
   abbrev pub LeavesCanonical : Text → Outcome → Type 0
-  LeavesCanonical format (Refused refusal) = IsRefusedPlainly format refusal × KeepsAll
+  LeavesCanonical format (Refused refusal) = IsRefusedAt format refusal.kind refusal.at × KeepsAll
   LeavesCanonical format (Usage text) = ⊥
   LeavesCanonical format Memory = KeepsAll
-  LeavesCanonical format outcome = (canonical : Text) × IsCanonicalOf format canonical × LeavesBytes (line canonical) outcome
+  LeavesCanonical format outcome = (canonical : Text) × IsCanonicalFor format canonical × LeavesBytes (line canonical) outcome
 
   -- what a format prints for the arguments that words give, or nothing
   abbrev pub LeavesPrinted : Text → List Text → Outcome → Type 0

@@ -2,14 +2,11 @@
 #![tactic(auto)]
 
 mod argument_words;
-mod bare;
-mod canonical;
 mod command;
 mod format_arguments;
 mod laws;
 mod outcome;
 mod printing;
-mod reader;
 mod report;
 mod run;
 mod task;

@@ -1,17 +1,16 @@
 //! A run of the program.
 ghost use Rattle.std.specs.Prelude.{◌≡◌, IfOk, IfErr, map};
-ghost use Rattle.pf_values.specs.Canonical.{IsCanonicalOf};
 ghost use Rattle.pf_values.specs.Text.{Text};
-ghost use Rattle.fmtcanon.specs.Canonicals.{IsFaultOf};
+ghost use Rattle.pf_canon.specs.Answers.{Hinders, IsCanonicalFor};
 ghost use Rattle.fmtcanon.specs.Lines.{line};
 ghost use Rattle.fmtcanon.specs.Runs.{Leaves, LeavesBytes, LeavesCanonical, LeavesPrinted, LeavesTypes};
 
-use crate::canonical::{CanonFault, canonical};
 use crate::format_arguments::ArgumentFault;
 use crate::outcome::Outcome;
 use crate::printing::printed;
 use crate::task::{NoTask, Task, task_of};
 use crate::type_lines::type_lines;
+use pf_canon::{CanonFault, canonical};
 use pf_text::TextFault;
 use pf_values::{Counted, write_bytes};
 use std::alloc::Global;
@@ -62,11 +61,13 @@ fn write_canonical<W: Write>(alloc: Global, format: &str, writer: &mut Counted<W
 }
 
 fn canonical_line(alloc: Global, format: &[u8]) -> Result<Vec<u8>, CanonFault>
-    ensures ok { IfOk result (λ out. (c : Text) × IsCanonicalOf format.now c × (out.items ≡ line c)) }
-    ensures err { IfErr result (IsFaultOf format.now) }
+    ensures ok { IfOk result (λ out. (c : Text) × IsCanonicalFor format.now c × (out.items ≡ line c)) }
+    ensures err { IfErr result (Hinders format.now) }
 {
     let mut out = canonical(alloc, format)?;
-    out.push(b'\n')?;
+    if out.push(b'\n').is_err() {
+        return Err(CanonFault::Memory);
+    }
     Ok(out)
 }
 

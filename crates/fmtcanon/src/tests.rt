@@ -1,6 +1,8 @@
 //! Runs of the program, and what it reports.
 
+mod canonicals;
 mod formats;
+mod reductions;
 mod types;
 
 use crate::outcome::Outcome;
@@ -53,6 +55,12 @@ fn canon_writes_the_canonical_string(rt: HostRuntime) {
         ("%i%%d", "%d%%d\n"),
         ("d\n\t%i\\n", "d\n\t%d\\n\n"),
         ("größer als %i", "größer als %d\n"),
+        ("%05u", "%.5u\n"),
+        ("% 11d", "%11d\n"),
+        ("%#o", "0%.0o\n"),
+        ("%-5c%.0s!", "%c    !%.0s\n"),
+        ("%5.0s%.0s", "     %.0s%.0s\n"),
+        ("%5d", "%5d\n"),
     ];
     for (format, want) in rows {
         assert!(rt;
@@ -100,14 +108,38 @@ fn types_answers_as_the_model(rt: HostRuntime) {
 }
 
 #[test]
+fn canon_answers_as_the_model(rt: HostRuntime) {
+    for (format, want) in &canonicals::CANONICALS {
+        assert!(rt;
+            answers(rt.alloc(), ["canon", format].as_slice(), want),
+            "{format}"
+        );
+    }
+    for (format, want) in &canonicals::MORE_CANONICALS {
+        assert!(rt;
+            answers(rt.alloc(), ["canon", format].as_slice(), want),
+            "{format}"
+        );
+    }
+    for (format, want) in &canonicals::REFUSED {
+        assert!(rt;
+            answers(rt.alloc(), ["canon", format].as_slice(), want),
+            "{format}"
+        );
+    }
+}
+
+#[test]
 fn a_refused_format_writes_nothing(rt: HostRuntime) {
     let rows = [
         ("100%", "refused 2 Truncated at byte 4\n"),
         ("%", "refused 2 Truncated at byte 1\n"),
         ("%%%", "refused 2 Truncated at byte 3\n"),
         ("%y", "refused 3 Unexpected at byte 1\n"),
-        ("%5d", "refused 3 Unexpected at byte 1\n"),
-        ("ab%d% d", "refused 3 Unexpected at byte 5\n"),
+        ("%5%", "refused 4 BadPercent at byte 2\n"),
+        ("%4096d", "refused 7 WidthTooLarge at byte 4\n"),
+        ("%#d", "refused 13 AltUndefined at byte 2\n"),
+        ("%lc", "refused 12 Wide at byte 2\n"),
         ("\0", "refused 1 NulByte at byte 0\n"),
         ("ab\0", "refused 1 NulByte at byte 2\n"),
         ("ab%\0y", "refused 1 NulByte at byte 3\n"),

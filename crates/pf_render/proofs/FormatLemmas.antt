@@ -1,18 +1,15 @@
 -- Pieces of a format that are written, one after another.
-use Rattle.std.proofs.Common.{◌≡◌, ℕ, ◌+◌, ◌-◌, ◌*◌, ◌^◌, ◌<◌, ◌≤◌, List, [], ◌∷◌, ◌++◌, length, map, take, drop, refl, sym, ap, ◌∙◌, subst, arith, Some, None, Ok, Err, Option, Result, get_or, append_assoc}
+use Rattle.std.proofs.Common.{◌≡◌, ℕ, ◌+◌, ◌-◌, ◌*◌, ◌^◌, ◌<◌, ◌≤◌, List, [], ◌∷◌, ◌++◌, length, map, take, drop, refl, sym, ap, ◌∙◌, subst, arith, Some, None, Ok, Err, Result, get_or, append_assoc}
 use denote.Ref.{Bor}
 use Rattle.std.proofs.lemmas.List.{append-nil, append_cancel_left, length-append, length-drop, length-map, drop-drop, drop-map, take-map}
 use Rattle.std.proofs.KnownBytes.{Appends-nil, Appends-trans}
 use Rattle.pf_values.specs.declared.arguments.Arg.{Arg}
 use Rattle.pf_values.specs.declared.counting.Counted.{Counted}
-use Rattle.pf_values.specs.declared.limits.TheConstants.{MAX_TEXT_LEN}
-use Rattle.pf_values.specs.declared.types.ArgType.{ArgType}
-use Rattle.pf_values.specs.Arg.{argument_of, type_of}
-use Rattle.pf_values.specs.Arguments.{Argument, HasType, HasTypes}
+use Rattle.pf_values.specs.Arg.{argument_of}
+use Rattle.pf_values.specs.Arguments.{Argument, HasTypes}
 use Rattle.pf_values.specs.Counting.{Known, WritesAll, WritesFirst, device_of}
 use Rattle.pf_values.specs.Items.{Item, Byte, Directive, Reads, types}
-use Rattle.pf_values.specs.Printing.{Prints, PrintsAll, PrintsOnly}
-use Rattle.pf_values.specs.Refusals.{IsRefusedAt}
+use Rattle.pf_values.specs.Printing.{Prints, PrintsAll}
 use Rattle.pf_values.specs.Specification.{Specification}
 use Rattle.pf_values.specs.Text.{Text}
 use Rattle.pf_values.proofs.WriteLemmas.{WritesFirst-more}

@@ -1,9 +1,9 @@
 -- What items print for arguments, part by part.
-use Rattle.std.proofs.Common.{◌≡◌, ℕ, ◌+◌, ◌≤◌, List, [], ◌∷◌, ◌++◌, length, map, take, drop, refl, sym, ap, ◌∙◌, arith, append_assoc}
+use Rattle.std.proofs.Common.{◌≡◌, ◌≤◌, List, [], ◌∷◌, ◌++◌, length, map, take, drop, refl, sym, ap, ◌∙◌, arith, append_assoc}
 use Rattle.pf_values.specs.declared.types.ArgType.{ArgType}
-use Rattle.pf_values.specs.Arguments.{Argument, HasType, HasTypes}
+use Rattle.pf_values.specs.Arguments.{Argument, HasTypes}
 use Rattle.pf_values.specs.Items.{Item, Byte, Directive, types}
-use Rattle.pf_values.specs.Printing.{Prints, PrintsAll}
+use Rattle.pf_values.specs.Printing.{PrintsAll}
 use Rattle.pf_values.specs.Text.{Text}
 use Rattle.pf_values.proofs.PrintsOnce.{Prints-unique, printed, printed-is}
 

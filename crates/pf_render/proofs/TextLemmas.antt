@@ -1,13 +1,11 @@
 -- What is written of bytes and strings is what is printed of them.
-use Rattle.std.proofs.Common.{◌≡◌, ℕ, false, [], ◌∷◌, ◌++◌, min, length, take, refl, ap, subst, sym, ℤ, pos, Some}
-use Rattle.std.proofs.lemmas.List.{take_all}
+use Rattle.std.proofs.Common.{◌≡◌, ℕ, false, [], ◌∷◌, refl, subst, sym, ℤ, pos}
 use Rattle.pf_values.specs.declared.arguments.Arg.{Arg}
 use Rattle.pf_values.specs.declared.arguments.Arg.TheVariants as variants
 use Rattle.pf_values.specs.declared.arguments.CBytes.{CBytes}
-use Rattle.pf_values.specs.declared.conversions.Conv.{Conv}
 use Rattle.pf_values.specs.declared.conversions.Conv.TheVariants.{C, S}
 use Rattle.pf_values.specs.Arg.{argument_of}
-use Rattle.pf_values.specs.Arguments.{Argument, Number, String, IsConverted}
+use Rattle.pf_values.specs.Arguments.{Number, String, IsConverted}
 use Rattle.pf_values.specs.DataModel.{B8, bit_count}
 use Rattle.pf_values.specs.Printing.{Prints, PrintsUnder, field, shown}
 use Rattle.pf_values.specs.Specification.{Specification}

@@ -2,7 +2,7 @@
 use Rattle.std.proofs.Common.{◌≡◌, List, [], ◌∷◌, ◌++◌, refl, sym, ap, ◌∙◌}
 use Rattle.std.proofs.lemmas.List.{append_assoc}
 use Rattle.pf_values.specs.declared.types.ArgType.{ArgType}
-use Rattle.pf_values.specs.Arguments.{Argument, HasType, HasTypes}
+use Rattle.pf_values.specs.Arguments.{Argument, HasTypes}
 use Rattle.pf_values.specs.DataModel.{arg_type}
 use Rattle.pf_values.specs.Items.{Item, Byte, Directive, Reads, types}
 use Rattle.pf_values.specs.Printing.{AreEquivalent, PrintsAll}

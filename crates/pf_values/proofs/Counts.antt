@@ -2,7 +2,7 @@
 use Rattle.std.proofs.Common.{◌≡◌, ℕ, suc, ◌-◌, ◌^◌, ◌<◌, ◌≤◌, true, false, arith, ℤ, pos, negsuc}
 use Rattle.std.specs.Prelude.{nat_abs}
 use Rattle.std.proofs.lemmas.Int.{ints}
-use Rattle.std.proofs.lemmas.Int.Digits.{length-digits_of-le}
+use Rattle.std.proofs.lemmas.Int.Digits.{length-digits_of-le, length-digits_of_step}
 use Rattle.pf_values.specs.declared.conversions.Conv.{Conv}
 use Rattle.pf_values.specs.declared.conversions.Conv.TheVariants.{D, I, U, O, X, UpperX, C, S}
 use Rattle.pf_values.specs.Conversions.{base_of, is_signed, is_text}
@@ -55,3 +55,7 @@ count-le X bits h = most_x bits
 count-le UpperX bits h = most_x bits
 count-le C bits h = cc
 count-le S bits h = cc
+
+-- a number other than 0 has a digit
+pub count-ge : (base n : ℕ) → 2 ≤ base → 1 ≤ n → 1 ≤ count_of base n
+count-ge base n b h = omega (arith, length-digits_of_step base n b h)

@@ -85,11 +85,10 @@ fn one_string(rt: HostRuntime) -> Result<(), Fail> {
     else {
         panic!(rt; "no directive or no string");
     };
+    let argument = Arg::Str(string);
+    assert!(rt; argument.arg_type() == directive.arg_type());
     let mut writer = Counted::new(Vec::new(rt.alloc()));
-    assert_eq!(rt;
-        render_one(&directive, Arg::Str(string), &mut writer),
-        Ok(())
-    );
+    assert_eq!(rt; render_one(&directive, argument, &mut writer), Ok(()));
     assert!(rt; writer.into_inner().as_slice() == b"\xe6\xbc  ".as_slice());
     Ok(())
 }

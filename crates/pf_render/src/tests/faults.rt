@@ -57,14 +57,14 @@ fn string() -> Arg<'static> {
 
 #[test]
 fn refusals_come_first(rt: HostRuntime) -> Result<(), Fail> {
-    let none: [Arg<'static>; 0] = [];
-    let found = fault_of(rt.alloc(), b"%5%", &[Arg::Int(1)])?;
+    let one = Arg::Int(1);
+    let found = fault_of(rt.alloc(), b"%5%", &[one])?;
     assert_eq!(rt; found, refused(RefusalKind::BadPercent, 2));
-    let found = fault_of(rt.alloc(), b"a%d%s%", &none)?;
+    let found = fault_of(rt.alloc(), b"a%d%s%", &[])?;
     assert_eq!(rt; found, refused(RefusalKind::Truncated, 6));
     let found = fault_of(rt.alloc(), b"%d%d%y", &[string(), string(), string()])?;
     assert_eq!(rt; found, refused(RefusalKind::Unexpected, 5));
-    let found = fault_of(rt.alloc(), b"%d\0", &[Arg::Int(1)])?;
+    let found = fault_of(rt.alloc(), b"%d\0", &[one])?;
     assert_eq!(rt; found, refused(RefusalKind::NulByte, 2));
     Ok(())
 }

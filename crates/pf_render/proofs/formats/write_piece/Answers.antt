@@ -1,4 +1,4 @@
-use Rattle.std.proofs.Common.{refl, ap, map}
+use Rattle.std.proofs.Common.{ap, map}
 use Rattle.pf_values.specs.Arg.{argument_of}
 use Rattle.pf_text.specs.PieceHistory.{items_of}
 use Rattle.pf_render.proofs.FormatLemmas.{directive_printed, percent_printed, run_printed}

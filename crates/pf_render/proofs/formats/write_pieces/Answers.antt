@@ -1,4 +1,4 @@
-use Rattle.std.proofs.Common.{◌+◌, ◌≤◌, arith, refl, rules}
+use Rattle.std.proofs.Common.{arith, refl, rules}
 use Rattle.pf_render.proofs.FormatLemmas.{all_written, counts, no_refusal, own_typed, piece_stopped, piece_written, under_way, within}
 use Rattle.pf_render.proofs.formats.write_pieces.Goals as goal
 

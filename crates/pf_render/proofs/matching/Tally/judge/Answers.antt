@@ -1,4 +1,4 @@
-use Rattle.std.proofs.Common.{◌∙◌, sym}
+use Rattle.std.proofs.Common.{◌∙◌}
 use Rattle.pf_render.proofs.MatchingLemmas.{all_matched, wrong_type}
 use Rattle.pf_render.proofs.matching.Tally.judge.Goals as goal
 

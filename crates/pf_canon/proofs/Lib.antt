@@ -1,0 +1,9 @@
+pub mod CanonicalItems
+pub mod Printing
+pub mod SilentLemmas
+pub mod MakingLemmas
+pub mod DirectiveLemmas
+pub mod PieceLemmas
+pub mod BuildingLemmas
+pub mod MatchingLemmas
+pub mod EquivalentTexts

@@ -1,0 +1,8 @@
+mod Paddings
+mod SignLemmas
+mod Carried
+mod CarriedIntegers
+mod Precisions
+mod PlainNumbers
+mod PrefixedNumbers
+mod SignedNumbers

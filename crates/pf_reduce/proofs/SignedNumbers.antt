@@ -1,0 +1,183 @@
+-- Numbers with a sign.
+use Rattle.std.proofs.Common.{◌≡◌, ◌≢◌, ℕ, zero, suc, ◌+◌, ◌-◌, ◌≤◌, max, Bool, true, false, [], ◌++◌, length, refl, sym, ap, ◌∙◌, arith, inl, inr, ℤ, pos, negsuc}
+use Rattle.std.specs.Prelude.{None, codes, nat_abs, ◌⊎◌, if◌then◌else◌}
+use Rattle.std.proofs.lemmas.List.{length-append}
+use Rattle.pf_values.specs.declared.conversions.Conv.{Conv}
+use Rattle.pf_values.specs.declared.conversions.Conv.TheVariants.{D, I, U, O, X, UpperX, C, S}
+use Rattle.pf_values.specs.declared.flags.Flag.TheVariants.{Alt, Minus, Plus, Space, Zero}
+use Rattle.pf_values.specs.declared.flags.FlagSet.{FlagSet}
+use Rattle.pf_values.specs.declared.limits.TheConstants.{MAX_NUMBER}
+use Rattle.pf_values.specs.Conversions.{base_of, is_octal, is_signed, is_text, is_upper}
+use Rattle.pf_values.specs.DataModel.{bits_under}
+use Rattle.pf_values.specs.Flags.{has, no_flags, with_flag}
+use Rattle.pf_values.specs.Normal.{digits_at_most}
+use Rattle.pf_values.specs.Printing.{is_negative, is_zero_filled, sign, sign_or_prefix, sign_or_prefix_under}
+use Rattle.pf_values.specs.Specification.{Specification, width_of}
+use Rattle.pf_values.specs.Text.{Text}
+use Rattle.pf_values.proofs.Counts.{count-ge, count-le}
+use Rattle.pf_values.proofs.NumberTexts.{number_text}
+use Rattle.pf_values.proofs.Printed.{count_of, natural_of, zero_digits}
+use Rattle.pf_values.proofs.PrintsOnce.{value_text}
+use Rattle.pf_reduce.specs.declared.padding.Padding.{Padding}
+use Rattle.pf_reduce.specs.declared.signs.Sign.{Sign}
+use Rattle.pf_reduce.specs.declared.signs.Sign.TheVariants as signs
+use Rattle.pf_reduce.specs.Made.{kept_conv, made, made_core, sided, written}
+use Rattle.pf_reduce.specs.Numbers.{effective_precision}
+use Rattle.pf_reduce.specs.Padded.{IsUnseen, constants, padded, padding_of}
+use Rattle.pf_reduce.specs.Reducing.{IsNormalCore, IsReducedTo}
+use Rattle.pf_reduce.specs.Signs.{sign_flags, sign_length, sign_of, sign_text}
+use Rattle.pf_reduce.proofs.CarriedIntegers.{integer_reduced, width_is}
+use Rattle.pf_reduce.proofs.PlainNumbers.{digits_text, length-digits_text, natural_is}
+use Rattle.pf_reduce.proofs.Precisions.{PrintsLike, core_text, effective, filled_right, same_filled}
+
+-- a sign, and the digits
+abbrev pub signed_text : Sign → ℕ → ℤ → Text
+signed_text sign precision v = sign_text sign (is_negative v) ++ digits_text D precision (nat_abs v)
+
+record IsLikeD (conv : Conv) : Type 0 where
+  pub octal : is_octal conv ≡ false
+  pub text : is_text conv ≡ false
+  pub base : base_of conv ≡ 10
+  pub upper : is_upper conv ≡ false
+  pub kept : kept_conv conv ≡ D
+  pub sign_is : (s : Specification) (v : ℤ) → sign_or_prefix_under conv s v ≡ sign s v
+
+like_d : (conv : Conv) → is_signed conv ≡ true → IsLikeD conv
+like_d D e = record { octal = refl; text = refl; base = refl; upper = refl; kept = refl; sign_is = λ s v. refl }
+like_d I e = record { octal = refl; text = refl; base = refl; upper = refl; kept = refl; sign_is = λ s v. refl }
+like_d U e = cc
+like_d O e = cc
+like_d X e = cc
+like_d UpperX e = cc
+like_d C e = cc
+like_d S e = cc
+
+sign_under : (negative plus spaced : Bool) → (if negative then codes "-" else (if plus then codes "+" else (if spaced then codes " " else [])))
+    ≡ sign_text (if plus then signs.Plus else (if spaced then signs.Space else signs.None)) negative
+sign_under true true spaced = refl
+sign_under true false true = refl
+sign_under true false false = refl
+sign_under false true spaced = refl
+sign_under false false true = refl
+sign_under false false false = refl
+
+sign-is : (s : Specification) (v : ℤ) → sign s v ≡ sign_text (sign_of s.flags) (is_negative v)
+sign-is s v = sign_under (is_negative v) (has s.flags Plus) (has s.flags Space)
+
+number_text-signed : (s : Specification) (precision : ℕ) (v : ℤ) → is_signed s.conv ≡ true → number_text s precision v ≡ signed_text (sign_of s.flags) precision v
+number_text-signed s precision v signed =
+    let d = like_d s.conv signed in
+    let natural = natural_is s.conv (has s.flags Alt) (nat_abs v) (rw d.octal refl) in
+    let digits : zero_digits (base_of s.conv) (is_upper s.conv) (precision - count_of (base_of s.conv) (nat_abs v)) (nat_abs v) ≡ digits_text D precision (nat_abs v) = rw (d.base, d.upper) refl in
+    ap (λ k. sign_or_prefix s v ++ zero_digits (base_of s.conv) (is_upper s.conv) k (nat_abs v)) (omega arith)
+    ∙ ap (λ t. sign_or_prefix s v ++ t) digits
+    ∙ ap (λ t. t ++ digits_text D precision (nat_abs v)) (d.sign_is s v ∙ sign-is s v)
+
+sign_some : (sign : Sign) (negative : Bool) → 1 ≤ sign_length sign → length (sign_text sign negative) ≡ sign_length sign
+sign_some signs.None negative h = absurd (omega arith)
+sign_some signs.Plus true h = refl
+sign_some signs.Plus false h = refl
+sign_some signs.Space true h = refl
+sign_some signs.Space false h = refl
+
+-- each number has the sign's length, or the field has no room for zeros
+zeros_by_precision : (s : Specification) (v : ℤ) → is_signed s.conv ≡ true → (1 ≤ sign_length (sign_of s.flags)) ⊎ (width_of s ≤ 1) → (length (sign_or_prefix s v) ≡ sign_length (sign_of s.flags)) ⊎ (width_of s ≤ 1)
+zeros_by_precision s v signed (inl some) =
+    inl (ap length ((like_d s.conv signed).sign_is s v ∙ sign-is s v) ∙ sign_some (sign_of s.flags) (is_negative v) some)
+zeros_by_precision s v signed (inr narrow) = inr narrow
+
+signed_value : (s : Specification) (v : ℤ) → is_signed s.conv ≡ true → (is_zero_filled s ≡ true → (1 ≤ sign_length (sign_of s.flags)) ⊎ (width_of s ≤ 1)) → value_text s v ≡ signed_text (sign_of s.flags) (effective_precision s (sign_length (sign_of s.flags))) v
+signed_value s v signed h = effective s v _ (λ filled. zeros_by_precision s v signed (h filled)) ∙ number_text-signed s _ v signed
+
+sign_kept : (left : Bool) (sign : Sign) → sign_of (sided left (sign_flags sign)) ≡ sign
+sign_kept true signs.None = refl
+sign_kept true signs.Plus = refl
+sign_kept true signs.Space = refl
+sign_kept false signs.None = refl
+sign_kept false signs.Plus = refl
+sign_kept false signs.Space = refl
+
+no_other_flag : (sign : Sign) → (has (sign_flags sign) Zero ≡ false) × (has (sign_flags sign) Minus ≡ false)
+no_other_flag signs.None = (refl, refl)
+no_other_flag signs.Plus = (refl, refl)
+no_other_flag signs.Space = (refl, refl)
+
+no_sign : (sign : Sign) → sign_length sign ≡ 0 → sign ≡ signs.None
+no_sign signs.None h = refl
+no_sign signs.Plus h = absurd (omega arith)
+no_sign signs.Space h = absurd (omega arith)
+
+module _ (s : Specification) (signed : is_signed s.conv ≡ true) where
+  pub signed_reduced : (p : Padding) (sign : Sign) (precision : ℕ) → (is_zero_filled s ≡ true → (1 ≤ sign_length (sign_of s.flags)) ⊎ (width_of s ≤ 1)) → precision ≡ effective_precision s (sign_length (sign_of s.flags))
+      → IsNormalCore (made s p (sign_flags sign) (written precision)).core → constants p ≤ MAX_NUMBER
+      → ((v : ℤ) → count_of 10 (nat_abs v) ≤ digits_at_most s → padded (padding_of s) (signed_text (sign_of s.flags) precision v) ≡ padded p (signed_text sign precision v))
+      → IsReducedTo s (made s p (sign_flags sign) (written precision))
+  signed_reduced p sign precision narrow p_is normal few same =
+      let t : Specification = made_core s p (sign_flags sign) (written precision) in
+      let d = like_d s.conv signed in
+      let flags = no_other_flag sign in
+      integer_reduced s p (sign_flags sign) (written precision) d.text flags.1 normal few (λ v fits.
+      let core : value_text t v ≡ signed_text sign precision v =
+      core_text s p (sign_flags sign) precision v flags.0 ∙ number_text-signed t precision v (rw d.kept refl) ∙ ap (λ u. signed_text u precision v) (sign_kept p.left sign) in
+      let count : count_of 10 (nat_abs v) ≤ digits_at_most s = rw (← d.base) (count-le s.conv (bits_under s.length) d.text v fits) in
+      ap (padded (padding_of s)) (signed_value s v signed narrow ∙ ap (λ k. signed_text (sign_of s.flags) k v) (sym p_is)) ∙ same v count ∙ ap (padded p) (sym core))
+
+  -- zeros up to the width, which stay
+  pub signed_filled : is_zero_filled s ≡ true → sign_length (sign_of s.flags) ≡ 0 → (let flags = with_flag no_flags Zero in IsNormalCore (made s (padding_of s) flags None).core → IsReducedTo s (made s (padding_of s) flags None))
+  signed_filled all none normal =
+      let flags : FlagSet = with_flag no_flags Zero in
+      let t : Specification = made_core s (padding_of s) flags None in
+      let right = filled_right s all in
+      let d = like_d s.conv signed in
+      integer_reduced s (padding_of s) flags None d.text refl normal (omega arith) (λ v fits.
+      let front : sign_or_prefix t v ≡ sign_or_prefix s v =
+      ap (λ conv. sign_or_prefix_under conv t v) d.kept ∙ sign-is t v ∙ ap (λ u. sign_text u (is_negative v)) (rw right refl ∙ sym (no_sign (sign_of s.flags) none)) ∙ sym (d.sign_is s v ∙ sign-is s v) in
+      let natural : natural_of t (nat_abs v) ≡ natural_of s (nat_abs v) =
+      rw d.kept refl ∙ sym (natural_is s.conv (has s.flags Alt) (nat_abs v) (rw d.octal refl) ∙ ap (λ base. count_of base (nat_abs v)) d.base) in
+      let like : PrintsLike s t v = record { base = rw d.kept (sym d.base); upper = rw d.kept (sym d.upper); natural = natural; front = front } in
+      ap (padded (padding_of s)) (sym (same_filled s t v like (width_is (width_of s)) all (rw right refl))))
+
+sign_lengths : (sign : Sign) (negative : Bool) → (sign_length sign ≤ length (sign_text sign negative)) × (length (sign_text sign negative) ≤ 1)
+sign_lengths signs.None true = (omega arith, omega arith)
+sign_lengths signs.Plus true = (omega arith, omega arith)
+sign_lengths signs.Space true = (omega arith, omega arith)
+sign_lengths signs.None false = (omega arith, omega arith)
+sign_lengths signs.Plus false = (omega arith, omega arith)
+sign_lengths signs.Space false = (omega arith, omega arith)
+
+-- how long a signed number is
+pub signed_least : (sign : Sign) (precision : ℕ) (v : ℤ) → sign_length sign + precision ≤ length (signed_text sign precision v)
+signed_least sign precision v =
+    let whole = length-append (sign_text sign (is_negative v)) (digits_text D precision (nat_abs v)) in
+    let len = length-digits_text D precision (nat_abs v) in
+    let sizes = sign_lengths sign (is_negative v) in
+    omega (arith, sizes.0)
+
+pub signed_most : (sign : Sign) (precision digits : ℕ) (v : ℤ) → count_of 10 (nat_abs v) ≤ digits → length (signed_text sign precision v) ≤ 1 + max precision digits
+signed_most sign precision digits v h =
+    let whole = length-append (sign_text sign (is_negative v)) (digits_text D precision (nat_abs v)) in
+    let len = length-digits_text D precision (nat_abs v) in
+    let sizes = sign_lengths sign (is_negative v) in
+    omega (arith, sizes.1)
+
+longer : (sign : Sign) (v : ℤ) → 1 ≤ nat_abs v → sign_length sign + 1 ≤ length (signed_text sign 0 v)
+longer sign v h =
+    let some = count-ge 10 (nat_abs v) (omega arith) h in
+    let whole = length-append (sign_text sign (is_negative v)) (digits_text D 0 (nat_abs v)) in
+    let len = length-digits_text D 0 (nat_abs v) in
+    let sizes = sign_lengths sign (is_negative v) in
+    omega (arith, sizes.0)
+
+-- with precision 0 the side isn't seen, unless there is a `+`, up to a width of one byte beside the sign
+unseen_at_0 : (sign : Sign) (w : ℕ) (v : ℤ) → sign ≢ signs.Plus → w ≤ sign_length sign + 1 → IsUnseen w (signed_text sign 0 v)
+unseen_at_0 signs.None w (pos zero) e h = inr refl
+unseen_at_0 signs.Space w (pos zero) e h = inr refl
+unseen_at_0 signs.Plus w (pos zero) e h = absurd (e refl)
+unseen_at_0 sign w (pos (suc k)) e h = let some = longer sign (pos (suc k)) (omega arith) in inl (omega arith)
+unseen_at_0 sign w (negsuc k) e h = let some = longer sign (negsuc k) (omega arith) in inl (omega arith)
+
+pub unseen_signed_side : (sign : Sign) (w most precision : ℕ) (v : ℤ) → (sign ≡ signs.Plus → most ≡ 0) → (sign ≢ signs.Plus → precision ≡ 0 → most ≡ sign_length sign + 1) → (1 ≤ precision → most ≡ 0) → w ≤ most → IsUnseen w (signed_text sign precision v)
+unseen_signed_side signs.Plus w most precision v plus none some h = let m = plus refl in inl (omega arith)
+unseen_signed_side sign w most (suc precision) v plus none some h = let m = some (omega arith) in inl (omega arith)
+unseen_signed_side signs.None w most zero v plus none some h = unseen_at_0 signs.None w v (λ e. cc) (omega (arith, none (λ e. cc) refl))
+unseen_signed_side signs.Space w most zero v plus none some h = unseen_at_0 signs.Space w v (λ e. cc) (omega (arith, none (λ e. cc) refl))

@@ -1,0 +1,48 @@
+use Rattle.std.proofs.Common.{◌≡◌, ◌+◌, ◌-◌, max, false, refl, arith, ap, sym, ◌∙◌}
+use Rattle.std.specs.Prelude.{nat_abs}
+use Rattle.pf_values.specs.Conversions.{is_signed, is_text}
+use Rattle.pf_values.specs.Flags.{no_flags, with_flag}
+use Rattle.pf_values.specs.declared.flags.Flag.TheVariants.{Alt}
+use Rattle.pf_values.specs.Normal.{digits_at_most}
+use Rattle.pf_reduce.specs.Numbers.{effective_precision}
+use Rattle.pf_reduce.specs.Padded.{padded, padding_of}
+use Rattle.pf_reduce.proofs.PlainNumbers.{digits_reduced, length-octal_text, octal_count, octal_reduced, octal_split, octal_text, octal_value, one_or_none}
+use Rattle.pf_reduce.proofs.integers.reduce_octal.Goals as goal
+
+pub returns-then-has_spaces_before : goal.returns-then-has_spaces_before
+returns-then-has_spaces_before c =
+    let s = c.args.directive.now in
+    let p = c.max-precision.result in
+    let p_is : p ≡ max (effective_precision s 0) 1 = c.max-precision.ensures ∙ ap (λ k. max k 1) c.effective_precision.ensures.value in
+    let flags : c.with-alt.result ≡ with_flag no_flags Alt = c.with-alt.ensures ∙ ap (λ f. with_flag f Alt) c.empty.ensures in
+    let e = c.requires.octal in
+    rw (c.within.ensures.value, c.written.ensures, flags) (octal_reduced s c.without_idle_width-padding.result p e c.requires.alt (rw (c.within.ensures.value, c.written.ensures, flags) at c.within.ensures.normal) (omega (arith, c.of.ensures.limit, c.cut.ensures.constant, c.without_idle_width-padding.ensures.constant)) (λ v count.
+    let body = octal_text p (nat_abs v) in
+    let len = length-octal_text p (nat_abs v) in
+    ap (padded (padding_of s)) (octal_value s v e c.requires.alt ∙ ap (λ k. octal_text k (nat_abs v)) (sym p_is))
+    ∙ ap (λ q. padded q body) (sym c.of.ensures.value)
+    ∙ c.cut.ensures.same body (omega (arith, c.max.ensures, c.max_digits-digits.ensures.value))
+    ∙ c.without_idle_width-padding.ensures.same body (omega arith)))
+
+pub returns : goal.returns
+returns c =
+    let s = c.args.directive.now in
+    let e = c.requires.octal in
+    let text : is_text s.conv ≡ false = rw e refl in
+    let signed : is_signed s.conv ≡ false = rw e refl in
+    let p = c.max-precision.result in
+    let p_is : p ≡ max (effective_precision s 0) 1 = c.max-precision.ensures ∙ ap (λ k. max k 1) c.effective_precision.ensures.value in
+    let z = 1 + c.saturating_sub-zeros.result in
+    let z_is : z ≡ 1 + (p - 1 - digits_at_most s) = omega (arith, c.saturating_sub-zeros.ensures, c.max_digits-digits.ensures.value) in
+    rw c.plain_core.ensures.value (digits_reduced s c.right_up_to-padding.result (p - z) text signed (rw c.plain_core.ensures.value at c.plain_core.ensures.normal) (omega (arith, c.of.ensures.limit, c.cut.ensures.constant, c.max.ensures, c.without_idle_width-padding.ensures.constant, c.past_zeros.ensures.constant, c.right_up_to-padding.ensures.constant, c.effective_precision.ensures.limit, c.max-precision.ensures, z_is)) (λ v count.
+    let n = nat_abs v in
+    let few = octal_count s e n count in
+    let body = octal_text p n in
+    let len = length-octal_text p n in
+    ap (padded (padding_of s)) (octal_value s v e c.requires.alt ∙ ap (λ k. octal_text k n) (sym p_is))
+    ∙ ap (λ q. padded q body) (sym c.of.ensures.value)
+    ∙ c.cut.ensures.same body (omega (arith, c.max.ensures, c.max_digits-digits.ensures.value))
+    ∙ c.without_idle_width-padding.ensures.same body (omega arith)
+    ∙ ap (padded c.without_idle_width-padding.result) (octal_split s.conv e p (digits_at_most s) z n (omega arith) z_is few)
+    ∙ c.past_zeros.ensures.same _
+    ∙ c.right_up_to-padding.ensures.same _ (one_or_none _ _)))

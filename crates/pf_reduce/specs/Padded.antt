@@ -1,0 +1,23 @@
+-- Texts in a field, within constant padding.
+use Rattle.std.specs.Prelude.{◌≡◌, ℕ, ◌+◌, ◌≤◌, ◌++◌, ◌⊎◌, length, replicate}
+use Rattle.pf_values.specs.declared.flags.Flag.TheVariants.{Minus}
+use Rattle.pf_values.specs.Flags.{has}
+use Rattle.pf_values.specs.Printing.{field_of}
+use Rattle.pf_values.specs.Specification.{Specification, width_of}
+use Rattle.pf_values.specs.Text.{Text, space, zero_digit}
+use Rattle.pf_reduce.specs.declared.padding.Padding.{Padding}
+
+abbrev pub padded : Padding → Text → Text
+padded p body = replicate p.spaces space ++ (replicate p.zeros zero_digit ++ (field_of p.left p.width body ++ replicate p.trail space))
+
+-- the field of a directive
+abbrev pub padding_of : Specification → Padding
+padding_of s = record { spaces = 0; zeros = 0; width = width_of s; left = has s.flags Minus; trail = 0 }
+
+-- how many bytes are constant
+abbrev pub constants : Padding → ℕ
+constants p = p.spaces + (p.zeros + p.trail)
+
+-- the side of a field isn't seen: the width is reached, or only spaces are printed
+abbrev pub IsUnseen : ℕ → Text → Type 0
+IsUnseen width body = (width ≤ length body) ⊎ (body ≡ replicate (length body) space)

@@ -1,0 +1,30 @@
+-- The sign of a number.
+use Rattle.std.specs.Prelude.{if◌then◌else◌, Bool, true, false, ℕ, [], codes}
+use Rattle.pf_values.specs.declared.flags.Flag.TheVariants.{Plus, Space}
+use Rattle.pf_values.specs.declared.flags.FlagSet.{FlagSet}
+use Rattle.pf_values.specs.Flags.{has, no_flags, with_flag}
+use Rattle.pf_values.specs.Text.{Text}
+use Rattle.pf_reduce.specs.declared.signs.Sign.{Sign}
+use Rattle.pf_reduce.specs.declared.signs.Sign.TheVariants as signs
+
+-- what the flags ask for
+abbrev pub sign_of : FlagSet → Sign
+sign_of flags = if has flags Plus then signs.Plus else (if has flags Space then signs.Space else signs.None)
+
+-- the one flag that asks for it
+abbrev pub sign_flags : Sign → FlagSet
+sign_flags signs.None = no_flags
+sign_flags signs.Plus = with_flag no_flags Plus
+sign_flags signs.Space = with_flag no_flags Space
+
+abbrev pub sign_length : Sign → ℕ
+sign_length signs.None = 0
+sign_length signs.Plus = 1
+sign_length signs.Space = 1
+
+-- what stands before a number that is negative, or is not
+abbrev pub sign_text : Sign → Bool → Text
+sign_text sign true = codes "-"
+sign_text signs.None false = []
+sign_text signs.Plus false = codes "+"
+sign_text signs.Space false = codes " "

@@ -1,0 +1,193 @@
+//! Integers.
+ghost use Rattle.std.specs.Prelude.{◌≡◌, ◌≢◌, ◌≤◌, ◌<◌, ◌+◌, max, ◌++◌, ◌⊎◌, Bool, false, true, IsTrue, length};
+ghost use Rattle.pf_values.specs.declared.conversions.Conv.TheVariants.{O};
+ghost use Rattle.pf_values.specs.declared.flags.Flag.TheVariants.{Alt};
+ghost use Rattle.pf_values.specs.declared.limits.TheConstants.{MAX_NUMBER};
+ghost use Rattle.pf_values.specs.Conversions.{base_of, is_signed, is_text};
+ghost use Rattle.pf_values.specs.Flags.{has, no_flags, with_flag};
+ghost use Rattle.pf_values.specs.Normal.{digits_at_most};
+ghost use Rattle.pf_values.specs.Printing.{is_zero_filled};
+ghost use Rattle.pf_values.specs.Specification.{width_of};
+ghost use Rattle.pf_values.specs.Text.{Text};
+ghost use Rattle.pf_reduce.specs.declared.signs.Sign.TheVariants as signs;
+ghost use Rattle.pf_reduce.specs.Made.{made, written};
+ghost use Rattle.pf_reduce.specs.Padded.{padded};
+ghost use Rattle.pf_reduce.specs.Reducing.{IsNormalCore, IsReducedTo};
+ghost use Rattle.pf_reduce.specs.Signs.{sign_flags, sign_length, sign_text};
+
+use crate::making::{within, written};
+use crate::numbers::{effective_precision, is_zero_filled, max_digits, width};
+use crate::padding::Padding;
+use crate::results::Reduced;
+use crate::signs::Sign;
+use pf_values::{Directive, Flag, FlagSet};
+
+/// `u`, and `o x X` without `#`: digits alone.
+pub(crate) fn reduce_plain(directive: &Directive) -> Reduced
+    requires text { is_text directive.now.conv ≡ false }
+    requires sign { is_signed directive.now.conv ≡ false }
+    requires alt { has directive.now.flags Alt ≡ false }
+    ensures { IsReducedTo directive.now result }
+{
+    let digits = max_digits(directive);
+    let precision = effective_precision(directive, 0);
+    let zeros = precision.saturating_sub(digits);
+    let padding = Padding::of(directive)
+        .cut(precision.max(digits))
+        .without_idle_width(precision)
+        .past_zeros(zeros)
+        .right_up_to(1);
+    plain_core(padding, directive, precision - zeros)
+}
+
+/// `o` with `#`: digits that begin with 0.
+pub(crate) fn reduce_octal(directive: &Directive) -> Reduced
+    requires octal { directive.now.conv ≡ O }
+    requires alt { has directive.now.flags Alt ≡ true }
+    ensures { IsReducedTo directive.now result }
+{
+    let digits = max_digits(directive);
+    let precision = effective_precision(directive, 0).max(1);
+    let padding = Padding::of(directive)
+        .cut(precision.max(digits + 1))
+        .without_idle_width(precision);
+    if padding.has_spaces_before() {
+        // they come before the first 0, which the core has to print
+        let alt = FlagSet::empty().with(Flag::Alt);
+        return within(padding, directive, alt, written(precision));
+    }
+    let zeros = 1 + (precision - 1).saturating_sub(digits);
+    let padding = padding.past_zeros(zeros).right_up_to(1);
+    plain_core(padding, directive, precision - zeros)
+}
+
+/// `x X` with `#`: digits after `0x` or `0X`.
+pub(crate) fn reduce_prefixed(directive: &Directive) -> Reduced
+    requires base { base_of directive.now.conv ≡ 16 }
+    requires alt { has directive.now.flags Alt ≡ true }
+    ensures { IsReducedTo directive.now result }
+{
+    if keeps_zeros(directive, 0) {
+        let flags = FlagSet::empty().with(Flag::Alt).with(Flag::Zero);
+        return within(Padding::of(directive), directive, flags, None);
+    }
+    let precision = effective_precision(directive, 0);
+    let padding = Padding::of(directive)
+        .cut(2 + precision.max(max_digits(directive)))
+        .without_idle_width(precision)
+        .right_up_to(unseen_width(precision, 3));
+    prefixed_core(padding, directive, precision)
+}
+
+/// `d i`: digits after a sign.
+pub(crate) fn reduce_signed(directive: &Directive) -> Reduced
+    requires { is_signed directive.now.conv ≡ true }
+    ensures { IsReducedTo directive.now result }
+{
+    let sign = Sign::of(directive.flags());
+    if keeps_zeros(directive, sign.len()) {
+        let flags = FlagSet::empty().with(Flag::Zero);
+        return within(Padding::of(directive), directive, flags, None);
+    }
+    let digits = max_digits(directive);
+    let precision = effective_precision(directive, sign.len());
+    let padding = Padding::of(directive)
+        .cut(1 + precision.max(digits))
+        .without_idle_width(sign.len() + precision);
+    let sign = sign_in_field(sign, padding, precision, digits);
+    let padding = padding
+        .without_idle_width(sign.len() + precision)
+        .right_up_to(unseen_signed_width(precision, sign));
+    signed_core(padding, directive, sign, precision)
+}
+
+// Digits alone.
+fn plain_core(padding: Padding, directive: &Directive, precision: u16) -> Reduced
+    requires text { is_text directive.now.conv ≡ false }
+    requires sign { is_signed directive.now.conv ≡ false }
+    requires few { precision ≤ digits_at_most directive.now }
+    requires room { 0 < padding.width → (precision < padding.width) × (padding.width ≤ digits_at_most directive.now) }
+    requires wide { IsTrue padding.left → 1 < padding.width }
+    ensures value { result ≡ made directive.now padding no_flags (written precision) }
+    ensures normal { IsNormalCore result.core }
+{
+    within(padding, directive, FlagSet::empty(), written(precision))
+}
+
+// Digits after a prefix, not filled with zeros.
+fn prefixed_core(padding: Padding, directive: &Directive, precision: u16) -> Reduced
+    requires base { base_of directive.now.conv ≡ 16 }
+    requires limit { (padding.width ≤ MAX_NUMBER) × (precision ≤ MAX_NUMBER) }
+    requires least { 0 < padding.width → precision < padding.width }
+    requires most { padding.width ≤ 2 + max precision (digits_at_most directive.now) }
+    requires left { padding.left ≡ true → (0 < padding.width) × (precision ≡ 0 → 3 < padding.width) }
+    ensures value { result ≡ made directive.now padding (with_flag no_flags Alt) (written precision) }
+    ensures normal { IsNormalCore result.core }
+{
+    let alt = FlagSet::empty().with(Flag::Alt);
+    within(padding, directive, alt, written(precision))
+}
+
+// Digits after a sign, not filled with zeros.
+fn signed_core(padding: Padding, directive: &Directive, sign: Sign, precision: u16) -> Reduced
+    requires signed { is_signed directive.now.conv ≡ true }
+    requires limit { (padding.width ≤ MAX_NUMBER) × (precision ≤ MAX_NUMBER) }
+    requires least { 0 < padding.width → sign_length sign + precision < padding.width }
+    requires most { padding.width ≤ 1 + max precision (digits_at_most directive.now) }
+    requires space { padding.left ≡ false → sign ≡ signs.Space → padding.width ≢ 1 + max precision (digits_at_most directive.now) }
+    requires none { padding.left ≡ false → sign ≡ signs.None → digits_at_most directive.now ≤ precision → padding.width ≢ 1 + max precision (digits_at_most directive.now) }
+    requires left { padding.left ≡ true → (0 < padding.width) × (sign ≢ signs.Plus → precision ≡ 0 → sign_length sign + 1 < padding.width) }
+    ensures value { result ≡ made directive.now padding (sign_flags sign) (written precision) }
+    ensures normal { IsNormalCore result.core }
+{
+    within(padding, directive, sign.flags(), written(precision))
+}
+
+// Whether the zeros up to the width stay a matter of the width. Beside a sign, which each number then has, they are
+// one of the precision.
+fn keeps_zeros(directive: &Directive, sign: u16) -> bool
+    ensures kept { result ≡ true → (is_zero_filled directive.now ≡ true) × (sign ≡ 0) × (2 ≤ width_of directive.now) }
+    ensures idle { result ≡ false → is_zero_filled directive.now ≡ true → (1 ≤ sign) ⊎ (width_of directive.now ≤ 1) }
+{
+    is_zero_filled(directive) && sign == 0 && width(directive) >= 2
+}
+
+// On the right, in a field for the most digits and a sign, a space comes before each number that is not below
+// zero, with the flag space or without. Where all numbers have the same count of digits, the flag does without the
+// field; else the field does without the flag.
+fn sign_in_field(sign: Sign, padding: Padding, precision: u16, digits: u16) -> Sign
+    requires { max precision digits ≤ MAX_NUMBER }
+    ensures same { (negative : Bool) (number : Text) → length number ≤ max precision digits → padded padding (sign_text sign negative ++ number) ≡ padded padding (sign_text result negative ++ number) }
+    ensures space { padding.left ≡ false → padding.width ≡ 1 + max precision digits → result ≡ signs.Space → digits ≤ precision }
+    ensures none { padding.left ≡ false → padding.width ≡ 1 + max precision digits → result ≡ signs.None → precision < digits }
+{
+    if padding.left || padding.width != 1 + precision.max(digits) {
+        return sign;
+    }
+    match sign {
+        Sign::Plus => Sign::Plus,
+        Sign::Space | Sign::None if precision >= digits => Sign::Space,
+        Sign::Space | Sign::None => Sign::None,
+    }
+}
+
+// The width whose side isn't seen: with precision 0 all that is printed of the value 0 is spaces, and at least so many
+// bytes of any other value.
+fn unseen_width(precision: u16, least: u16) -> u16
+    ensures none { precision ≡ 0 → result ≡ least }
+    ensures some { 1 ≤ precision → result ≡ 0 }
+{
+    if precision == 0 { least } else { 0 }
+}
+
+// With a `+` the value 0 prints that.
+fn unseen_signed_width(precision: u16, sign: Sign) -> u16
+    ensures plus { sign ≡ signs.Plus → result ≡ 0 }
+    ensures none { sign ≢ signs.Plus → precision ≡ 0 → result ≡ sign_length sign + 1 }
+    ensures some { 1 ≤ precision → result ≡ 0 }
+{
+    match sign {
+        Sign::Plus => 0,
+        Sign::Space | Sign::None => unseen_width(precision, sign.len() + 1),
+    }
+}

@@ -1,0 +1,19 @@
+//! One printf directive reduced to constant padding and a normal core: for every argument the directive prints
+//! the spaces, the zeros, what the core prints, and the spaces after it.
+#![tactic(auto)]
+
+mod integers;
+mod making;
+mod normality;
+mod numbers;
+mod padding;
+mod reducing;
+mod results;
+mod signs;
+#[cfg(test)]
+mod tests;
+mod texts;
+
+pub use normality::is_normal;
+pub use reducing::reduce;
+pub use results::{Core, Normal, Reduced};

@@ -1,0 +1,82 @@
+//! Normal directives made of their parts.
+ghost use Rattle.std.specs.Prelude.{◌≡◌};
+ghost use Rattle.pf_values.specs.Defined.{IsDefined};
+ghost use Rattle.pf_values.specs.Normal.{IsNormal};
+ghost use Rattle.pf_values.specs.Specification.{given};
+ghost use Rattle.pf_reduce.specs.Made.{kept_conv, kept_length, made, made_core, written};
+ghost use Rattle.pf_reduce.specs.Reducing.{IsNormalCore};
+
+use crate::padding::Padding;
+use crate::results::{Core, Normal, Reduced};
+use pf_values::{Conv, Directive, Flag, FlagSet, Length};
+
+fn defined(
+    flags: FlagSet,
+    width: u16,
+    precision: Option<u16>,
+    length: Length,
+    conv: Conv,
+) -> Directive
+    requires { IsDefined (given flags (Some width) precision length conv) }
+    ensures { result ≡ given flags (Some width) precision length conv }
+{
+    match Directive::new(flags, Some(width), precision, length, conv) {
+        Ok(directive) => directive,
+        Err(_) => unreachable!(),
+    }
+}
+
+/// The directive with these flags and this precision, in this padding.
+pub(crate) fn within(
+    padding: Padding,
+    directive: &Directive,
+    flags: FlagSet,
+    precision: Option<u16>,
+) -> Reduced
+    requires { IsNormal (made_core directive.now padding flags precision) }
+    ensures value { result ≡ made directive.now padding flags precision }
+    ensures normal { IsNormalCore result.core }
+{
+    let flags = if padding.left {
+        flags.with(Flag::Minus)
+    } else {
+        flags
+    };
+    let length = kept_length(directive.length());
+    let conv = kept_conv(directive.conv());
+    let core = defined(flags, padding.width, precision, length, conv);
+    Reduced {
+        spaces: padding.spaces,
+        zeros: padding.zeros,
+        core: Core::Normal(Normal::new(core)),
+        trail: padding.trail,
+    }
+}
+
+/// A precision of 1 is none.
+pub(crate) fn written(precision: u16) -> Option<u16>
+    ensures { result ≡ written precision }
+{
+    match precision {
+        1 => None,
+        other => Some(other),
+    }
+}
+
+fn kept_length(length: Length) -> Length
+    ensures { result ≡ kept_length length }
+{
+    match length {
+        Length::J | Length::Z | Length::T => Length::L,
+        other => other,
+    }
+}
+
+fn kept_conv(conv: Conv) -> Conv
+    ensures { result ≡ kept_conv conv }
+{
+    match conv {
+        Conv::I => Conv::D,
+        other => other,
+    }
+}

@@ -1,0 +1,151 @@
+//! Which directives are normal.
+ghost use Rattle.std.specs.Prelude.{◌≡◌, ◌↔◌, IsTrue};
+ghost use Rattle.pf_values.specs.Defined.{IsDefined};
+ghost use Rattle.pf_values.specs.Normal.{IsNormal, IsNormalString, IsNormalPlain, IsNormalOctal, IsNormalFilled, IsNormalPrefixed, IsNormalSigned, HasNormalForm, is_kept_length};
+ghost use Rattle.pf_reduce.specs.NormalParts.{HasNormalParts};
+ghost use Rattle.pf_values.specs.Flags.{no_flags};
+
+use crate::numbers::{longest, max_digits, precision, sign_len, width};
+use pf_values::{Conv, Directive, Flag, FlagSet, Length};
+
+/// Whether a directive is normal. `reduce` leaves a normal directive as it is.
+pub fn is_normal(directive: &Directive) -> bool
+    ensures { IsTrue result ↔ IsNormal directive.now }
+{
+    has_normal_parts(directive) && has_normal_form(directive)
+}
+
+fn has_normal_parts(directive: &Directive) -> bool
+    ensures parts { IsTrue result ↔ HasNormalParts directive.now }
+    ensures defined { IsDefined directive.now }
+{
+    let flags = directive.flags();
+    let conv = directive.conv();
+    if flags.has(Flag::Group) || !is_kept_length(directive.length()) {
+        return false;
+    }
+    if (flags.has(Flag::Plus) || flags.has(Flag::Space)) && !matches!(conv, Conv::D) {
+        return false;
+    }
+    directive.precision() != Some(1) || matches!(conv, Conv::S)
+}
+
+fn has_normal_form(directive: &Directive) -> bool
+    ensures { IsTrue result ↔ HasNormalForm directive.now.conv directive.now }
+{
+    let alt = directive.flags().has(Flag::Alt);
+    let zero = directive.flags().has(Flag::Zero);
+    match directive.conv() {
+        Conv::C => is_bare(directive),
+        Conv::S => is_normal_string(directive),
+        Conv::O if alt => is_normal_octal(directive),
+        Conv::X | Conv::UpperX if alt && zero => is_normal_filled(directive),
+        Conv::X | Conv::UpperX if alt => is_normal_prefixed(directive),
+        Conv::U | Conv::O | Conv::X | Conv::UpperX => is_normal_plain(directive),
+        Conv::D if zero => is_normal_filled(directive) && sign_len(directive) == 0,
+        Conv::D => is_normal_signed(directive),
+        Conv::I => false,
+    }
+}
+
+fn is_kept_length(length: Length) -> bool
+    ensures { result ≡ is_kept_length length }
+{
+    !matches!(length, Length::J | Length::Z | Length::T)
+}
+
+fn is_bare(directive: &Directive) -> bool
+    ensures { IsTrue result ↔ ((directive.now.flags ≡ no_flags) × (directive.now.width ≡ None) × (directive.now.precision ≡ None)) }
+{
+    directive.flags() == FlagSet::empty()
+        && directive.width().is_none()
+        && directive.precision().is_none()
+}
+
+fn is_normal_string(directive: &Directive) -> bool
+    ensures { IsTrue result ↔ IsNormalString directive.now }
+{
+    let width = width(directive);
+    if directive.flags().has(Flag::Minus) && width <= 1 {
+        return false;
+    }
+    match directive.precision() {
+        None => true,
+        Some(precision) => 1 <= precision && width <= precision,
+    }
+}
+
+fn is_normal_plain(directive: &Directive) -> bool
+    ensures { IsTrue result ↔ IsNormalPlain directive.now }
+{
+    let width = width(directive);
+    let precision = precision(directive);
+    let digits = max_digits(directive);
+    if directive.flags().has(Flag::Zero) || precision > digits {
+        return false;
+    }
+    if width == 0 {
+        return !directive.flags().has(Flag::Minus);
+    }
+    if width <= precision || width > digits {
+        return false;
+    }
+    !directive.flags().has(Flag::Minus) || precision != 0 || width != 1
+}
+
+fn is_normal_octal(directive: &Directive) -> bool
+    ensures { IsTrue result ↔ IsNormalOctal directive.now }
+{
+    let width = width(directive);
+    let precision = precision(directive);
+    let digits = max_digits(directive);
+    if directive.flags().has(Flag::Minus) || directive.flags().has(Flag::Zero) {
+        return false;
+    }
+    1 <= precision && precision <= digits && precision < width && width <= digits + 1
+}
+
+fn is_normal_filled(directive: &Directive) -> bool
+    ensures { IsTrue result ↔ IsNormalFilled directive.now }
+{
+    !directive.flags().has(Flag::Minus) && directive.precision().is_none() && width(directive) >= 2
+}
+
+fn is_normal_prefixed(directive: &Directive) -> bool
+    ensures { IsTrue result ↔ IsNormalPrefixed directive.now }
+{
+    let width = width(directive);
+    let precision = precision(directive);
+    if width == 0 {
+        return !directive.flags().has(Flag::Minus);
+    }
+    if width <= precision || width > 2 + longest(directive) {
+        return false;
+    }
+    !directive.flags().has(Flag::Minus) || precision != 0 || width > 3
+}
+
+fn is_normal_signed(directive: &Directive) -> bool
+    ensures { IsTrue result ↔ IsNormalSigned directive.now }
+{
+    let plus = directive.flags().has(Flag::Plus);
+    let space = directive.flags().has(Flag::Space);
+    let left = directive.flags().has(Flag::Minus);
+    let width = width(directive);
+    let precision = precision(directive);
+    let sign = sign_len(directive);
+    let full = 1 + longest(directive);
+    if plus && space {
+        return false;
+    }
+    if width == 0 {
+        return !left;
+    }
+    if width <= sign + precision || width > full {
+        return false;
+    }
+    if left {
+        return plus || precision != 0 || width > sign + 1;
+    }
+    width != full || !(space || sign == 0 && precision >= max_digits(directive))
+}

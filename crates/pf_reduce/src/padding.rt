@@ -1,0 +1,117 @@
+//! Padding round what is printed: a constant part, and spaces up to a width.
+ghost use Rattle.std.specs.Prelude.{IsTrue, ◌≡◌, ◌≤◌, ◌<◌, ◌+◌, ◌-◌, ◌⊎◌, min, true, false, ◌++◌, ◌^◌, length, replicate};
+ghost use Rattle.pf_values.specs.declared.limits.TheConstants.{MAX_NUMBER};
+ghost use Rattle.pf_values.specs.Defined.{IsDefined};
+ghost use Rattle.pf_values.specs.Text.{Text, zero_digit};
+
+use crate::numbers::width;
+use pf_values::{Directive, Flag};
+
+/// A width with its side, within constant spaces and after constant zeros.
+#[derive(Clone, Copy, Debug)]
+pub(crate) struct Padding {
+    pub(crate) spaces: u16,
+    pub(crate) zeros: u16,
+    pub(crate) width: u16,
+    pub(crate) left: bool,
+    pub(crate) trail: u16,
+}
+
+impl Padding {
+    ghost use Rattle.pf_reduce.specs.Padded.{IsUnseen, constants, padded, padding_of};
+
+    /// As the directive says.
+    pub(crate) fn of(directive: &Directive) -> Padding
+        ensures value { result ≡ padding_of directive.now }
+        ensures limit { result.width ≤ MAX_NUMBER }
+        ensures defined { IsDefined directive.now }
+    {
+        Padding {
+            spaces: 0,
+            zeros: 0,
+            width: width(directive),
+            left: directive.flags().has(Flag::Minus),
+            trail: 0,
+        }
+    }
+
+    /// Where at most so many bytes are printed, the spaces beyond them are constant.
+    pub(crate) fn cut(self, most: u16) -> Padding
+        requires { (self.spaces ≡ 0) × (self.zeros ≡ 0) × (self.trail ≡ 0) }
+        ensures same { (body : Text) → length body ≤ most → padded self body ≡ padded result body }
+        ensures constant { constants result ≡ self.width - most }
+        ensures left { result.left ≡ self.left }
+        ensures width { result.width ≡ min self.width most }
+    {
+        let beyond = self.width.saturating_sub(most);
+        let width = self.width.min(most);
+        if self.left {
+            Padding {
+                width,
+                trail: beyond,
+                ..self
+            }
+        } else {
+            Padding {
+                width,
+                spaces: beyond,
+                ..self
+            }
+        }
+    }
+
+    /// Where at least so many bytes are printed, a width of no more is none.
+    pub(crate) fn without_idle_width(self, least: u16) -> Padding
+        ensures same { (body : Text) → least ≤ length body → padded self body ≡ padded result body }
+        ensures constant { constants result ≡ constants self }
+        ensures left { result.left ≡ self.left }
+        ensures idle { self.width ≤ least → result.width ≡ 0 }
+        ensures kept { least < self.width → result.width ≡ self.width }
+    {
+        if self.width > least {
+            return self;
+        }
+        Padding { width: 0, ..self }
+    }
+
+    /// Whether spaces may stand before what is printed.
+    pub(crate) fn has_spaces_before(self) -> bool
+        ensures yes { result ≡ true → (self.left ≡ false) × (0 < self.width) }
+        ensures no { result ≡ false → (self.left ≡ true) ⊎ (self.width ≡ 0) }
+    {
+        !self.left && self.width > 0
+    }
+
+    /// Where so many zeros are printed first, they are constant.
+    pub(crate) fn past_zeros(self, count: u16) -> Padding
+        requires apart { (self.left ≡ true) ⊎ (self.width ≡ 0) ⊎ (count ≡ 0) }
+        requires room { constants self + count < 2 ^ 16 }
+        ensures same { (body : Text) → padded self (replicate count zero_digit ++ body) ≡ padded result body }
+        ensures constant { constants result ≡ constants self + count }
+        ensures left { result.left ≡ self.left }
+        ensures width { result.width ≡ self.width - count }
+    {
+        Padding {
+            zeros: self.zeros + count,
+            width: self.width.saturating_sub(count),
+            ..self
+        }
+    }
+
+    /// On the right up to a width whose side isn't seen.
+    pub(crate) fn right_up_to(self, most: u16) -> Padding
+        ensures same { (body : Text) → (self.width ≤ most → IsUnseen self.width body) → padded self body ≡ padded result body }
+        ensures constant { constants result ≡ constants self }
+        ensures width { result.width ≡ self.width }
+        ensures wide { IsTrue result.left → IsTrue self.left × (most < self.width) }
+        ensures right { most < self.width → result.left ≡ self.left }
+    {
+        if self.width > most {
+            return self;
+        }
+        Padding {
+            left: false,
+            ..self
+        }
+    }
+}

@@ -1,0 +1,36 @@
+//! Reduction of a directive.
+ghost use Rattle.std.specs.Prelude.{◌≡◌};
+ghost use Rattle.pf_values.specs.Normal.{IsNormal, silent};
+ghost use Rattle.pf_reduce.specs.Reducing.{IsReducedTo};
+
+use crate::integers::{reduce_octal, reduce_plain, reduce_prefixed, reduce_signed};
+use crate::normality::is_normal;
+use crate::results::{Core, Normal, Reduced};
+use crate::texts::{reduce_char, reduce_string};
+use pf_values::{Conv, Directive, Flag};
+
+/// The padding and the normal core that print what the directive prints (C11 7.21.6.1, paragraphs 4 to 8), for
+/// each argument of its type. A normal directive is its own core, and `%.0s` is `Silent`.
+pub fn reduce(directive: &Directive) -> Reduced
+    ensures same { IsReducedTo directive.now result }
+    ensures kept { IsNormal directive.now → result ≡ record { spaces = 0; zeros = 0; core = Core.Normal directive.now; trail = 0 } }
+    ensures silent { directive.now ≡ silent → result ≡ record { spaces = 0; zeros = 0; core = Core.Silent; trail = 0 } }
+{
+    if is_normal(directive) {
+        return Reduced {
+            spaces: 0,
+            zeros: 0,
+            core: Core::Normal(Normal::new(*directive)),
+            trail: 0,
+        };
+    }
+    let alt = directive.flags().has(Flag::Alt);
+    match directive.conv() {
+        Conv::C => reduce_char(directive),
+        Conv::S => reduce_string(directive),
+        Conv::D | Conv::I => reduce_signed(directive),
+        Conv::O if alt => reduce_octal(directive),
+        Conv::X | Conv::UpperX if alt => reduce_prefixed(directive),
+        Conv::U | Conv::O | Conv::X | Conv::UpperX => reduce_plain(directive),
+    }
+}

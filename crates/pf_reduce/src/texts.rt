@@ -1,0 +1,59 @@
+//! Characters and strings.
+ghost use Rattle.std.specs.Prelude.{◌≡◌, ◌≤◌, ◌+◌, IfSome, Some};
+ghost use Rattle.pf_values.specs.declared.conversions.Conv.TheVariants.{C, S};
+ghost use Rattle.pf_values.specs.Printing.{shown};
+ghost use Rattle.pf_values.specs.Specification.{width_of};
+ghost use Rattle.pf_values.specs.Text.{Text};
+ghost use Rattle.pf_reduce.specs.Padded.{constants, padded};
+ghost use Rattle.pf_reduce.specs.Reducing.{IsReducedTo};
+
+use crate::making::within;
+use crate::numbers::width;
+use crate::padding::Padding;
+use crate::results::{Core, Reduced};
+use pf_values::{Directive, FlagSet};
+
+/// `c`: one byte.
+pub(crate) fn reduce_char(directive: &Directive) -> Reduced
+    requires { directive.now.conv ≡ C }
+    ensures { IsReducedTo directive.now result }
+{
+    let padding = Padding::of(directive)
+        .cut(1)
+        .without_idle_width(1)
+        .right_up_to(0);
+    within(padding, directive, FlagSet::empty(), None)
+}
+
+/// `s`: bytes, no more than the precision says.
+pub(crate) fn reduce_string(directive: &Directive) -> Reduced
+    requires { directive.now.conv ≡ S }
+    ensures same { IsReducedTo directive.now result }
+    ensures silent { directive.now.precision ≡ Some 0 → result ≡ record { spaces = width_of directive.now; zeros = 0; core = Core.Silent; trail = 0 } }
+{
+    let precision = directive.precision();
+    if precision == Some(0) {
+        return Reduced {
+            spaces: width(directive),
+            zeros: 0,
+            core: Core::Silent,
+            trail: 0,
+        };
+    }
+    let padding = cut_string(Padding::of(directive), precision).right_up_to(1);
+    within(padding, directive, FlagSet::empty(), precision)
+}
+
+// A width within the precision.
+fn cut_string(padding: Padding, precision: Option<u16>) -> Padding
+    requires { (padding.spaces ≡ 0) × (padding.zeros ≡ 0) × (padding.trail ≡ 0) }
+    ensures same { (bytes : Text) → padded padding (shown precision bytes) ≡ padded result (shown precision bytes) }
+    ensures constant { constants result ≤ padding.width }
+    ensures narrower { result.width ≤ padding.width }
+    ensures width { IfSome precision (λ most. result.width ≤ most) }
+{
+    match precision {
+        Some(most) => padding.cut(most),
+        None => padding,
+    }
+}
