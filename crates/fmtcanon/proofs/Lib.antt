@@ -4,4 +4,5 @@ mod MagnitudeLemmas
 mod ArgumentWordLemmas
 mod FormatArgumentLemmas
 mod PrintingLemmas
+mod ShowLemmas
 mod RunLemmas

@@ -14,12 +14,12 @@ module _ {W : Type 0} (contents : W → Known) (old new : Counted W) (words : Li
   pub leaves_printed : (outcome : Outcome) → LeavesPrinted contents old new format given outcome → Leaves contents old new words outcome
   leaves_printed (Usage text) h = absurd h
   leaves_printed Memory h = h
-  leaves_printed Done h = inr (inr (format, given, names, h))
-  leaves_printed (Write written) h = inr (inr (format, given, names, h))
-  leaves_printed (Refused refusal) h = inr (inr (format, given, names, h))
-  leaves_printed (BadWord index) h = inr (inr (format, given, names, h))
-  leaves_printed (WrongCount wanted count) h = inr (inr (format, given, names, h))
-  leaves_printed (WrongType index) h = inr (inr (format, given, names, h))
+  leaves_printed Done h = inr (inr (inr (format, given, names, h)))
+  leaves_printed (Write written) h = inr (inr (inr (format, given, names, h)))
+  leaves_printed (Refused refusal) h = inr (inr (inr (format, given, names, h)))
+  leaves_printed (BadWord index) h = inr (inr (inr (format, given, names, h)))
+  leaves_printed (WrongCount wanted count) h = inr (inr (inr (format, given, names, h)))
+  leaves_printed (WrongType index) h = inr (inr (inr (format, given, names, h)))
 
 module _ {W : Type 0} (contents : W → Known) (old new : Counted W) (format canonical : Text) where
   pub leaves_canonical : (outcome : Outcome) → IsCanonicalFor format canonical → LeavesBytes contents old new (line canonical) outcome → LeavesCanonical contents old new format outcome

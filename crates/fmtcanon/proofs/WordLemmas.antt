@@ -53,7 +53,7 @@ subcommand_given words = required_is_named the_command words asks_subcommand
 -- each subcommand has F as a required argument
 each_requires_format : AtEach (λ name. list_all (requires_value name (codes "F")) (built the_command).subs ≡ true)
 unfolding the_command clap_on_literals
-each_requires_format = (refl, (refl, (refl, tt)))
+each_requires_format = (refl, (refl, (refl, (refl, tt))))
 
 -- where no fault is found, F has a value
 pub format_given : (words : List Text) (name : Text) (rows : List Row) → fault_of the_command words ≡ [] → subcommand_of the_command words ≡ Some (name, rows)

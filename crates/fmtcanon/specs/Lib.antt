@@ -3,6 +3,7 @@ pub mod Words
 pub mod Tasks
 pub mod Outcomes
 pub mod TypeLines
+pub mod Shows
 pub mod Runs
 pub mod ArgumentWords
 pub mod UntypedArgs

@@ -11,6 +11,7 @@ use Rattle.fmtcanon.specs.declared.outcome.Outcome.TheVariants.{Done, Refused, B
 use Rattle.fmtcanon.specs.declared.format_arguments.ArgumentFault.TheVariants as faults
 use Rattle.fmtcanon.specs.FormatArguments.{HindersArguments, IsPrinted}
 use Rattle.fmtcanon.specs.Lines.{line}
+use Rattle.fmtcanon.specs.Shows.{HasShownLines}
 use Rattle.fmtcanon.specs.Tasks.{Names, NamesWithWords}
 use Rattle.fmtcanon.specs.TypeLines.{HasTypeLines}
 use Rattle.fmtcanon.specs.Words.{IsTaken}
@@ -40,6 +41,13 @@ module _ {W : Type 0} (contents : W → Known) (old new : Counted W) where
   LeavesCanonical format Memory = KeepsAll
   LeavesCanonical format outcome = (canonical : Text) × IsCanonicalFor format canonical × LeavesBytes (line canonical) outcome
 
+  -- a line for each part of a format, or nothing
+  abbrev pub LeavesShown : Text → Outcome → Type 0
+  LeavesShown format (Refused refusal) = IsRefusedAt format refusal.kind refusal.at × KeepsAll
+  LeavesShown format (Usage text) = ⊥
+  LeavesShown format Memory = KeepsAll
+  LeavesShown format outcome = (lines : Text) × HasShownLines format lines × LeavesBytes lines outcome
+
   -- what a format prints for the arguments that words give, or nothing
   abbrev pub LeavesPrinted : Text → List Text → Outcome → Type 0
   LeavesPrinted format words (Refused refusal) = HindersArguments format words (faults.Refused refusal) × KeepsAll
@@ -55,6 +63,7 @@ module _ {W : Type 0} (contents : W → Known) (old new : Counted W) where
   LeavesNamed words outcome =
       ((format : Text) × Names words (codes "types") format × LeavesTypes format outcome)
       ⊎ ((format : Text) × Names words (codes "canon") format × LeavesCanonical format outcome)
+      ⊎ ((format : Text) × Names words (codes "show") format × LeavesShown format outcome)
       ⊎ ((format : Text) × (given : List Text) × NamesWithWords words (codes "format") format given × LeavesPrinted format given outcome)
 
   -- Words that clap takes are not answered with Usage. For want of memory nothing goes out.

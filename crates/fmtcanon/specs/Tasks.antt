@@ -9,7 +9,7 @@ use Rattle.pf_values.specs.Text.{Text}
 use Rattle.fmtcanon.specs.declared.task.NoTask.{NoTask}
 use Rattle.fmtcanon.specs.declared.task.NoTask.TheVariants.{Usage, Memory}
 use Rattle.fmtcanon.specs.declared.task.Task.{Task}
-use Rattle.fmtcanon.specs.declared.task.Task.TheVariants.{Types, Canon, Format}
+use Rattle.fmtcanon.specs.declared.task.Task.TheVariants.{Types, Canon, Show, Format}
 use Rattle.fmtcanon.specs.Words.{IsTaken, the_command}
 
 -- clap finds no fault in the words: they name a command, and have this text as F
@@ -27,6 +27,7 @@ pub record NamesWithWords (words : List Text) (command : Text) (text : Text) (gi
 abbrev pub Asks : List Text → Task → Type 0
 Asks words (Types text) = Names words (codes "types") text.now
 Asks words (Canon text) = Names words (codes "canon") text.now
+Asks words (Show text) = Names words (codes "show") text.now
 Asks words (Format text given) = NamesWithWords words (codes "format") text.now (map (λ s. s.now) given.items)
 
 -- words that clap takes have no task for want of memory alone

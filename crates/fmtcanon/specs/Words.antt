@@ -35,7 +35,8 @@ unfoldable pub the_command : App
 the_command =
     let with_types = with_subcommand top_app (on_format (codes "types")).top in
     let with_canon = with_subcommand with_types (on_format (codes "canon")).top in
-    with_subcommand with_canon (on_arguments (codes "format")).top
+    let with_show = with_subcommand with_canon (on_format (codes "show")).top in
+    with_subcommand with_show (on_arguments (codes "format")).top
 
 -- clap's definition of the command takes the words
 abbrev pub IsTaken : List Text → Type 0

@@ -14,11 +14,14 @@ pub fn definition<'a>(alloc: Global) -> Result<Command<'a>, AllocError>
 {
     let types = "Writes the types of the arguments of a format, a line each";
     let canon = "Writes the canonical string of a format";
+    let show =
+        "Writes what a format is made of, and what its directives are reduced to, a line each";
     let format = "Writes what a format prints for arguments, and nothing else";
     let with_types = adding(top(alloc)?, on_format(alloc, "types", types)?)?;
     let with_canon = adding(with_types, on_format(alloc, "canon", canon)?)?;
+    let with_show = adding(with_canon, on_format(alloc, "show", show)?)?;
     let on_arguments = taking_arguments(alloc, on_format(alloc, "format", format)?)?;
-    adding(with_canon, on_arguments)
+    adding(with_show, on_arguments)
 }
 
 // The command without its subcommands.

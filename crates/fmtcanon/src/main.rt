@@ -9,6 +9,7 @@ mod outcome;
 mod printing;
 mod report;
 mod run;
+mod show_lines;
 mod task;
 #[cfg(test)]
 mod tests;

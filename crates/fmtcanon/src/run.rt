@@ -3,11 +3,12 @@ ghost use Rattle.std.specs.Prelude.{◌≡◌, IfOk, IfErr, map};
 ghost use Rattle.pf_values.specs.Text.{Text};
 ghost use Rattle.pf_canon.specs.Answers.{Hinders, IsCanonicalFor};
 ghost use Rattle.fmtcanon.specs.Lines.{line};
-ghost use Rattle.fmtcanon.specs.Runs.{Leaves, LeavesBytes, LeavesCanonical, LeavesPrinted, LeavesTypes};
+ghost use Rattle.fmtcanon.specs.Runs.{Leaves, LeavesBytes, LeavesCanonical, LeavesPrinted, LeavesShown, LeavesTypes};
 
 use crate::format_arguments::ArgumentFault;
 use crate::outcome::Outcome;
 use crate::printing::printed;
+use crate::show_lines::show_lines;
 use crate::task::{NoTask, Task, task_of};
 use crate::type_lines::type_lines;
 use pf_canon::{CanonFault, canonical};
@@ -32,6 +33,7 @@ pub fn run<R: Read, W: Write>(
     match task_of(alloc, words) {
         Ok(Task::Types(format)) => write_types(alloc, format, writer),
         Ok(Task::Canon(format)) => write_canonical(alloc, format, writer),
+        Ok(Task::Show(format)) => write_shown(alloc, format, writer),
         Ok(Task::Format { format, words }) => write_format(alloc, format, &words, writer),
         Err(NoTask::Usage(text)) => Outcome::Usage(text),
         Err(NoTask::Memory) => Outcome::Memory,
@@ -69,6 +71,19 @@ fn canonical_line(alloc: Global, format: &[u8]) -> Result<Vec<u8>, CanonFault>
         return Err(CanonFault::Memory);
     }
     Ok(out)
+}
+
+// Writes what a format is made of, a line for each part.
+fn write_shown<W: Write>(alloc: Global, format: &str, writer: &mut Counted<W>) -> Outcome
+    ensures { LeavesShown W.contents writer.old writer.new format.now result }
+{
+    match show_lines(alloc, format.as_bytes()) {
+        Ok(lines) => write_all_of(&lines, writer),
+        Err(fault) => match fault {
+            TextFault::Refused(refusal) => Outcome::Refused { refusal },
+            TextFault::Memory => Outcome::Memory,
+        },
+    }
 }
 
 // Writes what a format prints for the arguments that the words give.

@@ -15,6 +15,8 @@ pub enum Task<'a> {
     Types(&'a str),
     /// The canonical string of a format.
     Canon(&'a str),
+    /// What a format is made of.
+    Show(&'a str),
     /// What a format prints for arguments.
     Format {
         /// The format.
@@ -54,6 +56,7 @@ pub fn task_of<'a>(alloc: Global, words: &'a [&'a str]) -> Result<Task<'a>, NoTa
     match name {
         "types" => Ok(Task::Types(format)),
         "canon" => Ok(Task::Canon(format)),
+        "show" => Ok(Task::Show(format)),
         "format" => match given_words(alloc, inner) {
             Ok(words) => Ok(Task::Format { format, words }),
             Err(AllocError) => Err(NoTask::Memory),

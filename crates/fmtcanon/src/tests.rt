@@ -3,6 +3,7 @@
 mod canonicals;
 mod formats;
 mod reductions;
+mod shows;
 mod types;
 
 use crate::outcome::Outcome;
@@ -108,6 +109,75 @@ fn types_answers_as_the_model(rt: HostRuntime) {
 }
 
 #[test]
+fn show_writes_a_line_for_each_part(rt: HostRuntime) {
+    let rows = [
+        ("", ""),
+        (
+            "x%20d%%",
+            "text 1\ndirective %20d: int: 9 0 %11d 0\npercent\n",
+        ),
+        (
+            "%-5c%.0s!",
+            "directive %-5c: int: 0 0 %c 4\ndirective %.0s: string: 0 0 %.0s 0\ntext 1\n",
+        ),
+        ("%%%%", "percent\npercent\n"),
+        ("0123456789größer", "text 18\n"),
+        ("a%%b", "text 1\npercent\ntext 1\n"),
+        ("%''++-+d", "directive %-+'d: int: 0 0 %+d 0\n"),
+        ("%-20d", "directive %-20d: int: 0 0 %-11d 9\n"),
+        (
+            "%30.20u",
+            "directive %30.20u: unsigned int: 10 10 %.10u 0\n",
+        ),
+        ("%-12.0s", "directive %-12.0s: string: 12 0 %.0s 0\n"),
+        ("%5c", "directive %5c: int: 4 0 %c 0\n"),
+        ("%#o", "directive %#o: unsigned int: 0 1 %.0o 0\n"),
+        ("%#20o", "directive %#20o: unsigned int: 8 0 %#12o 0\n"),
+        ("%-#20X", "directive %-#20X: unsigned int: 0 0 %-#10X 10\n"),
+        (
+            "%+020lld",
+            "directive %+020lld: long long: 0 0 %+.19lld 0\n",
+        ),
+        ("%-+7.0hhd", "directive %-+7.0hhd: int: 0 0 %-+4.0hhd 3\n"),
+        ("%#.20x", "directive %#.20x: unsigned int: 0 0 %#.20x 0\n"),
+        ("%.300d", "directive %.300d: int: 0 0 %.300d 0\n"),
+        ("%020hd", "directive %020hd: int: 0 0 %020hd 0\n"),
+        ("%zi", "directive %zi: long: 0 0 %ld 0\n"),
+        ("100%", "refused 2 Truncated at byte 4\n"),
+        ("%d%y", "refused 3 Unexpected at byte 3\n"),
+        ("a\0%d", "refused 1 NulByte at byte 1\n"),
+    ];
+    for (format, want) in rows {
+        assert!(rt;
+            answers(rt.alloc(), ["show", format].as_slice(), want),
+            "{format}"
+        );
+    }
+    assert!(rt;
+        answers(
+            rt.alloc(),
+            ["show", "--", "-%-- 1.5hho!"].as_slice(),
+            "text 1\ndirective %- 1.5hho: int: 0 2 %.3hho 0\ntext 1\n"
+        )
+    );
+}
+
+#[test]
+fn show_answers_as_the_model(rt: HostRuntime) {
+    for (format, want) in shows::SHOWS {
+        let (outcome, written) = ran(rt.alloc(), ["show", format].as_slice());
+        assert!(rt; matches!(outcome, Outcome::Done), "{format}");
+        assert!(rt; written.as_slice() == want.as_bytes(), "{format}");
+    }
+    for (format, want) in shows::REFUSED {
+        assert!(rt;
+            answers(rt.alloc(), ["show", format].as_slice(), want),
+            "{format}"
+        );
+    }
+}
+
+#[test]
 fn canon_answers_as_the_model(rt: HostRuntime) {
     for (format, want) in &canonicals::CANONICALS {
         assert!(rt;
@@ -180,7 +250,8 @@ fn other_words_are_usage(rt: HostRuntime) {
     assert!(rt; is_usage(&rt, ["nothing"].as_slice(), "error: "));
     assert!(rt; is_usage(&rt, ["types"].as_slice(), "error: "));
     assert!(rt; is_usage(&rt, ["types", "%d", "%d"].as_slice(), "error: "));
-    assert!(rt; is_usage(&rt, ["show", "%d"].as_slice(), "error: "));
+    assert!(rt; is_usage(&rt, ["show"].as_slice(), "error: "));
+    assert!(rt; is_usage(&rt, ["show", "%d", "%d"].as_slice(), "error: "));
     assert!(rt; is_usage(&rt, ["stream"].as_slice(), "error: "));
     assert!(rt; is_usage(&rt, ["canon"].as_slice(), "error: "));
     assert!(rt; is_usage(&rt, ["canon", "a", "b"].as_slice(), "error: "));
@@ -242,6 +313,13 @@ fn what_fits_is_written(rt: HostRuntime) {
             rt.alloc(),
             ["types", "%i of %u%%"].as_slice(),
             b"int\nunsigned int\n"
+        )
+    );
+    assert!(rt;
+        is_cut(
+            rt.alloc(),
+            ["show", "x%%%20d"].as_slice(),
+            b"text 1\npercent\ndirective %20d: int: 9 0 %11d 0\n"
         )
     );
     assert!(rt;

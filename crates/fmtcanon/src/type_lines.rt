@@ -29,7 +29,7 @@ fn lines_of(alloc: Global, types: &[ArgType]) -> Result<Vec<u8>, AllocError>
 }
 
 /// The name of a type, as C spells it; that of a string is `string`.
-fn type_name(arg_type: ArgType) -> &'static str
+pub fn type_name(arg_type: ArgType) -> &'static str
     ensures { result.now ≡ type_name arg_type }
 {
     match arg_type {

@@ -9,5 +9,6 @@ pub mod SpellingLemmas
 pub mod ReadBack
 pub mod LiteralLemmas
 pub mod PieceLemmas
+pub mod PieceTexts
 pub mod SignatureLemmas
 mod Examples

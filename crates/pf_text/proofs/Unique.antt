@@ -111,7 +111,7 @@ longer_cuts : (y : ℕ) (a b c d : Text) → Cuts a b c d → Cuts (y ∷ a) b (
 longer_cuts y a b c d (Later x e f) = Later x (ap (λ t. y ∷ t) e) f
 longer_cuts y a b c d (Sooner x e f) = Sooner x (ap (λ t. y ∷ t) e) f
 
-cuts : (a b c d : Text) → a ++ b ≡ c ++ d → Cuts a b c d
+pub cuts : (a b c d : Text) → a ++ b ≡ c ++ d → Cuts a b c d
 cuts [] b c d e = Later c refl e
 cuts (y ∷ a) b [] d e = Sooner (y ∷ a) refl (sym e)
 cuts (y ∷ a) b (z ∷ c) d e =

@@ -14,5 +14,6 @@ unfolding the_command
 returns c =
     let types = next _ _ _ _ _ c.in_ok-with_types.ensures c.in_ok-top.ensures c.in_ok-on_format.ensures.0 in
     let canon = next _ _ _ _ _ c.in_ok-with_canon.ensures types c.in_ok-on_format-2.ensures.0 in
-    let arguments = c.in_ok-on_arguments.ensures.0 ∙ ap (λ a. with_rule a any_arguments) c.in_ok-on_format-3.ensures.0 in
-    IfOk-weaker c.adding-3.result _ _ (λ r h. next r _ _ _ _ h canon arguments) c.adding-3.ensures
+    let show = next _ _ _ _ _ c.in_ok-with_show.ensures canon c.in_ok-on_format-3.ensures.0 in
+    let arguments = c.in_ok-on_arguments.ensures.0 ∙ ap (λ a. with_rule a any_arguments) c.in_ok-on_format-4.ensures.0 in
+    IfOk-weaker c.adding-4.result _ _ (λ r h. next r _ _ _ _ h show arguments) c.adding-4.ensures

@@ -107,6 +107,12 @@ returns-in-canon-clause-ok c =
     let a = asked _ (texts c.args.words.now) ok.matches _ c.in-Some.inner.now c.in-Ok.ensures ok.ensures.matches ok.ensures.kinds c.in-Some.ensures.name c.in-Some.ensures.rows in
     named _ _ _ c.in-Some.inner.now _ a c.in-canon.is c.in-Some-get_str.ensures
 
+pub returns-in-show-clause-ok : goal.returns-in-show-clause-ok
+returns-in-show-clause-ok c =
+    let ok = c.in-Ok-try_get_matches_from in
+    let a = asked _ (texts c.args.words.now) ok.matches _ c.in-Some.inner.now c.in-Ok.ensures ok.ensures.matches ok.ensures.kinds c.in-Some.ensures.name c.in-Some.ensures.rows in
+    named _ _ _ c.in-Some.inner.now _ a c.in-show.is c.in-Some-get_str.ensures
+
 pub returns-in-Ok-given_words-clause-ok : goal.returns-in-Ok-given_words-clause-ok
 returns-in-Ok-given_words-clause-ok c =
     let ok = c.in-Ok-try_get_matches_from in
@@ -119,4 +125,4 @@ unreachable-requires-in_default-name c =
     let ok = c.in-Ok-try_get_matches_from in
     let a = asked _ (texts c.args.words.now) ok.matches _ c.in-Some.inner.now c.in-Ok.ensures ok.ensures.matches ok.ensures.kinds c.in-Some.ensures.name c.in-Some.ensures.rows in
     let name = c.in-Some.name.now in
-    at_asked (λ n. name ≡ n → ⊥) (texts c.args.words.now) name _ (c.in_default-name.not-types, (c.in_default-name.not-canon, (c.in_default-name.not-format, tt))) a.1 refl
+    at_asked (λ n. name ≡ n → ⊥) (texts c.args.words.now) name _ (c.in_default-name.not-types, (c.in_default-name.not-canon, (c.in_default-name.not-show, (c.in_default-name.not-format, tt)))) a.1 refl

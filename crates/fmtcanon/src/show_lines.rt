@@ -1,0 +1,118 @@
+//! The parts of a format, a line for each.
+ghost use Rattle.std.specs.Prelude.{◌≡◌, ◌++◌, IfOk, MatchResult, codes, decimal};
+ghost use Rattle.pf_reduce.specs.Reducing.{IsReducedTo, core_of};
+ghost use Rattle.pf_reduce.specs.declared.results.Reduced.{Reduced};
+ghost use Rattle.pf_values.specs.DataModel.{arg_type};
+ghost use Rattle.pf_values.specs.Spelling.{spelled};
+ghost use Rattle.pf_values.specs.Text.{Text};
+ghost use Rattle.fmtcanon.specs.Lines.{line};
+ghost use Rattle.fmtcanon.specs.Shows.{HasShownLines, IsLineOf, reduced_line, reduced_text, shown_of};
+ghost use Rattle.fmtcanon.specs.TypeLines.{HindersTypes, type_name};
+
+use crate::type_lines::type_name;
+use itoa::Buffer;
+use pf_reduce::{Core, Reduced, reduce};
+use pf_text::{Piece, Pieces, TextFault, spell};
+use pf_values::Directive;
+use std::alloc::{AllocError, Global};
+
+/// A line for each run of literal bytes, each `%%` and each directive of a format, or its refusal.
+pub fn show_lines(alloc: Global, format: &[u8]) -> Result<Vec<u8>, TextFault>
+    ensures { MatchResult result (λ out. HasShownLines format.now out.items) (HindersTypes format.now) }
+{
+    let mut out = Vec::new(alloc);
+    for piece in Pieces::new(format) {
+        let piece = match piece {
+            Ok(piece) => piece,
+            Err(refusal) => return Err(TextFault::Refused(refusal)),
+        };
+        if push_piece(&mut out, piece).is_err() {
+            return Err(TextFault::Memory);
+        }
+    }
+    Ok(out)
+}
+
+fn push_piece(out: &mut Vec<u8>, piece: Piece<'_>) -> Result<(), AllocError>
+    ensures { IfOk result (λ _. (part : Text) × IsLineOf (shown_of piece.entry) part × (out.new.items ≡ out.old.items ++ part)) }
+{
+    match piece {
+        Piece::Literal(run) => push_run(out, run.len()),
+        Piece::Percent => out.extend_from_slice(b"percent\n"),
+        Piece::Directive(directive) => push_directive(out, &directive),
+    }
+}
+
+// The line of a run with so many bytes.
+fn push_run(out: &mut Vec<u8>, len: usize) -> Result<(), AllocError>
+    ensures { IfOk result (λ _. out.new.items ≡ out.old.items ++ line (codes "text " ++ decimal len)) }
+{
+    out.extend_from_slice(b"text ")?;
+    push_number(out, len as u64)?;
+    out.push(b'\n')?;
+    Ok(())
+}
+
+fn push_directive(out: &mut Vec<u8>, directive: &Directive) -> Result<(), AllocError>
+    ensures { IfOk result (λ _. (r : Reduced) × IsReducedTo directive.now r × (out.new.items ≡ out.old.items ++ reduced_line directive.now r)) }
+{
+    push_front(out, directive)?;
+    push_reduced(out, reduce(directive))?;
+    out.push(b'\n')?;
+    Ok(())
+}
+
+// The spelling of a directive, and its type.
+fn push_front(out: &mut Vec<u8>, directive: &Directive) -> Result<(), AllocError>
+    ensures { IfOk result (λ _. out.new.items ≡ out.old.items ++ codes "directive " ++ spelled directive.now ++ codes ": " ++ type_name (arg_type directive.now) ++ codes ": ") }
+{
+    out.extend_from_slice(b"directive ")?;
+    out.extend_from_slice(&spell(directive))?;
+    out.extend_from_slice(b": ")?;
+    out.extend_from_slice(type_name(directive.arg_type()).as_bytes())?;
+    out.extend_from_slice(b": ")
+}
+
+// The counts of a reduction, and its core between them.
+fn push_reduced(out: &mut Vec<u8>, reduced: Reduced) -> Result<(), AllocError>
+    ensures { IfOk result (λ _. out.new.items ≡ out.old.items ++ reduced_text reduced) }
+{
+    let Reduced {
+        spaces,
+        zeros,
+        core,
+        trail,
+    } = reduced;
+    push_padding(out, spaces, zeros)?;
+    push_core(out, core)?;
+    out.push(b' ')?;
+    push_number(out, u64::from(trail))
+}
+
+// The padding before a core.
+fn push_padding(out: &mut Vec<u8>, spaces: u16, zeros: u16) -> Result<(), AllocError>
+    ensures { IfOk result (λ _. out.new.items ≡ out.old.items ++ (decimal spaces ++ codes " " ++ decimal zeros ++ codes " ")) }
+{
+    push_number(out, u64::from(spaces))?;
+    out.push(b' ')?;
+    push_number(out, u64::from(zeros))?;
+    out.push(b' ')?;
+    Ok(())
+}
+
+fn push_core(out: &mut Vec<u8>, core: Core) -> Result<(), AllocError>
+    ensures { IfOk result (λ _. out.new.items ≡ out.old.items ++ spelled (core_of core)) }
+{
+    match core {
+        Core::Normal(normal) => out.extend_from_slice(&spell(&normal.directive())),
+        Core::Silent => out.extend_from_slice(b"%.0s"),
+    }
+}
+
+// The decimal digits of a number.
+fn push_number(out: &mut Vec<u8>, number: u64) -> Result<(), AllocError>
+    ensures { IfOk result (λ _. out.new.items ≡ out.old.items ++ decimal number) }
+{
+    let mut digits = Buffer::new();
+    out.extend_from_slice(digits.format(number).as_bytes())
+}

@@ -1,0 +1,52 @@
+//! What `show` writes, and what it reports of a refused format: rows of a model of the program that is not ours.
+
+#[rattlefmt::skip]
+pub(super) const SHOWS: [(&str, &str); 28] = [
+    ("% d", "directive % d: int: 0 0 % d 0\n"),
+    ("%0'5.3i", "directive %0'5.3i: int: 0 0 %5.3d 0\n"),
+    ("%u", "directive %u: unsigned int: 0 0 %u 0\n"),
+    ("%hho", "directive %hho: int: 0 0 %hho 0\n"),
+    ("%#zx", "directive %#zx: unsigned long: 0 0 %#lx 0\n"),
+    ("%05hhX", "directive %05hhX: int: 0 3 %.2hhX 0\n"),
+    ("%4094.d", "directive %4094.0d: int: 4083 0 %11.0d 0\n"),
+    ("%6.1hhd", "directive %6.1hhd: int: 2 0 %4hhd 0\n"),
+    ("%01.2hhd", "directive %01.2hhd: int: 0 0 %.2hhd 0\n"),
+    ("%01.3hhd", "directive %01.3hhd: int: 0 0 %.3hhd 0\n"),
+    ("%+.4hhd", "directive %+.4hhd: int: 0 0 %+.4hhd 0\n"),
+    ("%- 1hhd", "directive %- 1hhd: int: 0 0 % hhd 0\n"),
+    ("%- 4.1hhd", "directive %- 4.1hhd: int: 0 0 %- 4hhd 0\n"),
+    ("%-.2hho", "directive %-.2hho: int: 0 0 %.2hho 0\n"),
+    ("%#0.3hho", "directive %#0.3hho: int: 0 1 %.2hho 0\n"),
+    ("%#02.2hho", "directive %#02.2hho: int: 0 1 %hho 0\n"),
+    ("%2.1hhx", "directive %2.1hhx: int: 0 0 %2hhx 0\n"),
+    ("%.0s", "directive %.0s: string: 0 0 %.0s 0\n"),
+    ("%-s", "directive %-s: string: 0 0 %s 0\n"),
+    ("\n%5.0s%%%'2d\n%.0s\x01", "text 1\ndirective %5.0s: string: 5 0 %.0s 0\npercent\ndirective %'2d: int: 0 0 %2d 0\ntext 1\ndirective %.0s: string: 0 0 %.0s 0\ntext 1\n"),
+    ("%%%.sA%3d%%%-14llX    ", "percent\ndirective %.0s: string: 0 0 %.0s 0\ntext 1\ndirective %3d: int: 0 0 %3d 0\npercent\ndirective %-14llX: unsigned long long: 0 0 %-14llX 0\ntext 4\n"),
+    ("d%ho+%0''4.17lld\x01", "text 1\ndirective %ho: int: 0 0 %ho 0\ntext 1\ndirective %0'4.17lld: long long: 0 0 %.17lld 0\ntext 1\n"),
+    ("\x7f%-5x+%'2ld0", "text 1\ndirective %-5x: unsigned int: 0 0 %-5x 0\ntext 1\ndirective %'2ld: long: 0 0 %2ld 0\ntext 1\n"),
+    ("a%# 23tob", "text 1\ndirective % #23to: unsigned long: 0 0 %#23lo 0\ntext 1\n"),
+    ("0x%-3.0sb%0##.3hhxa%14llu0b%0.12x", "text 2\ndirective %-3.0s: string: 3 0 %.0s 0\ntext 1\ndirective %#0.3hhx: int: 0 0 %#.3hhx 0\ntext 1\ndirective %14llu: unsigned long long: 0 0 %14llu 0\ntext 2\ndirective %0.12x: unsigned int: 0 4 %.8x 0\n"),
+    ("b%-3.0sé", "text 1\ndirective %-3.0s: string: 3 0 %.0s 0\ntext 2\n"),
+    ("+", "text 1\n"),
+    ("A%6.21lld%%%5.0s0x%+ 1td-%5.0s0b%+.00023lld%%.0s", "text 1\ndirective %6.21lld: long long: 0 0 %.21lld 0\npercent\ndirective %5.0s: string: 5 0 %.0s 0\ntext 2\ndirective %+ 1td: long: 0 0 %+ld 0\ntext 1\ndirective %5.0s: string: 5 0 %.0s 0\ntext 2\ndirective %+.23lld: long long: 0 0 %+.23lld 0\npercent\ntext 3\n"),
+];
+
+#[rattlefmt::skip]
+pub(super) const REFUSED: [(&str, &str); 15] = [
+    ("%#c", "refused 13 AltUndefined at byte 2\n"),
+    ("%0s", "refused 14 ZeroUndefined at byte 2\n"),
+    ("%hhhd", "refused 3 Unexpected at byte 3\n"),
+    ("%lhd", "refused 3 Unexpected at byte 2\n"),
+    ("%#05i", "refused 13 AltUndefined at byte 4\n"),
+    ("%lhu", "refused 3 Unexpected at byte 2\n"),
+    ("%#Lo", "refused 9 Float at byte 2\n"),
+    ("%-+ #0'5.3tx", "refused 15 GroupUndefined at byte 11\n"),
+    ("%+Lx", "refused 9 Float at byte 2\n"),
+    ("%'qc", "refused 3 Unexpected at byte 2\n"),
+    ("%#'hls", "refused 3 Unexpected at byte 4\n"),
+    ("%4096.s", "refused 7 WidthTooLarge at byte 4\n"),
+    ("%005.4096", "refused 8 PrecisionTooLarge at byte 8\n"),
+    ("é%9.8d漢%++1c0x%C", "refused 12 Wide at byte 18\n"),
+    ("+%+.00011llx0x%00-.d%ad", "refused 9 Float at byte 21\n"),
+];
