@@ -18,7 +18,7 @@ use Rattle.pf_text.specs.declared.pieces.Piece.TheVariants as pieces
 use Rattle.pf_text.specs.declared.pieces.Pieces.{Pieces}
 use Rattle.pf_text.specs.declared.refusal.Refusal.{Refusal}
 use Rattle.pf_text.specs.PieceHistory.{Gives, GivesNext, GivesPiece, HasGiven, IsPieceBefore, items_of}
-use Rattle.pf_text.proofs.SignatureLemmas.{types-append}
+use Rattle.pf_values.proofs.ItemTypes.{types-append}
 use Rattle.pf_text.proofs.Texts.{Reads-unique}
 use Rattle.pf_render.specs.Matching.{TakesArguments}
 use Rattle.pf_render.specs.Rendering.{Renders, RendersTo}

@@ -18,7 +18,8 @@ use Rattle.pf_text.specs.declared.pieces.Piece.TheVariants as pieces
 use Rattle.pf_text.specs.declared.pieces.Pieces.{Pieces}
 use Rattle.pf_text.specs.declared.refusal.Refusal.{Refusal}
 use Rattle.pf_text.specs.PieceHistory.{Gives, items_of}
-use Rattle.pf_text.proofs.SignatureLemmas.{HasFound, found_same, more_found, types-bytes}
+use Rattle.pf_values.proofs.ItemTypes.{types-bytes}
+use Rattle.pf_text.proofs.SignatureLemmas.{HasFound, found_same, more_found}
 use Rattle.pf_text.specs.Signatures as signatures
 use Rattle.pf_render.specs.declared.matching.Tally.{Tally}
 use Rattle.pf_render.specs.Matching.{IsOfType, IsOfTypeAt, TakesArguments, Tallies}

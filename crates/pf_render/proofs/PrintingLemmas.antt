@@ -5,24 +5,13 @@ use Rattle.pf_values.specs.Arguments.{Argument, HasTypes}
 use Rattle.pf_values.specs.Items.{Item, Byte, Directive, types}
 use Rattle.pf_values.specs.Printing.{PrintsAll}
 use Rattle.pf_values.specs.Text.{Text}
-use Rattle.pf_values.proofs.PrintsOnce.{Prints-unique, printed, printed-is}
+use Rattle.pf_values.proofs.Alike.{all_printed, all_printed-is, PrintsAll-unique as only_printed}
 
 pub PrintsAll-exists : (items : List Item) (args : List Argument) → HasTypes args (types items) → (out : Text) × PrintsAll items args out
-PrintsAll-exists [] [] h = ([], refl)
-PrintsAll-exists [] (a ∷ args) h = absurd h
-PrintsAll-exists (Byte byte ∷ items) args h = let rest = PrintsAll-exists items args h in (byte ∷ rest.0, (rest.0, rest.1, refl))
-PrintsAll-exists (Directive s ∷ items) [] h = absurd h
-PrintsAll-exists (Directive s ∷ items) (a ∷ args) h = let rest = PrintsAll-exists items args h.1 in (printed s a ++ rest.0, (printed s a, rest.0, printed-is s a h.0, rest.1, refl))
+PrintsAll-exists items args h = (all_printed items args, all_printed-is items args h)
 
 pub PrintsAll-unique : (items : List Item) (args : List Argument) (out other : Text) → HasTypes args (types items) → PrintsAll items args out → PrintsAll items args other → other ≡ out
-PrintsAll-unique [] [] out other h f g = g ∙ sym f
-PrintsAll-unique [] (a ∷ args) out other h f g = absurd h
-PrintsAll-unique (Byte byte ∷ items) args out other h f g = let rest = PrintsAll-unique items args f.0 g.0 h f.1 g.1 in g.2 ∙ ap (λ t. byte ∷ t) rest ∙ sym f.2
-PrintsAll-unique (Directive s ∷ items) [] out other h f g = absurd h
-PrintsAll-unique (Directive s ∷ items) (a ∷ args) out other h f g =
-    let rest = PrintsAll-unique items args f.1 g.1 h.1 f.3 g.3 in
-    let first : g.0 ≡ f.0 = Prints-unique s a g.0 h.0 g.2 ∙ sym (Prints-unique s a f.0 h.0 f.2) in
-    g.4 ∙ ap (λ t. t ++ g.1) first ∙ ap (λ t. f.0 ++ t) rest ∙ sym f.4
+PrintsAll-unique items args out other h f g = only_printed items args other h g ∙ sym (only_printed items args out h f)
 
 -- items that come before others take the first arguments, and print first
 pub PrintsAll-split : (items more : List Item) (args : List Argument) (out : Text) → PrintsAll (items ++ more) args out

@@ -1,26 +1,16 @@
 -- The types of items, and what the calls that collect them leave.
-use Rattle.std.proofs.Common.{◌≡◌, ◌≤◌, true, false, List, [], ◌∷◌, ◌++◌, length, map, refl, sym, ap, ◌∙◌, subst, arith, Some, None, Ok, Err, Result}
+use Rattle.std.proofs.Common.{◌≡◌, ◌≤◌, true, false, List, [], ◌∷◌, ◌++◌, length, sym, ap, ◌∙◌, subst, arith, Some, None, Ok, Err, Result}
 use Rattle.std.specs.Prelude.{is_err, IsOk, OnOk}
 use Rattle.std.proofs.lemmas.List.{append-nil, length_push}
 use Rattle.pf_values.specs.declared.types.ArgType.{ArgType}
-use Rattle.pf_values.specs.DataModel.{arg_type}
-use Rattle.pf_values.specs.Items.{Item, Byte, Directive, types}
+use Rattle.pf_values.specs.Items.{Item, types}
 use Rattle.pf_values.specs.Text.{Text}
+use Rattle.pf_values.proofs.ItemTypes.{types-append}
 use Rattle.pf_text.specs.declared.pieces.Piece.{Piece}
 use Rattle.pf_text.specs.declared.pieces.Pieces.{Pieces}
 use Rattle.pf_text.specs.declared.refusal.Refusal.{Refusal}
 use Rattle.pf_text.specs.PieceHistory.{Gives, GivesNext, GivesPiece, GivesRefusal, HasGiven, items_of}
 use Rattle.pf_text.specs.Signatures.{HasTypes, TakesManyArguments}
-
-pub types-append : (items more : List Item) → types (items ++ more) ≡ types items ++ types more
-types-append [] more = refl
-types-append (Byte byte ∷ items) more = types-append items more
-types-append (Directive s ∷ items) more = ap (λ ts. arg_type s ∷ ts) (types-append items more)
-
--- literal bytes take no arguments
-pub types-bytes : (bytes : Text) → types (map Byte bytes) ≡ []
-types-bytes [] = refl
-types-bytes (byte ∷ bytes) = types-bytes bytes
 
 pub no_success : {T E : Type 0} (r : Result T E) → true ≡ is_err r → IsOk r → ⊥
 no_success (Ok x) e h = cc

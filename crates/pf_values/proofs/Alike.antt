@@ -1,5 +1,6 @@
 -- Items that take the same types and print the same for all arguments of them.
 use Rattle.std.proofs.Common.{◌≡◌, List, [], ◌∷◌, ◌++◌, refl, sym, ap, ◌∙◌}
+use Rattle.std.specs.Prelude.{◌↔◌}
 use Rattle.std.proofs.lemmas.List.{append_assoc}
 use Rattle.pf_values.specs.declared.types.ArgType.{ArgType}
 use Rattle.pf_values.specs.Arguments.{Argument, HasTypes}
@@ -7,6 +8,7 @@ use Rattle.pf_values.specs.DataModel.{arg_type}
 use Rattle.pf_values.specs.Items.{Item, Byte, Directive, Reads, types}
 use Rattle.pf_values.specs.Printing.{AreEquivalent, PrintsAll}
 use Rattle.pf_values.specs.Text.{Text}
+use Rattle.pf_values.proofs.ItemTypes.{types-append}
 use Rattle.pf_values.proofs.PrintsOnce.{printed, printed-is, Prints-unique}
 
 -- what items print for arguments; too few or too many of them print nothing
@@ -49,6 +51,15 @@ alike_trans a b c h g = record {
   same_bytes = λ args t. h.same_bytes args t ∙ g.same_bytes args (rw (← h.same_types) t);
 }
 
+-- what the one prints the other does
+pub alike-prints : (a b : List Item) → AreAlike a b → (args : List Argument) (out : Text) → HasTypes args (types a) → (PrintsAll a args out ↔ PrintsAll b args out)
+alike-prints a b h args out typed =
+    let typed' : HasTypes args (types b) = rw (← h.same_types) typed in
+    let equal = h.same_bytes args typed in (
+      λ p. rw (PrintsAll-unique a args out typed p ∙ equal) (all_printed-is b args typed'),
+      λ p. rw (PrintsAll-unique b args out typed' p ∙ sym equal) (all_printed-is a args typed),
+    )
+
 -- texts that read as such items are equivalent
 pub alike-equivalent : (t u : Text) (a b : List Item) → Reads t a → Reads u b → AreAlike a b → AreEquivalent t u
 alike-equivalent t u a b h g same = record {
@@ -57,12 +68,7 @@ alike-equivalent t u a b h g same = record {
   reads_first = h;
   reads_second = g;
   same_types = same.same_types;
-  same_bytes = λ args out typed.
-      let typed' : HasTypes args (types b) = rw (← same.same_types) typed in
-      let equal = same.same_bytes args typed in (
-        λ p. rw (PrintsAll-unique a args out typed p ∙ equal) (all_printed-is b args typed'),
-        λ p. rw (PrintsAll-unique b args out typed' p ∙ sym equal) (all_printed-is a args typed),
-      );
+  same_bytes = alike-prints a b same;
 }
 
 -- one item more in front of both
@@ -83,11 +89,6 @@ alike_behind (Directive s) a b h = record {
 pub alike_after : (front a b : List Item) → AreAlike a b → AreAlike (front ++ a) (front ++ b)
 alike_after [] a b h = h
 alike_after (item ∷ front) a b h = alike_behind item (front ++ a) (front ++ b) (alike_after front a b h)
-
-pub types-append : (a b : List Item) → types (a ++ b) ≡ types a ++ types b
-types-append [] b = refl
-types-append (Byte byte ∷ a) b = types-append a b
-types-append (Directive s ∷ a) b = ap (λ ts. arg_type s ∷ ts) (types-append a b)
 
 -- arguments of two lists of types, one after another
 record IsSplit (args : List Argument) (ts us : List ArgType) : Type 0 where

@@ -2,6 +2,7 @@ pub mod Numerals
 pub mod Printed
 pub mod Values
 pub mod PrintsOnce
+pub mod ItemTypes
 pub mod Alike
 pub mod Counts
 pub mod NumberTexts

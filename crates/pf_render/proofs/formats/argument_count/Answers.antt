@@ -1,7 +1,7 @@
 use Rattle.std.proofs.Common.{sym, ap, ◌∙◌, length}
 use Rattle.pf_values.specs.Items.{types}
 use Rattle.pf_text.specs.PieceHistory.{items_of}
-use Rattle.pf_text.proofs.SignatureLemmas.{types-bytes}
+use Rattle.pf_values.proofs.ItemTypes.{types-bytes}
 use Rattle.pf_render.proofs.formats.argument_count.Goals as goal
 
 pub returns-in-Literal : goal.returns-in-Literal
