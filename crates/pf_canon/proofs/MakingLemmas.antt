@@ -10,29 +10,17 @@ use Rattle.pf_values.specs.Normal.{IsNormal, silent}
 use Rattle.pf_values.specs.Specification.{Specification}
 use Rattle.pf_values.specs.Spelling.{spelled}
 use Rattle.pf_values.specs.Text.{Text, percent}
-use Rattle.pf_values.proofs.Alike.{AreAlike, alike_after, alike_before, alike_refl, alike_trans, alike-equivalent}
+use Rattle.pf_values.proofs.Alike.{AreAlike, alike_after, alike_before, alike_trans, alike-equivalent}
 use Rattle.pf_text.proofs.ReadBack.{spelled_read}
 use Rattle.pf_text.proofs.Texts.{Reads-unique}
 use Rattle.pf_reduce.specs.Reducing.{IsReducedTo}
 use Rattle.pf_reduce.specs.declared.results.Reduced.{Reduced}
 use Rattle.pf_canon.specs.Making.{IsMaking, PrintAlike, silents}
-use Rattle.pf_canon.proofs.CanonicalItems.{Reads-append, canonical-append, canonical-back, canonical-front, canonical-silents, ends_with, no_silent_before, not_silent, nothing_open, written-append}
+use Rattle.pf_canon.proofs.CanonicalItems.{Reads-append, canonical-append, canonical-back, canonical-front, canonical-silents, ends_with, no_silent_before, not_silent, written-append}
 use Rattle.pf_canon.proofs.Printing.{alike-printed, byte_past_silents, printed-alike, reduced_alike, reduced_items}
 
 changed : (a b c : List Item) → PrintAlike a b → AreAlike b c → PrintAlike a c
 changed a b c h g = alike-printed a c (alike_trans a b c (printed-alike a b h) g)
-
--- nothing is made of nothing
-pub made_nothing : IsMaking [] 0 [] []
-made_nothing = record {
-  done = [];
-  reads = refl;
-  whole = refl;
-  canonical = tt;
-  open_end = nothing_open;
-  alike = alike-printed [] [] (alike_refl []);
-  kept = λ h. refl;
-}
 
 -- more items follow
 pub made_more : (out : Text) (waiting : ℕ) (items rest more : List Item) → IsMaking out waiting items rest → IsMaking out waiting (items ++ more) (rest ++ more)
