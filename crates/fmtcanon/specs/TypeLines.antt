@@ -1,7 +1,8 @@
 -- The types of a format's arguments, as lines.
-use Rattle.std.specs.Prelude.{◌≡◌, List, codes, flat_map}
+use Rattle.std.specs.Prelude.{◌≡◌, ◌≤◌, List, codes, flat_map, length}
 use Rattle.pf_text.specs.declared.faults.TextFault.{TextFault}
 use Rattle.pf_text.specs.declared.faults.TextFault.TheVariants.{Memory, Refused}
+use Rattle.pf_values.specs.declared.limits.TheConstants.{MAX_TEXT_LEN}
 use Rattle.pf_values.specs.declared.types.ArgType.{ArgType}
 use Rattle.pf_values.specs.declared.types.ArgType.TheVariants.{Int, UInt, Long, ULong, LongLong, ULongLong, Str}
 use Rattle.pf_values.specs.Items.{Item, Reads, types}
@@ -21,9 +22,9 @@ type_name Str = codes "string"
 abbrev pub type_line : ArgType → Text
 type_line type = line (type_name type)
 
--- a line for each argument of a format, in order
+-- a line for each argument of an accepted format, in order
 abbrev pub HasTypeLines : Text → Text → Type 0
-HasTypeLines format lines = (items : List Item) × Reads format items × (lines ≡ flat_map type_line (types items))
+HasTypeLines format lines = (items : List Item) × Reads format items × (length format ≤ MAX_TEXT_LEN) × (lines ≡ flat_map type_line (types items))
 
 -- why there are none
 abbrev pub HindersTypes : Text → TextFault → Type 0

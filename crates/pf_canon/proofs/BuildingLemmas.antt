@@ -93,6 +93,7 @@ module _ (old new : Pieces) (t out : Text) (waiting : ℕ) (h : HasBuilt old t o
       record {
         items = h.items;
         reads = end.reads;
+        limit = end.limit;
         canonical_is = rw e (made_canonical t out waiting h.items end.reads h.made);
         kept = λ is. e ∙ made_same t out waiting h.items end.reads h.made is;
         few = omega (arith, short, ap length e, length-append out (flat_map written (silents waiting)), length-silents waiting);
