@@ -7,9 +7,11 @@ pub mod laws;
 pub mod limits;
 mod making;
 mod recognizing;
+mod sides;
 #[cfg(test)]
 mod tests;
 
 pub use building::canonical;
 pub use faults::CanonFault;
 pub use recognizing::is_canonical;
+pub use sides::Side;
