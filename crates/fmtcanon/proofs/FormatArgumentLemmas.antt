@@ -11,7 +11,7 @@ use Rattle.pf_values.specs.Arg.{argument_of, type_of}
 use Rattle.pf_values.specs.Arguments.{Argument, HasType, HasTypes}
 use Rattle.pf_values.specs.Text.{Text}
 use Rattle.fmtcanon.specs.ArgumentWords.{SpellsArgument}
-use Rattle.fmtcanon.specs.declared.format_arguments.ArgumentFault.TheVariants.{WrongCount}
+use Rattle.fmtcanon.specs.declared.fault.Fault.TheVariants.{WrongCount}
 use Rattle.fmtcanon.specs.declared.untyped.UntypedArg.{UntypedArg}
 use Rattle.fmtcanon.specs.FormatArguments.{GivesArgument, HindersArguments, IsFirstBadWord, IsFirstWrongType, SpellArguments}
 use Rattle.fmtcanon.specs.UntypedArgs.{argument_given}

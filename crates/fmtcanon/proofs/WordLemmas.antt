@@ -1,10 +1,11 @@
 -- What clap's definition of the command says of the words that it takes.
-use Rattle.std.proofs.Common.{◌≡◌, List, [], ◌∷◌, Bool, true, false, Option, Some, None, is_some, codes, refl, ap, subst, find, cond, option_map, unwrap_or}
+use Rattle.std.proofs.Common.{◌≡◌, List, [], ◌∷◌, Bool, true, false, Option, Some, None, is_some, codes, refl, sym, ap, subst, find, cond, option_map, unwrap_or}
 use Rattle.std.specs.List.{AllByRecursion, list_all}
 use Rattle.clap.specs.Walk.{Row, Text, first_of, nothing_held, walk, answers_to}
 use Rattle.clap.specs.Simple.{Shape, built, entered, is_simple, label_of, names_of, rows_at, subcommand_of}
 use Rattle.clap.specs.Faults.{fault_of, is_simple_and_free}
 use Rattle.clap.proofs.OnLiterals.{clap_on_literals}
+use Rattle.fmtcanon.specs.Tasks.{Names}
 use Rattle.fmtcanon.specs.Words.{the_command}
 use Rattle.fmtcanon.proofs.PresenceLemmas.{required_has_value, required_is_named, requires_value}
 
@@ -50,13 +51,32 @@ asks_subcommand = refl
 pub subcommand_given : (words : List Text) → fault_of the_command words ≡ [] → is_some (subcommand_of the_command words) ≡ true
 subcommand_given words = required_is_named the_command words asks_subcommand
 
--- each subcommand has F as a required argument
-each_requires_format : AtEach (λ name. list_all (requires_value name (codes "F")) (built the_command).subs ≡ true)
-unfolding the_command clap_on_literals
-each_requires_format = (refl, (refl, (refl, (refl, tt))))
+-- a required argument of the subcommand of this name
+abbrev pub IsWanted : Text → Text → Type 0
+IsWanted name id = list_all (requires_value name id) (built the_command).subs ≡ true
 
--- where no fault is found, F has a value
-pub format_given : (words : List Text) (name : Text) (rows : List Row) → fault_of the_command words ≡ [] → subcommand_of the_command words ≡ Some (name, rows)
-    → is_some (first_of (codes "F") rows) ≡ true
-format_given words name rows no_fault asked =
-    required_has_value the_command words name (codes "F") rows (at_asked _ words name rows each_requires_format asked) no_fault asked
+pub types_wants : IsWanted (codes "types") (codes "F")
+unfolding the_command clap_on_literals
+types_wants = refl
+
+pub canon_wants : IsWanted (codes "canon") (codes "F")
+unfolding the_command clap_on_literals
+canon_wants = refl
+
+pub show_wants : IsWanted (codes "show") (codes "F")
+unfolding the_command clap_on_literals
+show_wants = refl
+
+pub format_wants : IsWanted (codes "format") (codes "F")
+unfolding the_command clap_on_literals
+format_wants = refl
+
+pub same_wants : IsWanted (codes "same") (codes "F") × IsWanted (codes "same") (codes "G")
+unfolding the_command clap_on_literals
+same_wants = (refl, refl)
+
+-- where no fault is found, such an argument has a value
+pub value_given : (words : List Text) (name command id : Text) (rows : List Row) → Names words name rows → name ≡ command → IsWanted command id
+    → is_some (first_of id rows) ≡ true
+value_given words name command id rows names e wants =
+    required_has_value the_command words name id rows (subst (λ n. IsWanted n id) (sym e) wants) names.no_fault names.named

@@ -1,5 +1,5 @@
 -- The arguments that words give for a format, why they give none, and what it prints for them.
-use Rattle.std.specs.Prelude.{◌≡◌, ◌≢◌, ℕ, ◌≤◌, List, length, map, take, Some, slice_get}
+use Rattle.std.specs.Prelude.{◌≡◌, ◌≢◌, ℕ, ◌≤◌, List, length, map, take, None, Some, slice_get}
 use Rattle.std.specs.List.{AllByRecursion, AllZip}
 use Rattle.pf_values.specs.declared.arguments.Arg.{Arg}
 use Rattle.pf_values.specs.declared.limits.TheConstants.{MAX_TEXT_LEN}
@@ -10,8 +10,8 @@ use Rattle.pf_values.specs.Items.{IsAccepted, Item, Reads, types}
 use Rattle.pf_values.specs.Printing.{PrintsAll}
 use Rattle.pf_values.specs.Refusals.{IsRefusedAt}
 use Rattle.pf_values.specs.Text.{Text}
-use Rattle.fmtcanon.specs.declared.format_arguments.ArgumentFault.{ArgumentFault}
-use Rattle.fmtcanon.specs.declared.format_arguments.ArgumentFault.TheVariants.{Refused, BadWord, WrongCount, WrongType, Memory}
+use Rattle.fmtcanon.specs.declared.fault.Fault.{Fault}
+use Rattle.fmtcanon.specs.declared.fault.Fault.TheVariants.{Refused, BadWord, WrongCount, WrongType, Memory}
 use Rattle.fmtcanon.specs.ArgumentWords.{SpellsArgument}
 
 -- each word gives an argument, in order
@@ -38,12 +38,12 @@ pub record IsFirstWrongType (arguments : List Argument) (wanted : List ArgType) 
   pub right_before : HasTypes (take index arguments) (take index wanted)
 
 -- what stops the reading of words, and of types
-abbrev pub IsBadWord : List Text → ArgumentFault → Type 0
+abbrev pub IsBadWord : List Text → Fault → Type 0
 IsBadWord words (BadWord index) = IsFirstBadWord words index
 IsBadWord words Memory = Unit {0}
 IsBadWord words _ = ⊥
 
-abbrev pub IsWrongType : List Argument → List ArgType → ArgumentFault → Type 0
+abbrev pub IsWrongType : List Argument → List ArgType → Fault → Type 0
 IsWrongType arguments wanted (WrongType index) = IsFirstWrongType arguments wanted index
 IsWrongType arguments wanted Memory = Unit {0}
 IsWrongType arguments wanted _ = ⊥
@@ -62,8 +62,9 @@ pub record AreArgumentsFor (format : Text) (words : List Text) (args : List Arg)
   pub types_are : map type_of args ≡ types items
 
 -- Why there are no arguments: the first that holds, in this order.
-abbrev pub HindersArguments : Text → List Text → ArgumentFault → Type 0
-HindersArguments format words (Refused refusal) = IsRefusedAt format refusal.kind refusal.at
+abbrev pub HindersArguments : Text → List Text → Fault → Type 0
+HindersArguments format words (Refused (Some side) refusal) = ⊥
+HindersArguments format words (Refused None refusal) = IsRefusedAt format refusal.kind refusal.at
 HindersArguments format words (BadWord index) = IsAccepted format × IsFirstBadWord words index
 HindersArguments format words (WrongCount wanted given) =
     (items : List Item) × (arguments : List Argument) × IsGiven format words items arguments × (wanted ≡ length (types items)) × (given ≡ length words) × (wanted ≢ given)

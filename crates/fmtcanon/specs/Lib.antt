@@ -1,10 +1,13 @@
 pub mod Lines
 pub mod Words
 pub mod Tasks
-pub mod Outcomes
+pub mod Faults
 pub mod TypeLines
 pub mod Shows
-pub mod Runs
 pub mod ArgumentWords
 pub mod UntypedArgs
 pub mod FormatArguments
+pub mod Comparisons
+pub mod Answers
+pub mod Outcomes
+pub mod Runs

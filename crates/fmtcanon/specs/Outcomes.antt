@@ -1,11 +1,29 @@
--- Exit statuses.
+-- Outcomes: of an answer that was written, of a fault, and their exit statuses.
 use Rattle.std.specs.Prelude.{ℕ}
+use Rattle.fmtcanon.specs.declared.answer.Ending.{Ending}
+use Rattle.fmtcanon.specs.declared.answer.Ending.TheVariants as endings
+use Rattle.fmtcanon.specs.declared.fault.Fault.{Fault}
+use Rattle.fmtcanon.specs.declared.fault.Fault.TheVariants as faults
 use Rattle.fmtcanon.specs.declared.outcome.Outcome.{Outcome}
-use Rattle.fmtcanon.specs.declared.outcome.Outcome.TheVariants.{Done, Refused, BadWord, WrongCount, WrongType, Usage, Write, Memory}
+use Rattle.fmtcanon.specs.declared.outcome.Outcome.TheVariants.{Done, Same, Different, Refused, BadWord, WrongCount, WrongType, Usage, Write, Memory}
+
+abbrev pub outcome_of : Ending → Outcome
+outcome_of endings.Done = Done
+outcome_of endings.Same = Same
+outcome_of endings.Different = Different
+
+abbrev pub faulted : Fault → Outcome
+faulted (faults.Refused side refusal) = Refused side refusal
+faulted (faults.BadWord index) = BadWord index
+faulted (faults.WrongCount wanted given) = WrongCount wanted given
+faulted (faults.WrongType index) = WrongType index
+faulted faults.Memory = Memory
 
 abbrev pub status_of : Outcome → ℕ
 status_of Done = 0
-status_of (Refused refusal) = 2
+status_of Same = 0
+status_of Different = 1
+status_of (Refused side refusal) = 2
 status_of (BadWord index) = 3
 status_of (WrongCount wanted given) = 3
 status_of (WrongType index) = 3

@@ -1,73 +1,62 @@
 -- What a run leaves, by its outcome.
-use Rattle.std.specs.Prelude.{◌⊎◌, List, codes}
+use Rattle.std.specs.Prelude.{◌≡◌, ℕ, List}
 use Rattle.std.specs.Io.KnownBytes.{Keeps}
 use Rattle.pf_values.specs.declared.counting.Counted.{Counted}
 use Rattle.pf_values.specs.Counting.{Known, WritesAll, WritesFirst, device_of}
-use Rattle.pf_values.specs.Refusals.{IsRefusedAt}
 use Rattle.pf_values.specs.Text.{Text}
-use Rattle.pf_canon.specs.Answers.{IsCanonicalFor}
-use Rattle.fmtcanon.specs.declared.outcome.Outcome.{Outcome}
-use Rattle.fmtcanon.specs.declared.outcome.Outcome.TheVariants.{Done, Refused, BadWord, WrongCount, WrongType, Usage, Write, Memory}
-use Rattle.fmtcanon.specs.declared.format_arguments.ArgumentFault.TheVariants as faults
-use Rattle.fmtcanon.specs.FormatArguments.{HindersArguments, IsPrinted}
-use Rattle.fmtcanon.specs.Lines.{line}
-use Rattle.fmtcanon.specs.Shows.{HasShownLines}
-use Rattle.fmtcanon.specs.Tasks.{Names, NamesWithWords}
-use Rattle.fmtcanon.specs.TypeLines.{HasTypeLines}
+use Rattle.fmtcanon.specs.Answers.{IsAnswer, IsHindered}
+use Rattle.fmtcanon.specs.Tasks.{Asks}
 use Rattle.fmtcanon.specs.Words.{IsTaken}
+use Rattle.fmtcanon.specs.declared.answer.Ending.{Ending}
+use Rattle.fmtcanon.specs.declared.answer.Ending.TheVariants as endings
+use Rattle.fmtcanon.specs.declared.fault.Fault.{Fault}
+use Rattle.fmtcanon.specs.declared.fault.Fault.TheVariants as faults
+use Rattle.fmtcanon.specs.declared.outcome.Outcome.{Outcome}
+use Rattle.fmtcanon.specs.declared.outcome.Outcome.TheVariants.{Done, Same, Different, Refused, BadWord, WrongCount, WrongType, Usage, Write, Memory}
+use Rattle.fmtcanon.specs.declared.task.Task.{Task}
 
 module _ {W : Type 0} (contents : W → Known) (old new : Counted W) where
   -- nothing went out
   abbrev pub KeepsAll : Type 0
   KeepsAll = Keeps (contents (device_of old)) (contents (device_of new))
 
-  -- just these bytes went out, or the first of them and a call failed
-  abbrev pub LeavesBytes : Text → Outcome → Type 0
-  LeavesBytes bytes Done = WritesAll contents old new bytes
-  LeavesBytes bytes (Write written) = WritesFirst contents old new bytes written
-  LeavesBytes bytes _ = ⊥
+  -- All of an answer went out.
+  pub record AnswersAll (task : Task) (ending : Ending) : Type 0 where
+    pub out : Text
+    pub answer : IsAnswer task out ending
+    pub written : WritesAll contents old new out
 
-  -- a line for each argument of a format, or nothing
-  abbrev pub LeavesTypes : Text → Outcome → Type 0
-  LeavesTypes format (Refused refusal) = IsRefusedAt format refusal.kind refusal.at × KeepsAll
-  LeavesTypes format (Usage text) = ⊥
-  LeavesTypes format Memory = KeepsAll
-  LeavesTypes format outcome = (lines : Text) × HasTypeLines format lines × LeavesBytes lines outcome
+  -- Just the first bytes of an answer went out, and a call failed.
+  pub record AnswersFirst (task : Task) (count : ℕ) : Type 0 where
+    pub out : Text
+    pub ending : Ending
+    pub answer : IsAnswer task out ending
+    pub written : WritesFirst contents old new out count
 
-  -- the canonical string of a format and a newline, or nothing
-  abbrev pub LeavesCanonical : Text → Outcome → Type 0
-  LeavesCanonical format (Refused refusal) = IsRefusedAt format refusal.kind refusal.at × KeepsAll
-  LeavesCanonical format (Usage text) = ⊥
-  LeavesCanonical format Memory = KeepsAll
-  LeavesCanonical format outcome = (canonical : Text) × IsCanonicalFor format canonical × LeavesBytes (line canonical) outcome
+  -- There is no answer, and nothing went out.
+  abbrev pub AnswersNothing : Task → Fault → Type 0
+  AnswersNothing task fault = IsHindered task fault × KeepsAll
 
-  -- a line for each part of a format, or nothing
-  abbrev pub LeavesShown : Text → Outcome → Type 0
-  LeavesShown format (Refused refusal) = IsRefusedAt format refusal.kind refusal.at × KeepsAll
-  LeavesShown format (Usage text) = ⊥
-  LeavesShown format Memory = KeepsAll
-  LeavesShown format outcome = (lines : Text) × HasShownLines format lines × LeavesBytes lines outcome
-
-  -- what a format prints for the arguments that words give, or nothing
-  abbrev pub LeavesPrinted : Text → List Text → Outcome → Type 0
-  LeavesPrinted format words (Refused refusal) = HindersArguments format words (faults.Refused refusal) × KeepsAll
-  LeavesPrinted format words (BadWord index) = HindersArguments format words (faults.BadWord index) × KeepsAll
-  LeavesPrinted format words (WrongCount wanted given) = HindersArguments format words (faults.WrongCount wanted given) × KeepsAll
-  LeavesPrinted format words (WrongType index) = HindersArguments format words (faults.WrongType index) × KeepsAll
-  LeavesPrinted format words (Usage text) = ⊥
-  LeavesPrinted format words Memory = KeepsAll
-  LeavesPrinted format words outcome = (out : Text) × IsPrinted format words out × LeavesBytes out outcome
-
-  -- what the command that the words name leaves
-  abbrev pub LeavesNamed : List Text → Outcome → Type 0
-  LeavesNamed words outcome =
-      ((format : Text) × Names words (codes "types") format × LeavesTypes format outcome)
-      ⊎ ((format : Text) × Names words (codes "canon") format × LeavesCanonical format outcome)
-      ⊎ ((format : Text) × Names words (codes "show") format × LeavesShown format outcome)
-      ⊎ ((format : Text) × (given : List Text) × NamesWithWords words (codes "format") format given × LeavesPrinted format given outcome)
+  -- what the run of a task leaves
+  abbrev pub LeavesAnswer : Task → Outcome → Type 0
+  LeavesAnswer task Done = AnswersAll task endings.Done
+  LeavesAnswer task Same = AnswersAll task endings.Same
+  LeavesAnswer task Different = AnswersAll task endings.Different
+  LeavesAnswer task (Write count) = AnswersFirst task count
+  LeavesAnswer task (Refused side refusal) = AnswersNothing task (faults.Refused side refusal)
+  LeavesAnswer task (BadWord index) = AnswersNothing task (faults.BadWord index)
+  LeavesAnswer task (WrongCount wanted given) = AnswersNothing task (faults.WrongCount wanted given)
+  LeavesAnswer task (WrongType index) = AnswersNothing task (faults.WrongType index)
+  LeavesAnswer task Memory = AnswersNothing task faults.Memory
+  LeavesAnswer task (Usage text) = ⊥
 
   -- Words that clap takes are not answered with Usage. For want of memory nothing goes out.
   abbrev pub Leaves : List Text → Outcome → Type 0
   Leaves words (Usage text) = (IsTaken words → ⊥) × KeepsAll
   Leaves words Memory = KeepsAll
-  Leaves words outcome = LeavesNamed words outcome
+  Leaves words outcome = (task : Task) × Asks words task × LeavesAnswer task outcome
+
+  -- all bytes went out, and the run ends so; or the first of them and a call failed
+  abbrev pub LeavesBytes : Text → Outcome → Outcome → Type 0
+  LeavesBytes bytes end (Write count) = WritesFirst contents old new bytes count
+  LeavesBytes bytes end outcome = (outcome ≡ end) × WritesAll contents old new bytes

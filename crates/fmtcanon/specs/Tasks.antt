@@ -1,34 +1,42 @@
 -- What the words ask for, as a task.
 use Rattle.std.specs.Prelude.{◌≡◌, List, [], Some, codes, map, unwrap_or}
 use Rattle.clap.specs.Faults.{fault_of}
+use Rattle.clap.specs.Matches.{found_of}
 use Rattle.clap.specs.Simple.{subcommand_of}
-use Rattle.clap.specs.Walk.{Row, all_of, first_of}
+use Rattle.clap.specs.Walk.{Row, all_of, first_of, rows_of}
 use Rattle.clap.specs.declared.error.kind.ErrorKind.{ErrorKind}
 use Rattle.clap.specs.declared.error.kind.ErrorKind.TheVariants as kind
+use Rattle.clap.specs.declared.parser.matches.ArgMatches.{ArgMatches}
 use Rattle.pf_values.specs.Text.{Text}
 use Rattle.fmtcanon.specs.declared.task.NoTask.{NoTask}
 use Rattle.fmtcanon.specs.declared.task.NoTask.TheVariants.{Usage, Memory}
 use Rattle.fmtcanon.specs.declared.task.Task.{Task}
-use Rattle.fmtcanon.specs.declared.task.Task.TheVariants.{Types, Canon, Show, Format}
+use Rattle.fmtcanon.specs.declared.task.Task.TheVariants.{Types, Canon, Show, Format, Same}
 use Rattle.fmtcanon.specs.Words.{IsTaken, the_command}
 
--- clap finds no fault in the words: they name a command, and have this text as F
-pub record Names (words : List Text) (command : Text) (text : Text) : Type 0 where
-  pub rows : List Row
+-- clap finds no fault in the words: they name a command, and have these values for its arguments
+pub record Names (words : List Text) (command : Text) (rows : List Row) : Type 0 where
   pub no_fault : fault_of the_command words ≡ []
   pub named : subcommand_of the_command words ≡ Some (command, rows)
-  pub format : first_of (codes "F") rows ≡ Some text
 
--- the same, and these words as ARG, of which there may be none
-pub record NamesWithWords (words : List Text) (command : Text) (text : Text) (given : List Text) : Type 0 where
-  pub names : Names words command text
-  pub given_are : given ≡ unwrap_or (all_of (codes "ARG") names.rows) []
+-- an argument has this value
+abbrev pub HasValue : List Row → Text → Text → Type 0
+HasValue rows id text = first_of id rows ≡ Some text
+
+-- an argument has these values, of which there may be none
+abbrev pub HasAllValues : List Row → Text → List Text → Type 0
+HasAllValues rows id texts = texts ≡ unwrap_or (all_of id rows) []
 
 abbrev pub Asks : List Text → Task → Type 0
-Asks words (Types text) = Names words (codes "types") text.now
-Asks words (Canon text) = Names words (codes "canon") text.now
-Asks words (Show text) = Names words (codes "show") text.now
-Asks words (Format text given) = NamesWithWords words (codes "format") text.now (map (λ s. s.now) given.items)
+Asks words (Types format) = (rows : List Row) × Names words (codes "types") rows × HasValue rows (codes "F") format.now
+Asks words (Canon format) = (rows : List Row) × Names words (codes "canon") rows × HasValue rows (codes "F") format.now
+Asks words (Show format) = (rows : List Row) × Names words (codes "show") rows × HasValue rows (codes "F") format.now
+Asks words (Format format given) = (rows : List Row) × Names words (codes "format") rows × HasValue rows (codes "F") format.now × HasAllValues rows (codes "ARG") (map (λ s. s.now) given.items)
+Asks words (Same first second) = (rows : List Row) × Names words (codes "same") rows × HasValue rows (codes "F") first.now × HasValue rows (codes "G") second.now
+
+-- the values that clap found for a subcommand
+abbrev pub rows_in : ArgMatches → List Row
+rows_in inner = rows_of (found_of inner)
 
 -- words that clap takes have no task for want of memory alone
 abbrev pub IsNoTaskOf : List Text → NoTask → Type 0

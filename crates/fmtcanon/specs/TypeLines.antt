@@ -1,12 +1,9 @@
 -- The types of a format's arguments, as lines.
 use Rattle.std.specs.Prelude.{◌≡◌, ◌≤◌, List, codes, flat_map, length}
-use Rattle.pf_text.specs.declared.faults.TextFault.{TextFault}
-use Rattle.pf_text.specs.declared.faults.TextFault.TheVariants.{Memory, Refused}
 use Rattle.pf_values.specs.declared.limits.TheConstants.{MAX_TEXT_LEN}
 use Rattle.pf_values.specs.declared.types.ArgType.{ArgType}
 use Rattle.pf_values.specs.declared.types.ArgType.TheVariants.{Int, UInt, Long, ULong, LongLong, ULongLong, Str}
 use Rattle.pf_values.specs.Items.{Item, Reads, types}
-use Rattle.pf_values.specs.Refusals.{IsRefusedAt}
 use Rattle.pf_values.specs.Text.{Text}
 use Rattle.fmtcanon.specs.Lines.{line}
 
@@ -25,8 +22,3 @@ type_line type = line (type_name type)
 -- a line for each argument of an accepted format, in order
 abbrev pub HasTypeLines : Text → Text → Type 0
 HasTypeLines format lines = (items : List Item) × Reads format items × (length format ≤ MAX_TEXT_LEN) × (lines ≡ flat_map type_line (types items))
-
--- why there are none
-abbrev pub HindersTypes : Text → TextFault → Type 0
-HindersTypes format (Refused refusal) = IsRefusedAt format refusal.kind refusal.at
-HindersTypes format Memory = Unit {0}

@@ -14,6 +14,10 @@ wanted id = record (new_rule id) { required = true }
 abbrev pub on_format : Text → App
 on_format name = with_rule (new_app name) (wanted (codes "F"))
 
+-- a subcommand with the arguments F and G
+abbrev pub on_formats : Text → App
+on_formats name = with_rule (on_format name) (wanted (codes "G"))
+
 -- any number of arguments
 abbrev pub any_arguments : Rule
 any_arguments = record (new_rule (codes "ARG")) { range = Some (record { start_inclusive = 0; end_inclusive = usize_max }) }
@@ -36,7 +40,8 @@ the_command =
     let with_types = with_subcommand top_app (on_format (codes "types")).top in
     let with_canon = with_subcommand with_types (on_format (codes "canon")).top in
     let with_show = with_subcommand with_canon (on_format (codes "show")).top in
-    with_subcommand with_show (on_arguments (codes "format")).top
+    let with_format = with_subcommand with_show (on_arguments (codes "format")).top in
+    with_subcommand with_format (on_formats (codes "same")).top
 
 -- clap's definition of the command takes the words
 abbrev pub IsTaken : List Text → Type 0

@@ -1,9 +1,9 @@
 //! The definition of the command for `clap`.
-ghost use Rattle.std.specs.Prelude.{◌≡◌, IfOk, false};
+ghost use Rattle.std.specs.Prelude.{◌≡◌, IfOk, codes, false};
 ghost use Rattle.clap.specs.Simple.{with_rule, with_subcommand};
 ghost use Rattle.clap.specs.Words.{app_of};
 ghost use Rattle.clap.specs.declared.builder.command.Command.TheViews.{out-Command as fields_of};
-ghost use Rattle.fmtcanon.specs.Words.{any_arguments, on_format, the_command, top_app};
+ghost use Rattle.fmtcanon.specs.Words.{any_arguments, on_format, the_command, top_app, wanted};
 
 use clap::{Arg, Command};
 use std::alloc::{AllocError, Global};
@@ -17,11 +17,14 @@ pub fn definition<'a>(alloc: Global) -> Result<Command<'a>, AllocError>
     let show =
         "Writes what a format is made of, and what its directives are reduced to, a line each";
     let format = "Writes what a format prints for arguments, and nothing else";
+    let same = "Tells whether one format may stand for another, or arguments that tell them apart";
     let with_types = adding(top(alloc)?, on_format(alloc, "types", types)?)?;
     let with_canon = adding(with_types, on_format(alloc, "canon", canon)?)?;
     let with_show = adding(with_canon, on_format(alloc, "show", show)?)?;
     let on_arguments = taking_arguments(alloc, on_format(alloc, "format", format)?)?;
-    adding(with_show, on_arguments)
+    let with_format = adding(with_show, on_arguments)?;
+    let on_formats = taking_second(alloc, on_format(alloc, "same", same)?)?;
+    adding(with_format, on_formats)
 }
 
 // The command without its subcommands.
@@ -42,6 +45,17 @@ fn on_format<'a>(alloc: Global, name: &'a str, about: &'a str) -> Result<Command
 {
     let format = Arg::new(alloc, "F").required(true).help("A printf format");
     Command::new(alloc, name).about(about).arg(format)
+}
+
+// The subcommand with a second format besides.
+fn taking_second<'a>(alloc: Global, command: Command<'a>) -> Result<Command<'a>, AllocError>
+    requires { (fields_of command).has_globals ≡ false }
+    ensures { IfOk result (λ r. (app_of r ≡ with_rule (app_of command.entry) (wanted (codes "G"))) × ((fields_of r).has_globals ≡ false)) }
+{
+    let format = Arg::new(alloc, "G")
+        .required(true)
+        .help("Another printf format");
+    command.arg(format)
 }
 
 // The subcommand with any number of arguments besides.

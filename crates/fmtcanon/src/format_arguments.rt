@@ -6,48 +6,25 @@ ghost use Rattle.fmtcanon.specs.FormatArguments.{AreArgumentsFor, HindersArgumen
 ghost use Rattle.fmtcanon.specs.UntypedArgs.{argument_given};
 
 use crate::argument_words::read_argument;
+use crate::fault::Fault;
 use crate::untyped::UntypedArg;
-use pf_text::{Refusal, TextFault, signature};
+use pf_text::signature;
 use pf_values::{Arg, ArgType};
 use std::alloc::Global;
-
-/// Why words give no arguments for a format.
-#[derive(Clone, Copy, Debug, PartialEq, Eq)]
-pub enum ArgumentFault {
-    /// The format is refused.
-    Refused(Refusal),
-    /// The word with this index gives no argument.
-    BadWord(u64),
-    /// There are more or fewer arguments than the format takes.
-    WrongCount {
-        /// How many it takes.
-        wanted: u64,
-        /// How many there are.
-        given: u64,
-    },
-    /// The argument with this index is not of its type.
-    WrongType(u64),
-    /// A growth was refused.
-    Memory,
-}
 
 /// The arguments for a format, each of its type.
 pub fn arguments_for<'a>(
     alloc: Global,
     format: &[u8],
     words: &[&'a str],
-) -> Result<Vec<Arg<'a>>, ArgumentFault>
+) -> Result<Vec<Arg<'a>>, Fault>
     ensures ok { IfOk result (λ args. AreArgumentsFor format.now (map (λ s. s.now) words.now) args.items) }
     ensures err { IfErr result (HindersArguments format.now (map (λ s. s.now) words.now)) }
 {
-    let wanted = match signature(alloc, format) {
-        Ok(wanted) => wanted,
-        Err(TextFault::Refused(refusal)) => return Err(ArgumentFault::Refused(refusal)),
-        Err(TextFault::Memory) => return Err(ArgumentFault::Memory),
-    };
+    let wanted = signature(alloc, format)?;
     let given = read_words(alloc, words)?;
     if wanted.len() != given.len() {
-        return Err(ArgumentFault::WrongCount {
+        return Err(Fault::WrongCount {
             wanted: wanted.len() as u64,
             given: given.len() as u64,
         });
@@ -56,7 +33,7 @@ pub fn arguments_for<'a>(
 }
 
 // The arguments that the words give.
-fn read_words<'a>(alloc: Global, words: &[&'a str]) -> Result<Vec<UntypedArg<'a>>, ArgumentFault>
+fn read_words<'a>(alloc: Global, words: &[&'a str]) -> Result<Vec<UntypedArg<'a>>, Fault>
     ensures ok { IfOk result (λ given. SpellArguments (map (λ s. s.now) words.now) (map argument_given given.items)) }
     ensures err { IfErr result (λ fault. IsBadWord (map (λ s. s.now) words.now) fault) }
 {
@@ -65,10 +42,10 @@ fn read_words<'a>(alloc: Global, words: &[&'a str]) -> Result<Vec<UntypedArg<'a>
         match read_argument(word.as_bytes()) {
             Some(argument) => {
                 if given.push(argument).is_err() {
-                    return Err(ArgumentFault::Memory);
+                    return Err(Fault::Memory);
                 }
             }
-            None => return Err(ArgumentFault::BadWord(given.len() as u64)),
+            None => return Err(Fault::BadWord(given.len() as u64)),
         }
     }
     Ok(given)
@@ -79,7 +56,7 @@ fn typed<'a>(
     alloc: Global,
     given: &[UntypedArg<'a>],
     wanted: &[ArgType],
-) -> Result<Vec<Arg<'a>>, ArgumentFault>
+) -> Result<Vec<Arg<'a>>, Fault>
     requires { length given.now ≡ length wanted.now }
     ensures ok { IfOk result (λ args. (map argument_of args.items ≡ map argument_given given.now) × HasTypes (map argument_of args.items) wanted.now × (map type_of args.items ≡ wanted.now)) }
     ensures err { IfErr result (λ fault. IsWrongType (map argument_given given.now) wanted.now fault) }
@@ -89,10 +66,10 @@ fn typed<'a>(
         match argument.as_type(*arg_type) {
             Some(arg) => {
                 if args.push(arg).is_err() {
-                    return Err(ArgumentFault::Memory);
+                    return Err(Fault::Memory);
                 }
             }
-            None => return Err(ArgumentFault::WrongType(args.len() as u64)),
+            None => return Err(Fault::WrongType(args.len() as u64)),
         }
     }
     Ok(args)

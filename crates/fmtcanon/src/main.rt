@@ -1,8 +1,11 @@
 //! The program: it runs the command of its words over the standard streams.
 #![tactic(auto)]
 
+mod answer;
 mod argument_words;
 mod command;
+mod comparison;
+mod fault;
 mod format_arguments;
 mod laws;
 mod outcome;

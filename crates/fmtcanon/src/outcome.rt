@@ -1,7 +1,10 @@
 //! How a run ended.
 ghost use Rattle.std.specs.Prelude.{◌≡◌};
-ghost use Rattle.fmtcanon.specs.Outcomes.{status_of};
+ghost use Rattle.fmtcanon.specs.Outcomes.{faulted, outcome_of, status_of};
 
+use crate::answer::Ending;
+use crate::fault::Fault;
+use pf_canon::Side;
 use pf_text::Refusal;
 
 /// How a run ended.
@@ -9,8 +12,14 @@ use pf_text::Refusal;
 pub enum Outcome {
     /// All was written.
     Done,
-    /// The format is refused, and nothing was written.
+    /// The formats mean the same, and that was written.
+    Same,
+    /// They differ, in types or in bytes, and that was written.
+    Different,
+    /// A format is refused, and nothing was written.
     Refused {
+        /// Which one, where there are two.
+        side: Option<Side>,
         /// Why, and where.
         refusal: Refusal,
     },
@@ -34,13 +43,38 @@ pub enum Outcome {
 }
 
 impl Outcome {
-    /// The exit status: 0 where all was written, 2 for a refused format, 3 for wrong words or
+    /// That of an answer which was written.
+    pub fn of_ending(ending: Ending) -> Outcome
+        ensures { result ≡ outcome_of ending }
+    {
+        match ending {
+            Ending::Done => Outcome::Done,
+            Ending::Same => Outcome::Same,
+            Ending::Different => Outcome::Different,
+        }
+    }
+
+    /// That of a task without an answer.
+    pub fn of_fault(fault: Fault) -> Outcome
+        ensures { result ≡ faulted fault }
+    {
+        match fault {
+            Fault::Refused { side, refusal } => Outcome::Refused { side, refusal },
+            Fault::BadWord(index) => Outcome::BadWord(index),
+            Fault::WrongCount { wanted, given } => Outcome::WrongCount { wanted, given },
+            Fault::WrongType(index) => Outcome::WrongType(index),
+            Fault::Memory => Outcome::Memory,
+        }
+    }
+
+    /// The exit status: 0 where all was written, 1 for formats that differ, 2 for a refused format, 3 for wrong words or
     /// arguments, and 4 for a device that failed or want of memory.
     pub fn status(&self) -> u8
         ensures { result ≡ status_of self.now }
     {
         match self {
-            Outcome::Done => 0,
+            Outcome::Done | Outcome::Same => 0,
+            Outcome::Different => 1,
             Outcome::Refused { .. } => 2,
             Outcome::BadWord(_) | Outcome::WrongCount { .. } | Outcome::WrongType(_) => 3,
             Outcome::Usage(_) => 3,

@@ -2,12 +2,13 @@
 ghost use Rattle.std.specs.Prelude.{IfErr, IfOk, map};
 ghost use Rattle.fmtcanon.specs.FormatArguments.{HindersArguments, IsPrinted};
 
-use crate::format_arguments::{ArgumentFault, arguments_for};
+use crate::fault::Fault;
+use crate::format_arguments::arguments_for;
 use pf_render::{RenderVecFault, render_vec};
 use std::alloc::Global;
 
 /// What a format prints for the arguments that words give.
-pub fn printed(alloc: Global, format: &[u8], words: &[&str]) -> Result<Vec<u8>, ArgumentFault>
+pub fn printed(alloc: Global, format: &[u8], words: &[&str]) -> Result<Vec<u8>, Fault>
     ensures ok { IfOk result (λ out. IsPrinted format.now (map (λ s. s.now) words.now) out.items) }
     ensures err { IfErr result (HindersArguments format.now (map (λ s. s.now) words.now)) }
 {
@@ -15,7 +16,7 @@ pub fn printed(alloc: Global, format: &[u8], words: &[&str]) -> Result<Vec<u8>, 
     match render_vec(alloc, format, &args) {
         Ok(out) => Ok(out),
         Err(fault) => match fault {
-            RenderVecFault::Memory => Err(ArgumentFault::Memory),
+            RenderVecFault::Memory => Err(Fault::Memory),
             // The format takes just these arguments.
             _ => unreachable!(),
         },

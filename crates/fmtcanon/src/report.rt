@@ -1,6 +1,7 @@
 //! What is said on standard error.
 
 use crate::outcome::Outcome;
+use pf_canon::Side;
 use pf_values::Counted;
 use std::io;
 use std::io::Write;
@@ -13,12 +14,13 @@ pub fn report<E: Write>(outcome: &Outcome, errors: &mut Counted<E>) {
 
 fn report_line<E: Write>(outcome: &Outcome, errors: &mut Counted<E>) -> io::Result<()> {
     match outcome {
-        Outcome::Done => Ok(()),
-        Outcome::Refused { refusal } => {
+        Outcome::Done | Outcome::Same | Outcome::Different => Ok(()),
+        Outcome::Refused { side, refusal } => {
+            let front = side_name(*side);
             let number = refusal.kind.number();
             let name = refusal.kind.name();
             let at = refusal.at;
-            writeln!(errors, "refused {number} {name} at byte {at}")
+            writeln!(errors, "{front}refused {number} {name} at byte {at}")
         }
         Outcome::BadWord(index) => writeln!(errors, "argument {index}: not an argument"),
         Outcome::WrongCount { wanted, given } => {
@@ -28,5 +30,14 @@ fn report_line<E: Write>(outcome: &Outcome, errors: &mut Counted<E>) -> io::Resu
         Outcome::Usage(text) => write!(errors, "{text}"),
         Outcome::Write(_) => writeln!(errors, "write failed"),
         Outcome::Memory => writeln!(errors, "out of memory"),
+    }
+}
+
+// What stands before a refusal, where there are two formats.
+fn side_name(side: Option<Side>) -> &'static str {
+    match side {
+        None => "",
+        Some(Side::First) => "first: ",
+        Some(Side::Second) => "second: ",
     }
 }

@@ -5,29 +5,34 @@ ghost use Rattle.pf_reduce.specs.declared.results.Reduced.{Reduced};
 ghost use Rattle.pf_values.specs.DataModel.{arg_type};
 ghost use Rattle.pf_values.specs.Spelling.{spelled};
 ghost use Rattle.pf_values.specs.Text.{Text};
+ghost use Rattle.fmtcanon.specs.Answers.{HindersFormat};
 ghost use Rattle.fmtcanon.specs.Lines.{line};
 ghost use Rattle.fmtcanon.specs.Shows.{HasShownLines, IsLineOf, reduced_line, reduced_text, shown_of};
-ghost use Rattle.fmtcanon.specs.TypeLines.{HindersTypes, type_name};
+ghost use Rattle.fmtcanon.specs.TypeLines.{type_name};
 
+use crate::fault::Fault;
 use crate::type_lines::type_name;
 use itoa::Buffer;
 use pf_reduce::{Core, Reduced, reduce};
-use pf_text::{Piece, Pieces, TextFault, spell};
+use pf_text::{Piece, Pieces, spell};
 use pf_values::Directive;
 use std::alloc::{AllocError, Global};
 
 /// A line for each run of literal bytes, each `%%` and each directive of a format, or its refusal.
-pub fn show_lines(alloc: Global, format: &[u8]) -> Result<Vec<u8>, TextFault>
-    ensures { MatchResult result (λ out. HasShownLines format.now out.items) (HindersTypes format.now) }
+pub fn show_lines(alloc: Global, format: &[u8]) -> Result<Vec<u8>, Fault>
+    ensures { MatchResult result (λ out. HasShownLines format.now out.items) (HindersFormat format.now) }
 {
     let mut out = Vec::new(alloc);
     for piece in Pieces::new(format) {
         let piece = match piece {
             Ok(piece) => piece,
-            Err(refusal) => return Err(TextFault::Refused(refusal)),
+            Err(refusal) => return Err(Fault::Refused {
+                    side: None,
+                    refusal,
+                }),
         };
         if push_piece(&mut out, piece).is_err() {
-            return Err(TextFault::Memory);
+            return Err(Fault::Memory);
         }
     }
     Ok(out)

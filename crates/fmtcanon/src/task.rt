@@ -1,7 +1,9 @@
 //! What the words ask for.
-ghost use Rattle.std.specs.Prelude.{◌≡◌, [], IfOk, IfErr, codes, map, option_map, unwrap_or};
+ghost use Rattle.std.specs.Prelude.{◌≡◌, [], IfOk, IfErr, List, Some, codes, is_some, map, option_map, true, unwrap_or};
+ghost use Rattle.clap.specs.Matches.{first_value};
 ghost use Rattle.clap.specs.Words.{found_of, kind_of, matched_of, raw_values};
-ghost use Rattle.fmtcanon.specs.Tasks.{Asks, IsAnsweredBy, IsNoTaskOf};
+ghost use Rattle.pf_values.specs.Text.{Text};
+ghost use Rattle.fmtcanon.specs.Tasks.{Asks, HasValue, IsAnsweredBy, IsNoTaskOf, Names, rows_in};
 
 use crate::command::definition;
 use clap::error::ErrorKind;
@@ -23,6 +25,13 @@ pub enum Task<'a> {
         format: &'a str,
         /// The words of the arguments.
         words: Vec<&'a str>,
+    },
+    /// Whether one format may stand for another.
+    Same {
+        /// The one.
+        first: &'a str,
+        /// The other.
+        second: &'a str,
     },
 }
 
@@ -50,18 +59,48 @@ pub fn task_of<'a>(alloc: Global, words: &'a [&'a str]) -> Result<Task<'a>, NoTa
     let Some((name, inner)) = matches.subcommand() else {
         unreachable!();
     };
-    let Some(format) = inner.get_str("F") else {
-        unreachable!();
-    };
+    match named_task(alloc, name, inner) {
+        Ok(task) => Ok(task),
+        Err(AllocError) => Err(NoTask::Memory),
+    }
+}
+
+// The task of a subcommand.
+fn named_task<'a>(
+    alloc: Global,
+    name: &str,
+    inner: &ArgMatches<'a>,
+) -> Result<Task<'a>, AllocError>
+    requires { (words : List Text) × Names words name.now (rows_in inner.now) }
+    ensures { IfOk result (λ task. (words : List Text) → Names words name.now (rows_in inner.now) → Asks words task) }
+{
     match name {
-        "types" => Ok(Task::Types(format)),
-        "canon" => Ok(Task::Canon(format)),
-        "show" => Ok(Task::Show(format)),
-        "format" => match given_words(alloc, inner) {
-            Ok(words) => Ok(Task::Format { format, words }),
-            Err(AllocError) => Err(NoTask::Memory),
-        },
+        "types" => Ok(Task::Types(value_of(inner, "F"))),
+        "canon" => Ok(Task::Canon(value_of(inner, "F"))),
+        "show" => Ok(Task::Show(value_of(inner, "F"))),
+        "format" => {
+            let words = given_words(alloc, inner)?;
+            Ok(Task::Format {
+                format: value_of(inner, "F"),
+                words,
+            })
+        }
+        "same" => Ok(Task::Same {
+            first: value_of(inner, "F"),
+            second: value_of(inner, "G"),
+        }),
         _ => unreachable!(),
+    }
+}
+
+// The word that stands for an argument which has one.
+fn value_of<'a>(inner: &ArgMatches<'a>, id: &str) -> &'a str
+    requires { is_some (first_value (found_of inner.now) id.now) ≡ true }
+    ensures { Some result.now ≡ first_value (found_of inner.now) id.now }
+{
+    match inner.get_str(id) {
+        Some(word) => word,
+        None => unreachable!(),
     }
 }
 

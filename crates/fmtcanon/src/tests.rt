@@ -3,12 +3,14 @@
 mod canonicals;
 mod formats;
 mod reductions;
+mod sames;
 mod shows;
 mod types;
 
 use crate::outcome::Outcome;
 use crate::report::report;
 use crate::run::run;
+use pf_canon::Side;
 use pf_text::Refusal;
 use pf_values::{Counted, RefusalKind};
 use std::alloc::{AllocError, Global};
@@ -30,14 +32,17 @@ fn reported(alloc: Global, outcome: &Outcome) -> Vec<u8> {
     errors.into_inner()
 }
 
-// Whether a run is Done and writes this, or is refused, writes nothing and reports this.
+// Whether a run answers this, or is refused, writes nothing and reports this.
 fn answers(alloc: Global, words: &[&str], want: &str) -> bool {
     let (outcome, written) = ran(alloc, words);
     let told = reported(alloc, &outcome);
     match outcome {
-        Outcome::Done => outcome.status() == 0
-            && told.is_empty()
-            && written.as_slice() == want.as_bytes(),
+        Outcome::Done | Outcome::Same => {
+            outcome.status() == 0 && told.is_empty() && written.as_slice() == want.as_bytes()
+        }
+        Outcome::Different => {
+            outcome.status() == 1 && told.is_empty() && written.as_slice() == want.as_bytes()
+        }
         Outcome::Refused { .. } => {
             outcome.status() == 2 && written.is_empty() && told.as_slice() == want.as_bytes()
         }
@@ -200,6 +205,83 @@ fn canon_answers_as_the_model(rt: HostRuntime) {
 }
 
 #[test]
+fn same_tells_whether_one_may_stand_for_the_other(rt: HostRuntime) {
+    let rows = [
+        ("%05d", "%.5d", "different\nn:-1\n"),
+        ("%d%05d", "%d%.5d", "different\nn:0\nn:-1\n"),
+        ("%hhx", "%hx", "different\nn:257\n"),
+        ("%zd", "%ld", "same\n"),
+        ("%ld", "%lld", "types differ at argument 0\n"),
+        ("%d", "%d%d", "types differ at argument 1\n"),
+        ("%d%d", "%d", "types differ at argument 1\n"),
+        ("% 10d", "%10d", "different\nn:2147483647\n"),
+        ("%5c", "    %c", "same\n"),
+        ("a%d", "b%d", "different\nn:0\n"),
+        ("%.0s%s", "%s%.0s", "different\ns:A\ns:\n"),
+        ("%#x", "0x%x", "different\nn:0\n"),
+        ("%#o", "0%o", "different\nn:0\n"),
+        ("%s%4095c", "%s", "types differ at argument 1\n"),
+        ("%y", "%z", "first: refused 3 Unexpected at byte 1\n"),
+        ("%d", "%l", "second: refused 2 Truncated at byte 2\n"),
+        ("%y", "%d", "first: refused 3 Unexpected at byte 1\n"),
+        ("%x", "%X", "different\nn:4294967295\n"),
+        ("%#o", "%o", "different\nn:1\n"),
+        ("%d", "%u", "types differ at argument 0\n"),
+        ("%d%d", "%d%ld", "types differ at argument 1\n"),
+        ("%.0s", "%s", "different\ns:A\n"),
+        ("% 11d", "%11d", "same\n"),
+        ("%d", "%i", "same\n"),
+        ("a", "b", "different\n"),
+        ("", "", "same\n"),
+    ];
+    for (first, second, want) in rows {
+        assert!(rt;
+            answers(rt.alloc(), ["same", first, second].as_slice(), want),
+            "{first} {second}"
+        );
+    }
+}
+
+#[test]
+fn same_answers_as_the_model(rt: HostRuntime) {
+    assert!(rt; all_answer(rt.alloc(), &sames::SAME));
+    assert!(rt; all_answer(rt.alloc(), &sames::DIFFERENT));
+    assert!(rt; all_answer(rt.alloc(), &sames::MORE_DIFFERENT));
+    assert!(rt; all_answer(rt.alloc(), &sames::REFUSED));
+}
+
+// Whether `same` answers each row.
+fn all_answer(alloc: Global, rows: &[(&str, &str, &str)]) -> bool {
+    rows.iter().all(|(first, second, want)| {
+        answers(alloc, ["same", *first, *second].as_slice(), want)
+    })
+}
+
+// No precision is as long as the strings that tell `%s` from the longest one.
+#[test]
+fn same_tells_a_string_past_all_precisions(rt: HostRuntime) -> Result<(), AllocError> {
+    let mut want = String::from_str(rt.alloc(), "different\ns:")?;
+    for _ in 0..4096 {
+        want.push('A')?;
+    }
+    want.push('\n')?;
+    assert!(rt; answers(rt.alloc(), ["same", "%s", "%.4095s"].as_slice(), &want));
+    Ok(())
+}
+
+// What `same` tells is what `format` takes, and there the two formats differ.
+#[test]
+fn the_words_of_same_are_arguments(rt: HostRuntime) {
+    let alloc = rt.alloc();
+    assert!(rt; answers(alloc, ["format", "%05d", "n:-1"].as_slice(), "-0001"));
+    assert!(rt; answers(alloc, ["format", "%.5d", "n:-1"].as_slice(), "-00001"));
+    assert!(rt; answers(alloc, ["format", "%hhx", "n:257"].as_slice(), "1"));
+    assert!(rt; answers(alloc, ["format", "%hx", "n:257"].as_slice(), "101"));
+    assert!(rt; answers(alloc, ["format", "% 10d", "n:2147483647"].as_slice(), " 2147483647"));
+    assert!(rt; answers(alloc, ["format", "%10d", "n:2147483647"].as_slice(), "2147483647"));
+}
+
+#[test]
 fn a_refused_format_writes_nothing(rt: HostRuntime) {
     let rows = [
         ("100%", "refused 2 Truncated at byte 4\n"),
@@ -256,6 +338,9 @@ fn other_words_are_usage(rt: HostRuntime) {
     assert!(rt; is_usage(&rt, ["canon"].as_slice(), "error: "));
     assert!(rt; is_usage(&rt, ["canon", "a", "b"].as_slice(), "error: "));
     assert!(rt; is_usage(&rt, ["canon", "-%i"].as_slice(), "error: "));
+    assert!(rt; is_usage(&rt, ["same"].as_slice(), "error: "));
+    assert!(rt; is_usage(&rt, ["same", "%d"].as_slice(), "error: "));
+    assert!(rt; is_usage(&rt, ["same", "a", "b", "c"].as_slice(), "error: "));
     assert!(rt; is_usage(&rt, ["--version"].as_slice(), "error: "));
     assert!(rt; is_usage(&rt, ["--help"].as_slice(), "Reads printf formats"));
     assert!(rt; is_usage(&rt, ["canon", "--help"].as_slice(), "Writes the canonical"));
@@ -270,10 +355,31 @@ fn each_outcome_has_its_status_and_line(rt: HostRuntime) -> Result<(), AllocErro
     let usage = Outcome::Usage(String::from_str(rt.alloc(), "as it is")?);
     let rows = [
         (Outcome::Done, 0, ""),
+        (Outcome::Same, 0, ""),
+        (Outcome::Different, 1, ""),
         (
-            Outcome::Refused { refusal },
+            Outcome::Refused {
+                side: None,
+                refusal,
+            },
             2,
             "refused 18 TooLong at byte 4611686018427387904\n",
+        ),
+        (
+            Outcome::Refused {
+                side: Some(Side::First),
+                refusal,
+            },
+            2,
+            "first: refused 18 TooLong at byte 4611686018427387904\n",
+        ),
+        (
+            Outcome::Refused {
+                side: Some(Side::Second),
+                refusal,
+            },
+            2,
+            "second: refused 18 TooLong at byte 4611686018427387904\n",
         ),
         (Outcome::BadWord(0), 3, "argument 0: not an argument\n"),
         (
@@ -327,6 +433,14 @@ fn what_fits_is_written(rt: HostRuntime) {
             rt.alloc(),
             ["format", "%5d|%s", "n:42", "s:abc"].as_slice(),
             b"   42|abc"
+        )
+    );
+    assert!(rt; is_cut(rt.alloc(), ["same", "%zd", "%ld"].as_slice(), b"same\n"));
+    assert!(rt;
+        is_cut(
+            rt.alloc(),
+            ["same", "%05d%s", "%.5d%s"].as_slice(),
+            b"different\nn:-1\ns:\n"
         )
     );
 }

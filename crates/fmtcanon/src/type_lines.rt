@@ -1,20 +1,19 @@
 //! The types of a format's arguments, a line for each.
 ghost use Rattle.std.specs.Prelude.{◌≡◌, IfOk, MatchResult, flat_map};
-ghost use Rattle.fmtcanon.specs.TypeLines.{HasTypeLines, HindersTypes, type_line, type_name};
+ghost use Rattle.fmtcanon.specs.Answers.{HindersFormat};
+ghost use Rattle.fmtcanon.specs.TypeLines.{HasTypeLines, type_line, type_name};
 
-use pf_text::{TextFault, signature};
+use crate::fault::Fault;
+use pf_text::signature;
 use pf_values::ArgType;
 use std::alloc::{AllocError, Global};
 
 /// A line for each argument of a format, or its refusal.
-pub fn type_lines(alloc: Global, format: &[u8]) -> Result<Vec<u8>, TextFault>
-    ensures { MatchResult result (λ out. HasTypeLines format.now out.items) (HindersTypes format.now) }
+pub fn type_lines(alloc: Global, format: &[u8]) -> Result<Vec<u8>, Fault>
+    ensures { MatchResult result (λ out. HasTypeLines format.now out.items) (HindersFormat format.now) }
 {
     let types = signature(alloc, format)?;
-    match lines_of(alloc, types.as_slice()) {
-        Ok(lines) => Ok(lines),
-        Err(AllocError) => Err(TextFault::Memory),
-    }
+    Ok(lines_of(alloc, types.as_slice())?)
 }
 
 fn lines_of(alloc: Global, types: &[ArgType]) -> Result<Vec<u8>, AllocError>

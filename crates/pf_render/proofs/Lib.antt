@@ -1,4 +1,4 @@
-mod DigitLemmas
+pub mod DigitLemmas
 mod PartLemmas
 mod IntegerLemmas
 mod TextLemmas

@@ -1,8 +1,8 @@
-use Rattle.std.proofs.Common.{◌≡◌, ◌∙◌, ap, ap₂}
+use Rattle.std.proofs.Common.{◌≡◌, ◌∙◌, ap, ap₂, codes}
 use Rattle.std.proofs.lemmas.Result.{IfOk-weaker}
 use Rattle.clap.specs.Simple.{App, app_of, with_rule, with_subcommand}
 use Rattle.clap.specs.declared.builder.command.Command.{Command}
-use Rattle.fmtcanon.specs.Words.{any_arguments, the_command}
+use Rattle.fmtcanon.specs.Words.{any_arguments, the_command, wanted}
 use Rattle.fmtcanon.proofs.command.definition.Goals as goal
 
 -- one more subcommand
@@ -16,4 +16,6 @@ returns c =
     let canon = next _ _ _ _ _ c.in_ok-with_canon.ensures types c.in_ok-on_format-2.ensures.0 in
     let show = next _ _ _ _ _ c.in_ok-with_show.ensures canon c.in_ok-on_format-3.ensures.0 in
     let arguments = c.in_ok-on_arguments.ensures.0 ∙ ap (λ a. with_rule a any_arguments) c.in_ok-on_format-4.ensures.0 in
-    IfOk-weaker c.adding-4.result _ _ (λ r h. next r _ _ _ _ h show arguments) c.adding-4.ensures
+    let format = next _ _ _ _ _ c.in_ok-with_format.ensures show arguments in
+    let formats = c.in_ok-on_formats.ensures.0 ∙ ap (λ a. with_rule a (wanted (codes "G"))) c.in_ok-on_format-5.ensures.0 in
+    IfOk-weaker c.adding-5.result _ _ (λ r h. next r _ _ _ _ h format formats) c.adding-5.ensures

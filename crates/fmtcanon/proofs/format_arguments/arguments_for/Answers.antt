@@ -9,4 +9,4 @@ returns-then-len-clause-err c =
     let given = c.in_ok-given.given in
     let count : c.len-then-len-2.result ≡ length (map argument_given given.items) = omega (arith, given.ok.0, length-map given.items argument_given) in
     let differ : c.len-then-len.result ≢ c.len-then-len-2.result = omega arith in
-    wrong_count_hinders _ _ _ c.in-Ok.ensures _ c.in_ok-given.ensures.ok _ _ c.len-then-len.ensures count differ
+    wrong_count_hinders _ _ _ c.in_ok-wanted.ensures _ c.in_ok-given.ensures.ok _ _ c.len-then-len.ensures count differ

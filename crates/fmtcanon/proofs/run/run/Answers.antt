@@ -1,5 +1,7 @@
-use Rattle.fmtcanon.proofs.RunLemmas.{leaves_printed}
+use Rattle.fmtcanon.proofs.RunLemmas.{kept, leaves_nothing}
 use Rattle.fmtcanon.proofs.run.run.Goals as goal
 
-pub returns-in-Ok-Format-clause-left : goal.returns-in-Ok-Format-clause-left
-returns-in-Ok-Format-clause-left g c = leaves_printed _ _ _ _ _ _ (rw c.in-Ok-Format.field-0-is at c.in-Ok-Format.ensures.ok) c.write_format.result (rw c.deref.ensures.value at c.write_format.ensures)
+pub returns-clause-left : goal.returns-clause-left
+returns-clause-left g c =
+    let contents = g.W.Write.contents in
+    rw c.of_fault.ensures (leaves_nothing contents c.args.writer.now c.args.writer.now _ _ c.in-Ok.ensures.ok (kept (contents c.args.writer.now.device)) c.in-Err.fault c.in-Err.ensures)

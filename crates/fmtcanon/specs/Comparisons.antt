@@ -1,0 +1,46 @@
+-- How a comparison is told.
+use Rattle.std.specs.Prelude.{◌≡◌, ◌++◌, codes, decimal, flat_map}
+use Rattle.std.specs.Fmt.{signed_decimal}
+use Rattle.pf_values.specs.declared.types.ArgType.{ArgType}
+use Rattle.pf_values.specs.Arguments.{Argument, HasType, Number, String}
+use Rattle.pf_values.specs.Text.{Text}
+use Rattle.pf_compare.specs.Answers.{IsComparisonOf}
+use Rattle.pf_compare.specs.Owned.{argument_of_owned}
+use Rattle.pf_compare.specs.declared.comparing.Comparison.{Comparison}
+use Rattle.pf_compare.specs.declared.comparing.Verdict.{Verdict}
+use Rattle.pf_compare.specs.declared.comparing.Verdict.TheVariants.{Same, Types, Args}
+use Rattle.pf_compare.specs.declared.owned.OwnedArg.{OwnedArg}
+use Rattle.fmtcanon.specs.declared.answer.Ending.{Ending}
+use Rattle.fmtcanon.specs.declared.answer.Ending.TheVariants as endings
+use Rattle.fmtcanon.specs.ArgumentWords.{SpellsArgument}
+use Rattle.fmtcanon.specs.Lines.{line}
+
+-- the word that gives an argument
+abbrev pub argument_word : Argument → Text
+argument_word (Number n) = codes "n:" ++ signed_decimal n
+argument_word (String bytes) = codes "s:" ++ bytes
+
+-- it is read as that argument
+abbrev pub ToldIsRead : Type 0
+ToldIsRead = (argument : Argument) (type : ArgType) → HasType argument type → SpellsArgument (argument_word argument) argument
+
+abbrev pub argument_line : OwnedArg → Text
+argument_line arg = line (argument_word (argument_of_owned arg))
+
+-- a line, and where the bytes differ one more for each argument
+abbrev pub verdict_lines : Verdict → Text
+verdict_lines Same = line (codes "same")
+verdict_lines (Types index) = line (codes "types differ at argument " ++ decimal index)
+verdict_lines (Args args) = line (codes "different") ++ flat_map argument_line args.items
+
+abbrev pub ending_of : Verdict → Ending
+ending_of Same = endings.Same
+ending_of (Types index) = endings.Different
+ending_of (Args args) = endings.Different
+
+-- the verdict on two accepted formats, told in lines
+pub record IsComparisonAnswer (first second out : Text) (ending : Ending) : Type 0 where
+  pub comparison : Comparison
+  pub is : IsComparisonOf first second comparison
+  pub lines : out ≡ verdict_lines comparison.verdict
+  pub ends : ending ≡ ending_of comparison.verdict

@@ -1,0 +1,22 @@
+-- The faults of the crates below, as faults of a task.
+use Rattle.std.specs.Prelude.{None, Some}
+use Rattle.pf_text.specs.declared.faults.TextFault.{TextFault}
+use Rattle.pf_text.specs.declared.faults.TextFault.TheVariants as text
+use Rattle.pf_canon.specs.declared.faults.CanonFault.{CanonFault}
+use Rattle.pf_canon.specs.declared.faults.CanonFault.TheVariants as canonical
+use Rattle.pf_compare.specs.declared.faults.CompareFault.{CompareFault}
+use Rattle.pf_compare.specs.declared.faults.CompareFault.TheVariants as comparison
+use Rattle.fmtcanon.specs.declared.fault.Fault.{Fault}
+use Rattle.fmtcanon.specs.declared.fault.Fault.TheVariants.{Refused, Memory}
+
+abbrev pub of_text : TextFault → Fault
+of_text (text.Refused refusal) = Refused None refusal
+of_text text.Memory = Memory
+
+abbrev pub of_canonical : CanonFault → Fault
+of_canonical (canonical.Refused refusal) = Refused None refusal
+of_canonical canonical.Memory = Memory
+
+abbrev pub of_comparison : CompareFault → Fault
+of_comparison (comparison.Refused side refusal) = Refused (Some side) refusal
+of_comparison comparison.Memory = Memory

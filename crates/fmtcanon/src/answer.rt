@@ -1,0 +1,75 @@
+//! The answer to a task.
+ghost use Rattle.std.specs.Prelude.{◌≡◌, Err, IfOk, MatchResult, Ok};
+ghost use Rattle.fmtcanon.specs.Answers.{HasCanonicalLine, HindersFormat, IsAnswer, IsHindered};
+ghost use Rattle.fmtcanon.specs.Lines.{line};
+ghost use Rattle.fmtcanon.specs.declared.answer.Ending.TheVariants.{Done};
+
+use crate::comparison::comparison_answer;
+use crate::fault::Fault;
+use crate::printing::printed;
+use crate::show_lines::show_lines;
+use crate::task::Task;
+use crate::type_lines::type_lines;
+use pf_canon::canonical;
+use std::alloc::{AllocError, Global};
+
+/// How a run ends that writes all of an answer.
+#[derive(Clone, Copy, Debug, PartialEq, Eq)]
+pub enum Ending {
+    /// Nothing but the answer is told.
+    Done,
+    /// The formats mean the same.
+    Same,
+    /// They differ, in types or in bytes.
+    Different,
+}
+
+/// What is written, and how the run ends then.
+#[derive(Debug, Drop)]
+pub struct Answer {
+    /// What is written.
+    pub bytes: Vec<u8>,
+    /// How the run ends.
+    pub ending: Ending,
+}
+
+/// The answer to a task, or why there is none.
+pub fn answer_to(alloc: Global, task: &Task<'_>) -> Result<Answer, Fault>
+    ensures { MatchResult result (λ answer. IsAnswer task.now answer.bytes.items answer.ending) (IsHindered task.now) }
+{
+    match task {
+        Task::Types(format) => done(type_lines(alloc, format.as_bytes())),
+        Task::Canon(format) => done(canonical_line(alloc, format.as_bytes())),
+        Task::Show(format) => done(show_lines(alloc, format.as_bytes())),
+        Task::Format { format, words } => done(printed(alloc, format.as_bytes(), words)),
+        Task::Same { first, second } => {
+            comparison_answer(alloc, first.as_bytes(), second.as_bytes())
+        }
+    }
+}
+
+// These bytes as an answer, after which nothing else is told.
+fn done(bytes: Result<Vec<u8>, Fault>) -> Result<Answer, Fault>
+    ensures { MatchResult result (λ answer. (answer.ending ≡ Done) × (bytes ≡ Ok answer.bytes)) (λ fault. bytes ≡ Err fault) }
+{
+    Ok(Answer {
+        bytes: bytes?,
+        ending: Ending::Done,
+    })
+}
+
+// The canonical string of a format and a newline.
+fn canonical_line(alloc: Global, format: &[u8]) -> Result<Vec<u8>, Fault>
+    ensures { MatchResult result (λ out. HasCanonicalLine format.now out.items) (HindersFormat format.now) }
+{
+    let canonical = canonical(alloc, format)?;
+    Ok(ended(canonical)?)
+}
+
+// A text with a newline after it.
+fn ended(mut text: Vec<u8>) -> Result<Vec<u8>, AllocError>
+    ensures { IfOk result (λ out. out.items ≡ line text.items) }
+{
+    text.push(b'\n')?;
+    Ok(text)
+}
