@@ -1,0 +1,185 @@
+-- The argument types of two texts, side by side.
+use Rattle.std.proofs.Common.{◌≡◌, ◌≢◌, ℕ, zero, suc, ◌+◌, ◌<◌, List, [], ◌∷◌, ◌++◌, length, get_or, refl, sym, ap, ◌∙◌, subst, arith, Some, None, Ok, Err, Result, Option}
+use Rattle.std.specs.Prelude.{slice_get, MatchOption}
+use Rattle.std.proofs.lemmas.List.{append-nil, append_assoc, length-map, length_push}
+use Rattle.pf_values.specs.declared.refusals.RefusalKind.{RefusalKind}
+use Rattle.pf_values.specs.declared.types.ArgType.{ArgType}
+use Rattle.pf_values.specs.DataModel.{arg_type}
+use Rattle.pf_values.specs.Items.{IsAccepted, Item, Reads, types}
+use Rattle.pf_values.specs.Text.{Text}
+use Rattle.pf_values.proofs.ItemTypes.{types-append}
+use Rattle.pf_text.specs.declared.pieces.Piece.{Piece}
+use Rattle.pf_text.specs.declared.pieces.Pieces.{Pieces}
+use Rattle.pf_text.specs.declared.refusal.Refusal.{Refusal}
+use Rattle.pf_text.specs.declared.scanner.Step.{Step}
+use Rattle.pf_text.specs.declared.scanner.Step.TheVariants as steps
+use Rattle.pf_text.specs.declared.state.State.{State}
+use Rattle.pf_text.specs.declared.state.State.TheVariants.{Between}
+use Rattle.pf_text.specs.History.{with_step}
+use Rattle.pf_text.specs.PieceHistory.{Gives, items_of}
+use Rattle.pf_text.specs.Signatures.{HasTypes}
+use Rattle.pf_text.specs.States.{Next, next}
+use Rattle.pf_text.proofs.Complete.{On}
+use Rattle.pf_text.proofs.Runs.{moved, run, run-append, run-refused}
+use Rattle.pf_text.proofs.SignatureLemmas.{HasFound, all_found, more_found, refused}
+use Rattle.pf_text.proofs.Texts.{Reads-unique, items_in, run-reads, start}
+use Rattle.pf_render.specs.Rendering.{DifferFirstAt}
+use Rattle.pf_compare.specs.declared.layouts.Hole.{Hole}
+use Rattle.pf_compare.specs.declared.layouts.Layout.{Layout}
+use Rattle.pf_compare.specs.Answers.{HaveSameTypes}
+use Rattle.pf_compare.specs.Layouts.{IsLayoutOf, hole_types}
+use Rattle.pf_compare.specs.TypeLists.{HasTaken}
+use Rattle.pf_compare.proofs.ListLemmas.{get_map, get_some, get_within, take_whole}
+
+-- The items of a front are the first items of the text.
+kept_by : (items : List Item) (step : Step) → (more : List Item) × (with_step items step ≡ items ++ more)
+kept_by items steps.More = ([], sym (append-nil items))
+kept_by items (steps.Byte b) = (_, refl)
+kept_by items steps.Percent = (_, refl)
+kept_by items (steps.Directive d) = (_, refl)
+
+not_on : (kind : RefusalKind) (q : State × List Item) → Err kind ≡ Ok q → ⊥
+not_on kind q e = cc
+
+kept : (n : Next) (t : Text) (items xs : List Item) (last : State) → run (moved items n) t ≡ On xs last → (more : List Item) × (xs ≡ items ++ more)
+kept (Err kind) t items xs last e = absurd (not_on kind (last, xs) (sym (run-refused kind t) ∙ e))
+kept (Ok p) [] items xs last e =
+    let step = kept_by items p.1 in
+    (step.0, sym (ap items_in e) ∙ step.1)
+kept (Ok p) (b ∷ t) items xs last e =
+    let step = kept_by items p.1 in
+    let rest = kept (next p.0 b) t (with_step items p.1) xs last e in
+    (step.0 ++ rest.0, rest.1 ∙ ap (λ l. l ++ rest.0) step.1 ∙ append_assoc items step.0 rest.0)
+
+front_items : (t read rest : Text) (items xs : List Item) → t ≡ read ++ rest → Reads read items → Reads t xs → (more : List Item) × (xs ≡ items ++ more)
+front_items t read rest items xs e h g =
+    kept (Ok (Between, steps.More)) rest items xs Between
+    (sym (ap (λ p. run p rest) (run-reads items read [] h)) ∙ sym (run-append start read rest) ∙ sym (ap (run start) e) ∙ run-reads xs t [] g)
+
+-- what is taken comes first
+taken_first : (pieces : Pieces) (t : Text) (done : List ArgType) (xs : List Item) → HasTaken pieces t done → Reads t xs → (rest : List ArgType) × (types xs ≡ done ++ rest)
+taken_first pieces t done xs h g =
+    let more = front_items t h.read pieces.rest.now h.items xs h.given.split h.given.reads g in
+    (types more.0, ap types more.1 ∙ types-append h.items more.0 ∙ ap (λ ts. ts ++ types more.0) (sym h.types_are))
+
+pub types_of_all : (t : Text) (wanted : List ArgType) (xs : List Item) → HasTypes t wanted → Reads t xs → types xs ≡ wanted
+types_of_all t wanted xs h g = ap types (Reads-unique t xs h.items g h.reads) ∙ sym h.types_are
+
+taken_as : (pieces : Pieces) (t : Text) (done : List ArgType) → HasFound pieces t done → HasTaken pieces t done
+taken_as pieces t done h = record { read = h.read; items = h.items; given = h.given; types_are = h.types_are }
+
+found_as : (pieces : Pieces) (t : Text) (done : List ArgType) → HasTaken pieces t done → HasFound pieces t done
+found_as pieces t done h = record { read = h.read; items = h.items; given = h.given; types_are = h.types_are }
+
+-- one piece more
+module _ (old new : Pieces) (t : Text) (done : List ArgType) (h : HasTaken old t done) where
+  module _ (given : Result Piece Refusal) (steps : Gives old (Some given) new) where
+    pub taken_more : (piece : Piece) (more : List ArgType) → given ≡ Ok piece → more ≡ types (items_of piece) → HasTaken new t (done ++ more)
+    taken_more piece more e same = taken_as new t (done ++ more) (more_found old new t done (found_as old t done h) given steps piece more e same)
+
+    pub taken_same : (piece : Piece) → given ≡ Ok piece → [] ≡ types (items_of piece) → HasTaken new t done
+    taken_same piece e same = subst (HasTaken new t) (append-nil done) (taken_more piece [] e same)
+
+    pub not_refused : IsAccepted t → (refusal : Refusal) → given ≡ Err refusal → ⊥
+    not_refused accepted refusal e = (refused old new t done (found_as old t done h) given steps refusal e).refused.not_accepted accepted
+
+  pub taken_all : Gives old None new → HasTypes t done
+  taken_all steps = all_found old new t done (found_as old t done h) steps
+
+-- both have taken the same types so far
+pub record AreInStep (first second : Pieces) (f g : Text) (index : ℕ) : Type 0 where
+  pub done : List ArgType
+  pub first_taken : HasTaken first f done
+  pub second_taken : HasTaken second g done
+  pub count : index ≡ length done
+
+get_behind : (xs ys : List ArgType) → slice_get (xs ++ ys) (length xs) ≡ slice_get ys 0
+get_behind [] ys = refl
+get_behind (x ∷ xs) ys = get_behind xs ys
+
+-- two lists begin alike, and then differ
+differ_behind : (done xs ys us vs : List ArgType) (index : ℕ) → xs ≡ done ++ us → ys ≡ done ++ vs → index ≡ length done → slice_get us 0 ≢ slice_get vs 0 → DifferFirstAt xs ys index
+differ_behind done xs ys us vs index e f at h =
+    let here : DifferFirstAt (done ++ us) (done ++ vs) (length done)
+    = record {
+        same = take_whole done us ∙ sym (take_whole done vs);
+        differ = λ same. h (sym (get_behind done us) ∙ same ∙ get_behind done vs);
+      } in
+    subst (λ l. DifferFirstAt l ys index) (sym e) (subst (λ l. DifferFirstAt (done ++ us) l index) (sym f) (subst (DifferFirstAt (done ++ us) (done ++ vs)) (sym at) here))
+
+none_there : (done xs : List ArgType) → xs ≡ done → xs ≡ done ++ []
+none_there done xs e = e ∙ sym (append-nil done)
+
+some_there : (pieces : Pieces) (t : Text) (done : List ArgType) (type : ArgType) (xs : List Item) → HasTaken pieces t (done ++ type ∷ []) → Reads t xs → (rest : List ArgType) × (types xs ≡ done ++ type ∷ rest)
+some_there pieces t done type xs h g = let more = taken_first pieces t (done ++ type ∷ []) xs h g in (more.0, more.1 ∙ append_assoc done (type ∷ []) more.0)
+
+-- Another type comes in the second list, or none.
+pub differ_here : (first second : Pieces) (f g : Text) (done : List ArgType) (index : ℕ) (wanted : ArgType) (given : Option ArgType) (xs ys : List Item) → index ≡ length done
+    → HasTaken first f (done ++ wanted ∷ []) → MatchOption given (HasTypes g done) (λ type. HasTaken second g (done ++ type ∷ [])) → given ≢ Some wanted → Reads f xs → Reads g ys → DifferFirstAt (types xs) (types ys) index
+differ_here first second f g done index wanted None xs ys at h k other a b =
+    let one = some_there first f done wanted xs h a in
+    differ_behind done (types xs) (types ys) (wanted ∷ one.0) [] index one.1 (none_there done (types ys) (types_of_all g done ys k b)) at (λ e. cc)
+differ_here first second f g done index wanted (Some type) xs ys at h k other a b =
+    let one = some_there first f done wanted xs h a in
+    let two = some_there second g done type ys k b in
+    differ_behind done (types xs) (types ys) (wanted ∷ one.0) (type ∷ two.0) index one.1 two.1 at (λ e. other (sym e))
+
+-- The same type comes in both.
+pub stepped : (first second : Pieces) (f g : Text) (done : List ArgType) (index : ℕ) (wanted : ArgType) (given : Option ArgType) → index ≡ length done
+    → HasTaken first f (done ++ wanted ∷ []) → MatchOption given (HasTypes g done) (λ type. HasTaken second g (done ++ type ∷ [])) → given ≡ Some wanted → AreInStep first second f g (index + 1)
+stepped first second f g done index wanted None at h k same = absurd (cc)
+stepped first second f g done index wanted (Some type) at h k same =
+    let is : type ≡ wanted = cc in
+    record {
+      done = done ++ wanted ∷ [];
+      first_taken = h;
+      second_taken = subst (λ (t : ArgType). HasTaken second g (done ++ t ∷ [])) is k;
+      count = omega (arith, at, length_push done wanted);
+    }
+
+-- The second list is longer.
+pub differ_after : (second : Pieces) (f g : Text) (done : List ArgType) (index : ℕ) (type : ArgType) (xs ys : List Item) → index ≡ length done
+    → HasTypes f done → HasTaken second g (done ++ type ∷ []) → Reads f xs → Reads g ys → DifferFirstAt (types xs) (types ys) index
+differ_after second f g done index type xs ys at h k a b =
+    let two = some_there second g done type ys k b in
+    differ_behind done (types xs) (types ys) [] (type ∷ two.0) index (none_there done (types xs) (types_of_all f done xs h a)) two.1 at (λ e. cc)
+
+pub same_lists_of : (f g : Text) (done : List ArgType) (xs ys : List Item) → HasTypes f done → HasTypes g done → Reads f xs → Reads g ys → types xs ≡ types ys
+same_lists_of f g done xs ys h k a b = types_of_all f done xs h a ∙ sym (types_of_all g done ys k b)
+
+pub same_types_of : (f g : Text) (a : IsAccepted f) (b : IsAccepted g) → ((xs ys : List Item) → Reads f xs → Reads g ys → types xs ≡ types ys) → HaveSameTypes f g
+same_types_of f g a b same =
+    record {
+      types = types a.0;
+      first = record { items = a.0; reads = a.1; limit = a.2; types_are = refl };
+      second = record { items = b.0; reads = b.1; limit = b.2; types_are = same a.0 b.0 a.1 b.1 };
+    }
+
+-- The types of holes are those of the items.
+pub length-hole_types : (holes : List Hole) → length (hole_types holes) ≡ length holes
+length-hole_types holes = length-map holes (λ hole. arg_type hole.directive)
+
+pub hole_type_at : (holes : List Hole) (i : ℕ) (d : Hole) → i < length holes → slice_get (hole_types holes) i ≡ Some (arg_type (get_or holes i d).directive)
+hole_type_at holes i d h = get_map (λ hole. arg_type hole.directive) holes i d h
+
+hole_type_got : (holes : List Hole) (i : ℕ) (hole : Hole) → slice_get holes i ≡ Some hole → slice_get (hole_types holes) i ≡ Some (arg_type hole.directive)
+hole_type_got [] i hole e = absurd (cc)
+hole_type_got (h ∷ holes) zero hole e = let is : h ≡ hole = cc in ap (λ (o : Hole). Some (arg_type o.directive)) is
+hole_type_got (h ∷ holes) (suc i) hole e = hole_type_got holes i hole e
+
+same_lists : (xs ys : List ArgType) → length xs ≡ length ys → ((i : ℕ) (x : ArgType) → slice_get xs i ≡ Some x → slice_get ys i ≡ Some x) → xs ≡ ys
+same_lists [] [] e h = refl
+same_lists [] (y ∷ ys) e h = absurd (omega arith)
+same_lists (x ∷ xs) [] e h = absurd (omega arith)
+same_lists (x ∷ xs) (y ∷ ys) e h =
+    let first : Some y ≡ Some x = h zero x refl in
+    let rest = same_lists xs ys (omega arith) (λ i z f. h (suc i) z f) in
+    let same : y ≡ x = cc in
+    cc
+
+pub hole_types_are : (items : List Item) (layout : Layout) → IsLayoutOf items layout → hole_types layout.holes.items ≡ types items
+hole_types_are items layout h = same_lists (hole_types layout.holes.items) (types items) (length-hole_types layout.holes.items ∙ h.count) (λ i x e.
+    let less = get_within (hole_types layout.holes.items) i x e in
+    let hole = get_some layout.holes.items i (omega (arith, less, length-hole_types layout.holes.items)) in
+    let is = h.holes i hole.0 hole.1 in
+    is.type_is ∙ sym (hole_type_got layout.holes.items i hole.0 hole.1) ∙ e)

@@ -1,0 +1,15 @@
+use Rattle.std.proofs.lemmas.Result.{err_from_is_err_and}
+use Rattle.pf_compare.proofs.TypeListLemmas.{same_types_of}
+use Rattle.pf_compare.proofs.VerdictLemmas.{types_verdict}
+use Rattle.pf_compare.proofs.comparisons.compare.Goals as goal
+
+pub returns-in-Some : goal.returns-in-Some
+returns-in-Some c = types_verdict c.args.f.now c.args.g.now c.in_default.ensures.0 c.in_default.ensures.1 c.in-Some.index c.in-Some.ensures
+
+pub compare_bytes-requires-clause-types : goal.compare_bytes-requires-clause-types
+compare_bytes-requires-clause-types c = same_types_of c.args.f.now c.args.g.now c.in_default.ensures.0 c.in_default.ensures.1 c.in_default-first_other_type.ensures
+
+pub returns-in_err-compare_bytes : goal.returns-in_err-compare_bytes
+returns-in_err-compare_bytes c =
+    let p = err_from_is_err_and c.from_residual.result c.from_residual.ensures.1 in
+    rw (p.1, p.2) (same_types_of c.args.f.now c.args.g.now c.in_default.ensures.0 c.in_default.ensures.1 c.in_default-first_other_type.ensures)

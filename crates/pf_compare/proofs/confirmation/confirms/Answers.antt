@@ -1,0 +1,5 @@
+use Rattle.pf_compare.proofs.ConfirmationLemmas.{confirmed}
+use Rattle.pf_compare.proofs.confirmation.confirms.Goals as goal
+
+pub returns : goal.returns
+returns c = confirmed c.args.f.now c.args.g.now c.args.args.now c.in_ok-x.x c.in_ok-y.y c.in_ok-x.ensures c.in_ok-y.ensures c.differ.result c.differ.ensures

@@ -1,0 +1,9 @@
+use Rattle.std.proofs.Common.{subst}
+use Rattle.pf_values.specs.Arguments.{HasType}
+use Rattle.pf_probes.specs.declared.rows.Candidate.{Candidate}
+use Rattle.pf_probes.specs.Candidate.{argument_of}
+use Rattle.pf_compare.proofs.CandidateLemmas.{repeated_byte}
+use Rattle.pf_compare.proofs.owned_args.OwnedArg.of.Goals as goal
+
+pub repeated-requires : goal.repeated-requires
+repeated-requires c = repeated_byte c.in-Repeat.count c.in-Repeat.byte c.args.arg_type (subst (λ (candidate : Candidate). HasType (argument_of candidate) c.args.arg_type) c.in-Repeat.is c.requires)

@@ -1,0 +1,67 @@
+//! Arguments for which two formats print different bytes.
+ghost use Rattle.std.specs.Prelude.{◌≡◌, IfOk, List};
+ghost use Rattle.pf_values.specs.Items.{Item, types};
+ghost use Rattle.pf_compare.specs.Layouts.{HaveOneTypes, IsLayoutOf, hole_types};
+ghost use Rattle.pf_compare.specs.Witnesses.{AreNeutral, FindsWitness, HasCandidate, IsWitnessAt};
+
+use crate::layouts::{Hole, Layout};
+use crate::owned_args::OwnedArg;
+use crate::probe_search::{Probe, are_unlike, first_probe};
+use pf_probes::candidates;
+use std::alloc::{AllocError, Global};
+
+/// Arguments for which two formats print different bytes, and their place among the candidates.
+#[derive(Drop)]
+pub(crate) struct Witness {
+    pub(crate) args: Vec<OwnedArg>,
+    pub(crate) renderings: u8,
+}
+
+/// The first probe for which two formats of equal types print different bytes.
+pub(crate) fn first_witness(
+    alloc: Global,
+    first: &Layout,
+    second: &Layout,
+) -> Result<Option<Witness>, AllocError>
+    requires { HaveOneTypes first.now second.now }
+    ensures { IfOk result (λ found. (xs ys : List Item) → IsLayoutOf xs first.now → IsLayoutOf ys second.now → types xs ≡ types ys → FindsWitness xs ys found) }
+{
+    if are_unlike(&first.bytes, &second.bytes) {
+        let args = neutrals(alloc, &first.holes)?;
+        return Ok(Some(Witness {
+            args,
+            renderings: 1,
+        }));
+    }
+    let found = first_probe(alloc, first, second)?;
+    match found {
+        Some(probe) => {
+            let witness = witness_of(alloc, &first.holes, probe)?;
+            Ok(Some(witness))
+        }
+        None => Ok(None),
+    }
+}
+
+fn neutrals(alloc: Global, holes: &[Hole]) -> Result<Vec<OwnedArg>, AllocError>
+    ensures { IfOk result (λ args. AreNeutral (hole_types holes.now) args.items) }
+{
+    let mut args = Vec::new(alloc);
+    for hole in holes {
+        args.push(OwnedArg::neutral(alloc, hole.directive.arg_type()))?;
+    }
+    Ok(args)
+}
+
+fn witness_of(alloc: Global, holes: &[Hole], probe: Probe) -> Result<Witness, AllocError>
+    requires { HasCandidate (hole_types holes.now) probe }
+    ensures { IfOk result (IsWitnessAt (hole_types holes.now) probe) }
+{
+    let mut args = neutrals(alloc, holes)?;
+    let arg_type = holes[probe.index].directive.arg_type();
+    args[probe.index] = OwnedArg::of(alloc, arg_type, candidates(arg_type)[probe.place])?;
+    Ok(Witness {
+        args,
+        renderings: probe.place as u8 + 1,
+    })
+}
