@@ -6,10 +6,10 @@ use Rattle.pf_values.specs.Arguments.{Argument, HasType, Number, String}
 use Rattle.pf_values.specs.Text.{Text}
 use Rattle.pf_compare.specs.Answers.{IsComparisonOf}
 use Rattle.pf_compare.specs.Owned.{argument_of_owned}
-use Rattle.pf_compare.specs.declared.comparing.Comparison.{Comparison}
-use Rattle.pf_compare.specs.declared.comparing.Verdict.{Verdict}
-use Rattle.pf_compare.specs.declared.comparing.Verdict.TheVariants.{Same, Types, Args}
-use Rattle.pf_compare.specs.declared.owned.OwnedArg.{OwnedArg}
+use Rattle.pf_compare.specs.declared.verdicts.Comparison.{Comparison}
+use Rattle.pf_compare.specs.declared.verdicts.Verdict.{Verdict}
+use Rattle.pf_compare.specs.declared.verdicts.Verdict.TheVariants.{Same, Types, Args}
+use Rattle.pf_compare.specs.declared.owned_args.OwnedArg.{OwnedArg}
 use Rattle.fmtcanon.specs.declared.answer.Ending.{Ending}
 use Rattle.fmtcanon.specs.declared.answer.Ending.TheVariants as endings
 use Rattle.fmtcanon.specs.ArgumentWords.{SpellsArgument}

@@ -1,0 +1,130 @@
+#!/usr/bin/env python3
+"""Tries the built program as a program: rows of commands, the examples of the documents, and devices that fail.
+
+Usage: tests/program.py PROGRAM
+
+It needs a Linux system with bash. Its last line is 'N passed, M failed', and it exits with 1 where M isn't 0.
+"""
+
+import json
+import os
+import re
+import subprocess
+import sys
+from pathlib import Path
+
+TOP = Path(__file__).resolve().parent.parent
+DOCUMENTS = ["README.md", "docs/USING.md"]
+TIMEOUT = 60
+
+
+class Trials:
+    """Counts what was tried, and tells each failure."""
+
+    def __init__(self):
+        self.passed = 0
+        self.failed = 0
+
+    def expect(self, name, got, wanted):
+        if got == wanted:
+            self.passed += 1
+            return
+        self.failed += 1
+        print(f"FAILED {name}\n  wanted {wanted!r}\n  got    {got!r}")
+
+
+def run(program, words, stdin=b"", **devices):
+    """The status, standard output and standard error of a run; None for a stream that isn't a pipe."""
+    options = {"stdout": subprocess.PIPE, "stderr": subprocess.PIPE, "input": stdin, **devices}
+    done = subprocess.run([program, *words], timeout=TIMEOUT, check=False, **options)
+    return done.returncode, done.stdout, done.stderr
+
+
+def try_rows(program, trials):
+    """Rows of a model of the program that shares no code with it."""
+    for line in (TOP / "tests/commands.jsonl").read_text(encoding="utf-8").splitlines():
+        row = json.loads(line)
+        status, stdout, stderr = run(program, row["words"], row.get("stdin", "").encode("latin-1"))
+        wanted_out = row["stdout"].encode("latin-1")
+        wanted_err = stderr if row["stderr"] is None else row["stderr"].encode()
+        trials.expect(row["words"], (status, stdout, stderr), (row["status"], wanted_out, wanted_err))
+
+
+def examples(document):
+    """The commands in indented blocks, each a line that begins with '$ ', with the lines that follow it."""
+    command, output = None, []
+    for line in document.read_text(encoding="utf-8").splitlines() + [""]:
+        if line.startswith("    $ "):
+            if command:
+                yield command, output
+            command, output = line[6:], []
+        elif line.startswith("    ") and command:
+            output.append(line[4:])
+        elif command:
+            yield command, output
+            command, output = None, []
+
+
+def try_examples(program, trials):
+    """Each example of the documents answers what stands below it, on either stream."""
+    folder = os.path.dirname(os.path.abspath(program))
+    environment = {**os.environ, "PATH": folder + os.pathsep + os.environ["PATH"], "LC_ALL": "C.UTF-8"}
+    for name in DOCUMENTS:
+        found = 0
+        for command, output in examples(TOP / name):
+            found += 1
+            done = subprocess.run(
+                ["bash", "-c", command], timeout=TIMEOUT, check=False, env=environment,
+                stdin=subprocess.DEVNULL, stdout=subprocess.PIPE, stderr=subprocess.STDOUT,
+            )
+            got = done.stdout.decode()
+            wanted = "\n".join(output) + "\n" if output else ""
+            # Output with no newline at its end shows as a line, too.
+            trials.expect(f"{name}: {command}", got if got.endswith("\n") or not got else got + "\n", wanted)
+        trials.expect(f"{name} has examples", found > 0, True)
+
+
+def try_words(program, trials):
+    """Words that are no text, many words, and the rows of REFUSALS.md."""
+    status, stdout, stderr = run(program, ["canon", b"\xff"])
+    trials.expect("a word that is not UTF-8", (status, stdout), (3, b""))
+    trials.expect("it is told in a line", re.fullmatch(rb"error: .*\n", stderr) is not None, True)
+    words = ["format", "%d" * 10_000] + [f"n:{i}" for i in range(10_000)]
+    wanted = "".join(map(str, range(10_000))).encode()
+    trials.expect("10,000 arguments", run(program, words), (0, wanted, b""))
+
+
+def try_devices(program, trials):
+    """A full device, closed streams, and a pipe whose reader has left."""
+    commands = [["canon", "%i"], ["types", "%d"], ["show", "%d"], ["format", "x"], ["same", "%i", "%d"]]
+    for words in commands:
+        with open("/dev/full", "wb") as full:
+            status, _, stderr = run(program, words, stdout=full)
+        trials.expect(f"{words} to a full device", (status, stderr), (4, b"write failed\n"))
+        reader, writer = os.pipe()
+        os.close(reader)
+        status, _, stderr = run(program, words, stdout=writer)
+        os.close(writer)
+        trials.expect(f"{words} to a pipe that nobody reads", (status, stderr), (4, b"write failed\n"))
+        quoted = " ".join(f"'{word}'" for word in words)
+        done = subprocess.run(["bash", "-c", f"'{program}' {quoted} >&-"], stderr=subprocess.PIPE, timeout=TIMEOUT, check=False)
+        trials.expect(f"{words} with standard output closed", (done.returncode, done.stderr), (4, b"write failed\n"))
+        done = subprocess.run(["bash", "-c", f"'{program}' {quoted} 2>&- <&-"], stdout=subprocess.PIPE, timeout=TIMEOUT, check=False)
+        trials.expect(f"{words} with the other two closed", done.returncode, 0)
+
+
+def main():
+    if len(sys.argv) != 2:
+        sys.exit(__doc__)
+    program = os.path.abspath(sys.argv[1])
+    trials = Trials()
+    try_rows(program, trials)
+    try_examples(program, trials)
+    try_words(program, trials)
+    try_devices(program, trials)
+    print(f"{trials.passed} passed, {trials.failed} failed")
+    return 1 if trials.failed else 0
+
+
+if __name__ == "__main__":
+    sys.exit(main())
