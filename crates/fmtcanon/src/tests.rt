@@ -1,6 +1,7 @@
 //! Runs of the program, and what it reports.
 
 mod canonicals;
+mod devices;
 mod formats;
 mod reductions;
 mod sames;
@@ -14,8 +15,6 @@ use pf_canon::Side;
 use pf_text::Refusal;
 use pf_values::{Counted, RefusalKind};
 use std::alloc::{AllocError, Global};
-use std::io;
-use std::io::{Error, ErrorKind, Write};
 
 // How a run over these words ended, and what it wrote.
 fn ran(alloc: Global, words: &[&str]) -> (Outcome, Vec<u8>) {
@@ -459,33 +458,4 @@ fn is_cut(alloc: Global, words: &[&str], want: &[u8]) -> bool {
         }
     }
     true
-}
-
-// Takes all bytes, and fails at each flush.
-#[derive(Drop)]
-struct Unflushed(Vec<u8>);
-
-impl Write for Unflushed {
-    fn write(&mut self, buf: &[u8]) -> io::Result<usize> {
-        self.0.write(buf)
-    }
-
-    fn flush(&mut self) -> io::Result<()> {
-        Err(Error::from(ErrorKind::Interrupted))
-    }
-}
-
-#[test]
-fn a_flush_that_fails_is_told_after_all_bytes(rt: HostRuntime) {
-    let mut reader = Counted::new(b"".as_slice());
-    let mut writer = Counted::new(Unflushed(Vec::new(rt.alloc())));
-    let outcome = run(
-        rt.alloc(),
-        ["canon", "%i"].as_slice(),
-        &mut reader,
-        &mut writer,
-    );
-    assert!(rt; matches!(outcome, Outcome::Write(3)));
-    assert_eq!(rt; writer.failures(), 1);
-    assert!(rt; writer.into_inner().0.as_slice() == b"%d\n".as_slice());
 }

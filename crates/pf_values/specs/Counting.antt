@@ -25,9 +25,9 @@ abbrev pub write_failed : {E : Type 0} → Result ℕ E → Text → Bool
 write_failed (Ok taken) bytes = (taken == 0) && nat_lt 0 (length bytes)
 write_failed (Err e) bytes = true
 
--- a call of the device failed in between, unless the count had come to its end
+-- just one call of the device failed in between
 abbrev pub HasFailed : {T : Type 0} → Counted T → Counted T → Type 0
-HasFailed old new = failures_of old < max_failures → failures_of old < failures_of new
+HasFailed old new = failures_of new ≡ failures_after (failures_of old) true
 
 -- what a writer tells that it holds, if it tells that
 abbrev pub Known : Type 0
@@ -39,7 +39,7 @@ module _ {W : Type 0} (contents : W → Known) (old new : Counted W) (bytes : Te
     pub appended : Appends (contents (device_of old)) (contents (device_of new)) bytes
     pub none_failed : failures_of new ≡ failures_of old
 
-  -- exactly the first ones went out, and a call failed
+  -- exactly the first ones went out, and just one call failed
   pub record WritesFirst (written : ℕ) : Type 0 where
     pub appended : Appends (contents (device_of old)) (contents (device_of new)) (take written bytes)
     pub within : written ≤ length bytes

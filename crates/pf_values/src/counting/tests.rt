@@ -108,9 +108,39 @@ fn a_call_answers_as_the_device_does(rt: HostRuntime) {
     assert_eq!(rt; counted(Answer::Takes(2)).write(b"abc").ok(), Some(2));
     assert_eq!(rt; counted(Answer::Takes(2)).read(&mut place).ok(), Some(2));
     assert!(rt; counted(Answer::Takes(2)).flush().is_ok());
-    let interrupted = counted(Answer::Fails(ErrorKind::Interrupted)).write(b"abc");
-    assert_eq!(rt;
-        interrupted.err().map(|e| e.kind()),
-        Some(ErrorKind::Interrupted)
-    );
+}
+
+#[test]
+fn the_kind_of_an_error_is_the_devices(rt: HostRuntime) {
+    let mut place = [0u8; 4];
+    for kind in [
+        ErrorKind::Interrupted,
+        ErrorKind::WouldBlock,
+        ErrorKind::BrokenPipe,
+        ErrorKind::Other,
+    ] {
+        let fails = Answer::Fails(kind);
+        let written = counted(fails).write(b"abc");
+        assert_eq!(rt; written.err().map(|e| e.kind()), Some(kind));
+        let read = counted(fails).read(&mut place);
+        assert_eq!(rt; read.err().map(|e| e.kind()), Some(kind));
+        let flushed = counted(fails).flush();
+        assert_eq!(rt; flushed.err().map(|e| e.kind()), Some(kind));
+    }
+}
+
+// All that is given goes to the device in one call, however long it is, and an empty place, too.
+#[test]
+fn a_call_hands_on_all_that_it_is_given(rt: HostRuntime) {
+    let long = [b'x'; 5_000];
+    let mut device = counted(Answer::Takes(usize::MAX));
+    assert_eq!(rt; device.write(&long).ok(), Some(5_000));
+    assert_eq!(rt; device.into_inner().calls, 1);
+    let mut long = [0u8; 5_000];
+    let mut device = counted(Answer::Takes(usize::MAX));
+    assert_eq!(rt; device.read(&mut long).ok(), Some(5_000));
+    assert_eq!(rt; device.into_inner().calls, 1);
+    let mut device = counted(Answer::Takes(usize::MAX));
+    assert_eq!(rt; device.read(&mut []).ok(), Some(0));
+    assert_eq!(rt; device.into_inner().calls, 1);
 }
