@@ -1,6 +1,7 @@
 //! A reader of a format, byte by byte.
-ghost use Rattle.std.specs.Prelude.{◌≡◌, ◌+◌, ◌≤◌, length, List, [], MatchResult, Ok, Err};
+ghost use Rattle.std.specs.Prelude.{◌≡◌, ◌+◌, ◌≤◌, ◌<◌, length, List, [], MatchResult, OnOk, Ok, Err};
 ghost use Rattle.memchr.specs.Find.{IsFirstByte, is_byte2};
+ghost use Rattle.pf_values.specs.declared.limits.TheConstants.{MAX_TEXT_LEN};
 ghost use Rattle.pf_values.specs.Items.{Item, Reads};
 ghost use Rattle.pf_values.specs.Text.{Text};
 ghost use Rattle.pf_text.specs.Stages.{state_of};
@@ -57,6 +58,8 @@ impl Scanner {
         ensures fed { (t : Text) (items : List Item) → IsAfter self.old t items → Feeds t items byte result self.new }
         // A refusal is kept.
         ensures kept { MatchResult result (λ _. offset_of self.new ≡ offset_of self.old + 1) (λ refusal. HasRefused self.new refusal × (offset_of self.new ≡ offset_of self.old)) }
+        // No byte is taken past the limit.
+        ensures below { OnOk result (offset_of self.old < MAX_TEXT_LEN) }
         // After a refusal the same is answered.
         ensures stays { (refusal : Refusal) → HasRefused self.old refusal → (result ≡ Err refusal) × (self.new ≡ self.old) }
     {
@@ -97,7 +100,7 @@ impl Scanner {
     /// Takes the longest run of literal bytes at the front of `text`, and tells how many there are. One call of
     /// `feed` for each of them would do the same.
     #[inline(always)]
-    pub(crate) fn pass_literals(&mut self, text: &[u8]) -> usize
+    pub fn pass_literals(&mut self, text: &[u8]) -> usize
         ensures within { result ≤ length text.now }
         ensures passed { (t : Text) (items : List Item) → IsAfter self.old t items → Reads t items → Passes t items text.now result self.new }
     {
