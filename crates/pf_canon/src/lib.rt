@@ -3,10 +3,11 @@
 
 mod building;
 mod copying;
+mod due;
 mod faults;
+mod fronts;
 pub mod laws;
 pub mod limits;
-mod making;
 mod parts;
 mod putting;
 mod reading;
