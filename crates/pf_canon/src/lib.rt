@@ -2,16 +2,25 @@
 #![tactic(auto)]
 
 mod building;
+mod copying;
+mod due;
 mod faults;
+mod fronts;
 pub mod laws;
 pub mod limits;
-mod making;
+mod parts;
+mod putting;
+mod reading;
 mod recognizing;
 mod sides;
+mod streaming;
+mod transducing;
 #[cfg(test)]
 mod tests;
 
 pub use building::canonical;
-pub use faults::CanonFault;
+pub use copying::canonical_stream;
+pub use faults::{CanonFault, CopyFault, StreamFault};
 pub use recognizing::is_canonical;
 pub use sides::Side;
+pub use streaming::CanonBytes;

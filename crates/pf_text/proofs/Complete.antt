@@ -23,8 +23,8 @@ use Rattle.pf_values.specs.Lengths.{length_letters}
 use Rattle.pf_values.specs.Spelling.{SpellsWidth, SpellsPrecision}
 use Rattle.pf_values.specs.Text.{Text}
 use Rattle.pf_values.proofs.Numerals.{number_after-place_sum}
-use Rattle.pf_text.specs.declared.state.State.{State}
-use Rattle.pf_text.specs.declared.state.State.TheVariants.{Between, Opened, Flags, Width, Point, Precision, Modifier}
+use Rattle.pf_text.specs.Stages.{State}
+use Rattle.pf_text.specs.Stages.{Between, Opened, Flags, Width, Point, Precision, Modifier}
 use Rattle.pf_text.specs.Letters.{flag_of, modifier_of, conv_of}
 use Rattle.pf_text.specs.States.{next, is_digit, after_flags, after_number, inside, ending, judged_as}
 use Rattle.pf_text.specs.Fronts.{IsFront, IsAt}

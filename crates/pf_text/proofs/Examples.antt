@@ -8,8 +8,8 @@ use Rattle.pf_values.specs.Items.{Item}
 use Rattle.pf_values.specs.Refusals.{IsRefusedAt}
 use Rattle.pf_values.specs.Text.{Text}
 use Rattle.pf_text.specs.declared.scanner.Step.{Step}
-use Rattle.pf_text.specs.declared.state.State.{State}
-use Rattle.pf_text.specs.declared.state.State.TheVariants.{Between}
+use Rattle.pf_text.specs.Stages.{State}
+use Rattle.pf_text.specs.Stages.{Between}
 use Rattle.pf_text.specs.History.{with_step}
 use Rattle.pf_text.specs.States.{Next, next}
 use Rattle.pf_text.proofs.Complete.{On}

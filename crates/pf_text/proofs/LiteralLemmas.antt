@@ -11,7 +11,7 @@ use Rattle.pf_values.specs.declared.limits.TheConstants.{MAX_TEXT_LEN}
 use Rattle.pf_values.specs.Items.{Item, Byte, IsReadAs, Reads}
 use Rattle.pf_values.specs.Text.{Text}
 use Rattle.pf_text.specs.declared.scanner.Scanner.{Scanner}
-use Rattle.pf_text.specs.declared.state.State.TheVariants.{Between}
+use Rattle.pf_text.specs.Stages.{Between, state_of}
 use Rattle.pf_text.specs.Fronts.{IsAt}
 use Rattle.pf_text.specs.History.{EndsRun, IsAfter, IsLiteral, Passes}
 use Rattle.pf_text.proofs.Texts.{Reads-push, begun}
@@ -86,7 +86,7 @@ after_literals scanner t run items h reads literal few =
     record {
       part = [];
       good = record { splits = record { whole = t ++ run; reads = Reads-literals run t items reads literal; split = sym (append-nil (t ++ run)) }; begun = begun Between [] refl };
-      state = subst (IsAt scanner.state) (no_part scanner t items h reads) h.state;
+      state = subst (IsAt (state_of scanner.automaton)) (no_part scanner t items h reads) h.state;
       offset = omega (arith, h.offset, length-append t run);
       limit = few;
       no_refusal = h.no_refusal;

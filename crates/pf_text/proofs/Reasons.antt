@@ -25,8 +25,8 @@ use Rattle.pf_values.specs.Specification.{Specification}
 use Rattle.pf_values.specs.Spelling.{SpellsWidth}
 use Rattle.pf_values.specs.Text.{Text}
 use Rattle.pf_values.proofs.Numerals.{number_after-place_sum}
-use Rattle.pf_text.specs.declared.state.State.{State}
-use Rattle.pf_text.specs.declared.state.State.TheVariants.{Between, Opened, Flags, Width, Point, Precision, Modifier}
+use Rattle.pf_text.specs.Stages.{State}
+use Rattle.pf_text.specs.Stages.{Between, Opened, Flags, Width, Point, Precision, Modifier}
 use Rattle.pf_text.specs.Fronts.{IsAt}
 use Rattle.pf_text.specs.Letters.{modifier_of, conv_of, refused_letter}
 use Rattle.pf_text.specs.States.{Next, next, after_number, ending, judged}

@@ -9,8 +9,8 @@ use Rattle.pf_values.specs.declared.refusals.RefusalKind.TheVariants.{Truncated,
 use Rattle.pf_values.specs.Items.{Item, IsAccepted}
 use Rattle.pf_values.specs.Refusals.{IsSplit, IsGoodFront, HasReason, IsRefusedByte, IsRefusedAt}
 use Rattle.pf_values.specs.Text.{Text}
-use Rattle.pf_text.specs.declared.state.State.{State}
-use Rattle.pf_text.specs.declared.state.State.TheVariants.{Between}
+use Rattle.pf_text.specs.Stages.{State}
+use Rattle.pf_text.specs.Stages.{Between}
 use Rattle.pf_text.specs.Fronts.{IsAt}
 use Rattle.pf_text.specs.States.{next}
 use Rattle.pf_text.proofs.Reasons.{only_reason}

@@ -27,8 +27,8 @@ use Rattle.pf_values.specs.Spelling.{Spells, SpellsWidth, SpellsPrecision}
 use Rattle.pf_values.specs.Text.{Text}
 use Rattle.pf_text.specs.declared.scanner.Step.{Step}
 use Rattle.pf_text.specs.declared.scanner.Step.TheVariants as steps
-use Rattle.pf_text.specs.declared.state.State.{State}
-use Rattle.pf_text.specs.declared.state.State.TheVariants.{Between, Opened, Flags, Width, Point, Precision, Modifier}
+use Rattle.pf_text.specs.Stages.{State}
+use Rattle.pf_text.specs.Stages.{Between, Opened, Flags, Width, Point, Precision, Modifier}
 use Rattle.pf_text.specs.Fronts.{IsFront, IsAt}
 use Rattle.pf_text.specs.History.{IsLiteral}
 use Rattle.pf_text.specs.Letters.{flag_of, modifier_of, conv_of, refused_letter}

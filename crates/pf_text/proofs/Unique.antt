@@ -10,8 +10,8 @@ use Rattle.pf_values.specs.Refusals.{IsBegun, IsGoodFront, IsRefusedByte, HasCau
 use Rattle.pf_values.specs.Text.{Text}
 use Rattle.pf_text.specs.declared.scanner.Step.{Step}
 use Rattle.pf_text.specs.declared.scanner.Step.TheVariants as steps
-use Rattle.pf_text.specs.declared.state.State.{State}
-use Rattle.pf_text.specs.declared.state.State.TheVariants.{Between}
+use Rattle.pf_text.specs.Stages.{State}
+use Rattle.pf_text.specs.Stages.{Between}
 use Rattle.pf_text.specs.Fronts.{IsAt}
 use Rattle.pf_text.specs.History.{with_step}
 use Rattle.pf_text.specs.States.{Next, next}

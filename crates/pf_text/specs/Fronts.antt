@@ -9,8 +9,8 @@ use Rattle.pf_values.specs.Flags.{flag_byte, flag_set}
 use Rattle.pf_values.specs.Lengths.{length_letters}
 use Rattle.pf_values.specs.Spelling.{SpellsWidth, SpellsPrecision}
 use Rattle.pf_values.specs.Text.{Text, percent, point}
-use Rattle.pf_text.specs.declared.state.State.{State}
-use Rattle.pf_text.specs.declared.state.State.TheVariants.{Between, Opened, Flags, Width, Point, Precision, Modifier}
+use Rattle.pf_text.specs.Stages.{State}
+use Rattle.pf_text.specs.Stages.{Between, Opened, Flags, Width, Point, Precision, Modifier}
 
 -- A specification without its conversion: `%`, flags, a width, a precision and a modifier, of which all but the `%` may be missing.
 pub record IsFront (part : Text) (set : FlagSet) (width precision : Option ℕ) (length : Length) : Type 0 where

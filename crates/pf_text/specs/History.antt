@@ -12,6 +12,7 @@ use Rattle.pf_text.specs.declared.scanner.Scanner.{Scanner}
 use Rattle.pf_text.specs.declared.scanner.Step.{Step}
 use Rattle.pf_text.specs.declared.scanner.Step.TheVariants as steps
 use Rattle.pf_text.specs.Fronts.{IsAt}
+use Rattle.pf_text.specs.Stages.{state_of}
 
 -- the items so far, and the one that a byte has ended, if it has
 abbrev pub with_step : List Item → Step → List Item
@@ -24,7 +25,7 @@ with_step before (steps.Directive d) = before ++ Directive d ∷ []
 pub record IsAfter (scanner : Scanner) (t : Text) (whole : List Item) : Type 0 where
   pub part : Text
   pub good : IsGoodFront t whole part
-  pub state : IsAt scanner.state part
+  pub state : IsAt (state_of scanner.automaton) part
   pub offset : scanner.offset ≡ length t
   pub limit : length t ≤ MAX_TEXT_LEN
   pub no_refusal : scanner.refused ≡ None

@@ -1,3 +1,5 @@
+pub mod Stages
+pub mod Moves
 pub mod Fronts
 pub mod Letters
 pub mod States

@@ -14,8 +14,8 @@ use Rattle.pf_values.specs.Specification.{Specification, given}
 use Rattle.pf_values.specs.Text.{dollar, percent, point, star, zero_digit}
 use Rattle.pf_text.specs.declared.scanner.Step.{Step}
 use Rattle.pf_text.specs.declared.scanner.Step.TheVariants.{More, Byte, Percent, Directive}
-use Rattle.pf_text.specs.declared.state.State.{State}
-use Rattle.pf_text.specs.declared.state.State.TheVariants.{Between, Opened, Flags, Width, Point, Precision, Modifier}
+use Rattle.pf_text.specs.Stages.{State}
+use Rattle.pf_text.specs.Stages.{Between, Opened, Flags, Width, Point, Precision, Modifier}
 use Rattle.pf_text.specs.Letters.{flag_of, modifier_of, conv_of, refused_letter}
 
 abbrev pub Next : Type 0

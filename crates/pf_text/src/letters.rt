@@ -7,6 +7,7 @@ ghost use Rattle.pf_text.specs.Letters.{flag_of, modifier_of, conv_of, refused_l
 
 use pf_values::{Conv, Flag, Length, RefusalKind};
 
+#[inline(always)]
 pub(crate) fn flag_of(byte: u8) -> Option<Flag>
     ensures { result ≡ flag_of byte }
 {
@@ -22,6 +23,7 @@ pub(crate) fn flag_of(byte: u8) -> Option<Flag>
 }
 
 /// The modifier that a letter begins.
+#[inline(always)]
 pub(crate) fn modifier_of(byte: u8) -> Option<Length>
     ensures { result ≡ modifier_of byte }
 {
@@ -35,6 +37,7 @@ pub(crate) fn modifier_of(byte: u8) -> Option<Length>
     }
 }
 
+#[inline(always)]
 pub(crate) fn conv_of(byte: u8) -> Option<Conv>
     ensures { result ≡ conv_of byte }
 {

@@ -42,6 +42,7 @@ impl<'a> Pieces<'a> {
 
     // Moves on behind the first byte of the rest, of which the scanner made this step, and behind the run that
     // a literal byte begins. Gives the piece that ends there, if one does.
+    #[inline(always)]
     fn advance(&mut self, step: Step) -> Option<Piece<'a>>
         requires { 0 < length self.old.rest.now }
         ensures given { (t read : Text) (items : List Item) → IsFed self.old step t read items
@@ -61,6 +62,7 @@ impl<'a> Pieces<'a> {
     }
 
     // The run that the first byte of the rest begins, which the scanner has taken.
+    #[inline(always)]
     fn take_run(&mut self) -> &'a [u8]
         requires { 0 < length self.old.rest.now }
         ensures given { (t read : Text) (items : List Item) (b : ℕ) → IsFed self.old (Step.Byte b) t read items
@@ -84,6 +86,7 @@ impl<'a> Iterator for Pieces<'a> {
 
     ghost remaining = { pieces_to_come };
 
+    #[inline(always)]
     fn next(&mut self) -> Option<Result<Piece<'a>, Refusal>> {
         if self.is_over {
             return None;

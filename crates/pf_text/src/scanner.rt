@@ -1,11 +1,15 @@
 //! A reader of a format, byte by byte.
-ghost use Rattle.std.specs.Prelude.{◌≡◌, ◌+◌, ◌≤◌, length, List, [], MatchResult};
+ghost use Rattle.std.specs.Prelude.{◌≡◌, ◌+◌, ◌≤◌, ◌<◌, length, List, [], MatchResult, OnOk, Ok, Err};
+ghost use Rattle.memchr.specs.Find.{IsFirstByte, is_byte2};
+ghost use Rattle.pf_values.specs.declared.limits.TheConstants.{MAX_TEXT_LEN};
 ghost use Rattle.pf_values.specs.Items.{Item, Reads};
 ghost use Rattle.pf_values.specs.Text.{Text};
+ghost use Rattle.pf_text.specs.Stages.{state_of};
+ghost use Rattle.pf_text.specs.States.{next};
 ghost use Rattle.pf_text.specs.History.{IsAfter, HasRefused, Feeds, Finishes, Passes, offset_of, refusal_by, refusing};
 
 use crate::refusal::Refusal;
-use crate::state::{State, next};
+use crate::state::{Automaton, Move};
 use memchr::memchr2;
 use pf_values::limits::MAX_TEXT_LEN;
 use pf_values::{Directive, RefusalKind};
@@ -29,7 +33,7 @@ pub enum Step {
 /// A reader of one text, which may come in any cuts. It is of fixed size.
 #[derive(Clone, Copy, Debug)]
 pub struct Scanner {
-    state: State,
+    automaton: Automaton,
     offset: u64,
     refused: Option<Refusal>,
 }
@@ -40,7 +44,7 @@ impl Scanner {
         ensures { IsAfter result [] [] }
     {
         Scanner {
-            state: State::Between,
+            automaton: Automaton::new(),
             offset: 0,
             refused: None,
         }
@@ -48,11 +52,14 @@ impl Scanner {
 
     /// Takes one more byte, and tells what it makes: where it ends an item, that item. A refused byte isn't taken,
     /// and from then on that refusal is all that is answered.
+    #[inline(always)]
     pub fn feed(&mut self, byte: u8) -> Result<Step, Refusal>
         // One more byte of a text is taken, or is refused however the text goes on.
         ensures fed { (t : Text) (items : List Item) → IsAfter self.old t items → Feeds t items byte result self.new }
         // A refusal is kept.
         ensures kept { MatchResult result (λ _. offset_of self.new ≡ offset_of self.old + 1) (λ refusal. HasRefused self.new refusal × (offset_of self.new ≡ offset_of self.old)) }
+        // No byte is taken past the limit.
+        ensures below { OnOk result (offset_of self.old < MAX_TEXT_LEN) }
         // After a refusal the same is answered.
         ensures stays { (refusal : Refusal) → HasRefused self.old refusal → (result ≡ Err refusal) × (self.new ≡ self.old) }
     {
@@ -62,9 +69,8 @@ impl Scanner {
         if self.offset >= MAX_TEXT_LEN {
             return self.refuse(RefusalKind::TooLong);
         }
-        match next(self.state, byte) {
-            Ok((state, step)) => {
-                self.state = state;
+        match self.step(byte) {
+            Ok(step) => {
                 self.offset += 1;
                 Ok(step)
             }
@@ -72,13 +78,33 @@ impl Scanner {
         }
     }
 
+    // What one more byte makes of the automaton, with the directive, if one has ended.
+    #[inline(always)]
+    fn step(&mut self, byte: u8) -> Result<Step, RefusalKind>
+        ensures made { MatchResult result (λ step. next (state_of self.old.automaton) byte ≡ Ok (state_of self.new.automaton, step)) (λ kind. next (state_of self.old.automaton) byte ≡ Err kind) }
+        ensures offset { self.new.offset ≡ self.old.offset }
+        ensures refused { self.new.refused ≡ self.old.refused }
+    {
+        match self.automaton.step(byte) {
+            Ok(Move::More) => Ok(Step::More),
+            Ok(Move::Byte) => Ok(Step::Byte(byte)),
+            Ok(Move::Percent) => Ok(Step::Percent),
+            Ok(Move::Ended) => match self.automaton.directive() {
+                Ok(directive) => Ok(Step::Directive(directive)),
+                Err(kind) => Err(kind),
+            },
+            Err(kind) => Err(kind),
+        }
+    }
+
     /// Takes the longest run of literal bytes at the front of `text`, and tells how many there are. One call of
     /// `feed` for each of them would do the same.
-    pub(crate) fn pass_literals(&mut self, text: &[u8]) -> usize
+    #[inline(always)]
+    pub fn pass_literals(&mut self, text: &[u8]) -> usize
         ensures within { result ≤ length text.now }
         ensures passed { (t : Text) (items : List Item) → IsAfter self.old t items → Reads t items → Passes t items text.now result self.new }
     {
-        let run = memchr2(b'%', 0, text).unwrap_or(text.len());
+        let run = first_other(text).unwrap_or(text.len());
         let room = MAX_TEXT_LEN.saturating_sub(self.offset);
         let taken = (run as u64).min(room);
         self.offset += taken;
@@ -104,13 +130,13 @@ impl Scanner {
         if let Some(refusal) = self.refused {
             return Err(refusal);
         }
-        match self.state {
-            State::Between => Ok(()),
-            _ => Err(Refusal {
-                kind: RefusalKind::Truncated,
-                at: self.offset,
-            }),
+        if self.automaton.is_between() {
+            return Ok(());
         }
+        Err(Refusal {
+            kind: RefusalKind::Truncated,
+            at: self.offset,
+        })
     }
 
     /// How many bytes were taken.
@@ -119,4 +145,13 @@ impl Scanner {
     {
         self.offset
     }
+}
+
+// Where the first byte stands that isn't literal. It sees no scanner, so that a reader's scanner can lie in
+// registers, and is never inlined, so that the search stands in the program once.
+#[inline(never)]
+fn first_other(text: &[u8]) -> Option<usize>
+    ensures { IsFirstByte (is_byte2 37 0) text.now result }
+{
+    memchr2(b'%', 0, text)
 }

@@ -1,149 +1,263 @@
 //! How far an item has come, and what one more byte makes of it.
-ghost use Rattle.std.specs.Prelude.{◌≡◌, ◌<◌};
-ghost use Rattle.pf_text.specs.States.{next, after_flags, after_number, ending, widened, made_precise};
+ghost use Rattle.std.specs.Prelude.{◌≡◌, ◌<◌, ◌↔◌, ℕ, IsTrue, MatchResult, Ok, Err};
+ghost use Rattle.pf_text.specs.declared.scanner.Step.TheVariants as steps;
+ghost use Rattle.pf_text.specs.Moves.{judged_parts, next_by};
+ghost use Rattle.pf_text.specs.Stages.{Between, state_of};
+ghost use Rattle.pf_text.specs.States.{next, after_flags, after_modifier, after_number, ending, widened, made_precise};
 
 use crate::letters::{conv_of, flag_of, modifier_of, refused_letter};
-use crate::scanner::Step;
 use pf_values::limits::MAX_NUMBER;
-use pf_values::{Directive, FlagSet, Length, RefusalKind};
+use pf_values::{Conv, Directive, FlagSet, Length, RefusalKind};
 
 /// What has come of an item.
 #[derive(Clone, Copy, Debug)]
-pub(crate) enum State {
+pub(crate) enum Phase {
     /// Nothing.
     Between,
     /// The opening `%`.
     Opened,
     /// `%` and at least one flag.
-    Flags(FlagSet),
+    Flags,
     /// `%`, flags and digits of a width.
-    Width(FlagSet, u16),
+    Width,
     /// All up to the `.` of a precision.
-    Point(FlagSet, Option<u16>),
+    Point,
     /// All up to digits of a precision.
-    Precision(FlagSet, Option<u16>, u16),
+    Precision,
     /// All up to letters of a modifier.
-    Modifier(FlagSet, Option<u16>, Option<u16>, Length),
+    Modifier,
 }
 
-/// The state and the step that a byte makes.
-pub(crate) fn next(state: State, byte: u8) -> Result<(State, Step), RefusalKind>
-    ensures { result ≡ next state byte }
-{
-    match state {
-        State::Between => match byte {
-            0 => Err(RefusalKind::NulByte),
-            b'%' => Ok((State::Opened, Step::More)),
-            _ => Ok((State::Between, Step::Byte(byte))),
-        },
-        State::Opened => match byte {
-            b'%' => Ok((State::Between, Step::Percent)),
-            _ => after_flags(FlagSet::empty(), byte),
-        },
-        State::Flags(flags) => after_flags(flags, byte),
-        State::Width(flags, width) => match byte {
-            b'0'..=b'9' => widened(flags, width, byte - b'0'),
-            b'.' => Ok((State::Point(flags, Some(width)), Step::More)),
-            b'$' => Err(RefusalKind::Numbered),
-            _ => after_number(flags, Some(width), None, byte),
-        },
-        State::Point(flags, width) => match byte {
-            b'0'..=b'9' => made_precise(flags, width, 0, byte - b'0'),
-            b'*' => Err(RefusalKind::Star),
-            _ => after_number(flags, width, Some(0), byte),
-        },
-        State::Precision(flags, width, precision) => match byte {
-            b'0'..=b'9' => made_precise(flags, width, precision, byte - b'0'),
-            _ => after_number(flags, width, Some(precision), byte),
-        },
-        State::Modifier(flags, width, precision, length) => match (length, byte) {
-            (Length::H, b'h') => Ok((
-                State::Modifier(flags, width, precision, Length::Hh),
-                Step::More,
-            )),
-            (Length::L, b'l') => Ok((
-                State::Modifier(flags, width, precision, Length::Ll),
-                Step::More,
-            )),
-            _ => ending(flags, width, precision, length, byte),
-        },
-    }
+/// What a byte makes. Unlike `Step` it holds nothing, so that it goes in a register.
+#[derive(Clone, Copy, Debug)]
+pub(crate) enum Move {
+    /// The byte is inside a specification.
+    More,
+    /// The byte stands for itself.
+    Byte,
+    /// The end of `%%`.
+    Percent,
+    /// The conversion of a specification, whose directive is still to be made.
+    Ended,
 }
 
-fn after_flags(flags: FlagSet, byte: u8) -> Result<(State, Step), RefusalKind>
-    ensures { result ≡ after_flags flags byte }
-{
-    if let Some(flag) = flag_of(byte) {
-        return Ok((State::Flags(flags.with(flag)), Step::More));
-    }
-    match byte {
-        b'1'..=b'9' => Ok((State::Width(flags, u16::from(byte - b'0')), Step::More)),
-        b'.' => Ok((State::Point(flags, None), Step::More)),
-        b'*' => Err(RefusalKind::Star),
-        _ => after_number(flags, None, None, byte),
-    }
-}
-
-fn widened(flags: FlagSet, width: u16, digit: u8) -> Result<(State, Step), RefusalKind>
-    requires { digit < 10 }
-    ensures { result ≡ widened flags width digit }
-{
-    let wider = 10 * u32::from(width) + u32::from(digit);
-    if wider > u32::from(MAX_NUMBER) {
-        return Err(RefusalKind::WidthTooLarge);
-    }
-    Ok((State::Width(flags, wider as u16), Step::More))
-}
-
-fn made_precise(
+/// What has come of an item, in fields that are changed in place. In each phase only some of them count.
+#[derive(Clone, Copy, Debug)]
+pub(crate) struct Automaton {
+    phase: Phase,
     flags: FlagSet,
-    width: Option<u16>,
-    precision: u16,
-    digit: u8,
-) -> Result<(State, Step), RefusalKind>
-    requires { digit < 10 }
-    ensures { result ≡ made_precise flags width precision digit }
-{
-    let wider = 10 * u32::from(precision) + u32::from(digit);
-    if wider > u32::from(MAX_NUMBER) {
-        return Err(RefusalKind::PrecisionTooLarge);
-    }
-    Ok((State::Precision(flags, width, wider as u16), Step::More))
-}
-
-/// After the numbers a modifier may begin, or the specification ends.
-fn after_number(
-    flags: FlagSet,
+    /// The digits so far of a width or of a precision.
+    number: u16,
     width: Option<u16>,
     precision: Option<u16>,
-    byte: u8,
-) -> Result<(State, Step), RefusalKind>
-    ensures { result ≡ after_number flags width precision byte }
-{
-    if let Some(length) = modifier_of(byte) {
-        return Ok((State::Modifier(flags, width, precision, length), Step::More));
-    }
-    if byte == b'L' {
-        return Err(RefusalKind::Float);
-    }
-    ending(flags, width, precision, Length::None, byte)
+    modifier: Length,
+    conv: Conv,
 }
 
-/// The specification ends, or nothing goes on with it.
-fn ending(
-    flags: FlagSet,
-    width: Option<u16>,
-    precision: Option<u16>,
-    length: Length,
-    byte: u8,
-) -> Result<(State, Step), RefusalKind>
-    ensures { result ≡ ending flags width precision length byte }
-{
-    match conv_of(byte) {
-        Some(conv) => {
-            let directive = Directive::new(flags, width, precision, length, conv)?;
-            Ok((State::Between, Step::Directive(directive)))
+impl Automaton {
+    /// Nothing has come.
+    pub(crate) fn new() -> Automaton
+        ensures { state_of result ≡ Between }
+    {
+        Automaton {
+            phase: Phase::Between,
+            flags: FlagSet::empty(),
+            number: 0,
+            width: None,
+            precision: None,
+            modifier: Length::None,
+            conv: Conv::D,
         }
-        None => Err(refused_letter(byte)),
+    }
+
+    /// Whether nothing of an item has come.
+    pub(crate) fn is_between(&self) -> bool
+        ensures { IsTrue result ↔ (state_of self.now ≡ Between) }
+    {
+        matches!(self.phase, Phase::Between)
+    }
+
+    /// Takes one more byte. After a refusal the state means nothing.
+    #[inline(always)]
+    pub(crate) fn step(&mut self, byte: u8) -> Result<Move, RefusalKind>
+        ensures { next_by result byte self.new ≡ next (state_of self.old) byte }
+    {
+        match self.phase {
+            Phase::Between => match byte {
+                0 => Err(RefusalKind::NulByte),
+                b'%' => {
+                    self.phase = Phase::Opened;
+                    Ok(Move::More)
+                }
+                _ => Ok(Move::Byte),
+            },
+            Phase::Opened => match byte {
+                b'%' => {
+                    self.phase = Phase::Between;
+                    Ok(Move::Percent)
+                }
+                _ => {
+                    self.flags = FlagSet::empty();
+                    self.after_flags(byte)
+                }
+            },
+            Phase::Flags => self.after_flags(byte),
+            Phase::Width => match byte {
+                b'0'..=b'9' => self.widened(byte - b'0'),
+                b'.' => {
+                    self.width = Some(self.number);
+                    self.phase = Phase::Point;
+                    Ok(Move::More)
+                }
+                b'$' => Err(RefusalKind::Numbered),
+                _ => {
+                    self.width = Some(self.number);
+                    self.precision = None;
+                    self.after_number(byte)
+                }
+            },
+            Phase::Point => match byte {
+                b'0'..=b'9' => {
+                    self.number = 0;
+                    self.made_precise(byte - b'0')
+                }
+                b'*' => Err(RefusalKind::Star),
+                _ => {
+                    self.precision = Some(0);
+                    self.after_number(byte)
+                }
+            },
+            Phase::Precision => match byte {
+                b'0'..=b'9' => self.made_precise(byte - b'0'),
+                _ => {
+                    self.precision = Some(self.number);
+                    self.after_number(byte)
+                }
+            },
+            Phase::Modifier => self.after_modifier(byte),
+        }
+    }
+
+    #[inline(always)]
+    fn after_flags(&mut self, byte: u8) -> Result<Move, RefusalKind>
+        ensures { next_by result byte self.new ≡ after_flags self.old.flags byte }
+    {
+        if let Some(flag) = flag_of(byte) {
+            self.flags = self.flags.with(flag);
+            self.phase = Phase::Flags;
+            return Ok(Move::More);
+        }
+        match byte {
+            b'1'..=b'9' => {
+                self.number = u16::from(byte - b'0');
+                self.phase = Phase::Width;
+                Ok(Move::More)
+            }
+            b'.' => {
+                self.width = None;
+                self.phase = Phase::Point;
+                Ok(Move::More)
+            }
+            b'*' => Err(RefusalKind::Star),
+            _ => {
+                self.width = None;
+                self.precision = None;
+                self.after_number(byte)
+            }
+        }
+    }
+
+    #[inline(always)]
+    fn widened(&mut self, digit: u8) -> Result<Move, RefusalKind>
+        requires { digit < 10 }
+        ensures { (byte : ℕ) → next_by result byte self.new ≡ widened self.old.flags self.old.number digit }
+    {
+        let wider = 10 * u32::from(self.number) + u32::from(digit);
+        if wider > u32::from(MAX_NUMBER) {
+            return Err(RefusalKind::WidthTooLarge);
+        }
+        self.number = wider as u16;
+        self.phase = Phase::Width;
+        Ok(Move::More)
+    }
+
+    #[inline(always)]
+    fn made_precise(&mut self, digit: u8) -> Result<Move, RefusalKind>
+        requires { digit < 10 }
+        ensures { (byte : ℕ) → next_by result byte self.new ≡ made_precise self.old.flags self.old.width self.old.number digit }
+    {
+        let wider = 10 * u32::from(self.number) + u32::from(digit);
+        if wider > u32::from(MAX_NUMBER) {
+            return Err(RefusalKind::PrecisionTooLarge);
+        }
+        self.number = wider as u16;
+        self.phase = Phase::Precision;
+        Ok(Move::More)
+    }
+
+    /// After the numbers a modifier may begin, or the specification ends.
+    #[inline(always)]
+    fn after_number(&mut self, byte: u8) -> Result<Move, RefusalKind>
+        ensures { next_by result byte self.new ≡ after_number self.old.flags self.old.width self.old.precision byte }
+    {
+        if let Some(modifier) = modifier_of(byte) {
+            self.modifier = modifier;
+            self.phase = Phase::Modifier;
+            return Ok(Move::More);
+        }
+        if byte == b'L' {
+            return Err(RefusalKind::Float);
+        }
+        self.modifier = Length::None;
+        self.ending(byte)
+    }
+
+    /// A second letter of a modifier, or the end.
+    #[inline(always)]
+    fn after_modifier(&mut self, byte: u8) -> Result<Move, RefusalKind>
+        ensures { next_by result byte self.new ≡ after_modifier self.old.flags self.old.width self.old.precision self.old.modifier byte }
+    {
+        match (self.modifier, byte) {
+            (Length::H, b'h') => {
+                self.modifier = Length::Hh;
+                self.phase = Phase::Modifier;
+                Ok(Move::More)
+            }
+            (Length::L, b'l') => {
+                self.modifier = Length::Ll;
+                self.phase = Phase::Modifier;
+                Ok(Move::More)
+            }
+            _ => self.ending(byte),
+        }
+    }
+
+    /// The specification ends, or nothing goes on with it.
+    #[inline(always)]
+    fn ending(&mut self, byte: u8) -> Result<Move, RefusalKind>
+        ensures { next_by result byte self.new ≡ ending self.old.flags self.old.width self.old.precision self.old.modifier byte }
+    {
+        match conv_of(byte) {
+            Some(conv) => {
+                self.conv = conv;
+                Ok(Move::Ended)
+            }
+            None => Err(refused_letter(byte)),
+        }
+    }
+
+    /// The directive that has ended. What comes next is between items.
+    #[inline(always)]
+    pub(crate) fn directive(&mut self) -> Result<Directive, RefusalKind>
+        ensures { MatchResult result (λ d. judged_parts self.old ≡ Ok (state_of self.new, steps.Directive d)) (λ kind. judged_parts self.old ≡ Err kind) }
+    {
+        self.phase = Phase::Between;
+        Directive::new(
+            self.flags,
+            self.width,
+            self.precision,
+            self.modifier,
+            self.conv,
+        )
     }
 }

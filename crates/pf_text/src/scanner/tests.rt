@@ -11,7 +11,7 @@ const TOO_LONG: Refusal = Refusal {
 // A scanner behind so many literal bytes.
 fn behind(offset: u64) -> Scanner {
     Scanner {
-        state: State::Between,
+        automaton: Automaton::new(),
         offset,
         refused: None,
     }

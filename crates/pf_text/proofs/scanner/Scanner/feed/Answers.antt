@@ -1,9 +1,10 @@
-use Rattle.std.proofs.Common.{◌≡◌, ◌<◌, ◌∷◌, ◌++◌, length, sym, subst, arith}
+use Rattle.std.proofs.Common.{◌≡◌, ◌<◌, ◌∷◌, ◌++◌, length, sym, ◌∙◌, subst, arith}
 use Rattle.std.proofs.lemmas.List.{length_push}
 use Rattle.pf_values.specs.declared.limits.TheConstants.{MAX_TEXT_LEN}
 use Rattle.pf_values.specs.declared.refusals.RefusalKind.TheVariants.{TooLong}
 use Rattle.pf_values.specs.Refusals.{IsRefusedAt}
 use Rattle.pf_text.specs.History.{Feeds}
+use Rattle.pf_text.specs.Stages.{state_of}
 use Rattle.pf_text.proofs.Refusing.{refused_at, too_long_at}
 use Rattle.pf_text.proofs.Sound.{Judges, LeadsTo, judge}
 use Rattle.pf_text.proofs.Texts.{begun, says, stepped}
@@ -14,31 +15,32 @@ returns-then-self-ge-MAX_TEXT_LEN-clause-fed c t items h =
     let byte = c.args.byte in
     let full : length t ≡ MAX_TEXT_LEN = omega (arith, h.offset, h.limit, c.if-self-ge-MAX_TEXT_LEN.true) in
     subst (λ r. Feeds t items byte r c.refuse.new.self) (sym c.refuse.ensures.0)
-    (h.offset, λ more. subst (λ p. IsRefusedAt (t ++ byte ∷ more) TooLong p) (sym h.offset) (too_long_at t h.part items c.args.self.now.state h.good.splits h.state byte more full))
+    (h.offset, λ more. subst (λ p. IsRefusedAt (t ++ byte ∷ more) TooLong p) (sym h.offset) (too_long_at t h.part items (state_of c.args.self.now.automaton) h.good.splits h.state byte more full))
 
 pub returns-in-Ok-clause-fed : goal.returns-in-Ok-clause-fed
 returns-in-Ok-clause-fed c t items h =
     let byte = c.args.byte in
-    let leads : LeadsTo h.part byte c.in-Ok.state c.in-Ok.step = subst (Judges h.part byte) (sym c.in-Ok.ensures) (judge c.args.self.now.state h.part byte h.state) in
-    let now = stepped t h.part items byte h.good.splits c.in-Ok.state c.in-Ok.step leads in
+    let leads : LeadsTo h.part byte (state_of c.step.new.self.automaton) c.in-Ok.step = subst (Judges h.part byte) c.in-Ok.ensures.made (judge (state_of c.args.self.now.automaton) h.part byte h.state) in
+    let now = stepped t h.part items byte h.good.splits (state_of c.step.new.self.automaton) c.in-Ok.step leads in
     record {
       after = record {
         part = now.part;
-        good = record { splits = now.splits; begun = begun c.in-Ok.state now.part now.at };
+        good = record { splits = now.splits; begun = begun (state_of c.step.new.self.automaton) now.part now.at };
         state = now.at;
-        offset = omega (arith, h.offset, length_push t byte);
-        limit = omega (arith, h.offset, length_push t byte, c.if-self-ge-MAX_TEXT_LEN.false);
-        no_refusal = h.no_refusal;
+        offset = omega (arith, h.offset, c.in-Ok.ensures.offset, length_push t byte);
+        limit = omega (arith, h.offset, c.in-Ok.ensures.offset, length_push t byte, c.if-self-ge-MAX_TEXT_LEN.false);
+        no_refusal = c.in-Ok.ensures.refused ∙ h.no_refusal;
       };
-      says = says t h.part items byte c.in-Ok.state c.in-Ok.step leads now;
+      says = says t h.part items byte (state_of c.step.new.self.automaton) c.in-Ok.step leads now;
     }
 
 pub returns-in-Err-clause-fed : goal.returns-in-Err-clause-fed
 returns-in-Err-clause-fed c t items h =
     let byte = c.args.byte in
     let below : length t < MAX_TEXT_LEN = omega (arith, h.offset, c.if-self-ge-MAX_TEXT_LEN.false) in
+    let place : c.step.new.self.offset ≡ length t = c.in-Err.ensures.offset ∙ h.offset in
     subst (λ r. Feeds t items byte r c.refuse-in-Err.new.self) (sym c.refuse-in-Err.ensures.0) (
-      h.offset,
-      λ more. subst (λ p. IsRefusedAt (t ++ byte ∷ more) c.in-Err.kind p) (sym h.offset)
-          (refused_at t h.part items c.args.self.now.state h.good.splits h.state byte c.in-Err.kind (sym c.in-Err.ensures) more below),
+      place,
+      λ more. subst (λ p. IsRefusedAt (t ++ byte ∷ more) c.in-Err.kind p) (sym place)
+          (refused_at t h.part items (state_of c.args.self.now.automaton) h.good.splits h.state byte c.in-Err.kind c.in-Err.ensures.made more below),
     )

@@ -1,12 +1,20 @@
-use Rattle.std.proofs.Common.{refl, sym, subst, rules}
+use Rattle.std.proofs.Common.{◌≡◌, ◌≢◌, ◌++◌, [], refl, sym, ap, ◌∙◌, subst}
+use Rattle.std.proofs.lemmas.List.{append-nil}
 use Rattle.pf_values.specs.declared.refusals.RefusalKind.TheVariants.{Truncated}
+use Rattle.pf_values.specs.Items.{Reads}
 use Rattle.pf_values.specs.Refusals.{IsRefusedAt}
+use Rattle.pf_text.specs.Fronts.{IsAt}
+use Rattle.pf_text.specs.Stages.{Between, state_of}
 use Rattle.pf_text.proofs.Refusing.{truncated_at}
 use Rattle.pf_text.proofs.scanner.Scanner.finish.Goals as goal
 
-pub returns-in_default-state : goal.returns-in_default-state
-returns-in_default-state c =
-    record {
-      finished = λ t items h. (refl, h.offset, subst (λ p. IsRefusedAt t Truncated p) (sym h.offset) (truncated_at t h.part items c.args.self.now.state h.good.splits h.state c.in_default-state.not-Between h.limit));
-      stays = search rules;
-    }
+pub returns-clause-finished : goal.returns-clause-finished
+returns-clause-finished c t items h =
+    let inside : state_of c.args.self.now.automaton ≢ Between = λ e. let no = c.if-is_between.ensures.1 e in cc in
+    (refl, h.offset, subst (λ p. IsRefusedAt t Truncated p) (sym h.offset) (truncated_at t h.part items (state_of c.args.self.now.automaton) h.good.splits h.state inside h.limit))
+
+pub returns-then-is_between-clause-finished : goal.returns-then-is_between-clause-finished
+returns-then-is_between-clause-finished c t items h =
+    let none : h.part ≡ [] = subst (λ s. IsAt s h.part) (c.if-is_between.ensures.0 refl) h.state in
+    let whole = h.good.splits.whole in
+    subst (λ u. Reads u items) (sym (h.good.splits.split ∙ ap (λ p. whole ++ p) none ∙ append-nil whole)) h.good.splits.reads

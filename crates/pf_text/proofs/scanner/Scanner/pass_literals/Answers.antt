@@ -5,5 +5,5 @@ use Rattle.pf_text.proofs.scanner.Scanner.pass_literals.Goals as goal
 pub returns-clause-passed : goal.returns-clause-passed
 returns-clause-passed c t items h reads =
     let text = c.args.text.now in
-    let found = subst (IsRun text) (sym c.unwrap_or-run.ensures) (run_found text c.memchr2.result c.memchr2.ensures) in
+    let found = subst (IsRun text) (sym c.unwrap_or-run.ensures) (run_found text c.first_other.result c.first_other.ensures) in
     passed c.args.self.now t text items _ _ _ h reads found c.saturating_sub-room.ensures c.min-taken.ensures

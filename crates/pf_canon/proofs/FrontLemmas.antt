@@ -1,0 +1,137 @@
+-- How a transducer takes the front of a text.
+use Rattle.std.proofs.Common.{◌≡◌, ◌≢◌, ℕ, suc, ◌+◌, ◌-◌, ◌*◌, ◌<◌, ◌≤◌, List, [], ◌∷◌, ◌++◌, length, map, take, drop, refl, sym, ap, ◌∙◌, subst, arith, Err, inl, inr}
+use Rattle.std.proofs.Math.Seq.{take-add}
+use Rattle.std.proofs.lemmas.List.{append-nil, append_assoc, length-append, take_all, take-append-drop}
+use Rattle.pf_values.specs.Items.{Item, Byte, Reads}
+use Rattle.pf_values.specs.Refusals.{IsRefusedAt}
+use Rattle.pf_values.specs.Text.{Text}
+use Rattle.pf_text.specs.declared.refusal.Refusal.{Refusal}
+use Rattle.pf_text.specs.declared.scanner.Scanner.{Scanner}
+use Rattle.pf_text.specs.declared.scanner.Step.{Step}
+use Rattle.pf_text.specs.declared.scanner.Step.TheVariants as steps
+use Rattle.pf_text.specs.History as scanned
+use Rattle.pf_canon.specs.Answers.{most_len}
+use Rattle.pf_canon.specs.declared.transducing.Front.{Front}
+use Rattle.pf_canon.specs.declared.transducing.Made.{Made}
+use Rattle.pf_canon.specs.declared.transducing.Made.TheVariants as mades
+use Rattle.pf_canon.specs.declared.transducing.Transducer.{Transducer}
+use Rattle.pf_canon.specs.Through.{GrowsBy, IsFed, IsBetween, IsThrough, RefusesIn, Settles, SettlesTo, SettlesWhole, front_text, made_text, more_of, run_text}
+use Rattle.pf_text.specs.History.{Says}
+use Rattle.pf_canon.proofs.MakingLemmas.{made_settled}
+use Rattle.pf_canon.proofs.PieceLemmas.{run_made, run_short}
+use Rattle.pf_canon.proofs.BuildingLemmas.{most_len-append}
+use Rattle.pf_canon.proofs.RefusedLemmas.{not_truncated}
+use Rattle.pf_canon.proofs.ThroughLemmas.{byte_settled, grown, passed}
+
+pub through_settles : (r : Transducer) (t out : Text) (items : List Item) → IsThrough r t items out → SettlesTo t out
+through_settles r t out items h =
+    let good = h.after.good in
+    let splits = good.splits in
+    record { items = items; part = h.after.part; good = good; settled = made_settled splits.whole out r.waiting items splits.reads h.made }
+
+-- inside an item nothing is settled
+pub inside : (old new : Transducer) (t out : Text) (items : List Item) (byte : ℕ) → IsThrough old t items out → new.waiting ≡ old.waiting → scanned.Takes t items byte steps.More new.scanner → IsThrough new (t ++ byte ∷ []) items out
+inside old new t out items byte h e takes =
+    let few = h.few in
+    record { after = takes.after; made = rw e h.made; few = omega (arith, few, e, length-append t (byte ∷ [])); short = rw e h.short }
+
+-- one byte more of a text
+pub one_more : (t text : Text) (at byte : ℕ) → drop at text ≡ byte ∷ drop (at + 1) text → (t ++ take at text) ++ byte ∷ [] ≡ t ++ take (at + 1) text
+one_more t text at byte first = append_assoc t (take at text) (byte ∷ []) ∙ ap (λ u. t ++ u) (ap (λ u. take at text ++ take 1 u) (sym first) ∙ sym (take-add at 1 text))
+
+-- nothing was settled in the whole text
+pub all_inside : (new : Transducer) (t out text : Text) (items : List Item) (at : ℕ) → length text ≤ at → at ≤ length text → IsThrough new (t ++ take at text) items out → GrowsBy t out text (record { start = at; len = at; made = mades.Nothing }) new
+all_inside new t out text items at a b h = record { items = items; through = subst (IsThrough new (t ++ take at text) items) (sym (append-nil out)) h }
+
+-- a byte is refused behind what settles nothing
+pub refused_in : (old new : Transducer) (t out text : Text) (items : List Item) (at byte : ℕ) (refusal : Refusal) → drop at text ≡ byte ∷ drop (at + 1) text → IsThrough old (t ++ take at text) items out
+    → scanned.Feeds (t ++ take at text) items byte (Err refusal) new.scanner → RefusesIn t out text refusal
+refused_in old new t out text items at byte refusal first h f =
+    let fed = t ++ take at text in
+    let refused = subst (λ u. IsRefusedAt (fed ++ u) refusal.kind refusal.at) (sym first) (f.1 (drop (at + 1) text)) in
+    record {
+      fed = take at text;
+      rest = drop at text;
+      split = sym (take-append-drop at text);
+      some = λ none. (let both : byte ∷ drop (at + 1) text ≡ [] = sym first ∙ none in cc);
+      kind = not_truncated fed byte [] refusal.kind refusal.at f.0 (f.1 []);
+      place = f.0;
+      refused = refused;
+      settles = through_settles old fed out items h;
+    }
+
+-- the byte at a place, alone
+first_alone : (text : Text) (at byte : ℕ) → drop at text ≡ byte ∷ drop (at + 1) text → take (at + 1 - at) (drop at text) ≡ byte ∷ []
+first_alone text at byte first = let one : at + 1 - at ≡ 1 = omega arith in ap (λ n. take n (drop at text)) one ∙ ap (take 1) first
+
+-- a byte has settled what its step says
+pub fed_made : (r new : Transducer) (t out text : Text) (items : List Item) (at : ℕ) (step : Step) (made : Made) (f : IsFed r t items out text at step) → new.scanner ≡ r.scanner
+    → ((byte : ℕ) (out : Text) (items : List Item) → Settles step byte items out r.waiting made new.waiting) → new.waiting ≤ r.waiting + 1 → ((byte : ℕ) → length (made_text made byte) + 4 * new.waiting ≤ 4 * r.waiting + most_len (more_of step))
+    → ((t : Text) (items : List Item) (byte : ℕ) → Says t items byte step → IsBetween made t items) → GrowsBy t out text (record { start = at; len = at + 1; made = made }) new
+fed_made r new t out text items at step made f scanner settles one short between =
+    let w = f.waiting in
+    let g =
+        grown f.before new (t ++ take at text) out items f.byte step made f.through (rw scanner f.takes) (rw w at settles f.byte out items) (omega (arith, one, w)) (rw w at short f.byte) between in
+    record {
+      items = items ++ g.more;
+      through = subst (λ u. IsThrough new u (items ++ g.more) (out ++ run_text made (take (at + 1 - at) (drop at text)))) (one_more t text at f.byte f.first)
+          (subst (λ u. IsThrough new ((t ++ take at text) ++ f.byte ∷ []) (items ++ g.more) (out ++ run_text made u)) (sym (first_alone text at f.byte f.first)) g.through);
+    }
+
+run_alone : (text : Text) (at len byte : ℕ) → drop at text ≡ byte ∷ drop (at + 1) text → byte ∷ take len (drop (at + 1) text) ≡ take (at + 1 + len - at) (drop at text)
+run_alone text at len byte first = let one : at + 1 + len - at ≡ suc len = omega arith in sym (ap (λ n. take n (drop at text)) one ∙ ap (take (suc len)) first)
+
+-- and the run that it begins
+pub fed_run : (r new : Transducer) (t out text : Text) (items : List Item) (at len b : ℕ) (f : IsFed r t items out text at (steps.Byte b)) → new.waiting ≡ r.waiting
+    → ((t : Text) (items : List Item) → scanned.IsAfter r.scanner t items → Reads t items → scanned.Passes t items (drop (at + 1) text) len new.scanner) → GrowsBy t out text (record { start = at; len = at + 1 + len; made = mades.Literal }) new
+fed_run r new t out text items at len b f waiting passes =
+    let w = f.waiting in
+    let says = f.takes.says in
+    let fed = t ++ take at text in
+    let rest = drop (at + 1) text in
+    let g =
+        grown f.before r fed out items f.byte (steps.Byte b) mades.Literal f.through f.takes (rw w (λ step room h. byte_settled b f.byte f.before.waiting out items step.0 step.1 h)) (omega (arith, w)) (omega (arith, w)) (λ t items byte says. says.0) in
+    let here = fed ++ f.byte ∷ [] in
+    let now = passed r new here (out ++ f.byte ∷ []) rest (items ++ g.more) len g.through (passes here (items ++ g.more) g.through.after g.between) waiting in
+    record {
+      items = (items ++ g.more) ++ map Byte (take len rest);
+      through = subst (λ u. IsThrough new u ((items ++ g.more) ++ map Byte (take len rest)) (out ++ take (at + 1 + len - at) (drop at text))) (ap (λ u. u ++ take len rest) (one_more t text at f.byte f.first) ∙ append_assoc t (take (at + 1) text) (take len rest) ∙ ap (λ u. t ++ u) (sym (take-add (at + 1) len text)))
+          (subst (λ u. IsThrough new (here ++ take len rest) ((items ++ g.more) ++ map Byte (take len rest)) u) (append_assoc out (f.byte ∷ []) (take len rest) ∙ ap (λ u. out ++ u) (run_alone text at len f.byte f.first)) now);
+    }
+
+-- a text was passed up to some place
+module _ (t out more text : Text) (at : ℕ) where
+  pub passed_more : (front : Front) (new : Transducer) → GrowsBy (t ++ take at text) (out ++ more) (drop at text) front new → (all : Text) × (items : List Item) × IsThrough new (t ++ take (at + front.len) text) items (out ++ all)
+  passed_more front new g = (
+    more ++ front_text front (drop at text),
+    g.items,
+    subst (λ u. IsThrough new u g.items (out ++ (more ++ front_text front (drop at text)))) (append_assoc t (take at text) (take front.len (drop at text)) ∙ ap (λ u. t ++ u) (sym (take-add at front.len text)))
+    (subst (IsThrough new ((t ++ take at text) ++ take front.len (drop at text)) g.items) (append_assoc out more (front_text front (drop at text))) g.through),
+  )
+
+  pub passed_to_refused : (refusal : Refusal) → RefusesIn (t ++ take at text) (out ++ more) (drop at text) refusal → (all : Text) × SettlesWhole (t ++ text) (out ++ all)
+  passed_to_refused refusal h =
+      let front = (t ++ take at text) ++ h.fed in
+      let whole : front ++ h.rest ≡ t ++ text =
+      append_assoc (t ++ take at text) h.fed h.rest ∙ ap (λ u. (t ++ take at text) ++ u) (sym h.split) ∙ append_assoc t (take at text) (drop at text) ∙ ap (λ u. t ++ u) (take-append-drop at text) in (
+        more,
+        record {
+          front = front;
+          rest = h.rest;
+          split = sym whole;
+          settles = h.settles;
+          longest = inr (h.some, refusal.kind, subst (λ u. IsRefusedAt u refusal.kind (length front)) whole (subst (IsRefusedAt (front ++ h.rest) refusal.kind) h.place h.refused));
+        },
+      )
+
+  pub all_passed : (new : Transducer) (items : List Item) → length text ≤ at → IsThrough new (t ++ take at text) items (out ++ more) → (all : Text) × SettlesWhole (t ++ text) (out ++ all)
+  all_passed new items end h = (
+    more,
+    record {
+      front = t ++ text;
+      rest = [];
+      split = sym (append-nil (t ++ text));
+      settles = subst (λ u. SettlesTo (t ++ u) (out ++ more)) (take_all at text end) (through_settles new (t ++ take at text) (out ++ more) items h);
+      longest = inl refl;
+    },
+  )

@@ -1,0 +1,14 @@
+use Rattle.std.proofs.Common.{length, ◌-◌, ◌≤◌, List, ◌++◌, take}
+use Rattle.pf_values.specs.Items.{Item}
+use Rattle.pf_values.specs.Text.{Text}
+use Rattle.pf_canon.specs.Through.{IsThrough}
+use Rattle.pf_canon.proofs.transducing.Transducer.pass.Given as goal
+
+abbrev pub invariant-loop-at : goal.invariant-loop-at
+invariant-loop-at l = record {
+  within : l.at ≤ length l.text;
+  through : ((t out : Text) (items : List Item) → IsThrough l.fn.self t items out → (more : Text) × (now : List Item) × IsThrough l.self (t ++ take l.at l.text) now (out ++ more));
+}
+
+abbrev pub decreases-loop-at : goal.decreases-loop-at
+decreases-loop-at l = length l.text - l.at

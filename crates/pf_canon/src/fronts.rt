@@ -1,0 +1,39 @@
+//! What the front of a text settles, appended or written.
+ghost use Rattle.std.specs.Prelude.{◌≡◌, ◌++◌, IfOk};
+ghost use Rattle.pf_canon.specs.Putting.{Puts};
+ghost use Rattle.pf_canon.specs.Through.{IsFrontWithin, front_text};
+
+use crate::parts::push;
+use crate::putting::put;
+use crate::transducing::{Front, Made};
+use pf_values::Counted;
+use std::alloc::{AllocError, Allocator};
+use std::io::Write;
+
+impl Front {
+    /// Appends what it settles.
+    pub(crate) fn push<A: Allocator>(&self, text: &[u8], out: &mut Vec<u8, A>) -> Result<(), AllocError>
+        requires { IsFrontWithin self.now text.now }
+        ensures { IfOk result (λ _. out.new.items ≡ out.old.items ++ front_text self.now text.now) }
+    {
+        match &self.made {
+            Made::Nothing => Ok(()),
+            Made::Literal => push(out, &text[self.start..self.len]),
+            Made::Parts(parts) => parts.push(out),
+        }
+    }
+}
+
+impl Front {
+    /// Writes what it settles, and counts on from `count`.
+    pub(crate) fn put<W: Write>(&self, text: &[u8], w: &mut Counted<W>, count: u128) -> Result<u128, u128>
+        requires { IsFrontWithin self.now text.now }
+        ensures { Puts W.contents w.old w.new (front_text self.now text.now) count result }
+    {
+        match &self.made {
+            Made::Nothing => Ok(count),
+            Made::Literal => put(w, &text[self.start..self.len], count),
+            Made::Parts(parts) => parts.put(w, count),
+        }
+    }
+}
