@@ -1,4 +1,4 @@
--- What a task is answered with, and why it is not.
+-- What a question is answered with, and why it is not.
 use Rattle.std.specs.Prelude.{◌≡◌, List, None, Some, map}
 use Rattle.pf_values.specs.Items.{IsAccepted}
 use Rattle.pf_values.specs.Refusals.{IsRefusedAt}
@@ -9,8 +9,8 @@ use Rattle.fmtcanon.specs.declared.answer.Ending.{Ending}
 use Rattle.fmtcanon.specs.declared.answer.Ending.TheVariants as endings
 use Rattle.fmtcanon.specs.declared.fault.Fault.{Fault}
 use Rattle.fmtcanon.specs.declared.fault.Fault.TheVariants.{Refused, BadWord, WrongCount, WrongType, Memory}
-use Rattle.fmtcanon.specs.declared.task.Task.{Task}
-use Rattle.fmtcanon.specs.declared.task.Task.TheVariants.{Types, Canon, Show, Format, Same}
+use Rattle.fmtcanon.specs.declared.task.Question.{Question}
+use Rattle.fmtcanon.specs.declared.task.Question.TheVariants.{Types, Canon, Show, Format, Same}
 use Rattle.fmtcanon.specs.Comparisons.{IsComparisonAnswer}
 use Rattle.fmtcanon.specs.FormatArguments.{HindersArguments, IsPrinted}
 use Rattle.fmtcanon.specs.Lines.{line}
@@ -21,8 +21,8 @@ use Rattle.fmtcanon.specs.TypeLines.{HasTypeLines}
 abbrev pub HasCanonicalLine : Text → Text → Type 0
 HasCanonicalLine format out = (canonical : Text) × IsCanonicalFor format canonical × (out ≡ line canonical)
 
--- These bytes answer a task, and a run that writes them all ends so.
-abbrev pub IsAnswer : Task → Text → Ending → Type 0
+-- These bytes answer a question, and a run that writes them all ends so.
+abbrev pub IsAnswer : Question → Text → Ending → Type 0
 IsAnswer (Types format) out ending = HasTypeLines format.now out × (ending ≡ endings.Done)
 IsAnswer (Canon format) out ending = HasCanonicalLine format.now out × (ending ≡ endings.Done)
 IsAnswer (Show format) out ending = HasShownLines format.now out × (ending ≡ endings.Done)
@@ -48,8 +48,8 @@ HindersFormats first second (WrongCount wanted given) = ⊥
 HindersFormats first second (WrongType index) = ⊥
 HindersFormats first second Memory = Unit {0}
 
--- why a task has none
-abbrev pub IsHindered : Task → Fault → Type 0
+-- why a question has none
+abbrev pub IsHindered : Question → Fault → Type 0
 IsHindered (Types format) fault = HindersFormat format.now fault
 IsHindered (Canon format) fault = HindersFormat format.now fault
 IsHindered (Show format) fault = HindersFormat format.now fault

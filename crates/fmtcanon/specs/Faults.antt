@@ -1,4 +1,4 @@
--- The faults of the crates below, as faults of a task.
+-- The faults of the crates below, as faults of a question.
 use Rattle.std.specs.Prelude.{None, Some}
 use Rattle.pf_text.specs.declared.faults.TextFault.{TextFault}
 use Rattle.pf_text.specs.declared.faults.TextFault.TheVariants as text

@@ -10,4 +10,5 @@ pub mod FormatArguments
 pub mod Comparisons
 pub mod Answers
 pub mod Outcomes
+pub mod Streams
 pub mod Runs

@@ -5,7 +5,7 @@ use Rattle.fmtcanon.specs.declared.answer.Ending.TheVariants as endings
 use Rattle.fmtcanon.specs.declared.fault.Fault.{Fault}
 use Rattle.fmtcanon.specs.declared.fault.Fault.TheVariants as faults
 use Rattle.fmtcanon.specs.declared.outcome.Outcome.{Outcome}
-use Rattle.fmtcanon.specs.declared.outcome.Outcome.TheVariants.{Done, Same, Different, Refused, BadWord, WrongCount, WrongType, Usage, Write, Memory}
+use Rattle.fmtcanon.specs.declared.outcome.Outcome.TheVariants.{Done, Same, Different, Refused, BadWord, WrongCount, WrongType, Usage, Read, Write, Memory}
 
 abbrev pub outcome_of : Ending → Outcome
 outcome_of endings.Done = Done
@@ -28,5 +28,6 @@ status_of (BadWord index) = 3
 status_of (WrongCount wanted given) = 3
 status_of (WrongType index) = 3
 status_of (Usage text) = 3
+status_of Read = 4
 status_of (Write written) = 4
 status_of Memory = 4

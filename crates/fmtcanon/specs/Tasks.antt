@@ -11,7 +11,9 @@ use Rattle.pf_values.specs.Text.{Text}
 use Rattle.fmtcanon.specs.declared.task.NoTask.{NoTask}
 use Rattle.fmtcanon.specs.declared.task.NoTask.TheVariants.{Usage, Memory}
 use Rattle.fmtcanon.specs.declared.task.Task.{Task}
-use Rattle.fmtcanon.specs.declared.task.Task.TheVariants.{Types, Canon, Show, Format, Same}
+use Rattle.fmtcanon.specs.declared.task.Task.TheVariants.{Answer, Stream}
+use Rattle.fmtcanon.specs.declared.task.Question.{Question}
+use Rattle.fmtcanon.specs.declared.task.Question.TheVariants.{Types, Canon, Show, Format, Same}
 use Rattle.fmtcanon.specs.Words.{IsTaken, the_command}
 
 -- clap finds no fault in the words: they name a command, and have these values for its arguments
@@ -27,12 +29,18 @@ HasValue rows id text = first_of id rows ≡ Some text
 abbrev pub HasAllValues : List Row → Text → List Text → Type 0
 HasAllValues rows id texts = texts ≡ unwrap_or (all_of id rows) []
 
+-- a command asks a question about the values of its arguments
+abbrev pub IsQuestion : Text → List Row → Question → Type 0
+IsQuestion command rows (Types format) = (command ≡ codes "types") × HasValue rows (codes "F") format.now
+IsQuestion command rows (Canon format) = (command ≡ codes "canon") × HasValue rows (codes "F") format.now
+IsQuestion command rows (Show format) = (command ≡ codes "show") × HasValue rows (codes "F") format.now
+IsQuestion command rows (Format format given) = (command ≡ codes "format") × HasValue rows (codes "F") format.now × HasAllValues rows (codes "ARG") (map (λ s. s.now) given.items)
+IsQuestion command rows (Same first second) = (command ≡ codes "same") × HasValue rows (codes "F") first.now × HasValue rows (codes "G") second.now
+
+-- the words name a command which does that
 abbrev pub Asks : List Text → Task → Type 0
-Asks words (Types format) = (rows : List Row) × Names words (codes "types") rows × HasValue rows (codes "F") format.now
-Asks words (Canon format) = (rows : List Row) × Names words (codes "canon") rows × HasValue rows (codes "F") format.now
-Asks words (Show format) = (rows : List Row) × Names words (codes "show") rows × HasValue rows (codes "F") format.now
-Asks words (Format format given) = (rows : List Row) × Names words (codes "format") rows × HasValue rows (codes "F") format.now × HasAllValues rows (codes "ARG") (map (λ s. s.now) given.items)
-Asks words (Same first second) = (rows : List Row) × Names words (codes "same") rows × HasValue rows (codes "F") first.now × HasValue rows (codes "G") second.now
+Asks words (Answer question) = (command : Text) × (rows : List Row) × Names words command rows × IsQuestion command rows question
+Asks words Stream = (rows : List Row) × Names words (codes "stream") rows
 
 -- the values that clap found for a subcommand
 abbrev pub rows_in : ArgMatches → List Row

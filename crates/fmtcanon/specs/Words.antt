@@ -41,7 +41,8 @@ the_command =
     let with_canon = with_subcommand with_types (on_format (codes "canon")).top in
     let with_show = with_subcommand with_canon (on_format (codes "show")).top in
     let with_format = with_subcommand with_show (on_arguments (codes "format")).top in
-    with_subcommand with_format (on_formats (codes "same")).top
+    let with_same = with_subcommand with_format (on_formats (codes "same")).top in
+    with_subcommand with_same (new_app (codes "stream")).top
 
 -- clap's definition of the command takes the words
 abbrev pub IsTaken : List Text → Type 0

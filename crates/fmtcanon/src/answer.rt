@@ -1,4 +1,4 @@
-//! The answer to a task.
+//! The answer to a question.
 ghost use Rattle.std.specs.Prelude.{◌≡◌, Err, IfOk, MatchResult, Ok};
 ghost use Rattle.fmtcanon.specs.Answers.{HasCanonicalLine, HindersFormat, IsAnswer, IsHindered};
 ghost use Rattle.fmtcanon.specs.Lines.{line};
@@ -8,7 +8,7 @@ use crate::comparison::comparison_answer;
 use crate::fault::Fault;
 use crate::printing::printed;
 use crate::show_lines::show_lines;
-use crate::task::Task;
+use crate::task::Question;
 use crate::type_lines::type_lines;
 use pf_canon::canonical;
 use std::alloc::{AllocError, Global};
@@ -33,16 +33,16 @@ pub struct Answer {
     pub ending: Ending,
 }
 
-/// The answer to a task, or why there is none.
-pub fn answer_to(alloc: Global, task: &Task<'_>) -> Result<Answer, Fault>
-    ensures { MatchResult result (λ answer. IsAnswer task.now answer.bytes.items answer.ending) (IsHindered task.now) }
+/// The answer to a question, or why there is none.
+pub fn answer_to(alloc: Global, question: &Question<'_>) -> Result<Answer, Fault>
+    ensures { MatchResult result (λ answer. IsAnswer question.now answer.bytes.items answer.ending) (IsHindered question.now) }
 {
-    match task {
-        Task::Types(format) => done(type_lines(alloc, format.as_bytes())),
-        Task::Canon(format) => done(canonical_line(alloc, format.as_bytes())),
-        Task::Show(format) => done(show_lines(alloc, format.as_bytes())),
-        Task::Format { format, words } => done(printed(alloc, format.as_bytes(), words)),
-        Task::Same { first, second } => {
+    match question {
+        Question::Types(format) => done(type_lines(alloc, format.as_bytes())),
+        Question::Canon(format) => done(canonical_line(alloc, format.as_bytes())),
+        Question::Show(format) => done(show_lines(alloc, format.as_bytes())),
+        Question::Format { format, words } => done(printed(alloc, format.as_bytes(), words)),
+        Question::Same { first, second } => {
             comparison_answer(alloc, first.as_bytes(), second.as_bytes())
         }
     }

@@ -1,6 +1,6 @@
 //! The definition of the command for `clap`.
 ghost use Rattle.std.specs.Prelude.{◌≡◌, IfOk, codes, false};
-ghost use Rattle.clap.specs.Simple.{with_rule, with_subcommand};
+ghost use Rattle.clap.specs.Simple.{new_app, with_rule, with_subcommand};
 ghost use Rattle.clap.specs.Words.{app_of};
 ghost use Rattle.clap.specs.declared.builder.command.Command.TheViews.{out-Command as fields_of};
 ghost use Rattle.fmtcanon.specs.Words.{any_arguments, on_format, the_command, top_app, wanted};
@@ -18,13 +18,15 @@ pub fn definition<'a>(alloc: Global) -> Result<Command<'a>, AllocError>
         "Writes what a format is made of, and what its directives are reduced to, a line each";
     let format = "Writes what a format prints for arguments, and nothing else";
     let same = "Tells whether one format may stand for another, or arguments that tell them apart";
+    let stream = "Writes the canonical string of standard input";
     let with_types = adding(top(alloc)?, on_format(alloc, "types", types)?)?;
     let with_canon = adding(with_types, on_format(alloc, "canon", canon)?)?;
     let with_show = adding(with_canon, on_format(alloc, "show", show)?)?;
     let on_arguments = taking_arguments(alloc, on_format(alloc, "format", format)?)?;
     let with_format = adding(with_show, on_arguments)?;
     let on_formats = taking_second(alloc, on_format(alloc, "same", same)?)?;
-    adding(with_format, on_formats)
+    let with_same = adding(with_format, on_formats)?;
+    adding(with_same, on_nothing(alloc, "stream", stream)?)
 }
 
 // The command without its subcommands.
@@ -37,6 +39,13 @@ fn top<'a>(alloc: Global) -> Result<Command<'a>, AllocError>
         .subcommand_required(true)
         .disable_help_subcommand(true)
         .bin_name("fmtcanon")
+}
+
+// A subcommand without arguments.
+fn on_nothing<'a>(alloc: Global, name: &'a str, about: &'a str) -> Result<Command<'a>, AllocError>
+    ensures { IfOk result (λ command. (app_of command ≡ new_app name.now) × ((fields_of command).has_globals ≡ false)) }
+{
+    Command::new(alloc, name).about(about)
 }
 
 // A subcommand with a format.

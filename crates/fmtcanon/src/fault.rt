@@ -1,4 +1,4 @@
-//! Why a task has no answer.
+//! Why a question has no answer.
 ghost use Rattle.std.specs.Prelude.{◌≡◌, None, Some};
 ghost use Rattle.fmtcanon.specs.Faults.{of_canonical, of_comparison, of_text};
 ghost use Rattle.fmtcanon.specs.declared.fault.Fault.TheVariants.{Memory};
@@ -8,7 +8,7 @@ use pf_compare::CompareFault;
 use pf_text::{Refusal, TextFault};
 use std::alloc::AllocError;
 
-/// Why a task has no answer.
+/// Why a question has no answer.
 #[derive(Clone, Copy, Debug, PartialEq, Eq)]
 pub enum Fault {
     /// A format is refused.

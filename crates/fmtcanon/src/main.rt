@@ -13,6 +13,7 @@ mod printing;
 mod report;
 mod run;
 mod show_lines;
+mod stream;
 mod task;
 #[cfg(test)]
 mod tests;

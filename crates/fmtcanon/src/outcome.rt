@@ -16,7 +16,7 @@ pub enum Outcome {
     Same,
     /// They differ, in types or in bytes, and that was written.
     Different,
-    /// A format is refused, and nothing was written.
+    /// A format is refused; nothing was written, but by `stream` what was settled before.
     Refused {
         /// Which one, where there are two.
         side: Option<Side>,
@@ -36,6 +36,8 @@ pub enum Outcome {
     WrongType(u64),
     /// The words are no command; the text is `clap`'s.
     Usage(String),
+    /// A read failed.
+    Read,
     /// A write or the flush failed after so many bytes.
     Write(u128),
     /// A growth was refused.
@@ -54,7 +56,7 @@ impl Outcome {
         }
     }
 
-    /// That of a task without an answer.
+    /// That of a question without an answer.
     pub fn of_fault(fault: Fault) -> Outcome
         ensures { result ≡ faulted fault }
     {
@@ -78,7 +80,7 @@ impl Outcome {
             Outcome::Refused { .. } => 2,
             Outcome::BadWord(_) | Outcome::WrongCount { .. } | Outcome::WrongType(_) => 3,
             Outcome::Usage(_) => 3,
-            Outcome::Write(_) | Outcome::Memory => 4,
+            Outcome::Read | Outcome::Write(_) | Outcome::Memory => 4,
         }
     }
 }

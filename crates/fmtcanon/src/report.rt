@@ -28,6 +28,7 @@ fn report_line<E: Write>(outcome: &Outcome, errors: &mut Counted<E>) -> io::Resu
         }
         Outcome::WrongType(index) => writeln!(errors, "argument {index}: wrong type"),
         Outcome::Usage(text) => write!(errors, "{text}"),
+        Outcome::Read => writeln!(errors, "read failed"),
         Outcome::Write(_) => writeln!(errors, "write failed"),
         Outcome::Memory => writeln!(errors, "out of memory"),
     }

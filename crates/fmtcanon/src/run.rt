@@ -1,34 +1,40 @@
 //! A run of the program.
 ghost use Rattle.std.specs.Prelude.{◌≡◌, map};
 ghost use Rattle.fmtcanon.specs.Outcomes.{outcome_of};
-ghost use Rattle.fmtcanon.specs.Runs.{Leaves, LeavesBytes};
+ghost use Rattle.fmtcanon.specs.Runs.{Leaves, LeavesAnswer, LeavesBytes};
 
 use crate::answer::{Answer, answer_to};
 use crate::outcome::Outcome;
-use crate::task::{NoTask, task_of};
+use crate::stream::copy;
+use crate::task::{NoTask, Question, Task, task_of};
 use pf_values::{Counted, write_bytes};
 use std::alloc::Global;
 use std::io::{Read, Write};
 
 /// Runs the command that the words name; the program's name isn't among them. What a command reads comes
 /// from `reader`, and what it writes goes to `writer`, which is flushed before `Done`, `Same` and
-/// `Different`. All growths come before the first byte goes out.
+/// `Different`, and by `stream` also before `Refused` and `Read`.
 pub fn run<R: Read, W: Write>(
     alloc: Global,
     words: &[&str],
     reader: &mut Counted<R>,
     writer: &mut Counted<W>,
 ) -> Outcome
-    ensures left { Leaves W.contents writer.old writer.new (map (λ s. s.now) words.now) result }
-    // No command reads yet.
-    ensures unread { reader.new ≡ reader.old }
+    ensures { Leaves R.remaining W.contents reader.old reader.new writer.old writer.new (map (λ s. s.now) words.now) result }
 {
-    let task = match task_of(alloc, words) {
-        Ok(task) => task,
-        Err(NoTask::Usage(text)) => return Outcome::Usage(text),
-        Err(NoTask::Memory) => return Outcome::Memory,
-    };
-    match answer_to(alloc, &task) {
+    match task_of(alloc, words) {
+        Ok(Task::Answer(question)) => answer(alloc, &question, writer),
+        Ok(Task::Stream) => copy(reader, writer),
+        Err(NoTask::Usage(text)) => Outcome::Usage(text),
+        Err(NoTask::Memory) => Outcome::Memory,
+    }
+}
+
+// Answers a question. All growths come before the first byte goes out.
+fn answer<W: Write>(alloc: Global, question: &Question<'_>, writer: &mut Counted<W>) -> Outcome
+    ensures { LeavesAnswer W.contents writer.old writer.new question.now result }
+{
+    match answer_to(alloc, question) {
         Ok(answer) => write_answer(&answer, writer),
         Err(fault) => Outcome::of_fault(fault),
     }

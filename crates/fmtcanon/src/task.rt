@@ -10,9 +10,18 @@ use clap::error::ErrorKind;
 use clap::{ArgMatches, Error};
 use std::alloc::{AllocError, Global};
 
-/// A command with its words.
+/// What a command does.
 #[derive(Debug, Drop)]
 pub enum Task<'a> {
+    /// It answers a question about formats that stand in the words.
+    Answer(Question<'a>),
+    /// It copies the canonical string of what the reader hands out.
+    Stream,
+}
+
+/// A question about formats.
+#[derive(Debug, Drop)]
+pub enum Question<'a> {
     /// The types of the arguments of a format.
     Types(&'a str),
     /// The canonical string of a format.
@@ -75,20 +84,21 @@ fn named_task<'a>(
     ensures { IfOk result (λ task. (words : List Text) → Names words name.now (rows_in inner.now) → Asks words task) }
 {
     match name {
-        "types" => Ok(Task::Types(value_of(inner, "F"))),
-        "canon" => Ok(Task::Canon(value_of(inner, "F"))),
-        "show" => Ok(Task::Show(value_of(inner, "F"))),
+        "types" => Ok(Task::Answer(Question::Types(value_of(inner, "F")))),
+        "canon" => Ok(Task::Answer(Question::Canon(value_of(inner, "F")))),
+        "show" => Ok(Task::Answer(Question::Show(value_of(inner, "F")))),
         "format" => {
             let words = given_words(alloc, inner)?;
-            Ok(Task::Format {
+            Ok(Task::Answer(Question::Format {
                 format: value_of(inner, "F"),
                 words,
-            })
+            }))
         }
-        "same" => Ok(Task::Same {
+        "same" => Ok(Task::Answer(Question::Same {
             first: value_of(inner, "F"),
             second: value_of(inner, "G"),
-        }),
+        })),
+        "stream" => Ok(Task::Stream),
         _ => unreachable!(),
     }
 }

@@ -19,7 +19,7 @@ mod transducing;
 mod tests;
 
 pub use building::canonical;
-pub use copying::canonical_stream;
+pub use copying::{canonical_stream, copy_canonical};
 pub use faults::{CanonFault, CopyFault, StreamFault};
 pub use recognizing::is_canonical;
 pub use sides::Side;

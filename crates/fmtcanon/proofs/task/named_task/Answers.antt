@@ -13,10 +13,6 @@ present : (words : List Text) (name command id : Text) (inner : ArgMatches) → 
     → is_some (first_value (found_of inner) id) ≡ true
 present words name command id inner names e wants = ap is_some (first_value-rows (found_of inner) id) ∙ value_given words name command id (rows_in inner) names e wants
 
--- the words name the command that the code finds
-renamed : (words : List Text) (name command : Text) (inner : ArgMatches) → name ≡ command → Names words name (rows_in inner) → Names words command (rows_in inner)
-renamed words name command inner e names = subst (λ n. Names words n (rows_in inner)) e names
-
 value : (inner : ArgMatches) (id text : Text) → Some text ≡ first_value (found_of inner) id → HasValue (rows_in inner) id text
 value inner id text e = sym (e ∙ first_value-rows (found_of inner) id)
 
@@ -47,21 +43,24 @@ unreachable-requires c =
     let names = c.requires in
     let name = c.args.name.now in
     let other = c.in_default in
-    at_asked (λ n. name ≡ n → ⊥) names.0 name _ (other.not-types, (other.not-canon, (other.not-show, (other.not-format, (other.not-same, tt))))) names.1.named refl
+    at_asked (λ n. name ≡ n → ⊥) names.0 name _ (other.not-types, (other.not-canon, (other.not-show, (other.not-format, (other.not-same, (other.not-stream, tt)))))) names.1.named refl
 
 pub returns-in-types : goal.returns-in-types
-returns-in-types c = λ words names. (rows_in c.args.inner.now, renamed words _ _ c.args.inner.now c.in-types.is names, value c.args.inner.now _ _ c.value_of.ensures)
+returns-in-types c = λ words names. (_, rows_in c.args.inner.now, names, (c.in-types.is, value c.args.inner.now _ _ c.value_of.ensures))
 
 pub returns-in-canon : goal.returns-in-canon
-returns-in-canon c = λ words names. (rows_in c.args.inner.now, renamed words _ _ c.args.inner.now c.in-canon.is names, value c.args.inner.now _ _ c.value_of-in-canon.ensures)
+returns-in-canon c = λ words names. (_, rows_in c.args.inner.now, names, (c.in-canon.is, value c.args.inner.now _ _ c.value_of-in-canon.ensures))
 
 pub returns-in-show : goal.returns-in-show
-returns-in-show c = λ words names. (rows_in c.args.inner.now, renamed words _ _ c.args.inner.now c.in-show.is names, value c.args.inner.now _ _ c.value_of-in-show.ensures)
+returns-in-show c = λ words names. (_, rows_in c.args.inner.now, names, (c.in-show.is, value c.args.inner.now _ _ c.value_of-in-show.ensures))
 
 pub returns-in_ok-words-in-format : goal.returns-in_ok-words-in-format
 returns-in_ok-words-in-format c =
-    λ words names. (rows_in c.args.inner.now, renamed words _ _ c.args.inner.now c.in-format.is names, value c.args.inner.now _ _ c.value_of-in-format.ensures, values c.args.inner.now _ _ c.in_ok-words-in-format.ensures)
+    λ words names. (_, rows_in c.args.inner.now, names, (c.in-format.is, value c.args.inner.now _ _ c.value_of-in-format.ensures, values c.args.inner.now _ _ c.in_ok-words-in-format.ensures))
 
 pub returns-in-same : goal.returns-in-same
 returns-in-same c =
-    λ words names. (rows_in c.args.inner.now, renamed words _ _ c.args.inner.now c.in-same.is names, value c.args.inner.now _ _ c.value_of-in-same.ensures, value c.args.inner.now _ _ c.value_of-in-same-2.ensures)
+    λ words names. (_, rows_in c.args.inner.now, names, (c.in-same.is, value c.args.inner.now _ _ c.value_of-in-same.ensures, value c.args.inner.now _ _ c.value_of-in-same-2.ensures))
+
+pub returns-in-stream : goal.returns-in-stream
+returns-in-stream c = λ words names. (rows_in c.args.inner.now, subst (λ n. Names words n (rows_in c.args.inner.now)) c.in-stream.is names)

@@ -1,0 +1,7 @@
+use Rattle.fmtcanon.proofs.RunLemmas.{kept, leaves_nothing}
+use Rattle.fmtcanon.proofs.run.answer.Goals as goal
+
+pub returns-in-Err : goal.returns-in-Err
+returns-in-Err g c =
+    let contents = g.W.Write.contents in
+    rw c.of_fault.ensures (leaves_nothing contents c.args.writer.now c.args.writer.now _ (kept (contents c.args.writer.now.device)) c.in-Err.fault c.in-Err.ensures)

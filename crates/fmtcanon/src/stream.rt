@@ -1,0 +1,33 @@
+//! The canonical string of what a reader hands out.
+ghost use Rattle.pf_values.specs.Counting.{device_of};
+ghost use Rattle.fmtcanon.specs.Streams.{LeavesCopy};
+
+use crate::outcome::Outcome;
+use pf_canon::{CopyFault, copy_canonical};
+use pf_values::Counted;
+use std::io::{Read, Write};
+
+/// Copies the canonical string of what the reader hands out. What was written is flushed at the end, at a refusal
+/// and where a read fails; these two are told even where that flush fails.
+pub fn copy<R: Read, W: Write>(reader: &mut Counted<R>, writer: &mut Counted<W>) -> Outcome
+    ensures { LeavesCopy R.remaining W.contents reader.old reader.new writer.old writer.new result }
+{
+    match copy_canonical(reader, writer) {
+        Ok(count) => match writer.flush() {
+            Ok(()) => Outcome::Done,
+            Err(_) => Outcome::Write(count),
+        },
+        Err(CopyFault::Refused(refusal)) => {
+            let _ = writer.flush();
+            Outcome::Refused {
+                side: None,
+                refusal,
+            }
+        }
+        Err(CopyFault::Read) => {
+            let _ = writer.flush();
+            Outcome::Read
+        }
+        Err(CopyFault::Write(written)) => Outcome::Write(written),
+    }
+}
