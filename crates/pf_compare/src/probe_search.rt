@@ -1,19 +1,17 @@
 //! The first argument that tells two formats apart, where they print the same for neutral ones.
-ghost use Rattle.std.specs.Prelude.{◌≡◌, ◌≢◌, ◌≤◌, ◌+◌, ◌-◌, ◌++◌, IfOk, List, MatchBool, drop, length, map, take};
+ghost use Rattle.std.specs.Prelude.{◌≡◌, ◌≢◌, ◌≤◌, ◌+◌, ◌-◌, ◌++◌, IfOk, IsTrue, List, MatchBool, drop, length, map, take};
 ghost use Rattle.pf_values.specs.Arg.{argument_of};
 ghost use Rattle.pf_values.specs.Arguments.{HasType};
 ghost use Rattle.pf_values.specs.Candidates as spec;
 ghost use Rattle.pf_values.specs.DataModel.{arg_type};
 ghost use Rattle.pf_values.specs.Items.{Item, types};
-ghost use Rattle.pf_values.specs.Printing.{Prints};
-ghost use Rattle.pf_values.specs.Text.{Text};
-ghost use Rattle.pf_probes.specs.Candidate as probes;
+ghost use Rattle.pf_values.specs.declared.types.ArgType.TheVariants.{Str};
 ghost use Rattle.pf_compare.specs.Answers.{FindsProbe};
-ghost use Rattle.pf_compare.specs.Layouts.{AreLevel, FillAlike, FillUnlike, FillsAgain, FindsUnlike, IsInside, IsLayoutOf, filled};
+ghost use Rattle.pf_compare.specs.Layouts.{AreLevel, FillAlike, FillUnlike, FindsUnlike, IsInside, IsLayoutOf, filled};
 
+use crate::candidate_rows::{owned_row, row_of};
+use crate::equality::are_equal;
 use crate::layouts::{Hole, Layout, print};
-use crate::owned_args::OwnedArg;
-use pf_probes::{Candidate, candidates};
 use pf_values::{Arg, ArgType};
 use std::alloc::{AllocError, Global};
 
@@ -34,6 +32,22 @@ pub(crate) fn first_probe(
     requires { AreLevel first.now second.now }
     ensures { IfOk result (λ found. (xs ys : List Item) → IsLayoutOf xs first.now → IsLayoutOf ys second.now → types xs ≡ types ys → FindsProbe xs ys found) }
 {
+    let owned = owned_row(alloc, ArgType::Str)?;
+    let strings = row_of(alloc, &owned)?;
+    first_among(alloc, first, second, &strings)
+}
+
+// The same, with the strings among the candidates, which are long, so that they are built once.
+fn first_among(
+    alloc: Global,
+    first: &Layout,
+    second: &Layout,
+    strings: &[Arg<'_>],
+) -> Result<Option<Probe>, AllocError>
+    requires level { AreLevel first.now second.now }
+    requires strings { map argument_of strings.now ≡ spec.candidates Str }
+    ensures { IfOk result (λ found. (xs ys : List Item) → IsLayoutOf xs first.now → IsLayoutOf ys second.now → types xs ≡ types ys → FindsProbe xs ys found) }
+{
     let mut index = 0;
     while index < first.holes.len() {
         let found = first_candidate(
@@ -41,6 +55,7 @@ pub(crate) fn first_probe(
             &first.bytes,
             &first.holes[index],
             &second.holes[index],
+            strings,
         )?;
         match found {
             Some(place) => return Ok(Some(Probe { index, place })),
@@ -50,39 +65,55 @@ pub(crate) fn first_probe(
     Ok(None)
 }
 
-// The place of the first candidate that tells two directives apart in their holes.
+// The place of the first candidate that tells two directives apart in their holes. One directive in one hole prints
+// one text for every argument.
 fn first_candidate(
     alloc: Global,
     whole: &[u8],
     first: &Hole,
     second: &Hole,
+    strings: &[Arg<'_>],
 ) -> Result<Option<usize>, AllocError>
     requires one_type { arg_type first.now.directive ≡ arg_type second.now.directive }
     requires first { IsInside whole.now first.now }
     requires second { IsInside whole.now second.now }
+    requires strings { map argument_of strings.now ≡ spec.candidates Str }
     ensures { IfOk result (FindsUnlike whole.now first.now second.now (arg_type first.now.directive)) }
 {
+    if are_one(first, second) {
+        return Ok(None);
+    }
     let wanted = first.directive.arg_type();
-    first_of(
-        alloc,
-        whole,
-        first,
-        second,
-        wanted,
-        candidates(wanted).as_slice(),
-    )
+    if wanted == ArgType::Str {
+        return first_of(alloc, whole, first, second, wanted, strings);
+    }
+    let owned = owned_row(alloc, wanted)?;
+    let numbers = row_of(alloc, &owned)?;
+    first_of(alloc, whole, first, second, wanted, &numbers)
 }
 
-// The same of a row of candidates.
+fn are_one(first: &Hole, second: &Hole) -> bool
+    ensures { IsTrue result → first.now ≡ second.now }
+{
+    if first.start != second.start {
+        return false;
+    }
+    if first.end != second.end {
+        return false;
+    }
+    are_equal(&first.directive, &second.directive)
+}
+
+// The place of the first argument of a row that does.
 fn first_of(
     alloc: Global,
     whole: &[u8],
     first: &Hole,
     second: &Hole,
     wanted: ArgType,
-    row: &[Candidate],
+    row: &[Arg<'_>],
 ) -> Result<Option<usize>, AllocError>
-    requires row { map probes.argument_of row.now ≡ spec.candidates wanted }
+    requires row { map argument_of row.now ≡ spec.candidates wanted }
     requires first_type { arg_type first.now.directive ≡ wanted }
     requires second_type { arg_type second.now.directive ≡ wanted }
     requires first { IsInside whole.now first.now }
@@ -91,8 +122,7 @@ fn first_of(
 {
     let mut place = 0;
     while place < row.len() {
-        let argument = OwnedArg::of(alloc, wanted, row[place])?;
-        if tell_apart(alloc, whole, first, second, argument.as_arg())? {
+        if tell_apart(alloc, whole, first, second, row[place])? {
             return Ok(Some(place));
         }
         place += 1;
@@ -115,46 +145,42 @@ fn tell_apart(
     requires second { IsInside whole.now second.now }
     ensures { IfOk result (λ told. MatchBool told (FillUnlike whole.now first.now second.now (argument_of argument.entry)) (FillAlike whole.now first.now second.now (argument_of argument.entry))) }
 {
-    if stays(alloc, whole, first, argument)? {
-        if stays(alloc, whole, second, argument)? {
+    let x = print(alloc, &first.directive, argument)?;
+    let y = print(alloc, &second.directive, argument)?;
+    if stays(whole, first, &x) {
+        if stays(whole, second, &y) {
             return Ok(false);
         }
     }
-    tells(alloc, whole, first, second, argument)
+    differ_filled(alloc, whole, first, second, &x, &y)
 }
 
-// Whether a directive prints for an argument what stands in its hole.
-fn stays(alloc: Global, whole: &[u8], hole: &Hole, argument: Arg<'_>) -> Result<bool, AllocError>
-    requires typed { HasType (argument_of argument) (arg_type hole.now.directive) }
-    requires inside { IsInside whole.now hole.now }
-    ensures { IfOk result (λ still. MatchBool still (FillsAgain whole.now hole.now (argument_of argument.entry)) (Unit {0})) }
+// Whether this stands in a hole.
+fn stays(whole: &[u8], hole: &Hole, printed: &[u8]) -> bool
+    requires { IsInside whole.now hole.now }
+    ensures { IsTrue result → filled whole.now hole.now printed.now ≡ whole.now }
 {
-    let printed = print(alloc, &hole.directive, argument)?;
-    if are_unlike(&whole[hole.start..hole.end], &printed) {
-        return Ok(false);
-    }
-    Ok(true)
+    !are_unlike(&whole[hole.start..hole.end], printed)
 }
 
-// The same, by the part of the text that the two holes lie in.
-fn tells(
+// Whether a text with one hole filled differs from it with another one filled, by the part that the two holes lie in.
+fn differ_filled(
     alloc: Global,
     whole: &[u8],
     first: &Hole,
     second: &Hole,
-    argument: Arg<'_>,
+    x: &[u8],
+    y: &[u8],
 ) -> Result<bool, AllocError>
-    requires typed_first { HasType (argument_of argument) (arg_type first.now.directive) }
-    requires typed_second { HasType (argument_of argument) (arg_type second.now.directive) }
     requires first { IsInside whole.now first.now }
     requires second { IsInside whole.now second.now }
-    ensures { IfOk result (λ told. MatchBool told (FillUnlike whole.now first.now second.now (argument_of argument.entry)) (FillAlike whole.now first.now second.now (argument_of argument.entry))) }
+    ensures { IfOk result (λ told. MatchBool told (filled whole.now first.now x.now ≢ filled whole.now second.now y.now) (filled whole.now first.now x.now ≡ filled whole.now second.now y.now)) }
 {
     let from = first.start.min(second.start);
     let to = first.end.max(second.end);
-    let x = fill(alloc, &whole[from..to], from, first, argument)?;
-    let y = fill(alloc, &whole[from..to], from, second, argument)?;
-    Ok(are_unlike(&x, &y))
+    let one = fill(alloc, &whole[from..to], from, first, x)?;
+    let two = fill(alloc, &whole[from..to], from, second, y)?;
+    Ok(are_unlike(&one, &two))
 }
 
 /// Whether two texts differ.
@@ -164,24 +190,22 @@ pub(crate) fn are_unlike(x: &[u8], y: &[u8]) -> bool
     x != y
 }
 
-// A part of a text that begins at `from`, with what a directive prints for an argument in its hole.
+// A part of a text that begins at `from`, with this in its hole.
 fn fill(
     alloc: Global,
     part: &[u8],
     from: usize,
     hole: &Hole,
-    argument: Arg<'_>,
+    printed: &[u8],
 ) -> Result<Vec<u8>, AllocError>
-    requires typed { HasType (argument_of argument) (arg_type hole.now.directive) }
     requires ordered { hole.now.start ≤ hole.now.end }
     requires after { from ≤ hole.now.start }
     requires before { hole.now.end ≤ from + length part.now }
-    ensures { IfOk result (λ bytes. (p : Text) × Prints hole.now.directive (argument_of argument.entry) p × (bytes.items ≡ take (hole.now.start - from) part.now ++ p ++ drop (hole.now.end - from) part.now)) }
+    ensures { IfOk result (λ bytes. bytes.items ≡ take (hole.now.start - from) part.now ++ printed.now ++ drop (hole.now.end - from) part.now) }
 {
-    let printed = print(alloc, &hole.directive, argument)?;
     let mut out = Vec::new(alloc);
     out.extend_from_slice(&part[..hole.start - from])?;
-    out.extend_from_slice(&printed)?;
+    out.extend_from_slice(printed)?;
     out.extend_from_slice(&part[hole.end - from..])?;
     Ok(out)
 }

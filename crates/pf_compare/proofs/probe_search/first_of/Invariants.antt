@@ -8,7 +8,7 @@ use Rattle.pf_compare.proofs.probe_search.first_of.Given as goal
 abbrev pub invariant-loop-place : goal.invariant-loop-place
 invariant-loop-place l = record {
   within : l.place ≤ length l.row;
-  earlier : (k : ℕ) (other : Argument) → k < l.place → slice_get (spec.candidates l.wanted) k ≡ Some other → FillAlike l.whole l.first l.second other;
+  earlier : (k : ℕ) (other : Argument) → k < l.place → slice_get (spec.candidates l.fn.wanted) k ≡ Some other → FillAlike l.whole l.first l.second other;
 }
 
 abbrev pub decreases-loop-place : goal.decreases-loop-place

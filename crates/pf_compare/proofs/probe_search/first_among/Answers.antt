@@ -5,39 +5,39 @@ use Rattle.pf_values.specs.DataModel.{arg_type}
 use Rattle.pf_values.specs.Text.{Text}
 use Rattle.pf_compare.specs.Layouts.{FindsUnlike, IsInside}
 use Rattle.pf_compare.proofs.ProbeLemmas.{AreTried, as_many, first_hole, found_probe, hole_types_same, none_found, second_hole, tried_next}
-use Rattle.pf_compare.proofs.probe_search.first_probe.Goals as goal
+use Rattle.pf_compare.proofs.probe_search.first_among.Goals as goal
 
 one_at : (c : goal.After-index-in-loop-index) → slice_get c.args.first.now.holes.items c.loop-index.index ≡ Some c.index.result.now
 one_at c = slice_get_read c.args.first.now.holes.items _ c.loop-index.index c.index.result.now refl (omega (arith, c.loop-index-test.true, c.len.ensures, c.args.first.now.holes.ok.0)) c.index.ensures
 
 two_at : (c : goal.After-index-in-loop-index) → slice_get c.args.second.now.holes.items c.loop-index.index ≡ Some c.index-in-loop-index.result.now
 two_at c =
-    let r = c.requires in
+    let r = c.requires.level in
     slice_get_read c.args.second.now.holes.items _ c.loop-index.index c.index-in-loop-index.result.now refl
     (omega (arith, c.loop-index-test.true, c.len.ensures, c.args.first.now.holes.ok.0, as_many c.args.first.now c.args.second.now r.xs r.ys r.laid_first r.laid_second r.same_types r.same_bytes)) c.index-in-loop-index.ensures
 
 pub first_candidate-requires-clause-one_type : goal.first_candidate-requires-clause-one_type
 first_candidate-requires-clause-one_type c =
-    let r = c.requires in
+    let r = c.requires.level in
     hole_types_same r.xs r.ys c.args.first.now.bytes.items c.loop-index.index c.index.result.now c.index-in-loop-index.result.now
     (first_hole c.args.first.now c.args.second.now r.xs r.ys r.laid_first r.laid_second r.same_types r.same_bytes c.loop-index.index c.index.result.now (one_at c))
     (second_hole c.args.first.now c.args.second.now r.xs r.ys r.laid_first r.laid_second r.same_types r.same_bytes c.loop-index.index c.index-in-loop-index.result.now (two_at c)) r.same_types
 
 pub first_candidate-requires-clause-first : goal.first_candidate-requires-clause-first
 first_candidate-requires-clause-first c =
-    let r = c.requires in
+    let r = c.requires.level in
     subst (λ (t : Text). IsInside t c.index.result.now) (sym c.deref.ensures.value)
     (first_hole c.args.first.now c.args.second.now r.xs r.ys r.laid_first r.laid_second r.same_types r.same_bytes c.loop-index.index c.index.result.now (one_at c)).inside
 
 pub first_candidate-requires-clause-second : goal.first_candidate-requires-clause-second
 first_candidate-requires-clause-second c =
-    let r = c.requires in
+    let r = c.requires.level in
     subst (λ (t : Text). IsInside t c.index-in-loop-index.result.now) (sym c.deref.ensures.value)
     (second_hole c.args.first.now c.args.second.now r.xs r.ys r.laid_first r.laid_second r.same_types r.same_bytes c.loop-index.index c.index-in-loop-index.result.now (two_at c)).inside
 
 pub returns-in-Some : goal.returns-in-Some
 returns-in-Some c =
-    let r = c.requires in
+    let r = c.requires.level in
     let finds : FindsUnlike c.deref.result.now c.index.result.now c.index-in-loop-index.result.now (arg_type c.index.result.now.directive) c.in_ok-found.found = c.in_ok-found.ensures in
     let here = subst (λ (t : Text). FindsUnlike t c.index.result.now c.index-in-loop-index.result.now (arg_type c.index.result.now.directive) c.in_ok-found.found) c.deref.ensures.value finds in
     λ xs ys a b same. found_probe c.args.first.now c.args.second.now xs ys a b same r.same_bytes c.loop-index.index c.in-Some.place c.index.result.now c.index-in-loop-index.result.now
@@ -48,7 +48,7 @@ returns-in-Some c =
 
 pub loop-index-preserved : goal.loop-index-preserved
 loop-index-preserved c =
-    let r = c.requires in
+    let r = c.requires.level in
     let finds : FindsUnlike c.deref.result.now c.index.result.now c.index-in-loop-index.result.now (arg_type c.index.result.now.directive) c.in_ok-found.found = c.in_ok-found.ensures in
     let here = subst (λ (t : Text). FindsUnlike t c.index.result.now c.index-in-loop-index.result.now (arg_type c.index.result.now.directive) c.in_ok-found.found) c.deref.ensures.value finds in
     record {
@@ -63,4 +63,4 @@ loop-index-preserved c =
 pub returns : goal.returns
 returns c = λ xs ys a b same.
     let whole : c.loop-index.index ≡ length c.args.first.now.holes.items = omega (arith, c.loop-index.invariant.within, c.loop-index-test.false, c.len.ensures, c.args.first.now.holes.ok.0) in
-    none_found c.args.first.now c.args.second.now xs ys a b same c.requires.same_bytes (subst (AreTried c.args.first.now c.args.second.now) whole c.loop-index.invariant.tried)
+    none_found c.args.first.now c.args.second.now xs ys a b same c.requires.level.same_bytes (subst (AreTried c.args.first.now c.args.second.now) whole c.loop-index.invariant.tried)
