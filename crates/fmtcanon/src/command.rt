@@ -45,7 +45,7 @@ fn top<'a>(alloc: Global) -> Result<Command<'a>, AllocError>
 fn on_nothing<'a>(alloc: Global, name: &'a str, about: &'a str) -> Result<Command<'a>, AllocError>
     ensures { IfOk result (λ command. (app_of command ≡ new_app name.now) × ((fields_of command).has_globals ≡ false)) }
 {
-    Command::new(alloc, name).about(about)
+    Ok(Command::new(alloc, name).about(about))
 }
 
 // A subcommand with a format.

@@ -13,8 +13,8 @@ use Rattle.pf_text.specs.declared.pieces.Pieces.{Pieces}
 use Rattle.pf_text.specs.declared.refusal.Refusal.{Refusal}
 use Rattle.pf_text.specs.declared.scanner.Step.{Step}
 use Rattle.pf_text.specs.declared.scanner.Step.TheVariants as steps
-use Rattle.pf_text.specs.declared.state.State.{State}
-use Rattle.pf_text.specs.declared.state.State.TheVariants.{Between}
+use Rattle.pf_text.specs.Stages.{State}
+use Rattle.pf_text.specs.Stages.{Between}
 use Rattle.pf_text.specs.History.{with_step}
 use Rattle.pf_text.specs.PieceHistory.{Gives, items_of}
 use Rattle.pf_text.specs.Signatures.{HasTypes}
