@@ -1,12 +1,11 @@
 -- How a transducer takes the front of a text.
-use Rattle.std.proofs.Common.{◌≡◌, ◌≢◌, ℕ, suc, ◌+◌, ◌-◌, ◌*◌, ◌<◌, ◌≤◌, List, [], ◌∷◌, ◌++◌, length, map, take, drop, refl, sym, ap, ◌∙◌, subst, arith, Err, inl, inr}
+use Rattle.std.proofs.Common.{◌≡◌, ℕ, suc, ◌+◌, ◌-◌, ◌*◌, ◌≤◌, List, [], ◌∷◌, ◌++◌, length, map, take, drop, refl, sym, ap, ◌∙◌, subst, arith, Err, inl, inr}
 use Rattle.std.proofs.Math.Seq.{take-add}
 use Rattle.std.proofs.lemmas.List.{append-nil, append_assoc, length-append, take_all, take-append-drop}
 use Rattle.pf_values.specs.Items.{Item, Byte, Reads}
 use Rattle.pf_values.specs.Refusals.{IsRefusedAt}
 use Rattle.pf_values.specs.Text.{Text}
 use Rattle.pf_text.specs.declared.refusal.Refusal.{Refusal}
-use Rattle.pf_text.specs.declared.scanner.Scanner.{Scanner}
 use Rattle.pf_text.specs.declared.scanner.Step.{Step}
 use Rattle.pf_text.specs.declared.scanner.Step.TheVariants as steps
 use Rattle.pf_text.specs.History as scanned
@@ -18,8 +17,6 @@ use Rattle.pf_canon.specs.declared.transducing.Transducer.{Transducer}
 use Rattle.pf_canon.specs.Through.{GrowsBy, IsFed, IsBetween, IsThrough, RefusesIn, Settles, SettlesTo, SettlesWhole, front_text, made_text, more_of, run_text}
 use Rattle.pf_text.specs.History.{Says}
 use Rattle.pf_canon.proofs.MakingLemmas.{made_settled}
-use Rattle.pf_canon.proofs.PieceLemmas.{run_made, run_short}
-use Rattle.pf_canon.proofs.BuildingLemmas.{most_len-append}
 use Rattle.pf_canon.proofs.RefusedLemmas.{not_truncated}
 use Rattle.pf_canon.proofs.ThroughLemmas.{byte_settled, grown, passed}
 
@@ -71,7 +68,7 @@ pub fed_made : (r new : Transducer) (t out text : Text) (items : List Item) (at 
 fed_made r new t out text items at step made f scanner settles one short between =
     let w = f.waiting in
     let g =
-        grown f.before new (t ++ take at text) out items f.byte step made f.through (rw scanner f.takes) (rw w at settles f.byte out items) (omega (arith, one, w)) (rw w at short f.byte) between in
+    grown f.before new (t ++ take at text) out items f.byte step made f.through (rw scanner f.takes) (rw w at settles f.byte out items) (omega (arith, one, w)) (rw w at short f.byte) between in
     record {
       items = items ++ g.more;
       through = subst (λ u. IsThrough new u (items ++ g.more) (out ++ run_text made (take (at + 1 - at) (drop at text)))) (one_more t text at f.byte f.first)
@@ -90,7 +87,7 @@ fed_run r new t out text items at len b f waiting passes =
     let fed = t ++ take at text in
     let rest = drop (at + 1) text in
     let g =
-        grown f.before r fed out items f.byte (steps.Byte b) mades.Literal f.through f.takes (rw w (λ step room h. byte_settled b f.byte f.before.waiting out items step.0 step.1 h)) (omega (arith, w)) (omega (arith, w)) (λ t items byte says. says.0) in
+    grown f.before r fed out items f.byte (steps.Byte b) mades.Literal f.through f.takes (rw w (λ step room h. byte_settled b f.byte f.before.waiting out items step.0 step.1 h)) (omega (arith, w)) (omega (arith, w)) (λ t items byte says. says.0) in
     let here = fed ++ f.byte ∷ [] in
     let now = passed r new here (out ++ f.byte ∷ []) rest (items ++ g.more) len g.through (passes here (items ++ g.more) g.through.after g.between) waiting in
     record {
@@ -106,7 +103,7 @@ module _ (t out more text : Text) (at : ℕ) where
     more ++ front_text front (drop at text),
     g.items,
     subst (λ u. IsThrough new u g.items (out ++ (more ++ front_text front (drop at text)))) (append_assoc t (take at text) (take front.len (drop at text)) ∙ ap (λ u. t ++ u) (sym (take-add at front.len text)))
-    (subst (IsThrough new ((t ++ take at text) ++ take front.len (drop at text)) g.items) (append_assoc out more (front_text front (drop at text))) g.through),
+        (subst (IsThrough new ((t ++ take at text) ++ take front.len (drop at text)) g.items) (append_assoc out more (front_text front (drop at text))) g.through),
   )
 
   pub passed_to_refused : (refusal : Refusal) → RefusesIn (t ++ take at text) (out ++ more) (drop at text) refusal → (all : Text) × SettlesWhole (t ++ text) (out ++ all)

@@ -12,7 +12,11 @@ use std::io::Write;
 
 impl Front {
     /// Appends what it settles.
-    pub(crate) fn push<A: Allocator>(&self, text: &[u8], out: &mut Vec<u8, A>) -> Result<(), AllocError>
+    pub(crate) fn push<A: Allocator>(
+        &self,
+        text: &[u8],
+        out: &mut Vec<u8, A>,
+    ) -> Result<(), AllocError>
         requires { IsFrontWithin self.now text.now }
         ensures { IfOk result (λ _. out.new.items ≡ out.old.items ++ front_text self.now text.now) }
     {
@@ -26,7 +30,12 @@ impl Front {
 
 impl Front {
     /// Writes what it settles, and counts on from `count`.
-    pub(crate) fn put<W: Write>(&self, text: &[u8], w: &mut Counted<W>, count: u128) -> Result<u128, u128>
+    pub(crate) fn put<W: Write>(
+        &self,
+        text: &[u8],
+        w: &mut Counted<W>,
+        count: u128,
+    ) -> Result<u128, u128>
         requires { IsFrontWithin self.now text.now }
         ensures { Puts W.contents w.old w.new (front_text self.now text.now) count result }
     {

@@ -14,9 +14,9 @@ mod reading;
 mod recognizing;
 mod sides;
 mod streaming;
-mod transducing;
 #[cfg(test)]
 mod tests;
+mod transducing;
 
 pub use building::canonical;
 pub use copying::{canonical_stream, copy_canonical};

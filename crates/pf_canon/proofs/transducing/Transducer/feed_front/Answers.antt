@@ -1,4 +1,4 @@
-use Rattle.std.proofs.Common.{arith, get_or, refl, ◌++◌, take, ◌+◌, ◌≡◌, subst}
+use Rattle.std.proofs.Common.{arith, get_or, refl, ◌++◌, take, subst}
 use Rattle.std.proofs.lemmas.List.{drop_more}
 use Rattle.pf_canon.specs.Through.{IsThrough}
 use Rattle.pf_canon.proofs.FrontLemmas.{all_inside, inside, one_more, refused_in}

@@ -1,4 +1,4 @@
-use Rattle.std.proofs.Common.{◌≤◌, [], ◌++◌, ◌+◌, arith, length, drop, take}
+use Rattle.std.proofs.Common.{◌≤◌, [], ◌++◌, arith, length, drop, take}
 use Rattle.std.proofs.lemmas.List.{append-nil, length-drop, take_rest}
 use Rattle.pf_canon.proofs.FrontLemmas.{all_passed, passed_more, passed_to_refused}
 use Rattle.pf_canon.proofs.transducing.Transducer.pass.Goals as goal
