@@ -1,6 +1,5 @@
 //! A reader of a format, byte by byte.
 ghost use Rattle.std.specs.Prelude.{◌≡◌, ◌+◌, ◌≤◌, length, List, [], MatchResult, Ok, Err};
-ghost use Rattle.memchr.specs.Find.{IsFirstByte, is_byte2};
 ghost use Rattle.pf_values.specs.Items.{Item, Reads};
 ghost use Rattle.pf_values.specs.Text.{Text};
 ghost use Rattle.pf_text.specs.Stages.{state_of};
@@ -8,8 +7,8 @@ ghost use Rattle.pf_text.specs.States.{next};
 ghost use Rattle.pf_text.specs.History.{IsAfter, HasRefused, Feeds, Finishes, Passes, offset_of, refusal_by, refusing};
 
 use crate::refusal::Refusal;
+use crate::search::first_other;
 use crate::state::{Automaton, Move};
-use memchr::memchr2;
 use pf_values::limits::MAX_TEXT_LEN;
 use pf_values::{Directive, RefusalKind};
 
@@ -142,13 +141,4 @@ impl Scanner {
     {
         self.offset
     }
-}
-
-// Where the first byte stands that isn't literal. It sees no scanner, so that a reader's scanner can lie in
-// registers, and is never inlined, so that the search stands in the program once.
-#[inline(never)]
-fn first_other(text: &[u8]) -> Option<usize>
-    ensures { IsFirstByte (is_byte2 37 0) text.now result }
-{
-    memchr2(b'%', 0, text)
 }
