@@ -110,10 +110,7 @@ impl Scanner {
     fn refuse(&mut self, kind: RefusalKind) -> Result<Step, Refusal>
         ensures { (result ≡ Err (refusal_by self.old kind)) × (self.new ≡ refusing self.old kind) }
     {
-        let refusal = Refusal {
-            kind,
-            at: self.offset,
-        };
+        let refusal = refusal_at(kind, self.offset);
         self.refused = Some(refusal);
         Err(refusal)
     }
@@ -129,10 +126,7 @@ impl Scanner {
         if self.automaton.is_between() {
             return Ok(());
         }
-        Err(Refusal {
-            kind: RefusalKind::Truncated,
-            at: self.offset,
-        })
+        Err(refusal_at(RefusalKind::Truncated, self.offset))
     }
 
     /// How many bytes were taken.
@@ -141,4 +135,12 @@ impl Scanner {
     {
         self.offset
     }
+}
+
+// Never inlined: so the offset of a reader is never part of an answer, and stays whole in its register.
+#[inline(never)]
+fn refusal_at(kind: RefusalKind, at: u64) -> Refusal
+    ensures { result ≡ record { kind = kind; at = at } }
+{
+    Refusal { kind, at }
 }
