@@ -8,6 +8,7 @@ pub mod Unique
 pub mod SpellingLemmas
 pub mod ReadBack
 pub mod LiteralLemmas
+mod SearchLemmas
 pub mod PieceLemmas
 pub mod PieceTexts
 pub mod SignatureLemmas

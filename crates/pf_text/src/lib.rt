@@ -9,6 +9,7 @@ mod letters;
 mod pieces;
 mod refusal;
 mod scanner;
+mod search;
 mod signatures;
 mod signing;
 mod spelling;

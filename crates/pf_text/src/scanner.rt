@@ -1,6 +1,5 @@
 //! A reader of a format, byte by byte.
 ghost use Rattle.std.specs.Prelude.{◌≡◌, ◌+◌, ◌≤◌, ◌<◌, length, List, [], MatchResult, OnOk, Ok, Err};
-ghost use Rattle.memchr.specs.Find.{IsFirstByte, is_byte2};
 ghost use Rattle.pf_values.specs.declared.limits.TheConstants.{MAX_TEXT_LEN};
 ghost use Rattle.pf_values.specs.Items.{Item, Reads};
 ghost use Rattle.pf_values.specs.Text.{Text};
@@ -9,8 +8,8 @@ ghost use Rattle.pf_text.specs.States.{next};
 ghost use Rattle.pf_text.specs.History.{IsAfter, HasRefused, Feeds, Finishes, Passes, offset_of, refusal_by, refusing};
 
 use crate::refusal::Refusal;
+use crate::search::first_other;
 use crate::state::{Automaton, Move};
-use memchr::memchr2;
 use pf_values::limits::MAX_TEXT_LEN;
 use pf_values::{Directive, RefusalKind};
 
@@ -114,10 +113,7 @@ impl Scanner {
     fn refuse(&mut self, kind: RefusalKind) -> Result<Step, Refusal>
         ensures { (result ≡ Err (refusal_by self.old kind)) × (self.new ≡ refusing self.old kind) }
     {
-        let refusal = Refusal {
-            kind,
-            at: self.offset,
-        };
+        let refusal = refusal_at(kind, self.offset);
         self.refused = Some(refusal);
         Err(refusal)
     }
@@ -133,10 +129,7 @@ impl Scanner {
         if self.automaton.is_between() {
             return Ok(());
         }
-        Err(Refusal {
-            kind: RefusalKind::Truncated,
-            at: self.offset,
-        })
+        Err(refusal_at(RefusalKind::Truncated, self.offset))
     }
 
     /// How many bytes were taken.
@@ -147,11 +140,10 @@ impl Scanner {
     }
 }
 
-// Where the first byte stands that isn't literal. It sees no scanner, so that a reader's scanner can lie in
-// registers, and is never inlined, so that the search stands in the program once.
+// Never inlined: so the offset of a reader is never part of an answer, and stays whole in its register.
 #[inline(never)]
-fn first_other(text: &[u8]) -> Option<usize>
-    ensures { IsFirstByte (is_byte2 37 0) text.now result }
+fn refusal_at(kind: RefusalKind, at: u64) -> Refusal
+    ensures { result ≡ record { kind = kind; at = at } }
 {
-    memchr2(b'%', 0, text)
+    Refusal { kind, at }
 }

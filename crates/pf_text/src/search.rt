@@ -1,0 +1,100 @@
+//! The search for the end of a run of literal bytes: a byte that is `%` or 0.
+ghost use Rattle.std.specs.Prelude.{◌≡◌, ◌+◌, ◌-◌, ◌<◌, ◌≤◌, length};
+ghost use Rattle.memchr.specs.Find.{IsFirstByte, Nowhere, Passes, is_byte2};
+
+use memchr::memchr2;
+use std::simd::prelude::*;
+
+const LANES: usize = 16;
+
+// How far the search goes a vector at a time. Most runs end there, and `memchr2` is the faster one behind it.
+const NEAR: usize = 64;
+
+/// Where the first byte stands that isn't literal. It sees no scanner, so that a reader's scanner can lie in
+/// registers, and is never inlined, so that the search stands in the program once.
+#[inline(never)]
+pub(crate) fn first_other(text: &[u8]) -> Option<usize>
+    ensures { IsFirstByte (is_byte2 37 0) text.now result }
+{
+    if text.len() < LANES {
+        return first_by_one(text);
+    }
+    let mut at = 0;
+    while at < NEAR {
+        if text.len() - at < LANES {
+            return first_at_end(text, at);
+        }
+        let run = literals_at(text, at);
+        if run < LANES {
+            return Some(at + run);
+        }
+        at += LANES;
+    }
+    first_behind(text, at)
+}
+
+fn first_by_one(text: &[u8]) -> Option<usize>
+    ensures { IsFirstByte (is_byte2 37 0) text.now result }
+{
+    let mut at = 0;
+    while at < text.len() {
+        if is_other(text[at]) {
+            return Some(at);
+        }
+        at += 1;
+    }
+    None
+}
+
+#[inline(always)]
+fn is_other(byte: u8) -> bool
+    ensures { result ≡ is_byte2 37 0 byte }
+{
+    byte == b'%' || byte == 0
+}
+
+// Of a text whose first bytes are literal, all but the last few: the last vector overlaps those.
+#[inline(always)]
+fn first_at_end(text: &[u8], seen: usize) -> Option<usize>
+    requires room { LANES ≤ length text.now }
+    requires few { length text.now - LANES ≤ seen }
+    requires none { Nowhere (Passes (is_byte2 37 0) text.now) 0 seen }
+    ensures { IsFirstByte (is_byte2 37 0) text.now result }
+{
+    let at = text.len() - LANES;
+    let run = literals_at(text, at);
+    if run < LANES {
+        return Some(at + run);
+    }
+    None
+}
+
+// Of a text whose first bytes are literal.
+#[inline(never)]
+fn first_behind(text: &[u8], seen: usize) -> Option<usize>
+    requires within { seen ≤ length text.now }
+    requires none { Nowhere (Passes (is_byte2 37 0) text.now) 0 seen }
+    ensures { IsFirstByte (is_byte2 37 0) text.now result }
+{
+    match memchr2(b'%', 0, &text[seen..]) {
+        Some(more) => Some(seen + more),
+        None => None,
+    }
+}
+
+// How many bytes of a vector are literal before the first other one.
+#[inline(always)]
+fn literals_at(text: &[u8], at: usize) -> usize
+    requires { at + LANES ≤ length text.now }
+    ensures few { result ≤ LANES }
+    ensures none { Nowhere (Passes (is_byte2 37 0) text.now) at (at + result) }
+    ensures ended { result < LANES → Passes (is_byte2 37 0) text.now (at + result) }
+{
+    let bytes = u8x16::from_slice(&text[at..]);
+    let others = bytes.simd_eq(u8x16::splat(b'%')) | bytes.simd_eq(u8x16::splat(0));
+    let places = others.to_bitmask();
+    if places == 0 {
+        return LANES;
+    }
+    places.trailing_zeros() as usize
+}
