@@ -1,5 +1,5 @@
 -- The word by which an argument is told is read as that argument.
-use Rattle.std.proofs.Common.{◌≡◌, ◌∙◌, ℕ, ◌+◌, ◌-◌, ◌<◌, ◌≤◌, ◌^◌, ℤ, pos, negsuc, neg_ℤ, ◌≤ℤ◌, ◌<ℤ◌, true, false, [], ◌∷◌, length, map, refl, sym, ap, arith, zero, suc}
+use Rattle.std.proofs.Common.{ℕ, ◌<◌, ◌≤◌, ◌^◌, ℤ, pos, negsuc, neg_ℤ, ◌≤ℤ◌, ◌<ℤ◌, true, false, [], ◌∷◌, length, refl, ap, arith, zero, suc}
 use Rattle.std.specs.Fmt.{decimal, digit_glyph}
 use Rattle.std.specs.Int.Digits.{digits_of}
 use Rattle.std.proofs.lemmas.Fmt.{decimal_digit, decimal_nonempty}
@@ -7,10 +7,10 @@ use Rattle.std.proofs.lemmas.Int.Digits.{all_below_base_digits_of, length-digits
 use Rattle.std.proofs.lemmas.Int.{ints}
 use Rattle.std.proofs.lemmas.List.{length-map}
 use Rattle.pf_values.specs.declared.types.ArgType.TheVariants.{Int, UInt, Long, ULong, LongLong, ULongLong, Str}
-use Rattle.pf_values.specs.Arguments.{Argument, HasType, Number, String}
+use Rattle.pf_values.specs.Arguments.{Number, String}
 use Rattle.pf_values.proofs.Numerals.{place_sum-digits_of}
 use Rattle.pf_render.proofs.DigitLemmas.{decimal_glyphs}
-use Rattle.fmtcanon.specs.ArgumentWords.{SpellsArgument, SpellsMagnitude, SpellsNumber}
+use Rattle.fmtcanon.specs.ArgumentWords.{SpellsArgument, SpellsMagnitude}
 use Rattle.fmtcanon.specs.Comparisons.{ToldIsRead, argument_word}
 
 decimal_spells : (n : ℕ) → n < 2 ^ 64 → SpellsMagnitude (decimal n) n
@@ -37,22 +37,30 @@ IsShort (pos n) = n < 2 ^ 64
 IsShort (negsuc n) = suc n < 2 ^ 64
 
 number_spells : (n : ℤ) → IsShort n → SpellsArgument (argument_word (Number n)) (Number n)
-number_spells (pos n) h = (_, record {
-  is_negative = false;
-  unsigned = decimal n;
-  magnitude = n;
-  spelled = decimal_spells n h;
-  value = refl;
-  whole = refl;
-}, refl)
-number_spells (negsuc n) h = (_, record {
-  is_negative = true;
-  unsigned = decimal (suc n);
-  magnitude = suc n;
-  spelled = decimal_spells (suc n) h;
-  value = refl;
-  whole = refl;
-}, refl)
+number_spells (pos n) h = (
+  _,
+  record {
+    is_negative = false;
+    unsigned = decimal n;
+    magnitude = n;
+    spelled = decimal_spells n h;
+    value = refl;
+    whole = refl;
+  },
+  refl,
+)
+number_spells (negsuc n) h = (
+  _,
+  record {
+    is_negative = true;
+    unsigned = decimal (suc n);
+    magnitude = suc n;
+    spelled = decimal_spells (suc n) h;
+    value = refl;
+    whole = refl;
+  },
+  refl,
+)
 
 -- a number of any type is that short
 short_signed : (n : ℤ) (k : ℕ) → k ≤ 2 ^ 63 → (neg_ℤ (pos k) ≤ℤ n) × (n <ℤ pos k) → IsShort n

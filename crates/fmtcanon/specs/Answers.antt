@@ -1,5 +1,5 @@
 -- What a question is answered with, and why it is not.
-use Rattle.std.specs.Prelude.{◌≡◌, List, None, Some, map}
+use Rattle.std.specs.Prelude.{◌≡◌, None, Some, map}
 use Rattle.pf_values.specs.Items.{IsAccepted}
 use Rattle.pf_values.specs.Refusals.{IsRefusedAt}
 use Rattle.pf_values.specs.Text.{Text}

@@ -1,5 +1,5 @@
 -- What a run leaves that copies the canonical string of its reader.
-use Rattle.std.specs.Prelude.{◌≡◌, ◌≤◌, ℕ, None, Some, ◌⊎◌}
+use Rattle.std.specs.Prelude.{◌≡◌, ℕ, None, Some, ◌⊎◌}
 use Rattle.pf_values.specs.declared.counting.Counted.{Counted}
 use Rattle.pf_values.specs.Counting.{HasFailed, Known, device_of, failures_of}
 use Rattle.pf_canon.specs.Copying.{CopiesAll, CopyStops}

@@ -27,9 +27,9 @@ pub fn show_lines(alloc: Global, format: &[u8]) -> Result<Vec<u8>, Fault>
         let piece = match piece {
             Ok(piece) => piece,
             Err(refusal) => return Err(Fault::Refused {
-                    side: None,
-                    refusal,
-                }),
+                side: None,
+                refusal,
+            }),
         };
         if push_piece(&mut out, piece).is_err() {
             return Err(Fault::Memory);

@@ -75,11 +75,7 @@ pub fn task_of<'a>(alloc: Global, words: &'a [&'a str]) -> Result<Task<'a>, NoTa
 }
 
 // The task of a subcommand.
-fn named_task<'a>(
-    alloc: Global,
-    name: &str,
-    inner: &ArgMatches<'a>,
-) -> Result<Task<'a>, AllocError>
+fn named_task<'a>(alloc: Global, name: &str, inner: &ArgMatches<'a>) -> Result<Task<'a>, AllocError>
     requires { (words : List Text) × Names words name.now (rows_in inner.now) }
     ensures { IfOk result (λ task. (words : List Text) → Names words name.now (rows_in inner.now) → Asks words task) }
 {

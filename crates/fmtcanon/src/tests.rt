@@ -6,6 +6,8 @@ mod formats;
 mod reductions;
 mod sames;
 mod shows;
+mod stream_rows;
+mod streams;
 mod types;
 
 use crate::outcome::Outcome;
@@ -276,8 +278,20 @@ fn the_words_of_same_are_arguments(rt: HostRuntime) {
     assert!(rt; answers(alloc, ["format", "%.5d", "n:-1"].as_slice(), "-00001"));
     assert!(rt; answers(alloc, ["format", "%hhx", "n:257"].as_slice(), "1"));
     assert!(rt; answers(alloc, ["format", "%hx", "n:257"].as_slice(), "101"));
-    assert!(rt; answers(alloc, ["format", "% 10d", "n:2147483647"].as_slice(), " 2147483647"));
-    assert!(rt; answers(alloc, ["format", "%10d", "n:2147483647"].as_slice(), "2147483647"));
+    assert!(rt;
+        answers(
+            alloc,
+            ["format", "% 10d", "n:2147483647"].as_slice(),
+            " 2147483647"
+        )
+    );
+    assert!(rt;
+        answers(
+            alloc,
+            ["format", "%10d", "n:2147483647"].as_slice(),
+            "2147483647"
+        )
+    );
 }
 
 #[test]
@@ -333,7 +347,7 @@ fn other_words_are_usage(rt: HostRuntime) {
     assert!(rt; is_usage(&rt, ["types", "%d", "%d"].as_slice(), "error: "));
     assert!(rt; is_usage(&rt, ["show"].as_slice(), "error: "));
     assert!(rt; is_usage(&rt, ["show", "%d", "%d"].as_slice(), "error: "));
-    assert!(rt; is_usage(&rt, ["stream"].as_slice(), "error: "));
+    assert!(rt; is_usage(&rt, ["stream", "%d"].as_slice(), "error: "));
     assert!(rt; is_usage(&rt, ["canon"].as_slice(), "error: "));
     assert!(rt; is_usage(&rt, ["canon", "a", "b"].as_slice(), "error: "));
     assert!(rt; is_usage(&rt, ["canon", "-%i"].as_slice(), "error: "));
@@ -391,6 +405,7 @@ fn each_outcome_has_its_status_and_line(rt: HostRuntime) -> Result<(), AllocErro
         ),
         (Outcome::WrongType(12), 3, "argument 12: wrong type\n"),
         (usage, 3, "as it is"),
+        (Outcome::Read, 4, "read failed\n"),
         (Outcome::Write(7), 4, "write failed\n"),
         (Outcome::Memory, 4, "out of memory\n"),
     ];

@@ -93,7 +93,10 @@ fn a_flush_that_fails_is_told_after_all_bytes(rt: HostRuntime) {
             continue;
         };
         let (outcome, writer) = run_over(rt.alloc(), &words, true);
-        assert!(rt; matches!(outcome, Outcome::Write(n) if n == len as u128), "{at}");
+        assert!(rt;
+            matches!(outcome, Outcome::Write(n) if n == len as u128),
+            "{at}"
+        );
         assert_eq!(rt; writer.taken, len, "{at}");
         assert_eq!(rt; writer.flushes, 1, "{at}");
     }

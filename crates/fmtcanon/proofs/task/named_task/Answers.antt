@@ -1,6 +1,6 @@
-use Rattle.std.proofs.Common.{◌≡◌, ◌∙◌, List, [], Option, Some, ap, codes, is_some, option_map, refl, subst, sym, true, unwrap_or}
+use Rattle.std.proofs.Common.{◌≡◌, ◌∙◌, List, [], Some, ap, is_some, option_map, refl, subst, sym, true, unwrap_or}
 use Rattle.clap.specs.Matches.{first_value, found_of, matched_of, raw_values}
-use Rattle.clap.specs.Walk.{Text, first_of}
+use Rattle.clap.specs.Walk.{Text}
 use Rattle.clap.specs.declared.parser.matches.ArgMatches.{ArgMatches}
 use Rattle.clap.proofs.WalkLemmas.{first_value-rows, raw_values-rows}
 use Rattle.fmtcanon.specs.Tasks.{HasAllValues, HasValue, Names, rows_in}

@@ -1,0 +1,52 @@
+//! What `stream` writes, and what it reports of a refused format: rows of a model of the program that is not ours.
+
+#[rattlefmt::skip]
+pub(super) static DONE: [(&[u8], &[u8]); 27] = [
+    (b"%5hd", b"%5hd"),
+    (b"%+5.3ld", b"%+5.3ld"),
+    (b"%05.3zu", b"%5.3lu"),
+    (b"%#0hho", b"0%.0hho"),
+    (b"%#hX", b"%#hX"),
+    (b"%4hhd", b"%4hhd"),
+    (b"%02.0hhd", b"%2.0hhd"),
+    (b"%+1.3hhd", b"%+.3hhd"),
+    (b"% 2.3hhd", b"% .3hhd"),
+    (b"%-+1.3hhd", b"%+.3hhd"),
+    (b"%-+4hhd", b"%-+4hhd"),
+    (b"%- 6.1hhd", b"%- 4hhd  "),
+    (b"%-4hho", b"%-3hho "),
+    (b"%#4hho", b"%#4hho"),
+    (b"%.2hhx", b"%.2hhx"),
+    (b"%-#5.5hhx", b"%#.5hhx"),
+    (b"%#02.1hhx", b"%#2hhx"),
+    (b"%-3.0s", b"   %.0s"),
+    (b"1%-11.0X\x7f%4c\xe6\xbc\xa2%+ .0s%%%+0'5llds:", b"1%-8.0X   \x7f   %c\xe6\xbc\xa2%%%.0s%+.4llds:"),
+    (b"0x%#o\xe6\xbc\xa2%- -.018zx.0s%'02.hhu%+7.014da", b"0x0%.0o\xe6\xbc\xa200%.16lx.0s%2.0hhu%+.14da"),
+    (b"\n%--+6X-%  8.04ho\t%5.0s!", b"\n%-6X-  %6.4ho\t     !%.0s"),
+    (b"%%.0s%00 -2tx0b%- 22.1lo0%'d\t%-02db%+  .1d", b"%%.0s%-2lx0b%-22lo0%d\t%-2db%+d"),
+    (b".0s%hxd%+#14.0001jx%%.0s", b".0s%hxd%#14lx%%.0s"),
+    (b"+%3ho%5.0s0x%'21hi0b%0+15lo\xc3\xa9%#x.0s", b"+%3ho     0x               %.0s%6hd0b%.15lo\xc3\xa9%#x.0s"),
+    (b"-", b"-"),
+    (b"%0#17.17jx%+ .0sd%0+013.i%%.0s%.00022ji\xe6\xbc\xa2%-'0tdtext ", b"%#.17lxd  %.0s%+11.0d%%.0s%.22ld\xe6\xbc\xa2%ldtext "),
+    (b"\t%4.6ss:%5.0s%%.0s%1u", b"\t%4.6ss:     %%.0s%.0s%u"),
+];
+
+#[rattlefmt::skip]
+pub(super) static REFUSED: [(&[u8], &[u8], &str); 16] = [
+    (b"%C", b"", "refused 12 Wide at byte 1\n"),
+    (b"%0'qd", b"", "refused 3 Unexpected at byte 3\n"),
+    (b"%-+ #0'5lhd", b"", "refused 3 Unexpected at byte 9\n"),
+    (b"%#hli", b"", "refused 3 Unexpected at byte 3\n"),
+    (b"%+5.3lhi", b"", "refused 3 Unexpected at byte 6\n"),
+    (b"%#'5.3hhx", b"", "refused 15 GroupUndefined at byte 8\n"),
+    (b"%#'qx", b"", "refused 3 Unexpected at byte 3\n"),
+    (b"%-+ #0'hX", b"", "refused 15 GroupUndefined at byte 8\n"),
+    (b"%#hhc", b"", "refused 13 AltUndefined at byte 4\n"),
+    (b"%-5.3jc", b"", "refused 16 PrecisionUndefined at byte 6\n"),
+    (b"%lhc", b"", "refused 3 Unexpected at byte 2\n"),
+    (b"%0ts", b"", "refused 14 ZeroUndefined at byte 3\n"),
+    (b"%4096.x", b"", "refused 7 WidthTooLarge at byte 4\n"),
+    (b"%#-5o%.0s%.0s\n%0s", b"0%-4.0o\n", "refused 14 ZeroUndefined at byte 16\n"),
+    (b"\x80Lxd\x00", b"\x80Lxd", "refused 1 NulByte at byte 4\n"),
+    (b"!%-.00 05x-%++'33.03hd %", b"!", "refused 3 Unexpected at byte 6\n"),
+];
