@@ -95,13 +95,13 @@ fn first_candidate(
 fn are_one(first: &Hole, second: &Hole) -> bool
     ensures { IsTrue result → first.now ≡ second.now }
 {
-    if first.start != second.start {
-        return false;
-    }
-    if first.end != second.end {
-        return false;
-    }
-    are_equal(&first.directive, &second.directive)
+    have_one_place(first, second) && are_equal(&first.directive, &second.directive)
+}
+
+fn have_one_place(first: &Hole, second: &Hole) -> bool
+    ensures { IsTrue result → (first.now.start ≡ second.now.start) × (first.now.end ≡ second.now.end) }
+{
+    first.start == second.start && first.end == second.end
 }
 
 // The place of the first argument of a row that does.
@@ -130,8 +130,8 @@ fn first_of(
     Ok(None)
 }
 
-// Whether an argument tells two directives apart in their holes. Where both print for it what they print for a
-// neutral one, they lie in the same text, and no more is compared.
+// Whether an argument tells two directives apart in their holes. In one place only what they print is compared, and
+// nothing where both print what they print for a neutral argument.
 fn tell_apart(
     alloc: Global,
     whole: &[u8],
@@ -147,6 +147,9 @@ fn tell_apart(
 {
     let x = print(alloc, &first.directive, argument)?;
     let y = print(alloc, &second.directive, argument)?;
+    if have_one_place(first, second) {
+        return Ok(are_unlike(&x, &y));
+    }
     if stays(whole, first, &x) {
         if stays(whole, second, &y) {
             return Ok(false);

@@ -1,0 +1,39 @@
+//! The caller of CALLING.md.
+use crate::{CompareFault, Verdict, compare, confirms};
+use pf_values::Arg;
+use std::alloc::Global;
+use std::test::Fail;
+
+/// Whether one format may stand for another, and else the first argument that shows why.
+#[derive(Drop)]
+enum Standing {
+    Fits,
+    OtherTypes(u64),
+    PrintsOtherwise(usize),
+}
+
+fn may_stand_for(alloc: Global, old: &[u8], new: &[u8]) -> Result<Standing, CompareFault> {
+    let comparison = compare(alloc, old, new)?;
+    match comparison.verdict {
+        Verdict::Same => Ok(Standing::Fits),
+        Verdict::Types(index) => Ok(Standing::OtherTypes(index)),
+        Verdict::Args(args) => Ok(Standing::PrintsOtherwise(args.len())),
+    }
+}
+
+#[test]
+fn a_caller_asks_whether_one_may_stand_for_another(rt: HostRuntime) {
+    let alloc = rt.alloc();
+    assert!(rt; matches!(may_stand_for(alloc, b"%5c", b"    %c"), Ok(Standing::Fits)));
+    assert!(rt; matches!(may_stand_for(alloc, b"%d %s", b"%s %d"), Ok(Standing::OtherTypes(0))));
+    assert!(rt; matches!(may_stand_for(alloc, b"%d%05d", b"%d%.5d"), Ok(Standing::PrintsOtherwise(2))));
+    assert!(rt; matches!(may_stand_for(alloc, b"%y", b"%d"), Err(CompareFault::Refused(_, _))));
+}
+
+#[test]
+fn a_caller_confirms_arguments(rt: HostRuntime) -> Result<(), Fail> {
+    let alloc = rt.alloc();
+    assert!(rt; confirms(alloc, b"%d%05d", b"%d%.5d", &[Arg::Int(0), Arg::Int(-1)])?);
+    assert!(rt; !confirms(alloc, b"%d%05d", b"%d%.5d", &[Arg::Int(0), Arg::Int(5)])?);
+    Ok(())
+}

@@ -1,0 +1,300 @@
+//! Grids of normal directives of each type: every two are told apart by a candidate.
+use crate::candidate_rows::{owned_row, row_of};
+use crate::layouts::print;
+use pf_reduce::is_normal;
+use pf_text::{Piece, Pieces};
+use pf_values::{Arg, ArgType, Conv, Directive, Flag, FlagSet, Length};
+use std::alloc::Global;
+use std::test::Fail;
+
+static FLAGS: [Flag; 5] = [
+    Flag::Minus,
+    Flag::Plus,
+    Flag::Space,
+    Flag::Alt,
+    Flag::Zero,
+];
+
+static CONVERSIONS: [Conv; 7] = [
+    Conv::D,
+    Conv::U,
+    Conv::O,
+    Conv::X,
+    Conv::UpperX,
+    Conv::C,
+    Conv::S,
+];
+
+static LENGTHS: [Length; 5] = [
+    Length::None,
+    Length::Hh,
+    Length::H,
+    Length::L,
+    Length::Ll,
+];
+
+// As many digits as the greatest precision but one has, for strings.
+const STRING_DIGITS: u16 = 4094;
+
+fn flag_set(bits: u8) -> FlagSet {
+    let mut flags = FlagSet::empty();
+    let mut left = bits;
+    for flag in &FLAGS {
+        if left % 2 == 1 {
+            flags = flags.with(*flag);
+        }
+        left /= 2;
+    }
+    flags
+}
+
+fn push_new(numbers: &mut Vec<Option<u16>>, number: u16) -> Result<(), Fail> {
+    if !numbers.as_slice().contains(&Some(number)) {
+        numbers.push(Some(number))?;
+    }
+    Ok(())
+}
+
+// None, 0, 1, 2, and the most digits but one, and one more.
+fn precisions(alloc: Global, digits: u16) -> Result<Vec<Option<u16>>, Fail> {
+    let mut numbers = Vec::new(alloc);
+    numbers.push(None)?;
+    for number in [0, 1, 2, digits - 1, digits, digits + 1] {
+        push_new(&mut numbers, number)?;
+    }
+    Ok(numbers)
+}
+
+// The same, and one and two more than are printed at most.
+fn widths(alloc: Global, digits: u16, precision: Option<u16>) -> Result<Vec<Option<u16>>, Fail> {
+    let longest = digits.max(precision.unwrap_or(1));
+    let mut numbers = Vec::new(alloc);
+    numbers.push(None)?;
+    for number in [1, 2, digits - 1, digits, digits + 1, longest + 1, longest + 2] {
+        push_new(&mut numbers, number)?;
+    }
+    Ok(numbers)
+}
+
+// The normal directives of a conversion and a modifier, if they take this type.
+fn push_form(
+    alloc: Global,
+    found: &mut Vec<Directive>,
+    wanted: ArgType,
+    conv: Conv,
+    length: Length,
+) -> Result<(), Fail> {
+    let Ok(bare) = Directive::new(FlagSet::empty(), None, None, length, conv) else {
+        return Ok(());
+    };
+    if bare.arg_type() != wanted {
+        return Ok(());
+    }
+    let digits = match conv {
+        Conv::S => STRING_DIGITS,
+        Conv::C => 2,
+        _ => u16::from(bare.max_digits()),
+    };
+    for precision in &precisions(alloc, digits)? {
+        for width in &widths(alloc, digits, *precision)? {
+            for bits in 0..32 {
+                if let Ok(directive) = Directive::new(flag_set(bits), *width, *precision, length, conv) {
+                    if is_normal(&directive) {
+                        found.push(directive)?;
+                    }
+                }
+            }
+        }
+    }
+    Ok(())
+}
+
+fn grid(alloc: Global, wanted: ArgType) -> Result<Vec<Directive>, Fail> {
+    let mut found = Vec::new(alloc);
+    for conv in &CONVERSIONS {
+        for length in &LENGTHS {
+            push_form(alloc, &mut found, wanted, *conv, *length)?;
+        }
+    }
+    Ok(found)
+}
+
+// What a directive prints for each candidate.
+fn texts_of(alloc: Global, directive: &Directive, row: &[Arg<'_>]) -> Result<Vec<Vec<u8>>, Fail> {
+    let mut texts = Vec::new(alloc);
+    for argument in row {
+        texts.push(print(alloc, directive, *argument)?)?;
+    }
+    Ok(texts)
+}
+
+// Where two rows of texts differ.
+#[derive(Clone, Copy, PartialEq, Eq)]
+enum Told {
+    Nowhere,
+    Once(usize),
+    Often,
+}
+
+fn how_told(first: &[Vec<u8>], second: &[Vec<u8>]) -> Told {
+    let mut found = Told::Nowhere;
+    for place in 0..first.len() {
+        if first[place].as_slice() != second[place].as_slice() {
+            found = match found {
+                Told::Nowhere => Told::Once(place),
+                _ => return Told::Often,
+            };
+        }
+    }
+    found
+}
+
+// Every two of a grid: how many are told apart by no candidate, and how many by each candidate alone.
+#[derive(Drop)]
+struct Tally {
+    pairs: usize,
+    untold: usize,
+    alone: Vec<usize>,
+}
+
+fn tallied(alloc: Global, wanted: ArgType) -> Result<Tally, Fail> {
+    let owned = owned_row(alloc, wanted)?;
+    let row = row_of(alloc, &owned)?;
+    let mut texts = Vec::new(alloc);
+    for directive in &grid(alloc, wanted)? {
+        texts.push(texts_of(alloc, directive, &row)?)?;
+    }
+    let mut alone = Vec::new(alloc);
+    alone.resize(row.len(), 0)?;
+    let mut tally = Tally {
+        pairs: 0,
+        untold: 0,
+        alone,
+    };
+    for second in 0..texts.len() {
+        for first in 0..second {
+            tally.pairs += 1;
+            match how_told(&texts[first], &texts[second]) {
+                Told::Nowhere => tally.untold += 1,
+                Told::Once(place) => tally.alone[place] += 1,
+                Told::Often => {}
+            }
+        }
+    }
+    Ok(tally)
+}
+
+// Whether every two are told apart, and just these candidates are needed for it: without one of them two directives
+// of the grid fall together, and without any other none do.
+fn are_told_by(alloc: Global, wanted: ArgType, needed: &[bool]) -> Result<bool, Fail> {
+    let tally = tallied(alloc, wanted)?;
+    let mut as_needed = tally.alone.len() == needed.len();
+    for place in 0..needed.len() {
+        as_needed = as_needed && (tally.alone[place] > 0) == needed[place];
+    }
+    Ok(tally.pairs > 700 && tally.untold == 0 && as_needed)
+}
+
+#[test]
+fn every_two_ints(rt: HostRuntime) -> Result<(), Fail> {
+    // 0, -1, 127, 32767 and 2147483647
+    let needed = [
+        true, false, false, false, false, false, true, false, false, false, false, false, false, true,
+        true, true,
+    ];
+    assert!(rt; are_told_by(rt.alloc(), ArgType::Int, &needed)?);
+    Ok(())
+}
+
+#[test]
+fn every_two_unsigned(rt: HostRuntime) -> Result<(), Fail> {
+    // 0 and the greatest
+    let needed = [true, false, false, true];
+    assert!(rt; are_told_by(rt.alloc(), ArgType::UInt, &needed)?);
+    assert!(rt; are_told_by(rt.alloc(), ArgType::ULong, &needed)?);
+    assert!(rt; are_told_by(rt.alloc(), ArgType::ULongLong, &needed)?);
+    Ok(())
+}
+
+#[test]
+fn every_two_signed(rt: HostRuntime) -> Result<(), Fail> {
+    // 0, 1, -1 and the greatest
+    let needed = [true, true, true, false, true];
+    assert!(rt; are_told_by(rt.alloc(), ArgType::Long, &needed)?);
+    assert!(rt; are_told_by(rt.alloc(), ArgType::LongLong, &needed)?);
+    Ok(())
+}
+
+#[test]
+fn every_two_strings(rt: HostRuntime) -> Result<(), Fail> {
+    // the empty one and `A`
+    assert!(rt; are_told_by(rt.alloc(), ArgType::Str, &[true, true, false, false])?);
+    Ok(())
+}
+
+fn directive_of(format: &str) -> Option<Directive> {
+    let piece = Pieces::new(format.as_bytes()).next()?.ok()?;
+    match piece {
+        Piece::Directive(directive) => Some(directive),
+        _ => None,
+    }
+}
+
+// Where two formats of one directive each differ.
+fn told_formats(alloc: Global, f: &str, g: &str) -> Result<Told, Fail> {
+    let (Some(first), Some(second)) = (directive_of(f), directive_of(g)) else {
+        return Ok(Told::Nowhere);
+    };
+    let owned = owned_row(alloc, first.arg_type())?;
+    let row = row_of(alloc, &owned)?;
+    let x = texts_of(alloc, &first, &row)?;
+    let y = texts_of(alloc, &second, &row)?;
+    Ok(how_told(&x, &y))
+}
+
+// Two directives, and the place of the one candidate that tells them apart.
+#[rattlefmt::skip]
+static TOLD_BY_ONE: [(&str, &str, usize); 14] = [
+    ("%d", "%.0d", 0),
+    ("%02d", "%.2d", 6),
+    ("% hhd", "%2hhd", 13),
+    ("%4hd", "% 4hd", 14),
+    ("%9d", "% 9d", 15),
+    ("%u", "%.0u", 0),
+    ("%u", "%o", 3),
+    ("%lu", "%lo", 3),
+    ("%ld", "%.0ld", 0),
+    ("%2.0ld", "%-2.0ld", 1),
+    ("%02ld", "%.2ld", 2),
+    ("% ld", "%2ld", 4),
+    ("%s", "%1s", 0),
+    ("%2s", "%-2s", 1),
+];
+
+#[test]
+fn one_candidate_alone(rt: HostRuntime) -> Result<(), Fail> {
+    for (f, g, place) in &TOLD_BY_ONE {
+        assert!(rt; told_formats(rt.alloc(), f, g)? == Told::Once(*place), "{f} {g}");
+    }
+    Ok(())
+}
+
+#[rattlefmt::skip]
+static INTS: [&str; 16] = [
+    "%d", "%hd", "%hhd", "%c", "%hhu", "%hu", "%hhx", "%hx", "%hho", "%ho", "%+d", "% d",
+    "%.0d", "%5d", "%-5d", "%05d",
+];
+
+#[test]
+fn every_two_of_sixteen(rt: HostRuntime) -> Result<(), Fail> {
+    let mut pairs = 0;
+    for second in 0..INTS.len() {
+        for first in 0..second {
+            let found = told_formats(rt.alloc(), INTS[first], INTS[second])?;
+            assert!(rt; found != Told::Nowhere, "{} {}", INTS[first], INTS[second]);
+            pairs += 1;
+        }
+    }
+    assert_eq!(rt; pairs, 120);
+    Ok(())
+}
