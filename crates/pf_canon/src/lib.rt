@@ -13,6 +13,7 @@ mod putting;
 mod reading;
 mod recognizing;
 mod sides;
+mod sources;
 mod streaming;
 #[cfg(test)]
 mod tests;
