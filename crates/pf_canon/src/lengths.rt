@@ -1,0 +1,70 @@
+//! How long a canonical text is.
+ghost use Rattle.std.specs.Prelude.{◌≡◌, ◌+◌, ◌*◌, length, MatchResult};
+ghost use Rattle.pf_values.specs.Refusals.{IsRefusedAt};
+ghost use Rattle.pf_values.specs.Text.{Text};
+ghost use Rattle.pf_canon.specs.Answers.{IsCanonicalFor};
+ghost use Rattle.pf_canon.specs.Parts.{parts_text};
+ghost use Rattle.pf_canon.specs.Through.{IsFrontWithin, front_text};
+
+use crate::parts::Parts;
+use crate::transducing::{Front, Made, Transducer};
+use pf_text::Refusal;
+
+/// How many bytes the canonical text of a format has, or the format's refusal. It takes no memory.
+pub fn canonical_len(text: &[u8]) -> Result<u128, Refusal>
+    ensures { MatchResult result (λ len. (c : Text) × IsCanonicalFor text.now c × (len ≡ length c)) (λ refusal. IsRefusedAt text.now refusal.kind refusal.at) }
+{
+    let mut transducer = Transducer::new();
+    let mut len = 0u128;
+    let mut at = 0;
+    while at < text.len() {
+        let rest = &text[at..];
+        let front = match transducer.feed_front(rest) {
+            Ok(front) => front,
+            Err(refusal) => return Err(refusal),
+        };
+        len += front.settled_len(rest);
+        at += front.len;
+    }
+    match transducer.finish() {
+        Ok(parts) => Ok(len + parts.len()),
+        Err(refusal) => Err(refusal),
+    }
+}
+
+impl Front {
+    // How many bytes it settles.
+    fn settled_len(&self, text: &[u8]) -> u128
+        requires { IsFrontWithin self.now text.now }
+        ensures { result ≡ length (front_text self.now text.now) }
+    {
+        match &self.made {
+            Made::Nothing => 0,
+            Made::Literal => text[self.start..self.len].len() as u128,
+            Made::Parts(parts) => parts.len(),
+        }
+    }
+}
+
+impl Parts {
+    // How many bytes they are.
+    fn len(&self) -> u128
+        ensures { result ≡ length (parts_text self.now) }
+    {
+        whole_len(
+            self.spaces,
+            self.zeros,
+            self.silents,
+            self.spelling.len(),
+            self.trail,
+        )
+    }
+}
+
+// How many bytes some padding, silent directives of four bytes, and a spelling of so many bytes are.
+fn whole_len(spaces: u16, zeros: u16, silents: u64, spelling: usize, trail: u16) -> u128
+    ensures { result ≡ spaces + (zeros + (4 * silents + (spelling + trail))) }
+{
+    let padding = u128::from(spaces) + u128::from(zeros) + u128::from(trail);
+    padding + u128::from(silents) * 4 + spelling as u128
+}
