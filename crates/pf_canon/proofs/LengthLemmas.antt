@@ -3,6 +3,7 @@ use Rattle.std.proofs.Common.{◌≡◌, ◌∙◌, ℕ, ◌+◌, ◌*◌, ◌^�
 use Rattle.std.proofs.lemmas.List.{length-append}
 use Rattle.pf_values.specs.Items.{Item}
 use Rattle.pf_values.specs.Text.{Text}
+use Rattle.pf_canon.specs.declared.limits.TheConstants.{MAX_DIRECTIVE_LEN}
 use Rattle.pf_canon.specs.declared.parts.Parts.{Parts}
 use Rattle.pf_canon.specs.declared.transducing.Front.{Front}
 use Rattle.pf_canon.specs.declared.transducing.Transducer.{Transducer}
@@ -11,6 +12,10 @@ use Rattle.pf_canon.specs.Parts.{parts_text}
 use Rattle.pf_canon.specs.Through.{Ends, GrowsBy, IsThrough, front_text}
 use Rattle.pf_canon.proofs.BuildingLemmas.{all_built, built_more}
 use Rattle.pf_canon.proofs.ThroughLemmas.{through_few}
+
+-- the limit
+max_directive_len : MAX_DIRECTIVE_LEN ≡ 4120
+max_directive_len = refl
 
 module _ (t out : Text) (at len n : ℕ) (len_is : len ≡ length out) where
   -- the front of the rest of the text was taken
