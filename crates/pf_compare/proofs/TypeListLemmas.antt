@@ -102,9 +102,9 @@ differ_after_front : (done xs ys us vs : List ArgType) (index : ℕ) → xs ≡ 
 differ_after_front done xs ys us vs index e f at h =
     let here : DifferFirstAt (done ++ us) (done ++ vs) (length done)
     = record {
-        same = take_whole done us ∙ sym (take_whole done vs);
-        differ = λ same. h (sym (get_after done us) ∙ same ∙ get_after done vs);
-      } in
+      same = take_whole done us ∙ sym (take_whole done vs);
+      differ = λ same. h (sym (get_after done us) ∙ same ∙ get_after done vs);
+    } in
     subst (λ l. DifferFirstAt l ys index) (sym e) (subst (λ l. DifferFirstAt (done ++ us) l index) (sym f) (subst (DifferFirstAt (done ++ us) (done ++ vs)) (sym at) here))
 
 none_there : (done xs : List ArgType) → xs ≡ done → xs ≡ done ++ []

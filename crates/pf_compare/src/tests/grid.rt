@@ -7,13 +7,7 @@ use pf_values::{Arg, ArgType, Conv, Directive, Flag, FlagSet, Length};
 use std::alloc::Global;
 use std::test::Fail;
 
-static FLAGS: [Flag; 5] = [
-    Flag::Minus,
-    Flag::Plus,
-    Flag::Space,
-    Flag::Alt,
-    Flag::Zero,
-];
+static FLAGS: [Flag; 5] = [Flag::Minus, Flag::Plus, Flag::Space, Flag::Alt, Flag::Zero];
 
 static CONVERSIONS: [Conv; 7] = [
     Conv::D,
@@ -25,13 +19,7 @@ static CONVERSIONS: [Conv; 7] = [
     Conv::S,
 ];
 
-static LENGTHS: [Length; 5] = [
-    Length::None,
-    Length::Hh,
-    Length::H,
-    Length::L,
-    Length::Ll,
-];
+static LENGTHS: [Length; 5] = [Length::None, Length::Hh, Length::H, Length::L, Length::Ll];
 
 // As many digits as the greatest precision but one has, for strings.
 const STRING_DIGITS: u16 = 4094;
@@ -59,7 +47,14 @@ fn push_new(numbers: &mut Vec<Option<u16>>, number: u16) -> Result<(), Fail> {
 fn precisions(alloc: Global, digits: u16) -> Result<Vec<Option<u16>>, Fail> {
     let mut numbers = Vec::new(alloc);
     numbers.push(None)?;
-    for number in [0, 1, 2, digits.saturating_sub(1), digits, digits.saturating_add(1)] {
+    for number in [
+        0,
+        1,
+        2,
+        digits.saturating_sub(1),
+        digits,
+        digits.saturating_add(1),
+    ] {
         push_new(&mut numbers, number)?;
     }
     Ok(numbers)
@@ -70,7 +65,15 @@ fn widths(alloc: Global, digits: u16, precision: Option<u16>) -> Result<Vec<Opti
     let longest = digits.max(precision.unwrap_or(1));
     let mut numbers = Vec::new(alloc);
     numbers.push(None)?;
-    for number in [1, 2, digits.saturating_sub(1), digits, digits.saturating_add(1), longest.saturating_add(1), longest.saturating_add(2)] {
+    for number in [
+        1,
+        2,
+        digits.saturating_sub(1),
+        digits,
+        digits.saturating_add(1),
+        longest.saturating_add(1),
+        longest.saturating_add(2),
+    ] {
         push_new(&mut numbers, number)?;
     }
     Ok(numbers)
@@ -98,7 +101,13 @@ fn push_form(
     for precision in &precisions(alloc, digits)? {
         for width in &widths(alloc, digits, *precision)? {
             for bits in 0..32 {
-                if let Ok(directive) = Directive::new(flag_set(bits), *width, *precision, length, conv) {
+                if let Ok(directive) = Directive::new(
+                    flag_set(bits),
+                    *width,
+                    *precision,
+                    length,
+                    conv,
+                ) {
                     if is_normal(&directive) {
                         found.push(directive)?;
                     }
@@ -224,8 +233,8 @@ fn are_told_by(alloc: Global, wanted: ArgType, needed: &[bool]) -> Result<bool, 
 fn every_two_ints(rt: HostRuntime) -> Result<(), Fail> {
     // 0, -1, 127, 32767 and 2147483647
     let needed = [
-        true, false, false, false, false, false, true, false, false, false, false, false, false, true,
-        true, true,
+        true, false, false, false, false, false, true, false, false, false, false, false, false,
+        true, true, true,
     ];
     assert!(rt; are_told_by(rt.alloc(), ArgType::Int, &needed)?);
     Ok(())
@@ -303,7 +312,10 @@ static TOLD_BY_ONE: [(&str, &str, usize); 14] = [
 #[test]
 fn one_candidate_alone(rt: HostRuntime) -> Result<(), Fail> {
     for (f, g, place) in &TOLD_BY_ONE {
-        assert!(rt; told_formats(rt.alloc(), f, g)? == Told::Once(*place), "{f} {g}");
+        assert!(rt;
+            told_formats(rt.alloc(), f, g)? == Told::Once(*place),
+            "{f} {g}"
+        );
     }
     Ok(())
 }
