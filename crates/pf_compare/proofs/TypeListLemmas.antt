@@ -93,18 +93,18 @@ pub record AreInStep (first second : Pieces) (f g : Text) (index : ℕ) : Type 0
   pub second_taken : HasTaken second g done
   pub count : index ≡ length done
 
-get_behind : (xs ys : List ArgType) → slice_get (xs ++ ys) (length xs) ≡ slice_get ys 0
-get_behind [] ys = refl
-get_behind (x ∷ xs) ys = get_behind xs ys
+get_after : (xs ys : List ArgType) → slice_get (xs ++ ys) (length xs) ≡ slice_get ys 0
+get_after [] ys = refl
+get_after (x ∷ xs) ys = get_after xs ys
 
 -- two lists begin alike, and then differ
-differ_behind : (done xs ys us vs : List ArgType) (index : ℕ) → xs ≡ done ++ us → ys ≡ done ++ vs → index ≡ length done → slice_get us 0 ≢ slice_get vs 0 → DifferFirstAt xs ys index
-differ_behind done xs ys us vs index e f at h =
+differ_after_front : (done xs ys us vs : List ArgType) (index : ℕ) → xs ≡ done ++ us → ys ≡ done ++ vs → index ≡ length done → slice_get us 0 ≢ slice_get vs 0 → DifferFirstAt xs ys index
+differ_after_front done xs ys us vs index e f at h =
     let here : DifferFirstAt (done ++ us) (done ++ vs) (length done)
     = record {
-        same = take_whole done us ∙ sym (take_whole done vs);
-        differ = λ same. h (sym (get_behind done us) ∙ same ∙ get_behind done vs);
-      } in
+      same = take_whole done us ∙ sym (take_whole done vs);
+      differ = λ same. h (sym (get_after done us) ∙ same ∙ get_after done vs);
+    } in
     subst (λ l. DifferFirstAt l ys index) (sym e) (subst (λ l. DifferFirstAt (done ++ us) l index) (sym f) (subst (DifferFirstAt (done ++ us) (done ++ vs)) (sym at) here))
 
 none_there : (done xs : List ArgType) → xs ≡ done → xs ≡ done ++ []
@@ -118,11 +118,11 @@ pub differ_here : (first second : Pieces) (f g : Text) (done : List ArgType) (in
     → HasTaken first f (done ++ wanted ∷ []) → MatchOption given (HasTypes g done) (λ type. HasTaken second g (done ++ type ∷ [])) → given ≢ Some wanted → Reads f xs → Reads g ys → DifferFirstAt (types xs) (types ys) index
 differ_here first second f g done index wanted None xs ys at h k other a b =
     let one = some_there first f done wanted xs h a in
-    differ_behind done (types xs) (types ys) (wanted ∷ one.0) [] index one.1 (none_there done (types ys) (types_of_all g done ys k b)) at (λ e. cc)
+    differ_after_front done (types xs) (types ys) (wanted ∷ one.0) [] index one.1 (none_there done (types ys) (types_of_all g done ys k b)) at (λ e. cc)
 differ_here first second f g done index wanted (Some type) xs ys at h k other a b =
     let one = some_there first f done wanted xs h a in
     let two = some_there second g done type ys k b in
-    differ_behind done (types xs) (types ys) (wanted ∷ one.0) (type ∷ two.0) index one.1 two.1 at (λ e. other (sym e))
+    differ_after_front done (types xs) (types ys) (wanted ∷ one.0) (type ∷ two.0) index one.1 two.1 at (λ e. other (sym e))
 
 -- The same type comes in both.
 pub stepped : (first second : Pieces) (f g : Text) (done : List ArgType) (index : ℕ) (wanted : ArgType) (given : Option ArgType) → index ≡ length done
@@ -142,7 +142,7 @@ pub differ_after : (second : Pieces) (f g : Text) (done : List ArgType) (index :
     → HasTypes f done → HasTaken second g (done ++ type ∷ []) → Reads f xs → Reads g ys → DifferFirstAt (types xs) (types ys) index
 differ_after second f g done index type xs ys at h k a b =
     let two = some_there second g done type ys k b in
-    differ_behind done (types xs) (types ys) [] (type ∷ two.0) index (none_there done (types xs) (types_of_all f done xs h a)) two.1 at (λ e. cc)
+    differ_after_front done (types xs) (types ys) [] (type ∷ two.0) index (none_there done (types xs) (types_of_all f done xs h a)) two.1 at (λ e. cc)
 
 pub same_lists_of : (f g : Text) (done : List ArgType) (xs ys : List Item) → HasTypes f done → HasTypes g done → Reads f xs → Reads g ys → types xs ≡ types ys
 same_lists_of f g done xs ys h k a b = types_of_all f done xs h a ∙ sym (types_of_all g done ys k b)

@@ -7,14 +7,14 @@ use pf_values::{Conv, Directive, Flag, FlagSet, Length};
 pub(crate) fn are_equal(first: &Directive, second: &Directive) -> bool
     ensures { IsTrue result → first.now ≡ second.now }
 {
-    have_flags(first.flags(), second.flags())
-        && have_number(first.width(), second.width())
-        && have_number(first.precision(), second.precision())
-        && have_length(first.length(), second.length())
-        && have_conv(first.conv(), second.conv())
+    same_flags(first.flags(), second.flags())
+        && same_number(first.width(), second.width())
+        && same_number(first.precision(), second.precision())
+        && same_length(first.length(), second.length())
+        && same_conv(first.conv(), second.conv())
 }
 
-fn have_flags(first: FlagSet, second: FlagSet) -> bool
+fn same_flags(first: FlagSet, second: FlagSet) -> bool
     ensures { IsTrue result → first ≡ second }
 {
     first.has(Flag::Minus) == second.has(Flag::Minus)
@@ -25,19 +25,19 @@ fn have_flags(first: FlagSet, second: FlagSet) -> bool
         && first.has(Flag::Group) == second.has(Flag::Group)
 }
 
-fn have_number(first: Option<u16>, second: Option<u16>) -> bool
+fn same_number(first: Option<u16>, second: Option<u16>) -> bool
     ensures { IsTrue result → first ≡ second }
 {
     first == second
 }
 
-fn have_length(first: Length, second: Length) -> bool
+fn same_length(first: Length, second: Length) -> bool
     ensures { IsTrue result → first ≡ second }
 {
     first == second
 }
 
-fn have_conv(first: Conv, second: Conv) -> bool
+fn same_conv(first: Conv, second: Conv) -> bool
     ensures { IsTrue result → first ≡ second }
 {
     first == second

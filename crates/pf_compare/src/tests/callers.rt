@@ -25,9 +25,24 @@ fn may_stand_for(alloc: Global, old: &[u8], new: &[u8]) -> Result<Standing, Comp
 fn a_caller_asks_whether_one_may_stand_for_another(rt: HostRuntime) {
     let alloc = rt.alloc();
     assert!(rt; matches!(may_stand_for(alloc, b"%5c", b"    %c"), Ok(Standing::Fits)));
-    assert!(rt; matches!(may_stand_for(alloc, b"%d %s", b"%s %d"), Ok(Standing::OtherTypes(0))));
-    assert!(rt; matches!(may_stand_for(alloc, b"%d%05d", b"%d%.5d"), Ok(Standing::PrintsOtherwise(2))));
-    assert!(rt; matches!(may_stand_for(alloc, b"%y", b"%d"), Err(CompareFault::Refused(_, _))));
+    assert!(rt;
+        matches!(
+            may_stand_for(alloc, b"%d %s", b"%s %d"),
+            Ok(Standing::OtherTypes(0))
+        )
+    );
+    assert!(rt;
+        matches!(
+            may_stand_for(alloc, b"%d%05d", b"%d%.5d"),
+            Ok(Standing::PrintsOtherwise(2))
+        )
+    );
+    assert!(rt;
+        matches!(
+            may_stand_for(alloc, b"%y", b"%d"),
+            Err(CompareFault::Refused(_, _))
+        )
+    );
 }
 
 #[test]

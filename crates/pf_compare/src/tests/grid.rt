@@ -1,19 +1,13 @@
 //! Grids of normal directives of each type: every two are told apart by a candidate.
 use crate::candidate_rows::{owned_row, row_of};
-use crate::layouts::print;
 use pf_reduce::is_normal;
-use pf_text::{Piece, Pieces};
+use pf_render::render_vec;
+use pf_text::{Piece, Pieces, spell};
 use pf_values::{Arg, ArgType, Conv, Directive, Flag, FlagSet, Length};
 use std::alloc::Global;
 use std::test::Fail;
 
-static FLAGS: [Flag; 5] = [
-    Flag::Minus,
-    Flag::Plus,
-    Flag::Space,
-    Flag::Alt,
-    Flag::Zero,
-];
+static FLAGS: [Flag; 5] = [Flag::Minus, Flag::Plus, Flag::Space, Flag::Alt, Flag::Zero];
 
 static CONVERSIONS: [Conv; 7] = [
     Conv::D,
@@ -25,13 +19,7 @@ static CONVERSIONS: [Conv; 7] = [
     Conv::S,
 ];
 
-static LENGTHS: [Length; 5] = [
-    Length::None,
-    Length::Hh,
-    Length::H,
-    Length::L,
-    Length::Ll,
-];
+static LENGTHS: [Length; 5] = [Length::None, Length::Hh, Length::H, Length::L, Length::Ll];
 
 // As many digits as the greatest precision but one has, for strings.
 const STRING_DIGITS: u16 = 4094;
@@ -59,7 +47,14 @@ fn push_new(numbers: &mut Vec<Option<u16>>, number: u16) -> Result<(), Fail> {
 fn precisions(alloc: Global, digits: u16) -> Result<Vec<Option<u16>>, Fail> {
     let mut numbers = Vec::new(alloc);
     numbers.push(None)?;
-    for number in [0, 1, 2, digits - 1, digits, digits + 1] {
+    for number in [
+        0,
+        1,
+        2,
+        digits.saturating_sub(1),
+        digits,
+        digits.saturating_add(1),
+    ] {
         push_new(&mut numbers, number)?;
     }
     Ok(numbers)
@@ -70,7 +65,15 @@ fn widths(alloc: Global, digits: u16, precision: Option<u16>) -> Result<Vec<Opti
     let longest = digits.max(precision.unwrap_or(1));
     let mut numbers = Vec::new(alloc);
     numbers.push(None)?;
-    for number in [1, 2, digits - 1, digits, digits + 1, longest + 1, longest + 2] {
+    for number in [
+        1,
+        2,
+        digits.saturating_sub(1),
+        digits,
+        digits.saturating_add(1),
+        longest.saturating_add(1),
+        longest.saturating_add(2),
+    ] {
         push_new(&mut numbers, number)?;
     }
     Ok(numbers)
@@ -98,7 +101,13 @@ fn push_form(
     for precision in &precisions(alloc, digits)? {
         for width in &widths(alloc, digits, *precision)? {
             for bits in 0..32 {
-                if let Ok(directive) = Directive::new(flag_set(bits), *width, *precision, length, conv) {
+                if let Ok(directive) = Directive::new(
+                    flag_set(bits),
+                    *width,
+                    *precision,
+                    length,
+                    conv,
+                ) {
                     if is_normal(&directive) {
                         found.push(directive)?;
                     }
@@ -123,7 +132,10 @@ fn grid(alloc: Global, wanted: ArgType) -> Result<Vec<Directive>, Fail> {
 fn texts_of(alloc: Global, directive: &Directive, row: &[Arg<'_>]) -> Result<Vec<Vec<u8>>, Fail> {
     let mut texts = Vec::new(alloc);
     for argument in row {
-        texts.push(print(alloc, directive, *argument)?)?;
+        match render_vec(alloc, &spell(directive), &[*argument]) {
+            Ok(text) => texts.push(text)?,
+            Err(_) => return Ok(texts),
+        }
     }
     Ok(texts)
 }
@@ -139,7 +151,10 @@ enum Told {
 fn how_told(first: &[Vec<u8>], second: &[Vec<u8>]) -> Told {
     let mut found = Told::Nowhere;
     for place in 0..first.len() {
-        if first[place].as_slice() != second[place].as_slice() {
+        let Some(other) = second.get(place) else {
+            return Told::Nowhere;
+        };
+        if first[place].as_slice() != other.as_slice() {
             found = match found {
                 Told::Nowhere => Told::Once(place),
                 _ => return Told::Often,
@@ -173,34 +188,53 @@ fn tallied(alloc: Global, wanted: ArgType) -> Result<Tally, Fail> {
     };
     for second in 0..texts.len() {
         for first in 0..second {
-            tally.pairs += 1;
-            match how_told(&texts[first], &texts[second]) {
-                Told::Nowhere => tally.untold += 1,
-                Told::Once(place) => tally.alone[place] += 1,
-                Told::Often => {}
-            }
+            tally.count(how_told(&texts[first], &texts[second]));
         }
     }
     Ok(tally)
+}
+
+impl Tally {
+    fn count(&mut self, found: Told) {
+        self.pairs = self.pairs.saturating_add(1);
+        match found {
+            Told::Nowhere => self.untold = self.untold.saturating_add(1),
+            Told::Once(place) => {
+                if let Some(count) = self.alone.get_mut(place) {
+                    *count = count.saturating_add(1);
+                }
+            }
+            Told::Often => {}
+        }
+    }
+
+    // Whether just these candidates tell some pair apart alone.
+    fn needs(&self, needed: &[bool]) -> bool {
+        if self.alone.len() != needed.len() {
+            return false;
+        }
+        for place in 0..self.alone.len() {
+            if needed.get(place) != Some(&(self.alone[place] > 0)) {
+                return false;
+            }
+        }
+        true
+    }
 }
 
 // Whether every two are told apart, and just these candidates are needed for it: without one of them two directives
 // of the grid fall together, and without any other none do.
 fn are_told_by(alloc: Global, wanted: ArgType, needed: &[bool]) -> Result<bool, Fail> {
     let tally = tallied(alloc, wanted)?;
-    let mut as_needed = tally.alone.len() == needed.len();
-    for place in 0..needed.len() {
-        as_needed = as_needed && (tally.alone[place] > 0) == needed[place];
-    }
-    Ok(tally.pairs > 700 && tally.untold == 0 && as_needed)
+    Ok(tally.pairs > 700 && tally.untold == 0 && tally.needs(needed))
 }
 
 #[test]
 fn every_two_ints(rt: HostRuntime) -> Result<(), Fail> {
     // 0, -1, 127, 32767 and 2147483647
     let needed = [
-        true, false, false, false, false, false, true, false, false, false, false, false, false, true,
-        true, true,
+        true, false, false, false, false, false, true, false, false, false, false, false, false,
+        true, true, true,
     ];
     assert!(rt; are_told_by(rt.alloc(), ArgType::Int, &needed)?);
     Ok(())
@@ -232,10 +266,14 @@ fn every_two_strings(rt: HostRuntime) -> Result<(), Fail> {
     Ok(())
 }
 
+// The one directive that a format is.
 fn directive_of(format: &str) -> Option<Directive> {
-    let piece = Pieces::new(format.as_bytes()).next()?.ok()?;
-    match piece {
-        Piece::Directive(directive) => Some(directive),
+    let mut pieces = Pieces::new(format.as_bytes());
+    match pieces.next() {
+        Some(Ok(piece)) => match piece {
+            Piece::Directive(directive) => Some(directive),
+            _ => None,
+        },
         _ => None,
     }
 }
@@ -274,7 +312,10 @@ static TOLD_BY_ONE: [(&str, &str, usize); 14] = [
 #[test]
 fn one_candidate_alone(rt: HostRuntime) -> Result<(), Fail> {
     for (f, g, place) in &TOLD_BY_ONE {
-        assert!(rt; told_formats(rt.alloc(), f, g)? == Told::Once(*place), "{f} {g}");
+        assert!(rt;
+            told_formats(rt.alloc(), f, g)? == Told::Once(*place),
+            "{f} {g}"
+        );
     }
     Ok(())
 }
@@ -287,12 +328,12 @@ static INTS: [&str; 16] = [
 
 #[test]
 fn every_two_of_sixteen(rt: HostRuntime) -> Result<(), Fail> {
-    let mut pairs = 0;
+    let mut pairs = 0u32;
     for second in 0..INTS.len() {
         for first in 0..second {
             let found = told_formats(rt.alloc(), INTS[first], INTS[second])?;
             assert!(rt; found != Told::Nowhere, "{} {}", INTS[first], INTS[second]);
-            pairs += 1;
+            pairs = pairs.saturating_add(1);
         }
     }
     assert_eq!(rt; pairs, 120);

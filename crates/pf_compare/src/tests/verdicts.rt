@@ -21,7 +21,12 @@ fn write_arg(out: &mut String, arg: &OwnedArg) -> Result<(), Fail> {
         OwnedArg::Str(bytes) => match bytes.as_bytes().bytes() {
             [] => write!(out, " s:")?,
             [byte] => write!(out, " s:{}", char::from(*byte))?,
-            [byte, ..] => write!(out, " s:{}*{}", char::from(*byte), bytes.as_bytes().bytes().len())?,
+            [byte, ..] => write!(
+                out,
+                " s:{}*{}",
+                char::from(*byte),
+                bytes.as_bytes().bytes().len()
+            )?,
         },
     }
     Ok(())
@@ -43,8 +48,18 @@ fn shown(alloc: Global, f: &[u8], g: &[u8]) -> Result<String, Fail> {
                 }
             }
         },
-        Err(CompareFault::Refused(Side::First, refusal)) => write!(out, "first {} {}", refusal.kind.number(), refusal.at)?,
-        Err(CompareFault::Refused(Side::Second, refusal)) => write!(out, "second {} {}", refusal.kind.number(), refusal.at)?,
+        Err(CompareFault::Refused(Side::First, refusal)) => write!(
+            out,
+            "first {} {}",
+            refusal.kind.number(),
+            refusal.at
+        )?,
+        Err(CompareFault::Refused(Side::Second, refusal)) => write!(
+            out,
+            "second {} {}",
+            refusal.kind.number(),
+            refusal.at
+        )?,
         Err(CompareFault::Memory) => write!(out, "memory")?,
     }
     Ok(out)
