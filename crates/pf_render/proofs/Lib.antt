@@ -5,4 +5,5 @@ mod TextLemmas
 mod PrintingLemmas
 mod ItemLemmas
 mod MatchingLemmas
+mod ProgressLemmas
 mod FormatLemmas

@@ -1,9 +1,9 @@
 -- How a tally goes on, and what it says at the end.
-use Rattle.std.proofs.Common.{◌≡◌, ◌≢◌, ℕ, zero, suc, ◌+◌, ◌<◌, ◌≤◌, List, [], ◌∷◌, ◌++◌, length, map, take, refl, sym, ap, ◌∙◌, subst, arith, inl, inr, Ok, Result, Some}
-use Rattle.std.specs.Prelude.{slice_get}
+use Rattle.std.proofs.Common.{◌≡◌, ◌≢◌, ℕ, zero, suc, ◌+◌, ◌<◌, ◌≤◌, List, [], ◌∷◌, ◌++◌, length, map, take, refl, sym, ap, ◌∙◌, subst, arith, inl, inr, Ok, Err, None, Result, Some}
+use Rattle.std.specs.Prelude.{OnOk, slice_get}
 use Rattle.std.specs.List.{AllZip}
 use Rattle.std.proofs.lemmas.Bool.{cases_lt}
-use Rattle.std.proofs.lemmas.List.{length_push, take_all, take-map, take-append-le}
+use Rattle.std.proofs.lemmas.List.{append-nil, length_push, take_all, take-map, take-append-le}
 use Rattle.pf_values.specs.declared.arguments.Arg.{Arg}
 use Rattle.pf_values.specs.declared.limits.TheConstants.{MAX_TEXT_LEN}
 use Rattle.pf_values.specs.declared.types.ArgType.{ArgType}
@@ -17,11 +17,13 @@ use Rattle.pf_text.specs.declared.pieces.Piece.{Piece}
 use Rattle.pf_text.specs.declared.pieces.Piece.TheVariants as pieces
 use Rattle.pf_text.specs.declared.pieces.Pieces.{Pieces}
 use Rattle.pf_text.specs.declared.refusal.Refusal.{Refusal}
-use Rattle.pf_text.specs.PieceHistory.{Gives, items_of}
-use Rattle.pf_values.proofs.ItemTypes.{types-bytes}
-use Rattle.pf_text.proofs.SignatureLemmas.{HasFound, found_same, more_found}
+use Rattle.pf_text.specs.PieceHistory.{Gives, HasGiven, items_of}
+use Rattle.pf_values.proofs.ItemTypes.{types-append, types-bytes}
+use Rattle.pf_text.proofs.SignatureLemmas.{HasFound, all_found, more_given}
 use Rattle.pf_text.specs.Signatures as signatures
+use Rattle.pf_render.specs.declared.kept.Kept.{Kept}
 use Rattle.pf_render.specs.declared.matching.Tally.{Tally}
+use Rattle.pf_render.specs.Keeping.{Keeps, KeepsAll}
 use Rattle.pf_render.specs.Matching.{IsOfType, IsOfTypeAt, TakesArguments, Tallies}
 use Rattle.pf_render.specs.Rendering.{HasWrongType}
 use Rattle.pf_render.proofs.ItemLemmas.{length_items}
@@ -125,18 +127,56 @@ length_types [] = omega arith
 length_types (Byte byte ∷ items) = omega (arith, length_types items)
 length_types (Directive s ∷ items) = omega (arith, length_types items)
 
-module _ {before : Pieces} {t : Text} {found : List ArgType} (h : HasFound before t found) where
+-- The pieces so far were given, the arguments are held to the types that they take, and their parts are kept.
+pub record IsChecked (pieces : Pieces) (t : Text) (args : List Arg) (tally : Tally) (kept : Kept) : Type 0 where
+  pub types : List ArgType
+  pub found : HasFound pieces t types
+  pub tallies : Tallies tally args types
+  pub keeps : Keeps kept found.items
+
+-- no piece was given yet
+pub none_checked : (pieces : Pieces) (t : Text) (args : List Arg) (kept : Kept) → HasGiven pieces t [] [] → Keeps kept [] → IsChecked pieces t args (record { wanted = 0; matched = 0 }) kept
+none_checked pieces t args kept given keeps =
+    record {
+      types = [];
+      found = record { read = []; items = []; given = given; types_are = refl };
+      tallies = record { wanted_is = refl; within = omega arith; matching = tt; wrong = λ less. absurd (omega arith) };
+      keeps = keeps;
+    }
+
+module _ {before : Pieces} {t : Text} {args : List Arg} {tally : Tally} {kept : Kept} (h : IsChecked before t args tally kept) where
   -- a text has few directives
-  pub few_found : length found ≤ MAX_TEXT_LEN
-  few_found = omega (arith, ap length h.types_are, length_types h.items, length_items h.read h.items h.given.reads, h.given.scanned.limit)
+  pub few_found : length h.types ≤ MAX_TEXT_LEN
+  few_found = let found = h.found in omega (arith, ap length found.types_are, length_types found.items, length_items found.read found.items found.given.reads, found.given.scanned.limit)
 
-  module _ {new : Pieces} {r : Result Piece Refusal} (steps : Gives before (Some r) new) {piece : Piece} (is : r ≡ Ok piece) where
-    pub directive_found : (d : Specification) (type : ArgType) → piece ≡ pieces.Directive d → type ≡ arg_type d → HasFound new t (found ++ type ∷ [])
-    directive_found d type e same = more_found before new t found h r steps piece (type ∷ []) is (ap (λ x. x ∷ []) same ∙ sym (ap (λ p. types (items_of p)) e))
+  pub all_checked : {new : Pieces} → Gives before None new → signatures.HasTypes t h.types × KeepsAll kept t
+  all_checked {new} steps =
+      let end = steps.next t h.found.read h.found.items h.found.given in
+      (all_found before new t h.types h.found steps, (h.found.items, end.reads, h.keeps))
 
-    pub none_found : ((d : Specification) → piece ≡ pieces.Directive d → ⊥) → HasFound new t found
-    none_found other = found_same new t found (more_found before new t found h r steps piece [] is (sym (no_types piece other)))
+  module _ {new : Pieces} {r : Result Piece Refusal} (steps : Gives before (Some r) new) {piece : Piece} (is : r ≡ Ok piece) (after : Tally) (more : Kept) (keeps : Keeps more (h.found.items ++ items_of piece)) where
+    piece_checked : (wanted : List ArgType) → wanted ≡ types (items_of piece) → Tallies after args (h.types ++ wanted) → IsChecked new t args after more
+    piece_checked wanted same tallies =
+        let found = h.found in
+        let g = more_given before new t h.types found r steps piece is in
+        record {
+          types = h.types ++ wanted;
+          found = record {
+            read = found.read ++ g.more;
+            items = found.items ++ items_of piece;
+            given = g.given;
+            types_are = ap (λ f. f ++ wanted) found.types_are ∙ ap (λ m. types found.items ++ m) same ∙ sym (types-append found.items (items_of piece));
+          };
+          tallies = tallies;
+          keeps = keeps;
+        }
 
--- nothing is wanted yet
-pub tallies_none : (args : List Arg) → Tallies (record { wanted = 0; matched = 0 }) args []
-tallies_none args = record { wanted_is = refl; within = omega arith; matching = tt; wrong = λ less. absurd (omega arith) }
+    pub directive_checked : (d : Specification) (type : ArgType) → piece ≡ pieces.Directive d → type ≡ arg_type d → Tallies after args (h.types ++ type ∷ []) → IsChecked new t args after more
+    directive_checked d type e same tallies = piece_checked (type ∷ []) (ap (λ x. x ∷ []) same ∙ sym (ap (λ p. types (items_of p)) e)) tallies
+
+    pub other_checked : ((d : Specification) → piece ≡ pieces.Directive d → ⊥) → Tallies after args h.types → IsChecked new t args after more
+    other_checked other tallies = piece_checked [] (sym (no_types piece other)) (subst (Tallies after args) (sym (append-nil h.types)) tallies)
+
+pub on_ok : {T E P : Type 0} (r : Result T E) → P → OnOk r P
+on_ok (Ok x) p = p
+on_ok (Err e) p = tt

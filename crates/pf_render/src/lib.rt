@@ -8,7 +8,9 @@ mod fields;
 mod formats;
 mod in_memory;
 mod integers;
+mod kept;
 mod matching;
+mod progress;
 mod rendering;
 #[cfg(test)]
 mod tests;

@@ -1,20 +1,29 @@
 //! Whether the arguments that are given are those that a format takes.
-ghost use Rattle.std.specs.Prelude.{◌≡◌, ◌≢◌, ◌≤◌, ◌++◌, ◌∷◌, [], List, length, map, IsTrue, IsFalse, slice_get, Some, MatchResult};
+ghost use Rattle.std.specs.Prelude.{◌≡◌, ◌≢◌, ◌≤◌, ◌++◌, ◌∷◌, [], List, length, map, IsTrue, IsFalse, slice_get, Some, OnOk, MatchResult};
 ghost use Rattle.pf_values.specs.declared.limits.TheConstants.{MAX_TEXT_LEN};
 ghost use Rattle.pf_values.specs.declared.types.ArgType.{ArgType};
 ghost use Rattle.pf_values.specs.Arg.{type_of};
 ghost use Rattle.pf_values.specs.Text.{Text};
 ghost use Rattle.pf_text.specs.Signatures.{HasTypes};
+ghost use Rattle.pf_render.specs.Keeping.{Keeps, KeepsAll};
 ghost use Rattle.pf_render.specs.Matching.{IsOfTypeAt, TakesArguments, Tallies};
 ghost use Rattle.pf_render.specs.Rendering.{Hinders};
 
 use crate::faults::RenderFault;
+use crate::kept::Kept;
 use pf_text::{Piece, Pieces};
 use pf_values::{Arg, ArgType};
 
-/// Whether the text is a format that takes these arguments.
-pub(crate) fn check_arguments(text: &[u8], args: &[Arg<'_>]) -> Result<(), RenderFault>
-    ensures { MatchResult result (λ _. TakesArguments text.now args.now) (Hinders text.now args.now) }
+/// Whether the text is a format that takes these arguments. Its pieces are kept, if they aren't too many.
+#[inline(never)]
+pub(crate) fn check_arguments<'a>(
+    text: &'a [u8],
+    args: &[Arg<'_>],
+    kept: &mut Kept<'a>,
+) -> Result<(), RenderFault>
+    requires { Keeps kept.old [] }
+    ensures matched { MatchResult result (λ _. TakesArguments text.now args.now) (Hinders text.now args.now) }
+    ensures kept { OnOk result (KeepsAll kept.new text.now) }
 {
     let mut tally = Tally {
         wanted: 0,
@@ -25,6 +34,7 @@ pub(crate) fn check_arguments(text: &[u8], args: &[Arg<'_>]) -> Result<(), Rende
             Ok(piece) => piece,
             Err(refusal) => return Err(RenderFault::Refused(refusal)),
         };
+        kept.push(&piece);
         if let Piece::Directive(directive) = piece {
             tally = tally.with(directive.arg_type(), args);
         }

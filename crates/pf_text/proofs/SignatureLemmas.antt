@@ -28,7 +28,7 @@ module _ (old new : Pieces) (t : Text) (found : List ArgType) (h : HasFound old 
     pub refused : (refusal : Refusal) → next ≡ Err refusal → GivesRefusal t h.items refusal
     refused refusal e = subst (λ r. GivesNext (Some r) new t h.read h.items) e (steps.next t h.read h.items h.given)
 
-    more_given : (piece : Piece) → next ≡ Ok piece → GivesPiece new t h.read h.items piece
+    pub more_given : (piece : Piece) → next ≡ Ok piece → GivesPiece new t h.read h.items piece
     more_given piece e = subst (λ r. GivesNext (Some r) new t h.read h.items) e (steps.next t h.read h.items h.given)
 
     -- the types with those that one more piece takes

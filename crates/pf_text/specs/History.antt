@@ -38,6 +38,11 @@ HasRefused scanner refusal = scanner.refused ≡ Some refusal
 abbrev pub refusal_by : Scanner → RefusalKind → Refusal
 refusal_by scanner kind = record { kind = kind; at = scanner.offset }
 
+-- what is answered of a byte that is taken, or refused where the scanner stands
+abbrev pub refused_by : Scanner → Result Step RefusalKind → Result Step Refusal
+refused_by scanner (Ok step) = Ok step
+refused_by scanner (Err kind) = Err (refusal_by scanner kind)
+
 abbrev pub refusing : Scanner → RefusalKind → Scanner
 refusing scanner kind = record scanner { refused = Some (refusal_by scanner kind) }
 

@@ -92,15 +92,15 @@ impl<'a> Iterator for Pieces<'a> {
             return None;
         }
         while let Some(byte) = self.rest.first() {
-            match self.scanner.feed(*byte) {
+            match self.scanner.take(*byte) {
                 Ok(step) => {
                     if let Some(piece) = self.advance(step) {
                         return Some(Ok(piece));
                     }
                 }
-                Err(refusal) => {
+                Err(kind) => {
                     self.is_over = true;
-                    return Some(Err(refusal));
+                    return Some(Err(self.scanner.refusal(kind)));
                 }
             }
         }

@@ -5,7 +5,7 @@ ghost use Rattle.pf_values.specs.Items.{Item, Reads};
 ghost use Rattle.pf_values.specs.Text.{Text};
 ghost use Rattle.pf_text.specs.Stages.{state_of};
 ghost use Rattle.pf_text.specs.States.{next};
-ghost use Rattle.pf_text.specs.History.{IsAfter, HasRefused, Feeds, Finishes, Passes, offset_of, refusal_by, refusing};
+ghost use Rattle.pf_text.specs.History.{IsAfter, HasRefused, Feeds, Finishes, Passes, offset_of, refusal_by, refused_by, refusing};
 
 use crate::refusal::Refusal;
 use crate::search::first_other;
@@ -65,15 +65,27 @@ impl Scanner {
         if let Some(refusal) = self.refused {
             return Err(refusal);
         }
+        match self.take(byte) {
+            Ok(step) => Ok(step),
+            Err(kind) => self.refuse(kind),
+        }
+    }
+
+    /// The same of a reader that has refused nothing. Of a refused byte it tells why, and keeps nothing.
+    #[inline(always)]
+    pub(crate) fn take(&mut self, byte: u8) -> Result<Step, RefusalKind>
+        ensures fed { (t : Text) (items : List Item) → IsAfter self.old t items → Feeds t items byte (refused_by self.new result) self.new }
+        ensures kept { MatchResult result (λ _. offset_of self.new ≡ offset_of self.old + 1) (λ _. offset_of self.new ≡ offset_of self.old) }
+    {
         if self.offset >= MAX_TEXT_LEN {
-            return self.refuse(RefusalKind::TooLong);
+            return Err(RefusalKind::TooLong);
         }
         match self.step(byte) {
             Ok(step) => {
                 self.offset += 1;
                 Ok(step)
             }
-            Err(kind) => self.refuse(kind),
+            Err(kind) => Err(kind),
         }
     }
 
@@ -113,9 +125,17 @@ impl Scanner {
     fn refuse(&mut self, kind: RefusalKind) -> Result<Step, Refusal>
         ensures { (result ≡ Err (refusal_by self.old kind)) × (self.new ≡ refusing self.old kind) }
     {
-        let refusal = refusal_at(kind, self.offset);
+        let refusal = self.refusal(kind);
         self.refused = Some(refusal);
         Err(refusal)
+    }
+
+    /// A refusal where the reader stands.
+    #[inline(always)]
+    pub(crate) fn refusal(&self, kind: RefusalKind) -> Refusal
+        ensures { result ≡ refusal_by self.now kind }
+    {
+        refusal_at(kind, self.offset)
     }
 
     /// Whether the text so far is whole. If not, it is refused as truncated, unless a byte of it was refused.
@@ -129,7 +149,7 @@ impl Scanner {
         if self.automaton.is_between() {
             return Ok(());
         }
-        Err(refusal_at(RefusalKind::Truncated, self.offset))
+        Err(self.refusal(RefusalKind::Truncated))
     }
 
     /// How many bytes were taken.

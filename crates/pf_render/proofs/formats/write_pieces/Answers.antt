@@ -1,42 +1,39 @@
-use Rattle.std.proofs.Common.{arith, refl, rules}
-use Rattle.pf_render.proofs.FormatLemmas.{all_written, counts, no_refusal, own_typed, piece_stopped, piece_written, under_way, within}
+use Rattle.std.proofs.Common.{rules}
+use Rattle.std.proofs.lemmas.Result.{err_from_is_err_and}
+use Rattle.pf_render.proofs.FormatLemmas.{counts, no_refusal, others_are, piece_written, text_written, under_way}
+use Rattle.pf_render.proofs.ProgressLemmas.{next_typed, next_within, wrote_part}
 use Rattle.pf_render.proofs.formats.write_pieces.Goals as goal
 
 pub loop-piece-init : goal.loop-piece-init
-loop-piece-init g c = record { can = tt; finite = tt; within = omega arith; so_far = under_way _ c.requires (search rules) }
+loop-piece-init g c = record { can = tt; finite = tt; so_far = under_way _ c.new-progress.result c.requires (search rules) c.new-progress.ensures }
 
 pub unreachable-requires : goal.unreachable-requires
 unreachable-requires g c = no_refusal c.loop-piece.invariant.so_far c.in-Some.ensures.steps c.in-Err.is
 
-pub overflow_add-end : goal.overflow_add-end
-overflow_add-end g c = omega (arith, within c.loop-piece.invariant.so_far c.in-Some.ensures.steps c.in-Ok.is c.loop-piece.invariant.within, c.argument_count.ensures)
+pub write-requires-clause-few : goal.write-requires-clause-few
+write-requires-clause-few g c = counts c.loop-piece.invariant.so_far
 
-pub slice_bounds-write_piece-end : goal.slice_bounds-write_piece-end
-slice_bounds-write_piece-end g c = omega (arith, within c.loop-piece.invariant.so_far c.in-Some.ensures.steps c.in-Ok.is c.loop-piece.invariant.within, c.argument_count.ensures)
+pub write-requires-clause-within : goal.write-requires-clause-within
+write-requires-clause-within g c =
+    let so_far = c.loop-piece.invariant.so_far in
+    next_within so_far.printing c.of.result _ (others_are so_far c.in-Some.ensures.steps c.in-Ok.is c.of.result c.of.ensures)
 
-pub write_piece-requires : goal.write_piece-requires
-write_piece-requires g c = record { typed = own_typed c.loop-piece.invariant.so_far c.in-Some.ensures.steps c.in-Ok.is _ c.argument_count.result c.argument_count.ensures refl }
-
-pub overflow_add-written : goal.overflow_add-written
-overflow_add-written g c = omega (arith, counts c.loop-piece.invariant.so_far c.in-Some.ensures.steps c.in-Ok.is c.in-Ok-write_piece.count (omega arith))
-
-pub overflow_add-result : goal.overflow_add-result
-overflow_add-result g c = omega (arith, counts c.loop-piece.invariant.so_far c.in-Some.ensures.steps c.in-Ok.is c.in-Err-write_piece.short.written (omega arith))
-
-pub returns-in-Err-write_piece : goal.returns-in-Err-write_piece
-returns-in-Err-write_piece g c =
-    let printed = c.in-Err-write_piece.ensures in
-    piece_stopped c.loop-piece.invariant.so_far c.in-Some.ensures.steps c.in-Ok.is _ c.argument_count.result c.argument_count.ensures refl _ printed.0 printed.1 c.in-Err-write_piece.short.written printed.2.0 printed.2.1
+pub write-requires-clause-typed : goal.write-requires-clause-typed
+write-requires-clause-typed g c =
+    let so_far = c.loop-piece.invariant.so_far in
+    next_typed so_far.printing c.of.result _ (others_are so_far c.in-Some.ensures.steps c.in-Ok.is c.of.result c.of.ensures)
 
 pub loop-piece-preserved : goal.loop-piece-preserved
 loop-piece-preserved g c =
-    let printed = c.in-Ok-write_piece.ensures in
-    record {
-      can = tt;
-      finite = tt;
-      within = omega (arith, within c.loop-piece.invariant.so_far c.in-Some.ensures.steps c.in-Ok.is c.loop-piece.invariant.within, c.argument_count.ensures);
-      so_far = piece_written c.loop-piece.invariant.so_far c.in-Some.ensures.steps c.in-Ok.is _ c.argument_count.result c.argument_count.ensures refl _ printed.0 printed.1 c.in-Ok-write_piece.count (omega arith) printed.2.1 printed.2.0;
-    }
+    let text = c.in_ok-write.ensures in
+    record { can = tt; finite = tt; so_far = piece_written c.loop-piece.invariant.so_far c.in-Some.ensures.steps c.in-Ok.is c.of.result c.of.ensures c.write.new.self c.write.new.writer text.0 text.1 text.2 }
+
+pub returns-in_err-write : goal.returns-in_err-write
+returns-in_err-write g c =
+    let so_far = c.loop-piece.invariant.so_far in
+    let p = err_from_is_err_and c.from_residual.result c.from_residual.ensures.1 in
+    let text = c.in_err-write.ensures in
+    (so_far.out, so_far.renders, rw (p.1, p.2) (wrote_part so_far.printing c.of.result _ (others_are so_far c.in-Some.ensures.steps c.in-Ok.is c.of.result c.of.ensures) c.write.new.writer c.write.new.self text.0 text.1 _ text.2))
 
 pub returns : goal.returns
-returns g c = all_written c.loop-piece.invariant.so_far c.in-None.ensures.steps
+returns g c = text_written c.loop-piece.invariant.so_far c.in-None.ensures.steps

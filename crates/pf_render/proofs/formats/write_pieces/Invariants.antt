@@ -1,4 +1,3 @@
-use Rattle.std.proofs.Common.{◌≤◌, length}
 use Rattle.pf_render.proofs.FormatLemmas.{IsUnderWay}
 use Rattle.pf_render.proofs.formats.write_pieces.Given as goal
 
@@ -7,6 +6,5 @@ abbrev pub invariant-loop-piece : goal.invariant-loop-piece
 invariant-loop-piece g l = record {
   can : (goal.iterator-loop-piece g).can_next l.piece-iterator;
   finite : (goal.iterator-loop-piece g).is_finite l.piece-iterator;
-  within : l.next ≤ length l.args;
-  so_far : IsUnderWay g.W.Write.contents l.fn.writer l.text l.args l.writer l.piece-iterator l.next l.written;
+  so_far : IsUnderWay g.W.Write.contents l.fn.writer l.text l.args l.writer l.piece-iterator l.progress;
 }

@@ -1,4 +1,5 @@
-use Rattle.std.proofs.Common.{arith, refl, drop, ◌∙◌}
+use Rattle.std.proofs.Common.{arith, ap, refl, sym, drop, Err, ◌∙◌}
+use Rattle.pf_text.specs.History.{refused_by}
 use Rattle.pf_text.proofs.PieceLemmas.{first_cut, gives_end, gives_piece, gives_refused, gives_truncated, is_fed, nothing_left}
 use Rattle.pf_text.proofs.pieces.PiecesIterator.next.Goals as goal
 
@@ -7,7 +8,7 @@ returns-in-Some-advance-clause-steps c =
     let now = c.loop-byte.self in
     let inside = c.loop-byte.invariant.inside in
     let cut = first_cut now.rest.now c.in-Some.byte.now c.in-Some.ensures.item.3.0 c.in-Some.ensures.item.1 in
-    let fed = is_fed c.args.self.now now inside c.if-self.false c.feed.new.self c.in-Some.byte.now (drop 1 now.rest.now) cut c.feed.result c.feed.ensures.fed c.in-Ok.step c.in-Ok.is in
+    let fed = is_fed c.args.self.now now inside c.if-self.false c.take.new.self c.in-Some.byte.now (drop 1 now.rest.now) cut _ c.take.ensures.fed c.in-Ok.step (ap (refused_by c.take.new.self) c.in-Ok.is) in
     gives_piece c.args.self.now now inside c.if-self.false c.in-Some-advance.piece c.advance.new.self (λ t read items h. c.in-Some-advance.ensures.given t read items (fed t read items h))
 
 pub loop-byte-preserved : goal.loop-byte-preserved
@@ -15,7 +16,7 @@ loop-byte-preserved c =
     let now = c.loop-byte.self in
     let inside = c.loop-byte.invariant.inside in
     let cut = first_cut now.rest.now c.in-Some.byte.now c.in-Some.ensures.item.3.0 c.in-Some.ensures.item.1 in
-    let fed = is_fed c.args.self.now now inside c.if-self.false c.feed.new.self c.in-Some.byte.now (drop 1 now.rest.now) cut c.feed.result c.feed.ensures.fed c.in-Ok.step c.in-Ok.is in
+    let fed = is_fed c.args.self.now now inside c.if-self.false c.take.new.self c.in-Some.byte.now (drop 1 now.rest.now) cut _ c.take.ensures.fed c.in-Ok.step (ap (refused_by c.take.new.self) c.in-Ok.is) in
     record {
       inside = λ t read items h. c.in_default-advance.ensures.given t read items (fed t read items h);
       going = c.advance.ensures.going ∙ c.loop-byte.invariant.going;
@@ -26,7 +27,7 @@ pub returns-in-Err-clause-steps : goal.returns-in-Err-clause-steps
 returns-in-Err-clause-steps c =
     let now = c.loop-byte.self in
     let cut = first_cut now.rest.now c.in-Some.byte.now c.in-Some.ensures.item.3.0 c.in-Some.ensures.item.1 in
-    gives_refused c.args.self.now now c.loop-byte.invariant.inside c.if-self.false c.feed.new.self c.in-Some.byte.now (drop 1 now.rest.now) cut c.feed.result c.feed.ensures.fed c.in-Err.refusal c.in-Err.is _ refl
+    gives_refused c.args.self.now now c.loop-byte.invariant.inside c.if-self.false c.take.new.self c.in-Some.byte.now (drop 1 now.rest.now) cut _ c.take.ensures.fed c.refusal.result (ap (refused_by c.take.new.self) c.in-Err.is ∙ ap Err (sym c.refusal.ensures)) _ refl
 
 pub returns-in-Ok-finish-clause-steps : goal.returns-in-Ok-finish-clause-steps
 returns-in-Ok-finish-clause-steps c =

@@ -1,0 +1,43 @@
+-- What a call leaves that writes one more part of a format.
+use Rattle.std.specs.Prelude.{◌≡◌, ℕ, ◌+◌, ◌^◌, ◌<◌, List, length, map, take, drop, Result, Ok, Err}
+use Rattle.pf_values.specs.declared.arguments.Arg.{Arg}
+use Rattle.pf_values.specs.declared.counting.Counted.{Counted}
+use Rattle.pf_values.specs.Arg.{argument_of}
+use Rattle.pf_values.specs.Arguments.{Argument}
+use Rattle.pf_values.specs.Counting.{Known, WritesAll, WritesFirst}
+use Rattle.pf_values.specs.Items.{types}
+use Rattle.pf_values.specs.Printing.{PrintsAll}
+use Rattle.pf_values.specs.Text.{Text}
+use Rattle.pf_render.specs.declared.faults.WriteFault.{WriteFault}
+use Rattle.pf_render.specs.declared.kept.Part.{Part}
+use Rattle.pf_render.specs.declared.progress.Progress.{Progress}
+use Rattle.pf_render.specs.Keeping.{items_of_part}
+
+-- how many arguments a part takes, and which
+abbrev pub arity : Part → ℕ
+arity part = length (types (items_of_part part))
+
+abbrev pub next_arguments : Progress → Part → List Arg → List Argument
+next_arguments progress part args = map argument_of (take (arity part) (drop progress.taken args))
+
+module _ {W : Type 0} (contents : W → Known) (old new : Counted W) (before after : Progress) where
+  -- all of it went out
+  pub record WritesOn (out : Text) (count : ℕ) : Type 0 where
+    pub wrote : WritesAll contents old new out
+    pub small : length out < 2 ^ 64
+    pub written : after.written ≡ before.written + length out
+    pub taken : after.taken ≡ before.taken + count
+
+  -- only the first bytes of it, of which the fault tells how many there are with those before
+  pub record WritesPart (out : Text) (fault : WriteFault) : Type 0 where
+    pub count : ℕ
+    pub wrote : WritesFirst contents old new out count
+    pub less : count < length out
+    pub written : fault.written ≡ before.written + count
+
+  abbrev pub WritesOnOrPart : Text → ℕ → Result (Unit {0}) WriteFault → Type 0
+  WritesOnOrPart out count (Ok done) = WritesOn out count
+  WritesOnOrPart out count (Err fault) = WritesPart out fault
+
+  abbrev pub WritesNext : Part → List Arg → Result (Unit {0}) WriteFault → Type 0
+  WritesNext part args result = (out : Text) × PrintsAll (items_of_part part) (next_arguments before part args) out × WritesOnOrPart out (arity part) result

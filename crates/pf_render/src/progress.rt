@@ -1,0 +1,88 @@
+//! How far the writing of a format has come.
+ghost use Rattle.std.specs.Prelude.{◌≡◌, ◌+◌, ◌≤◌, ◌^◌, length, map};
+ghost use Rattle.pf_values.specs.Arg.{argument_of};
+ghost use Rattle.pf_values.specs.Arguments.{HasTypes};
+ghost use Rattle.pf_values.specs.Items.{types};
+ghost use Rattle.pf_values.specs.Printing.{PrintsAll};
+ghost use Rattle.pf_values.specs.Text.{Text};
+ghost use Rattle.pf_render.specs.Counts.{WritesCounted};
+ghost use Rattle.pf_render.specs.Keeping.{items_of_part};
+ghost use Rattle.pf_render.specs.Progressing.{WritesNext, next_arguments};
+
+use crate::faults::WriteFault;
+use crate::kept::Part;
+use crate::rendering::write_argument;
+use pf_values::{Arg, Counted, ShortWrite, write_bytes};
+use std::io::Write;
+
+/// How far the writing of a format has come.
+#[derive(Clone, Copy)]
+pub(crate) struct Progress {
+    /// How many arguments are taken.
+    pub(crate) taken: usize,
+    /// How many bytes went out.
+    pub(crate) written: u128,
+}
+
+impl Progress {
+    /// Nothing is written.
+    pub(crate) fn new() -> Progress
+        ensures { (result.taken ≡ 0) × (result.written ≡ 0) }
+    {
+        Progress {
+            taken: 0,
+            written: 0,
+        }
+    }
+
+    /// Writes what a part prints for the arguments that come next.
+    #[inline(always)]
+    pub(crate) fn write<W: Write>(
+        &mut self,
+        part: &Part<'_>,
+        args: &[Arg<'_>],
+        writer: &mut Counted<W>,
+    ) -> Result<(), WriteFault>
+        requires few { self.old.written + 2 ^ 64 ≤ 2 ^ 128 }
+        requires within { self.old.taken + length (types (items_of_part part.now)) ≤ length args.now }
+        requires typed { HasTypes (next_arguments self.old part.now args.now) (types (items_of_part part.now)) }
+        ensures { WritesNext W.contents writer.old writer.new self.old self.new part.now args.now result }
+    {
+        let end = self.taken + part.argument_count();
+        match write_part(part, &args[self.taken..end], writer) {
+            Ok(count) => {
+                self.taken = end;
+                self.written += count as u128;
+                Ok(())
+            }
+            Err(short) => Err(WriteFault {
+                written: self.written + short.written as u128,
+            }),
+        }
+    }
+}
+
+// Writes what a part prints for its own arguments, and tells how many bytes that were.
+fn write_part<W: Write>(
+    part: &Part<'_>,
+    own: &[Arg<'_>],
+    writer: &mut Counted<W>,
+) -> Result<usize, ShortWrite>
+    requires typed { HasTypes (map argument_of own.now) (types (items_of_part part.now)) }
+    ensures { (out : Text) × PrintsAll (items_of_part part.now) (map argument_of own.now) out × WritesCounted W.contents writer.old writer.new out result }
+{
+    match part.directive {
+        Some(directive) => write_argument(&directive, own[0], writer),
+        None => write_run(part.run, writer),
+    }
+}
+
+// Writes bytes that stand for themselves, and tells how many they are.
+fn write_run<W: Write>(run: &[u8], writer: &mut Counted<W>) -> Result<usize, ShortWrite>
+    ensures { WritesCounted W.contents writer.old writer.new run.now result }
+{
+    match write_bytes(writer, run) {
+        Ok(()) => Ok(run.len()),
+        Err(short) => Err(short),
+    }
+}
