@@ -94,7 +94,6 @@ to_open true P Q e h = h
 to_open false P Q e h = absurd (cc)
 
 module _ (old new : Transducer) (start left : Known) (taken given : Text) (items : List Item) (byte : ℕ) (through : IsThrough old taken items given) (read : IsReadFor taken given) where
-
   lean : IsLean (taken ++ byte ∷ []) given
   lean = (taken, byte, given, refl, through_settles old taken given items through, omega arith)
 

@@ -2,6 +2,7 @@
 #![tactic(auto)]
 
 mod building;
+mod comparing;
 mod copying;
 mod due;
 mod faults;
@@ -21,8 +22,9 @@ mod tests;
 mod transducing;
 
 pub use building::canonical;
+pub use comparing::{same_stream, same_text};
 pub use copying::{canonical_stream, copy_canonical};
-pub use faults::{CanonFault, CopyFault, StreamFault};
+pub use faults::{CanonFault, CopyFault, SideFault, StreamFault};
 pub use lengths::canonical_len;
 pub use recognizing::is_canonical;
 pub use sides::Side;

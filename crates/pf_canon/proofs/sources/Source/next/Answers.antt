@@ -14,6 +14,6 @@ pub returns-in-Done : goal.returns-in-Done
 returns-in-Done g c =
     let t = c.in-Done.ensures in
     let a =
-        answers g.B.Bytes.left g.B.Bytes.kept g.B.Bytes.failed g.met.B.Bytes.kept_later c.args.self.now c.loop-answer.self c.turn.new.self c.args.bytes.now c.loop-answer.bytes c.turn.new.bytes c.loop-answer.invariant g.met.B.Bytes.failed_later
-        c.in-Done.answer (record { next = t.next; over = λ o. rw c.in-Done.is at c.turn.ensures.over o; counts = t.counts; lower = t.lower }) in
+    answers g.B.Bytes.left g.B.Bytes.kept g.B.Bytes.failed g.met.B.Bytes.kept_later c.args.self.now c.loop-answer.self c.turn.new.self c.args.bytes.now c.loop-answer.bytes c.turn.new.bytes c.loop-answer.invariant g.met.B.Bytes.failed_later
+    c.in-Done.answer (record { next = t.next; over = λ o. rw c.in-Done.is at c.turn.ensures.over o; counts = t.counts; lower = t.lower }) in
     record { steps = a.0; lower = a.1 }

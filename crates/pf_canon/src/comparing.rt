@@ -1,0 +1,220 @@
+//! Two texts, compared in step.
+ghost use Rattle.std.specs.Prelude.{◌≡◌, ℕ, Option, Some, None, Err, IfOk, MatchResult};
+ghost use Rattle.pf_values.specs.Counting.{HasFailed, Known, device_of, failures_of};
+ghost use Rattle.pf_values.specs.Text.{Text};
+ghost use Rattle.pf_canon.specs.Comparing.{AreTextsSame, CountsBehind, CountsDrain, CountsSides, DrainsTo, EndsBoth, Gave, GoesOnlyWith, HasPace, IsApart, IsInStep, Lowers, PacesTo, StopsSide, TextStops};
+ghost use Rattle.pf_canon.specs.Sources.{History, Leaves};
+
+use crate::faults::{SideFault, StreamFault};
+use crate::reading::{Bytes, Taken};
+use crate::sides::Side;
+use crate::sources::Source;
+use pf_text::Refusal;
+use pf_values::Counted;
+use std::io::Read;
+
+/// Whether the formats that two readers hand out up to their ends have equal types, and print equal bytes for all
+/// arguments. A difference doesn't stop the reading. Where a text is refused or its reader fails, the first text's
+/// fault is answered if it has one, and then the second text is not read further. It takes no memory.
+pub fn same_stream<R: Read, S: Read>(
+    r: &mut Counted<R>,
+    s: &mut Counted<S>,
+) -> Result<bool, SideFault>
+    ensures compared { MatchResult result
+        (EndsBoth (R.remaining (device_of r.old)) (R.remaining (device_of r.new)) (S.remaining (device_of s.old)) (S.remaining (device_of s.new)))
+        (StopsSide (R.remaining (device_of r.old)) (R.remaining (device_of r.new)) (S.remaining (device_of s.old)) (S.remaining (device_of s.new))) }
+    ensures counts { CountsSides (λ old new. failures_of new ≡ failures_of old) HasFailed (λ old new. failures_of new ≡ failures_of old) HasFailed result r.old r.new s.old s.new }
+{
+    same_bytes(r, s)
+}
+
+/// Whether two formats have equal types, and print equal bytes for all arguments. Where a text is refused, the
+/// first text's refusal is answered if it has one. It takes no memory.
+pub fn same_text(f: &[u8], g: &[u8]) -> Result<bool, (Side, Refusal)>
+    ensures { MatchResult result (AreTextsSame f.now g.now) (TextStops f.now g.now) }
+{
+    match same_bytes(&mut Slice { rest: f }, &mut Slice { rest: g }) {
+        Ok(same) => Ok(same),
+        Err(stop) => match stop.fault {
+            StreamFault::Refused(refusal) => Err((stop.side, refusal)),
+            StreamFault::Read => unreachable!(),
+        },
+    }
+}
+
+// Bytes in memory.
+#[derive(Drop)]
+struct Slice<'a> {
+    rest: &'a [u8],
+}
+
+impl Bytes for Slice<'_> {
+    ghost left = { λ s. Some s.rest.now };
+
+    ghost kept = { λ old new. Unit {0} };
+
+    ghost failed = { λ old new. ⊥ };
+
+    ghost kept_itself = { λ s. tt };
+
+    ghost kept_later = { λ a b c h g. tt };
+
+    ghost failed_later = { λ a b c h g. g };
+
+    fn take(&mut self) -> Taken {
+        match self.rest.split_first() {
+            Some((byte, rest)) => {
+                self.rest = rest;
+                Taken::Byte(*byte)
+            }
+            None => Taken::End,
+        }
+    }
+}
+
+// What the next bytes of two canonical texts are to each other.
+enum Pace {
+    // One byte.
+    On,
+    // Both texts ended.
+    Same,
+    // Two bytes, or a byte and the end.
+    Differ,
+}
+
+fn pace_of(x: Option<u8>, y: Option<u8>) -> Pace
+    ensures { HasPace x y result }
+{
+    match x {
+        None => match y {
+            None => Pace::Same,
+            Some(_) => Pace::Differ,
+        },
+        Some(first) => match y {
+            None => Pace::Differ,
+            Some(second) => pace_of_bytes(first, second),
+        },
+    }
+}
+
+fn pace_of_bytes(first: u8, second: u8) -> Pace
+    ensures { HasPace (Some first) (Some second) result }
+{
+    if first == second {
+        return Pace::On;
+    }
+    Pace::Differ
+}
+
+fn same_bytes<A: Bytes, B: Bytes>(a: &mut A, b: &mut B) -> Result<bool, SideFault>
+    ensures compared { MatchResult result (EndsBoth (A.left a.old) (A.left a.new) (B.left b.old) (B.left b.new)) (StopsSide (A.left a.old) (A.left a.new) (B.left b.old) (B.left b.new)) }
+    ensures counts { CountsSides A.kept A.failed B.kept B.failed result a.old a.new b.old b.new }
+{
+    let mut first = Source::new();
+    let mut second = Source::new();
+    loop {
+        match pace_both(&mut first, a, &mut second, b) {
+            Ok(Pace::On) => {}
+            Ok(Pace::Same) => return Ok(true),
+            Ok(Pace::Differ) => return drain_both(&mut first, a, &mut second, b),
+            Err(stop) => return Err(stop),
+        }
+    }
+}
+
+// The next byte of both.
+fn pace_both<A: Bytes, B: Bytes>(
+    first: &mut Source,
+    a: &mut A,
+    second: &mut Source,
+    b: &mut B,
+) -> Result<Pace, SideFault>
+    ensures paced { (f g : Known) → IsInStep first.old (A.left a.old) second.old (B.left b.old) f g → PacesTo first.new (A.left a.new) second.new (B.left b.new) f g result }
+    ensures counts { CountsSides A.kept A.failed B.kept B.failed result a.old a.new b.old b.new }
+    ensures lower { Lowers first.old first.new result }
+{
+    match first.next(a) {
+        None => pace_second(None, first, a, second, b),
+        Some(Ok(byte)) => pace_second(Some(byte), first, a, second, b),
+        Some(Err(fault)) => Err(SideFault {
+            side: Side::First,
+            fault,
+        }),
+    }
+}
+
+// The first text gave this byte, or ended.
+fn pace_second<A: Bytes, B: Bytes>(
+    x: Option<u8>,
+    first: &mut Source,
+    a: &mut A,
+    second: &mut Source,
+    b: &mut B,
+) -> Result<Pace, SideFault>
+    ensures paced { (f g : Known) (t u given : Text) → Gave x first.old f (A.left a.old) t given → History second.old g (B.left b.old) u given → PacesTo first.new (A.left a.new) second.new (B.left b.new) f g result }
+    ensures counts { CountsSides A.kept A.failed B.kept B.failed result a.old a.new b.old b.new }
+    ensures first { IfOk result (λ _. first.new ≡ first.old) }
+    ensures going { GoesOnlyWith x result }
+{
+    match second.next(b) {
+        None => Ok(pace_of(x, None)),
+        Some(Ok(byte)) => Ok(pace_of(x, Some(byte))),
+        Some(Err(fault)) => Err(behind_second(first, a, fault)),
+    }
+}
+
+// The second text stopped. The first text's fault comes before.
+fn behind_second<A: Bytes>(first: &mut Source, a: &mut A, fault: StreamFault) -> SideFault
+    ensures stopped { (x : Option ℕ) (second : Source) (f g b : Known) (t u given : Text) → Gave x first.old f (A.left a.old) t given → Leaves (Some (Err fault)) second g b u given → StopsSide f (A.left a.new) g b result }
+    ensures counts { CountsBehind A.kept A.failed fault result.side result.fault a.old a.new }
+{
+    match drain(first, a) {
+        Ok(()) => SideFault {
+            side: Side::Second,
+            fault,
+        },
+        Err(fault) => SideFault {
+            side: Side::First,
+            fault,
+        },
+    }
+}
+
+// The texts differ. Each may still have a fault.
+fn drain_both<A: Bytes, B: Bytes>(
+    first: &mut Source,
+    a: &mut A,
+    second: &mut Source,
+    b: &mut B,
+) -> Result<bool, SideFault>
+    ensures compared { (f g : Known) → IsApart first.old (A.left a.old) second.old (B.left b.old) f g → MatchResult result (EndsBoth f (A.left a.new) g (B.left b.new)) (StopsSide f (A.left a.new) g (B.left b.new)) }
+    ensures counts { CountsSides A.kept A.failed B.kept B.failed result a.old a.new b.old b.new }
+{
+    match drain(first, a) {
+        Ok(()) => match drain(second, b) {
+            Ok(()) => Ok(false),
+            Err(fault) => Err(SideFault {
+                side: Side::Second,
+                fault,
+            }),
+        },
+        Err(fault) => Err(SideFault {
+            side: Side::First,
+            fault,
+        }),
+    }
+}
+
+// Takes the rest, and gives none of it.
+fn drain<B: Bytes>(source: &mut Source, bytes: &mut B) -> Result<(), StreamFault>
+    ensures drained { (x : Option ℕ) (start : Known) (taken given : Text) → Gave x source.old start (B.left bytes.old) taken given → DrainsTo x start (B.left bytes.new) given result }
+    ensures counts { CountsDrain B.kept B.failed result bytes.old bytes.new }
+{
+    loop {
+        match source.next(bytes) {
+            None => return Ok(()),
+            Some(Ok(_)) => {}
+            Some(Err(fault)) => return Err(fault),
+        }
+    }
+}
