@@ -10,7 +10,7 @@ use Rattle.pf_values.specs.Printing.{AreEquivalent}
 use Rattle.pf_values.specs.Refusals.{IsRefusedAt}
 use Rattle.pf_values.specs.Text.{Text}
 use Rattle.pf_probes.proofs.Unique.{equivalent_formats_one}
-use Rattle.pf_canon.specs.Comparing.{AreTextsSame, BeginsWith, CountsSides, CountsStop, Drained, DrainsTo, EndsBoth, FaultCounts, Gave, HasPace, IsPaced, IsReadWhole, PacesTo, StopsBy, StopsOn, TextStopsOn}
+use Rattle.pf_canon.specs.Comparing.{AreTextsSame, BeginsWith, CountsSides, CountsStop, Drained, DrainsTo, EndsBoth, FaultCounts, Gave, HasCanonical, HasPace, IsPaced, IsReadWhole, PacesTo, StopsBy, StopsOn, TextStopsOn}
 use Rattle.pf_text.specs.declared.refusal.Refusal.{Refusal}
 use Rattle.pf_canon.specs.declared.comparing.Pace.{Pace}
 use Rattle.pf_canon.specs.declared.comparing.Pace.TheVariants.{On, Same, Differ}
@@ -57,14 +57,14 @@ module _ {B : Type 0} (left : B → Known) (kept failed : B → B → Type 0) (o
   drained None taken s h =
       let same : to ≡ from = (s.over h.1).2 in
       let e = h.0 in
-      subst (λ b. Drained None start (left b) given) (sym same) (record { text = taken; rest = []; whole = record { reader = e.reader; end = e.end; accepted = e.accepted }; canonical = e.canonical; begins = refl })
+      subst (λ b. Drained None start (left b) given) (sym same) (record { text = taken; rest = []; whole = record { reader = e.reader; end = e.end; accepted = e.accepted; canonical = (_, e.canonical) }; canonical = e.canonical; begins = refl })
   drained (Some byte) taken s h =
       let next = s.next start taken (given ++ byte ∷ h.0) h.1 in
       let e = next.1.0 in
       record {
         text = taken ++ next.0;
         rest = byte ∷ h.0;
-        whole = record { reader = e.reader; end = e.end; accepted = e.accepted };
+        whole = record { reader = e.reader; end = e.end; accepted = e.accepted; canonical = (_, e.canonical) };
         canonical = subst (IsCanonicalOf (taken ++ next.0)) (append-nil (given ++ byte ∷ h.0)) e.canonical;
         begins = (h.0, refl);
       }
@@ -169,8 +169,8 @@ module _ (f f_left g g_left : Known) where
       record {
         t = t;
         u = u;
-        first = record { reader = a.reader; end = a.end; accepted = a.accepted };
-        second = record { reader = b.reader; end = b.end; accepted = b.accepted };
+        first = record { reader = a.reader; end = a.end; accepted = a.accepted; canonical = (_, c) };
+        second = record { reader = b.reader; end = b.end; accepted = b.accepted; canonical = (_, d) };
         same = (λ _. equivalent_by t u (given ++ []) c.equivalent d.equivalent, λ _. refl);
       }
 
@@ -214,11 +214,18 @@ refused_text f rest taken refusal h = elim h.cause [
 
 module _ (f f_rest g g_rest : Text) where
   pub texts_same : (is : Bool) → EndsBoth (Some f) (Some f_rest) (Some g) (Some g_rest) is → AreTextsSame f g is
-  texts_same is h = (
-    whole_accepted f f_rest h.t h.first,
-    whole_accepted g g_rest h.u h.second,
-    subst (λ u. IsTrue is ↔ AreEquivalent f u) (sym (read_whole g g_rest h.u h.second)) (subst (λ t. IsTrue is ↔ AreEquivalent t h.u) (sym (read_whole f f_rest h.t h.first)) h.same),
-  )
+  texts_same is h =
+      let one = sym (read_whole f f_rest h.t h.first) in
+      let two = sym (read_whole g g_rest h.u h.second) in
+      let first = h.first in
+      let second = h.second in
+      record {
+        first = subst IsAccepted one first.accepted;
+        second = subst IsAccepted two second.accepted;
+        first_canonical = subst HasCanonical one first.canonical;
+        second_canonical = subst HasCanonical two second.canonical;
+        same = subst (λ u. IsTrue is ↔ AreEquivalent f u) two (subst (λ t. IsTrue is ↔ AreEquivalent t h.u) one h.same);
+      }
 
   pub text_stops : (side : Side) (fault : StreamFault) (refusal : Refusal) → fault ≡ faults.Refused refusal → StopsOn side fault (Some f) (Some f_rest) (Some g) (Some g_rest) → TextStopsOn side f g refusal
   text_stops First fault refusal e h = refused_text f f_rest h.0 refusal (subst (λ x. StopsBy x (Some f) (Some f_rest) h.0 h.1) e h.3).0

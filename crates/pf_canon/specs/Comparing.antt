@@ -19,11 +19,15 @@ use Rattle.pf_canon.specs.declared.sources.Source.{Source}
 use Rattle.pf_canon.specs.Sources.{History, IsEnding, IsOver, IsReadFor, IsRefusedBehind, units}
 use Rattle.pf_canon.specs.Through.{SettlesTo}
 
+abbrev pub HasCanonical : Text → Type 0
+HasCanonical t = (c : Text) × IsCanonicalOf t c
+
 -- a text was read to its end, and is accepted
 pub record IsReadWhole (start left : Known) (t : Text) : Type 0 where
   pub reader : Consumes start left t
   pub end : IsAtEnd left
   pub accepted : IsAccepted t
+  pub canonical : HasCanonical t
 
 -- both texts were, and this tells whether they are equivalent
 pub record EndsBoth (f f_left g g_left : Known) (is : Bool) : Type 0 where
@@ -73,9 +77,13 @@ abbrev pub CountsBehind : {A : Type 0} → (A → A → Type 0) → (A → A →
 CountsBehind kept failed fault First told old new = FaultCounts kept failed told old new
 CountsBehind kept failed fault Second told old new = kept old new × (told ≡ fault)
 
--- two texts in memory are accepted, and this tells whether they are equivalent
-abbrev pub AreTextsSame : Text → Text → Bool → Type 0
-AreTextsSame f g is = IsAccepted f × IsAccepted g × (IsTrue is ↔ AreEquivalent f g)
+-- two texts in memory are accepted, have canonical texts, and this tells whether they are equivalent
+pub record AreTextsSame (f g : Text) (is : Bool) : Type 0 where
+  pub first : IsAccepted f
+  pub second : IsAccepted g
+  pub first_canonical : HasCanonical f
+  pub second_canonical : HasCanonical g
+  pub same : IsTrue is ↔ AreEquivalent f g
 
 -- the first is refused, or the first is accepted and the second refused
 abbrev pub TextStopsOn : Side → Text → Text → Refusal → Type 0

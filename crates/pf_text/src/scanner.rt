@@ -76,6 +76,7 @@ impl Scanner {
     pub(crate) fn take(&mut self, byte: u8) -> Result<Step, RefusalKind>
         ensures fed { (t : Text) (items : List Item) → IsAfter self.old t items → Feeds t items byte (refused_by self.new result) self.new }
         ensures kept { MatchResult result (λ _. offset_of self.new ≡ offset_of self.old + 1) (λ _. offset_of self.new ≡ offset_of self.old) }
+        ensures below { OnOk result (offset_of self.old < MAX_TEXT_LEN) }
     {
         if self.offset >= MAX_TEXT_LEN {
             return Err(RefusalKind::TooLong);
