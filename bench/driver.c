@@ -1,0 +1,134 @@
+/* Makes one call many times, so that its instructions can be counted from outside.
+ *
+ *   driver CALL REPEATS formats FILE                 on each text of a file in which a zero byte ends each text
+ *   driver CALL REPEATS grown HEAD UNIT TAIL BYTES   on HEAD, UNIT over and over, and TAIL, of about so many bytes
+ *
+ * It ends with 0 where each call gave what the first one on the same text gave. */
+#include <printf.h>
+#include <stdbool.h>
+#include <stdint.h>
+#include <stdio.h>
+#include <stdlib.h>
+#include <string.h>
+
+bool bench_check(const char *text, size_t len);
+uint64_t bench_pieces(const char *text, size_t len);
+uint64_t bench_signature(const char *text, size_t len);
+uint64_t bench_canonical(const char *text, size_t len);
+bool bench_is_canonical(const char *text, size_t len);
+uint64_t bench_scanner(const char *text, size_t len);
+bool bench_render_two(const char *text, size_t len, int number, const char *string, size_t string_len,
+                      char *out, size_t room);
+bool bench_render_five(const char *text, size_t len, int number, int64_t wide, uint32_t positive,
+                       const char *string, size_t string_len, int byte, char *out, size_t room);
+
+static const char *const FORMAT_OF_TWO = "text %d of %s";
+static const char *const FORMAT_OF_FIVE = "%5d|%-8ld|%#x|%.3s|%c";
+static char printed[100];
+
+static uint64_t call_check(const char *text, size_t len) { return bench_check(text, len); }
+static uint64_t call_is_canonical(const char *text, size_t len) { return bench_is_canonical(text, len); }
+
+static uint64_t call_nothing(const char *text, size_t len) { return text[0] + len; }
+
+static uint64_t call_parse(const char *text, size_t len) {
+    static int types[200];
+    (void)len;
+    return parse_printf_format(text, sizeof types / sizeof types[0], types);
+}
+
+static uint64_t call_render_two(const char *text, size_t len) {
+    (void)text, (void)len;
+    return bench_render_two(FORMAT_OF_TWO, strlen(FORMAT_OF_TWO), 42, "abcdef", 6, printed, sizeof printed);
+}
+
+static uint64_t call_snprintf_two(const char *text, size_t len) {
+    (void)text, (void)len;
+    return snprintf(printed, sizeof printed, FORMAT_OF_TWO, 42, "abcdef");
+}
+
+static uint64_t call_render_five(const char *text, size_t len) {
+    (void)text, (void)len;
+    return bench_render_five(FORMAT_OF_FIVE, strlen(FORMAT_OF_FIVE), 42, 42, 48879, "abcdef", 6, 33, printed,
+                             sizeof printed);
+}
+
+static uint64_t call_snprintf_five(const char *text, size_t len) {
+    (void)text, (void)len;
+    return snprintf(printed, sizeof printed, FORMAT_OF_FIVE, 42, 42L, 48879U, "abcdef", 33);
+}
+
+static const struct {
+    const char *name;
+    uint64_t (*call)(const char *text, size_t len);
+} CALLS[] = {
+    {"nothing", call_nothing},
+    {"check", call_check},
+    {"Pieces", bench_pieces},
+    {"signature", bench_signature},
+    {"canonical", bench_canonical},
+    {"is_canonical", call_is_canonical},
+    {"Scanner", bench_scanner},
+    {"parse_printf_format", call_parse},
+    {"render of two", call_render_two},
+    {"snprintf of two", call_snprintf_two},
+    {"render of five", call_render_five},
+    {"snprintf of five", call_snprintf_five},
+};
+
+static void stop(const char *why) {
+    fprintf(stderr, "driver: %s\n", why);
+    exit(2);
+}
+
+/* All bytes of a file, which ends with a zero byte. */
+static char *read_file(const char *name, size_t *len) {
+    FILE *file = fopen(name, "rb");
+    if (file == NULL || fseek(file, 0, SEEK_END) != 0) stop("no such file");
+    *len = (size_t)ftell(file);
+    rewind(file);
+    char *bytes = malloc(*len);
+    if (bytes == NULL || fread(bytes, 1, *len, file) != *len) stop("the file can't be read");
+    fclose(file);
+    if (*len == 0 || bytes[*len - 1] != 0) stop("the file doesn't end with a zero byte");
+    return bytes;
+}
+
+static char *grow(const char *head, const char *unit, const char *tail, size_t wanted, size_t *len) {
+    size_t repeats = (wanted - strlen(head) - strlen(tail)) / strlen(unit);
+    char *bytes = malloc(wanted + 1);
+    if (bytes == NULL) stop("out of memory");
+    char *end = stpcpy(bytes, head);
+    for (size_t i = 0; i < repeats; i++) end = stpcpy(end, unit);
+    end = stpcpy(end, tail);
+    *len = (size_t)(end - bytes) + 1;
+    return bytes;
+}
+
+int main(int argc, char **argv) {
+    size_t number = 0, total = 0;
+    char *bytes = NULL;
+    if (argc == 5 && strcmp(argv[3], "formats") == 0) {
+        bytes = read_file(argv[4], &total);
+    } else if (argc == 8 && strcmp(argv[3], "grown") == 0) {
+        bytes = grow(argv[4], argv[5], argv[6], strtoul(argv[7], NULL, 10), &total);
+    } else {
+        stop("wrong arguments");
+    }
+    while (number < sizeof CALLS / sizeof CALLS[0] && strcmp(CALLS[number].name, argv[1]) != 0) number++;
+    if (number == sizeof CALLS / sizeof CALLS[0]) stop("no such call");
+    uint64_t (*call)(const char *, size_t) = CALLS[number].call;
+    long repeats = strtol(argv[2], NULL, 10);
+    uint64_t first = 0;
+    for (long i = 0; i < repeats; i++) {
+        uint64_t sum = 0;
+        for (size_t at = 0, len; at < total; at += len + 1) {
+            len = strlen(bytes + at);
+            sum += call(bytes + at, len);
+        }
+        if (i == 0) first = sum;
+        if (sum != first) return 1;
+    }
+    printf("%llu\n", (unsigned long long)first);
+    return 0;
+}
