@@ -4,6 +4,7 @@
 mod building;
 mod comparing;
 mod copying;
+mod cutting;
 mod due;
 mod faults;
 mod fronts;
