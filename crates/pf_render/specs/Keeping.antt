@@ -3,6 +3,7 @@ use Rattle.std.specs.Prelude.{◌≡◌, ◌≤◌, true, ℕ, List, [], ◌∷�
 use Rattle.pf_values.specs.Items.{Item, Byte, Directive, Reads}
 use Rattle.pf_values.specs.Specification.{Specification}
 use Rattle.pf_values.specs.Text.{Text}
+use Rattle.pf_render.specs.declared.kept.TheConstants.{MOST}
 use Rattle.pf_render.specs.declared.kept.Kept.{Kept}
 use Rattle.pf_render.specs.declared.kept.Part.{Part}
 
@@ -19,7 +20,7 @@ items_of_parts parts = flat_map items_of_part parts
 
 -- the most parts that are kept
 abbrev pub most_parts : ℕ
-most_parts = 17
+most_parts = MOST
 
 -- These items have come, and the parts that are kept are theirs, unless they were too many.
 pub record Keeps (kept : Kept) (items : List Item) : Type 0 where
