@@ -1,0 +1,90 @@
+#!/usr/bin/env python3
+"""Rates and memory of `fmtcanon stream` beside a C loop over the same bytes, `tr` and `sed`.
+
+Usage: bench/stream.py PROGRAM [MEGABYTES]
+
+The C loop keeps one state, reads blocks of 64 KiB and writes them as they are. It needs gcc.
+"""
+
+import os
+import subprocess
+import sys
+import tempfile
+import time
+
+LOOP = r"""
+#include <unistd.h>
+static unsigned char block[65536];
+int main(void) {
+    unsigned state = 0;
+    ssize_t len;
+    while ((len = read(0, block, sizeof block)) > 0) {
+        for (ssize_t i = 0; i < len; i++)
+            state = block[i] == '%' ? 1 : block[i] == 'd' ? 0 : state ? state + 1 : 0;
+        for (ssize_t at = 0; at < len;) {
+            ssize_t put = write(1, block + at, len - at);
+            if (put <= 0) return 2;
+            at += put;
+        }
+    }
+    return state > 2;
+}
+"""
+
+TEXTS = {
+    "literal bytes": b"The quick brown fox jumps over the lazy dog.\n",
+    "`%d`": b"%d",
+    "`%d` and 8 literal bytes": b"%d items ",
+    "`%-20d`": b"%-20d",
+}
+
+
+def rate(command, text, size):
+    """Megabytes of input a second, the best of three runs."""
+    best = 0.0
+    for _ in range(3):
+        with open(text, "rb") as source, open(os.devnull, "wb") as sink:
+            start = time.perf_counter()
+            subprocess.run(command, stdin=source, stdout=sink, check=False)
+            best = max(best, size / 1e6 / (time.perf_counter() - start))
+    return best
+
+
+def resident(program, text):
+    """The greatest resident size in kilobytes that was seen."""
+    most = 0
+    with open(text, "rb") as source, open(os.devnull, "wb") as sink:
+        with subprocess.Popen([program, "stream"], stdin=source, stdout=sink) as child:
+            while child.poll() is None:
+                with open(f"/proc/{child.pid}/status", encoding="ascii") as status:
+                    sizes = [int(line.split()[1]) for line in status if line.startswith("VmHWM")]
+                    most = max([most, *sizes])
+                time.sleep(0.002)
+    return most
+
+
+def main():
+    if len(sys.argv) < 2:
+        sys.exit(__doc__)
+    program = os.path.abspath(sys.argv[1])
+    size = int(sys.argv[2] if len(sys.argv) > 2 else "100") * 1_000_000
+    with tempfile.TemporaryDirectory() as folder:
+        loop = os.path.join(folder, "loop")
+        source = os.path.join(folder, "loop.c")
+        with open(source, "w", encoding="ascii") as out:
+            out.write(LOOP)
+        subprocess.run(["gcc", "-O2", "-o", loop, source], check=True)
+        print("| Text | `stream`, MB/s | C loop | `tr` | `sed` | Resident, kB |\n|---|---|---|---|---|---|")
+        for name, part in TEXTS.items():
+            text = os.path.join(folder, "text")
+            block = part * (1_000_000 // len(part))
+            with open(text, "wb") as out:
+                for _ in range(size // len(block)):
+                    out.write(block)
+            commands = [[program, "stream"], [loop], ["tr", "x", "y"], ["sed", "s/x/y/"]]
+            rates = [rate(command, text, size) for command in commands]
+            print(f"| {name} | " + " | ".join(f"{one:,.0f}" for one in rates) + f" | {resident(program, text):,} |")
+
+
+if __name__ == "__main__":
+    main()
