@@ -16,6 +16,8 @@ uint64_t bench_pieces(const char *text, size_t len);
 uint64_t bench_signature(const char *text, size_t len);
 uint64_t bench_canonical(const char *text, size_t len);
 bool bench_is_canonical(const char *text, size_t len);
+uint64_t bench_canonical_len(const char *text, size_t len);
+bool bench_same_text(const char *first, size_t first_len, const char *second, size_t second_len);
 uint64_t bench_scanner(const char *text, size_t len);
 bool bench_render_two(const char *text, size_t len, int number, const char *string, size_t string_len,
                       char *out, size_t room);
@@ -29,6 +31,10 @@ static char printed[100];
 static uint64_t call_check(const char *text, size_t len) { return bench_check(text, len); }
 static uint64_t call_is_canonical(const char *text, size_t len) { return bench_is_canonical(text, len); }
 
+/* The text beside itself, and beside one that differs at once. */
+static uint64_t call_same(const char *text, size_t len) { return bench_same_text(text, len, text, len); }
+static uint64_t call_other(const char *text, size_t len) { return bench_same_text(text, len, "\t", 1); }
+
 static uint64_t call_nothing(const char *text, size_t len) { return text[0] + len; }
 
 static uint64_t call_parse(const char *text, size_t len) {
@@ -36,6 +42,8 @@ static uint64_t call_parse(const char *text, size_t len) {
     (void)len;
     return parse_printf_format(text, sizeof types / sizeof types[0], types);
 }
+
+static uint64_t call_parse_twice(const char *text, size_t len) { return call_parse(text, len) + call_parse(text, len); }
 
 static uint64_t call_render_two(const char *text, size_t len) {
     (void)text, (void)len;
@@ -68,6 +76,10 @@ static const struct {
     {"signature", bench_signature},
     {"canonical", bench_canonical},
     {"is_canonical", call_is_canonical},
+    {"canonical_len", bench_canonical_len},
+    {"same_text", call_same},
+    {"same_text, differs at once", call_other},
+    {"parse_printf_format twice", call_parse_twice},
     {"Scanner", bench_scanner},
     {"parse_printf_format", call_parse},
     {"render of two", call_render_two},

@@ -1,7 +1,7 @@
 //! The calls that the bench counts, as C functions.
 #![tactic(auto)]
 
-use pf_canon::{canonical, is_canonical};
+use pf_canon::{canonical, canonical_len, is_canonical, same_text};
 use pf_render::render;
 use pf_text::{Pieces, Scanner, check, signature};
 use pf_values::{Arg, CBytes, Counted};
@@ -45,6 +45,21 @@ pub extern "C" fn bench_canonical(alloc: Global, text: &[u8]) -> u64 {
 #[unsafe(no_mangle)]
 pub extern "C" fn bench_is_canonical(text: &[u8]) -> bool {
     is_canonical(text) == Ok(true)
+}
+
+/// The low half of the length of the canonical text, or the greatest number where there is none.
+#[unsafe(no_mangle)]
+pub extern "C" fn bench_canonical_len(text: &[u8]) -> u64 {
+    match canonical_len(text) {
+        Ok(len) => u64::try_from(len).unwrap_or(u64::MAX),
+        Err(_) => u64::MAX,
+    }
+}
+
+/// Whether two texts are accepted and equivalent.
+#[unsafe(no_mangle)]
+pub extern "C" fn bench_same_text(first: &[u8], second: &[u8]) -> bool {
+    same_text(first, second) == Ok(true)
 }
 
 /// How many bytes of the text a scanner takes, fed one by one.
