@@ -4,7 +4,7 @@ ghost use Rattle.pf_values.specs.Canonical.{written};
 ghost use Rattle.pf_canon.specs.Cutting.{IsCutOff};
 ghost use Rattle.pf_canon.specs.Making.{silents};
 ghost use Rattle.pf_canon.specs.Parts.{parts_text};
-ghost use Rattle.pf_canon.specs.Through.{IsFrontWithin, front_text};
+ghost use Rattle.pf_canon.specs.Through.{IsFrontWithin, front_text, item_text};
 
 use crate::parts::Parts;
 use crate::transducing::{Front, Made};
@@ -14,6 +14,14 @@ impl Front {
     pub(crate) fn cut<'a>(&self, text: &[u8], left: Option<&'a [u8]>) -> Option<&'a [u8]>
         requires { IsFrontWithin self.now text.now }
         ensures { IsCutOff left.entry (front_text self.now text.now) result }
+    {
+        let left = cut(&text[..self.run], left);
+        self.cut_item(text, left)
+    }
+
+    fn cut_item<'a>(&self, text: &[u8], left: Option<&'a [u8]>) -> Option<&'a [u8]>
+        requires { IsFrontWithin self.now text.now }
+        ensures { IsCutOff left.entry (item_text self.now text.now) result }
     {
         match &self.made {
             Made::Nothing => left,

@@ -1,7 +1,7 @@
 //! What the front of a text settles, appended or written.
 ghost use Rattle.std.specs.Prelude.{◌≡◌, ◌++◌, IfOk};
 ghost use Rattle.pf_canon.specs.Putting.{Puts};
-ghost use Rattle.pf_canon.specs.Through.{IsFrontWithin, front_text};
+ghost use Rattle.pf_canon.specs.Through.{IsFrontWithin, front_text, item_text};
 
 use crate::parts::push;
 use crate::putting::put;
@@ -19,6 +19,14 @@ impl Front {
     ) -> Result<(), AllocError>
         requires { IsFrontWithin self.now text.now }
         ensures { IfOk result (λ _. out.new.items ≡ out.old.items ++ front_text self.now text.now) }
+    {
+        push(out, &text[..self.run])?;
+        self.push_item(text, out)
+    }
+
+    fn push_item<A: Allocator>(&self, text: &[u8], out: &mut Vec<u8, A>) -> Result<(), AllocError>
+        requires { IsFrontWithin self.now text.now }
+        ensures { IfOk result (λ _. out.new.items ≡ out.old.items ++ item_text self.now text.now) }
     {
         match &self.made {
             Made::Nothing => Ok(()),
@@ -38,6 +46,16 @@ impl Front {
     ) -> Result<u128, u128>
         requires { IsFrontWithin self.now text.now }
         ensures { Puts W.contents w.old w.new (front_text self.now text.now) count result }
+    {
+        match put(w, &text[..self.run], count) {
+            Ok(count) => self.put_item(text, w, count),
+            Err(count) => Err(count),
+        }
+    }
+
+    fn put_item<W: Write>(&self, text: &[u8], w: &mut Counted<W>, count: u128) -> Result<u128, u128>
+        requires { IsFrontWithin self.now text.now }
+        ensures { Puts W.contents w.old w.new (item_text self.now text.now) count result }
     {
         match &self.made {
             Made::Nothing => Ok(count),

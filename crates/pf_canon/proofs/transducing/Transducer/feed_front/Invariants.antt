@@ -1,13 +1,14 @@
-use Rattle.std.proofs.Common.{length, ◌-◌, ◌≤◌, List, ◌++◌, take}
-use Rattle.pf_values.specs.Items.{Item}
+use Rattle.std.proofs.Common.{length, true, ◌≡◌, ◌-◌, ◌≤◌, List, ◌++◌, take}
+use Rattle.pf_values.specs.Items.{Item, Reads}
 use Rattle.pf_values.specs.Text.{Text}
 use Rattle.pf_canon.specs.Through.{IsThrough}
 use Rattle.pf_canon.proofs.transducing.Transducer.feed_front.Given as goal
 
 abbrev pub invariant-loop-at : goal.invariant-loop-at
 invariant-loop-at l = record {
+  run : l.run ≤ l.at;
   within : l.at ≤ length l.text;
-  through : ((t out : Text) (items : List Item) → IsThrough l.fn.self t items out → IsThrough l.self (t ++ take l.at l.text) items out);
+  through : ((t out : Text) (items : List Item) → IsThrough l.fn.self t items out → (now : List Item) × IsThrough l.self (t ++ take l.at l.text) now (out ++ take l.run l.text) × (l.whole ≡ true → Reads (t ++ take l.run l.text) now));
 }
 
 abbrev pub decreases-loop-at : goal.decreases-loop-at
