@@ -6,4 +6,5 @@ mod ToldLemmas
 mod FormatArgumentLemmas
 mod PrintingLemmas
 mod ShowLemmas
+mod ReductionLemmas
 mod RunLemmas

@@ -6,7 +6,7 @@ use Rattle.pf_values.specs.Counting.{Known, WritesAll, WritesFirst, device_of}
 use Rattle.pf_values.specs.Text.{Text}
 use Rattle.fmtcanon.specs.Answers.{IsAnswer, IsHindered}
 use Rattle.fmtcanon.specs.Streams.{LeavesCopy}
-use Rattle.fmtcanon.specs.Tasks.{Asks}
+use Rattle.fmtcanon.specs.Tasks.{Asks, HasFault}
 use Rattle.fmtcanon.specs.Words.{IsTaken}
 use Rattle.fmtcanon.specs.declared.answer.Ending.{Ending}
 use Rattle.fmtcanon.specs.declared.answer.Ending.TheVariants as endings
@@ -69,8 +69,8 @@ module _ {R W : Type 0} (remaining : R → Known) (contents : W → Known) (read
   abbrev pub LeavesNothing : Type 0
   LeavesNothing = KeepsAll contents old new × (left ≡ reader)
 
-  -- Words that clap takes are not answered with Usage. For want of memory nothing goes out.
+  -- Usage is answered for a fault that clap finds in the words, never for want of memory or for words that it takes. For want of memory nothing goes out.
   abbrev pub Leaves : List Text → Outcome → Type 0
-  Leaves words (Usage text) = (IsTaken words → ⊥) × LeavesNothing
+  Leaves words (Usage text) = (IsTaken words → ⊥) × HasFault words × LeavesNothing
   Leaves words Memory = LeavesNothing
   Leaves words outcome = (task : Task) × Asks words task × LeavesTask task outcome

@@ -41,10 +41,11 @@ reduced_text r = decimal r.spaces ++ codes " " ++ decimal r.zeros ++ codes " " +
 abbrev pub reduced_line : Specification → Reduced → Text
 reduced_line s r = line (codes "directive " ++ spelled s ++ codes ": " ++ type_name (arg_type s) ++ codes ": " ++ reduced_text r)
 
+-- A directive has one reduction, and its line tells that.
 abbrev pub IsLineOf : Shown → Text → Type 0
 IsLineOf (Run bytes) out = out ≡ line (codes "text " ++ decimal (length bytes))
 IsLineOf Percent out = out ≡ line (codes "percent")
-IsLineOf (Specified s) out = (r : Reduced) × IsReducedTo s r × (out ≡ reduced_line s r)
+IsLineOf (Specified s) out = (r : Reduced) × IsReducedTo s r × ((other : Reduced) → IsReducedTo s other → other ≡ r) × (out ≡ reduced_line s r)
 
 -- a line for each part of an accepted format, in order
 pub record HasShownLines (format lines : Text) : Type 0 where

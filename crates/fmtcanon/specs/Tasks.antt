@@ -1,6 +1,7 @@
 -- What the words ask for, as a task.
-use Rattle.std.specs.Prelude.{◌≡◌, List, [], Some, codes, map, unwrap_or}
+use Rattle.std.specs.Prelude.{◌≡◌, ◌≢◌, List, [], Some, codes, map, unwrap_or}
 use Rattle.clap.specs.Faults.{fault_of}
+use Rattle.clap.specs.Kinds.{IsAmong}
 use Rattle.clap.specs.Matches.{found_of}
 use Rattle.clap.specs.Simple.{subcommand_of}
 use Rattle.clap.specs.Walk.{Row, all_of, first_of, rows_of}
@@ -46,9 +47,13 @@ Asks words Stream = (rows : List Row) × Names words (codes "stream") rows
 abbrev pub rows_in : ArgMatches → List Row
 rows_in inner = rows_of (found_of inner)
 
+-- clap finds a fault in the words; want of memory is none
+abbrev pub HasFault : List Text → Type 0
+HasFault words = (k : ErrorKind) × (k ≢ kind.OutOfMemory) × IsAmong k (fault_of the_command words)
+
 -- words that clap takes have no task for want of memory alone
 abbrev pub IsNoTaskOf : List Text → NoTask → Type 0
-IsNoTaskOf words (Usage message) = IsTaken words → ⊥
+IsNoTaskOf words (Usage message) = (IsTaken words → ⊥) × HasFault words
 IsNoTaskOf words Memory = Unit {0}
 
 -- want of memory is answered as such, and may be answered for anything else

@@ -1,6 +1,10 @@
 //! Laws over the definitions alone. Each is the contract of a function that does nothing.
 ghost use Rattle.fmtcanon.specs.ArgumentWords.{SpellsOneArgument};
 ghost use Rattle.fmtcanon.specs.Comparisons.{ToldIsRead};
+ghost use Rattle.pf_reduce.specs.Reducing.{IsReducedTo};
+ghost use Rattle.pf_reduce.specs.declared.results.Reduced.{Reduced};
+ghost use Rattle.pf_values.specs.Specification.{Specification};
+ghost use Rattle.std.specs.Prelude.{◌≡◌};
 
 /// A word gives one argument at most.
 pub fn spells_one_argument()
@@ -10,4 +14,9 @@ pub fn spells_one_argument()
 /// The word by which an argument is told is read as that argument.
 pub fn told_argument_is_read()
     ensures { ToldIsRead }
+{}
+
+/// A directive has one reduction.
+pub fn one_reduction()
+    ensures { (s : Specification) (r q : Reduced) → IsReducedTo s r → IsReducedTo s q → r ≡ q }
 {}

@@ -1,8 +1,10 @@
-use Rattle.std.proofs.Common.{◌≡◌, ◌∙◌, ap, ap₂, sym, map, true, false, List, [], Option, Some, None, option_map, is_some, unwrap_or, Bor}
+use Rattle.std.proofs.Common.{◌≡◌, ◌∙◌, ap, ap₂, sym, map, true, false, List, [], Option, Some, None, option_map, is_some, unwrap_or, Bor, inl, inr, subst}
+use Rattle.std.specs.Prelude.{◌⊎◌}
 use Rattle.clap.specs.Walk.{Row, Text}
 use Rattle.clap.specs.Matches.{subcommand_name_of}
 use Rattle.clap.specs.Simple.{App, HasMatchesOf, is_simple, subcommand_of, subcommand_rows_of}
 use Rattle.clap.specs.Faults.{fault_of, is_simple_and_free}
+use Rattle.clap.specs.Kinds.{HasKind, IsAmong}
 use Rattle.clap.specs.Takes.{takes}
 use Rattle.clap.specs.declared.error.kind.ErrorKind.{ErrorKind}
 use Rattle.clap.specs.declared.error.kind.ErrorKind.TheVariants as kind
@@ -15,9 +17,9 @@ use Rattle.fmtcanon.specs.declared.task.NoTask.TheVariants.{Usage, Memory}
 use Rattle.fmtcanon.proofs.WordLemmas.{free_command, simple_command, subcommand_given}
 use Rattle.fmtcanon.proofs.task.task_of.Goals as goal
 
-answered : (words : List Text) (k : ErrorKind) (r : NoTask) → (IsTaken words → k ≡ kind.OutOfMemory) → IsAnsweredBy k r → IsNoTaskOf words r
-answered words k (Usage m) f h = λ taken. h (f taken)
-answered words k Memory f h = tt
+answered : (words : List Text) (k : ErrorKind) (r : NoTask) → (IsTaken words → k ≡ kind.OutOfMemory) → (k ≡ kind.OutOfMemory) ⊎ IsAmong k (fault_of the_command words) → IsAnsweredBy k r → IsNoTaskOf words r
+answered words k (Usage m) f g h = (λ taken. h (f taken), (k, h, elim g [ inl none ↦ absurd (h none) | inr among ↦ among ]))
+answered words k Memory f g h = tt
 
 abbrev texts : List (Bor Text) → List Text
 texts = map (λ s. s.now)
@@ -50,7 +52,10 @@ missing (Some y) f x a e h = cc
 
 pub returns-in-Err-clause-err : goal.returns-in-Err-clause-err
 returns-in-Err-clause-err c = let words = texts c.args.words.now in
-    answered words _ c.no_task.result (λ taken. c.in-Err.ensures.passes (ap (λ a. takes a words) c.in-Ok.ensures ∙ taken)) c.no_task.ensures
+    answered words _ c.no_task.result
+    (λ taken. c.in-Err.ensures.passes (ap (λ a. takes a words) c.in-Ok.ensures ∙ taken))
+    (subst (λ a. HasKind (fault_of a words) c.in-Err.error) c.in-Ok.ensures (c.in-Err.ensures.kinds (ap is_simple_and_free c.in-Ok.ensures ∙ free_command)))
+    c.no_task.ensures
 
 pub unreachable-requires : goal.unreachable-requires
 unreachable-requires c =
