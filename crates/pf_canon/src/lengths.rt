@@ -1,10 +1,10 @@
 //! How long a canonical text is.
-ghost use Rattle.std.specs.Prelude.{◌≡◌, ◌+◌, ◌*◌, length, MatchResult};
+ghost use Rattle.std.specs.Prelude.{◌≡◌, ◌+◌, ◌*◌, ◌^◌, ◌<◌, length, MatchResult};
 ghost use Rattle.pf_values.specs.Refusals.{IsRefusedAt};
 ghost use Rattle.pf_values.specs.Text.{Text};
 ghost use Rattle.pf_canon.specs.Answers.{IsCanonicalFor};
 ghost use Rattle.pf_canon.specs.Parts.{parts_text};
-ghost use Rattle.pf_canon.specs.Through.{IsFrontWithin, front_text};
+ghost use Rattle.pf_canon.specs.Through.{IsFrontWithin, front_text, item_text};
 
 use crate::parts::Parts;
 use crate::transducing::{Front, Made, Transducer};
@@ -21,7 +21,7 @@ pub fn canonical_len(text: &[u8]) -> Result<u128, Refusal>
         let rest = &text[at..];
         let front = match transducer.feed_front(rest) {
             Ok(front) => front,
-            Err(refusal) => return Err(refusal),
+            Err(stop) => return Err(stop.refusal),
         };
         len += front.settled_len(rest);
         at += front.len;
@@ -38,6 +38,14 @@ impl Front {
         requires { IsFrontWithin self.now text.now }
         ensures { result ≡ length (front_text self.now text.now) }
     {
+        run_and_item(text[..self.run].len(), self.item_len(text))
+    }
+
+    fn item_len(&self, text: &[u8]) -> u128
+        requires { IsFrontWithin self.now text.now }
+        ensures total { result ≡ length (item_text self.now text.now) }
+        ensures few { result < 2 ^ 100 }
+    {
         match &self.made {
             Made::Nothing => 0,
             Made::Literal => text[self.start..self.len].len() as u128,
@@ -46,10 +54,18 @@ impl Front {
     }
 }
 
+fn run_and_item(run: usize, item: u128) -> u128
+    requires { item < 2 ^ 100 }
+    ensures { result ≡ run + item }
+{
+    run as u128 + item
+}
+
 impl Parts {
     // How many bytes they are.
     fn len(&self) -> u128
-        ensures { result ≡ length (parts_text self.now) }
+        ensures total { result ≡ length (parts_text self.now) }
+        ensures few { result < 2 ^ 100 }
     {
         whole_len(
             self.spaces,
@@ -63,7 +79,8 @@ impl Parts {
 
 // How many bytes some padding, silent directives of four bytes, and a spelling of so many bytes are.
 fn whole_len(spaces: u16, zeros: u16, silents: u64, spelling: usize, trail: u16) -> u128
-    ensures { result ≡ spaces + (zeros + (4 * silents + (spelling + trail))) }
+    ensures total { result ≡ spaces + (zeros + (4 * silents + (spelling + trail))) }
+    ensures few { result < 2 ^ 100 }
 {
     let padding = u128::from(spaces) + u128::from(zeros) + u128::from(trail);
     padding + u128::from(silents) * 4 + spelling as u128

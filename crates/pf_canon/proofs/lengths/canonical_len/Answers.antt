@@ -26,7 +26,7 @@ loop-at-preserved c =
 pub returns-in-Err : goal.returns-in-Err
 returns-in-Err c =
     let i = c.loop-at.invariant.through in
-    refused_at c.args.text.now i.0 c.loop-at.at c.in-Err.refusal (rw take_rest at c.in-Err.ensures.fed _ i.0 i.1 i.2)
+    refused_at c.args.text.now i.0 c.loop-at.at c.in-Err.stop (rw take_rest at c.in-Err.ensures.fed _ i.0 i.1 i.2)
 
 pub returns-in-Err-finish : goal.returns-in-Err-finish
 returns-in-Err-finish c =
@@ -36,10 +36,10 @@ returns-in-Err-finish c =
 pub overflow_add-result : goal.overflow_add-result
 overflow_add-result c =
     let i = c.loop-at.invariant.through in
-    let few = ended_few c.args.text.now i.0 c.loop-at.at c.loop-at.len c.len.result i.3 c.loop-at.transducer i.1 c.in-Ok-finish.parts i.2 c.in-Ok-finish.ensures.few c.len.ensures in
+    let few = ended_few c.args.text.now i.0 c.loop-at.at c.loop-at.len c.len.result i.3 c.loop-at.transducer i.1 c.in-Ok-finish.parts i.2 c.in-Ok-finish.ensures.few c.len.ensures.total in
     omega (arith, few)
 
 pub returns-in-Ok-finish : goal.returns-in-Ok-finish
 returns-in-Ok-finish c =
     let i = c.loop-at.invariant.through in
-    all_counted c.args.text.now i.0 c.loop-at.at c.loop-at.len c.len.result i.3 c.loop-at.transducer i.1 c.in-Ok-finish.parts i.2 c.in-Ok-finish.ensures.few c.len.ensures c.loop-at-test.false (c.in-Ok-finish.ensures.ended _ i.0 i.1 i.2)
+    all_counted c.args.text.now i.0 c.loop-at.at c.loop-at.len c.len.result i.3 c.loop-at.transducer i.1 c.in-Ok-finish.parts i.2 c.in-Ok-finish.ensures.few c.len.ensures.total c.loop-at-test.false (c.in-Ok-finish.ensures.ended _ i.0 i.1 i.2)
