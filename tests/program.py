@@ -9,6 +9,7 @@ It needs a Linux system with bash. Its last line is 'N passed, M failed', and it
 import json
 import os
 import re
+import shlex
 import subprocess
 import sys
 from pathlib import Path
@@ -84,6 +85,23 @@ def try_examples(program, trials):
         trials.expect(f"{name} has examples", found > 0, True)
 
 
+def usage_texts():
+    """The words after each line that begins with '$', with the text below it, up to an empty line before the next."""
+    blocks = re.split(r"^\$", (TOP / "tests/usage.txt").read_text(encoding="utf-8"), flags=re.MULTILINE)
+    for block in blocks[1:]:
+        words, _, text = block.partition("\n")
+        yield shlex.split(words), text[:-1]
+
+
+def try_usage(program, trials):
+    """Help and faults of the words, to the byte, on standard error alone."""
+    found = 0
+    for words, text in usage_texts():
+        found += 1
+        trials.expect(f"usage of {words}", run(program, words), (3, b"", text.encode()))
+    trials.expect("texts of usage", found, 13)
+
+
 def try_words(program, trials):
     """Words that are no text, many words, and the rows of REFUSALS.md."""
     status, stdout, stderr = run(program, ["canon", b"\xff"])
@@ -120,6 +138,7 @@ def main():
     trials = Trials()
     try_rows(program, trials)
     try_examples(program, trials)
+    try_usage(program, trials)
     try_words(program, trials)
     try_devices(program, trials)
     print(f"{trials.passed} passed, {trials.failed} failed")

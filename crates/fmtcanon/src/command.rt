@@ -5,6 +5,7 @@ ghost use Rattle.clap.specs.Words.{app_of};
 ghost use Rattle.clap.specs.declared.builder.command.Command.TheViews.{out-Command as fields_of};
 ghost use Rattle.fmtcanon.specs.Words.{any_arguments, on_format, the_command, top_app, wanted};
 
+use crate::command_texts as texts;
 use clap::{Arg, Command};
 use std::alloc::{AllocError, Global};
 
@@ -13,20 +14,22 @@ pub fn definition<'a>(alloc: Global) -> Result<Command<'a>, AllocError>
     ensures { IfOk result (λ command. app_of command ≡ the_command) }
 {
     let types = "Writes the types of the arguments of a format, a line each";
-    let canon = "Writes the canonical string of a format";
-    let show =
-        "Writes what a format is made of, and what its directives are reduced to, a line each";
+    let canon = "Writes the canonical string of a format, which all formats of its meaning share";
+    let show = "Writes the parts of a format, and what its directives are reduced to, a line each";
     let format = "Writes what a format prints for arguments, and nothing else";
-    let same = "Tells whether one format may stand for another, or arguments that tell them apart";
+    let same = "Tells whether one format may stand for another; if not, in what they differ";
     let stream = "Writes the canonical string of standard input";
-    let with_types = adding(top(alloc)?, on_format(alloc, "types", types)?)?;
-    let with_canon = adding(with_types, on_format(alloc, "canon", canon)?)?;
-    let with_show = adding(with_canon, on_format(alloc, "show", show)?)?;
-    let on_arguments = taking_arguments(alloc, on_format(alloc, "format", format)?)?;
+    let with_types = adding(top(alloc)?, on_format(alloc, "types", types, texts::TYPES)?)?;
+    let with_canon = adding(with_types, on_format(alloc, "canon", canon, texts::CANON)?)?;
+    let with_show = adding(with_canon, on_format(alloc, "show", show, texts::SHOW)?)?;
+    let on_arguments = taking_arguments(alloc, on_format(alloc, "format", format, texts::FORMAT)?)?;
     let with_format = adding(with_show, on_arguments)?;
-    let on_formats = taking_second(alloc, on_format(alloc, "same", same)?)?;
+    let on_formats = taking_second(alloc, on_format(alloc, "same", same, texts::SAME)?)?;
     let with_same = adding(with_format, on_formats)?;
-    adding(with_same, on_nothing(alloc, "stream", stream)?)
+    adding(
+        with_same,
+        on_nothing(alloc, "stream", stream, texts::STREAM)?,
+    )
 }
 
 // The command without its subcommands.
@@ -35,6 +38,7 @@ fn top<'a>(alloc: Global) -> Result<Command<'a>, AllocError>
 {
     Command::new(alloc, "fmtcanon")
         .about("Reads printf formats, and brings them to one canonical spelling")
+        .after_help(texts::PROGRAM)
         .no_binary_name(true)
         .subcommand_required(true)
         .disable_help_subcommand(true)
@@ -42,18 +46,31 @@ fn top<'a>(alloc: Global) -> Result<Command<'a>, AllocError>
 }
 
 // A subcommand without arguments.
-fn on_nothing<'a>(alloc: Global, name: &'a str, about: &'a str) -> Result<Command<'a>, AllocError>
+fn on_nothing<'a>(
+    alloc: Global,
+    name: &'a str,
+    about: &'a str,
+    below: &'a str,
+) -> Result<Command<'a>, AllocError>
     ensures { IfOk result (λ command. (app_of command ≡ new_app name.now) × ((fields_of command).has_globals ≡ false)) }
 {
-    Ok(Command::new(alloc, name).about(about))
+    Ok(Command::new(alloc, name).about(about).after_help(below))
 }
 
 // A subcommand with a format.
-fn on_format<'a>(alloc: Global, name: &'a str, about: &'a str) -> Result<Command<'a>, AllocError>
+fn on_format<'a>(
+    alloc: Global,
+    name: &'a str,
+    about: &'a str,
+    below: &'a str,
+) -> Result<Command<'a>, AllocError>
     ensures { IfOk result (λ command. (app_of command ≡ on_format name.now) × ((fields_of command).has_globals ≡ false)) }
 {
     let format = Arg::new(alloc, "F").required(true).help("A printf format");
-    Command::new(alloc, name).about(about).arg(format)
+    Command::new(alloc, name)
+        .about(about)
+        .after_help(below)
+        .arg(format)
 }
 
 // The subcommand with a second format besides.

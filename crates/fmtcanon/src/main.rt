@@ -4,6 +4,7 @@
 mod answer;
 mod argument_words;
 mod command;
+mod command_texts;
 mod comparison;
 mod fault;
 mod format_arguments;

@@ -1,11 +1,13 @@
 //! Runs of the program, and what it reports.
 
+mod canon_rows;
 mod canonicals;
 mod devices;
 mod formats;
 mod reductions;
 mod sames;
 mod shows;
+mod sizes;
 mod stream_rows;
 mod streams;
 mod types;
@@ -49,6 +51,15 @@ fn answers(alloc: Global, words: &[&str], want: &str) -> bool {
         }
         _ => false,
     }
+}
+
+// A text so many times.
+fn repeated(alloc: Global, text: &str, count: usize) -> Result<String, AllocError> {
+    let mut whole = String::new(alloc);
+    for _ in 0..count {
+        whole.push_str(text)?;
+    }
+    Ok(whole)
 }
 
 #[test]

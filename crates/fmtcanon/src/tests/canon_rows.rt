@@ -1,0 +1,51 @@
+//! Canonical strings worked out by hand from what C says a directive prints.
+use super::{answers, repeated};
+use std::alloc::AllocError;
+
+// What C says is the same in fewer bytes, or as it stands.
+#[test]
+fn canon_leaves_what_prints_the_same(rt: HostRuntime) {
+    let rows = [
+        ("% 10d", "% 10d\n"),
+        ("%-1s", "%1s\n"),
+        ("%-2s", "%-2s\n"),
+        ("%-#5o", "0%-4.0o\n"),
+        ("%.20u", "0000000000%.10u\n"),
+        ("%20d", "         %11d\n"),
+        ("%11.10d", "% .10d\n"),
+        ("% 011d", "% .10d\n"),
+        ("%-#3.0x", "%#3.0x\n"),
+        ("%-#4.0x", "%-#4.0x\n"),
+    ];
+    for (format, want) in rows {
+        assert!(rt;
+            answers(rt.alloc(), ["canon", format].as_slice(), want),
+            "{format}"
+        );
+    }
+}
+
+#[test]
+fn canon_takes_the_greatest_width_apart(rt: HostRuntime) -> Result<(), AllocError> {
+    let mut want = repeated(rt.alloc(), " ", 4084)?;
+    want.push_str("%11d\n")?;
+    assert!(rt; answers(rt.alloc(), ["canon", "%4095d"].as_slice(), &want));
+    Ok(())
+}
+
+#[test]
+fn canon_refuses_with_number_and_place(rt: HostRuntime) {
+    let rows = [
+        ("%*d", "refused 5 Star at byte 1\n"),
+        ("%1$d", "refused 6 Numbered at byte 2\n"),
+        ("%0s", "refused 14 ZeroUndefined at byte 2\n"),
+        ("%Lf", "refused 9 Float at byte 1\n"),
+        ("%l", "refused 2 Truncated at byte 2\n"),
+    ];
+    for (format, want) in rows {
+        assert!(rt;
+            answers(rt.alloc(), ["canon", format].as_slice(), want),
+            "{format}"
+        );
+    }
+}
