@@ -17,6 +17,15 @@ from pathlib import Path
 TOP = Path(__file__).resolve().parent.parent
 DOCUMENTS = ["README.md", "docs/USING.md"]
 TIMEOUT = 60
+# A command, the file of its rows from a model of the program, and the tables in it that are, where not all are.
+MODEL_ROWS = [
+    ("canon", "canonicals", None),
+    ("same", "sames", None),
+    ("format", "formats", ["MODEL_PRINTED", "MODEL_STOPPED"]),
+    ("show", "shows", None),
+    ("stream", "stream_rows", None),
+    ("types", "types", None),
+]
 
 
 class Trials:
@@ -131,6 +140,32 @@ def try_devices(program, trials):
         trials.expect(f"{words} with the other two closed", done.returncode, 0)
 
 
+def table_rows(path, names):
+    """How many rows the tables of a test file have; of these names, or of all."""
+    text = (TOP / path).read_text(encoding="utf-8")
+    tables = re.findall(r"(\w+): \[[^;]*; (\d+)\] = \[", text)
+    return sum(int(rows) for name, rows in tables if names is None or name in names)
+
+
+def try_numbers(trials):
+    """The numbers of rows, tests and must-fail edits that the documents tell are those of the files."""
+    readme = (TOP / "README.md").read_text(encoding="utf-8")
+    for command, file, names in MODEL_ROWS:
+        told = re.search(rf"(\d+)(?: rows)? of `{command}`", readme)
+        rows = table_rows(f"crates/fmtcanon/src/tests/{file}.rt", names)
+        trials.expect(f"rows of {command} in README.md", told and int(told.group(1)), rows)
+    contributing = (TOP / "docs/CONTRIBUTING.md").read_text(encoding="utf-8")
+    for crate in sorted(path.name for path in (TOP / "crates").iterdir()):
+        told = re.search(rf"\| `{crate}` \| \d+ \| (\d+) \| (\d+) \|", contributing)
+        sources = (TOP / "crates" / crate / "src").rglob("*.rt")
+        tests = sum(source.read_text(encoding="utf-8").count("#[test]\n") for source in sources)
+        edits = len(list((TOP / "crates" / crate / "must-fail").glob("*.edit")))
+        trials.expect(f"tests and edits of {crate} in CONTRIBUTING.md", told and told.groups(), (str(tests), str(edits)))
+    # This is the last trial of all, and counts itself.
+    told = re.search(r"(\d+) runs and comparisons", readme)
+    trials.expect("trials in README.md", told and int(told.group(1)), trials.passed + trials.failed + 1)
+
+
 def main():
     if len(sys.argv) != 2:
         sys.exit(__doc__)
@@ -141,6 +176,7 @@ def main():
     try_usage(program, trials)
     try_words(program, trials)
     try_devices(program, trials)
+    try_numbers(trials)
     print(f"{trials.passed} passed, {trials.failed} failed")
     return 1 if trials.failed else 0
 
