@@ -2,6 +2,7 @@
 use super::{arguments, printed, write_number};
 use crate::{RenderFault, WriteFault, render};
 use pf_values::{Arg, Counted};
+use std::alloc::AllocError;
 use std::io;
 use std::io::{Error, ErrorKind, Write};
 use std::test::Fail;
@@ -209,6 +210,27 @@ fn few_calls_for_literals(rt: HostRuntime) {
     assert_eq!(rt; calls.bytes, 32);
     assert_eq!(rt; calls.calls, 5);
     assert_eq!(rt; calls.flushes, 0);
+}
+
+// However long a run is, nothing is flushed before it or after it.
+#[test]
+fn long_literals_are_not_flushed(rt: HostRuntime) -> Result<(), AllocError> {
+    for len in [1usize, 64, 4_096, 100_000] {
+        let mut format = Vec::new(rt.alloc());
+        format.resize(len, b'x')?;
+        format.extend_from_slice(b"%d")?;
+        format.resize(len + len + 2, b'y')?;
+        let mut writer = Counted::new(Calls {
+            calls: 0,
+            bytes: 0,
+            flushes: 0,
+        });
+        assert_eq!(rt; render(&format, &[Arg::Int(7)], &mut writer), Ok(()));
+        let calls = writer.into_inner();
+        assert_eq!(rt; calls.bytes, len + len + 1);
+        assert_eq!(rt; calls.flushes, 0);
+    }
+    Ok(())
 }
 
 // The greatest padding, and the most zeros behind a sign.
