@@ -3,35 +3,31 @@ ghost use Rattle.std.specs.Prelude.{◌≡◌, ◌++◌, IfOk};
 ghost use Rattle.pf_canon.specs.Putting.{Puts};
 ghost use Rattle.pf_canon.specs.Through.{IsFrontWithin, front_text, item_text};
 
-use crate::parts::push;
 use crate::putting::put;
+use crate::rooms::Room;
 use crate::transducing::{Front, Made};
 use pf_values::Counted;
-use std::alloc::{AllocError, Allocator};
+use std::alloc::AllocError;
 use std::io::Write;
 
 impl Front {
     /// Appends what it settles.
-    pub(crate) fn push<A: Allocator>(
-        &self,
-        text: &[u8],
-        out: &mut Vec<u8, A>,
-    ) -> Result<(), AllocError>
+    pub(crate) fn append<R: Room>(&self, text: &[u8], out: &mut R) -> Result<(), AllocError>
         requires { IsFrontWithin self.now text.now }
-        ensures { IfOk result (λ _. out.new.items ≡ out.old.items ++ front_text self.now text.now) }
+        ensures { IfOk result (λ _. R.bytes_of out.new ≡ R.bytes_of out.old ++ front_text self.now text.now) }
     {
-        push(out, &text[..self.run])?;
-        self.push_item(text, out)
+        out.append(&text[..self.run])?;
+        self.append_item(text, out)
     }
 
-    fn push_item<A: Allocator>(&self, text: &[u8], out: &mut Vec<u8, A>) -> Result<(), AllocError>
+    fn append_item<R: Room>(&self, text: &[u8], out: &mut R) -> Result<(), AllocError>
         requires { IsFrontWithin self.now text.now }
-        ensures { IfOk result (λ _. out.new.items ≡ out.old.items ++ item_text self.now text.now) }
+        ensures { IfOk result (λ _. R.bytes_of out.new ≡ R.bytes_of out.old ++ item_text self.now text.now) }
     {
         match &self.made {
             Made::Nothing => Ok(()),
-            Made::Literal => push(out, &text[self.start..self.len]),
-            Made::Parts(parts) => parts.push(out),
+            Made::Literal => out.append(&text[self.start..self.len]),
+            Made::Parts(parts) => parts.append(out),
         }
     }
 }

@@ -15,6 +15,7 @@ mod parts;
 mod putting;
 mod reading;
 mod recognizing;
+mod rooms;
 mod sides;
 mod sources;
 mod streaming;

@@ -2,13 +2,13 @@ use Rattle.std.proofs.Common.{◌≡◌, ◌-◌, ◌≤◌, ◌++◌}
 use Rattle.std.specs.Prelude.{flat_map}
 use Rattle.pf_values.specs.Canonical.{written}
 use Rattle.pf_canon.specs.Making.{silents}
-use Rattle.pf_canon.proofs.parts.push_silents.Given as goal
+use Rattle.pf_canon.proofs.parts.append_silents.Given as goal
 
 -- those that are not left went out
 abbrev pub invariant-loop-left : goal.invariant-loop-left
 invariant-loop-left g l = record {
   within : l.left ≤ l.count;
-  out : l.out.items ≡ l.fn.out.items ++ flat_map written (silents (l.count - l.left));
+  out : g.R.Room.bytes_of l.out ≡ g.R.Room.bytes_of l.fn.out ++ flat_map written (silents (l.count - l.left));
 }
 
 abbrev pub decreases-loop-left : goal.decreases-loop-left

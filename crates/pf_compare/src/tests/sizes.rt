@@ -1,0 +1,53 @@
+//! With ample memory `confirms` answers, at sizes on either side of each power of two and for any number of arguments.
+use crate::confirms;
+use pf_values::Arg;
+use std::alloc::{AllocError, Global};
+
+// So many bytes and an end.
+fn ended(alloc: Global, len: usize, end: &[u8]) -> Result<Vec<u8>, AllocError> {
+    let mut text = Vec::new(alloc);
+    text.resize(len, b'a')?;
+    text.extend_from_slice(end)?;
+    Ok(text)
+}
+
+// Whether 1 is told to print otherwise by `%d` than by `%5d` behind so many bytes, and as by `%i`.
+fn confirms_behind(alloc: Global, len: usize) -> Result<bool, AllocError> {
+    let plain = ended(alloc, len, b"%d")?;
+    let wide = ended(alloc, len, b"%5d")?;
+    let alike = ended(alloc, len, b"%i")?;
+    let one = [Arg::Int(1)];
+    Ok(confirms(alloc, &plain, &wide, &one)? && !confirms(alloc, &plain, &alike, &one)?)
+}
+
+#[test]
+fn texts_of_any_size(rt: HostRuntime) -> Result<(), AllocError> {
+    let mut len = 1usize;
+    for _ in 0..21u32 {
+        assert!(rt; confirms_behind(rt.alloc(), len)?, "{len}");
+        assert!(rt;
+            confirms_behind(rt.alloc(), len.saturating_sub(1))?,
+            "one less than {len}"
+        );
+        len = len.saturating_mul(2);
+    }
+    Ok(())
+}
+
+#[test]
+fn any_number_of_arguments(rt: HostRuntime) -> Result<(), AllocError> {
+    let alloc = rt.alloc();
+    let mut args = Vec::new(alloc);
+    let mut first = Vec::new(alloc);
+    let mut last = Vec::new(alloc);
+    for count in 0..41u32 {
+        last.extend_from_slice(b"%5d")?;
+        first.extend_from_slice(b"%d")?;
+        // One argument is missing, and then there are as many as directives.
+        assert!(rt; !confirms(alloc, &first, &last, &args)?, "{count} of more");
+        args.push(Arg::Int(1))?;
+        assert!(rt; confirms(alloc, &first, &last, &args)?, "{count}");
+        assert!(rt; !confirms(alloc, &first, &first, &args)?, "{count} alike");
+    }
+    Ok(())
+}
