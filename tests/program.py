@@ -15,7 +15,7 @@ import sys
 from pathlib import Path
 
 TOP = Path(__file__).resolve().parent.parent
-DOCUMENTS = ["README.md", "docs/USING.md"]
+DOCUMENTS = ["README.md", "docs/USING.md", "docs/REFUSALS.md"]
 TIMEOUT = 60
 # A command, the file of its rows from a model of the program, and the tables in it that are, where not all are.
 MODEL_ROWS = [
@@ -108,11 +108,43 @@ def try_usage(program, trials):
     for words, text in usage_texts():
         found += 1
         trials.expect(f"usage of {words}", run(program, words), (3, b"", text.encode()))
-    trials.expect("texts of usage", found, 13)
+    trials.expect("texts of usage", found, 15)
+    told = re.search(r"^## (\S+),", (TOP / "CHANGELOG.md").read_text(encoding="utf-8"), flags=re.MULTILINE)
+    trials.expect("the version at the top of CHANGELOG.md", run(program, ["--version"])[2].decode(), f"fmtcanon {told and told.group(1)}\n")
+
+
+def refusal_rows():
+    """The rows of REFUSALS.md: the format, the number and the place of its refusal, and the format to write instead."""
+    for line in (TOP / "docs/REFUSALS.md").read_text(encoding="utf-8").splitlines():
+        if not line.startswith("| ") or line.startswith(("| Format ", "| No. ")):
+            continue
+        kind, row = re.search(r"^\| (\d+) \| (\w+) \|", line), re.search(r" `([^`]+)` \| (\d+) at (\d+) \| `([^`]+)` \|", line)
+        if row is None:
+            raise ValueError(f"no example in the row {line!r}")
+        formats = [cell.replace("\\0", "\0").encode() for cell in (row.group(1), row.group(4))]
+        yield kind and kind.groups(), formats[0], row.group(2), row.group(3), formats[1]
+
+
+def try_refusals(program, trials):
+    """Each format of REFUSALS.md is refused as its row says, and the one to write instead is accepted."""
+    rows = list(refusal_rows())
+    names = dict(kind for kind, *_ in rows if kind)
+    trials.expect("kinds of REFUSALS.md", list(names), [str(number) for number in range(1, 18)])
+    for kind, format, number, at, instead in rows:
+        if kind:
+            trials.expect(f"the number in the row of {format}", number, kind[0])
+        line = f"refused {number} {names[number]} at byte {at}\n".encode()
+        status, _, stderr = run(program, ["stream"], format)
+        trials.expect(f"stream refuses {format}", (status, stderr), (2, line))
+        # A word can't hold a zero byte.
+        if b"\0" not in format:
+            trials.expect(f"types refuses {format}", run(program, ["types", "--", format]), (2, b"", line))
+        status, _, stderr = run(program, ["types", "--", instead])
+        trials.expect(f"{instead} is accepted, in the place of {format}", (status, stderr), (0, b""))
 
 
 def try_words(program, trials):
-    """Words that are no text, many words, and the rows of REFUSALS.md."""
+    """Words that are no text, and many words."""
     status, stdout, stderr = run(program, ["canon", b"\xff"])
     trials.expect("a word that is not UTF-8", (status, stdout), (3, b""))
     trials.expect("it is told in a line", re.fullmatch(rb"error: .*\n", stderr) is not None, True)
@@ -174,6 +206,7 @@ def main():
     try_rows(program, trials)
     try_examples(program, trials)
     try_usage(program, trials)
+    try_refusals(program, trials)
     try_words(program, trials)
     try_devices(program, trials)
     try_numbers(trials)

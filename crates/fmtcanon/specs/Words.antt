@@ -26,10 +26,11 @@ any_arguments = record (new_rule (codes "ARG")) { range = Some (record { start_i
 abbrev pub on_arguments : Text → App
 on_arguments name = with_rule (on_format name) any_arguments
 
--- The words come without the program's name, and a subcommand is wanted.
+-- The words come without the program's name, a subcommand is wanted, and `--version` is answered beside `--help`.
 abbrev pub top_app : App
 top_app = on_top (λ s. record s {
   no_binary_name = true;
+  has_version = true;
   subcommand_required = true;
   disable_help_subcommand = true;
 }) (new_app (codes "fmtcanon"))

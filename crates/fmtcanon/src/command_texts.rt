@@ -1,65 +1,82 @@
-//! What stands below the help of each command: an example, the rule of `--`, and the exit statuses.
+//! What stands below the help of each command: an example, the rule of `--`, the exit statuses, and where
+//! refusals are explained.
 
 pub const PROGRAM: &str = "\
 Example:
   fmtcanon same '%5c' '    %c'
 
 A format that begins with - stands after --, as in: fmtcanon canon -- '-%i'
+Where that is forgotten, the tip may name a part of the format. Give the whole of it after --.
 
 Exit status:
   0  all was written; under same: one format may stand for the other
   1  under same: the types or the bytes differ
   2  a format is refused
-  3  wrong words or arguments; also help, which goes to standard error
-  4  a read or a write failed, or memory ran out";
+  3  wrong words or arguments; also help and version, which go to standard error
+  4  a read or a write failed, or memory ran out
+
+docs/REFUSALS.md of the source says what each refusal means, and what to write instead.";
 
 pub const TYPES: &str = "\
 Example:
   fmtcanon types '%s: %u files'
 
 A format that begins with - stands after --, as in: fmtcanon types -- '-%i'
+Where that is forgotten, the tip may name a part of the format. Give the whole of it after --.
 
-Exit status: 0 written, 2 refused, 3 wrong words, 4 a write failed or memory ran out";
+Exit status: 0 written, 2 refused, 3 wrong words, 4 a write failed or memory ran out
+Refusals: docs/REFUSALS.md of the source says what each means, and what to write instead.";
 
 pub const CANON: &str = "\
 Example:
   fmtcanon canon 'Total: %i of %u%%'
 
 A format that begins with - stands after --, as in: fmtcanon canon -- '-%i'
+Where that is forgotten, the tip may name a part of the format. Give the whole of it after --.
 
-Exit status: 0 written, 2 refused, 3 wrong words, 4 a write failed or memory ran out";
+Exit status: 0 written, 2 refused, 3 wrong words, 4 a write failed or memory ran out
+Refusals: docs/REFUSALS.md of the source says what each means, and what to write instead.";
 
 pub const SHOW: &str = "\
 Example:
   fmtcanon show 'x%20d%%'
 
 A format that begins with - stands after --, as in: fmtcanon show -- '-%i'
+Where that is forgotten, the tip may name a part of the format. Give the whole of it after --.
 
-Exit status: 0 written, 2 refused, 3 wrong words, 4 a write failed or memory ran out";
+Exit status: 0 written, 2 refused, 3 wrong words, 4 a write failed or memory ran out
+Refusals: docs/REFUSALS.md of the source says what each means, and what to write instead.";
 
 pub const FORMAT: &str = "\
 Example:
-  fmtcanon format '%-8s|%+05d' s:ab n:42
+  fmtcanon format '%-8s|%+05d' s:ab n:-42
 
 A format that begins with - stands after --, as in: fmtcanon format -- '-%i' n:5
+Where that is forgotten, the tip may name a part of the format. Give the whole of it after --.
+A number below zero is n:-5, and stands without --. The word -5 is no argument, also after --.
 
 Exit status: 0 written, 2 refused, 3 wrong words or arguments,
-4 a write failed or memory ran out";
+4 a write failed or memory ran out
+Refusals: docs/REFUSALS.md of the source says what each means, and what to write instead.";
 
 pub const SAME: &str = "\
 Example:
   fmtcanon same '%05d' '%.5d'
 
 A format that begins with - stands after --, as in: fmtcanon same -- '-%i' '-%d'
+Where that is forgotten, the tip may name a part of the format. Give the whole of it after --.
 
 Exit status: 0 same, 1 different, 2 one of the two is refused, 3 wrong words,
-4 a write failed or memory ran out";
+4 a write failed or memory ran out
+Refusals: docs/REFUSALS.md of the source says what each means, and what to write instead.";
 
 pub const STREAM: &str = "\
 Example:
   printf %s 'Total: %i' | fmtcanon stream
 
+A format that begins with - needs no -- here: it is no word.
 It writes as it reads, so bytes may stand on standard output before the format is refused.
 
 Exit status: 0 written, 2 refused, 3 wrong words,
-4 a read or a write failed or memory ran out";
+4 a read or a write failed or memory ran out
+Refusals: docs/REFUSALS.md of the source says what each means, and what to write instead.";
