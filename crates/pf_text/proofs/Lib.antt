@@ -8,6 +8,7 @@ pub mod Unique
 pub mod SpellingLemmas
 pub mod ReadBack
 pub mod LiteralLemmas
+pub mod PlainLemmas
 mod SearchLemmas
 pub mod PieceLemmas
 pub mod PieceTexts

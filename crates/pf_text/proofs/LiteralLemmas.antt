@@ -23,7 +23,7 @@ pub record IsRun (text : Text) (n : ℕ) : Type 0 where
   pub literal : (k : ℕ) → k < n → IsLiteral (get_or text k 0)
   pub ends : n < length text → (get_or text n 0 ≡ 37) ⊎ (get_or text n 0 ≡ 0)
 
-stops : (b : ℕ) → is_byte2 37 0 b ≡ true → (b ≡ 37) ⊎ (b ≡ 0)
+pub stops : (b : ℕ) → is_byte2 37 0 b ≡ true → (b ≡ 37) ⊎ (b ≡ 0)
 stops b h = grind (arith, nat_tests)
 
 stopped : (b : ℕ) → (b ≡ 37) ⊎ (b ≡ 0) → is_byte2 37 0 b ≡ true
@@ -42,7 +42,7 @@ run_found text (Some n) h =
       ends = λ less. stops (get_or text n 0) h.1;
     }
 
-literal_take : (text : Text) (n : ℕ) → n ≤ length text → ((k : ℕ) → k < n → IsLiteral (get_or text k 0)) → AllByRecursion IsLiteral (take n text)
+pub literal_take : (text : Text) (n : ℕ) → n ≤ length text → ((k : ℕ) → k < n → IsLiteral (get_or text k 0)) → AllByRecursion IsLiteral (take n text)
 literal_take text zero few h = tt
 literal_take [] (suc n) few h = tt
 literal_take (b ∷ text) (suc n) few h = (h 0 (omega arith), literal_take text n (omega arith) (λ k less. h (suc k) (omega arith)))
@@ -60,7 +60,7 @@ Reads-literals (b ∷ run) t items h all =
 pub literals_taken : (text : Text) (run room : ℕ) → IsRun text run → AllByRecursion IsLiteral (take (min run room) text)
 literals_taken text run room h = literal_take text (min run room) (omega (arith, h.within)) (λ k less. h.literal k (omega arith))
 
-or_full : (b : ℕ) (P : Type 0) → (b ≡ 37) ⊎ (b ≡ 0) → (b ≡ 37) ⊎ (b ≡ 0) ⊎ P
+pub or_full : (b : ℕ) (P : Type 0) → (b ≡ 37) ⊎ (b ≡ 0) → (b ≡ 37) ⊎ (b ≡ 0) ⊎ P
 or_full b P (inl e) = inl e
 or_full b P (inr e) = inr (inl e)
 

@@ -49,7 +49,7 @@ Judges part byte (Err kind) = HasReason part byte kind
 byte_of_flag : (byte : ℕ) (flag : Flag) → flag_of byte ≡ Some flag → byte ≡ flag_byte flag
 byte_of_flag byte flag e = grind (arith, nat_tests)
 
-byte_of_conv : (byte : ℕ) (conv : Conv) → conv_of byte ≡ Some conv → byte ≡ conv_letter conv
+pub byte_of_conv : (byte : ℕ) (conv : Conv) → conv_of byte ≡ Some conv → byte ≡ conv_letter conv
 byte_of_conv byte conv e = grind (arith, nat_tests)
 
 -- a letter that begins a modifier is one

@@ -4,5 +4,6 @@ pub mod Fronts
 pub mod Letters
 pub mod States
 pub mod History
+pub mod Plain
 pub mod PieceHistory
 pub mod Signatures

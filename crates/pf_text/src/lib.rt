@@ -7,6 +7,7 @@ mod faults;
 pub mod laws;
 mod letters;
 mod pieces;
+mod plain;
 mod refusal;
 mod scanner;
 mod search;

@@ -3,10 +3,12 @@ ghost use Rattle.std.specs.Prelude.{◌≡◌, ◌+◌, ◌≤◌, ◌<◌, leng
 ghost use Rattle.pf_values.specs.declared.limits.TheConstants.{MAX_TEXT_LEN};
 ghost use Rattle.pf_values.specs.Items.{Item, Reads};
 ghost use Rattle.pf_values.specs.Text.{Text};
+ghost use Rattle.pf_text.specs.Plain.{PassesPlain};
 ghost use Rattle.pf_text.specs.Stages.{state_of};
 ghost use Rattle.pf_text.specs.States.{next};
 ghost use Rattle.pf_text.specs.History.{IsAfter, HasRefused, Feeds, Finishes, Passes, offset_of, refusal_by, refused_by, refusing};
 
+use crate::plain::plain_len;
 use crate::refusal::Refusal;
 use crate::search::first_other;
 use crate::state::{Automaton, Move};
@@ -121,6 +123,21 @@ impl Scanner {
         let taken = (run as u64).min(room);
         self.offset += taken;
         taken as usize
+    }
+
+    /// Takes the longest run of literal bytes, of `%%`, and of directives that are normal and spelled by their
+    /// conversion alone, at the front of `text`, and tells how many bytes it has. One call of `feed` for each of them
+    /// would do the same.
+    #[inline(always)]
+    pub fn pass_plain(&mut self, text: &[u8]) -> usize
+        ensures within { result ≤ length text.now }
+        ensures passed { (t : Text) (items : List Item) → IsAfter self.old t items → Reads t items → PassesPlain t items text.now result self.new }
+    {
+        let room = MAX_TEXT_LEN.saturating_sub(self.offset);
+        let most = (text.len() as u64).min(room);
+        let run = plain_len(&text[..most as usize]);
+        self.offset += run as u64;
+        run
     }
 
     fn refuse(&mut self, kind: RefusalKind) -> Result<Step, Refusal>

@@ -63,3 +63,39 @@ fn runs_up_to_the_limit(rt: HostRuntime) {
         );
     }
 }
+
+// No pair is cut in two.
+#[test]
+fn plain_runs_up_to_the_limit(rt: HostRuntime) {
+    for (left, taken) in [
+        (0, 0),
+        (1, 0),
+        (2, 2),
+        (3, 3),
+        (4, 4),
+        (5, 4),
+        (6, 6),
+        (7, 6),
+        (9, 6),
+    ] {
+        let mut scanner = behind(LIMIT - left);
+        assert_eq!(rt; scanner.pass_plain(b"%dab%%%i%s"), taken, "{left} left");
+        assert_eq!(rt;
+            scanner.offset(),
+            (LIMIT - left).saturating_add(taken as u64)
+        );
+    }
+}
+
+#[test]
+fn each_letter_behind_percent(rt: HostRuntime) {
+    for letter in 0..=u8::MAX {
+        let mut scanner = Scanner::new();
+        let taken = if b"%douxXcs".contains(&letter) { 2 } else { 0 };
+        assert_eq!(rt;
+            scanner.pass_plain(&[b'%', letter]),
+            taken,
+            "letter {letter}"
+        );
+    }
+}

@@ -1,0 +1,197 @@
+-- Items that stand in a text as its canonical text has them.
+use Rattle.std.proofs.Common.{◌≡◌, ◌≢◌, ℕ, ◌+◌, ◌-◌, ◌<◌, ◌≤◌, min, true, false, Bool, List, [], ◌∷◌, ◌++◌, length, map, take, drop, Some, None, refl, sym, ap, ap₂, ◌∙◌, subst, arith, inl, inr, get_or}
+use Rattle.std.specs.Prelude.{flat_map, is_some, MatchBool, Option, ◌==◌, ◌⊎◌, if◌then◌else◌}
+use Rattle.std.specs.List.{AllByRecursion}
+use Rattle.std.proofs.Math.ListN.{drop_of_length-le}
+use Rattle.std.proofs.Math.Seq.{take-add}
+use Rattle.std.proofs.lemmas.Bool.{cases_lt}
+use Rattle.std.proofs.lemmas.Bool.Decides.{nat_tests}
+use Rattle.std.proofs.lemmas.Grind.{flat_map-append}
+use Rattle.std.proofs.lemmas.List.{append_assoc, append-nil, get_or-drop, get_or-take, length-append, length-take-le, take-append-drop, take-append-le}
+use Rattle.memchr.specs.Find.{is_byte2}
+use Rattle.pf_values.specs.declared.conversions.Conv.{Conv}
+use Rattle.pf_values.specs.declared.conversions.Conv.TheVariants.{D, I, U, O, X, UpperX, C, S}
+use Rattle.pf_values.specs.declared.lengths.Length.TheVariants as lengths
+use Rattle.pf_values.specs.declared.limits.TheConstants.{MAX_TEXT_LEN}
+use Rattle.pf_values.specs.Canonical.{written}
+use Rattle.pf_values.specs.Conversions.{conv_letter}
+use Rattle.pf_values.specs.Defined.{refused_as}
+use Rattle.pf_values.specs.Flags.{no_flags}
+use Rattle.pf_values.specs.Items.{Item, Byte, Directive, IsReadAs, Reads}
+use Rattle.pf_values.specs.Normal.{HasNormalForm, IsNormal, IsNormalPlain, IsNormalSigned, IsNormalString, digits_at_most}
+use Rattle.pf_values.specs.Specification.{Specification}
+use Rattle.pf_values.specs.Text.{Text, percent}
+use Rattle.pf_text.specs.Fronts.{IsAt}
+use Rattle.pf_text.specs.History.{EndsRun, IsAfter, IsLiteral}
+use Rattle.pf_text.specs.Letters.{conv_of}
+use Rattle.pf_text.specs.Plain.{IsPlain, IsPlainText, PassesPlain}
+use Rattle.pf_text.specs.Stages.{Between, state_of}
+use Rattle.pf_text.specs.declared.scanner.Scanner.{Scanner}
+use Rattle.pf_text.proofs.LiteralLemmas.{no_part, or_full, stops}
+use Rattle.pf_text.proofs.ReadBack.{spelled_read}
+use Rattle.pf_text.proofs.Sound.{byte_of_conv}
+use Rattle.pf_text.proofs.Texts.{begun}
+
+-- a byte that is written as it is
+plain_written : (byte : ℕ) → IsLiteral byte → written (Byte byte) ≡ byte ∷ []
+plain_written byte h = let other = h.0 in grind (arith, nat_tests)
+
+pub literal_written : (bytes : Text) → AllByRecursion IsLiteral bytes → flat_map written (map Byte bytes) ≡ bytes
+literal_written [] h = refl
+literal_written (byte ∷ bytes) h = ap (λ t. t ++ flat_map written (map Byte bytes)) (plain_written byte h.0) ∙ ap (λ t. byte ∷ t) (literal_written bytes h.1)
+
+literals_some : (bytes : Text) → AllByRecursion IsLiteral bytes → AllByRecursion IsPlain (map Byte bytes)
+literals_some [] h = tt
+literals_some (byte ∷ bytes) h = (h.0.1, literals_some bytes h.1)
+
+pub literals_plain : (bytes : Text) → AllByRecursion IsLiteral bytes → IsPlainText bytes (map Byte bytes)
+literals_plain bytes h = record { plain = literals_some bytes h; whole = sym (literal_written bytes h) }
+
+-- a directive of two bytes
+abbrev bare : Conv → Specification
+bare conv = record { flags = no_flags; width = None; precision = None; length = lengths.None; conv = conv }
+
+bare_allowed : (conv : Conv) → refused_as (bare conv) ≡ None
+bare_allowed D = refl
+bare_allowed I = refl
+bare_allowed U = refl
+bare_allowed O = refl
+bare_allowed X = refl
+bare_allowed UpperX = refl
+bare_allowed C = refl
+bare_allowed S = refl
+
+signed_normal : IsNormalSigned (bare D)
+signed_normal = record {
+  one_sign = λ e. absurd (cc);
+  least = λ some. omega (arith, some);
+  most = omega arith;
+  right_space = λ right e. absurd (cc);
+  right_bare = λ right none few e. omega (arith, few);
+  left = λ e. absurd (cc);
+}
+
+plain_normal : (conv : Conv) → 1 ≤ digits_at_most (bare conv) → IsNormalPlain (bare conv)
+plain_normal conv some = record { not_filled = refl; precision = some; least = λ some. omega (arith, some); most = omega arith; left = λ e. absurd (cc) }
+
+string_normal : IsNormalString (bare S)
+string_normal = record { shows_some = λ e. cc; width = tt; left = λ e. absurd (cc) }
+
+bare_form : (conv : Conv) → conv ≢ I → HasNormalForm conv (bare conv)
+bare_form D other = signed_normal
+bare_form I other = absurd (other refl)
+bare_form U other = plain_normal U (omega arith)
+bare_form O other = plain_normal O (omega arith)
+bare_form X other = plain_normal X (omega arith)
+bare_form UpperX other = plain_normal UpperX (omega arith)
+bare_form C other = (refl, refl, refl)
+bare_form S other = string_normal
+
+bare_normal : (conv : Conv) → conv ≢ I → IsNormal (bare conv)
+bare_normal conv other =
+    record {
+      defined = record { width = λ e. cc; allowed = bare_allowed conv };
+      no_group = refl;
+      length = refl;
+      no_plus = λ e. absurd (cc);
+      no_space = λ e. absurd (cc);
+      precision = λ e. absurd (cc);
+      form = bare_form conv other;
+    }
+
+pub percent_plain : (letter : ℕ) → letter ≡ percent → (item : Item) × IsPlainText (percent ∷ letter ∷ []) (item ∷ [])
+percent_plain letter e = (Byte percent, record { plain = ((λ z. cc), tt); whole = ap (λ b. percent ∷ b ∷ []) e })
+
+pub bare_plain : (letter : ℕ) (o : Option Conv) → conv_of letter ≡ o → letter ≢ 105 → is_some o ≡ true → (item : Item) × IsPlainText (percent ∷ letter ∷ []) (item ∷ [])
+bare_plain letter None e other some = absurd (cc)
+bare_plain letter (Some conv) e other some =
+    let byte = byte_of_conv letter conv e in
+    (Directive (bare conv), record { plain = (bare_normal conv (λ i. other (byte ∙ ap conv_letter i)), tt); whole = ap (λ b. percent ∷ b ∷ []) byte })
+
+all_append : (a b : List Item) → AllByRecursion IsPlain a → AllByRecursion IsPlain b → AllByRecursion IsPlain (a ++ b)
+all_append [] b h g = g
+all_append (item ∷ a) b h g = (h.0, all_append a b h.1 g)
+
+pub plain_append : (t u : Text) (a b : List Item) → IsPlainText t a → IsPlainText u b → IsPlainText (t ++ u) (a ++ b)
+plain_append t u a b h g = record { plain = all_append a b h.plain g.plain; whole = ap₂ (λ (x y : Text). x ++ y) h.whole g.whole ∙ sym (flat_map-append written a b) }
+
+-- more bytes of a text are such items
+pub plain_more : (text : Text) (at more : ℕ) (a b : List Item) → IsPlainText (take at text) a → IsPlainText (take more (drop at text)) b → IsPlainText (take (at + more) text) (a ++ b)
+plain_more text at more a b h g = subst (λ u. IsPlainText u (a ++ b)) (sym (take-add at more text)) (plain_append (take at text) (take more (drop at text)) a b h g)
+
+is_read_byte : (byte : ℕ) (b : Bool) → byte ≢ 0 → MatchBool b ((if b then percent ∷ percent ∷ [] else byte ∷ []) ≡ percent ∷ percent ∷ []) ((byte ≢ 0) × ((if b then percent ∷ percent ∷ [] else byte ∷ []) ≡ byte ∷ []))
+is_read_byte byte true some = refl
+is_read_byte byte false some = (some, refl)
+
+pub byte_read : (byte : ℕ) → byte ≢ 0 → IsReadAs (written (Byte byte)) (Byte byte)
+byte_read byte some = is_read_byte byte (byte == percent) some
+
+read_plain : (item : Item) → IsPlain item → IsReadAs (written item) item
+read_plain (Byte byte) h = byte_read byte h
+read_plain (Directive s) h = (spelled_read s h.defined, h.defined)
+
+all_read : (items : List Item) → AllByRecursion IsPlain items → Reads (flat_map written items) items
+all_read [] h = refl
+all_read (item ∷ items) h = (written item, flat_map written items, read_plain item h.0, all_read items h.1, refl)
+
+-- a text of items behind another
+pub Reads-append : (t u : Text) (a b : List Item) → Reads t a → Reads u b → Reads (t ++ u) (a ++ b)
+Reads-append t u [] b h g = rw h g
+Reads-append t u (item ∷ a) b h g = (h.0, h.1 ++ u, h.2, Reads-append h.1 u a b h.3 g, ap (λ x. x ++ u) h.4 ∙ append_assoc h.0 h.1 u)
+
+Reads-plain : (t u : Text) (items more : List Item) → Reads t items → IsPlainText u more → Reads (t ++ u) (items ++ more)
+Reads-plain t u items more h g = Reads-append t u items more h (subst (λ v. Reads v more) (sym g.whole) (all_read more g.plain))
+
+after_plain : (scanner : Scanner) (t u : Text) (items more : List Item) → IsAfter scanner t items → Reads t items → IsPlainText u more → length (t ++ u) ≤ MAX_TEXT_LEN
+    → IsAfter (record scanner { offset = scanner.offset + length u }) (t ++ u) (items ++ more)
+after_plain scanner t u items more h reads plain few =
+    record {
+      part = [];
+      good = record { splits = record { whole = t ++ u; reads = Reads-plain t u items more reads plain; split = sym (append-nil (t ++ u)) }; begun = begun Between [] refl };
+      state = subst (IsAt (state_of scanner.automaton)) (no_part scanner t items h reads) h.state;
+      offset = omega (arith, h.offset, length-append t u);
+      limit = few;
+      no_refusal = h.no_refusal;
+    }
+
+-- no literal byte follows such items
+ends_here : (t rest : Text) → (length t ≡ MAX_TEXT_LEN) ⊎ (0 < length rest → is_byte2 percent 0 (get_or rest 0 0) ≡ true) → EndsRun t rest
+ends_here t [] h = tt
+ends_here t (b ∷ rest) (inl full) = inr (inr full)
+ends_here t (b ∷ rest) (inr ends) = or_full b (length t ≡ MAX_TEXT_LEN) (stops b (ends (omega arith)))
+
+-- the run, or what of it the limit leaves
+module _ (scanner : Scanner) (t text : Text) (items : List Item) (n most room : ℕ) (h : IsAfter scanner t items) (reads : Reads t items) (full : room ≡ MAX_TEXT_LEN - scanner.offset) (least : most ≡ min (length text) room) where
+  front_len : length (take most text) ≡ most
+  front_len = length-take-le most text (omega (arith, least))
+
+  module _ (within : n ≤ length (take most text)) where
+    taken : take n (take most text) ≡ take n text
+    taken = sym (take-append-le n (take most text) (drop most text) within) ∙ ap (take n) (take-append-drop most text)
+
+    long : length (take n text) ≡ n
+    long = length-take-le n text (omega (arith, least, within, front_len))
+
+    plain_ends : (n < length (take most text) → is_byte2 percent 0 (get_or (take most text) n 0) ≡ true) → EndsRun (t ++ take n text) (drop n text)
+    plain_ends ends = elim (cases_lt n most) [
+      | inl less ↦
+          let place : n + 0 ≡ n = omega arith in
+          let here : get_or (take most text) n 0 ≡ get_or (drop n text) 0 0 = get_or-take most text n 0 less ∙ ap (λ k. get_or text k 0) (sym place) ∙ sym (get_or-drop n text 0 0) in
+          ends_here (t ++ take n text) (drop n text) (inr (λ some. ap (is_byte2 percent 0) (sym here) ∙ ends (omega (arith, front_len, less))))
+      | inr all ↦ elim (cases_lt n (length text)) [
+        | inl cut ↦ ends_here (t ++ take n text) (drop n text) (inl (omega (arith, length-append t (take n text), long, h.offset, h.limit, least, full, within, front_len, cut, all)))
+        | inr whole ↦ subst (EndsRun (t ++ take n text)) (sym (drop_of_length-le text whole)) tt
+      ]
+    ]
+
+    pub plain_passed : (more : List Item) → IsPlainText (take n (take most text)) more → (n < length (take most text) → is_byte2 percent 0 (get_or (take most text) n 0) ≡ true) → PassesPlain t items text n (record scanner { offset = scanner.offset + n })
+    plain_passed more plain ends =
+        let p = subst (λ u. IsPlainText u more) taken plain in
+        record {
+          more = more;
+          plain = p;
+          after = subst (λ k. IsAfter (record scanner { offset = scanner.offset + k }) (t ++ take n text) (items ++ more)) long
+              (after_plain scanner t (take n text) items more h reads p (omega (arith, length-append t (take n text), long, h.offset, h.limit, least, full, within, front_len)));
+          reads = Reads-plain t (take n text) items more reads p;
+          longest = plain_ends ends;
+        }

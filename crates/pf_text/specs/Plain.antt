@@ -1,0 +1,27 @@
+-- Items that stand in a text as its canonical text has them.
+use Rattle.std.specs.Prelude.{◌≡◌, ◌≢◌, ℕ, List, ◌++◌, take, drop, flat_map}
+use Rattle.std.specs.List.{AllByRecursion}
+use Rattle.pf_values.specs.Canonical.{written}
+use Rattle.pf_values.specs.Items.{Item, Byte, Directive, Reads}
+use Rattle.pf_values.specs.Normal.{IsNormal}
+use Rattle.pf_values.specs.Text.{Text}
+use Rattle.pf_text.specs.declared.scanner.Scanner.{Scanner}
+use Rattle.pf_text.specs.History.{EndsRun, IsAfter}
+
+-- a byte, or a normal directive
+abbrev pub IsPlain : Item → Type 0
+IsPlain (Byte byte) = byte ≢ 0
+IsPlain (Directive s) = IsNormal s
+
+-- such items, each written in the one way
+pub record IsPlainText (t : Text) (items : List Item) : Type 0 where
+  pub plain : AllByRecursion IsPlain items
+  pub whole : t ≡ flat_map written items
+
+-- behind a text that is read, such items at the front of what follows were taken, and no literal byte follows
+pub record PassesPlain (t : Text) (items : List Item) (following : Text) (len : ℕ) (new : Scanner) : Type 0 where
+  pub more : List Item
+  pub plain : IsPlainText (take len following) more
+  pub after : IsAfter new (t ++ take len following) (items ++ more)
+  pub reads : Reads (t ++ take len following) (items ++ more)
+  pub longest : EndsRun (t ++ take len following) (drop len following)

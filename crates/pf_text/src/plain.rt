@@ -1,0 +1,62 @@
+//! The search for the end of a run of items that stand in a text as its canonical text has them.
+ghost use Rattle.std.specs.Prelude.{◌≡◌, ◌<◌, ◌≤◌, [], ◌∷◌, List, length, take, IsTrue};
+ghost use Rattle.memchr.specs.Find.{Passes, is_byte2};
+ghost use Rattle.pf_values.specs.Items.{Item};
+ghost use Rattle.pf_text.specs.Plain.{IsPlainText};
+
+use crate::letters::conv_of;
+use crate::search::first_other;
+
+/// How many bytes of the text are literal bytes, `%%`, and directives that are normal and spelled by their conversion
+/// alone, up to the first other item. It makes no directive, sees no scanner, and is never inlined, as
+/// `first_other`.
+#[inline(never)]
+pub(crate) fn plain_len(text: &[u8]) -> usize
+    ensures within { result ≤ length text.now }
+    ensures plain { (items : List Item) × IsPlainText (take result text.now) items }
+    ensures ended { result < length text.now → Passes (is_byte2 37 0) text.now result }
+{
+    let mut at = 0;
+    while at < text.len() {
+        let more = plain_front(&text[at..]);
+        if more == 0 {
+            return at;
+        }
+        at += more;
+    }
+    at
+}
+
+// The same of the run of literal bytes, or of the two bytes, that begin a text.
+#[inline(always)]
+fn plain_front(text: &[u8]) -> usize
+    requires { 0 < length text.now }
+    ensures within { result ≤ length text.now }
+    ensures plain { (items : List Item) × IsPlainText (take result text.now) items }
+    ensures ended { result ≡ 0 → Passes (is_byte2 37 0) text.now 0 }
+{
+    if text[0] != b'%' {
+        return first_other(text).unwrap_or(text.len());
+    }
+    if text.len() < 2 {
+        return 0;
+    }
+    if ends_plain(text[1]) {
+        return 2;
+    }
+    0
+}
+
+// Whether a byte behind `%` ends such an item: `%`, or a conversion, but not `i`, since `%d` is the normal one.
+#[inline(always)]
+fn ends_plain(letter: u8) -> bool
+    ensures { IsTrue result → (item : Item) × IsPlainText (37 ∷ letter ∷ []) (item ∷ []) }
+{
+    if letter == b'%' {
+        return true;
+    }
+    if letter == b'i' {
+        return false;
+    }
+    conv_of(letter).is_some()
+}
