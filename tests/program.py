@@ -28,6 +28,18 @@ MODEL_ROWS = [
 ]
 
 
+# Names in the documents that are none of this repository's: of C and its library, of other tools and of the kit, and
+# words that stand for others.
+FOREIGN_NAMES = set("""
+    cents errno intmax_t ptrdiff_t strerror uintmax_t I64
+    msgfmt pipefail fix imports plant
+    AllocFailed Display KIT logic dac8208d650f15bf ed8637e01fc3206ec782c5daf8d913b1fcd4ddf4efb850537416d13256281534 the_type write_all
+    NAME TEXT
+""".split())
+# Folders whose files are the code that names are looked up in.
+CODE = ["crates/*/src/**/*.rt", "crates/*/specs/**/*.antt", "crates/*/proofs/**/*.antt", "bench/**/*", "crates.txt", "Makefile", "HANDLES"]
+
+
 class Trials:
     """Counts what was tried, and tells each failure."""
 
@@ -172,20 +184,65 @@ def try_devices(program, trials):
         trials.expect(f"{words} with the other two closed", done.returncode, 0)
 
 
-def table_rows(path, names):
+def table_rows(path, names=None):
     """How many rows the tables of a test file have; of these names, or of all."""
-    text = (TOP / path).read_text(encoding="utf-8")
-    tables = re.findall(r"(\w+): \[[^;]*; (\d+)\] = \[", text)
+    text = (TOP / "crates" / path).read_text(encoding="utf-8")
+    tables = re.findall(r"(\w+): \[[^;=]*; (\d+)\] = \[", text)
     return sum(int(rows) for name, rows in tables if names is None or name in names)
+
+
+def grid_sizes(of_int):
+    """How many directives the grid of comparisons has, of int or of the other types, as its tests want it."""
+    text = (TOP / "crates/pf_compare/src/tests/grid.rt").read_text(encoding="utf-8")
+    sizes = re.findall(r"are_told_by\(rt\.alloc\(\), ArgType::(\w+), (\d+),", text)
+    return [int(size) for name, size in sizes if (name == "Int") == of_int]
+
+
+def pairs_of(count):
+    return count * (count - 1) // 2
+
+
+def told_counts():
+    """What README.md says is tested: patterns of its numbers, each with the numbers that the files give."""
+    grids = [f"pf_render/src/tests/grid/{name}.rt" for name in ["hexadecimal", "long", "octal", "signed", "unsigned"]]
+    forms = table_rows("pf_compare/src/tests/grid.rt", ["INTS"])
+    sizes = grid_sizes(True) + grid_sizes(False)
+    yield r"(\d+) refusals out of", [table_rows("pf_text/src/tests/refused.rt")]
+    yield r"(\d+) texts that the GNU C library prints .* 16 shapes and (5) values", [5 * sum(map(table_rows, grids)), 5]
+    yield r"(\d+) rows out of other programs' test suites, (\d+) worked rows", [table_rows("pf_render/src/tests/vectors.rt"), table_rows("pf_render/src/tests/rows.rt")]
+    yield r"(\d+) directives and what they are reduced to .* up to (\d+) numbers", [table_rows("fmtcanon/src/tests/reductions.rt", [name]) for name in ["DIRECTIVES", "INTS"]]
+    yield r"(\d+) worked canonical texts", [table_rows("pf_canon/src/tests.rt", ["DIRECTIVES", "FORMATS"])]
+    for command, file, names in MODEL_ROWS:
+        yield rf"(\d+)(?: rows)? of `{command}`", [table_rows(f"fmtcanon/src/tests/{file}.rt", names)]
+    yield r"(\d+) rows of whole formats", [table_rows("pf_render/src/tests/formats.rt")]
+    yield r"(\d+) normal directives of int and (\d+) of the other types.* (\d+) pairs, each", [sum(grid_sizes(True)), sum(grid_sizes(False)), sum(map(pairs_of, sizes))]
+    yield r"(\d+) forms of int, (\d+) pairs", [forms, pairs_of(forms)]
+    yield r"(\d+) pairs that one candidate alone", [table_rows("pf_compare/src/tests/grid.rt", ["TOLD_BY_ONE"])]
+    yield r"every two of (\d+) formats", [table_rows("pf_compare/src/tests/vectors.rt", ["FORMATS"])]
+    yield r"on (\d+) pairs from a model", [table_rows("pf_compare/src/tests/verdicts.rt", ["FIRST", "SECOND"])]
+
+
+# Numbers of the README's pages on tests that count no rows, tests or edits.
+PLAIN_NUMBERS = [r"each of the 256 bytes", r"16 shapes", r"take 1, 2, 3 or 7 bytes a call", r"10000 arguments", r"UTF-8", r"\d+ runs and comparisons"]
 
 
 def try_numbers(trials):
     """The numbers of rows, tests and must-fail edits that the documents tell are those of the files."""
-    readme = (TOP / "README.md").read_text(encoding="utf-8")
-    for command, file, names in MODEL_ROWS:
-        told = re.search(rf"(\d+)(?: rows)? of `{command}`", readme)
-        rows = table_rows(f"crates/fmtcanon/src/tests/{file}.rt", names)
-        trials.expect(f"rows of {command} in README.md", told and int(told.group(1)), rows)
+    readme = re.sub(r"(?<=\d),(?=\d{3})", "", (TOP / "README.md").read_text(encoding="utf-8"))
+    tested = readme[readme.index("## What is only tested"):readme.index("## What is trusted")]
+    checked = set()
+    for pattern, counts in told_counts():
+        told = re.search(pattern, tested)
+        trials.expect(f"README.md: {pattern}", told and [int(number) for number in told.groups()], counts)
+        checked.update(told.start(group) for group in range(1, len(counts) + 1) if told)
+    for pattern in PLAIN_NUMBERS:
+        for told in re.finditer(pattern, tested):
+            checked.update(told.start() + number.start() for number in re.finditer(r"\d+", told.group()))
+    callers = [path.name for path in (TOP / "crates/uses/src").glob("*.rt") if path.name not in ("lib.rt", "tests.rt")]
+    told = re.search(r"(\d+) such callers", readme)
+    trials.expect("callers of crates/uses in README.md", told and int(told.group(1)), len(callers))
+    unchecked = [tested[number.start() - 20:number.end() + 20] for number in re.finditer(r"\d+", tested) if number.start() not in checked]
+    trials.expect("numbers of README.md that nothing checks", unchecked, [])
     contributing = (TOP / "docs/CONTRIBUTING.md").read_text(encoding="utf-8")
     for crate in sorted(path.name for path in (TOP / "crates").iterdir()):
         told = re.search(rf"\| `{crate}` \| \d+ \| (\d+) \| (\d+) \|", contributing)
@@ -196,6 +253,74 @@ def try_numbers(trials):
     # This is the last trial of all, and counts itself.
     told = re.search(r"(\d+) runs and comparisons", readme)
     trials.expect("trials in README.md", told and int(told.group(1)), trials.passed + trials.failed + 1)
+
+
+def documents():
+    """The documents, with their texts."""
+    paths = [TOP / "README.md", TOP / "CHANGELOG.md", *sorted((TOP / "docs").glob("*.md")), *sorted((TOP / "crates").glob("*/CALLING.md"))]
+    for path in paths:
+        yield str(path.relative_to(TOP)), path.read_text(encoding="utf-8")
+
+
+def repository_paths():
+    """Each file and folder of the repository, but for what is made."""
+    for path in TOP.rglob("*"):
+        inside = path.relative_to(TOP)
+        if not {"out", ".git", "__pycache__"} & set(inside.parts):
+            yield path, "/" + str(inside)
+
+
+def without_comments(path):
+    comment = {".rt": r"//[^\n]*", ".antt": r"--\s[^\n]*", ".py": r"#[^\n]*"}.get(path.suffix)
+    text = path.read_text(encoding="utf-8")
+    return re.sub(comment, "", text) if comment else text
+
+
+def fences(text):
+    """The blocks of a document, each with its language."""
+    return re.findall(r"^```(\w*)\n(.*?)^```", text, flags=re.DOTALL | re.MULTILINE)
+
+
+def try_names(trials):
+    """Each name and each path that a document sets in backticks is one of the code; so is each name of a block."""
+    paths = list(repository_paths())
+    known = {word for path, _ in paths for word in re.findall(r"\w+", path.name)} | FOREIGN_NAMES
+    for pattern in CODE:
+        for path in TOP.glob(pattern):
+            if path.is_file():
+                known.update(re.findall(r"\w+", without_comments(path)))
+    foreign = set(FOREIGN_NAMES)
+    for document, text in documents():
+        prose = re.sub(r"^(```.*?^```|    .*?)$", "", text, flags=re.DOTALL | re.MULTILINE)
+        # A span with a percent sign is a format, or has one.
+        spans = [span for span in re.findall(r"`([^`\n]+)`", prose) if "%" not in span]
+        names = {name for span in spans for name in re.findall(r"\b[A-Za-z_]\w\w+", span)}
+        # A block has words of English, too.
+        blocks = " ".join(re.sub(r'"[^"\n]*"|//[^\n]*', "", block) for _, block in fences(text))
+        names |= {name for name in re.findall(r"\b[A-Za-z_]\w\w+", blocks) if re.search(r"_|[a-z][A-Z]", name)}
+        foreign -= names
+        trials.expect(f"names of {document} that the code has not", sorted(names - known), [])
+        told = {span.rstrip("/") for span in spans if re.fullmatch(r"\.?[\w-]+(/[\w.+-]+)+/?|[\w-]+\.(rt|antt|md|py|c|txt|jsonl)", span)}
+        missing = [span for span in told if "/out/" not in span and not any(path.endswith("/" + span) for _, path in paths)]
+        trials.expect(f"paths of {document} that are not there", sorted(missing), [])
+    trials.expect("foreign names that no document has", sorted(foreign), [])
+
+
+def plain_code(text):
+    """Code without comments, imports and layout."""
+    text = re.sub(r"//[^\n]*|^(ghost )?use .*?;$|^#!\[.*$", "", text, flags=re.DOTALL | re.MULTILINE)
+    return re.sub(r"\s+", " ", text).strip()
+
+
+def try_callers(trials):
+    """Each caller that a document shows stands in the code, where it is proved and tested."""
+    sources = [plain_code(path.read_text(encoding="utf-8")) for path in TOP.glob("crates/*/src/**/*.rt")]
+    for document, text in documents():
+        for language, block in fences(text):
+            for item in re.split(r"(?<=^})$", block, flags=re.MULTILINE) if language == "rust" else []:
+                item = plain_code(item)
+                found = any(item in source for source in sources)
+                trials.expect(f"{document}: this stands in the code: {item[:60]}", found, True)
 
 
 def main():
@@ -209,6 +334,8 @@ def main():
     try_refusals(program, trials)
     try_words(program, trials)
     try_devices(program, trials)
+    try_names(trials)
+    try_callers(trials)
     try_numbers(trials)
     print(f"{trials.passed} passed, {trials.failed} failed")
     return 1 if trials.failed else 0

@@ -222,11 +222,17 @@ impl Tally {
     }
 }
 
-// Whether every two are told apart, and just these candidates are needed for it: without one of them two directives
-// of the grid fall together, and without any other none do.
-fn are_told_by(alloc: Global, wanted: ArgType, needed: &[bool]) -> Result<bool, Fail> {
+// Whether the grid has so many directives, every two are told apart, and just these candidates are needed for it:
+// without one of them two directives of the grid fall together, and without any other none do.
+fn are_told_by(
+    alloc: Global,
+    wanted: ArgType,
+    directives: usize,
+    needed: &[bool],
+) -> Result<bool, Fail> {
     let tally = tallied(alloc, wanted)?;
-    Ok(tally.pairs > 700 && tally.untold == 0 && tally.needs(needed))
+    let pairs = directives.saturating_mul(directives.saturating_sub(1)) / 2;
+    Ok(tally.pairs == pairs && tally.untold == 0 && tally.needs(needed))
 }
 
 #[test]
@@ -236,7 +242,7 @@ fn every_two_ints(rt: HostRuntime) -> Result<(), Fail> {
         true, false, false, false, false, false, true, false, false, false, false, false, false,
         true, true, true,
     ];
-    assert!(rt; are_told_by(rt.alloc(), ArgType::Int, &needed)?);
+    assert!(rt; are_told_by(rt.alloc(), ArgType::Int, 555, &needed)?);
     Ok(())
 }
 
@@ -244,9 +250,9 @@ fn every_two_ints(rt: HostRuntime) -> Result<(), Fail> {
 fn every_two_unsigned(rt: HostRuntime) -> Result<(), Fail> {
     // 0 and the greatest
     let needed = [true, false, false, true];
-    assert!(rt; are_told_by(rt.alloc(), ArgType::UInt, &needed)?);
-    assert!(rt; are_told_by(rt.alloc(), ArgType::ULong, &needed)?);
-    assert!(rt; are_told_by(rt.alloc(), ArgType::ULongLong, &needed)?);
+    assert!(rt; are_told_by(rt.alloc(), ArgType::UInt, 212, &needed)?);
+    assert!(rt; are_told_by(rt.alloc(), ArgType::ULong, 212, &needed)?);
+    assert!(rt; are_told_by(rt.alloc(), ArgType::ULongLong, 212, &needed)?);
     Ok(())
 }
 
@@ -254,15 +260,15 @@ fn every_two_unsigned(rt: HostRuntime) -> Result<(), Fail> {
 fn every_two_signed(rt: HostRuntime) -> Result<(), Fail> {
     // 0, 1, -1 and the greatest
     let needed = [true, true, true, false, true];
-    assert!(rt; are_told_by(rt.alloc(), ArgType::Long, &needed)?);
-    assert!(rt; are_told_by(rt.alloc(), ArgType::LongLong, &needed)?);
+    assert!(rt; are_told_by(rt.alloc(), ArgType::Long, 91, &needed)?);
+    assert!(rt; are_told_by(rt.alloc(), ArgType::LongLong, 91, &needed)?);
     Ok(())
 }
 
 #[test]
 fn every_two_strings(rt: HostRuntime) -> Result<(), Fail> {
     // the empty one and `A`
-    assert!(rt; are_told_by(rt.alloc(), ArgType::Str, &[true, true, false, false])?);
+    assert!(rt; are_told_by(rt.alloc(), ArgType::Str, 40, &[true, true, false, false])?);
     Ok(())
 }
 

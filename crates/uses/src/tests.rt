@@ -1,0 +1,108 @@
+//! Each use, where it says yes and where it says no.
+use crate::arguments::takes_one_int;
+use crate::columns::column;
+use crate::copying::copies_tidily;
+use crate::differences::shows_difference;
+use crate::padding::spaces_in_front;
+use crate::places::fault_at;
+use crate::printing::print_count;
+use crate::replacing::may_replace;
+use crate::room::fits;
+use crate::tidiness::is_tidy;
+use crate::translations::other_type_at;
+use pf_render::RenderFault;
+use pf_values::{Conv, Counted, Directive, FlagSet, Length};
+
+#[test]
+fn a_format_may_replace_another(rt: HostRuntime) {
+    let alloc = rt.alloc();
+    assert!(rt; may_replace(alloc, b"%5c", b"    %c"));
+    assert!(rt; !may_replace(alloc, b"%05d", b"%.5d"));
+    assert!(rt; !may_replace(alloc, b"%f", b"%f"));
+}
+
+#[test]
+fn a_fault_has_a_place(rt: HostRuntime) {
+    assert!(rt; fault_at(b"100%, ok") == Some(4));
+    assert!(rt; fault_at(b"100%%, ok") == None);
+}
+
+#[test]
+fn a_count_is_printed(rt: HostRuntime) {
+    let mut line = [0u8; 16];
+    let mut writer = Counted::new(line.as_mut_slice());
+    assert!(rt; print_count(-42, &mut writer) == Ok(()));
+    assert!(rt; line.get(..9) == Some(b"-42 files".as_slice()));
+    let mut little = [0u8; 4];
+    let mut writer = Counted::new(little.as_mut_slice());
+    assert!(rt; print_count(-42, &mut writer) == Err(RenderFault::Write(4)));
+    assert!(rt; little.as_slice() == b"-42 ".as_slice());
+}
+
+#[test]
+fn one_int_is_taken(rt: HostRuntime) {
+    let alloc = rt.alloc();
+    assert!(rt; takes_one_int(alloc, b"%hhx bytes"));
+    assert!(rt; !takes_one_int(alloc, b"%u bytes"));
+    assert!(rt; !takes_one_int(alloc, b"%d of %d"));
+    assert!(rt; !takes_one_int(alloc, b"100%"));
+}
+
+#[test]
+fn a_canonical_format_is_tidy(rt: HostRuntime) {
+    assert!(rt; is_tidy(b"%d%%"));
+    assert!(rt; !is_tidy(b"%i%%"));
+    assert!(rt; !is_tidy(b"%f"));
+}
+
+#[test]
+fn a_canonical_string_fits(rt: HostRuntime) {
+    assert!(rt; fits(b"%5c", 6));
+    assert!(rt; !fits(b"%5c", 5));
+    assert!(rt; !fits(b"%", 5));
+}
+
+#[test]
+fn a_number_shows_a_difference(rt: HostRuntime) {
+    let alloc = rt.alloc();
+    assert!(rt; shows_difference(alloc, b"%05d", b"%.5d", -1));
+    assert!(rt; !shows_difference(alloc, b"%05d", b"%.5d", 1));
+    assert!(rt; !shows_difference(alloc, b"%ld", b"%d", -1));
+}
+
+#[test]
+fn a_column_has_a_width(rt: HostRuntime) {
+    let Some(column_of_20) = column(20) else {
+        panic!(rt; "the width is above the limit");
+    };
+    assert!(rt; column_of_20.width() == Some(20));
+    assert!(rt; column(4096).is_none());
+}
+
+#[test]
+fn spaces_stand_in_front(rt: HostRuntime) {
+    let Ok(field) = Directive::new(FlagSet::empty(), Some(20), None, Length::None, Conv::D) else {
+        panic!(rt; "the directive is not defined");
+    };
+    // An int has a sign and at most ten digits.
+    assert!(rt; spaces_in_front(&field) == 9);
+}
+
+#[test]
+fn a_format_is_copied(rt: HostRuntime) {
+    let mut copy = [0u8; 8];
+    let mut writer = Counted::new(copy.as_mut_slice());
+    assert!(rt; copies_tidily(&mut Counted::new(b"%5c%i".as_slice()), &mut writer));
+    assert!(rt; copy.as_slice() == b"    %c%d".as_slice());
+    let mut copy = [0u8; 8];
+    let mut writer = Counted::new(copy.as_mut_slice());
+    assert!(rt; !copies_tidily(&mut Counted::new(b"%i%f".as_slice()), &mut writer));
+}
+
+#[test]
+fn a_translation_takes_another_type(rt: HostRuntime) {
+    let alloc = rt.alloc();
+    assert!(rt; other_type_at(alloc, b"%s: %u files", b"%u Dateien: %s") == Some(0));
+    assert!(rt; other_type_at(alloc, b"%s: %u files", b"%s: Dateien") == Some(1));
+    assert!(rt; other_type_at(alloc, b"%s: %u files", b"%s: %u Dateien") == None);
+}

@@ -1,0 +1,22 @@
+//! Whether a translated format takes the arguments of its source.
+ghost use Rattle.std.specs.Prelude.{IfSome, List};
+ghost use Rattle.pf_values.specs.Items.{Item, Reads, types};
+ghost use Rattle.pf_render.specs.Rendering.{DifferFirstAt};
+
+use pf_compare::{Verdict, compare};
+use std::alloc::Global;
+
+/// The first argument for which a translation wants another type than its source, counted from 0; the number of
+/// arguments of the one that takes fewer, where one begins as the other.
+pub fn other_type_at(alloc: Global, source: &[u8], translation: &[u8]) -> Option<u64>
+    ensures { IfSome result (λ at. (first second : List Item) × Reads source.now first × Reads translation.now second
+        × DifferFirstAt (types first) (types second) at) }
+{
+    let Ok(comparison) = compare(alloc, source, translation) else {
+        return None;
+    };
+    match comparison.verdict {
+        Verdict::Types(at) => Some(at),
+        _ => None,
+    }
+}
