@@ -20,6 +20,7 @@ gate: tools
 
 trials: program
 	python3 tests/program.py $(PROGRAM)
+	python3 tests/devices.py $(PROGRAM)
 
 # A tool that is missing is told, and fails.
 tools:

@@ -3,7 +3,9 @@
 mod canon_rows;
 mod canonicals;
 mod devices;
+mod exhaustion;
 mod formats;
+mod memory;
 mod reductions;
 mod sames;
 mod shows;

@@ -17,3 +17,6 @@ pub mod Canonical
 pub mod Candidates
 pub mod Arg
 pub mod Counting
+pub mod Cuts
+pub mod FaultPlaces
+pub mod Feeds

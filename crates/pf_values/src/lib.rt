@@ -1,11 +1,12 @@
 //! What printf formats are made of: flags, length modifiers, conversions, directives, argument types and
-//! arguments, the kinds of refusal, and readers and writers that count their failures. The definitions of
+//! arguments, the kinds of refusal, readers and writers that count their failures, and some that fail. The definitions of
 //! what a format means stand in `specs/`.
 #![tactic(auto)]
 
 mod arguments;
 mod conversions;
 mod counting;
+pub mod devices;
 mod directives;
 mod flags;
 pub mod laws;

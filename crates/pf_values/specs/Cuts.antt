@@ -1,0 +1,28 @@
+-- What a clause sees of a writer with little room.
+use Rattle.std.specs.Prelude.{◌≡◌, ℕ, ◌-◌, Bool, length, take}
+use Rattle.std.specs.declared.io.ErrorKind.{ErrorKind}
+use Rattle.pf_values.specs.Text.{Text}
+use Rattle.pf_values.specs.declared.devices.cutting.Cut.{Cut}
+
+abbrev pub taken_of : Cut → Text
+taken_of cut = take cut.len cut.place.now
+
+-- how many more bytes it takes
+abbrev pub room_of : Cut → ℕ
+room_of cut = length cut.place.now - cut.len
+
+abbrev pub step_of : Cut → ℕ
+step_of cut = cut.step
+
+abbrev pub kind_of : Cut → ErrorKind
+kind_of cut = cut.kind
+
+abbrev pub flush_fails_of : Cut → Bool
+flush_fails_of cut = cut.flush_fails
+
+-- what a write leaves as it was: the size of the place, and what `new` was given beside it
+pub record KeepsSettings (old new : Cut) : Type 0 where
+  pub size : length new.place.now ≡ length old.place.now
+  pub step : step_of new ≡ step_of old
+  pub kind : kind_of new ≡ kind_of old
+  pub flush : flush_fails_of new ≡ flush_fails_of old

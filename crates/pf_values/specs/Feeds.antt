@@ -1,0 +1,24 @@
+-- What a clause sees of a reader that fails in the middle.
+use Rattle.std.specs.Prelude.{ℕ, length, min, Option}
+use Rattle.std.specs.declared.io.ErrorKind.{ErrorKind}
+use Rattle.pf_values.specs.FaultPlaces.{up_to}
+use Rattle.pf_values.specs.Text.{Text}
+use Rattle.pf_values.specs.declared.devices.feeding.Feed.{Feed}
+
+-- the bytes that it still hands out
+abbrev pub rest_of : Feed → Text
+rest_of feed = feed.rest.now
+
+abbrev pub step_of : Feed → ℕ
+step_of feed = feed.step
+
+-- after how many bytes a call fails
+abbrev pub fault_of : Feed → Option ℕ
+fault_of feed = feed.before_fault
+
+abbrev pub kind_of : Feed → ErrorKind
+kind_of feed = feed.kind
+
+-- how many bytes a call hands out that doesn't fail, with so much room
+abbrev pub part : Feed → ℕ → ℕ
+part feed room = up_to (fault_of feed) (min (min (length (rest_of feed)) (step_of feed)) room)

@@ -1,0 +1,286 @@
+#!/usr/bin/env python3
+"""Tries the built program over standard streams that fail, and in address spaces that are too small.
+
+Usage: tests/devices.py PROGRAM
+
+Standard output: closed; the device that is always full; a pipe whose reader has left, before or after the first
+bytes; a pipe that is full and doesn't wait; a directory; standard error closed or full beside it. Standard input, for
+`stream`: closed; a directory; opened for writing; a pipe that doesn't wait and has nothing; one byte at a time.
+Address spaces: each command in spaces that grow by a page at a time, until it answers.
+
+No run is ended by a signal, none exits with 0 or 1 with bytes missing, and nothing is written for a refused format.
+A space may be too small for the system to start the program, which it then kills, or its loader ends it: the sizes
+are told.
+
+It needs a Linux system. Its last line is 'N passed, M failed', and it exits with 1 where M isn't 0.
+"""
+
+import os
+import resource
+import subprocess
+import sys
+from pathlib import Path
+
+sys.dont_write_bytecode = True
+sys.path.insert(0, str(Path(__file__).resolve().parent))
+
+from program import TIMEOUT, Trials, run  # noqa: E402
+
+WRITE_FAILED = (4, b"write failed\n")
+READ_FAILED = (4, b"read failed\n")
+# A pipe has room for 64 KiB, so that this text doesn't fit.
+LONG = 200
+LONG_FORMAT = "%4095d" * LONG
+LONG_TEXT = (b" " * 4084 + b"%11d") * LONG
+# Words, standard input, the status, and all that goes to standard output.
+ANSWERED = [
+    (["types", "%d%s"], b"", 0, b"int\nstring\n"),
+    (["canon", "%05u"], b"", 0, b"%.5u\n"),
+    (["show", "x%20d%%"], b"", 0, b"text 1\ndirective %20d: int: 9 0 %11d 0\npercent\n"),
+    (["format", "%5d|%s", "n:42", "s:abc"], b"", 0, b"   42|abc"),
+    (["same", "%zd", "%ld"], b"", 0, b"same\n"),
+    (["same", "%d", "%ld"], b"", 1, b"types differ at argument 0\n"),
+    (["same", "%05d", "%.5d"], b"", 1, b"different\nn:-1\n"),
+    (["same", "%s", "%.4095s"], b"", 1, b"different\ns:" + b"A" * 4096 + b"\n"),
+    (["stream"], b"a%.0sb%5d", 0, b"ab%.0s%5d"),
+    (["canon", LONG_FORMAT], b"", 0, LONG_TEXT + b"\n"),
+    (["stream"], LONG_FORMAT.encode(), 0, LONG_TEXT),
+]
+# They write nothing, so that no device is asked for anything.
+EMPTY = [["types", "%%"], ["show", ""], ["format", "%.0s", "s:abc"], ["stream"]]
+UNEXPECTED = b"refused 3 Unexpected at byte 1\n"
+REFUSED = [
+    (["types", "%y"], UNEXPECTED),
+    (["canon", "%y"], UNEXPECTED),
+    (["show", "%y"], UNEXPECTED),
+    (["format", "%y"], UNEXPECTED),
+    (["same", "%y", "%d"], b"first: " + UNEXPECTED),
+    (["same", "%d", "%y"], b"second: " + UNEXPECTED),
+    (["canon", LONG_FORMAT + "%"], b"refused 2 Truncated at byte 1201\n"),
+]
+# What `stream` settles before it is refused, and that it is told even where nothing can be written.
+STREAM_REFUSED = (b"a%.0sb%5d%q", b"ab%.0s%5d", b"refused 3 Unexpected at byte 10\n")
+
+
+def name_of(words):
+    """The words, cut short."""
+    return " ".join(words)[:60]
+
+
+def left_pipe():
+    """The writing end of a pipe that nobody reads."""
+    reader, writer = os.pipe()
+    os.close(reader)
+    return writer
+
+
+def full_pipe():
+    """The writing end of a pipe that is full and doesn't wait, with its reading end."""
+    reader, writer = os.pipe()
+    os.set_blocking(writer, False)
+    try:
+        while True:
+            os.write(writer, b"x" * 4096)
+    except BlockingIOError:
+        return reader, writer
+
+
+def closing(streams):
+    """What closes these streams in a run before it starts."""
+
+    def close():
+        for stream in streams:
+            os.close(stream)
+
+    return close
+
+
+def run_over(program, words, stdin, stdout=subprocess.DEVNULL, closed=(), stderr=subprocess.PIPE):
+    """The status and standard error of a run into this file descriptor, with some streams closed."""
+    options = {"stdout": stdout, "stderr": stderr, "preexec_fn": closing(closed)}
+    status, _, told = run(program, words, stdin, **options)
+    return status, told
+
+
+def failing_outputs(program, words, stdin):
+    """The name of each standard output that fails, and the status and standard error of a run into it."""
+    yield "closed", run_over(program, words, stdin, closed=[1])
+    for name, path, flags in [("full", "/dev/full", os.O_WRONLY), ("a directory", "/", os.O_RDONLY)]:
+        device = os.open(path, flags)
+        yield name, run_over(program, words, stdin, device)
+        os.close(device)
+    writer = left_pipe()
+    yield "a pipe that nobody reads", run_over(program, words, stdin, writer)
+    os.close(writer)
+    reader, writer = full_pipe()
+    yield "a full pipe", run_over(program, words, stdin, writer)
+    os.close(reader)
+    os.close(writer)
+
+
+def try_outputs(program, trials):
+    """What is written fails, and what is refused or empty is told as ever."""
+    for words, stdin, _, _ in ANSWERED:
+        for device, got in failing_outputs(program, words, stdin):
+            trials.expect(f"{name_of(words)}, standard output {device}", got, WRITE_FAILED)
+    for words in EMPTY:
+        for device, got in failing_outputs(program, words, b""):
+            trials.expect(f"{name_of(words)}, standard output {device}", got, (0, b""))
+    for words, line in REFUSED:
+        for device, got in failing_outputs(program, words, b""):
+            trials.expect(f"{name_of(words)}, standard output {device}", got, (2, line))
+    stdin, _, line = STREAM_REFUSED
+    for device, got in failing_outputs(program, ["stream"], stdin):
+        trials.expect(f"stream of a refused text, standard output {device}", got, (2, line))
+
+
+def try_rooms(program, trials):
+    """A reader that leaves after some bytes, and a pipe that doesn't wait: the first bytes went out, and it fails."""
+    for words, stdin in [(["canon", LONG_FORMAT], b""), (["stream"], LONG_FORMAT.encode())]:
+        for count in [1, 100, 4096, 65536]:
+            with subprocess.Popen(
+                [program, *words], stdin=subprocess.PIPE, stdout=subprocess.PIPE, stderr=subprocess.PIPE
+            ) as process:
+                process.stdin.write(stdin)
+                process.stdin.close()
+                front = process.stdout.read(count)
+                process.stdout.close()
+                line = process.stderr.read()
+                status = process.wait(TIMEOUT)
+            wanted = (*WRITE_FAILED, LONG_TEXT[:count])
+            trials.expect(f"{name_of(words)}, read up to {count}", (status, line, front), wanted)
+        reader, writer = os.pipe()
+        os.set_blocking(writer, False)
+        got = run_over(program, words, stdin, writer)
+        os.close(writer)
+        with open(reader, "rb") as pipe:
+            front = pipe.read()
+        trials.expect(f"{name_of(words)} into a pipe that doesn't wait", got, WRITE_FAILED)
+        is_front = 0 < len(front) < len(LONG_TEXT) and LONG_TEXT.startswith(front)
+        trials.expect(f"{name_of(words)}: the pipe has a front of the answer", is_front, True)
+
+
+def try_errors(program, trials):
+    """With standard error closed or full the status and the answer are as ever."""
+    with open("/dev/full", "wb") as full:
+        for closed, stderr in [([2], subprocess.DEVNULL), ([], full)]:
+            for words, stdin, status, text in ANSWERED:
+                got = run(program, words, stdin, stderr=stderr, preexec_fn=closing(closed))
+                trials.expect(f"{name_of(words)}, no standard error", got[:2], (status, text))
+            for words, _ in REFUSED:
+                got, _ = run_over(program, words, b"", closed=closed, stderr=stderr)
+                trials.expect(f"{name_of(words)}, no standard error", got, 2)
+
+
+def run_from(program, stdin, closed=()):
+    """The status, standard output and standard error of `stream` over this file descriptor."""
+    done = subprocess.run(
+        [program, "stream"], stdin=stdin, stdout=subprocess.PIPE, stderr=subprocess.PIPE, timeout=TIMEOUT, check=False,
+        preexec_fn=closing(closed),
+    )
+    return done.returncode, done.stdout, done.stderr
+
+
+def try_inputs(program, trials):
+    """A standard input that can't be read fails `stream`, with nothing written; other commands don't read."""
+    status, line = READ_FAILED
+    trials.expect("stream, standard input closed", run_from(program, subprocess.DEVNULL, [0]), (status, b"", line))
+    for name, path, flags in [("a directory", "/", os.O_RDONLY), ("for writing", "/dev/null", os.O_WRONLY)]:
+        device = os.open(path, flags)
+        trials.expect(f"stream, standard input {name}", run_from(program, device), (status, b"", line))
+        os.close(device)
+    # What came before a read that fails is settled: a byte of a directive isn't, nor what waits.
+    for text, settled in [(b"", b""), (b"ab", b"ab"), (b"a%.0sb%5", b"ab")]:
+        reader, writer = os.pipe()
+        os.set_blocking(reader, False)
+        os.write(writer, text)
+        got = run_from(program, reader)
+        trials.expect(f"stream over a pipe that doesn't wait, after {text!r}", got, (status, settled, line))
+        os.close(reader)
+        os.close(writer)
+    for words, _, status, text in ANSWERED:
+        if words != ["stream"]:
+            got = run(program, words, preexec_fn=closing([0]))
+            trials.expect(f"{name_of(words)}, standard input closed", got, (status, text, b""))
+
+
+def try_bytes(program, trials):
+    """Input that comes a byte at a time gives what it gives at once."""
+    for stdin, text, line in [(b"a%.0sb%5d", b"ab%.0s%5d", b""), STREAM_REFUSED]:
+        with subprocess.Popen(
+            [program, "stream"], stdin=subprocess.PIPE, stdout=subprocess.PIPE, stderr=subprocess.PIPE, bufsize=0
+        ) as process:
+            for byte in stdin:
+                process.stdin.write(bytes([byte]))
+            process.stdin.close()
+            got = (process.stdout.read(), process.stderr.read(), process.wait(TIMEOUT))
+        trials.expect(f"stream of {stdin!r} byte by byte", got, (text, line, 2 if line else 0))
+
+
+def run_within(program, words, stdin, size):
+    """The status and the streams of a run in an address space of so many bytes."""
+    return run(program, words, stdin, preexec_fn=lambda: resource.setrlimit(resource.RLIMIT_AS, (size, size)))
+
+
+def is_killed(got):
+    """Whether the system killed a program that it couldn't start."""
+    status, stdout, stderr = got
+    return status < 0 and stdout == b"" and stderr == b""
+
+
+def is_not_started(got):
+    """Whether the system couldn't start the program: it was killed, or the loader had no room for the libraries."""
+    status, stdout, stderr = got
+    has_no_room = status == 127 and stdout == b"" and (b"shared libraries" in stderr or b"TLS" in stderr)
+    return has_no_room or is_killed(got)
+
+
+def least_space(program, fails):
+    """The least address space, in pages, in which a run doesn't fail so."""
+    low, high = 1, 1 << 16
+    while low < high:
+        middle = (low + high) // 2
+        if fails(run_within(program, ["types", "%y"], b"", middle << 12)):
+            low = middle + 1
+        else:
+            high = middle
+    return low
+
+
+def try_spaces(program, trials):
+    """In each space in which the program starts it answers, or says that memory is out and has written nothing."""
+    loader, start = least_space(program, is_killed), least_space(program, is_not_started)
+    print(f"the system kills the program in less than {loader * 4} KiB, and its loader fails in less than {start * 4}")
+    few = range(1, start, 8)
+    ended = [is_not_started(run_within(program, ["canon", "%d"], b"", pages << 12)) for pages in few]
+    trials.expect("in no smaller space the program starts", all(ended), True)
+    rows = [(words, stdin, (status, text, b"")) for words, stdin, status, text in ANSWERED]
+    rows += [(words, b"", (2, b"", line)) for words, line in REFUSED]
+    for words, stdin, answer in rows:
+        refused, got = 0, None
+        for pages in range(start, start + (1 << 14)):
+            got = run_within(program, words, stdin, pages << 12)
+            if got != (4, b"", b"out of memory\n"):
+                break
+            refused += 1
+        trials.expect(f"{name_of(words)} in {start + refused} pages", got, answer)
+        trials.expect(f"{name_of(words)} is out of memory in less", refused > 0, True)
+
+
+def main():
+    if len(sys.argv) != 2:
+        sys.exit(__doc__)
+    program = os.path.abspath(sys.argv[1])
+    trials = Trials()
+    try_outputs(program, trials)
+    try_rooms(program, trials)
+    try_errors(program, trials)
+    try_inputs(program, trials)
+    try_bytes(program, trials)
+    try_spaces(program, trials)
+    print(f"{trials.passed} passed, {trials.failed} failed")
+    return 1 if trials.failed else 0
+
+
+if __name__ == "__main__":
+    sys.exit(main())
