@@ -101,6 +101,20 @@ pub nothing_left : (rest : Text) → length rest ≤ 0 → rest ≡ []
 nothing_left [] h = refl
 nothing_left (b ∷ rest) h = absurd (omega arith)
 
+pub gives_piece : (old new : Pieces) (piece : Piece) → old.is_over ≡ false → ((t read : Text) (items : List Item) → HasGiven old t read items → GivesPiece new t read items piece) → Gives old (Some (Ok piece)) new
+gives_piece old new piece going given = record { next = given; over = λ closed. absurd (not_both old.is_over closed going); last = tt }
+
+-- no byte was fed so far
+pub nothing_fed : (old now : Pieces) → now ≡ old → (t read : Text) (items : List Item) → HasGiven old t read items → IsInside now t read items
+nothing_fed old now e t read items h =
+    subst (λ p. IsInside p t read items) (sym e)
+    (record {
+      fed = [];
+      going = h.going;
+      split = h.split ∙ ap (λ u. u ++ old.rest.now) (sym (append-nil read));
+      scanned = subst (λ u. IsAfter old.scanner u items) (sym (append-nil read)) h.scanned;
+    })
+
 -- The calls of `next`, where it began at `old` and stands at `now`.
 module _ (old now : Pieces) (inside : (t read : Text) (items : List Item) → HasGiven old t read items → IsInside now t read items) (going : old.is_over ≡ false) where
   -- a byte was fed
@@ -138,9 +152,6 @@ module _ (old now : Pieces) (inside : (t read : Text) (items : List Item) → Ha
           over = λ closed. absurd (not_both old.is_over closed going);
           last = over;
         }
-
-  pub gives_piece : (piece : Piece) (new : Pieces) → ((t read : Text) (items : List Item) → HasGiven old t read items → GivesPiece new t read items piece) → Gives old (Some (Ok piece)) new
-  gives_piece piece new given = record { next = given; over = λ closed. absurd (not_both old.is_over closed going); last = tt }
 
   -- no byte was left
   module _ (none : now.rest.now ≡ []) (new : Pieces) (over : new.is_over ≡ true) (r : Result (Unit {0}) Refusal)

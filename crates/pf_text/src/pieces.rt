@@ -40,6 +40,19 @@ impl<'a> Pieces<'a> {
         }
     }
 
+    // The directive that is spelled by its conversion alone, if the rest begins with one.
+    #[inline(always)]
+    fn take_bare(&mut self) -> Option<Directive>
+        ensures given { (t read : Text) (items : List Item) → HasGiven self.old t read items
+            → MatchOption result (Unit {0}) (λ d. GivesPiece self.new t read items (Piece.Directive d)) }
+        ensures shorter { MatchOption result (self.new ≡ self.old) (λ _. length self.new.rest.now < length self.old.rest.now) }
+        ensures going { self.new.is_over ≡ self.old.is_over }
+    {
+        let directive = self.scanner.take_bare(self.rest)?;
+        self.rest = &self.rest[2..];
+        Some(directive)
+    }
+
     // Moves on behind the first byte of the rest, of which the scanner made this step, and behind the run that
     // a literal byte begins. Gives the piece that ends there, if one does.
     #[inline(always)]
@@ -90,6 +103,9 @@ impl<'a> Iterator for Pieces<'a> {
     fn next(&mut self) -> Option<Result<Piece<'a>, Refusal>> {
         if self.is_over {
             return None;
+        }
+        if let Some(directive) = self.take_bare() {
+            return Some(Ok(Piece::Directive(directive)));
         }
         while let Some(byte) = self.rest.first() {
             match self.scanner.take(*byte) {
