@@ -11,6 +11,7 @@ pub mod LiteralLemmas
 pub mod PlainLemmas
 mod SearchLemmas
 pub mod PieceLemmas
+pub mod BareLemmas
 pub mod PieceTexts
 pub mod SignatureLemmas
 mod Examples

@@ -1,7 +1,7 @@
 -- What the calls inside `next` leave.
-use Rattle.std.proofs.Common.{◌≡◌, ℕ, suc, ◌+◌, ◌-◌, ◌<◌, ◌≤◌, Bool, false, true, List, [], ◌∷◌, ◌++◌, length, get_or, map, take, drop, refl, sym, ap, ◌∙◌, subst, arith, Some, None, Ok, Err, Result}
+use Rattle.std.proofs.Common.{◌≡◌, ℕ, ◌≢◌, ◌<◌, ◌≤◌, Bool, false, true, List, [], ◌∷◌, ◌++◌, length, get_or, map, take, drop, refl, sym, ap, ◌∙◌, subst, arith, inl, inr, Some, None, Ok, Err, Result}
 use denote.Ref.{Bor}
-use Rattle.std.proofs.lemmas.List.{append_assoc, append-nil, take-append-drop, take_all}
+use Rattle.std.proofs.lemmas.List.{append_assoc, append-nil, length_push, length-take-le, take-append-drop}
 use Rattle.pf_values.specs.declared.limits.TheConstants.{MAX_TEXT_LEN}
 use Rattle.pf_values.specs.Items.{Item, Byte, Reads}
 use Rattle.pf_values.specs.Refusals.{IsRefusedAt}
@@ -13,81 +13,72 @@ use Rattle.pf_text.specs.declared.refusal.Refusal.{Refusal}
 use Rattle.pf_text.specs.declared.scanner.Scanner.{Scanner}
 use Rattle.pf_text.specs.declared.scanner.Step.{Step}
 use Rattle.pf_text.specs.declared.scanner.Step.TheVariants as steps
-use Rattle.pf_text.specs.History.{EndsRun, Feeds, Finishes, IsAfter, Passes, with_step}
-use Rattle.pf_text.specs.PieceHistory.{Gives, GivesPiece, HasGiven, IsFed, IsInside, IsLongestRun, IsPieceBefore, items_of}
+use Rattle.pf_text.specs.History.{EndsRun, Feeds, Finishes, IsAfter, IsLiteral, Passes}
+use Rattle.pf_text.specs.PieceHistory.{Gives, GivesPiece, HasGiven, IsFed, IsInside, IsLongestRun}
+use Rattle.pf_text.proofs.PieceTexts.{literal_text, read_rest}
 
--- behind the first byte
-pub behind_first : (rest : Text) (byte : ℕ) (after : Text) → rest ≡ byte ∷ after → take (length rest - 1) (drop 1 rest) ≡ after
-behind_first rest byte after e = subst (λ r. take (length r - 1) (drop 1 r) ≡ after) (sym e) (take_all (length (byte ∷ after) - 1) after (omega arith))
-
-regrouped : (read fed : Text) (byte : ℕ) (more : Text) → ((read ++ fed) ++ byte ∷ []) ++ more ≡ read ++ (fed ++ byte ∷ more)
-regrouped read fed byte more = append_assoc (read ++ fed) (byte ∷ []) more ∙ append_assoc read fed (byte ∷ more)
-
--- a text that goes on with one more byte, and then with more
-split_again : (t read fed rest : Text) (byte : ℕ) (more after : Text) → t ≡ read ++ fed ++ rest → rest ≡ byte ∷ (more ++ after) → t ≡ (read ++ (fed ++ byte ∷ more)) ++ after
-split_again t read fed rest byte more after h e =
-    h ∙ ap (λ r. read ++ fed ++ r) e ∙ sym (append_assoc (read ++ fed) (byte ∷ more) after) ∙ ap (λ u. u ++ after) (append_assoc read fed (byte ∷ more))
-
--- an item other than a literal byte ended
-pub item_given : (old new : Pieces) (step : Step) (piece : Piece) (t read : Text) (items : List Item) (h : IsFed old step t read items)
-    → new.scanner ≡ old.scanner → new.is_over ≡ old.is_over → new.rest.now ≡ h.after
-    → Reads ((read ++ h.fed) ++ h.byte ∷ []) (with_step items step) → with_step items step ≡ items ++ items_of piece
-    → ((u rest : Text) → IsPieceBefore piece u rest) → GivesPiece new t read items piece
-item_given old new step piece t read items h scanner over rest reads same whole =
-    let now : (read ++ h.fed) ++ h.byte ∷ [] ≡ read ++ (h.fed ++ h.byte ∷ []) = append_assoc read h.fed (h.byte ∷ []) in
+-- no run of literal bytes begins here
+pub nothing_fed : (now : Pieces) (t read : Text) (items : List Item) → HasGiven now t read items → EndsRun read now.rest.now → IsInside now t read items
+nothing_fed now t read items h none =
     record {
-      more = h.fed ++ h.byte ∷ [];
-      given = record {
-        going = over ∙ h.going;
-        split = split_again t read h.fed old.rest.now h.byte [] new.rest.now h.split (h.first ∙ ap (λ a. h.byte ∷ a) (sym rest));
-        reads = subst (Reads (read ++ (h.fed ++ h.byte ∷ []))) same (subst (λ u. Reads u (with_step items step)) now reads);
-        scanned = subst (λ s. IsAfter s (read ++ (h.fed ++ h.byte ∷ [])) (items ++ items_of piece)) (sym scanner)
-            (subst (IsAfter old.scanner (read ++ (h.fed ++ h.byte ∷ []))) same (subst (λ u. IsAfter old.scanner u (with_step items step)) now h.takes.after));
-      };
-      whole = whole (read ++ (h.fed ++ h.byte ∷ [])) new.rest.now;
+      fed = [];
+      no_run = none;
+      going = h.going;
+      split = h.split ∙ ap (λ u. u ++ now.rest.now) (sym (append-nil read));
+      scanned = subst (λ u. IsAfter now.scanner u items) (sym (append-nil read)) h.scanned;
     }
 
--- the first byte, and some of what comes after it
-pub front_of : (rest : Text) (byte : ℕ) (after : Text) (n : ℕ) → rest ≡ byte ∷ after → take (1 + n) rest ≡ byte ∷ take n after
-front_of rest byte after n e = let more : 1 + n ≡ suc n = omega arith in rw (e, more) refl
-
-pub back_of : (rest : Text) (byte : ℕ) (after : Text) (n : ℕ) → rest ≡ byte ∷ after → drop (1 + n) rest ≡ drop n after
-back_of rest byte after n e = let more : 1 + n ≡ suc n = omega arith in rw (e, more) refl
-
--- a literal byte was taken, and then the run that it begins
-module _ (old new : Pieces) (t read : Text) (items : List Item) (b n : ℕ) (h : IsFed old (steps.Byte b) t read items) where
-  abbrev run : Text
-  run = h.byte ∷ take n h.after
+-- a run of literal bytes was taken
+module _ (old new : Pieces) (t read : Text) (items : List Item) (n : ℕ) (h : HasGiven old t read items) (over : new.is_over ≡ old.is_over) (p : Passes read items old.rest.now n new.scanner) where
+  -- of no byte
+  pub no_run_taken : n ≡ 0 → new.rest.now ≡ old.rest.now → IsInside new t read items
+  no_run_taken e rest =
+      let after = subst (λ k. IsAfter new.scanner (read ++ take k old.rest.now) (items ++ map Byte (take k old.rest.now))) e p.after in
+      let ends = subst (λ k. EndsRun (read ++ take k old.rest.now) (drop k old.rest.now)) e p.longest in
+      nothing_fed new t read items
+      (record {
+        going = over ∙ h.going;
+        split = h.split ∙ ap (λ r. read ++ r) (sym rest);
+        reads = h.reads;
+        scanned = subst (IsAfter new.scanner read) (append-nil items) (subst (λ u. IsAfter new.scanner u (items ++ [])) (append-nil read) after);
+      })
+      (subst (EndsRun read) (sym rest) (subst (λ u. EndsRun u old.rest.now) (append-nil read) ends))
 
   abbrev GivesRun : Text → Type 0
-  GivesRun u = HasGiven new t (read ++ (h.fed ++ u)) (items ++ map Byte u) × IsLongestRun u (read ++ (h.fed ++ u)) new.rest.now
+  GivesRun u = HasGiven new t (read ++ u) (items ++ map Byte u) × IsLongestRun u (read ++ u) new.rest.now
 
-  run_items : (items ++ Byte b ∷ []) ++ map Byte (take n h.after) ≡ items ++ map Byte run
-  run_items = append_assoc items (Byte b ∷ []) (map Byte (take n h.after)) ∙ ap (λ k. items ++ (Byte k ∷ map Byte (take n h.after))) h.takes.says.1
-
-  gives_run : new.is_over ≡ old.is_over → new.rest.now ≡ drop n h.after → Passes ((read ++ h.fed) ++ h.byte ∷ []) (items ++ Byte b ∷ []) h.after n new.scanner → GivesRun run
-  gives_run over rest p =
-      let now = regrouped read h.fed h.byte (take n h.after) in
-      let cut : h.after ≡ take n h.after ++ new.rest.now = sym (take-append-drop n h.after) ∙ ap (λ r. take n h.after ++ r) (sym rest) in (
-        record {
-          going = over ∙ h.going;
-          split = split_again t read h.fed old.rest.now h.byte (take n h.after) new.rest.now h.split (h.first ∙ ap (λ a. h.byte ∷ a) cut);
-          reads = subst (Reads (read ++ (h.fed ++ run))) run_items (subst (λ u. Reads u ((items ++ Byte b ∷ []) ++ map Byte (take n h.after))) now p.reads);
-          scanned = subst (IsAfter new.scanner (read ++ (h.fed ++ run))) run_items (subst (λ u. IsAfter new.scanner u ((items ++ Byte b ∷ []) ++ map Byte (take n h.after))) now p.after);
-        },
-        record {
-          some = λ e. cc;
-          literal = (h.takes.says.2, p.literal);
-          longest = subst (λ r. EndsRun (read ++ (h.fed ++ run)) r) (sym rest) (subst (λ u. EndsRun u (drop n h.after)) now p.longest);
-        },
+  gives_run : n ≢ 0 → n ≤ length old.rest.now → new.rest.now ≡ drop n old.rest.now → GivesRun (take n old.rest.now)
+  gives_run some within rest =
+      let run = take n old.rest.now in
+      let cut : old.rest.now ≡ run ++ new.rest.now = sym (take-append-drop n old.rest.now) ∙ ap (λ r. run ++ r) (sym rest) in (
+        record { going = over ∙ h.going; split = h.split ∙ ap (λ r. read ++ r) cut ∙ sym (append_assoc read run new.rest.now); reads = p.reads; scanned = p.after },
+        record { some = λ e. some (sym (length-take-le n old.rest.now within) ∙ ap length e); literal = p.literal; longest = subst (EndsRun (read ++ run)) (sym rest) p.longest },
       )
 
-  pub run_given : (taken : Bor Text) → taken.now ≡ take (1 + n) old.rest.now → new.is_over ≡ old.is_over → new.rest.now ≡ drop (1 + n) old.rest.now
-      → Passes ((read ++ h.fed) ++ h.byte ∷ []) (items ++ Byte b ∷ []) h.after n new.scanner → GivesPiece new t read items (pieces.Literal taken)
-  run_given taken e over rest p =
-      let whole = gives_run over (rest ∙ back_of old.rest.now h.byte h.after n h.first) p in
-      let here = subst GivesRun (sym (e ∙ front_of old.rest.now h.byte h.after n h.first)) whole in
-      record { more = h.fed ++ taken.now; given = here.0; whole = here.1 }
+  pub run_given : (taken : Bor Text) → n ≢ 0 → n ≤ length old.rest.now → taken.now ≡ take n old.rest.now → new.rest.now ≡ drop n old.rest.now → GivesPiece new t read items (pieces.Literal taken)
+  run_given taken some within e rest =
+      let here = subst GivesRun (sym e) (gives_run some within rest) in
+      record { more = taken.now; given = here.0; whole = here.1 }
+
+one_byte : (fed : Text) (byte b : ℕ) → fed ++ byte ∷ [] ≡ b ∷ [] → fed ≡ []
+one_byte [] byte b e = refl
+one_byte (x ∷ fed) byte b e = absurd (omega (arith, ap length e, length_push (x ∷ fed) byte))
+
+ends_there : (read : Text) (byte : ℕ) (after : Text) → IsLiteral byte → length (read ++ byte ∷ []) ≤ MAX_TEXT_LEN → EndsRun read (byte ∷ after) → ⊥
+ends_there read byte after literal few (inl e) = literal.0 e
+ends_there read byte after literal few (inr (inl e)) = literal.1 e
+ends_there read byte after literal few (inr (inr full)) = omega (arith, full, few, length_push read byte)
+
+-- where no run begins, no literal byte is read
+pub no_literal_fed : (old : Pieces) (t read : Text) (items : List Item) (b : ℕ) → IsFed old (steps.Byte b) t read items → ⊥
+no_literal_fed old t read items b h =
+    let says = h.takes.says in
+    let whole : Reads (read ++ (h.fed ++ h.byte ∷ [])) (items ++ Byte b ∷ []) = subst (λ u. Reads u (items ++ Byte b ∷ [])) (append_assoc read h.fed (h.byte ∷ [])) says.0 in
+    let literal : IsLiteral b = subst IsLiteral (sym says.1) says.2 in
+    let none = one_byte h.fed h.byte b (literal_text (b ∷ []) (h.fed ++ h.byte ∷ []) (literal, tt) (read_rest items (Byte b ∷ []) read (h.fed ++ h.byte ∷ []) h.reads whole)) in
+    let ends = subst (EndsRun read) h.first (subst (λ f. EndsRun read (f ++ old.rest.now)) none h.no_run) in
+    let few = subst (λ u. length (u ++ h.byte ∷ []) ≤ MAX_TEXT_LEN) (ap (λ f. read ++ f) none ∙ append-nil read) h.takes.after.limit in
+    ends_there read h.byte h.after says.2 few ends
 
 not_both : (b : Bool) → b ≡ true → b ≡ false → ⊥
 not_both b h g = cc
@@ -101,6 +92,9 @@ pub nothing_left : (rest : Text) → length rest ≤ 0 → rest ≡ []
 nothing_left [] h = refl
 nothing_left (b ∷ rest) h = absurd (omega arith)
 
+pub gives_piece : (old new : Pieces) (piece : Piece) → old.is_over ≡ false → ((t read : Text) (items : List Item) → HasGiven old t read items → GivesPiece new t read items piece) → Gives old (Some (Ok piece)) new
+gives_piece old new piece going given = record { next = given; over = λ closed. absurd (not_both old.is_over closed going); last = tt }
+
 -- The calls of `next`, where it began at `old` and stands at `now`.
 module _ (old now : Pieces) (inside : (t read : Text) (items : List Item) → HasGiven old t read items → IsInside now t read items) (going : old.is_over ≡ false) where
   -- a byte was fed
@@ -111,6 +105,8 @@ module _ (old now : Pieces) (inside : (t read : Text) (items : List Item) → Ha
         let i = inside t read items h in
         record {
           fed = i.fed;
+          reads = h.reads;
+          no_run = i.no_run;
           byte = byte;
           after = after;
           going = i.going;
@@ -138,9 +134,6 @@ module _ (old now : Pieces) (inside : (t read : Text) (items : List Item) → Ha
           over = λ closed. absurd (not_both old.is_over closed going);
           last = over;
         }
-
-  pub gives_piece : (piece : Piece) (new : Pieces) → ((t read : Text) (items : List Item) → HasGiven old t read items → GivesPiece new t read items piece) → Gives old (Some (Ok piece)) new
-  gives_piece piece new given = record { next = given; over = λ closed. absurd (not_both old.is_over closed going); last = tt }
 
   -- no byte was left
   module _ (none : now.rest.now ≡ []) (new : Pieces) (over : new.is_over ≡ true) (r : Result (Unit {0}) Refusal)

@@ -37,7 +37,7 @@ literal_byte byte t true e other h = absurd (other (eqb-true byte percent e))
 literal_byte byte t false e other h = h.1
 
 -- literal bytes are read from themselves
-literal_text : (run t : Text) → AllByRecursion IsLiteral run → Reads t (map Byte run) → t ≡ run
+pub literal_text : (run t : Text) → AllByRecursion IsLiteral run → Reads t (map Byte run) → t ≡ run
 literal_text [] t literal h = h
 literal_text (byte ∷ run) t literal h = h.4 ∙ ap₂ (λ (u v : Text). u ++ v) (literal_byte byte h.0 (byte == percent) refl literal.0.0 h.2) (literal_text run h.1 literal.1 h.3)
 

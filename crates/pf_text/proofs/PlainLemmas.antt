@@ -15,7 +15,7 @@ use Rattle.pf_values.specs.declared.lengths.Length.TheVariants as lengths
 use Rattle.pf_values.specs.declared.limits.TheConstants.{MAX_TEXT_LEN}
 use Rattle.pf_values.specs.Canonical.{written}
 use Rattle.pf_values.specs.Conversions.{conv_letter}
-use Rattle.pf_values.specs.Defined.{refused_as}
+use Rattle.pf_values.specs.Defined.{IsDefined, refused_as}
 use Rattle.pf_values.specs.Flags.{no_flags}
 use Rattle.pf_values.specs.Items.{Item, Byte, Directive, IsReadAs, Reads}
 use Rattle.pf_values.specs.Normal.{HasNormalForm, IsNormal, IsNormalPlain, IsNormalSigned, IsNormalString, digits_at_most}
@@ -48,7 +48,7 @@ pub literals_plain : (bytes : Text) → AllByRecursion IsLiteral bytes → IsPla
 literals_plain bytes h = record { plain = literals_some bytes h; whole = sym (literal_written bytes h) }
 
 -- a directive of two bytes
-abbrev bare : Conv → Specification
+abbrev pub bare : Conv → Specification
 bare conv = record { flags = no_flags; width = None; precision = None; length = lengths.None; conv = conv }
 
 bare_allowed : (conv : Conv) → refused_as (bare conv) ≡ None
@@ -60,6 +60,9 @@ bare_allowed X = refl
 bare_allowed UpperX = refl
 bare_allowed C = refl
 bare_allowed S = refl
+
+pub bare_defined : (conv : Conv) → IsDefined (bare conv)
+bare_defined conv = record { width = λ e. cc; allowed = bare_allowed conv }
 
 signed_normal : IsNormalSigned (bare D)
 signed_normal = record {
@@ -90,7 +93,7 @@ bare_form S other = string_normal
 bare_normal : (conv : Conv) → conv ≢ I → IsNormal (bare conv)
 bare_normal conv other =
     record {
-      defined = record { width = λ e. cc; allowed = bare_allowed conv };
+      defined = bare_defined conv;
       no_group = refl;
       length = refl;
       no_plus = λ e. absurd (cc);

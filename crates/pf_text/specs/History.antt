@@ -6,6 +6,7 @@ use Rattle.pf_values.specs.declared.refusals.RefusalKind.{RefusalKind}
 use Rattle.pf_values.specs.declared.refusals.RefusalKind.TheVariants.{Truncated}
 use Rattle.pf_values.specs.Items.{Item, Byte, Directive, Reads}
 use Rattle.pf_values.specs.Refusals.{IsGoodFront, IsRefusedAt}
+use Rattle.pf_values.specs.Specification.{Specification}
 use Rattle.pf_values.specs.Text.{Text, percent}
 use Rattle.pf_text.specs.declared.refusal.Refusal.{Refusal}
 use Rattle.pf_text.specs.declared.scanner.Scanner.{Scanner}
@@ -81,6 +82,11 @@ pub record Passes (t : Text) (items : List Item) (following : Text) (len : ℕ) 
   pub reads : Reads (t ++ take len following) (items ++ map Byte (take len following))
   pub literal : AllByRecursion IsLiteral (take len following)
   pub longest : EndsRun (t ++ take len following) (drop len following)
+
+-- behind a text that is read, the two bytes at the front of what follows were taken, which are a directive
+pub record TakesDirective (t : Text) (items : List Item) (following : Text) (new : Scanner) (d : Specification) : Type 0 where
+  pub after : IsAfter new (t ++ take 2 following) (items ++ Directive d ∷ [])
+  pub reads : Reads (t ++ take 2 following) (items ++ Directive d ∷ [])
 
 -- whether the text so far is whole
 abbrev pub Finishes : Text → List Item → Result (Unit {0}) Refusal → Type 0

@@ -43,9 +43,10 @@ pub record GivesPiece (new : Pieces) (t read : Text) (items : List Item) (piece 
   pub given : HasGiven new t (read ++ more) (items ++ items_of piece)
   pub whole : IsPieceBefore piece (read ++ more) new.rest.now
 
--- inside a call: the scanner has taken some more bytes, and no item has ended
+-- inside a call: no run of literal bytes begins behind what was given, the scanner has taken some more bytes, and no item has ended
 pub record IsInside (pieces : Pieces) (t read : Text) (items : List Item) : Type 0 where
   pub fed : Text
+  pub no_run : EndsRun read (fed ++ pieces.rest.now)
   pub going : pieces.is_over ≡ false
   pub split : t ≡ read ++ fed ++ pieces.rest.now
   pub scanned : IsAfter pieces.scanner (read ++ fed) items
@@ -55,6 +56,8 @@ pub record IsFed (pieces : Pieces) (step : Step) (t read : Text) (items : List I
   pub fed : Text
   pub byte : ℕ
   pub after : Text
+  pub reads : Reads read items
+  pub no_run : EndsRun read (fed ++ pieces.rest.now)
   pub going : pieces.is_over ≡ false
   pub split : t ≡ read ++ fed ++ pieces.rest.now
   pub first : pieces.rest.now ≡ byte ∷ after

@@ -1,7 +1,8 @@
 //! The pieces of a format in memory: runs of literal bytes, `%%`, and directives.
-ghost use Rattle.std.specs.Prelude.{◌≡◌, ℕ, ◌<◌, List, [], length, MatchOption};
+ghost use Rattle.std.specs.Prelude.{◌≡◌, ◌<◌, ◌≤◌, List, [], length, IsFalse, MatchOption};
 ghost use Rattle.pf_values.specs.Items.{Item};
 ghost use Rattle.pf_values.specs.Text.{Text};
+ghost use Rattle.pf_text.specs.History.{EndsRun};
 
 use crate::refusal::Refusal;
 use crate::scanner::{Scanner, Step};
@@ -40,8 +41,41 @@ impl<'a> Pieces<'a> {
         }
     }
 
-    // Moves on behind the first byte of the rest, of which the scanner made this step, and behind the run that
-    // a literal byte begins. Gives the piece that ends there, if one does.
+    // The directive that is spelled by its conversion alone, if the rest begins with one.
+    #[inline(always)]
+    fn take_bare(&mut self) -> Option<Directive>
+        ensures given { (t read : Text) (items : List Item) → HasGiven self.old t read items
+            → MatchOption result (Unit {0}) (λ d. GivesPiece self.new t read items (Piece.Directive d)) }
+        ensures shorter { MatchOption result (self.new ≡ self.old) (λ _. length self.new.rest.now < length self.old.rest.now) }
+        ensures going { self.new.is_over ≡ self.old.is_over }
+    {
+        let directive = self.scanner.take_bare(self.rest)?;
+        self.rest = &self.rest[2..];
+        Some(directive)
+    }
+
+    // The run of literal bytes that begins the rest, if one does.
+    #[inline(always)]
+    fn take_run(&mut self) -> Option<&'a [u8]>
+        ensures given { (t read : Text) (items : List Item) → HasGiven self.old t read items
+            → MatchOption result (IsInside self.new t read items) (λ run. GivesPiece self.new t read items (Piece.Literal run)) }
+        ensures shorter { MatchOption result (length self.new.rest.now ≤ length self.old.rest.now) (λ _. length self.new.rest.now < length self.old.rest.now) }
+        ensures going { self.new.is_over ≡ self.old.is_over }
+    {
+        if !may_be_literal(self.rest) {
+            return None;
+        }
+        let len = self.scanner.pass_literals(self.rest);
+        if len == 0 {
+            return None;
+        }
+        let (run, rest) = self.rest.split_at(len);
+        self.rest = rest;
+        Some(run)
+    }
+
+    // Moves on behind the first byte of the rest, of which the scanner made this step. Gives the piece that ends
+    // there, if one does. A literal byte never does, since the runs are given before.
     #[inline(always)]
     fn advance(&mut self, step: Step) -> Option<Piece<'a>>
         requires { 0 < length self.old.rest.now }
@@ -50,30 +84,25 @@ impl<'a> Pieces<'a> {
         ensures shorter { length self.new.rest.now < length self.old.rest.now }
         ensures going { self.new.is_over ≡ self.old.is_over }
     {
-        if let Step::Byte(_) = step {
-            return Some(Piece::Literal(self.take_run()));
-        }
-        self.rest = &self.rest[1..];
+        let (byte, rest) = self.rest.split_at(1);
+        self.rest = rest;
         match step {
+            Step::More => None,
+            Step::Byte(_) => Some(Piece::Literal(byte)),
             Step::Percent => Some(Piece::Percent),
             Step::Directive(directive) => Some(Piece::Directive(directive)),
-            Step::More | Step::Byte(_) => None,
         }
     }
+}
 
-    // The run that the first byte of the rest begins, which the scanner has taken.
-    #[inline(always)]
-    fn take_run(&mut self) -> &'a [u8]
-        requires { 0 < length self.old.rest.now }
-        ensures given { (t read : Text) (items : List Item) (b : ℕ) → IsFed self.old (Step.Byte b) t read items
-            → GivesPiece self.new t read items (Piece.Literal result) }
-        ensures shorter { length self.new.rest.now < length self.old.rest.now }
-        ensures going { self.new.is_over ≡ self.old.is_over }
-    {
-        let more = self.scanner.pass_literals(&self.rest[1..]);
-        let (run, rest) = self.rest.split_at(1 + more);
-        self.rest = rest;
-        run
+// Whether a text begins with another byte than `%`.
+#[inline(always)]
+fn may_be_literal(text: &[u8]) -> bool
+    ensures { IsFalse result → (read : Text) → EndsRun read text.now }
+{
+    match text.first() {
+        Some(byte) => *byte != b'%',
+        None => false,
     }
 }
 
@@ -90,6 +119,12 @@ impl<'a> Iterator for Pieces<'a> {
     fn next(&mut self) -> Option<Result<Piece<'a>, Refusal>> {
         if self.is_over {
             return None;
+        }
+        if let Some(directive) = self.take_bare() {
+            return Some(Ok(Piece::Directive(directive)));
+        }
+        if let Some(run) = self.take_run() {
+            return Some(Ok(Piece::Literal(run)));
         }
         while let Some(byte) = self.rest.first() {
             match self.scanner.take(*byte) {

@@ -1,19 +1,21 @@
 //! A reader of a format, byte by byte.
-ghost use Rattle.std.specs.Prelude.{◌≡◌, ◌+◌, ◌≤◌, ◌<◌, length, List, [], MatchResult, OnOk, Ok, Err};
+ghost use Rattle.std.specs.Prelude.{◌≡◌, ◌+◌, ◌≤◌, ◌<◌, ◌∷◌, length, take, List, [], MatchOption, MatchResult, OnOk, Ok, Err};
 ghost use Rattle.pf_values.specs.declared.limits.TheConstants.{MAX_TEXT_LEN};
+ghost use Rattle.pf_values.specs.Conversions.{conv_letter};
 ghost use Rattle.pf_values.specs.Items.{Item, Reads};
 ghost use Rattle.pf_values.specs.Text.{Text};
 ghost use Rattle.pf_text.specs.Plain.{PassesPlain};
 ghost use Rattle.pf_text.specs.Stages.{state_of};
 ghost use Rattle.pf_text.specs.States.{next};
-ghost use Rattle.pf_text.specs.History.{IsAfter, HasRefused, Feeds, Finishes, Passes, offset_of, refusal_by, refused_by, refusing};
+ghost use Rattle.pf_text.specs.History.{IsAfter, HasRefused, Feeds, Finishes, Passes, TakesDirective, offset_of, refusal_by, refused_by, refusing};
 
+use crate::letters::conv_of;
 use crate::plain::plain_len;
 use crate::refusal::Refusal;
 use crate::search::first_other;
 use crate::state::{Automaton, Move};
 use pf_values::limits::MAX_TEXT_LEN;
-use pf_values::{Directive, RefusalKind};
+use pf_values::{Conv, Directive, FlagSet, Length, RefusalKind};
 
 #[cfg(test)]
 mod tests;
@@ -140,6 +142,26 @@ impl Scanner {
         run
     }
 
+    /// Takes the directive that is spelled by its conversion alone, if `text` begins with one. The automaton would
+    /// come to the same by way of flags, numbers and a modifier that are not there.
+    #[inline(always)]
+    pub(crate) fn take_bare(&mut self, text: &[u8]) -> Option<Directive>
+        ensures within { MatchOption result (self.new ≡ self.old) (λ _. 2 ≤ length text.now) }
+        ensures taken { (t : Text) (items : List Item) → IsAfter self.old t items → Reads t items → MatchOption result (Unit {0}) (TakesDirective t items text.now self.new) }
+    {
+        let conv = bare_conv(text)?;
+        if self.offset >= MAX_TEXT_LEN - 1 {
+            return None;
+        }
+        match Directive::new(FlagSet::empty(), None, None, Length::None, conv) {
+            Ok(directive) => {
+                self.offset += 2;
+                Some(directive)
+            }
+            Err(_) => None,
+        }
+    }
+
     fn refuse(&mut self, kind: RefusalKind) -> Result<Step, Refusal>
         ensures { (result ≡ Err (refusal_by self.old kind)) × (self.new ≡ refusing self.old kind) }
     {
@@ -176,6 +198,20 @@ impl Scanner {
     {
         self.offset
     }
+}
+
+// The conversion that ends the first two bytes of a text, where these are a directive.
+#[inline(always)]
+fn bare_conv(text: &[u8]) -> Option<Conv>
+    ensures { MatchOption result (Unit {0}) (λ conv. (2 ≤ length text.now) × (take 2 text.now ≡ 37 ∷ conv_letter conv ∷ [])) }
+{
+    if text.len() < 2 {
+        return None;
+    }
+    if text[0] != b'%' {
+        return None;
+    }
+    conv_of(text[1])
 }
 
 // Never inlined: so the offset of a reader is never part of an answer, and stays whole in its register.

@@ -1,15 +1,14 @@
-use Rattle.std.proofs.Common.{refl, subst, ◌++◌, ◌∷◌, []}
-use Rattle.pf_values.specs.Items.{Byte}
-use Rattle.pf_text.specs.History.{Passes}
-use Rattle.pf_text.proofs.PieceLemmas.{behind_first, run_given}
+use Rattle.std.proofs.Common.{refl}
+use Rattle.pf_text.proofs.PieceLemmas.{no_run_taken, nothing_fed, run_given}
 use Rattle.pf_text.proofs.pieces.Pieces.take_run.Goals as goal
 
+pub returns-then-not-may_be_literal-clause-given : goal.returns-then-not-may_be_literal-clause-given
+returns-then-not-may_be_literal-clause-given c t read items h = nothing_fed c.args.self.now t read items h (c.may_be_literal.ensures c.if-not-may_be_literal.true read)
+
+pub returns-then-len-eq0-clause-given : goal.returns-then-len-eq0-clause-given
+returns-then-len-eq0-clause-given c t read items h =
+    no_run_taken c.args.self.now _ t read items c.pass_literals-len.result h refl (c.pass_literals-len.ensures.passed read items h.scanned h.reads) c.if-len-eq0.true refl
+
 pub returns-clause-given : goal.returns-clause-given
-returns-clause-given c t read items b h =
-    let old = c.args.self.now in
-    let text = (read ++ h.fed) ++ h.byte ∷ [] in
-    let n = c.pass_literals-more.result in
-    let scanner = c.pass_literals-more.new.self in
-    let passed = subst (λ u. Passes text (items ++ Byte b ∷ []) u n scanner) (behind_first old.rest.now h.byte h.after h.first)
-    (c.pass_literals-more.ensures.passed text (items ++ Byte b ∷ []) h.takes.after h.takes.says.0) in
-    run_given old _ t read items b n h c.split_at.result.0 c.split_at.ensures.front refl c.split_at.ensures.back passed
+returns-clause-given c t read items h =
+    run_given c.args.self.now _ t read items c.pass_literals-len.result h refl (c.pass_literals-len.ensures.passed read items h.scanned h.reads) c.split_at.result.0 c.if-len-eq0.false c.pass_literals-len.ensures.within c.split_at.ensures.front c.split_at.ensures.back
