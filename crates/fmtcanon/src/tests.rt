@@ -5,6 +5,7 @@ mod canonicals;
 mod devices;
 mod exhaustion;
 mod formats;
+mod growths;
 mod memory;
 mod reductions;
 mod sames;
