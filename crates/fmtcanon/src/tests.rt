@@ -2,17 +2,21 @@
 
 mod canon_rows;
 mod canonicals;
+mod cuts;
 mod devices;
 mod exhaustion;
 mod formats;
+mod growths;
 mod memory;
 mod reductions;
+mod rooms;
 mod sames;
 mod shows;
 mod sizes;
 mod stream_rows;
 mod streams;
 mod types;
+mod written_rows;
 
 use crate::outcome::Outcome;
 use crate::report::report;

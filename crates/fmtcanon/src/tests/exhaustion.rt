@@ -1,8 +1,8 @@
 //! All memory taken, so that a call finds none, or a little that was given back.
 use std::alloc::{AllocError, Global};
 
-// There is room for as many blocks: some address spaces are taken in 8,192 of the greatest ones.
-const BLOCKS: usize = 65_536;
+// There is room for as many blocks. The greatest one is no larger than the memory of the machine, of 2^47 bytes.
+const BLOCKS: usize = 524_288;
 
 // Above this size the C library keeps no freed block for requests of its size alone.
 const GREATEST_KEPT: usize = 1_040;
