@@ -1,6 +1,8 @@
 #!/usr/bin/env python3
 """Tries the built program as a program: rows of commands, the examples of the documents, and devices that fail.
 
+It also holds the documents to the code: their names, paths, callers and numbers.
+
 Usage: tests/program.py PROGRAM
 
 It needs a Linux system with bash. Its last line is 'N passed, M failed', and it exits with 1 where M isn't 0.
