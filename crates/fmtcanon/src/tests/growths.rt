@@ -187,7 +187,7 @@ fn try_call(alloc: Global, call: Call, block: usize, first: usize) -> Result<Tri
 // A call, by how many bytes its memory grows, and at least as many as its first growth asks for; none where it has one
 // growth alone.
 static CALLS: [(Call, usize, usize); 12] = [
-    (Call::Canonical, 136, 2_048),
+    (Call::Canonical, 136, 0),
     (Call::Signature, 136, 0),
     (Call::RenderVec, 136, 4_096),
     (Call::CompareStrings, 136, 2_048),
