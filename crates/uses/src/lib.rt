@@ -6,6 +6,7 @@ pub mod arguments;
 pub mod columns;
 pub mod copying;
 pub mod differences;
+pub mod meaning;
 pub mod padding;
 pub mod places;
 pub mod printing;

@@ -3,6 +3,7 @@ use crate::arguments::takes_one_int;
 use crate::columns::column;
 use crate::copying::copies_tidily;
 use crate::differences::shows_difference;
+use crate::meaning::are_equivalent;
 use crate::padding::spaces_in_front;
 use crate::places::fault_at;
 use crate::printing::print_count;
@@ -19,6 +20,13 @@ fn a_format_may_replace_another(rt: HostRuntime) {
     assert!(rt; may_replace(alloc, b"%5c", b"    %c"));
     assert!(rt; !may_replace(alloc, b"%05d", b"%.5d"));
     assert!(rt; !may_replace(alloc, b"%f", b"%f"));
+}
+
+#[test]
+fn two_formats_are_equivalent(rt: HostRuntime) {
+    assert!(rt; are_equivalent(b"%5c", b"    %c") == Some(true));
+    assert!(rt; are_equivalent(b"%05d", b"%.5d") == Some(false));
+    assert!(rt; are_equivalent(b"%d", b"%f") == None);
 }
 
 #[test]
