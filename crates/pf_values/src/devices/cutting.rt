@@ -69,9 +69,11 @@ impl<'a> Write for Cut<'a> {
 
     fn write(&mut self, buf: &[u8]) -> io::Result<usize>
         ensures bound { WritesAtMost result buf.now }
-        ensures bytes { WriteAppends (Some (taken_of self.old)) (Some (taken_of self.new)) result buf.now }
+        ensures bytes { WriteAppends
+            (Some (taken_of self.old)) (Some (taken_of self.new)) result buf.now }
         ensures full { is_err result ≡ (room_of self.old == 0) && nat_lt 0 (length buf.now) }
-        ensures count { IfOk result (λ n. n ≡ min (length buf.now) (min (room_of self.old) (step_of self.old))) }
+        ensures count { IfOk result (λ n.
+            n ≡ min (length buf.now) (min (room_of self.old) (step_of self.old))) }
         ensures kind { IfErr result (λ e. error_kind e ≡ kind_of self.old) }
         ensures settings { KeepsSettings self.old self.new }
     {

@@ -77,12 +77,14 @@ impl Read for Feed<'_> {
 
     fn read(&mut self, buf: &mut [u8]) -> io::Result<usize>
         ensures bound { ReadsAtMost result buf.new }
-        ensures bytes { ReadConsumes (Some (rest_of self.old)) (Some (rest_of self.new)) result buf.new }
+        ensures bytes { ReadConsumes
+            (Some (rest_of self.old)) (Some (rest_of self.new)) result buf.new }
         ensures fails { is_err result ≡ is_due (fault_of self.old) }
         ensures count { IfOk result (λ n. n ≡ part self.old (length buf.new)) }
         ensures fault { fault_of self.new ≡ fault_after (fault_of self.old) result }
         ensures kind { IfErr result (λ e. error_kind e ≡ kind_of self.old) }
-        ensures settings { (step_of self.new ≡ step_of self.old) × (kind_of self.new ≡ kind_of self.old) }
+        ensures step { step_of self.new ≡ step_of self.old }
+        ensures same_kind { kind_of self.new ≡ kind_of self.old }
     {
         if self.before_fault == Some(0) {
             self.before_fault = None;
