@@ -371,7 +371,8 @@ fn other_words_are_usage(rt: HostRuntime) {
     assert!(rt; is_usage(&rt, ["same"].as_slice(), "error: "));
     assert!(rt; is_usage(&rt, ["same", "%d"].as_slice(), "error: "));
     assert!(rt; is_usage(&rt, ["same", "a", "b", "c"].as_slice(), "error: "));
-    assert!(rt; is_usage(&rt, ["--version"].as_slice(), "error: "));
+    assert!(rt; is_usage(&rt, ["canon", "--version"].as_slice(), "error: "));
+    assert!(rt; is_usage(&rt, ["--version"].as_slice(), "fmtcanon 0.1.0\n"));
     assert!(rt; is_usage(&rt, ["--help"].as_slice(), "Reads printf formats"));
     assert!(rt; is_usage(&rt, ["canon", "--help"].as_slice(), "Writes the canonical"));
 }

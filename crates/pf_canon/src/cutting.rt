@@ -15,6 +15,10 @@ impl Front {
         requires { IsFrontWithin self.now text.now }
         ensures { IsCutOff left.entry (front_text self.now text.now) result }
     {
+        // Nothing is compared behind the first byte that differs.
+        if left.is_none() {
+            return None;
+        }
         let left = cut(&text[..self.run], left);
         self.cut_item(text, left)
     }
