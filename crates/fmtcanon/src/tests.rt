@@ -8,6 +8,7 @@ mod exhaustion;
 mod formats;
 mod growths;
 mod memory;
+mod model_rooms;
 mod reductions;
 mod rooms;
 mod sames;

@@ -3,8 +3,8 @@ use super::{is_usage, ran, reported};
 use crate::outcome::Outcome;
 use std::alloc::Global;
 
-// Words, and what is printed.
-type Printed = (&'static [&'static str], &'static [u8]);
+/// Words, and what is printed.
+pub(super) type Printed = (&'static [&'static str], &'static [u8]);
 
 // Words, and the status and the line of a run that writes nothing.
 type Stopped = (&'static [&'static str], u8, &'static str);
@@ -56,7 +56,7 @@ fn format_wants_a_format_and_its_words_behind_two_minuses(rt: HostRuntime) {
 }
 
 #[rattlefmt::skip]
-static PRINTED: [Printed; 21] = [
+pub(super) static PRINTED: [Printed; 21] = [
     (&["format", "%05u", "n:42"], b"00042"),
     (&["format", "%#o", "n:0"], b"0"),
     (&["format", "%#o", "n:8"], b"010"),
@@ -101,7 +101,7 @@ static STOPPED: [Stopped; 16] = [
 ];
 
 #[rattlefmt::skip]
-static MODEL_PRINTED: [Printed; 29] = [
+pub(super) static MODEL_PRINTED: [Printed; 29] = [
     (&["format", "%d", "n:-127"], b"-127"),
     (&["format", "%d", "n:2147483647"], b"2147483647"),
     (&["format", "%hd", "n:-1"], b"-1"),
