@@ -1,16 +1,15 @@
 -- Two texts that are compared in step.
 use Rattle.std.proofs.Common.{◌≡◌, ◌≢◌, ℕ, ◌<◌, Bool, true, false, [], ◌∷◌, ◌++◌, length, Option, Some, None, Result, Ok, Err, refl, sym, ap, ◌∙◌, subst, arith, inl, inr}
-use Rattle.std.specs.Prelude.{IsTrue, ◌↔◌, MatchBool}
+use Rattle.std.specs.Prelude.{MatchBool}
 use Rattle.std.specs.Io.KnownBytes.{Consumes}
 use Rattle.std.proofs.lemmas.List.{append-nil, append_assoc, append_cancel_left, length-append}
 use Rattle.pf_values.specs.Canonical.{IsCanonicalOf}
 use Rattle.pf_values.specs.Counting.{Known}
 use Rattle.pf_values.specs.Items.{IsAccepted}
-use Rattle.pf_values.specs.Printing.{AreEquivalent}
 use Rattle.pf_values.specs.Refusals.{IsRefusedAt}
 use Rattle.pf_values.specs.Text.{Text}
 use Rattle.pf_probes.proofs.Unique.{equivalent_formats_one}
-use Rattle.pf_canon.specs.Comparing.{AreTextsSame, BeginsWith, CountsSides, CountsStop, Drained, DrainsTo, EndsBoth, FaultCounts, Gave, HasCanonical, HasPace, IsPaced, IsReadWhole, PacesTo, StopsBy, StopsOn, TextStopsOn}
+use Rattle.pf_canon.specs.Comparing.{BeginsWith, CountsSides, CountsStop, Drained, DrainsTo, EndsBoth, FaultCounts, Gave, HasPace, IsPaced, IsReadWhole, PacesTo, StopsBy, StopsOn, TextStopsOn}
 use Rattle.pf_text.specs.declared.refusal.Refusal.{Refusal}
 use Rattle.pf_canon.specs.declared.comparing.Pace.{Pace}
 use Rattle.pf_canon.specs.declared.comparing.Pace.TheVariants.{On, Same, Differ}
@@ -213,20 +212,6 @@ refused_text f rest taken refusal h = elim h.cause [
 ]
 
 module _ (f f_rest g g_rest : Text) where
-  pub texts_same : (is : Bool) → EndsBoth (Some f) (Some f_rest) (Some g) (Some g_rest) is → AreTextsSame f g is
-  texts_same is h =
-      let one = sym (read_whole f f_rest h.t h.first) in
-      let two = sym (read_whole g g_rest h.u h.second) in
-      let first = h.first in
-      let second = h.second in
-      record {
-        first = subst IsAccepted one first.accepted;
-        second = subst IsAccepted two second.accepted;
-        first_canonical = subst HasCanonical one first.canonical;
-        second_canonical = subst HasCanonical two second.canonical;
-        same = subst (λ u. IsTrue is ↔ AreEquivalent f u) two (subst (λ t. IsTrue is ↔ AreEquivalent t h.u) one h.same);
-      }
-
   pub text_stops : (side : Side) (fault : StreamFault) (refusal : Refusal) → fault ≡ faults.Refused refusal → StopsOn side fault (Some f) (Some f_rest) (Some g) (Some g_rest) → TextStopsOn side f g refusal
   text_stops First fault refusal e h = refused_text f f_rest h.0 refusal (subst (λ x. StopsBy x (Some f) (Some f_rest) h.0 h.1) e h.3).0
   text_stops Second fault refusal e h = (whole_accepted f f_rest h.0 h.3, refused_text g g_rest h.1 refusal (subst (λ x. StopsBy x (Some g) (Some g_rest) h.1 h.2) e h.4).0)

@@ -1,6 +1,5 @@
 -- How a transducer takes the front of a text.
-use Rattle.std.proofs.Common.{◌≡◌, ℕ, ◌+◌, ◌-◌, ◌*◌, ◌≤◌, List, [], ◌∷◌, ◌++◌, length, map, take, drop, refl, sym, ap, ◌∙◌, subst, arith, Err, inl, inr, Result, Ok}
-use Rattle.std.specs.Prelude.{is_err, false}
+use Rattle.std.proofs.Common.{◌≡◌, ℕ, zero, suc, ◌<◌, ◌+◌, ◌-◌, ◌*◌, ◌≤◌, List, [], ◌∷◌, ◌++◌, length, map, take, drop, refl, sym, ap, ◌∙◌, subst, arith, Err, inl, inr}
 use Rattle.std.proofs.Math.Seq.{take-add}
 use Rattle.std.proofs.lemmas.List.{append-nil, append_assoc, length-append, take_all, take-append-drop}
 use Rattle.pf_values.specs.Items.{Item, Byte, Reads}
@@ -16,8 +15,7 @@ use Rattle.pf_canon.specs.declared.transducing.Made.{Made}
 use Rattle.pf_canon.specs.declared.transducing.Stop.{Stop}
 use Rattle.pf_canon.specs.declared.transducing.Made.TheVariants as mades
 use Rattle.pf_canon.specs.declared.transducing.Transducer.{Transducer}
-use Rattle.pf_canon.specs.Through.{GrowsBy, IsFed, IsBetween, IsThrough, Keeps, RefusesIn, Settles, SettlesTo, SettlesWhole, front_text, made_text, more_of, run_text}
-use Rattle.pf_text.specs.History.{Says, with_step}
+use Rattle.pf_canon.specs.Through.{GrowsBy, IsFed, IsThrough, Keeps, RefusesIn, Settles, SettlesTo, SettlesWhole, front_text, made_text, more_of, run_text}
 use Rattle.pf_text.specs.Plain.{PassesPlain}
 use Rattle.pf_canon.proofs.MakingLemmas.{made_settled}
 use Rattle.pf_canon.proofs.RefusedLemmas.{not_truncated}
@@ -28,11 +26,6 @@ through_settles r t out items h =
     let good = h.after.good in
     let splits = good.splits in
     record { items = items; part = h.after.part; good = good; settled = made_settled splits.whole out r.waiting items splits.reads h.made }
-
--- whether a text is whole
-pub finished_whole : (t : Text) (items : List Item) (r : Result (Unit {0}) Refusal) → scanned.Finishes t items r → false ≡ is_err r → Reads t items
-finished_whole t items (Ok done) h e = h
-finished_whole t items (Err refusal) h e = absurd (cc)
 
 -- inside an item nothing is settled
 pub inside : (old new : Transducer) (t out : Text) (items : List Item) (byte : ℕ) → IsThrough old t items out → new.waiting ≡ old.waiting → scanned.Takes t items byte steps.More new.scanner → IsThrough new (t ++ byte ∷ []) items out
@@ -72,11 +65,11 @@ first_alone text at byte first = let one : at + 1 - at ≡ 1 = omega arith in ap
 -- a byte has settled what its step says
 pub fed_made : (r new : Transducer) (t out text : Text) (items : List Item) (run at : ℕ) (step : Step) (made : Made) (f : IsFed r t items (out ++ take run text) text at step) → new.scanner ≡ r.scanner
     → ((byte : ℕ) (out : Text) (items : List Item) → Settles step byte items out r.waiting made new.waiting) → new.waiting ≤ r.waiting + 1 → ((byte : ℕ) → length (made_text made byte) + 4 * new.waiting ≤ 4 * r.waiting + most_len (more_of step))
-    → ((t : Text) (items : List Item) (byte : ℕ) → Says t items byte step → IsBetween made t items) → GrowsBy t out text (record { run = run; start = at; len = at + 1; made = made }) new
-fed_made r new t out text items run at step made f scanner settles one short between =
+    → GrowsBy t out text (record { run = run; start = at; len = at + 1; made = made }) new
+fed_made r new t out text items run at step made f scanner settles one short =
     let w = f.waiting in
     let o = out ++ take run text in
-    let g = grown f.before new (t ++ take at text) o items f.byte step made f.through (rw scanner f.takes) (rw w at settles f.byte o items) (omega (arith, one, w)) (rw w at short f.byte) between in
+    let g = grown f.before new (t ++ take at text) o items f.byte step made f.through (rw scanner f.takes) (rw w at settles f.byte o items) (omega (arith, one, w)) (rw w at short f.byte) in
     let last = run_text made (take (at + 1 - at) (drop at text)) in
     record {
       items = items ++ g.more;
@@ -85,17 +78,25 @@ fed_made r new t out text items run at step made f scanner settles one short bet
           (subst (λ u. IsThrough new ((t ++ take at text) ++ f.byte ∷ []) (items ++ g.more) (o ++ run_text made u)) (sym (first_alone text at f.byte f.first)) g.through));
     }
 
--- no byte was taken
-pub kept_nothing : (r : Transducer) (t out text : Text) (items : List Item) → IsThrough r t items out → Keeps t out text 0 r
-kept_nothing r t out text items h = record { items = items; through = rw (append-nil t, append-nil out) h }
+-- what takes some bytes only between items settles itself, where it takes some
+kept : (old new : Transducer) (t out text : Text) (items : List Item) (len : ℕ) → IsThrough old t items out → new.waiting ≡ old.waiting
+    → (0 < len → Reads t items) → (len ≡ 0 → new.scanner ≡ old.scanner) → (Reads t items → Keeps t out text len new) → Keeps t out text len new
+kept old new t out text items zero h e between idle taken =
+    let same = idle refl in
+    record { items = items; through = rw (append-nil t, append-nil out) (record { after = rw same h.after; made = rw e h.made; few = rw e h.few; short = rw e h.short }) }
+kept old new t out text items (suc len) h e between idle taken = taken (between (omega arith))
 
 -- a run of literal bytes settles itself
-pub kept_literals : (old new : Transducer) (t out text : Text) (items : List Item) (len : ℕ) → IsThrough old t items out → scanned.Passes t items text len new.scanner → new.waiting ≡ old.waiting → Keeps t out text len new
-kept_literals old new t out text items len h p e = record { items = items ++ map Byte (take len text); through = passed old new t out text items len h p e }
+pub kept_literals : (old new : Transducer) (t out text : Text) (items : List Item) (len : ℕ) → IsThrough old t items out → new.waiting ≡ old.waiting
+    → (0 < len → Reads t items) → (len ≡ 0 → new.scanner ≡ old.scanner) → (Reads t items → scanned.Passes t items text len new.scanner) → Keeps t out text len new
+kept_literals old new t out text items len h e between idle passes =
+    kept old new t out text items len h e between idle (λ reads. record { items = items ++ map Byte (take len text); through = passed old new t out text items len h (passes reads) e })
 
 -- and so does a run of items that stand as in a canonical text, where no silent directive waits
-pub kept_plain : (old new : Transducer) (t out text : Text) (items : List Item) (len : ℕ) → IsThrough old t items out → PassesPlain t items text len new.scanner → old.waiting ≡ 0 → new.waiting ≡ old.waiting → Keeps t out text len new
-kept_plain old new t out text items len h p none e = record { items = items ++ p.more; through = passed_plain old new t out text items len h p none e }
+pub kept_plain : (old new : Transducer) (t out text : Text) (items : List Item) (len : ℕ) → IsThrough old t items out → new.waiting ≡ old.waiting
+    → (0 < len → Reads t items) → (len ≡ 0 → new.scanner ≡ old.scanner) → (Reads t items → PassesPlain t items text len new.scanner) → old.waiting ≡ 0 → Keeps t out text len new
+kept_plain old new t out text items len h e between idle passes none =
+    kept old new t out text items len h e between idle (λ reads. let p = passes reads in record { items = items ++ p.more; through = passed_plain old new t out text items len h p none e })
 
 -- a text was passed up to some place
 module _ (t out more text : Text) (at : ℕ) where

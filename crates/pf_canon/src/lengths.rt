@@ -4,7 +4,7 @@ ghost use Rattle.pf_values.specs.Refusals.{IsRefusedAt};
 ghost use Rattle.pf_values.specs.Text.{Text};
 ghost use Rattle.pf_canon.specs.Answers.{IsCanonicalFor};
 ghost use Rattle.pf_canon.specs.Parts.{parts_text};
-ghost use Rattle.pf_canon.specs.Through.{IsFrontWithin, front_text, item_text};
+ghost use Rattle.pf_canon.specs.Through.{IsFrontWithin, IsUpTo, front_text, item_text};
 
 use crate::parts::Parts;
 use crate::transducing::{Front, Made, Transducer};
@@ -14,9 +14,21 @@ use pf_text::Refusal;
 pub fn canonical_len(text: &[u8]) -> Result<u128, Refusal>
     ensures { MatchResult result (λ len. (c : Text) × IsCanonicalFor text.now c × (len ≡ length c)) (λ refusal. IsRefusedAt text.now refusal.kind refusal.at) }
 {
-    let mut transducer = Transducer::new();
-    let mut len = 0u128;
-    let mut at = 0;
+    len_from(Transducer::new(), text, 0, 0)
+}
+
+/// The same, where the first `at` bytes were taken and settle `len` bytes.
+pub(crate) fn len_from(
+    mut transducer: Transducer,
+    text: &[u8],
+    at: usize,
+    len: u128,
+) -> Result<u128, Refusal>
+    requires { (out : Text) × IsUpTo transducer text.now at out × (len ≡ length out) }
+    ensures { MatchResult result (λ len. (c : Text) × IsCanonicalFor text.now c × (len ≡ length c)) (λ refusal. IsRefusedAt text.now refusal.kind refusal.at) }
+{
+    let mut at = at;
+    let mut len = len;
     while at < text.len() {
         let rest = &text[at..];
         let front = match transducer.feed_front(rest) {

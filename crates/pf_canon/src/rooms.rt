@@ -2,6 +2,7 @@
 ghost use Rattle.std.specs.Prelude.{◌≡◌, ◌++◌, replicate, IfOk};
 ghost use Rattle.pf_values.specs.Text.{Text};
 
+use crate::limits::BLOCK;
 use arrayvec::ArrayVec;
 use std::alloc::{AllocError, Allocator};
 
@@ -13,10 +14,6 @@ pub(crate) trait Room {
     /// Appends bytes.
     fn append(&mut self, bytes: &[u8]) -> Result<(), AllocError>
         ensures { IfOk result (λ _. bytes_of self.new ≡ bytes_of self.old ++ bytes.now) };
-
-    /// Appends one byte over and over.
-    fn append_repeated(&mut self, byte: u8, count: u16) -> Result<(), AllocError>
-        ensures { IfOk result (λ _. bytes_of self.new ≡ bytes_of self.old ++ replicate count byte) };
 }
 
 /// There is room until a growth is refused.
@@ -30,13 +27,6 @@ impl<A: Allocator> Room for Vec<u8, A> {
         }
         self.extend_from_slice(bytes)
     }
-
-    fn append_repeated(&mut self, byte: u8, count: u16) -> Result<(), AllocError> {
-        if count == 0 {
-            return Ok(());
-        }
-        self.resize(self.len() + usize::from(count), byte)
-    }
 }
 
 /// There is room for so many bytes, and none is ever taken from an allocator.
@@ -49,15 +39,21 @@ impl<const N: usize> Room for ArrayVec<u8, N> {
             Err(_) => Err(AllocError),
         }
     }
+}
 
-    fn append_repeated(&mut self, byte: u8, count: u16) -> Result<(), AllocError> {
-        if count == 0 {
-            return Ok(());
-        }
-        let block = [byte; N];
-        match block.get(..usize::from(count)) {
-            Some(bytes) => self.append(bytes),
-            None => Err(AllocError),
-        }
+/// Appends one byte over and over.
+pub(crate) fn append_repeated<R: Room>(out: &mut R, byte: u8, times: u16) -> Result<(), AllocError>
+    ensures { IfOk result (λ _. R.bytes_of out.new ≡ R.bytes_of out.old ++ replicate times byte) }
+{
+    if times == 0 {
+        return Ok(());
     }
+    let block = [byte; BLOCK];
+    let mut left = usize::from(times);
+    while left > 0 {
+        let len = left.min(BLOCK);
+        out.append(&block[..len])?;
+        left -= len;
+    }
+    Ok(())
 }

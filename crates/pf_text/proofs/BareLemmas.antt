@@ -1,6 +1,6 @@
 -- Directives that are spelled by their conversion alone.
-use Rattle.std.proofs.Common.{◌≡◌, ◌+◌, ◌≤◌, List, [], ◌∷◌, ◌++◌, length, take, drop, refl, sym, ap, ◌∙◌, subst, arith}
-use Rattle.std.proofs.lemmas.List.{append_assoc, append-nil, length-append, take-append-drop}
+use Rattle.std.proofs.Common.{◌≡◌, ◌+◌, ◌≤◌, List, [], ◌∷◌, ◌++◌, length, take, drop, sym, ap, ◌∙◌, subst, arith}
+use Rattle.std.proofs.lemmas.List.{append_assoc, length-append, take-append-drop}
 use Rattle.pf_values.specs.declared.conversions.Conv.{Conv}
 use Rattle.pf_values.specs.declared.limits.TheConstants.{MAX_TEXT_LEN}
 use Rattle.pf_values.specs.Conversions.{conv_letter}
@@ -10,14 +10,12 @@ use Rattle.pf_values.specs.Text.{Text, percent}
 use Rattle.pf_text.specs.declared.pieces.Piece.TheVariants as pieces
 use Rattle.pf_text.specs.declared.pieces.Pieces.{Pieces}
 use Rattle.pf_text.specs.declared.scanner.Scanner.{Scanner}
-use Rattle.pf_text.specs.Fronts.{IsAt}
 use Rattle.pf_text.specs.History.{IsAfter, TakesDirective}
 use Rattle.pf_text.specs.PieceHistory.{GivesPiece, HasGiven}
-use Rattle.pf_text.specs.Stages.{Between, state_of}
-use Rattle.pf_text.proofs.LiteralLemmas.{no_part}
+use Rattle.pf_text.proofs.LiteralLemmas.{after_read}
 use Rattle.pf_text.proofs.PlainLemmas.{bare, bare_defined}
 use Rattle.pf_text.proofs.ReadBack.{spelled_read}
-use Rattle.pf_text.proofs.Texts.{Reads-push, begun}
+use Rattle.pf_text.proofs.Texts.{Reads-push}
 
 -- one was taken
 pub bare_taken : (scanner : Scanner) (t text : Text) (items : List Item) (conv : Conv) (d : Specification) → IsAfter scanner t items → Reads t items → take 2 text ≡ percent ∷ conv_letter conv ∷ [] → d ≡ bare conv
@@ -27,16 +25,10 @@ bare_taken scanner t text items conv d h reads two e few =
     let defined = bare_defined conv in
     let spelled = subst (λ u. Reads (t ++ u) (items ++ Directive (bare conv) ∷ [])) (sym two) (Reads-push items t (percent ∷ conv_letter conv ∷ []) (Directive (bare conv)) reads (spelled_read (bare conv) defined, defined)) in
     let now = subst (λ s. Reads whole (items ++ Directive s ∷ [])) (sym e) spelled in
-    let long : length whole ≡ length t + 2 = omega (arith, length-append t (take 2 text), ap length two) in
+    let long : length (take 2 text) ≡ 2 = ap length two in
     record {
-      after = record {
-        part = [];
-        good = record { splits = record { whole = whole; reads = now; split = sym (append-nil whole) }; begun = begun Between [] refl };
-        state = subst (IsAt (state_of scanner.automaton)) (no_part scanner t items h reads) h.state;
-        offset = omega (arith, h.offset, long);
-        limit = omega (arith, h.offset, long, few);
-        no_refusal = h.no_refusal;
-      };
+      after = subst (λ k. IsAfter (record scanner { offset = scanner.offset + k }) whole (items ++ Directive d ∷ [])) long
+          (after_read scanner t (take 2 text) items (Directive d ∷ []) h reads now (omega (arith, h.offset, few, long, length-append t (take 2 text))));
       reads = now;
     }
 

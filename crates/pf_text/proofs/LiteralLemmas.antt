@@ -80,12 +80,17 @@ run_ends t text run room h full =
 pub no_part : (scanner : Scanner) (t : Text) (items : List Item) (h : IsAfter scanner t items) → Reads t items → h.part ≡ []
 no_part scanner t items h reads = same_whole items h.good.splits.whole t h.part h.good.splits.reads reads h.good.splits.split
 
-after_literals : (scanner : Scanner) (t run : Text) (items : List Item) → IsAfter scanner t items → Reads t items → AllByRecursion IsLiteral run → length (t ++ run) ≤ MAX_TEXT_LEN
-    → IsAfter (record scanner { offset = scanner.offset + length run }) (t ++ run) (items ++ map Byte run)
-after_literals scanner t run items h reads literal few =
+-- such a text was taken with the items behind it
+pub after_read : (scanner : Scanner) (t run : Text) (items more : List Item) → IsAfter scanner t items → Reads t items
+    → Reads (t ++ run) (items ++ more) → length (t ++ run) ≤ MAX_TEXT_LEN
+    → IsAfter (record scanner { offset = scanner.offset + length run }) (t ++ run) (items ++ more)
+after_read scanner t run items more h reads now few =
     record {
       part = [];
-      good = record { splits = record { whole = t ++ run; reads = Reads-literals run t items reads literal; split = sym (append-nil (t ++ run)) }; begun = begun Between [] refl };
+      good = record {
+        splits = record { whole = t ++ run; reads = now; split = sym (append-nil (t ++ run)) };
+        begun = begun Between [] refl;
+      };
       state = subst (IsAt (state_of scanner.automaton)) (no_part scanner t items h reads) h.state;
       offset = omega (arith, h.offset, length-append t run);
       limit = few;
@@ -98,9 +103,11 @@ passed scanner t text items n run room h reads found full least =
     let literal = subst (λ k. AllByRecursion IsLiteral (take k text)) (sym least) (literals_taken text run room found) in
     let long : length (take n text) ≡ n = omega (arith, length-take n text, found.within) in
     let few : length (t ++ take n text) ≤ MAX_TEXT_LEN = omega (arith, length-append t (take n text), h.offset, h.limit) in
+    let now = Reads-literals (take n text) t items reads literal in
     record {
-      after = subst (λ k. IsAfter (record scanner { offset = scanner.offset + k }) (t ++ take n text) (items ++ map Byte (take n text))) long (after_literals scanner t (take n text) items h reads literal few);
-      reads = Reads-literals (take n text) t items reads literal;
+      after = subst (λ k. IsAfter (record scanner { offset = scanner.offset + k }) (t ++ take n text) (items ++ map Byte (take n text))) long
+          (after_read scanner t (take n text) items (map Byte (take n text)) h reads now few);
+      reads = now;
       literal = literal;
       longest = subst (λ k. EndsRun (t ++ take k text) (drop k text)) (sym least) (run_ends t text run room found (omega (arith, h.offset, h.limit)));
     }

@@ -7,7 +7,7 @@ use Rattle.std.proofs.Math.Seq.{take-add}
 use Rattle.std.proofs.lemmas.Bool.{cases_lt}
 use Rattle.std.proofs.lemmas.Bool.Decides.{nat_tests}
 use Rattle.std.proofs.lemmas.Grind.{flat_map-append}
-use Rattle.std.proofs.lemmas.List.{append_assoc, append-nil, get_or-drop, get_or-take, length-append, length-take-le, take-append-drop, take-append-le}
+use Rattle.std.proofs.lemmas.List.{append_assoc, get_or-drop, get_or-take, length-append, length-take-le, take-append-drop, take-append-le}
 use Rattle.memchr.specs.Find.{is_byte2}
 use Rattle.pf_values.specs.declared.conversions.Conv.{Conv}
 use Rattle.pf_values.specs.declared.conversions.Conv.TheVariants.{D, I, U, O, X, UpperX, C, S}
@@ -21,16 +21,13 @@ use Rattle.pf_values.specs.Items.{Item, Byte, Directive, IsReadAs, Reads}
 use Rattle.pf_values.specs.Normal.{HasNormalForm, IsNormal, IsNormalPlain, IsNormalSigned, IsNormalString, digits_at_most}
 use Rattle.pf_values.specs.Specification.{Specification}
 use Rattle.pf_values.specs.Text.{Text, percent}
-use Rattle.pf_text.specs.Fronts.{IsAt}
 use Rattle.pf_text.specs.History.{EndsRun, IsAfter, IsLiteral}
 use Rattle.pf_text.specs.Letters.{conv_of}
 use Rattle.pf_text.specs.Plain.{IsPlain, IsPlainText, PassesPlain}
-use Rattle.pf_text.specs.Stages.{Between, state_of}
 use Rattle.pf_text.specs.declared.scanner.Scanner.{Scanner}
-use Rattle.pf_text.proofs.LiteralLemmas.{no_part, or_full, stops}
+use Rattle.pf_text.proofs.LiteralLemmas.{after_read, or_full, stops}
 use Rattle.pf_text.proofs.ReadBack.{spelled_read}
 use Rattle.pf_text.proofs.Sound.{byte_of_conv}
-use Rattle.pf_text.proofs.Texts.{begun}
 
 -- a byte that is written as it is
 plain_written : (byte : ℕ) → IsLiteral byte → written (Byte byte) ≡ byte ∷ []
@@ -145,18 +142,6 @@ Reads-append t u (item ∷ a) b h g = (h.0, h.1 ++ u, h.2, Reads-append h.1 u a 
 Reads-plain : (t u : Text) (items more : List Item) → Reads t items → IsPlainText u more → Reads (t ++ u) (items ++ more)
 Reads-plain t u items more h g = Reads-append t u items more h (subst (λ v. Reads v more) (sym g.whole) (all_read more g.plain))
 
-after_plain : (scanner : Scanner) (t u : Text) (items more : List Item) → IsAfter scanner t items → Reads t items → IsPlainText u more → length (t ++ u) ≤ MAX_TEXT_LEN
-    → IsAfter (record scanner { offset = scanner.offset + length u }) (t ++ u) (items ++ more)
-after_plain scanner t u items more h reads plain few =
-    record {
-      part = [];
-      good = record { splits = record { whole = t ++ u; reads = Reads-plain t u items more reads plain; split = sym (append-nil (t ++ u)) }; begun = begun Between [] refl };
-      state = subst (IsAt (state_of scanner.automaton)) (no_part scanner t items h reads) h.state;
-      offset = omega (arith, h.offset, length-append t u);
-      limit = few;
-      no_refusal = h.no_refusal;
-    }
-
 -- no literal byte follows such items
 ends_here : (t rest : Text) → (length t ≡ MAX_TEXT_LEN) ⊎ (0 < length rest → is_byte2 percent 0 (get_or rest 0 0) ≡ true) → EndsRun t rest
 ends_here t [] h = tt
@@ -190,11 +175,12 @@ module _ (scanner : Scanner) (t text : Text) (items : List Item) (n most room : 
     pub plain_passed : (more : List Item) → IsPlainText (take n (take most text)) more → (n < length (take most text) → is_byte2 percent 0 (get_or (take most text) n 0) ≡ true) → PassesPlain t items text n (record scanner { offset = scanner.offset + n })
     plain_passed more plain ends =
         let p = subst (λ u. IsPlainText u more) taken plain in
+        let now = Reads-plain t (take n text) items more reads p in
         record {
           more = more;
           plain = p;
           after = subst (λ k. IsAfter (record scanner { offset = scanner.offset + k }) (t ++ take n text) (items ++ more)) long
-              (after_plain scanner t (take n text) items more h reads p (omega (arith, length-append t (take n text), long, h.offset, h.limit, least, full, within, front_len)));
-          reads = Reads-plain t (take n text) items more reads p;
+              (after_read scanner t (take n text) items more h reads now (omega (arith, length-append t (take n text), long, h.offset, h.limit, least, full, within, front_len)));
+          reads = now;
           longest = plain_ends ends;
         }

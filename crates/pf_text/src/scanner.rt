@@ -1,5 +1,5 @@
 //! A reader of a format, byte by byte.
-ghost use Rattle.std.specs.Prelude.{◌≡◌, ◌+◌, ◌≤◌, ◌<◌, ◌∷◌, length, take, List, [], MatchOption, MatchResult, OnOk, Ok, Err};
+ghost use Rattle.std.specs.Prelude.{◌≡◌, ◌+◌, ◌≤◌, ◌<◌, ◌∷◌, false, length, take, List, [], MatchBool, MatchOption, MatchResult, OnOk, Ok, Err};
 ghost use Rattle.pf_values.specs.declared.limits.TheConstants.{MAX_TEXT_LEN};
 ghost use Rattle.pf_values.specs.Conversions.{conv_letter};
 ghost use Rattle.pf_values.specs.Items.{Item, Reads};
@@ -113,13 +113,32 @@ impl Scanner {
         }
     }
 
+    // Whether the text so far is whole.
+    #[inline(always)]
+    fn is_between(&self) -> bool
+        ensures read { (t : Text) (items : List Item) → IsAfter self.now t items
+            → MatchBool result (Reads t items) (Reads t items → ⊥) }
+        ensures stays { (refusal : Refusal) → HasRefused self.now refusal → result ≡ false }
+    {
+        match self.finish() {
+            Ok(()) => true,
+            Err(_) => false,
+        }
+    }
+
     /// Takes the longest run of literal bytes at the front of `text`, and tells how many there are. One call of
-    /// `feed` for each of them would do the same.
+    /// `feed` for each of them would do the same. Inside an item, and after a refusal, it takes none.
     #[inline(always)]
     pub fn pass_literals(&mut self, text: &[u8]) -> usize
         ensures within { result ≤ length text.now }
         ensures passed { (t : Text) (items : List Item) → IsAfter self.old t items → Reads t items → Passes t items text.now result self.new }
+        ensures between { (t : Text) (items : List Item) → IsAfter self.old t items → 0 < result → Reads t items }
+        ensures idle { result ≡ 0 → self.new ≡ self.old }
+        ensures stays { (refusal : Refusal) → HasRefused self.old refusal → result ≡ 0 }
     {
+        if !self.is_between() {
+            return 0;
+        }
         let run = first_other(text).unwrap_or(text.len());
         let room = MAX_TEXT_LEN.saturating_sub(self.offset);
         let taken = (run as u64).min(room);
@@ -127,14 +146,20 @@ impl Scanner {
         taken as usize
     }
 
-    /// Takes the longest run of literal bytes, of `%%`, and of directives that are normal and spelled by their
-    /// conversion alone, at the front of `text`, and tells how many bytes it has. One call of `feed` for each of them
-    /// would do the same.
+    /// Takes literal bytes, `%%`, and directives that are normal and spelled by their conversion alone, as many as
+    /// stand at the front of `text` before the first other item, and tells how many bytes they have. One call of
+    /// `feed` for each of them would do the same. Inside an item, and after a refusal, it takes none.
     #[inline(always)]
     pub fn pass_plain(&mut self, text: &[u8]) -> usize
         ensures within { result ≤ length text.now }
         ensures passed { (t : Text) (items : List Item) → IsAfter self.old t items → Reads t items → PassesPlain t items text.now result self.new }
+        ensures between { (t : Text) (items : List Item) → IsAfter self.old t items → 0 < result → Reads t items }
+        ensures idle { result ≡ 0 → self.new ≡ self.old }
+        ensures stays { (refusal : Refusal) → HasRefused self.old refusal → result ≡ 0 }
     {
+        if !self.is_between() {
+            return 0;
+        }
         let room = MAX_TEXT_LEN.saturating_sub(self.offset);
         let most = (text.len() as u64).min(room);
         let run = plain_len(&text[..most as usize]);

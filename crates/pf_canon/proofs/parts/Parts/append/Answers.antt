@@ -13,6 +13,6 @@ returns g c =
     let b = g.R.Room.bytes_of in
     let r = c.append_repeated-3 in
     IfOk-weaker r.result _ _ (λ _ last.
-    five_appended (b c.args.out.now) (b c.append_repeated.new.self) (b c.append_repeated-2.new.self) (b c.append_silents.new.out) (b c.append.new.self) (b r.new.self) (replicate p.spaces space) (replicate p.zeros zero_digit)
+    five_appended (b c.args.out.now) (b c.append_repeated.new.out) (b c.append_repeated-2.new.out) (b c.append_silents.new.out) (b c.append.new.self) (b r.new.out) (replicate p.spaces space) (replicate p.zeros zero_digit)
     (flat_map written (silents p.silents)) p.spelling.items (replicate p.trail space) c.in_ok-append_repeated.ensures c.in_ok-append_repeated-2.ensures c.in_ok-append_silents.ensures
     (c.in_ok-append.ensures ∙ ap (λ t. b c.append_silents.new.out ++ t) c.deref.ensures.0) last) r.ensures

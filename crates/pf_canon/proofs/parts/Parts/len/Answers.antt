@@ -1,4 +1,4 @@
-use Rattle.std.proofs.Common.{◌∙◌, sym, arith}
+use Rattle.std.proofs.Common.{arith}
 use Rattle.pf_canon.proofs.PartLemmas.{length-whole}
 use Rattle.pf_canon.proofs.parts.Parts.len.Goals as goal
 

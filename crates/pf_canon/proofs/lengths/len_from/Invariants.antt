@@ -2,7 +2,7 @@ use Rattle.std.proofs.Common.{◌≡◌, length, ◌-◌, ◌≤◌, List, take}
 use Rattle.pf_values.specs.Items.{Item}
 use Rattle.pf_values.specs.Text.{Text}
 use Rattle.pf_canon.specs.Through.{IsThrough}
-use Rattle.pf_canon.proofs.lengths.canonical_len.Given as goal
+use Rattle.pf_canon.proofs.lengths.len_from.Given as goal
 
 -- so many bytes are settled of what was taken
 abbrev pub invariant-loop-at : goal.invariant-loop-at

@@ -2,7 +2,7 @@ use Rattle.std.proofs.Common.{◌≤◌, arith, length, drop}
 use Rattle.std.proofs.lemmas.List.{length-drop, take_all, take_rest}
 use Rattle.pf_canon.proofs.BuildingLemmas.{refused_at}
 use Rattle.pf_canon.proofs.LengthLemmas.{all_counted, counted_few, counted_more, ended_few}
-use Rattle.pf_canon.proofs.lengths.canonical_len.Goals as goal
+use Rattle.pf_canon.proofs.lengths.len_from.Goals as goal
 
 pub overflow_add-len : goal.overflow_add-len
 overflow_add-len c =

@@ -1,7 +1,7 @@
 use Rattle.std.proofs.Common.{◌≤◌, arith, length, drop}
 use Rattle.std.proofs.lemmas.List.{length-drop, take_all, take_rest}
 use Rattle.pf_canon.proofs.BuildingLemmas.{all_built, built_more, refused_at}
-use Rattle.pf_canon.proofs.building.append_canonical.Goals as goal
+use Rattle.pf_canon.proofs.building.append_from.Goals as goal
 
 pub loop-at-preserved : goal.loop-at-preserved
 loop-at-preserved g c =
