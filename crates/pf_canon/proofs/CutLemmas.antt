@@ -9,7 +9,7 @@ use Rattle.pf_values.specs.Text.{Text}
 use Rattle.pf_canon.specs.declared.parts.Parts.{Parts}
 use Rattle.pf_canon.specs.declared.transducing.Transducer.{Transducer}
 use Rattle.pf_canon.specs.Cutting.{IsBehind, IsCutOff, IsUsedUp}
-use Rattle.pf_canon.specs.Making.{silents}
+use Rattle.pf_text.specs.Plain.{silents}
 use Rattle.pf_canon.specs.Parts.{parts_text}
 use Rattle.pf_canon.specs.Through.{Ends, IsThrough}
 use Rattle.pf_canon.proofs.PutLemmas.{run_more}

@@ -5,7 +5,7 @@ use Rattle.std.proofs.lemmas.Bool.Decides.{nat_tests}
 use Rattle.pf_values.specs.Canonical.{written}
 use Rattle.pf_values.specs.Text.{Text}
 use Rattle.pf_canon.specs.Due.{silent_rest, silents_text}
-use Rattle.pf_canon.specs.Making.{silents}
+use Rattle.pf_text.specs.Plain.{silents}
 use Rattle.pf_canon.proofs.SilentLemmas.{silent_bytes, spelled_silent}
 
 some_count : (count : ℕ) (t : Text) → count ≢ 0 → (if count == 0 then [] else t) ≡ t

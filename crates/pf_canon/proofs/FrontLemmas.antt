@@ -1,7 +1,7 @@
 -- How a transducer takes the front of a text.
-use Rattle.std.proofs.Common.{◌≡◌, ℕ, zero, suc, ◌<◌, ◌+◌, ◌-◌, ◌*◌, ◌≤◌, List, [], ◌∷◌, ◌++◌, length, map, take, drop, refl, sym, ap, ◌∙◌, subst, arith, Err, inl, inr}
+use Rattle.std.proofs.Common.{◌≡◌, ℕ, zero, suc, ◌<◌, ◌+◌, ◌-◌, ◌*◌, ◌^◌, ◌≤◌, List, [], ◌∷◌, ◌++◌, length, map, take, drop, refl, sym, ap, ◌∙◌, subst, arith, Err, inl, inr}
 use Rattle.std.proofs.Math.Seq.{take-add}
-use Rattle.std.proofs.lemmas.List.{append-nil, append_assoc, length-append, take_all, take-append-drop}
+use Rattle.std.proofs.lemmas.List.{append-nil, append_assoc, length-append, length-take-le, take_all, take-append-drop}
 use Rattle.pf_values.specs.Items.{Item, Byte, Reads}
 use Rattle.pf_values.specs.Refusals.{IsRefusedAt}
 use Rattle.pf_values.specs.Text.{Text}
@@ -15,9 +15,11 @@ use Rattle.pf_canon.specs.declared.transducing.Made.{Made}
 use Rattle.pf_canon.specs.declared.transducing.Stop.{Stop}
 use Rattle.pf_canon.specs.declared.transducing.Made.TheVariants as mades
 use Rattle.pf_canon.specs.declared.transducing.Transducer.{Transducer}
+use Rattle.pf_canon.specs.Making.{IsMaking}
 use Rattle.pf_canon.specs.Through.{GrowsBy, IsFed, IsThrough, Keeps, RefusesIn, Settles, SettlesTo, SettlesWhole, front_text, made_text, more_of, run_text}
-use Rattle.pf_text.specs.Plain.{PassesPlain}
-use Rattle.pf_canon.proofs.MakingLemmas.{made_settled}
+use Rattle.pf_text.specs.Plain.{PassesPlain, PassesSilents, silents}
+use Rattle.pf_canon.proofs.BuildingLemmas.{most_len-append}
+use Rattle.pf_canon.proofs.MakingLemmas.{made_more, made_settled, made_silents}
 use Rattle.pf_canon.proofs.RefusedLemmas.{not_truncated}
 use Rattle.pf_canon.proofs.ThroughLemmas.{grown, passed, passed_plain, through_few}
 
@@ -77,6 +79,43 @@ fed_made r new t out text items run at step made f scanner settles one short =
           (subst (λ u. IsThrough new u (items ++ g.more) (o ++ last)) (one_more t text at f.byte f.first)
           (subst (λ u. IsThrough new ((t ++ take at text) ++ f.byte ∷ []) (items ++ g.more) (o ++ run_text made u)) (sym (first_alone text at f.byte f.first)) g.through));
     }
+
+most_silents : (count : ℕ) → most_len (silents count) ≡ 4120 * count
+most_silents zero = omega arith
+most_silents (suc count) = omega (arith, most_silents count)
+
+-- silent directives wait
+waits : (old new : Transducer) (t out text : Text) (items : List Item) (count : ℕ) → IsThrough old t items out → 4 * count ≤ length text → PassesSilents t items text count new.scanner → new.waiting ≡ old.waiting + count
+    → IsThrough new (t ++ take (4 * count) text) (items ++ silents count) out
+waits old new t out text items count h within p e =
+    let few = h.few in
+    let short = h.short in
+    record {
+      after = p.after;
+      made = rw e (made_silents count out old.waiting (items ++ silents count) [] (subst (IsMaking out old.waiting (items ++ silents count)) (sym (append-nil (silents count))) (made_more out old.waiting items [] (silents count) h.made)));
+      few = omega (arith, few, e, within, length-append t (take (4 * count) text), length-take-le (4 * count) text within);
+      short = omega (arith, short, e, most_len-append items (silents count), most_silents count);
+    }
+
+-- and so they do after a run
+pub silents_kept : (old new : Transducer) (t out text : Text) (items : List Item) (run count : ℕ) → IsThrough old (t ++ take run text) items out → 4 * count ≤ length (drop run text)
+    → (0 < count → Reads (t ++ take run text) items) → (count ≡ 0 → new.scanner ≡ old.scanner) → (Reads (t ++ take run text) items → PassesSilents (t ++ take run text) items (drop run text) count new.scanner)
+    → (count ≤ 2 ^ 62 → new.waiting ≡ old.waiting + count) → (now : List Item) × IsThrough new (t ++ take (run + 4 * count) text) now out
+silents_kept old new t out text items run zero h within between idle passes counts =
+    let same = idle refl in
+    let place : run + 4 * zero ≡ run = omega arith in
+    let e : new.waiting ≡ old.waiting = omega (arith, counts (omega arith)) in
+    (items, rw place (record { after = rw same h.after; made = rw e h.made; few = rw e h.few; short = rw e h.short }))
+silents_kept old new t out text items run (suc count) h within between idle passes counts =
+    let n = suc count in
+    let front = t ++ take run text in
+    let p = passes (between (omega arith)) in
+    let limit = p.after.limit in
+    let few : n ≤ 2 ^ 62 = omega (arith, limit, within, length-append front (take (4 * n) (drop run text)), length-take-le (4 * n) (drop run text) within) in (
+      items ++ silents n,
+      subst (λ u. IsThrough new u (items ++ silents n) out) (append_assoc t (take run text) (take (4 * n) (drop run text)) ∙ ap (λ u. t ++ u) (sym (take-add run (4 * n) text)))
+          (waits old new front out (drop run text) items n h within p (counts few)),
+    )
 
 -- what takes some bytes only between items settles itself, where it takes some
 kept : (old new : Transducer) (t out text : Text) (items : List Item) (len : ℕ) → IsThrough old t items out → new.waiting ≡ old.waiting

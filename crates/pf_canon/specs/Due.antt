@@ -5,7 +5,7 @@ use Rattle.pf_values.specs.Text.{Text, space, zero_digit}
 use Rattle.pf_canon.specs.declared.due.Due.{Due}
 use Rattle.pf_canon.specs.declared.due.Silents.{Silents}
 use Rattle.pf_canon.specs.declared.due.Spelled.{Spelled}
-use Rattle.pf_canon.specs.Making.{silents}
+use Rattle.pf_text.specs.Plain.{silents}
 use Rattle.pf_canon.specs.Parts.{in_order}
 
 -- the first byte of a text was given, or there is none

@@ -2,7 +2,7 @@
 ghost use Rattle.std.specs.Prelude.{flat_map, replicate};
 ghost use Rattle.pf_values.specs.Canonical.{written};
 ghost use Rattle.pf_canon.specs.Cutting.{IsCutOff};
-ghost use Rattle.pf_canon.specs.Making.{silents};
+ghost use Rattle.pf_text.specs.Plain.{silents};
 ghost use Rattle.pf_canon.specs.Parts.{parts_text};
 ghost use Rattle.pf_canon.specs.Through.{IsFrontWithin, front_text, item_text};
 

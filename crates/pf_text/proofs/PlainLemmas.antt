@@ -1,13 +1,14 @@
 -- Items that stand in a text as its canonical text has them.
-use Rattle.std.proofs.Common.{◌≡◌, ◌≢◌, ℕ, ◌+◌, ◌-◌, ◌<◌, ◌≤◌, min, true, false, Bool, List, [], ◌∷◌, ◌++◌, length, map, take, drop, Some, None, refl, sym, ap, ap₂, ◌∙◌, subst, arith, inl, inr, get_or}
+use Rattle.std.proofs.Common.{◌≡◌, ◌≢◌, ℕ, ◌+◌, ◌-◌, ◌*◌, ◌<◌, ◌≤◌, min, true, false, Bool, List, [], ◌∷◌, ◌++◌, length, map, take, drop, Some, None, refl, sym, ap, ap₂, ◌∙◌, subst, arith, inl, inr, get_or}
 use Rattle.std.specs.Prelude.{flat_map, is_some, MatchBool, Option, ◌==◌, ◌⊎◌, if◌then◌else◌}
+use Rattle.std.specs.Fmt.{digits}
 use Rattle.std.specs.List.{AllByRecursion}
 use Rattle.std.proofs.Math.ListN.{drop_of_length-le}
 use Rattle.std.proofs.Math.Seq.{take-add}
 use Rattle.std.proofs.lemmas.Bool.{cases_lt}
 use Rattle.std.proofs.lemmas.Bool.Decides.{nat_tests}
 use Rattle.std.proofs.lemmas.Grind.{flat_map-append}
-use Rattle.std.proofs.lemmas.List.{append_assoc, get_or-drop, get_or-take, length-append, length-take-le, take-append-drop, take-append-le}
+use Rattle.std.proofs.lemmas.List.{append_assoc, get_or-drop, get_or-take, length-append, length-take-le, replicate-append-replicate, take-append-drop, take-append-le}
 use Rattle.memchr.specs.Find.{is_byte2}
 use Rattle.pf_values.specs.declared.conversions.Conv.{Conv}
 use Rattle.pf_values.specs.declared.conversions.Conv.TheVariants.{D, I, U, O, X, UpperX, C, S}
@@ -18,15 +19,17 @@ use Rattle.pf_values.specs.Conversions.{conv_letter}
 use Rattle.pf_values.specs.Defined.{IsDefined, refused_as}
 use Rattle.pf_values.specs.Flags.{no_flags}
 use Rattle.pf_values.specs.Items.{Item, Byte, Directive, IsReadAs, Reads}
-use Rattle.pf_values.specs.Normal.{HasNormalForm, IsNormal, IsNormalPlain, IsNormalSigned, IsNormalString, digits_at_most}
+use Rattle.pf_values.specs.Normal.{HasNormalForm, IsNormal, IsNormalPlain, IsNormalSigned, IsNormalString, digits_at_most, silent}
 use Rattle.pf_values.specs.Specification.{Specification}
+use Rattle.pf_values.specs.Spelling.{spelled}
 use Rattle.pf_values.specs.Text.{Text, percent}
 use Rattle.pf_text.specs.History.{EndsRun, IsAfter, IsLiteral}
 use Rattle.pf_text.specs.Letters.{conv_of}
-use Rattle.pf_text.specs.Plain.{IsPlain, IsPlainText, PassesPlain}
+use Rattle.pf_text.specs.Plain.{IsPlain, IsPlainText, PassesPlain, silents}
 use Rattle.pf_text.specs.declared.scanner.Scanner.{Scanner}
 use Rattle.pf_text.proofs.LiteralLemmas.{after_read, or_full, stops}
 use Rattle.pf_text.proofs.ReadBack.{spelled_read}
+use Rattle.pf_text.proofs.Texts.{Reads-push}
 use Rattle.pf_text.proofs.Sound.{byte_of_conv}
 
 -- a byte that is written as it is
@@ -172,15 +175,39 @@ module _ (scanner : Scanner) (t text : Text) (items : List Item) (n most room : 
       ]
     ]
 
+    -- the reader stands after them
+    pub read_passed : (more : List Item) → Reads (t ++ take n text) (items ++ more) → IsAfter (record scanner { offset = scanner.offset + n }) (t ++ take n text) (items ++ more)
+    read_passed more now =
+        subst (λ k. IsAfter (record scanner { offset = scanner.offset + k }) (t ++ take n text) (items ++ more)) long
+        (after_read scanner t (take n text) items more h reads now (omega (arith, length-append t (take n text), long, h.offset, h.limit, least, full, within, front_len)))
+
     pub plain_passed : (more : List Item) → IsPlainText (take n (take most text)) more → (n < length (take most text) → is_byte2 percent 0 (get_or (take most text) n 0) ≡ true) → PassesPlain t items text n (record scanner { offset = scanner.offset + n })
     plain_passed more plain ends =
         let p = subst (λ u. IsPlainText u more) taken plain in
         let now = Reads-plain t (take n text) items more reads p in
-        record {
-          more = more;
-          plain = p;
-          after = subst (λ k. IsAfter (record scanner { offset = scanner.offset + k }) (t ++ take n text) (items ++ more)) long
-              (after_read scanner t (take n text) items more h reads now (omega (arith, length-append t (take n text), long, h.offset, h.limit, least, full, within, front_len)));
-          reads = now;
-          longest = plain_ends ends;
-        }
+        record { more = more; plain = p; after = read_passed more now; reads = now; longest = plain_ends ends }
+
+    pub items_passed : (more : List Item) → Reads (take n (take most text)) more → IsAfter (record scanner { offset = scanner.offset + n }) (t ++ take n text) (items ++ more) × Reads (t ++ take n text) (items ++ more)
+    items_passed more read =
+        let now = Reads-append t (take n text) items more reads (subst (λ u. Reads u more) taken read) in
+        (read_passed more now, now)
+
+-- `%.0s`
+silent_read : IsReadAs (spelled silent) (Directive silent)
+silent_read = let defined : IsDefined silent = record { width = λ e. cc; allowed = refl } in (spelled_read silent defined, defined)
+
+-- once more
+pub silents_more : (text : Text) (at count : ℕ) → at ≡ 4 * count → Reads (take at text) (silents count) → take 4 (drop at text) ≡ spelled silent → Reads (take (at + 4) text) (silents (count + 1))
+silents_more text at count e reads here =
+    rw (take-add at 4 text, here, ← replicate-append-replicate count 1 (Directive silent)) (Reads-push (silents count) (take at text) (spelled silent) (Directive silent) reads silent_read)
+
+pub spelled_silent : spelled silent ≡ 37 ∷ 46 ∷ 48 ∷ 115 ∷ []
+unfolding digits
+spelled_silent = refl
+
+pub first_four : (text : Text) → 4 ≤ length text → take 4 text ≡ get_or text 0 0 ∷ get_or text 1 0 ∷ get_or text 2 0 ∷ get_or text 3 0 ∷ []
+first_four [] few = absurd (omega (arith, few))
+first_four (a ∷ []) few = absurd (omega (arith, few))
+first_four (a ∷ b ∷ []) few = absurd (omega (arith, few))
+first_four (a ∷ b ∷ c ∷ []) few = absurd (omega (arith, few))
+first_four (a ∷ b ∷ c ∷ d ∷ text) few = refl

@@ -1,12 +1,16 @@
 -- Items that stand in a text as its canonical text has them.
-use Rattle.std.specs.Prelude.{◌≡◌, ◌≢◌, ℕ, List, ◌++◌, take, drop, flat_map}
+use Rattle.std.specs.Prelude.{◌≡◌, ◌≢◌, ℕ, List, ◌++◌, ◌*◌, take, drop, replicate, flat_map}
 use Rattle.std.specs.List.{AllByRecursion}
 use Rattle.pf_values.specs.Canonical.{written}
 use Rattle.pf_values.specs.Items.{Item, Byte, Directive, Reads}
-use Rattle.pf_values.specs.Normal.{IsNormal}
+use Rattle.pf_values.specs.Normal.{IsNormal, silent}
 use Rattle.pf_values.specs.Text.{Text}
 use Rattle.pf_text.specs.declared.scanner.Scanner.{Scanner}
 use Rattle.pf_text.specs.History.{EndsRun, IsAfter}
+
+-- `%.0s` so many times
+abbrev pub silents : ℕ → List Item
+silents count = replicate count (Directive silent)
 
 -- a byte, or a normal directive
 abbrev pub IsPlain : Item → Type 0
@@ -18,10 +22,15 @@ pub record IsPlainText (t : Text) (items : List Item) : Type 0 where
   pub plain : AllByRecursion IsPlain items
   pub whole : t ≡ flat_map written items
 
--- behind a text that is read, such items at the front of what follows were taken, and no literal byte follows
+-- after a text that is read, such items at the front of what follows were taken, and no literal byte follows
 pub record PassesPlain (t : Text) (items : List Item) (following : Text) (len : ℕ) (new : Scanner) : Type 0 where
   pub more : List Item
   pub plain : IsPlainText (take len following) more
   pub after : IsAfter new (t ++ take len following) (items ++ more)
   pub reads : Reads (t ++ take len following) (items ++ more)
   pub longest : EndsRun (t ++ take len following) (drop len following)
+
+-- after a text that is read, so many `%.0s` at the front of what follows were taken
+pub record PassesSilents (t : Text) (items : List Item) (following : Text) (count : ℕ) (new : Scanner) : Type 0 where
+  pub after : IsAfter new (t ++ take (4 * count) following) (items ++ silents count)
+  pub reads : Reads (t ++ take (4 * count) following) (items ++ silents count)

@@ -1,8 +1,10 @@
 //! The search for the end of a run of items that stand in a text as its canonical text has them.
-ghost use Rattle.std.specs.Prelude.{◌≡◌, ◌<◌, ◌≤◌, [], ◌∷◌, List, length, take, IsTrue};
+ghost use Rattle.std.specs.Prelude.{◌≡◌, ◌<◌, ◌≤◌, [], ◌∷◌, ◌*◌, List, length, take, IsTrue};
 ghost use Rattle.memchr.specs.Find.{Passes, is_byte2};
-ghost use Rattle.pf_values.specs.Items.{Item};
-ghost use Rattle.pf_text.specs.Plain.{IsPlainText};
+ghost use Rattle.pf_values.specs.Items.{Item, Reads};
+ghost use Rattle.pf_values.specs.Normal.{silent};
+ghost use Rattle.pf_values.specs.Spelling.{spelled};
+ghost use Rattle.pf_text.specs.Plain.{IsPlainText, silents};
 
 use crate::letters::conv_of;
 use crate::search::first_other;
@@ -59,4 +61,39 @@ fn ends_plain(letter: u8) -> bool
         return false;
     }
     conv_of(letter).is_some()
+}
+
+/// How many times `%.0s` stands at the front of a text.
+#[inline(always)]
+pub(crate) fn count_silents(text: &[u8]) -> usize
+    ensures within { 4 * result ≤ length text.now }
+    ensures read { Reads (take (4 * result) text.now) (silents result) }
+{
+    let mut count = 0;
+    let mut at = 0;
+    while begins_silent(&text[at..]) {
+        at += 4;
+        count += 1;
+    }
+    count
+}
+
+// Whether a text begins with `%.0s`.
+#[inline(always)]
+fn begins_silent(text: &[u8]) -> bool
+    ensures { IsTrue result → (4 ≤ length text.now) × (take 4 text.now ≡ spelled silent) }
+{
+    if text.len() < 4 {
+        return false;
+    }
+    if text[1] != b'.' {
+        return false;
+    }
+    if text[0] != b'%' {
+        return false;
+    }
+    if text[2] != b'0' {
+        return false;
+    }
+    text[3] == b's'
 }

@@ -1,16 +1,16 @@
 //! A reader of a format, byte by byte.
-ghost use Rattle.std.specs.Prelude.{◌≡◌, ◌+◌, ◌≤◌, ◌<◌, ◌∷◌, false, length, take, List, [], MatchBool, MatchOption, MatchResult, OnOk, Ok, Err};
+ghost use Rattle.std.specs.Prelude.{◌≡◌, ◌+◌, ◌*◌, ◌≤◌, ◌<◌, ◌∷◌, false, length, take, List, [], MatchBool, MatchOption, MatchResult, OnOk, Ok, Err};
 ghost use Rattle.pf_values.specs.declared.limits.TheConstants.{MAX_TEXT_LEN};
 ghost use Rattle.pf_values.specs.Conversions.{conv_letter};
 ghost use Rattle.pf_values.specs.Items.{Item, Reads};
 ghost use Rattle.pf_values.specs.Text.{Text};
-ghost use Rattle.pf_text.specs.Plain.{PassesPlain};
+ghost use Rattle.pf_text.specs.Plain.{PassesPlain, PassesSilents};
 ghost use Rattle.pf_text.specs.Stages.{state_of};
 ghost use Rattle.pf_text.specs.States.{next};
 ghost use Rattle.pf_text.specs.History.{IsAfter, HasRefused, Feeds, Finishes, Passes, TakesDirective, offset_of, refusal_by, refused_by, refusing};
 
 use crate::letters::conv_of;
-use crate::plain::plain_len;
+use crate::plain::{count_silents, plain_len};
 use crate::refusal::Refusal;
 use crate::search::first_other;
 use crate::state::{Automaton, Move};
@@ -165,6 +165,26 @@ impl Scanner {
         let run = plain_len(&text[..most as usize]);
         self.offset += run as u64;
         run
+    }
+
+    /// Takes the directives `%.0s` at the front of `text`, and tells how many there are. One call of `feed` for each
+    /// of their bytes would do the same. Inside an item, and after a refusal, it takes none.
+    #[inline(always)]
+    pub fn pass_silents(&mut self, text: &[u8]) -> usize
+        ensures within { 4 * result ≤ length text.now }
+        ensures passed { (t : Text) (items : List Item) → IsAfter self.old t items → Reads t items → PassesSilents t items text.now result self.new }
+        ensures between { (t : Text) (items : List Item) → IsAfter self.old t items → 0 < result → Reads t items }
+        ensures idle { result ≡ 0 → self.new ≡ self.old }
+        ensures stays { (refusal : Refusal) → HasRefused self.old refusal → result ≡ 0 }
+    {
+        if !self.is_between() {
+            return 0;
+        }
+        let room = MAX_TEXT_LEN.saturating_sub(self.offset);
+        let most = (text.len() as u64).min(room);
+        let count = count_silents(&text[..most as usize]);
+        self.offset += 4 * count as u64;
+        count
     }
 
     /// Takes the directive that is spelled by its conversion alone, if `text` begins with one. The automaton would

@@ -2,7 +2,7 @@ use Rattle.std.proofs.Common.{replicate}
 use Rattle.std.specs.Prelude.{flat_map}
 use Rattle.pf_values.specs.Canonical.{written}
 use Rattle.pf_values.specs.Text.{space, zero_digit}
-use Rattle.pf_canon.specs.Making.{silents}
+use Rattle.pf_text.specs.Plain.{silents}
 use Rattle.pf_canon.proofs.CutLemmas.{cut_then}
 use Rattle.pf_canon.proofs.cutting.cut_parts.Goals as goal
 

@@ -2,7 +2,7 @@ use Rattle.std.proofs.Common.{◌≤◌, ◌-◌}
 use Rattle.std.specs.Prelude.{flat_map}
 use Rattle.pf_values.specs.Canonical.{written}
 use Rattle.pf_canon.specs.Cutting.{IsCutOff}
-use Rattle.pf_canon.specs.Making.{silents}
+use Rattle.pf_text.specs.Plain.{silents}
 use Rattle.pf_canon.proofs.cutting.cut_silents.Given as goal
 
 abbrev pub invariant-loop-more : goal.invariant-loop-more

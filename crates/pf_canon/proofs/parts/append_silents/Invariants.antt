@@ -1,7 +1,7 @@
 use Rattle.std.proofs.Common.{◌≡◌, ◌-◌, ◌≤◌, ◌++◌}
 use Rattle.std.specs.Prelude.{flat_map}
 use Rattle.pf_values.specs.Canonical.{written}
-use Rattle.pf_canon.specs.Making.{silents}
+use Rattle.pf_text.specs.Plain.{silents}
 use Rattle.pf_canon.proofs.parts.append_silents.Given as goal
 
 -- those that are not left went out

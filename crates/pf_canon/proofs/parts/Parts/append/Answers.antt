@@ -3,7 +3,7 @@ use Rattle.std.specs.Prelude.{flat_map}
 use Rattle.std.proofs.lemmas.Result.{IfOk-weaker}
 use Rattle.pf_values.specs.Canonical.{written}
 use Rattle.pf_values.specs.Text.{space, zero_digit}
-use Rattle.pf_canon.specs.Making.{silents}
+use Rattle.pf_text.specs.Plain.{silents}
 use Rattle.pf_canon.proofs.PartLemmas.{five_appended}
 use Rattle.pf_canon.proofs.parts.Parts.append.Goals as goal
 

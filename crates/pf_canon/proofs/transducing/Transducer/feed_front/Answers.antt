@@ -6,9 +6,9 @@ use Rattle.pf_canon.proofs.transducing.Transducer.feed_front.Goals as goal
 
 pub loop-at-init : goal.loop-at-init
 loop-at-init c = record {
-  run = omega arith;
-  within = c.pass_run-run.ensures.within;
-  through = λ t out items h. let k = c.pass_run-run.ensures.kept t out items h in (k.items, k.through);
+  run = c.pass_silents-at.ensures.within.0;
+  within = c.pass_silents-at.ensures.within.1;
+  through = λ t out items h. let k = c.pass_run-run.ensures.kept t out items h in c.pass_silents-at.ensures.kept t _ k.items k.through;
 }
 
 pub loop-at-preserved : goal.loop-at-preserved
