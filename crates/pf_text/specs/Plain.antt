@@ -1,4 +1,4 @@
--- Items that stand in a text as its canonical text has them.
+-- Items that stand in a text as its canonical text has them. This project's own.
 use Rattle.std.specs.Prelude.{◌≡◌, ◌≢◌, ℕ, List, ◌++◌, take, drop, flat_map}
 use Rattle.std.specs.List.{AllByRecursion}
 use Rattle.pf_values.specs.Canonical.{written}
@@ -18,8 +18,10 @@ pub record IsPlainText (t : Text) (items : List Item) : Type 0 where
   pub plain : AllByRecursion IsPlain items
   pub whole : t ≡ flat_map written items
 
--- behind a text that is read, such items at the front of what follows were taken, and no literal byte follows
-pub record PassesPlain (t : Text) (items : List Item) (following : Text) (len : ℕ) (new : Scanner) : Type 0 where
+-- behind a text that is read, such items at the front of what follows were taken, and no literal
+-- byte follows
+pub record PassesPlain (t : Text) (items : List Item) (following : Text) (len : ℕ)
+    (new : Scanner) : Type 0 where
   pub more : List Item
   pub plain : IsPlainText (take len following) more
   pub after : IsAfter new (t ++ take len following) (items ++ more)
