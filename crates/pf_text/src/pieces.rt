@@ -1,5 +1,5 @@
 //! The pieces of a format in memory: runs of literal bytes, `%%`, and directives.
-ghost use Rattle.std.specs.Prelude.{◌≡◌, ◌<◌, ◌≤◌, List, [], length, IsFalse, MatchOption};
+ghost use Rattle.std.specs.Prelude.{◌≡◌, ◌<◌, ◌≤◌, List, [], length, IsFalse, MatchOption, ⊤};
 ghost use Rattle.pf_values.specs.Items.{Item};
 ghost use Rattle.pf_values.specs.Text.{Text};
 ghost use Rattle.pf_text.specs.History.{EndsRun};
@@ -46,8 +46,7 @@ impl<'a> Pieces<'a> {
     #[inline(always)]
     fn take_bare(&mut self) -> Option<Directive>
         ensures given { (t read : Text) (items : List Item) → HasGiven self.old t read items
-            → MatchOption result (Unit {0})
-            (λ d. GivesPiece self.new t read items (Piece.Directive d)) }
+            → MatchOption result ⊤ (λ d. GivesPiece self.new t read items (Piece.Directive d)) }
         ensures shorter { MatchOption result (self.new ≡ self.old)
             (λ _. length self.new.rest.now < length self.old.rest.now) }
         ensures going { self.new.is_over ≡ self.old.is_over }
