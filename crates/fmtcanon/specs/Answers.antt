@@ -1,5 +1,5 @@
--- What a question is answered with, and why it is not.
-use Rattle.std.specs.Prelude.{◌≡◌, None, Some, map}
+-- What a question is answered with, and why it is not. This project's own.
+use Rattle.std.specs.Prelude.{◌≡◌, None, Some, map, ⊤}
 use Rattle.pf_values.specs.Items.{IsAccepted}
 use Rattle.pf_values.specs.Refusals.{IsRefusedAt}
 use Rattle.pf_values.specs.Text.{Text}
@@ -19,14 +19,16 @@ use Rattle.fmtcanon.specs.TypeLines.{HasTypeLines}
 
 -- the canonical string of an accepted format, and a newline
 abbrev pub HasCanonicalLine : Text → Text → Type 0
-HasCanonicalLine format out = (canonical : Text) × IsCanonicalFor format canonical × (out ≡ line canonical)
+HasCanonicalLine format out =
+    (canonical : Text) × IsCanonicalFor format canonical × (out ≡ line canonical)
 
 -- These bytes answer a question, and a run that writes them all ends so.
 abbrev pub IsAnswer : Question → Text → Ending → Type 0
 IsAnswer (Types format) out ending = HasTypeLines format.now out × (ending ≡ endings.Done)
 IsAnswer (Canon format) out ending = HasCanonicalLine format.now out × (ending ≡ endings.Done)
 IsAnswer (Show format) out ending = HasShownLines format.now out × (ending ≡ endings.Done)
-IsAnswer (Format format words) out ending = IsPrinted format.now (map (λ s. s.now) words.items) out × (ending ≡ endings.Done)
+IsAnswer (Format format words) out ending =
+    IsPrinted format.now (map (λ s. s.now) words.items) out × (ending ≡ endings.Done)
 IsAnswer (Same first second) out ending = IsComparisonAnswer first.now second.now out ending
 
 -- why a format has no answer: its refusal, or want of memory
@@ -36,22 +38,25 @@ HindersFormat format (Refused (Some side) refusal) = ⊥
 HindersFormat format (BadWord index) = ⊥
 HindersFormat format (WrongCount wanted given) = ⊥
 HindersFormat format (WrongType index) = ⊥
-HindersFormat format Memory = Unit {0}
+HindersFormat format Memory = ⊤
 
 -- why two have none: the refusal of the first, else of the second
 abbrev pub HindersFormats : Text → Text → Fault → Type 0
 HindersFormats first second (Refused None refusal) = ⊥
-HindersFormats first second (Refused (Some sides.First) refusal) = IsRefusedAt first refusal.kind refusal.at
-HindersFormats first second (Refused (Some sides.Second) refusal) = IsAccepted first × IsRefusedAt second refusal.kind refusal.at
+HindersFormats first second (Refused (Some sides.First) refusal) =
+    IsRefusedAt first refusal.kind refusal.at
+HindersFormats first second (Refused (Some sides.Second) refusal) =
+    IsAccepted first × IsRefusedAt second refusal.kind refusal.at
 HindersFormats first second (BadWord index) = ⊥
 HindersFormats first second (WrongCount wanted given) = ⊥
 HindersFormats first second (WrongType index) = ⊥
-HindersFormats first second Memory = Unit {0}
+HindersFormats first second Memory = ⊤
 
 -- why a question has none
 abbrev pub IsHindered : Question → Fault → Type 0
 IsHindered (Types format) fault = HindersFormat format.now fault
 IsHindered (Canon format) fault = HindersFormat format.now fault
 IsHindered (Show format) fault = HindersFormat format.now fault
-IsHindered (Format format words) fault = HindersArguments format.now (map (λ s. s.now) words.items) fault
+IsHindered (Format format words) fault =
+    HindersArguments format.now (map (λ s. s.now) words.items) fault
 IsHindered (Same first second) fault = HindersFormats first.now second.now fault

@@ -1,4 +1,5 @@
--- The words that give arguments: `n:` and a decimal number, or `s:` and a string.
+-- The words that give arguments: `n:` and a decimal number, or `s:` and a string. This project's
+-- own.
 use Rattle.std.specs.Prelude.{◌≡◌, ℕ, ◌≤◌, ℤ, pos, neg_ℤ, Bool, true, false, List, [], ◌++◌, length, map, codes}
 use Rattle.std.specs.Fmt.{digit_glyph}
 use Rattle.pf_values.specs.Arguments.{Argument, Number, String, IsString}
@@ -14,10 +15,12 @@ pub record SpellsMagnitude (t : Text) (n : ℕ) : Type 0 where
   pub few : length digits ≤ MAX_DIGITS
   pub whole : t ≡ map (digit_glyph false) digits
 
+-- a `-` before a number below 0
 abbrev pub minus_if : Bool → Text
 minus_if true = codes "-"
 minus_if false = []
 
+-- the number, or its opposite
 abbrev pub negated_if : Bool → ℤ → ℤ
 negated_if true n = neg_ℤ n
 negated_if false n = n
@@ -31,10 +34,12 @@ pub record SpellsNumber (t : Text) (number : ℤ) : Type 0 where
   pub value : number ≡ negated_if is_negative (pos magnitude)
   pub whole : t ≡ minus_if is_negative ++ unsigned
 
+-- `n:` and a number, or `s:` and the bytes of a string
 abbrev pub SpellsArgument : Text → Argument → Type 0
 SpellsArgument word (Number n) = (t : Text) × SpellsNumber t n × (word ≡ codes "n:" ++ t)
 SpellsArgument word (String bytes) = IsString bytes × (word ≡ codes "s:" ++ bytes)
 
 -- a word gives one argument at most
 abbrev pub SpellsOneArgument : Type 0
-SpellsOneArgument = (word : Text) (a b : Argument) → SpellsArgument word a → SpellsArgument word b → a ≡ b
+SpellsOneArgument =
+    (word : Text) (a b : Argument) → SpellsArgument word a → SpellsArgument word b → a ≡ b

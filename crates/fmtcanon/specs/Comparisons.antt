@@ -1,4 +1,4 @@
--- How a comparison is told.
+-- How a comparison is told. This project's own.
 use Rattle.std.specs.Prelude.{◌≡◌, ◌++◌, codes, decimal, flat_map}
 use Rattle.std.specs.Fmt.{signed_decimal}
 use Rattle.pf_values.specs.declared.types.ArgType.{ArgType}
@@ -22,8 +22,11 @@ argument_word (String bytes) = codes "s:" ++ bytes
 
 -- it is read as that argument
 abbrev pub ToldIsRead : Type 0
-ToldIsRead = (argument : Argument) (type : ArgType) → HasType argument type → SpellsArgument (argument_word argument) argument
+ToldIsRead =
+    (argument : Argument) (type : ArgType) → HasType argument type
+    → SpellsArgument (argument_word argument) argument
 
+-- the line of an argument
 abbrev pub argument_line : OwnedArg → Text
 argument_line arg = line (argument_word (argument_of_owned arg))
 
@@ -33,6 +36,7 @@ verdict_lines Same = line (codes "same")
 verdict_lines (Types index) = line (codes "types differ at argument " ++ decimal index)
 verdict_lines (Args args) = line (codes "different") ++ flat_map argument_line args.items
 
+-- the ending of a run that tells this verdict
 abbrev pub ending_of : Verdict → Ending
 ending_of Same = endings.Same
 ending_of (Types index) = endings.Different

@@ -1,4 +1,4 @@
--- The faults of the crates below, as faults of a question.
+-- The faults of the crates below, as faults of a question. This project's own.
 use Rattle.std.specs.Prelude.{None, Some}
 use Rattle.pf_text.specs.declared.faults.TextFault.{TextFault}
 use Rattle.pf_text.specs.declared.faults.TextFault.TheVariants as text
@@ -9,14 +9,17 @@ use Rattle.pf_compare.specs.declared.faults.CompareFault.TheVariants as comparis
 use Rattle.fmtcanon.specs.declared.fault.Fault.{Fault}
 use Rattle.fmtcanon.specs.declared.fault.Fault.TheVariants.{Refused, Memory}
 
+-- a fault of reading one format
 abbrev pub of_text : TextFault → Fault
 of_text (text.Refused refusal) = Refused None refusal
 of_text text.Memory = Memory
 
+-- a fault of making the canonical string of one
 abbrev pub of_canonical : CanonFault → Fault
 of_canonical (canonical.Refused refusal) = Refused None refusal
 of_canonical canonical.Memory = Memory
 
+-- a fault of comparing two, which tells the side
 abbrev pub of_comparison : CompareFault → Fault
 of_comparison (comparison.Refused side refusal) = Refused (Some side) refusal
 of_comparison comparison.Memory = Memory

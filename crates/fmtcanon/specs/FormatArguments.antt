@@ -1,5 +1,6 @@
--- The arguments that words give for a format, why they give none, and what it prints for them.
-use Rattle.std.specs.Prelude.{◌≡◌, ◌≢◌, ℕ, ◌≤◌, List, length, map, take, None, Some, slice_get}
+-- The arguments that words give for a format, why they give none, and what it prints for them. This
+-- project's own.
+use Rattle.std.specs.Prelude.{◌≡◌, ◌≢◌, ℕ, ◌≤◌, List, length, map, take, None, Some, slice_get, ⊤}
 use Rattle.std.specs.List.{AllByRecursion, AllZip}
 use Rattle.pf_values.specs.declared.arguments.Arg.{Arg}
 use Rattle.pf_values.specs.declared.limits.TheConstants.{MAX_TEXT_LEN}
@@ -18,6 +19,7 @@ use Rattle.fmtcanon.specs.ArgumentWords.{SpellsArgument}
 abbrev pub SpellArguments : List Text → List Argument → Type 0
 SpellArguments words arguments = AllZip SpellsArgument words arguments
 
+-- a word gives some argument
 abbrev pub GivesArgument : Text → Type 0
 GivesArgument word = (argument : Argument) × SpellsArgument word argument
 
@@ -25,31 +27,34 @@ GivesArgument word = (argument : Argument) × SpellsArgument word argument
 pub record IsFirstBadWord (words : List Text) (index : ℕ) : Type 0 where
   pub word : Text
   pub here : slice_get words index ≡ Some word
-  pub bad : GivesArgument word → ⊥
+  pub bad : ¬ GivesArgument word
   pub good_before : AllByRecursion GivesArgument (take index words)
 
 -- the argument with this index is not of its type, and each before it is
-pub record IsFirstWrongType (arguments : List Argument) (wanted : List ArgType) (index : ℕ) : Type 0 where
+pub record IsFirstWrongType (arguments : List Argument) (wanted : List ArgType)
+    (index : ℕ) : Type 0 where
   pub argument : Argument
   pub type : ArgType
   pub here : slice_get arguments index ≡ Some argument
   pub type_here : slice_get wanted index ≡ Some type
-  pub wrong : HasType argument type → ⊥
+  pub wrong : ¬ HasType argument type
   pub right_before : HasTypes (take index arguments) (take index wanted)
 
--- what stops the reading of words, and of types
+-- what stops the reading of words
 abbrev pub IsBadWord : List Text → Fault → Type 0
 IsBadWord words (BadWord index) = IsFirstBadWord words index
-IsBadWord words Memory = Unit {0}
+IsBadWord words Memory = ⊤
 IsBadWord words _ = ⊥
 
+-- what stops the pairing of arguments with types
 abbrev pub IsWrongType : List Argument → List ArgType → Fault → Type 0
 IsWrongType arguments wanted (WrongType index) = IsFirstWrongType arguments wanted index
-IsWrongType arguments wanted Memory = Unit {0}
+IsWrongType arguments wanted Memory = ⊤
 IsWrongType arguments wanted _ = ⊥
 
 -- the items of an accepted format, and the arguments that words give
-pub record IsGiven (format : Text) (words : List Text) (items : List Item) (arguments : List Argument) : Type 0 where
+pub record IsGiven (format : Text) (words : List Text) (items : List Item)
+    (arguments : List Argument) : Type 0 where
   pub reads : Reads format items
   pub limit : length format ≤ MAX_TEXT_LEN
   pub spelled : SpellArguments words arguments
@@ -67,12 +72,14 @@ HindersArguments format words (Refused (Some side) refusal) = ⊥
 HindersArguments format words (Refused None refusal) = IsRefusedAt format refusal.kind refusal.at
 HindersArguments format words (BadWord index) = IsAccepted format × IsFirstBadWord words index
 HindersArguments format words (WrongCount wanted given) =
-    (items : List Item) × (arguments : List Argument) × IsGiven format words items arguments × (wanted ≡ length (types items)) × (given ≡ length words) × (wanted ≢ given)
+    (items : List Item) × (arguments : List Argument) × IsGiven format words items arguments
+    × (wanted ≡ length (types items)) × (given ≡ length words) × (wanted ≢ given)
 HindersArguments format words (WrongType index) =
-    (items : List Item) × (arguments : List Argument) × IsGiven format words items arguments × (length arguments ≡ length (types items)) × IsFirstWrongType arguments (types items) index
-HindersArguments format words Memory = Unit {0}
+    (items : List Item) × (arguments : List Argument) × IsGiven format words items arguments
+    × (length arguments ≡ length (types items)) × IsFirstWrongType arguments (types items) index
+HindersArguments format words Memory = ⊤
 
--- what a format prints for the arguments that words give, and nothing else
+-- what a format prints for the arguments that words give, and nothing else (C11 7.21.6.1 p2, p3)
 pub record IsPrinted (format : Text) (words : List Text) (out : Text) : Type 0 where
   pub items : List Item
   pub arguments : List Argument

@@ -1,4 +1,4 @@
--- Lines.
+-- Lines. This project's own.
 use Rattle.std.specs.Prelude.{◌++◌, codes}
 use Rattle.pf_values.specs.Text.{Text}
 

@@ -1,4 +1,4 @@
--- Outcomes: of an answer that was written, of a fault, and their exit statuses.
+-- Outcomes: of an answer that was written, of a fault, and their exit statuses. This project's own.
 use Rattle.std.specs.Prelude.{ℕ}
 use Rattle.fmtcanon.specs.declared.answer.Ending.{Ending}
 use Rattle.fmtcanon.specs.declared.answer.Ending.TheVariants as endings
@@ -7,11 +7,13 @@ use Rattle.fmtcanon.specs.declared.fault.Fault.TheVariants as faults
 use Rattle.fmtcanon.specs.declared.outcome.Outcome.{Outcome}
 use Rattle.fmtcanon.specs.declared.outcome.Outcome.TheVariants.{Done, Same, Different, Refused, BadWord, WrongCount, WrongType, Usage, Read, Write, Memory}
 
+-- all of the answer was written
 abbrev pub outcome_of : Ending → Outcome
 outcome_of endings.Done = Done
 outcome_of endings.Same = Same
 outcome_of endings.Different = Different
 
+-- there was no answer
 abbrev pub faulted : Fault → Outcome
 faulted (faults.Refused side refusal) = Refused side refusal
 faulted (faults.BadWord index) = BadWord index
@@ -19,6 +21,8 @@ faulted (faults.WrongCount wanted given) = WrongCount wanted given
 faulted (faults.WrongType index) = WrongType index
 faulted faults.Memory = Memory
 
+-- 0 where all was written and nothing differs, 1 for formats that differ, 2 for a refused format, 3
+-- for wrong words or arguments, 4 where reading, writing or memory failed
 abbrev pub status_of : Outcome → ℕ
 status_of Done = 0
 status_of Same = 0

@@ -1,4 +1,4 @@
--- What a run leaves, by its outcome.
+-- What a run leaves, by its outcome. This project's own.
 use Rattle.std.specs.Prelude.{◌≡◌, ℕ, List}
 use Rattle.std.specs.Io.KnownBytes.{Keeps}
 use Rattle.pf_values.specs.declared.counting.Counted.{Counted}
@@ -46,9 +46,11 @@ module _ {W : Type 0} (contents : W → Known) (old new : Counted W) where
   LeavesAnswer question Same = AnswersAll question endings.Same
   LeavesAnswer question Different = AnswersAll question endings.Different
   LeavesAnswer question (Write count) = AnswersFirst question count
-  LeavesAnswer question (Refused side refusal) = AnswersNothing question (faults.Refused side refusal)
+  LeavesAnswer question (Refused side refusal) =
+      AnswersNothing question (faults.Refused side refusal)
   LeavesAnswer question (BadWord index) = AnswersNothing question (faults.BadWord index)
-  LeavesAnswer question (WrongCount wanted given) = AnswersNothing question (faults.WrongCount wanted given)
+  LeavesAnswer question (WrongCount wanted given) =
+      AnswersNothing question (faults.WrongCount wanted given)
   LeavesAnswer question (WrongType index) = AnswersNothing question (faults.WrongType index)
   LeavesAnswer question Memory = AnswersNothing question faults.Memory
   LeavesAnswer question Read = ⊥
@@ -59,18 +61,21 @@ module _ {W : Type 0} (contents : W → Known) (old new : Counted W) where
   LeavesBytes bytes end (Write count) = WritesFirst contents old new bytes count
   LeavesBytes bytes end outcome = (outcome ≡ end) × WritesAll contents old new bytes
 
-module _ {R W : Type 0} (remaining : R → Known) (contents : W → Known) (reader left : Counted R) (old new : Counted W) where
+module _ {R W : Type 0} (remaining : R → Known) (contents : W → Known) (reader left : Counted R)
+    (old new : Counted W) where
   -- what the run of a task leaves; a question leaves the reader as it was
   abbrev pub LeavesTask : Task → Outcome → Type 0
-  LeavesTask (Answer question) outcome = LeavesAnswer contents old new question outcome × (left ≡ reader)
+  LeavesTask (Answer question) outcome =
+      LeavesAnswer contents old new question outcome × (left ≡ reader)
   LeavesTask Stream outcome = LeavesCopy remaining contents reader left old new outcome
 
   -- nothing was read or written
   abbrev pub LeavesNothing : Type 0
   LeavesNothing = KeepsAll contents old new × (left ≡ reader)
 
-  -- Usage is answered for a fault that clap finds in the words, never for want of memory or for words that it takes. For want of memory nothing goes out.
+  -- Usage is answered for a fault that clap finds in the words, never for want of memory or for
+  -- words that it takes. For want of memory nothing goes out.
   abbrev pub Leaves : List Text → Outcome → Type 0
-  Leaves words (Usage text) = (IsTaken words → ⊥) × HasFault words × LeavesNothing
+  Leaves words (Usage text) = (¬ IsTaken words) × HasFault words × LeavesNothing
   Leaves words Memory = LeavesNothing
   Leaves words outcome = (task : Task) × Asks words task × LeavesTask task outcome

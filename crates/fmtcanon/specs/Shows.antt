@@ -1,5 +1,5 @@
--- What a format is made of, as lines.
-use Rattle.std.specs.Prelude.{◌≡◌, ◌≢◌, List, [], ◌∷◌, ◌++◌, codes, decimal, length}
+-- What a format is made of, as lines. This project's own.
+use Rattle.std.specs.Prelude.{◌≡◌, ◌≢◌, List, [], ◌∷◌, ◌++◌, codes, decimal, length, ⊤}
 use Rattle.std.specs.List.{AllByRecursion, AllZip, concat}
 use Rattle.pf_reduce.specs.declared.results.Reduced.{Reduced}
 use Rattle.pf_reduce.specs.Reducing.{IsReducedTo, core_of}
@@ -23,29 +23,37 @@ pub data Shown : Type 0 where
 
 -- no literal byte begins the text
 abbrev pub BeginsNoRun : Text → Type 0
-BeginsNoRun [] = Unit {0}
-BeginsNoRun (byte ∷ rest) = IsLiteral byte → ⊥
+BeginsNoRun [] = ⊤
+BeginsNoRun (byte ∷ rest) = ¬ IsLiteral byte
 
 -- A text is cut into longest runs of literal bytes, `%%` and specifications.
 abbrev pub IsCut : Text → List Shown → Type 0
 IsCut t [] = t ≡ []
-IsCut t (Run bytes ∷ xs) = (bytes ≢ []) × AllByRecursion IsLiteral bytes × (rest : Text) × IsCut rest xs × (t ≡ bytes ++ rest) × BeginsNoRun rest
+IsCut t (Run bytes ∷ xs) =
+    (bytes ≢ []) × AllByRecursion IsLiteral bytes × (rest : Text) × IsCut rest xs
+    × (t ≡ bytes ++ rest) × BeginsNoRun rest
 IsCut t (Percent ∷ xs) = (rest : Text) × IsCut rest xs × (t ≡ percent ∷ percent ∷ rest)
-IsCut t (Specified s ∷ xs) = (part rest : Text) × Spells part s × IsDefined s × IsCut rest xs × (t ≡ part ++ rest)
+IsCut t (Specified s ∷ xs) =
+    (part rest : Text) × Spells part s × IsDefined s × IsCut rest xs × (t ≡ part ++ rest)
 
 -- spaces, zeros, the core, and spaces after it
 abbrev pub reduced_text : Reduced → Text
-reduced_text r = decimal r.spaces ++ codes " " ++ decimal r.zeros ++ codes " " ++ spelled (core_of r.core) ++ codes " " ++ decimal r.trail
+reduced_text r =
+    decimal r.spaces ++ codes " " ++ decimal r.zeros ++ codes " " ++ spelled (core_of r.core)
+    ++ codes " " ++ decimal r.trail
 
 -- the line of a reduction
 abbrev pub reduced_line : Specification → Reduced → Text
-reduced_line s r = line (codes "directive " ++ spelled s ++ codes ": " ++ type_name (arg_type s) ++ codes ": " ++ reduced_text r)
+reduced_line s r = line (codes "directive " ++ spelled s ++ codes ": "
+    ++ type_name (arg_type s) ++ codes ": " ++ reduced_text r)
 
 -- A directive has one reduction, and its line tells that.
 abbrev pub IsLineOf : Shown → Text → Type 0
 IsLineOf (Run bytes) out = out ≡ line (codes "text " ++ decimal (length bytes))
 IsLineOf Percent out = out ≡ line (codes "percent")
-IsLineOf (Specified s) out = (r : Reduced) × IsReducedTo s r × ((other : Reduced) → IsReducedTo s other → other ≡ r) × (out ≡ reduced_line s r)
+IsLineOf (Specified s) out =
+    (r : Reduced) × IsReducedTo s r × ((other : Reduced) → IsReducedTo s other → other ≡ r)
+    × (out ≡ reduced_line s r)
 
 -- a line for each part of an accepted format, in order
 pub record HasShownLines (format lines : Text) : Type 0 where

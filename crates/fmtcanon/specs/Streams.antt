@@ -1,4 +1,4 @@
--- What a run leaves that copies the canonical string of its reader.
+-- What a run leaves that copies the canonical string of its reader. This project's own.
 use Rattle.std.specs.Prelude.{◌≡◌, ℕ, None, Some, ◌⊎◌}
 use Rattle.pf_values.specs.declared.counting.Counted.{Counted}
 use Rattle.pf_values.specs.Counting.{HasFailed, Known, device_of, failures_of}
@@ -8,14 +8,19 @@ use Rattle.pf_canon.specs.declared.faults.CopyFault.TheVariants as faults
 use Rattle.fmtcanon.specs.declared.outcome.Outcome.{Outcome}
 use Rattle.fmtcanon.specs.declared.outcome.Outcome.TheVariants.{Done, Same, Different, Refused, BadWord, WrongCount, WrongType, Usage, Read, Write, Memory}
 
-module _ {R W : Type 0} (remaining : R → Known) (contents : W → Known) (reader left : Counted R) (old new : Counted W) where
+module _ {R W : Type 0} (remaining : R → Known) (contents : W → Known) (reader left : Counted R)
+    (old new : Counted W) where
   -- the whole canonical string of what was taken up to the end went out
   abbrev pub AllCopied : ℕ → Type 0
-  AllCopied count = CopiesAll (remaining (device_of reader)) (remaining (device_of left)) (contents (device_of old)) (contents (device_of new)) count
+  AllCopied count = CopiesAll
+      (remaining (device_of reader)) (remaining (device_of left))
+      (contents (device_of old)) (contents (device_of new)) count
 
   -- this much of it went out before a fault
   abbrev pub CopyStopped : CopyFault → Type 0
-  CopyStopped fault = CopyStops (remaining (device_of reader)) (remaining (device_of left)) (contents (device_of old)) (contents (device_of new)) fault
+  CopyStopped fault = CopyStops
+      (remaining (device_of reader)) (remaining (device_of left))
+      (contents (device_of old)) (contents (device_of new)) fault
 
   -- At Write the bytes are fewer than all, but where the flush failed after all went out.
   abbrev pub LeavesCopy : Outcome → Type 0
@@ -23,7 +28,8 @@ module _ {R W : Type 0} (remaining : R → Known) (contents : W → Known) (read
   LeavesCopy (Refused None refusal) = CopyStopped (faults.Refused refusal)
   LeavesCopy (Refused (Some side) refusal) = ⊥
   LeavesCopy Read = CopyStopped faults.Read × HasFailed reader left
-  LeavesCopy (Write count) = (CopyStopped (faults.Write count) ⊎ AllCopied count) × HasFailed old new
+  LeavesCopy (Write count) =
+      (CopyStopped (faults.Write count) ⊎ AllCopied count) × HasFailed old new
   LeavesCopy Same = ⊥
   LeavesCopy Different = ⊥
   LeavesCopy (BadWord index) = ⊥

@@ -1,5 +1,5 @@
--- What the words ask for, as a task.
-use Rattle.std.specs.Prelude.{◌≡◌, ◌≢◌, List, [], Some, codes, map, unwrap_or}
+-- What the words ask for, as a task. This project's own.
+use Rattle.std.specs.Prelude.{◌≡◌, ◌≢◌, List, [], Some, codes, map, unwrap_or, ⊤}
 use Rattle.clap.specs.Faults.{fault_of}
 use Rattle.clap.specs.Kinds.{IsAmong}
 use Rattle.clap.specs.Matches.{found_of}
@@ -32,15 +32,24 @@ HasAllValues rows id texts = texts ≡ unwrap_or (all_of id rows) []
 
 -- a command asks a question about the values of its arguments
 abbrev pub IsQuestion : Text → List Row → Question → Type 0
-IsQuestion command rows (Types format) = (command ≡ codes "types") × HasValue rows (codes "F") format.now
-IsQuestion command rows (Canon format) = (command ≡ codes "canon") × HasValue rows (codes "F") format.now
-IsQuestion command rows (Show format) = (command ≡ codes "show") × HasValue rows (codes "F") format.now
-IsQuestion command rows (Format format given) = (command ≡ codes "format") × HasValue rows (codes "F") format.now × HasAllValues rows (codes "ARG") (map (λ s. s.now) given.items)
-IsQuestion command rows (Same first second) = (command ≡ codes "same") × HasValue rows (codes "F") first.now × HasValue rows (codes "G") second.now
+IsQuestion command rows (Types format) =
+    (command ≡ codes "types") × HasValue rows (codes "F") format.now
+IsQuestion command rows (Canon format) =
+    (command ≡ codes "canon") × HasValue rows (codes "F") format.now
+IsQuestion command rows (Show format) =
+    (command ≡ codes "show") × HasValue rows (codes "F") format.now
+IsQuestion command rows (Format format given) =
+    (command ≡ codes "format") × HasValue rows (codes "F") format.now
+    × HasAllValues rows (codes "ARG") (map (λ s. s.now) given.items)
+IsQuestion command rows (Same first second) =
+    (command ≡ codes "same") × HasValue rows (codes "F") first.now
+    × HasValue rows (codes "G") second.now
 
 -- the words name a command which does that
 abbrev pub Asks : List Text → Task → Type 0
-Asks words (Answer question) = (command : Text) × (rows : List Row) × Names words command rows × IsQuestion command rows question
+Asks words (Answer question) =
+    (command : Text) × (rows : List Row) × Names words command rows
+    × IsQuestion command rows question
 Asks words Stream = (rows : List Row) × Names words (codes "stream") rows
 
 -- the values that clap found for a subcommand
@@ -53,10 +62,10 @@ HasFault words = (k : ErrorKind) × (k ≢ kind.OutOfMemory) × IsAmong k (fault
 
 -- words that clap takes have no task for want of memory alone
 abbrev pub IsNoTaskOf : List Text → NoTask → Type 0
-IsNoTaskOf words (Usage message) = (IsTaken words → ⊥) × HasFault words
-IsNoTaskOf words Memory = Unit {0}
+IsNoTaskOf words (Usage message) = (¬ IsTaken words) × HasFault words
+IsNoTaskOf words Memory = ⊤
 
 -- want of memory is answered as such, and may be answered for anything else
 abbrev pub IsAnsweredBy : ErrorKind → NoTask → Type 0
-IsAnsweredBy k (Usage message) = k ≡ kind.OutOfMemory → ⊥
-IsAnsweredBy k Memory = Unit {0}
+IsAnsweredBy k (Usage message) = k ≢ kind.OutOfMemory
+IsAnsweredBy k Memory = ⊤

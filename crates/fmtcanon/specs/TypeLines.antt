@@ -1,4 +1,4 @@
--- The types of a format's arguments, as lines.
+-- The types of a format's arguments, as lines. This project's own.
 use Rattle.std.specs.Prelude.{◌≡◌, ◌≤◌, List, codes, flat_map, length}
 use Rattle.pf_values.specs.declared.limits.TheConstants.{MAX_TEXT_LEN}
 use Rattle.pf_values.specs.declared.types.ArgType.{ArgType}
@@ -7,6 +7,7 @@ use Rattle.pf_values.specs.Items.{Item, Reads, types}
 use Rattle.pf_values.specs.Text.{Text}
 use Rattle.fmtcanon.specs.Lines.{line}
 
+-- a type as C names it, but for a string
 abbrev pub type_name : ArgType → Text
 type_name Int = codes "int"
 type_name UInt = codes "unsigned int"
@@ -16,9 +17,12 @@ type_name LongLong = codes "long long"
 type_name ULongLong = codes "unsigned long long"
 type_name Str = codes "string"
 
+-- the name in a line
 abbrev pub type_line : ArgType → Text
 type_line type = line (type_name type)
 
 -- a line for each argument of an accepted format, in order
 abbrev pub HasTypeLines : Text → Text → Type 0
-HasTypeLines format lines = (items : List Item) × Reads format items × (length format ≤ MAX_TEXT_LEN) × (lines ≡ flat_map type_line (types items))
+HasTypeLines format lines =
+    (items : List Item) × Reads format items × (length format ≤ MAX_TEXT_LEN)
+    × (lines ≡ flat_map type_line (types items))

@@ -1,4 +1,4 @@
--- Arguments that have no type yet.
+-- Arguments that have no type yet. This project's own.
 use Rattle.pf_values.specs.Arg.{bytes_of}
 use Rattle.pf_values.specs.Arguments.{Argument, Number, String}
 use Rattle.fmtcanon.specs.declared.untyped.UntypedArg.{UntypedArg}

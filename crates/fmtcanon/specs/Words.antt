@@ -1,4 +1,4 @@
--- What the words of a call mean, by clap's definition of the command.
+-- What the words of a call mean, by clap's definition of the command. This project's own.
 use Rattle.std.specs.Prelude.{◌≡◌, true, List, Some, codes}
 use Rattle.clap.specs.Lexer.{usize_max}
 use Rattle.clap.specs.Simple.{App, new_app, new_rule, on_top, with_rule, with_subcommand}
@@ -20,13 +20,16 @@ on_formats name = with_rule (on_format name) (wanted (codes "G"))
 
 -- any number of arguments
 abbrev pub any_arguments : Rule
-any_arguments = record (new_rule (codes "ARG")) { range = Some (record { start_inclusive = 0; end_inclusive = usize_max }) }
+any_arguments = record (new_rule (codes "ARG")) {
+  range = Some (record { start_inclusive = 0; end_inclusive = usize_max });
+}
 
 -- a subcommand with the argument F and any number of ARGs
 abbrev pub on_arguments : Text → App
 on_arguments name = with_rule (on_format name) any_arguments
 
--- The words come without the program's name, a subcommand is wanted, and `--version` is answered beside `--help`.
+-- The words come without the program's name, a subcommand is wanted, and `--version` is answered
+-- beside `--help`.
 abbrev pub top_app : App
 top_app = on_top (λ s. record s {
   no_binary_name = true;

@@ -35,7 +35,8 @@ pub struct Answer {
 
 /// The answer to a question, or why there is none.
 pub fn answer_to(alloc: Global, question: &Question<'_>) -> Result<Answer, Fault>
-    ensures { MatchResult result (λ answer. IsAnswer question.now answer.bytes.items answer.ending) (IsHindered question.now) }
+    ensures { MatchResult result (λ answer. IsAnswer question.now answer.bytes.items answer.ending)
+        (IsHindered question.now) }
 {
     match question {
         Question::Types(format) => done(type_lines(alloc, format.as_bytes())),
@@ -50,7 +51,8 @@ pub fn answer_to(alloc: Global, question: &Question<'_>) -> Result<Answer, Fault
 
 // These bytes as an answer, after which nothing else is told.
 fn done(bytes: Result<Vec<u8>, Fault>) -> Result<Answer, Fault>
-    ensures { MatchResult result (λ answer. (answer.ending ≡ Done) × (bytes ≡ Ok answer.bytes)) (λ fault. bytes ≡ Err fault) }
+    ensures { MatchResult result (λ answer. (answer.ending ≡ Done) × (bytes ≡ Ok answer.bytes))
+        (λ fault. bytes ≡ Err fault) }
 {
     Ok(Answer {
         bytes: bytes?,
@@ -60,7 +62,8 @@ fn done(bytes: Result<Vec<u8>, Fault>) -> Result<Answer, Fault>
 
 // The canonical string of a format and a newline.
 fn canonical_line(alloc: Global, format: &[u8]) -> Result<Vec<u8>, Fault>
-    ensures { MatchResult result (λ out. HasCanonicalLine format.now out.items) (HindersFormat format.now) }
+    ensures { MatchResult result (λ out. HasCanonicalLine format.now out.items)
+        (HindersFormat format.now) }
 {
     let canonical = canonical(alloc, format)?;
     Ok(ended(canonical)?)

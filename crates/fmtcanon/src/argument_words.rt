@@ -16,7 +16,7 @@ pub const MAX_DIGITS: usize = 20;
 /// The argument that a word gives, or `None` if it gives none.
 pub fn read_argument(word: &[u8]) -> Option<UntypedArg<'_>>
     ensures some { IfSome result (λ given. SpellsArgument word.now (argument_given given)) }
-    ensures none { IfNone result ((argument : Argument) → SpellsArgument word.now argument → ⊥) }
+    ensures none { IfNone result ((argument : Argument) → ¬ SpellsArgument word.now argument) }
 {
     match word {
         [b'n', b':', number @ ..] => Some(UntypedArg::Number(number_of(number)?)),
@@ -28,7 +28,7 @@ pub fn read_argument(word: &[u8]) -> Option<UntypedArg<'_>>
 // The number of a text with a `-` or none.
 fn number_of(text: &[u8]) -> Option<i128>
     ensures some { IfSome result (SpellsNumber text.now) }
-    ensures none { IfNone result ((n : ℤ) → SpellsNumber text.now n → ⊥) }
+    ensures none { IfNone result ((n : ℤ) → ¬ SpellsNumber text.now n) }
 {
     match text {
         [b'-', digits @ ..] => Some(-magnitude_of(digits)?),
@@ -38,8 +38,9 @@ fn number_of(text: &[u8]) -> Option<i128>
 
 // The number of a text of digits.
 fn magnitude_of(digits: &[u8]) -> Option<i128>
-    ensures some { IfSome result (λ number. (n : ℕ) × SpellsMagnitude digits.now n × (number ≡ pos n)) }
-    ensures none { IfNone result ((n : ℕ) → SpellsMagnitude digits.now n → ⊥) }
+    ensures some { IfSome result
+        (λ number. (n : ℕ) × SpellsMagnitude digits.now n × (number ≡ pos n)) }
+    ensures none { IfNone result ((n : ℕ) → ¬ SpellsMagnitude digits.now n) }
 {
     if digits.is_empty() || digits.len() > MAX_DIGITS {
         return None;

@@ -53,7 +53,8 @@ fn on_nothing<'a>(
     about: &'a str,
     below: &'a str,
 ) -> Result<Command<'a>, AllocError>
-    ensures { IfOk result (λ command. (app_of command ≡ new_app name.now) × ((fields_of command).has_globals ≡ false)) }
+    ensures { IfOk result (λ command.
+        (app_of command ≡ new_app name.now) × ((fields_of command).has_globals ≡ false)) }
 {
     Ok(Command::new(alloc, name).about(about).after_help(below))
 }
@@ -65,7 +66,8 @@ fn on_format<'a>(
     about: &'a str,
     below: &'a str,
 ) -> Result<Command<'a>, AllocError>
-    ensures { IfOk result (λ command. (app_of command ≡ on_format name.now) × ((fields_of command).has_globals ≡ false)) }
+    ensures { IfOk result (λ command.
+        (app_of command ≡ on_format name.now) × ((fields_of command).has_globals ≡ false)) }
 {
     let format = Arg::new(alloc, "F").required(true).help("A printf format");
     Command::new(alloc, name)
@@ -77,7 +79,9 @@ fn on_format<'a>(
 // The subcommand with a second format besides.
 fn taking_second<'a>(alloc: Global, command: Command<'a>) -> Result<Command<'a>, AllocError>
     requires { (fields_of command).has_globals ≡ false }
-    ensures { IfOk result (λ r. (app_of r ≡ with_rule (app_of command.entry) (wanted (codes "G"))) × ((fields_of r).has_globals ≡ false)) }
+    ensures { IfOk result (λ r.
+        (app_of r ≡ with_rule (app_of command.entry) (wanted (codes "G")))
+        × ((fields_of r).has_globals ≡ false)) }
 {
     let format = Arg::new(alloc, "G")
         .required(true)
@@ -88,7 +92,9 @@ fn taking_second<'a>(alloc: Global, command: Command<'a>) -> Result<Command<'a>,
 // The subcommand with any number of arguments besides.
 fn taking_arguments<'a>(alloc: Global, command: Command<'a>) -> Result<Command<'a>, AllocError>
     requires { (fields_of command).has_globals ≡ false }
-    ensures { IfOk result (λ r. (app_of r ≡ with_rule (app_of command.entry) any_arguments) × ((fields_of r).has_globals ≡ false)) }
+    ensures { IfOk result (λ r.
+        (app_of r ≡ with_rule (app_of command.entry) any_arguments)
+        × ((fields_of r).has_globals ≡ false)) }
 {
     let help = "An argument: `n:` and a decimal number, or `s:` and a string";
     command.arg(Arg::new(alloc, "ARG").num_args(0..).help(help))
@@ -97,7 +103,8 @@ fn taking_arguments<'a>(alloc: Global, command: Command<'a>) -> Result<Command<'
 // The command with one more subcommand.
 fn adding<'a>(command: Command<'a>, sub: Command<'a>) -> Result<Command<'a>, AllocError>
     requires { (fields_of sub).has_globals ≡ false }
-    ensures { IfOk result (λ r. app_of r ≡ with_subcommand (app_of command.entry) (app_of sub.entry).top) }
+    ensures { IfOk result
+        (λ r. app_of r ≡ with_subcommand (app_of command.entry) (app_of sub.entry).top) }
 {
     command.subcommand(sub)
 }

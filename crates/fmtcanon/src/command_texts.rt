@@ -1,5 +1,5 @@
-//! What stands below the help of each command: an example, the rule of `--`, the exit statuses, and where
-//! refusals are explained.
+//! What stands below the help of each command: an example, the rule of `--`, the exit statuses, and
+//! where refusals are explained.
 
 pub const PROGRAM: &str = "\
 Example:

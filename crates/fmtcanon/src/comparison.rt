@@ -13,10 +13,12 @@ use pf_compare::{OwnedArg, Verdict, compare};
 use pf_values::Arg;
 use std::alloc::{AllocError, Global};
 
-/// Whether two formats mean the same; else where their types differ, or arguments for which they print different
-/// bytes, each as the word that gives it.
+/// Whether two formats mean the same; else where their types differ, or arguments for which they
+/// print different bytes, each as the word that gives it.
 pub fn comparison_answer(alloc: Global, first: &[u8], second: &[u8]) -> Result<Answer, Fault>
-    ensures { MatchResult result (λ answer. IsComparisonAnswer first.now second.now answer.bytes.items answer.ending) (HindersFormats first.now second.now) }
+    ensures { MatchResult result
+        (λ answer. IsComparisonAnswer first.now second.now answer.bytes.items answer.ending)
+        (HindersFormats first.now second.now) }
 {
     let comparison = compare(alloc, first, second)?;
     let bytes = verdict_lines(alloc, &comparison.verdict)?;
@@ -47,7 +49,8 @@ fn verdict_lines(alloc: Global, verdict: &Verdict) -> Result<Vec<u8>, AllocError
 }
 
 fn types_line(alloc: Global, index: u64) -> Result<Vec<u8>, AllocError>
-    ensures { IfOk result (λ out. out.items ≡ line (codes "types differ at argument " ++ decimal index)) }
+    ensures { IfOk result
+        (λ out. out.items ≡ line (codes "types differ at argument " ++ decimal index)) }
 {
     let mut digits = Buffer::new();
     let mut out = Vec::from_slice(alloc, b"types differ at argument ")?;
@@ -57,7 +60,8 @@ fn types_line(alloc: Global, index: u64) -> Result<Vec<u8>, AllocError>
 }
 
 fn argument_lines(alloc: Global, args: &[OwnedArg]) -> Result<Vec<u8>, AllocError>
-    ensures { IfOk result (λ out. out.items ≡ line (codes "different") ++ flat_map argument_line args.now) }
+    ensures { IfOk result
+        (λ out. out.items ≡ line (codes "different") ++ flat_map argument_line args.now) }
 {
     let mut out = Vec::from_slice(alloc, b"different\n")?;
     for arg in args {
@@ -69,7 +73,8 @@ fn argument_lines(alloc: Global, args: &[OwnedArg]) -> Result<Vec<u8>, AllocErro
 
 // The word that gives an argument.
 fn push_word(out: &mut Vec<u8>, arg: Arg<'_>) -> Result<(), AllocError>
-    ensures { IfOk result (λ _. out.new.items ≡ out.old.items ++ argument_word (argument_of arg.entry)) }
+    ensures { IfOk result
+        (λ _. out.new.items ≡ out.old.items ++ argument_word (argument_of arg.entry)) }
 {
     match arg {
         Arg::Int(n) => push_number(out, i128::from(n)),
@@ -83,7 +88,8 @@ fn push_word(out: &mut Vec<u8>, arg: Arg<'_>) -> Result<(), AllocError>
 }
 
 fn push_number(out: &mut Vec<u8>, number: i128) -> Result<(), AllocError>
-    ensures { IfOk result (λ _. out.new.items ≡ out.old.items ++ (codes "n:" ++ signed_decimal number)) }
+    ensures { IfOk result
+        (λ _. out.new.items ≡ out.old.items ++ (codes "n:" ++ signed_decimal number)) }
 {
     let mut digits = Buffer::new();
     out.extend_from_slice(b"n:")?;

@@ -18,7 +18,8 @@ pub fn arguments_for<'a>(
     format: &[u8],
     words: &[&'a str],
 ) -> Result<Vec<Arg<'a>>, Fault>
-    ensures ok { IfOk result (λ args. AreArgumentsFor format.now (map (λ s. s.now) words.now) args.items) }
+    ensures ok { IfOk result
+        (λ args. AreArgumentsFor format.now (map (λ s. s.now) words.now) args.items) }
     ensures err { IfErr result (HindersArguments format.now (map (λ s. s.now) words.now)) }
 {
     let wanted = signature(alloc, format)?;
@@ -34,7 +35,8 @@ pub fn arguments_for<'a>(
 
 // The arguments that the words give.
 fn read_words<'a>(alloc: Global, words: &[&'a str]) -> Result<Vec<UntypedArg<'a>>, Fault>
-    ensures ok { IfOk result (λ given. SpellArguments (map (λ s. s.now) words.now) (map argument_given given.items)) }
+    ensures ok { IfOk result
+        (λ given. SpellArguments (map (λ s. s.now) words.now) (map argument_given given.items)) }
     ensures err { IfErr result (λ fault. IsBadWord (map (λ s. s.now) words.now) fault) }
 {
     let mut given = Vec::new(alloc);
@@ -58,8 +60,12 @@ fn typed<'a>(
     wanted: &[ArgType],
 ) -> Result<Vec<Arg<'a>>, Fault>
     requires { length given.now ≡ length wanted.now }
-    ensures ok { IfOk result (λ args. (map argument_of args.items ≡ map argument_given given.now) × HasTypes (map argument_of args.items) wanted.now × (map type_of args.items ≡ wanted.now)) }
-    ensures err { IfErr result (λ fault. IsWrongType (map argument_given given.now) wanted.now fault) }
+    ensures ok { IfOk result (λ args.
+        (map argument_of args.items ≡ map argument_given given.now)
+        × HasTypes (map argument_of args.items) wanted.now
+        × (map type_of args.items ≡ wanted.now)) }
+    ensures err { IfErr result
+        (λ fault. IsWrongType (map argument_given given.now) wanted.now fault) }
 {
     let mut args = Vec::new(alloc);
     for (argument, arg_type) in given.iter().zip(wanted) {

@@ -69,8 +69,8 @@ impl Outcome {
         }
     }
 
-    /// The exit status: 0 where all was written, 1 for formats that differ, 2 for a refused format, 3 for wrong words or
-    /// arguments, and 4 for a device that failed or want of memory.
+    /// The exit status: 0 where all was written, 1 for formats that differ, 2 for a refused format,
+    /// 3 for wrong words or arguments, and 4 for a device that failed or want of memory.
     pub fn status(&self) -> u8
         ensures { result ≡ status_of self.now }
     {

@@ -6,8 +6,8 @@ use pf_values::Counted;
 use std::io;
 use std::io::Write;
 
-/// Writes the line of an outcome that has one; the text of `clap` is written as it is. A write that fails
-/// ends it.
+/// Writes the line of an outcome that has one; the text of `clap` is written as it is. A write that
+/// fails ends it.
 pub fn report<E: Write>(outcome: &Outcome, errors: &mut Counted<E>) {
     let _ = report_line(outcome, errors);
 }

@@ -11,16 +11,17 @@ use pf_values::{Counted, write_bytes};
 use std::alloc::Global;
 use std::io::{Read, Write};
 
-/// Runs the command that the words name; the program's name isn't among them. What a command reads comes
-/// from `reader`, and what it writes goes to `writer`, which is flushed before `Done`, `Same` and
-/// `Different`, and by `stream` also before `Refused` and `Read`.
+/// Runs the command that the words name; the program's name isn't among them. What a command reads
+/// comes from `reader`, and what it writes goes to `writer`, which is flushed before `Done`, `Same`
+/// and `Different`, and by `stream` also before `Refused` and `Read`.
 pub fn run<R: Read, W: Write>(
     alloc: Global,
     words: &[&str],
     reader: &mut Counted<R>,
     writer: &mut Counted<W>,
 ) -> Outcome
-    ensures { Leaves R.remaining W.contents reader.old reader.new writer.old writer.new (map (λ s. s.now) words.now) result }
+    ensures { Leaves R.remaining W.contents reader.old reader.new writer.old writer.new
+        (map (λ s. s.now) words.now) result }
 {
     match task_of(alloc, words) {
         Ok(Task::Answer(question)) => answer(alloc, &question, writer),
@@ -42,7 +43,8 @@ fn answer<W: Write>(alloc: Global, question: &Question<'_>, writer: &mut Counted
 
 // Writes an answer, and flushes.
 fn write_answer<W: Write>(answer: &Answer, writer: &mut Counted<W>) -> Outcome
-    ensures { LeavesBytes W.contents writer.old writer.new answer.now.bytes.items (outcome_of answer.now.ending) result }
+    ensures { LeavesBytes W.contents writer.old writer.new answer.now.bytes.items
+        (outcome_of answer.now.ending) result }
 {
     if let Err(short) = write_bytes(writer, &answer.bytes) {
         return Outcome::Write(short.written as u128);

@@ -20,7 +20,8 @@ use std::alloc::{AllocError, Global};
 
 /// A line for each run of literal bytes, each `%%` and each directive of a format, or its refusal.
 pub fn show_lines(alloc: Global, format: &[u8]) -> Result<Vec<u8>, Fault>
-    ensures { MatchResult result (λ out. HasShownLines format.now out.items) (HindersFormat format.now) }
+    ensures { MatchResult result (λ out. HasShownLines format.now out.items)
+        (HindersFormat format.now) }
 {
     let mut out = Vec::new(alloc);
     for piece in Pieces::new(format) {
@@ -39,7 +40,9 @@ pub fn show_lines(alloc: Global, format: &[u8]) -> Result<Vec<u8>, Fault>
 }
 
 fn push_piece(out: &mut Vec<u8>, piece: Piece<'_>) -> Result<(), AllocError>
-    ensures { IfOk result (λ _. (part : Text) × IsLineOf (shown_of piece.entry) part × (out.new.items ≡ out.old.items ++ part)) }
+    ensures { IfOk result (λ _.
+        (part : Text) × IsLineOf (shown_of piece.entry) part
+        × (out.new.items ≡ out.old.items ++ part)) }
 {
     match piece {
         Piece::Literal(run) => push_run(out, run.len()),
@@ -50,7 +53,8 @@ fn push_piece(out: &mut Vec<u8>, piece: Piece<'_>) -> Result<(), AllocError>
 
 // The line of a run with so many bytes.
 fn push_run(out: &mut Vec<u8>, len: usize) -> Result<(), AllocError>
-    ensures { IfOk result (λ _. out.new.items ≡ out.old.items ++ line (codes "text " ++ decimal len)) }
+    ensures { IfOk result
+        (λ _. out.new.items ≡ out.old.items ++ line (codes "text " ++ decimal len)) }
 {
     out.extend_from_slice(b"text ")?;
     push_number(out, len as u64)?;
@@ -59,7 +63,9 @@ fn push_run(out: &mut Vec<u8>, len: usize) -> Result<(), AllocError>
 }
 
 fn push_directive(out: &mut Vec<u8>, directive: &Directive) -> Result<(), AllocError>
-    ensures { IfOk result (λ _. (r : Reduced) × IsReducedTo directive.now r × (out.new.items ≡ out.old.items ++ reduced_line directive.now r)) }
+    ensures { IfOk result (λ _.
+        (r : Reduced) × IsReducedTo directive.now r
+        × (out.new.items ≡ out.old.items ++ reduced_line directive.now r)) }
 {
     push_front(out, directive)?;
     push_reduced(out, reduce(directive))?;
@@ -69,7 +75,9 @@ fn push_directive(out: &mut Vec<u8>, directive: &Directive) -> Result<(), AllocE
 
 // The spelling of a directive, and its type.
 fn push_front(out: &mut Vec<u8>, directive: &Directive) -> Result<(), AllocError>
-    ensures { IfOk result (λ _. out.new.items ≡ out.old.items ++ codes "directive " ++ spelled directive.now ++ codes ": " ++ type_name (arg_type directive.now) ++ codes ": ") }
+    ensures { IfOk result (λ _.
+        out.new.items ≡ out.old.items ++ codes "directive " ++ spelled directive.now ++ codes ": "
+        ++ type_name (arg_type directive.now) ++ codes ": ") }
 {
     out.extend_from_slice(b"directive ")?;
     out.extend_from_slice(&spell(directive))?;
@@ -96,7 +104,9 @@ fn push_reduced(out: &mut Vec<u8>, reduced: Reduced) -> Result<(), AllocError>
 
 // The padding before a core.
 fn push_padding(out: &mut Vec<u8>, spaces: u16, zeros: u16) -> Result<(), AllocError>
-    ensures { IfOk result (λ _. out.new.items ≡ out.old.items ++ (decimal spaces ++ codes " " ++ decimal zeros ++ codes " ")) }
+    ensures { IfOk result (λ _.
+        out.new.items
+        ≡ out.old.items ++ (decimal spaces ++ codes " " ++ decimal zeros ++ codes " ")) }
 {
     push_number(out, u64::from(spaces))?;
     out.push(b' ')?;

@@ -7,8 +7,8 @@ use pf_canon::{CopyFault, copy_canonical};
 use pf_values::Counted;
 use std::io::{Read, Write};
 
-/// Copies the canonical string of what the reader hands out. What was written is flushed at the end, at a refusal
-/// and where a read fails; these two are told even where that flush fails.
+/// Copies the canonical string of what the reader hands out. What was written is flushed at the
+/// end, at a refusal and where a read fails; these two are told even where that flush fails.
 pub fn copy<R: Read, W: Write>(reader: &mut Counted<R>, writer: &mut Counted<W>) -> Outcome
     ensures { LeavesCopy R.remaining W.contents reader.old reader.new writer.old writer.new result }
 {

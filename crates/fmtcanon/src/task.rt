@@ -77,7 +77,8 @@ pub fn task_of<'a>(alloc: Global, words: &'a [&'a str]) -> Result<Task<'a>, NoTa
 // The task of a subcommand.
 fn named_task<'a>(alloc: Global, name: &str, inner: &ArgMatches<'a>) -> Result<Task<'a>, AllocError>
     requires { (words : List Text) × Names words name.now (rows_in inner.now) }
-    ensures { IfOk result (λ task. (words : List Text) → Names words name.now (rows_in inner.now) → Asks words task) }
+    ensures { IfOk result
+        (λ task. (words : List Text) → Names words name.now (rows_in inner.now) → Asks words task) }
 {
     match name {
         "types" => Ok(Task::Answer(Question::Types(value_of(inner, "F")))),
@@ -112,7 +113,9 @@ fn value_of<'a>(inner: &ArgMatches<'a>, id: &str) -> &'a str
 
 // The words that stand for arguments, of which there may be none.
 fn given_words<'a>(alloc: Global, inner: &ArgMatches<'a>) -> Result<Vec<&'a str>, AllocError>
-    ensures { IfOk result (λ given. map (λ s. s.now) given.items ≡ unwrap_or (option_map raw_values (matched_of (found_of inner.now) (codes "ARG"))) []) }
+    ensures { IfOk result (λ given.
+        map (λ s. s.now) given.items
+        ≡ unwrap_or (option_map raw_values (matched_of (found_of inner.now) (codes "ARG"))) []) }
 {
     match inner.get_strs("ARG") {
         Some(words) => Vec::from_slice(alloc, words),

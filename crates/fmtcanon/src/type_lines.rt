@@ -10,7 +10,8 @@ use std::alloc::{AllocError, Global};
 
 /// A line for each argument of a format, or its refusal.
 pub fn type_lines(alloc: Global, format: &[u8]) -> Result<Vec<u8>, Fault>
-    ensures { MatchResult result (λ out. HasTypeLines format.now out.items) (HindersFormat format.now) }
+    ensures { MatchResult result (λ out. HasTypeLines format.now out.items)
+        (HindersFormat format.now) }
 {
     let types = signature(alloc, format)?;
     Ok(lines_of(alloc, types.as_slice())?)

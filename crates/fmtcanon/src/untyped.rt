@@ -23,7 +23,8 @@ impl<'a> UntypedArg<'a> {
     /// The argument at a type, or `None` where it is none of the type's.
     pub fn as_type(self, arg_type: ArgType) -> Option<Arg<'a>>
         ensures typed { IsSome result ↔ HasType (argument_given self.entry) arg_type }
-        ensures some { IfSome result (λ arg. (type_of arg ≡ arg_type) × (argument_of arg ≡ argument_given self.entry)) }
+        ensures some { IfSome result
+            (λ arg. (type_of arg ≡ arg_type) × (argument_of arg ≡ argument_given self.entry)) }
     {
         match self {
             UntypedArg::Number(number) => number_as(number, arg_type),
@@ -36,7 +37,8 @@ impl<'a> UntypedArg<'a> {
 // The number at a type of numbers.
 fn number_as(number: i128, arg_type: ArgType) -> Option<Arg<'static>>
     ensures typed { IsSome result ↔ IsInRange arg_type number }
-    ensures some { IfSome result (λ arg. (type_of arg ≡ arg_type) × (argument_of arg ≡ Number number)) }
+    ensures some { IfSome result
+        (λ arg. (type_of arg ≡ arg_type) × (argument_of arg ≡ Number number)) }
 {
     match arg_type {
         ArgType::Int => Some(Arg::Int(i32::try_from(number).ok()?)),

@@ -1,5 +1,5 @@
--- What two texts that are compared in step have come to.
-use Rattle.std.specs.Prelude.{◌≡◌, ◌≢◌, ℕ, ◌<◌, Bool, true, [], ◌∷◌, ◌++◌, length, Option, Some, None, Result, Ok, Err, ◌⊎◌, ◌↔◌, IsTrue}
+-- What two texts that are compared in step have come to. This project's own.
+use Rattle.std.specs.Prelude.{◌≡◌, ◌≢◌, ℕ, ◌<◌, Bool, true, [], ◌∷◌, ◌++◌, length, Option, Some, None, Result, Ok, Err, ◌⊎◌, ◌↔◌, IsTrue, ⊤}
 use Rattle.std.specs.Io.KnownBytes.{Consumes, IsAtEnd}
 use Rattle.pf_values.specs.Canonical.{IsCanonicalOf}
 use Rattle.pf_values.specs.Counting.{Known}
@@ -19,6 +19,7 @@ use Rattle.pf_canon.specs.declared.sources.Source.{Source}
 use Rattle.pf_canon.specs.Sources.{History, IsEnding, IsOver, IsReadFor, IsRefusedBehind, units}
 use Rattle.pf_canon.specs.Through.{SettlesTo}
 
+-- a text has a canonical text
 abbrev pub HasCanonical : Text → Type 0
 HasCanonical t = (c : Text) × IsCanonicalOf t c
 
@@ -39,45 +40,61 @@ pub record EndsBoth (f f_left g g_left : Known) (is : Bool) : Type 0 where
 
 -- a text stopped behind `taken`, whose whole items settle this
 abbrev pub StopsBy : StreamFault → Known → Known → Text → Text → Type 0
-StopsBy (faults.Refused refusal) start left taken settled = IsRefusedBehind start left taken refusal × SettlesTo taken settled
+StopsBy (faults.Refused refusal) start left taken settled =
+    IsRefusedBehind start left taken refusal × SettlesTo taken settled
 StopsBy faults.Read start left taken settled = Consumes start left taken × SettlesTo taken settled
 
 -- before its last byte was taken, fewer bytes were settled than these
 abbrev pub IsPaced : Text → Text → Type 0
-IsPaced taken settled = (taken ≡ []) ⊎ ((before : Text) × (last : ℕ) × (s : Text) × (taken ≡ before ++ last ∷ []) × SettlesTo before s × (length s < length settled))
+IsPaced taken settled = (taken ≡ []) ⊎ (
+    (before : Text) × (last : ℕ) × (s : Text) × (taken ≡ before ++ last ∷ [])
+    × SettlesTo before s × (length s < length settled))
 
--- The first text stopped, and of the second no more was read than to give as many bytes. Or the first was read whole, and the second stopped.
+-- The first text stopped, and of the second no more was read than to give as many bytes. Or the
+-- first was read whole, and the second stopped.
 abbrev pub StopsOn : Side → StreamFault → Known → Known → Known → Known → Type 0
-StopsOn First fault f f_left g g_left = (taken settled other : Text) × StopsBy fault f f_left taken settled × Consumes g g_left other × IsPaced other settled
-StopsOn Second fault f f_left g g_left = (t taken settled : Text) × IsReadWhole f f_left t × StopsBy fault g g_left taken settled
+StopsOn First fault f f_left g g_left =
+    (taken settled other : Text) × StopsBy fault f f_left taken settled × Consumes g g_left other
+    × IsPaced other settled
+StopsOn Second fault f f_left g g_left =
+    (t taken settled : Text) × IsReadWhole f f_left t × StopsBy fault g g_left taken settled
 
+-- the side that stopped, and how
 abbrev pub StopsSide : Known → Known → Known → Known → SideFault → Type 0
 StopsSide f f_left g g_left stop = StopsOn stop.side stop.fault f f_left g g_left
 
 -- what a fault says of the failures of a reader
-abbrev pub FaultCounts : {B : Type 0} → (B → B → Type 0) → (B → B → Type 0) → StreamFault → B → B → Type 0
+abbrev pub FaultCounts : {B : Type 0} → (B → B → Type 0) → (B → B → Type 0) → StreamFault → B
+    → B → Type 0
 FaultCounts kept failed (faults.Refused refusal) old new = kept old new
 FaultCounts kept failed faults.Read old new = failed old new
 
-abbrev pub CountsDrain : {B E : Type 0} → (B → B → Type 0) → (B → B → Type 0) → Result E StreamFault → B → B → Type 0
+-- what a reader counts that is read to its end
+abbrev pub CountsDrain : {B E : Type 0} → (B → B → Type 0) → (B → B → Type 0)
+    → Result E StreamFault → B → B → Type 0
 CountsDrain kept failed (Ok done) old new = kept old new
 CountsDrain kept failed (Err fault) old new = FaultCounts kept failed fault old new
 
 module _ {A B : Type 0} (kept_a failed_a : A → A → Type 0) (kept_b failed_b : B → B → Type 0) where
+  -- what both readers count where one side stopped
   abbrev pub CountsStop : Side → StreamFault → A → A → B → B → Type 0
   CountsStop First fault a a_new b b_new = FaultCounts kept_a failed_a fault a a_new
-  CountsStop Second fault a a_new b b_new = kept_a a a_new × FaultCounts kept_b failed_b fault b b_new
+  CountsStop Second fault a a_new b b_new =
+      kept_a a a_new × FaultCounts kept_b failed_b fault b b_new
 
+  -- what both readers count, by the result
   abbrev pub CountsSides : {T : Type 0} → Result T SideFault → A → A → B → B → Type 0
   CountsSides (Ok answer) a a_new b b_new = kept_a a a_new × kept_b b b_new
   CountsSides (Err stop) a a_new b b_new = CountsStop stop.side stop.fault a a_new b b_new
 
 -- the first text's fault, or that of the second
-abbrev pub CountsBehind : {A : Type 0} → (A → A → Type 0) → (A → A → Type 0) → StreamFault → Side → StreamFault → A → A → Type 0
+abbrev pub CountsBehind : {A : Type 0} → (A → A → Type 0) → (A → A → Type 0) → StreamFault
+    → Side → StreamFault → A → A → Type 0
 CountsBehind kept failed fault First told old new = FaultCounts kept failed told old new
 CountsBehind kept failed fault Second told old new = kept old new × (told ≡ fault)
 
--- two texts in memory are accepted, have canonical texts, and this tells whether they are equivalent
+-- two texts in memory are accepted, have canonical texts, and this tells whether they are
+-- equivalent
 pub record AreTextsSame (f g : Text) (is : Bool) : Type 0 where
   pub first : IsAccepted f
   pub second : IsAccepted g
@@ -90,6 +107,7 @@ abbrev pub TextStopsOn : Side → Text → Text → Refusal → Type 0
 TextStopsOn First f g refusal = IsRefusedAt f refusal.kind refusal.at
 TextStopsOn Second f g refusal = IsAccepted f × IsRefusedAt g refusal.kind refusal.at
 
+-- the same, with the side and the refusal as a pair
 abbrev pub TextStops : Text → Text → Side × Refusal → Type 0
 TextStops f g stop = TextStopsOn stop.0 f g stop.1
 
@@ -117,9 +135,12 @@ pub record Drained (x : Option ℕ) (start left : Known) (given : Text) : Type 0
   pub canonical : IsCanonicalOf text (given ++ rest)
   pub begins : BeginsWith x rest
 
+-- the rest was read, or the text stopped on the way, having settled more than was given
 abbrev pub DrainsTo : Option ℕ → Known → Known → Text → Result (Unit {0}) StreamFault → Type 0
 DrainsTo x start left given (Ok done) = Drained x start left given
-DrainsTo x start left given (Err fault) = (taken settled : Text) × StopsBy fault start left taken settled × (length given < length settled)
+DrainsTo x start left given (Err fault) =
+    (taken settled : Text) × StopsBy fault start left taken settled
+    × (length given < length settled)
 
 -- both gave the same bytes
 pub record IsInStep (first : Source) (a : Known) (second : Source) (b f g : Known) : Type 0 where
@@ -142,16 +163,20 @@ pub record IsApart (first : Source) (a : Known) (second : Source) (b f g : Known
   pub two : Gave y second g b u given
   pub read : IsReadFor u given
 
-abbrev pub PacesTo : Source → Known → Source → Known → Known → Known → Result Pace SideFault → Type 0
+-- what one step of both sources leaves
+abbrev pub PacesTo : Source → Known → Source → Known → Known → Known → Result Pace SideFault
+    → Type 0
 PacesTo first a second b f g (Ok On) = IsInStep first a second b f g
 PacesTo first a second b f g (Ok Same) = EndsBoth f a g b true
 PacesTo first a second b f g (Ok Differ) = IsApart first a second b f g
 PacesTo first a second b f g (Err stop) = StopsSide f a g b stop
 
+-- both go on only where there is a byte
 abbrev pub GoesOnlyWith : Option ℕ → Result Pace SideFault → Type 0
 GoesOnlyWith x (Ok On) = (byte : ℕ) × (x ≡ Some byte)
-GoesOnlyWith x r = Unit {0}
+GoesOnlyWith x r = ⊤
 
+-- where both go on, less is to come
 abbrev pub Lowers : Source → Source → Result Pace SideFault → Type 0
 Lowers old new (Ok On) = units new < units old
-Lowers old new r = Unit {0}
+Lowers old new r = ⊤

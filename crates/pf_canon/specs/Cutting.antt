@@ -1,4 +1,4 @@
--- What is left of a text behind its front.
+-- What is left of a text behind its front. This project's own.
 use Rattle.std.specs.Prelude.{◌≡◌, ◌≢◌, [], ◌++◌, Option, Some, None}
 use Rattle.std.specs.Borrow.{Bor}
 use Rattle.pf_values.specs.Text.{Text}

@@ -1,5 +1,5 @@
--- What a source has taken and given.
-use Rattle.std.specs.Prelude.{◌≡◌, ◌≢◌, ℕ, ◌+◌, ◌-◌, ◌*◌, ◌≤◌, ◌<◌, true, false, List, [], ◌∷◌, ◌++◌, length, Option, Some, None, Result, Ok, Err, ◌⊎◌, MatchBool, if◌then◌else◌}
+-- What a source has taken and given. This project's own.
+use Rattle.std.specs.Prelude.{◌≡◌, ◌≢◌, ℕ, ◌+◌, ◌-◌, ◌*◌, ◌≤◌, ◌<◌, true, false, List, [], ◌∷◌, ◌++◌, length, Option, Some, None, Result, Ok, Err, ◌⊎◌, MatchBool, if◌then◌else◌, ⊤}
 use Rattle.std.specs.Io.KnownBytes.{Consumes, IsAtEnd}
 use Rattle.pf_values.specs.declared.limits.TheConstants.{MAX_TEXT_LEN}
 use Rattle.pf_values.specs.declared.refusals.RefusalKind.TheVariants.{Truncated}
@@ -22,14 +22,17 @@ use Rattle.pf_canon.specs.Through.{IsThrough, SettlesTo, scanner_of, waiting_of}
 
 -- all that was settled before the last byte taken was given
 abbrev pub IsLean : Text → Text → Type 0
-IsLean taken given = (before : Text) × (last : ℕ) × (settled : Text) × (taken ≡ before ++ last ∷ []) × SettlesTo before settled × (length settled ≤ length given)
+IsLean taken given =
+    (before : Text) × (last : ℕ) × (settled : Text) × (taken ≡ before ++ last ∷ [])
+    × SettlesTo before settled × (length settled ≤ length given)
 
 -- no byte was taken but to give one more
 abbrev pub IsReadFor : Text → Text → Type 0
 IsReadFor taken given = (taken ≡ []) ⊎ IsLean taken given
 
 -- Of a text that is not at its end `taken` was taken, and what it settles was given but for `due`.
-pub record IsReading (r : Transducer) (due : Text) (start left : Known) (taken given : Text) : Type 0 where
+pub record IsReading (r : Transducer) (due : Text) (start left : Known)
+    (taken given : Text) : Type 0 where
   pub reader : Consumes start left taken
   pub items : List Item
   pub out : Text
@@ -57,8 +60,11 @@ pub record IsInTime (taken given : Text) (byte : ℕ) : Type 0 where
 -- behind `taken` the text ends, or goes on with a byte that is refused however it goes on
 pub record IsRefusedBehind (start left : Known) (taken : Text) (refusal : Refusal) : Type 0 where
   pub place : refusal.at ≡ length taken
-  pub cause : ((refusal.kind ≡ Truncated) × Consumes start left taken × IsAtEnd left × IsRefusedAt taken refusal.kind refusal.at)
-      ⊎ ((last : ℕ) × (refusal.kind ≢ Truncated) × Consumes start left (taken ++ last ∷ []) × ((rest : Text) → IsRefusedAt (taken ++ last ∷ rest) refusal.kind refusal.at))
+  pub cause : (
+      (refusal.kind ≡ Truncated) × Consumes start left taken × IsAtEnd left
+      × IsRefusedAt taken refusal.kind refusal.at) ⊎ (
+      (last : ℕ) × (refusal.kind ≢ Truncated) × Consumes start left (taken ++ last ∷ [])
+      × ((rest : Text) → IsRefusedAt (taken ++ last ∷ rest) refusal.kind refusal.at))
 
 -- nothing comes any more
 abbrev pub IsOver : Source → Type 0
@@ -66,14 +72,21 @@ IsOver s = (s.is_open ≡ false) × (due_text s.due ≡ [])
 
 -- of a text that had `start`, and has `left`, `taken` was taken, and `given` was given
 abbrev pub History : Source → Known → Known → Text → Text → Type 0
-History s start left taken given = MatchBool s.is_open (IsReading s.transducer (due_text s.due) start left taken given) (IsEnding (due_text s.due) start left taken given)
+History s start left taken given = MatchBool s.is_open
+    (IsReading s.transducer (due_text s.due) start left taken given)
+    (IsEnding (due_text s.due) start left taken given)
 
 -- What an answer leaves, where `taken` was taken by then and `given` was given before.
 abbrev pub Leaves : Option (Result ℕ StreamFault) → Source → Known → Known → Text → Text → Type 0
 Leaves None new start left taken given = IsEnding [] start left taken given × IsOver new
-Leaves (Some (Ok byte)) new start left taken given = History new start left taken (given ++ byte ∷ []) × IsReadFor taken given × (new.is_open ≡ true → IsInTime taken given byte)
-Leaves (Some (Err faults.Read)) new start left taken given = Consumes start left taken × SettlesTo taken given × IsReadFor taken given × IsOver new
-Leaves (Some (Err (faults.Refused refusal))) new start left taken given = IsRefusedBehind start left taken refusal × SettlesTo taken given × IsReadFor taken given × IsOver new
+Leaves (Some (Ok byte)) new start left taken given =
+    History new start left taken (given ++ byte ∷ []) × IsReadFor taken given
+    × (new.is_open ≡ true → IsInTime taken given byte)
+Leaves (Some (Err faults.Read)) new start left taken given =
+    Consumes start left taken × SettlesTo taken given × IsReadFor taken given × IsOver new
+Leaves (Some (Err (faults.Refused refusal))) new start left taken given =
+    IsRefusedBehind start left taken refusal × SettlesTo taken given × IsReadFor taken given
+    × IsOver new
 
 -- what one turn leaves
 abbrev pub Turns : Turn → Source → Known → Known → Text → Text → Type 0
@@ -83,7 +96,7 @@ Turns (Done r) new start left taken given = Leaves r new start left taken given
 -- no fault of the reader
 abbrev pub IsTold : Turn → Type 0
 IsTold (Done (Some (Err faults.Read))) = ⊥
-IsTold turn = Unit {0}
+IsTold turn = ⊤
 
 module _ {B : Type 0} (kept failed : B → B → Type 0) where
   -- a failure was counted where the answer tells of one
@@ -91,25 +104,32 @@ module _ {B : Type 0} (kept failed : B → B → Type 0) where
   CountsFault (Some (Err faults.Read)) old new = failed old new
   CountsFault r old new = kept old new
 
+  -- the same of a turn
   abbrev pub CountsTurn : Turn → B → B → Type 0
   CountsTurn Again old new = kept old new
   CountsTurn (Done r) old new = CountsFault r old new
 
 -- what a call of `next` answers and leaves
-pub record StepsBy {B : Type 0} (left : B → Known) (kept failed : B → B → Type 0) (old : Source) (from : B) (r : Option (Result ℕ StreamFault)) (new : Source) (to : B) : Type 0 where
-  pub next : (start : Known) (taken given : Text) → History old start (left from) taken given → (more : Text) × Leaves r new start (left to) (taken ++ more) given
+pub record StepsBy {B : Type 0} (left : B → Known) (kept failed : B → B → Type 0) (old : Source)
+    (from : B) (r : Option (Result ℕ StreamFault)) (new : Source) (to : B) : Type 0 where
+  pub next : (start : Known) (taken given : Text) → History old start (left from) taken given
+      → (more : Text) × Leaves r new start (left to) (taken ++ more) given
   pub over : IsOver old → (r ≡ None) × IsOver new × (to ≡ from)
   pub counts : CountsFault kept failed r from to
 
 -- a bound on what may still come: bytes, and a fault
 abbrev pub units : Source → ℕ
-units s = length (due_text s.due)
-    + (if s.is_open then (MAX_TEXT_LEN - offset_of (scanner_of s.transducer)) * (MAX_DIRECTIVE_LEN + 1) + 4 * waiting_of s.transducer + 2 else 0)
+units s = length (due_text s.due) + (if s.is_open
+    then (MAX_TEXT_LEN - offset_of (scanner_of s.transducer)) * (MAX_DIRECTIVE_LEN + 1)
+    + 4 * waiting_of s.transducer + 2
+    else 0)
 
+-- an answer that gives something leaves less to come
 abbrev pub LowersAnswer : Option (Result ℕ StreamFault) → Source → Source → Type 0
 LowersAnswer None old new = units new ≤ units old
 LowersAnswer (Some r) old new = units new < units old
 
+-- so does each turn
 abbrev pub LowersUnits : Turn → Source → Source → Type 0
 LowersUnits Again old new = units new < units old
 LowersUnits (Done r) old new = LowersAnswer r old new

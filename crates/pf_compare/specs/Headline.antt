@@ -1,4 +1,4 @@
--- The headline: one meaning, one canonical text.
+-- The headline: one meaning, one canonical text. This project's own.
 use Rattle.std.specs.Prelude.{◌≡◌, ◌↔◌}
 use Rattle.pf_values.specs.Canonical.{IsCanonicalOf}
 use Rattle.pf_values.specs.Printing.{AreEquivalent}
@@ -10,7 +10,8 @@ pub record HasOneCanonical (t : Text) : Type 0 where
   pub is : IsCanonicalOf t canonical
   pub only : (other : Text) → IsCanonicalOf t other → other ≡ canonical
 
--- Each of two texts has one canonical text, and they are equivalent exactly if every canonical text of the one is that of the other.
+-- Each of two texts has one canonical text, and they are equivalent exactly if every canonical text
+-- of the one is that of the other.
 pub record HaveOneMeaning (t u : Text) : Type 0 where
   pub first : HasOneCanonical t
   pub second : HasOneCanonical u

@@ -1,4 +1,4 @@
--- The argument types of a text, one after another.
+-- The argument types of a text, one after another. This project's own.
 use Rattle.std.specs.Prelude.{◌≡◌, List}
 use Rattle.pf_values.specs.declared.types.ArgType.{ArgType}
 use Rattle.pf_values.specs.Items.{Item, types}

@@ -11,9 +11,10 @@ use crate::witnesses::{Witness, first_witness};
 use pf_canon::same_text;
 use std::alloc::{AllocError, Global};
 
-/// Compares two formats. Equivalent ones are `Same`. Else they differ in their types, or the first probe is given
-/// for which they print different bytes. A refused text is answered by its refusal, the first before the second.
-/// Memory is taken only for arguments: where both are accepted, have the same types, and are not equivalent.
+/// Compares two formats. Equivalent ones are `Same`. Else they differ in their types, or the first
+/// probe is given for which they print different bytes. A refused text is answered by its refusal,
+/// the first before the second. Memory is taken only for arguments: where both are accepted, have
+/// the same types, and are not equivalent.
 pub fn compare(alloc: Global, f: &[u8], g: &[u8]) -> Result<Comparison, CompareFault>
     ensures { MatchResult result (IsComparisonOf f.now g.now) (Hinders f.now g.now) }
 {

@@ -15,22 +15,25 @@ use crate::layouts::{Hole, Layout, print};
 use pf_values::{Arg, ArgType};
 use std::alloc::{AllocError, Global};
 
-/// All arguments are neutral, but the one with this index is the candidate of its type with this place.
+/// All arguments are neutral, but the one with this index is the candidate of its type with this
+/// place.
 #[derive(Clone, Copy)]
 pub(crate) struct Probe {
     pub(crate) index: usize,
     pub(crate) place: usize,
 }
 
-/// The first probe for which two formats print different bytes. They print the same for neutral arguments, so
-/// what they print for a probe differs from that in one hole alone.
+/// The first probe for which two formats print different bytes. They print the same for neutral
+/// arguments, so what they print for a probe differs from that in one hole alone.
 pub(crate) fn first_probe(
     alloc: Global,
     first: &Layout,
     second: &Layout,
 ) -> Result<Option<Probe>, AllocError>
     requires { AreLevel first.now second.now }
-    ensures { IfOk result (λ found. (xs ys : List Item) → IsLayoutOf xs first.now → IsLayoutOf ys second.now → types xs ≡ types ys → FindsProbe xs ys found) }
+    ensures { IfOk result (λ found.
+        (xs ys : List Item) → IsLayoutOf xs first.now → IsLayoutOf ys second.now
+        → types xs ≡ types ys → FindsProbe xs ys found) }
 {
     let owned = owned_row(alloc, ArgType::Str)?;
     let strings = row_of(alloc, &owned)?;
@@ -46,7 +49,9 @@ fn first_among(
 ) -> Result<Option<Probe>, AllocError>
     requires level { AreLevel first.now second.now }
     requires strings { map argument_of strings.now ≡ spec.candidates Str }
-    ensures { IfOk result (λ found. (xs ys : List Item) → IsLayoutOf xs first.now → IsLayoutOf ys second.now → types xs ≡ types ys → FindsProbe xs ys found) }
+    ensures { IfOk result (λ found.
+        (xs ys : List Item) → IsLayoutOf xs first.now → IsLayoutOf ys second.now
+        → types xs ≡ types ys → FindsProbe xs ys found) }
 {
     let mut index = 0;
     while index < first.holes.len() {
@@ -65,8 +70,8 @@ fn first_among(
     Ok(None)
 }
 
-// The place of the first candidate that tells two directives apart in their holes. One directive in one hole prints
-// one text for every argument.
+// The place of the first candidate that tells two directives apart in their holes. One directive in
+// one hole prints one text for every argument.
 fn first_candidate(
     alloc: Global,
     whole: &[u8],
@@ -78,7 +83,8 @@ fn first_candidate(
     requires first { IsInside whole.now first.now }
     requires second { IsInside whole.now second.now }
     requires strings { map argument_of strings.now ≡ spec.candidates Str }
-    ensures { IfOk result (FindsUnlike whole.now first.now second.now (arg_type first.now.directive)) }
+    ensures { IfOk result
+        (FindsUnlike whole.now first.now second.now (arg_type first.now.directive)) }
 {
     if are_one(first, second) {
         return Ok(None);
@@ -99,7 +105,8 @@ fn are_one(first: &Hole, second: &Hole) -> bool
 }
 
 fn have_one_place(first: &Hole, second: &Hole) -> bool
-    ensures { IsTrue result → (first.now.start ≡ second.now.start) × (first.now.end ≡ second.now.end) }
+    ensures { IsTrue result
+        → (first.now.start ≡ second.now.start) × (first.now.end ≡ second.now.end) }
 {
     first.start == second.start && first.end == second.end
 }
@@ -130,8 +137,8 @@ fn first_of(
     Ok(None)
 }
 
-// Whether an argument tells two directives apart in their holes. In one place only what they print is compared, and
-// nothing where both print what they print for a neutral argument.
+// Whether an argument tells two directives apart in their holes. In one place only what they print
+// is compared, and nothing where both print what they print for a neutral argument.
 fn tell_apart(
     alloc: Global,
     whole: &[u8],
@@ -143,7 +150,9 @@ fn tell_apart(
     requires typed_second { HasType (argument_of argument) (arg_type second.now.directive) }
     requires first { IsInside whole.now first.now }
     requires second { IsInside whole.now second.now }
-    ensures { IfOk result (λ told. MatchBool told (FillUnlike whole.now first.now second.now (argument_of argument.entry)) (FillAlike whole.now first.now second.now (argument_of argument.entry))) }
+    ensures { IfOk result (λ told. MatchBool told
+        (FillUnlike whole.now first.now second.now (argument_of argument.entry))
+        (FillAlike whole.now first.now second.now (argument_of argument.entry))) }
 {
     let x = print(alloc, &first.directive, argument)?;
     let y = print(alloc, &second.directive, argument)?;
@@ -166,7 +175,8 @@ fn stays(whole: &[u8], hole: &Hole, printed: &[u8]) -> bool
     !are_unlike(&whole[hole.start..hole.end], printed)
 }
 
-// Whether a text with one hole filled differs from it with another one filled, by the part that the two holes lie in.
+// Whether a text with one hole filled differs from it with another one filled, by the part that the
+// two holes lie in.
 fn differ_filled(
     alloc: Global,
     whole: &[u8],
@@ -177,7 +187,9 @@ fn differ_filled(
 ) -> Result<bool, AllocError>
     requires first { IsInside whole.now first.now }
     requires second { IsInside whole.now second.now }
-    ensures { IfOk result (λ told. MatchBool told (filled whole.now first.now x.now ≢ filled whole.now second.now y.now) (filled whole.now first.now x.now ≡ filled whole.now second.now y.now)) }
+    ensures { IfOk result (λ told. MatchBool told
+        (filled whole.now first.now x.now ≢ filled whole.now second.now y.now)
+        (filled whole.now first.now x.now ≡ filled whole.now second.now y.now)) }
 {
     let from = first.start.min(second.start);
     let to = first.end.max(second.end);
@@ -204,7 +216,9 @@ fn fill(
     requires ordered { hole.now.start ≤ hole.now.end }
     requires after { from ≤ hole.now.start }
     requires before { hole.now.end ≤ from + length part.now }
-    ensures { IfOk result (λ bytes. bytes.items ≡ take (hole.now.start - from) part.now ++ printed.now ++ drop (hole.now.end - from) part.now) }
+    ensures { IfOk result (λ bytes.
+        bytes.items ≡ take (hole.now.start - from) part.now ++ printed.now
+        ++ drop (hole.now.end - from) part.now) }
 {
     let mut out = Vec::new(alloc);
     out.extend_from_slice(&part[..hole.start - from])?;

@@ -12,11 +12,13 @@ ghost use Rattle.pf_compare.specs.TypeLists.{HasTaken};
 use pf_text::{Piece, Pieces};
 use pf_values::ArgType;
 
-/// The first index at which the argument types of two accepted formats differ, if they do. It takes no memory.
+/// The first index at which the argument types of two accepted formats differ, if they do. It takes
+/// no memory.
 pub(crate) fn first_other_type(f: &[u8], g: &[u8]) -> Option<u64>
     requires first { IsAccepted f.now }
     requires second { IsAccepted g.now }
-    ensures { (xs ys : List Item) → Reads f.now xs → Reads g.now ys → MatchOption result (types xs ≡ types ys) (DifferFirstAt (types xs) (types ys)) }
+    ensures { (xs ys : List Item) → Reads f.now xs → Reads g.now ys
+        → MatchOption result (types xs ≡ types ys) (DifferFirstAt (types xs) (types ys)) }
 {
     let mut index = 0;
     let mut others = Pieces::new(g);
@@ -41,7 +43,8 @@ pub(crate) fn first_other_type(f: &[u8], g: &[u8]) -> Option<u64>
 
 // The type of the next argument of an accepted format, if one comes.
 fn next_type(pieces: &mut Pieces<'_>) -> Option<ArgType>
-    ensures { (t : Text) (done : List ArgType) → IsAccepted t → HasTaken pieces.old t done → MatchOption result (HasTypes t done) (λ next. HasTaken pieces.new t (done ++ next ∷ [])) }
+    ensures { (t : Text) (done : List ArgType) → IsAccepted t → HasTaken pieces.old t done
+        → MatchOption result (HasTypes t done) (λ next. HasTaken pieces.new t (done ++ next ∷ [])) }
 {
     while let Some(piece) = pieces.next() {
         if let Ok(piece) = piece {

@@ -24,7 +24,9 @@ pub(crate) fn first_witness(
     second: &Layout,
 ) -> Result<Option<Witness>, AllocError>
     requires { HaveOneTypes first.now second.now }
-    ensures { IfOk result (λ found. (xs ys : List Item) → IsLayoutOf xs first.now → IsLayoutOf ys second.now → types xs ≡ types ys → FindsWitness xs ys found) }
+    ensures { IfOk result (λ found.
+        (xs ys : List Item) → IsLayoutOf xs first.now → IsLayoutOf ys second.now
+        → types xs ≡ types ys → FindsWitness xs ys found) }
 {
     if are_unlike(&first.bytes, &second.bytes) {
         let args = neutrals(alloc, &first.holes)?;

@@ -1,4 +1,4 @@
--- What every normal directive has.
+-- What every normal directive has. This project's own.
 use Rattle.std.specs.Prelude.{◌≡◌, Some, IsTrue, IsFalse}
 use Rattle.pf_values.specs.declared.flags.Flag.TheVariants.{Plus, Space, Group}
 use Rattle.pf_values.specs.Conversions.{is_string}
@@ -6,6 +6,7 @@ use Rattle.pf_values.specs.Flags.{has}
 use Rattle.pf_values.specs.Normal.{is_kept_length, takes_signs}
 use Rattle.pf_values.specs.Specification.{Specification}
 
+-- what `IsNormal` asks of every form
 pub record HasNormalParts (s : Specification) : Type 0 where
   pub no_group : IsFalse (has s.flags Group)
   pub length : IsTrue (is_kept_length s.length)

@@ -1,4 +1,4 @@
--- Texts in a field, within constant padding.
+-- Texts in a field, within constant padding. This project's own, but for the field.
 use Rattle.std.specs.Prelude.{◌≡◌, ℕ, ◌+◌, ◌≤◌, ◌++◌, ◌⊎◌, length, replicate}
 use Rattle.pf_values.specs.declared.flags.Flag.TheVariants.{Minus}
 use Rattle.pf_values.specs.Flags.{has}
@@ -7,12 +7,16 @@ use Rattle.pf_values.specs.Specification.{Specification, width_of}
 use Rattle.pf_values.specs.Text.{Text, space, zero_digit}
 use Rattle.pf_reduce.specs.declared.padding.Padding.{Padding}
 
+-- spaces, zeros, the body in its field, and spaces
 abbrev pub padded : Padding → Text → Text
-padded p body = replicate p.spaces space ++ (replicate p.zeros zero_digit ++ (field_of p.left p.width body ++ replicate p.trail space))
+padded p body =
+    replicate p.spaces space
+    ++ (replicate p.zeros zero_digit ++ (field_of p.left p.width body ++ replicate p.trail space))
 
--- the field of a directive
+-- the field of a directive (C11 7.21.6.1 p4), with nothing around it
 abbrev pub padding_of : Specification → Padding
-padding_of s = record { spaces = 0; zeros = 0; width = width_of s; left = has s.flags Minus; trail = 0 }
+padding_of s =
+    record { spaces = 0; zeros = 0; width = width_of s; left = has s.flags Minus; trail = 0 }
 
 -- how many bytes are constant
 abbrev pub constants : Padding → ℕ

@@ -1,5 +1,5 @@
--- When a directive is what it is reduced to.
-use Rattle.std.specs.Prelude.{◌≡◌, ◌≤◌, ◌+◌, ◌++◌, replicate, ◌↔◌}
+-- When a directive is what it is reduced to. This project's own.
+use Rattle.std.specs.Prelude.{◌≡◌, ◌≤◌, ◌+◌, ◌++◌, replicate, ◌↔◌, ⊤}
 use Rattle.pf_values.specs.declared.conversions.Conv.TheVariants.{S}
 use Rattle.pf_values.specs.declared.limits.TheConstants.{MAX_NUMBER}
 use Rattle.pf_values.specs.Arguments.{Argument, HasType}
@@ -12,22 +12,30 @@ use Rattle.pf_reduce.specs.declared.results.Core.{Core}
 use Rattle.pf_reduce.specs.declared.results.Core.TheVariants.{Normal, Silent}
 use Rattle.pf_reduce.specs.declared.results.Reduced.{Reduced}
 
+-- the directive of a core
 abbrev pub core_of : Core → Specification
 core_of (Normal s) = s
 core_of Silent = silent
 
+-- the core is normal, or `%.0s`
 abbrev pub IsNormalCore : Core → Type 0
 IsNormalCore (Normal s) = IsNormal s
-IsNormalCore Silent = Unit {0}
+IsNormalCore Silent = ⊤
 
 -- a text within spaces, after zeros
 abbrev pub around : Reduced → Text → Text
-around r inner = replicate r.spaces space ++ (replicate r.zeros zero_digit ++ (inner ++ replicate r.trail space))
+around r inner =
+    replicate r.spaces space ++ (replicate r.zeros zero_digit ++ (inner ++ replicate r.trail space))
 
 -- for every argument the directive prints the spaces, the zeros, what the core prints, the spaces
 abbrev pub PrintsReduced : Specification → Reduced → Type 0
-PrintsReduced s r = (argument : Argument) (out : Text) → HasType argument (arg_type s) → (Prints s argument out ↔ ((inner : Text) × Prints (core_of r.core) argument inner × (out ≡ around r inner)))
+PrintsReduced s r =
+    (argument : Argument) (out : Text) → HasType argument (arg_type s)
+    → (Prints s argument out ↔ (
+    (inner : Text) × Prints (core_of r.core) argument inner × (out ≡ around r inner)))
 
+-- the core is normal or `%.0s`, of the same type, and with its padding prints what the directive
+-- does
 pub record IsReducedTo (s : Specification) (r : Reduced) : Type 0 where
   pub normal : IsNormalCore r.core
   pub same_type : arg_type (core_of r.core) ≡ arg_type s

@@ -7,22 +7,24 @@ use Rattle.pf_values.specs.Text.{Text}
 use Rattle.pf_reduce.specs.declared.signs.Sign.{Sign}
 use Rattle.pf_reduce.specs.declared.signs.Sign.TheVariants as signs
 
--- what the flags ask for
+-- what the flags ask for; under `+` the space is ignored (C11 7.21.6.1 p6)
 abbrev pub sign_of : FlagSet → Sign
-sign_of flags = if has flags Plus then signs.Plus else (if has flags Space then signs.Space else signs.None)
+sign_of flags =
+    if has flags Plus then signs.Plus else (if has flags Space then signs.Space else signs.None)
 
--- the one flag that asks for it
+-- the one flag that asks for it (C11 7.21.6.1 p6)
 abbrev pub sign_flags : Sign → FlagSet
 sign_flags signs.None = no_flags
 sign_flags signs.Plus = with_flag no_flags Plus
 sign_flags signs.Space = with_flag no_flags Space
 
+-- how many bytes it has before a number that is not negative
 abbrev pub sign_length : Sign → ℕ
 sign_length signs.None = 0
 sign_length signs.Plus = 1
 sign_length signs.Space = 1
 
--- what stands before a number that is negative, or is not
+-- what stands before a number that is negative, or is not (C11 7.21.6.1 p6)
 abbrev pub sign_text : Sign → Bool → Text
 sign_text sign true = codes "-"
 sign_text signs.None false = []

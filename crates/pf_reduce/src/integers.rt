@@ -106,7 +106,8 @@ fn plain_core(padding: Padding, directive: &Directive, precision: u16) -> Reduce
     requires text { is_text directive.now.conv ≡ false }
     requires sign { is_signed directive.now.conv ≡ false }
     requires few { precision ≤ digits_at_most directive.now }
-    requires room { 0 < padding.width → (precision < padding.width) × (padding.width ≤ digits_at_most directive.now) }
+    requires room { 0 < padding.width
+        → (precision < padding.width) × (padding.width ≤ digits_at_most directive.now) }
     requires wide { IsTrue padding.left → 1 < padding.width }
     ensures value { result ≡ made directive.now padding no_flags (written precision) }
     ensures normal { IsNormalCore result.core }
@@ -120,8 +121,10 @@ fn prefixed_core(padding: Padding, directive: &Directive, precision: u16) -> Red
     requires limit { (padding.width ≤ MAX_NUMBER) × (precision ≤ MAX_NUMBER) }
     requires least { 0 < padding.width → precision < padding.width }
     requires most { padding.width ≤ 2 + max precision (digits_at_most directive.now) }
-    requires left { padding.left ≡ true → (0 < padding.width) × (precision ≡ 0 → 3 < padding.width) }
-    ensures value { result ≡ made directive.now padding (with_flag no_flags Alt) (written precision) }
+    requires left { padding.left ≡ true
+        → (0 < padding.width) × (precision ≡ 0 → 3 < padding.width) }
+    ensures value { result
+        ≡ made directive.now padding (with_flag no_flags Alt) (written precision) }
     ensures normal { IsNormalCore result.core }
 {
     let alt = FlagSet::empty().with(Flag::Alt);
@@ -134,32 +137,42 @@ fn signed_core(padding: Padding, directive: &Directive, sign: Sign, precision: u
     requires limit { (padding.width ≤ MAX_NUMBER) × (precision ≤ MAX_NUMBER) }
     requires least { 0 < padding.width → sign_length sign + precision < padding.width }
     requires most { padding.width ≤ 1 + max precision (digits_at_most directive.now) }
-    requires space { padding.left ≡ false → sign ≡ signs.Space → padding.width ≢ 1 + max precision (digits_at_most directive.now) }
-    requires none { padding.left ≡ false → sign ≡ signs.None → digits_at_most directive.now ≤ precision → padding.width ≢ 1 + max precision (digits_at_most directive.now) }
-    requires left { padding.left ≡ true → (0 < padding.width) × (sign ≢ signs.Plus → precision ≡ 0 → sign_length sign + 1 < padding.width) }
+    requires space { padding.left ≡ false → sign ≡ signs.Space
+        → padding.width ≢ 1 + max precision (digits_at_most directive.now) }
+    requires none { padding.left ≡ false → sign ≡ signs.None
+        → digits_at_most directive.now ≤ precision
+        → padding.width ≢ 1 + max precision (digits_at_most directive.now) }
+    requires left { padding.left ≡ true → (0 < padding.width)
+        × (sign ≢ signs.Plus → precision ≡ 0 → sign_length sign + 1 < padding.width) }
     ensures value { result ≡ made directive.now padding (sign_flags sign) (written precision) }
     ensures normal { IsNormalCore result.core }
 {
     within(padding, directive, sign.flags(), written(precision))
 }
 
-// Whether the zeros up to the width stay a matter of the width. Beside a sign, which each number then has, they are
-// one of the precision.
+// Whether the zeros up to the width stay a matter of the width. Beside a sign, which each number
+// then has, they are one of the precision.
 fn keeps_zeros(directive: &Directive, sign: u16) -> bool
-    ensures kept { result ≡ true → (is_zero_filled directive.now ≡ true) × (sign ≡ 0) × (2 ≤ width_of directive.now) }
-    ensures idle { result ≡ false → is_zero_filled directive.now ≡ true → (1 ≤ sign) ⊎ (width_of directive.now ≤ 1) }
+    ensures kept { result ≡ true
+        → (is_zero_filled directive.now ≡ true) × (sign ≡ 0) × (2 ≤ width_of directive.now) }
+    ensures idle { result ≡ false → is_zero_filled directive.now ≡ true
+        → (1 ≤ sign) ⊎ (width_of directive.now ≤ 1) }
 {
     is_zero_filled(directive) && sign == 0 && width(directive) >= 2
 }
 
-// On the right, in a field for the most digits and a sign, a space comes before each number that is not below
-// zero, with the flag space or without. Where all numbers have the same count of digits, the flag does without the
-// field; else the field does without the flag.
+// On the right, in a field for the most digits and a sign, a space comes before each number that is
+// not below zero, with the flag space or without. Where all numbers have the same count of digits,
+// the flag does without the field; else the field does without the flag.
 fn sign_in_field(sign: Sign, padding: Padding, precision: u16, digits: u16) -> Sign
     requires { max precision digits ≤ MAX_NUMBER }
-    ensures same { (negative : Bool) (number : Text) → length number ≤ max precision digits → padded padding (sign_text sign negative ++ number) ≡ padded padding (sign_text result negative ++ number) }
-    ensures space { padding.left ≡ false → padding.width ≡ 1 + max precision digits → result ≡ signs.Space → digits ≤ precision }
-    ensures none { padding.left ≡ false → padding.width ≡ 1 + max precision digits → result ≡ signs.None → precision < digits }
+    ensures same { (negative : Bool) (number : Text) → length number ≤ max precision digits
+        → padded padding (sign_text sign negative ++ number)
+        ≡ padded padding (sign_text result negative ++ number) }
+    ensures space { padding.left ≡ false → padding.width ≡ 1 + max precision digits
+        → result ≡ signs.Space → digits ≤ precision }
+    ensures none { padding.left ≡ false → padding.width ≡ 1 + max precision digits
+        → result ≡ signs.None → precision < digits }
 {
     if padding.left || padding.width != 1 + precision.max(digits) {
         return sign;
@@ -171,8 +184,8 @@ fn sign_in_field(sign: Sign, padding: Padding, precision: u16, digits: u16) -> S
     }
 }
 
-// The width whose side isn't seen: with precision 0 all that is printed of the value 0 is spaces, and at least so many
-// bytes of any other value.
+// The width whose side isn't seen: with precision 0 all that is printed of the value 0 is spaces,
+// and at least so many bytes of any other value.
 fn unseen_width(precision: u16, least: u16) -> u16
     ensures none { precision ≡ 0 → result ≡ least }
     ensures some { 1 ≤ precision → result ≡ 0 }

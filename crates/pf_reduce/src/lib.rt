@@ -1,5 +1,5 @@
-//! One printf directive reduced to constant padding and a normal core: for every argument the directive prints
-//! the spaces, the zeros, what the core prints, and the spaces after it.
+//! One printf directive reduced to constant padding and a normal core: for every argument the
+//! directive prints the spaces, the zeros, what the core prints, and the spaces after it.
 #![tactic(auto)]
 
 mod integers;

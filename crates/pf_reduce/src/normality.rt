@@ -55,7 +55,9 @@ fn is_kept_length(length: Length) -> bool
 }
 
 fn is_bare(directive: &Directive) -> bool
-    ensures { IsTrue result ↔ ((directive.now.flags ≡ no_flags) × (directive.now.width ≡ None) × (directive.now.precision ≡ None)) }
+    ensures { IsTrue result ↔ (
+        (directive.now.flags ≡ no_flags) × (directive.now.width ≡ None)
+        × (directive.now.precision ≡ None)) }
 {
     directive.flags() == FlagSet::empty()
         && directive.width().is_none()

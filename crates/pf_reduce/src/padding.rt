@@ -86,7 +86,8 @@ impl Padding {
     pub(crate) fn past_zeros(self, count: u16) -> Padding
         requires apart { (self.left ≡ true) ⊎ (self.width ≡ 0) ⊎ (count ≡ 0) }
         requires room { constants self + count < 2 ^ 16 }
-        ensures same { (body : Text) → padded self (replicate count zero_digit ++ body) ≡ padded result body }
+        ensures same { (body : Text)
+            → padded self (replicate count zero_digit ++ body) ≡ padded result body }
         ensures constant { constants result ≡ constants self + count }
         ensures left { result.left ≡ self.left }
         ensures width { result.width ≡ self.width - count }
@@ -100,7 +101,8 @@ impl Padding {
 
     /// On the right up to a width whose side isn't seen.
     pub(crate) fn right_up_to(self, most: u16) -> Padding
-        ensures same { (body : Text) → (self.width ≤ most → IsUnseen self.width body) → padded self body ≡ padded result body }
+        ensures same { (body : Text) → (self.width ≤ most → IsUnseen self.width body)
+            → padded self body ≡ padded result body }
         ensures constant { constants result ≡ constants self }
         ensures width { result.width ≡ self.width }
         ensures wide { IsTrue result.left → IsTrue self.left × (most < self.width) }

@@ -9,12 +9,15 @@ use crate::results::{Core, Normal, Reduced};
 use crate::texts::{reduce_char, reduce_string};
 use pf_values::{Conv, Directive, Flag};
 
-/// The padding and the normal core that print what the directive prints (C11 7.21.6.1, paragraphs 4 to 8), for
-/// each argument of its type. A normal directive is its own core, and `%.0s` is `Silent`.
+/// The padding and the normal core that print what the directive prints (C11 7.21.6.1, paragraphs 4
+/// to 8), for each argument of its type. A normal directive is its own core, and `%.0s` is
+/// `Silent`.
 pub fn reduce(directive: &Directive) -> Reduced
     ensures same { IsReducedTo directive.now result }
-    ensures kept { IsNormal directive.now → result ≡ record { spaces = 0; zeros = 0; core = Core.Normal directive.now; trail = 0 } }
-    ensures silent { directive.now ≡ silent → result ≡ record { spaces = 0; zeros = 0; core = Core.Silent; trail = 0 } }
+    ensures kept { IsNormal directive.now
+        → result ≡ record { spaces = 0; zeros = 0; core = Core.Normal directive.now; trail = 0 } }
+    ensures silent { directive.now ≡ silent
+        → result ≡ record { spaces = 0; zeros = 0; core = Core.Silent; trail = 0 } }
 {
     if is_normal(directive) {
         return Reduced {

@@ -2,7 +2,8 @@
 use pf_values::Directive;
 use std::marker::Model;
 
-/// A directive that is normal, as `IsNormal` of `pf_values` says. There is no way to make one that isn't.
+/// A directive that is normal, as `IsNormal` of `pf_values` says. There is no way to make one that
+/// isn't.
 #[derive(Clone, Copy, Debug, PartialEq, Eq)]
 pub struct Normal {
     directive: Directive,
@@ -30,8 +31,8 @@ pub enum Core {
     Silent,
 }
 
-/// A core within constant padding, as counts of bytes: spaces and then zeros before it, and spaces after it.
-/// Together they are at most 4,095.
+/// A core within constant padding, as counts of bytes: spaces and then zeros before it, and spaces
+/// after it. Together they are at most 4,095.
 #[derive(Clone, Copy, Debug, PartialEq, Eq)]
 pub struct Reduced {
     /// Spaces before the zeros.

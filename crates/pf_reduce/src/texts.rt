@@ -29,7 +29,13 @@ pub(crate) fn reduce_char(directive: &Directive) -> Reduced
 pub(crate) fn reduce_string(directive: &Directive) -> Reduced
     requires { directive.now.conv ≡ S }
     ensures same { IsReducedTo directive.now result }
-    ensures silent { directive.now.precision ≡ Some 0 → result ≡ record { spaces = width_of directive.now; zeros = 0; core = Core.Silent; trail = 0 } }
+    ensures silent { directive.now.precision ≡ Some 0
+        → result ≡ record {
+          spaces = width_of directive.now;
+          zeros = 0;
+          core = Core.Silent;
+          trail = 0;
+        } }
 {
     let precision = directive.precision();
     if precision == Some(0) {
@@ -47,7 +53,8 @@ pub(crate) fn reduce_string(directive: &Directive) -> Reduced
 // A width within the precision.
 fn cut_string(padding: Padding, precision: Option<u16>) -> Padding
     requires { (padding.spaces ≡ 0) × (padding.zeros ≡ 0) × (padding.trail ≡ 0) }
-    ensures same { (bytes : Text) → padded padding (shown precision bytes) ≡ padded result (shown precision bytes) }
+    ensures same { (bytes : Text)
+        → padded padding (shown precision bytes) ≡ padded result (shown precision bytes) }
     ensures constant { constants result ≤ padding.width }
     ensures narrower { result.width ≤ padding.width }
     ensures width { IfSome precision (λ most. result.width ≤ most) }

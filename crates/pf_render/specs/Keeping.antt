@@ -1,4 +1,4 @@
--- The parts of a format that are kept.
+-- The parts of a format that are kept. This project's own.
 use Rattle.std.specs.Prelude.{◌≡◌, ◌≤◌, true, ℕ, List, [], ◌∷◌, flat_map, length, map, Option, Some, None}
 use Rattle.pf_values.specs.Items.{Item, Byte, Directive, Reads}
 use Rattle.pf_values.specs.Specification.{Specification}
@@ -7,14 +7,16 @@ use Rattle.pf_render.specs.declared.kept.TheConstants.{MOST}
 use Rattle.pf_render.specs.declared.kept.Kept.{Kept}
 use Rattle.pf_render.specs.declared.kept.Part.{Part}
 
+-- the items of a part: a directive, or literal bytes
 abbrev pub directive_or_bytes : Option Specification → Text → List Item
 directive_or_bytes (Some d) bytes = Directive d ∷ []
 directive_or_bytes None bytes = map Byte bytes
 
--- the items of one part, and of some
+-- the items of one part
 abbrev pub items_of_part : Part → List Item
 items_of_part part = directive_or_bytes part.directive part.run.now
 
+-- the items of some parts, in order
 abbrev pub items_of_parts : List Part → List Item
 items_of_parts parts = flat_map items_of_part parts
 

@@ -9,7 +9,7 @@ use Rattle.pf_values.specs.Text.{Text}
 use Rattle.pf_text.specs.Signatures as signatures
 use Rattle.pf_render.specs.declared.matching.Tally.{Tally}
 
--- an argument is of a type
+-- an argument is of a type; any other than that of its directive is undefined (C11 7.21.6.1 p9)
 pub record IsOfType (arg : Arg) (type : ArgType) : Type 0 where
   pub same : type_of arg ≡ type
   pub typed : HasType (argument_of arg) type
@@ -18,14 +18,16 @@ pub record IsOfType (arg : Arg) (type : ArgType) : Type 0 where
 abbrev pub IsOfTypeAt : List Arg → ℕ → ArgType → Type 0
 IsOfTypeAt args index type = (arg : Arg) × (slice_get args index ≡ Some arg) × IsOfType arg type
 
--- So many types are wanted. The first arguments are of them, and the next one is not, unless those are all.
+-- So many types are wanted. The first arguments are of them, and the next one is not, unless those
+-- are all. This project's own.
 pub record Tallies (tally : Tally) (args : List Arg) (types : List ArgType) : Type 0 where
   pub wanted_is : tally.wanted ≡ length types
   pub within : tally.matched ≤ length types
   pub matching : AllZip IsOfType (take tally.matched args) (take tally.matched types)
-  pub wrong : tally.matched < length types → slice_get (map type_of args) tally.matched ≢ slice_get types tally.matched
+  pub wrong : tally.matched < length types
+      → slice_get (map type_of args) tally.matched ≢ slice_get types tally.matched
 
--- an accepted text takes just these arguments
+-- an accepted text takes just these arguments (C11 7.21.6.1 p2, p9)
 pub record TakesArguments (t : Text) (args : List Arg) : Type 0 where
   pub takes : signatures.HasTypes t (map type_of args)
   pub typed : HasTypes (map argument_of args) (map type_of args)

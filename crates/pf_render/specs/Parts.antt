@@ -1,4 +1,4 @@
--- Texts in parts.
+-- Texts in parts. This project's own.
 use Rattle.std.specs.Prelude.{ℕ, List, flat_map}
 use Rattle.std.specs.Borrow.{Bor}
 use Rattle.pf_values.specs.Text.{Text}

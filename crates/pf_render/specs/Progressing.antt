@@ -1,4 +1,4 @@
--- What a call leaves that writes one more part of a format.
+-- What a call leaves that writes one more part of a format. This project's own.
 use Rattle.std.specs.Prelude.{◌≡◌, ℕ, ◌+◌, ◌^◌, ◌<◌, List, length, map, take, drop, Result, Ok, Err}
 use Rattle.pf_values.specs.declared.arguments.Arg.{Arg}
 use Rattle.pf_values.specs.declared.counting.Counted.{Counted}
@@ -13,10 +13,11 @@ use Rattle.pf_render.specs.declared.kept.Part.{Part}
 use Rattle.pf_render.specs.declared.progress.Progress.{Progress}
 use Rattle.pf_render.specs.Keeping.{items_of_part}
 
--- how many arguments a part takes, and which
+-- how many arguments a part takes
 abbrev pub arity : Part → ℕ
 arity part = length (types (items_of_part part))
 
+-- the arguments that a part takes, behind those that were taken before
 abbrev pub next_arguments : Progress → Part → List Arg → List Argument
 next_arguments progress part args = map argument_of (take (arity part) (drop progress.taken args))
 
@@ -35,9 +36,13 @@ module _ {W : Type 0} (contents : W → Known) (old new : Counted W) (before aft
     pub less : count < length out
     pub written : fault.written ≡ before.written + count
 
+  -- the one or the other, by the result
   abbrev pub WritesOnOrPart : Text → ℕ → Result (Unit {0}) WriteFault → Type 0
   WritesOnOrPart out count (Ok done) = WritesOn out count
   WritesOnOrPart out count (Err fault) = WritesPart out fault
 
+  -- what the part prints goes out, all of it or its first bytes
   abbrev pub WritesNext : Part → List Arg → Result (Unit {0}) WriteFault → Type 0
-  WritesNext part args result = (out : Text) × PrintsAll (items_of_part part) (next_arguments before part args) out × WritesOnOrPart out (arity part) result
+  WritesNext part args result =
+      (out : Text) × PrintsAll (items_of_part part) (next_arguments before part args) out
+      × WritesOnOrPart out (arity part) result

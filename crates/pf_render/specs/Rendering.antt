@@ -1,4 +1,4 @@
--- What calls that render a format answer.
+-- What calls that render a format answer. The calls and their faults are this project's own.
 use Rattle.std.specs.Prelude.{◌≡◌, ◌≢◌, ℕ, ◌<◌, List, [], length, map, take, slice_get, Result, Ok, Err}
 use Rattle.pf_values.specs.declared.arguments.Arg.{Arg}
 use Rattle.pf_values.specs.declared.counting.Counted.{Counted}
@@ -14,7 +14,7 @@ use Rattle.pf_render.specs.declared.faults.RenderFault.TheVariants as faults
 use Rattle.pf_render.specs.declared.faults.RenderVecFault.{RenderVecFault}
 use Rattle.pf_render.specs.declared.faults.RenderVecFault.TheVariants as vec_faults
 
--- an accepted text prints this for arguments of its types, and nothing else
+-- an accepted text prints this for arguments of its types, and nothing else (C11 7.21.6.1 p2, p3)
 pub record Renders (t : Text) (args : List Arg) (out : Text) : Type 0 where
   pub takes : HasTypes t (map type_of args)
   pub prints : PrintsAll takes.items (map argument_of args) out
@@ -24,7 +24,8 @@ pub record Renders (t : Text) (args : List Arg) (out : Text) : Type 0 where
 abbrev pub RendersTo : Text → List Arg → (Text → Type 0) → Type 0
 RendersTo t args IsLeft = (out : Text) × Renders t args out × IsLeft out
 
--- an accepted text takes another number of arguments
+-- an accepted text takes another number of arguments; too few are undefined (C11 7.21.6.1 p2), and
+-- too many are wrong in this project alone
 pub record HasWrongCount (t : Text) (args : List Arg) (wanted given : ℕ) : Type 0 where
   pub types : List ArgType
   pub takes : HasTypes t types
@@ -38,6 +39,7 @@ pub record DifferFirstAt {A : Type 0} (xs ys : List A) (place : ℕ) : Type 0 wh
   pub differ : slice_get xs place ≢ slice_get ys place
 
 -- an accepted text takes as many arguments, and this is the first one of another type
+-- (C11 7.21.6.1 p9)
 pub record HasWrongType (t : Text) (args : List Arg) (index : ℕ) : Type 0 where
   pub types : List ArgType
   pub takes : HasTypes t types
@@ -51,12 +53,17 @@ Hinders t args (faults.WrongCount wanted given) = HasWrongCount t args wanted gi
 Hinders t args (faults.WrongType index) = HasWrongType t args index
 Hinders t args (faults.Write written) = ⊥
 
--- what a call leaves in a writer, and answers: all that is printed, nothing, or exactly the first bytes
-module _ {W : Type 0} (contents : W → Known) (old new : Counted W) (t : Text) (args : List Arg) where
+-- what a call leaves in a writer, and answers: all that is printed, nothing, or exactly the first
+-- bytes
+module _ {W : Type 0} (contents : W → Known) (old new : Counted W) (t : Text)
+    (args : List Arg) where
+  -- what a fault leaves: nothing went out, or where a write failed, exactly the first bytes
   abbrev pub StopsWith : RenderFault → Type 0
-  StopsWith (faults.Write written) = RendersTo t args (λ out. WritesFirst contents old new out written × (written < length out))
+  StopsWith (faults.Write written) =
+      RendersTo t args (λ out. WritesFirst contents old new out written × (written < length out))
   StopsWith fault = Hinders t args fault × (new ≡ old)
 
+  -- what a call leaves and answers: all that is printed went out, or there is a fault
   abbrev pub RendersInto : Result (Unit {0}) RenderFault → Type 0
   RendersInto (Ok done) = RendersTo t args (λ out. WritesAll contents old new out)
   RendersInto (Err fault) = StopsWith fault
@@ -64,7 +71,8 @@ module _ {W : Type 0} (contents : W → Known) (old new : Counted W) (t : Text) 
 -- the same of a call that gives what is printed; where that is nothing, it takes no memory
 abbrev pub HindersVec : Text → List Arg → RenderVecFault → Type 0
 HindersVec t args (vec_faults.Refused refusal) = Hinders t args (faults.Refused refusal)
-HindersVec t args (vec_faults.WrongCount wanted given) = Hinders t args (faults.WrongCount wanted given)
+HindersVec t args (vec_faults.WrongCount wanted given) =
+    Hinders t args (faults.WrongCount wanted given)
 HindersVec t args (vec_faults.WrongType index) = Hinders t args (faults.WrongType index)
 HindersVec t args vec_faults.Memory = RendersTo t args (λ out. out ≢ [])
 

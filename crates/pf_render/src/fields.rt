@@ -8,8 +8,8 @@ use crate::blocks::spaces;
 use pf_values::{Counted, Directive, Flag, ShortWrite, write_bytes};
 use std::io::Write;
 
-/// Writes a text of three parts in the field of the directive (C11 7.21.6.1, paragraph 4), and tells how many
-/// bytes that were.
+/// Writes a text of three parts in the field of the directive (C11 7.21.6.1, paragraph 4), and
+/// tells how many bytes that were.
 pub(crate) fn write_field<'a, W: Write>(
     directive: &Directive,
     first: &'a [u8],
@@ -18,7 +18,8 @@ pub(crate) fn write_field<'a, W: Write>(
     writer: &mut Counted<W>,
 ) -> Result<usize, ShortWrite>
     requires { length (first.now ++ (second.now ++ third.now)) < 2 ^ 63 }
-    ensures { WritesCounted W.contents writer.old writer.new (field directive.now (first.now ++ (second.now ++ third.now))) result }
+    ensures { WritesCounted W.contents writer.old writer.new
+        (field directive.now (first.now ++ (second.now ++ third.now))) result }
 {
     let len = first.len() + second.len() + third.len();
     let width = usize::from(directive.width().unwrap_or(0));

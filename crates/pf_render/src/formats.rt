@@ -18,10 +18,10 @@ use pf_text::Pieces;
 use pf_values::{Arg, Counted};
 use std::io::Write;
 
-/// Writes what a format prints for arguments of its types (C11 7.21.6.1). Where the text is refused, or the
-/// arguments are not those that it takes, nothing is written. Where the writer fails, or takes none of some
-/// bytes, exactly the first bytes went out, as many as the fault says, and fewer than all. It doesn't flush,
-/// and takes no memory.
+/// Writes what a format prints for arguments of its types (C11 7.21.6.1). Where the text is
+/// refused, or the arguments are not those that it takes, nothing is written. Where the writer
+/// fails, or takes none of some bytes, exactly the first bytes went out, as many as the fault says,
+/// and fewer than all. It doesn't flush, and takes no memory.
 pub fn render<W: Write>(
     text: &[u8],
     args: &[Arg<'_>],
@@ -44,7 +44,8 @@ fn write_checked<W: Write>(
 ) -> Result<(), WriteFault>
     requires takes { TakesArguments text.now args.now }
     requires kept { KeepsAll kept.now text.now }
-    ensures { RendersTo text.now args.now (λ out. WritesUpTo W.contents writer.old writer.new out (λ fault. fault.written) result) }
+    ensures { RendersTo text.now args.now
+        (λ out. WritesUpTo W.contents writer.old writer.new out (λ fault. fault.written) result) }
 {
     if kept.is_whole {
         write_kept(kept.parts.as_slice(), args, writer)
@@ -62,7 +63,8 @@ fn write_kept<W: Write>(
 ) -> Result<(), WriteFault>
     requires few { length parts.now ≤ most_parts }
     requires typed { HasTypes (map argument_of args.now) (types (items_of_parts parts.now)) }
-    ensures { (out : Text) × PrintsAll (items_of_parts parts.now) (map argument_of args.now) out × WritesUpTo W.contents writer.old writer.new out (λ fault. fault.written) result }
+    ensures { (out : Text) × PrintsAll (items_of_parts parts.now) (map argument_of args.now) out
+        × WritesUpTo W.contents writer.old writer.new out (λ fault. fault.written) result }
 {
     let mut progress = Progress::new();
     for part in parts {
@@ -79,7 +81,8 @@ fn write_pieces<W: Write>(
     writer: &mut Counted<W>,
 ) -> Result<(), WriteFault>
     requires { TakesArguments text.now args.now }
-    ensures { RendersTo text.now args.now (λ out. WritesUpTo W.contents writer.old writer.new out (λ fault. fault.written) result) }
+    ensures { RendersTo text.now args.now
+        (λ out. WritesUpTo W.contents writer.old writer.new out (λ fault. fault.written) result) }
 {
     let mut progress = Progress::new();
     for piece in Pieces::new(text) {

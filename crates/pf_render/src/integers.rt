@@ -21,7 +21,8 @@ pub(crate) fn write_integer<W: Write>(
     writer: &mut Counted<W>,
 ) -> Result<usize, ShortWrite>
     requires integer { IsFalse (is_text directive.now.conv) }
-    ensures { (out : Text) × Prints directive.now (Number number) out × WritesCounted W.contents writer.old writer.new out result }
+    ensures { (out : Text) × Prints directive.now (Number number) out
+        × WritesCounted W.contents writer.old writer.new out result }
 {
     let value = Value::of(directive, number);
     let digits = Digits::of(value.size(), directive.conv());

@@ -76,7 +76,8 @@ impl<'a> Kept<'a> {
     /// Keeps the part of one more piece, if there is room.
     #[inline(always)]
     pub(crate) fn push(&mut self, piece: &Piece<'a>)
-        ensures { (items : List Item) → Keeps self.old items → Keeps self.new (items ++ items_of piece.now) }
+        ensures { (items : List Item) → Keeps self.old items
+            → Keeps self.new (items ++ items_of piece.now) }
     {
         if self.parts.is_full() {
             self.is_whole = false;

@@ -14,7 +14,8 @@ use crate::kept::Kept;
 use pf_text::{Piece, Pieces};
 use pf_values::{Arg, ArgType};
 
-/// Whether the text is a format that takes these arguments. Its pieces are kept, if they aren't too many.
+/// Whether the text is a format that takes these arguments. Its pieces are kept, if they aren't too
+/// many.
 #[inline(never)]
 pub(crate) fn check_arguments<'a>(
     text: &'a [u8],
@@ -22,7 +23,8 @@ pub(crate) fn check_arguments<'a>(
     kept: &mut Kept<'a>,
 ) -> Result<(), RenderFault>
     requires { Keeps kept.old [] }
-    ensures matched { MatchResult result (λ _. TakesArguments text.now args.now) (Hinders text.now args.now) }
+    ensures matched { MatchResult result (λ _. TakesArguments text.now args.now)
+        (Hinders text.now args.now) }
     ensures kept { OnOk result (KeepsAll kept.new text.now) }
 {
     let mut tally = Tally {
@@ -42,8 +44,8 @@ pub(crate) fn check_arguments<'a>(
     tally.judge(args.len())
 }
 
-// How many arguments the directives so far take, and how many of those that are given have their types, before
-// the first one that has not.
+// How many arguments the directives so far take, and how many of those that are given have their
+// types, before the first one that has not.
 #[derive(Clone, Copy)]
 struct Tally {
     wanted: usize,
@@ -54,7 +56,8 @@ impl Tally {
     // The tally with one more directive, which takes an argument of this type.
     fn with(self, wanted: ArgType, args: &[Arg<'_>]) -> Tally
         requires few { self.wanted ≤ MAX_TEXT_LEN }
-        ensures { (types : List ArgType) → Tallies self args.now types → Tallies result args.now (types ++ wanted ∷ []) }
+        ensures { (types : List ArgType) → Tallies self args.now types
+            → Tallies result args.now (types ++ wanted ∷ []) }
     {
         let count = self.wanted + 1;
         if self.goes_on(wanted, args) {
@@ -71,15 +74,18 @@ impl Tally {
 
     // Whether the arguments so far all have their types, and the next one has this type.
     fn goes_on(self, wanted: ArgType, args: &[Arg<'_>]) -> bool
-        ensures yes { IsTrue result → (self.matched ≡ self.wanted) × IsOfTypeAt args.now self.matched wanted }
-        ensures other { IsFalse result → self.matched ≡ self.wanted → slice_get (map type_of args.now) self.matched ≢ Some wanted }
+        ensures yes { IsTrue result
+            → (self.matched ≡ self.wanted) × IsOfTypeAt args.now self.matched wanted }
+        ensures other { IsFalse result → self.matched ≡ self.wanted
+            → slice_get (map type_of args.now) self.matched ≢ Some wanted }
     {
         self.matched == self.wanted && is_of_type(args, self.matched, wanted)
     }
 
     // What is wrong with so many arguments.
     fn judge(self, given: usize) -> Result<(), RenderFault>
-        ensures { (t : Text) (args : List Arg) (types : List ArgType) → given ≡ length args → HasTypes t types → Tallies self args types
+        ensures { (t : Text) (args : List Arg) (types : List ArgType) → given ≡ length args
+            → HasTypes t types → Tallies self args types
             → MatchResult result (λ _. TakesArguments t args) (Hinders t args) }
     {
         if self.wanted != given {

@@ -44,9 +44,12 @@ impl Progress {
         writer: &mut Counted<W>,
     ) -> Result<(), WriteFault>
         requires few { self.old.written + 2 ^ 64 ≤ 2 ^ 128 }
-        requires within { self.old.taken + length (types (items_of_part part.now)) ≤ length args.now }
-        requires typed { HasTypes (next_arguments self.old part.now args.now) (types (items_of_part part.now)) }
-        ensures { WritesNext W.contents writer.old writer.new self.old self.new part.now args.now result }
+        requires within { self.old.taken + length (types (items_of_part part.now)) ≤ length
+            args.now }
+        requires typed { HasTypes (next_arguments self.old part.now args.now)
+            (types (items_of_part part.now)) }
+        ensures { WritesNext W.contents writer.old writer.new self.old self.new part.now args.now
+            result }
     {
         let end = self.taken + part.argument_count();
         match write_part(part, &args[self.taken..end], writer) {
@@ -69,7 +72,8 @@ fn write_part<W: Write>(
     writer: &mut Counted<W>,
 ) -> Result<usize, ShortWrite>
     requires typed { HasTypes (map argument_of own.now) (types (items_of_part part.now)) }
-    ensures { (out : Text) × PrintsAll (items_of_part part.now) (map argument_of own.now) out × WritesCounted W.contents writer.old writer.new out result }
+    ensures { (out : Text) × PrintsAll (items_of_part part.now) (map argument_of own.now) out
+        × WritesCounted W.contents writer.old writer.new out result }
 {
     match part.directive {
         Some(directive) => write_argument(&directive, own[0], writer),

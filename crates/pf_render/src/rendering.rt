@@ -14,16 +14,17 @@ use crate::texts::{write_char, write_string};
 use pf_values::{Arg, Conv, Counted, Directive, ShortWrite};
 use std::io::Write;
 
-/// Writes what the directive prints for an argument of its type (C11 7.21.6.1). Where the writer fails, or
-/// takes none of some bytes, exactly the first `written` bytes of it went out, fewer than all. It doesn't
-/// flush, and takes no memory.
+/// Writes what the directive prints for an argument of its type (C11 7.21.6.1). Where the writer
+/// fails, or takes none of some bytes, exactly the first `written` bytes of it went out, fewer than
+/// all. It doesn't flush, and takes no memory.
 pub fn render_one<W: Write>(
     directive: &Directive,
     argument: Arg<'_>,
     writer: &mut Counted<W>,
 ) -> Result<(), WriteFault>
     requires typed { HasType (argument_of argument) (arg_type directive.now) }
-    ensures { (out : Text) × PrintsOnly directive.now (argument_of argument.entry) out × WritesUpTo W.contents writer.old writer.new out (λ fault. fault.written) result }
+    ensures { (out : Text) × PrintsOnly directive.now (argument_of argument.entry) out
+        × WritesUpTo W.contents writer.old writer.new out (λ fault. fault.written) result }
 {
     write_argument(directive, argument, writer)?;
     Ok(())
@@ -36,7 +37,8 @@ pub(crate) fn write_argument<W: Write>(
     writer: &mut Counted<W>,
 ) -> Result<usize, ShortWrite>
     requires typed { HasType (argument_of argument) (arg_type directive.now) }
-    ensures { (out : Text) × PrintsOnly directive.now (argument_of argument.entry) out × WritesCounted W.contents writer.old writer.new out result }
+    ensures { (out : Text) × PrintsOnly directive.now (argument_of argument.entry) out
+        × WritesCounted W.contents writer.old writer.new out result }
 {
     match directive.conv() {
         Conv::S => write_string(directive, string_of(argument), writer),

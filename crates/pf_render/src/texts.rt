@@ -17,7 +17,8 @@ pub(crate) fn write_char<W: Write>(
     writer: &mut Counted<W>,
 ) -> Result<usize, ShortWrite>
     requires char { directive.now.conv ≡ C }
-    ensures { (out : Text) × Prints directive.now (Number number) out × WritesCounted W.contents writer.old writer.new out result }
+    ensures { (out : Text) × Prints directive.now (Number number) out
+        × WritesCounted W.contents writer.old writer.new out result }
 {
     let byte = [u8::of(number)];
     write_field(directive, b"", b"", &byte, writer)
@@ -30,7 +31,8 @@ pub(crate) fn write_string<W: Write>(
     writer: &mut Counted<W>,
 ) -> Result<usize, ShortWrite>
     requires string { directive.now.conv ≡ S }
-    ensures { (out : Text) × Prints directive.now (String bytes.now) out × WritesCounted W.contents writer.old writer.new out result }
+    ensures { (out : Text) × Prints directive.now (String bytes.now) out
+        × WritesCounted W.contents writer.old writer.new out result }
 {
     write_field(directive, b"", b"", shown(directive, bytes), writer)
 }

@@ -1,4 +1,4 @@
--- What has come of an item.
+-- What has come of an item. How it comes byte by byte is this project's own.
 use Rattle.std.specs.Prelude.{◌≡◌, ◌≢◌, ℕ, false, List, [], ◌∷◌, ◌++◌, map, Option, Some, None}
 use Rattle.pf_values.specs.declared.flags.Flag.{Flag}
 use Rattle.pf_values.specs.declared.flags.FlagSet.{FlagSet}
@@ -12,8 +12,10 @@ use Rattle.pf_values.specs.Text.{Text, percent, point}
 use Rattle.pf_text.specs.Stages.{State}
 use Rattle.pf_text.specs.Stages.{Between, Opened, Flags, Width, Point, Precision, Modifier}
 
--- A specification without its conversion: `%`, flags, a width, a precision and a modifier, of which all but the `%` may be missing.
-pub record IsFront (part : Text) (set : FlagSet) (width precision : Option ℕ) (length : Length) : Type 0 where
+-- A specification without its conversion: `%`, flags, a width, a precision and a modifier, of which
+-- all but the `%` may be missing (C11 7.21.6.1 p4).
+pub record IsFront (part : Text) (set : FlagSet) (width precision : Option ℕ)
+    (length : Length) : Type 0 where
   pub flags : List Flag
   pub width_text : Text
   pub precision_text : Text
@@ -22,7 +24,8 @@ pub record IsFront (part : Text) (set : FlagSet) (width precision : Option ℕ) 
   pub precision_is : SpellsPrecision precision_text precision
   pub width_fits : is_above_limit width ≡ false
   pub precision_fits : is_above_limit precision ≡ false
-  pub whole : part ≡ percent ∷ map flag_byte flags ++ width_text ++ precision_text ++ length_letters length
+  pub whole : part ≡ percent ∷ map flag_byte flags ++ width_text ++ precision_text
+      ++ length_letters length
 
 -- the state says what has come
 abbrev pub IsAt : State → Text → Type 0
@@ -30,6 +33,9 @@ IsAt Between part = part ≡ []
 IsAt Opened part = part ≡ percent ∷ []
 IsAt (Flags set) part = (h : IsFront part set None None lengths.None) × (h.flags ≢ [])
 IsAt (Width set n) part = IsFront part set (Some n) None lengths.None
-IsAt (Point set width) part = (h : IsFront part set width (Some 0) lengths.None) × (h.precision_text ≡ point ∷ [])
-IsAt (Precision set width n) part = (h : IsFront part set width (Some n) lengths.None) × (h.precision_text ≢ point ∷ [])
-IsAt (Modifier set width precision length) part = IsFront part set width precision length × (length ≢ lengths.None)
+IsAt (Point set width) part =
+    (h : IsFront part set width (Some 0) lengths.None) × (h.precision_text ≡ point ∷ [])
+IsAt (Precision set width n) part =
+    (h : IsFront part set width (Some n) lengths.None) × (h.precision_text ≢ point ∷ [])
+IsAt (Modifier set width precision length) part =
+    IsFront part set width precision length × (length ≢ lengths.None)

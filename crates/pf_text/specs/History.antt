@@ -1,5 +1,5 @@
--- What a scanner has taken.
-use Rattle.std.specs.Prelude.{◌≡◌, ◌≢◌, ℕ, ◌≤◌, List, [], ◌∷◌, ◌++◌, length, map, take, drop, ◌⊎◌, Some, None, Result, Ok, Err}
+-- What a scanner has taken. This project's own.
+use Rattle.std.specs.Prelude.{◌≡◌, ◌≢◌, ℕ, ◌≤◌, List, [], ◌∷◌, ◌++◌, length, map, take, drop, ◌⊎◌, Some, None, Result, Ok, Err, ⊤}
 use Rattle.std.specs.List.{AllByRecursion}
 use Rattle.pf_values.specs.declared.limits.TheConstants.{MAX_TEXT_LEN}
 use Rattle.pf_values.specs.declared.refusals.RefusalKind.{RefusalKind}
@@ -22,7 +22,8 @@ with_step before (steps.Byte byte) = before ++ Byte byte ∷ []
 with_step before steps.Percent = before ++ Byte percent ∷ []
 with_step before (steps.Directive d) = before ++ Directive d ∷ []
 
--- The scanner was fed the text and refused none of it. The text has these whole items and the beginning of one more, of which the state says what has come.
+-- The scanner was fed the text and refused none of it. The text has these whole items and the
+-- beginning of one more, of which the state says what has come.
 pub record IsAfter (scanner : Scanner) (t : Text) (whole : List Item) : Type 0 where
   pub part : Text
   pub good : IsGoodFront t whole part
@@ -44,51 +45,62 @@ abbrev pub refused_by : Scanner → Result Step RefusalKind → Result Step Refu
 refused_by scanner (Ok step) = Ok step
 refused_by scanner (Err kind) = Err (refusal_by scanner kind)
 
+-- the scanner, with a refusal where it stands
 abbrev pub refusing : Scanner → RefusalKind → Scanner
 refusing scanner kind = record scanner { refused = Some (refusal_by scanner kind) }
 
+-- how many bytes it has taken
 abbrev pub offset_of : Scanner → ℕ
 offset_of scanner = scanner.offset
 
--- a byte that stands for itself
+-- a byte that stands for itself (C11 7.21.6.1 p3)
 abbrev pub IsLiteral : ℕ → Type 0
 IsLiteral byte = (byte ≢ percent) × (byte ≢ 0)
 
 -- what a step says of a text, its items and its last byte
 abbrev pub Says : Text → List Item → ℕ → Step → Type 0
-Says t items byte steps.More = Unit {0}
+Says t items byte steps.More = ⊤
 Says t items byte (steps.Byte b) = Reads t items × (b ≡ byte) × IsLiteral byte
 Says t items byte steps.Percent = Reads t items
 Says t items byte (steps.Directive d) = Reads t items
 
 -- one more byte was taken
-pub record Takes (t : Text) (whole : List Item) (byte : ℕ) (step : Step) (new : Scanner) : Type 0 where
+pub record Takes (t : Text) (whole : List Item) (byte : ℕ) (step : Step)
+    (new : Scanner) : Type 0 where
   pub after : IsAfter new (t ++ byte ∷ []) (with_step whole step)
   pub says : Says (t ++ byte ∷ []) (with_step whole step) byte step
 
--- What a byte makes of a scanner that stood after a text: one more byte taken, or a refusal, however the text goes on.
+-- What a byte makes of a scanner that stood after a text: one more byte taken, or a refusal,
+-- however the text goes on.
 abbrev pub Feeds : Text → List Item → ℕ → Result Step Refusal → Scanner → Type 0
 Feeds t whole byte (Ok step) new = Takes t whole byte step new
-Feeds t whole byte (Err refusal) new = (refusal.at ≡ length t) × ((more : Text) → IsRefusedAt (t ++ byte ∷ more) refusal.kind refusal.at)
+Feeds t whole byte (Err refusal) new =
+    (refusal.at ≡ length t)
+    × ((more : Text) → IsRefusedAt (t ++ byte ∷ more) refusal.kind refusal.at)
 
 -- no literal byte may follow a text
 abbrev pub EndsRun : Text → Text → Type 0
-EndsRun t [] = Unit {0}
+EndsRun t [] = ⊤
 EndsRun t (byte ∷ rest) = (byte ≡ percent) ⊎ (byte ≡ 0) ⊎ (length t ≡ MAX_TEXT_LEN)
 
--- behind a text that is read, the longest run of literal bytes at the front of what follows was taken
-pub record Passes (t : Text) (items : List Item) (following : Text) (len : ℕ) (new : Scanner) : Type 0 where
+-- behind a text that is read, the longest run of literal bytes at the front of what follows was
+-- taken
+pub record Passes (t : Text) (items : List Item) (following : Text) (len : ℕ)
+    (new : Scanner) : Type 0 where
   pub after : IsAfter new (t ++ take len following) (items ++ map Byte (take len following))
   pub reads : Reads (t ++ take len following) (items ++ map Byte (take len following))
   pub literal : AllByRecursion IsLiteral (take len following)
   pub longest : EndsRun (t ++ take len following) (drop len following)
 
--- behind a text that is read, the two bytes at the front of what follows were taken, which are a directive
-pub record TakesDirective (t : Text) (items : List Item) (following : Text) (new : Scanner) (d : Specification) : Type 0 where
+-- behind a text that is read, the two bytes at the front of what follows were taken, which are a
+-- directive
+pub record TakesDirective (t : Text) (items : List Item) (following : Text) (new : Scanner)
+    (d : Specification) : Type 0 where
   pub after : IsAfter new (t ++ take 2 following) (items ++ Directive d ∷ [])
   pub reads : Reads (t ++ take 2 following) (items ++ Directive d ∷ [])
 
 -- whether the text so far is whole
 abbrev pub Finishes : Text → List Item → Result (Unit {0}) Refusal → Type 0
 Finishes t whole (Ok done) = Reads t whole
-Finishes t whole (Err refusal) = (refusal.kind ≡ Truncated) × (refusal.at ≡ length t) × IsRefusedAt t refusal.kind refusal.at
+Finishes t whole (Err refusal) =
+    (refusal.kind ≡ Truncated) × (refusal.at ≡ length t) × IsRefusedAt t refusal.kind refusal.at

@@ -1,4 +1,4 @@
--- What single bytes stand for in a specification.
+-- What single bytes stand for in a specification. What is refused is this project's own.
 use Rattle.std.specs.Prelude.{ℕ, ◌==◌, List, [], ◌∷◌, map, filter, Option, find, if◌then◌else◌}
 use Rattle.pf_values.specs.declared.conversions.Conv.{Conv}
 use Rattle.pf_values.specs.declared.conversions.Conv.TheVariants.{D, I, U, O, X, UpperX, C, S}
@@ -12,6 +12,7 @@ use Rattle.pf_values.specs.Conversions.{conv_letter}
 use Rattle.pf_values.specs.Flags.{all_flags, flag_byte, has}
 use Rattle.pf_values.specs.Text.{Text, percent}
 
+-- the flag that a byte is (C11 7.21.6.1 p6, POSIX fprintf)
 abbrev pub flag_of : ℕ → Option Flag
 flag_of byte = find (λ flag. flag_byte flag == byte) all_flags
 
@@ -19,6 +20,7 @@ flag_of byte = find (λ flag. flag_byte flag == byte) all_flags
 abbrev pub flags_kept : FlagSet → List Flag → Text
 flags_kept set flags = map flag_byte (filter (has set) flags)
 
+-- the letter that begins a modifier (C11 7.21.6.1 p7); none has the number 0
 abbrev pub first_letter : Length → ℕ
 first_letter lengths.None = 0
 first_letter lengths.Hh = 104
@@ -29,13 +31,30 @@ first_letter lengths.J = 106
 first_letter lengths.Z = 122
 first_letter lengths.T = 116
 
--- the modifier that a letter begins
+-- the modifier that a letter begins (C11 7.21.6.1 p7)
 abbrev pub modifier_of : ℕ → Option Length
-modifier_of byte = find (λ l. first_letter l == byte) (lengths.H ∷ lengths.L ∷ lengths.J ∷ lengths.Z ∷ lengths.T ∷ [])
+modifier_of byte = find (λ l. first_letter l == byte)
+    (lengths.H ∷ lengths.L ∷ lengths.J ∷ lengths.Z ∷ lengths.T ∷ [])
 
+-- the conversion that a letter is (C11 7.21.6.1 p8)
 abbrev pub conv_of : ℕ → Option Conv
 conv_of byte = find (λ conv. conv_letter conv == byte) (D ∷ I ∷ U ∷ O ∷ X ∷ UpperX ∷ C ∷ S ∷ [])
 
 -- why a byte is refused that can't go on with a specification, wherever it stands
 abbrev pub refused_letter : ℕ → RefusalKind
-refused_letter byte = if byte == 0 then NulByte else if byte == percent then BadPercent else if byte == 97 then Float else if byte == 65 then Float else if byte == 101 then Float else if byte == 69 then Float else if byte == 102 then Float else if byte == 70 then Float else if byte == 103 then Float else if byte == 71 then Float else if byte == 112 then Pointer else if byte == 110 then Count else if byte == 67 then Wide else if byte == 83 then Wide else Unexpected
+refused_letter byte =
+    if byte == 0 then NulByte else
+    if byte == percent then BadPercent else
+    if byte == 97 then Float else
+    if byte == 65 then Float else
+    if byte == 101 then Float else
+    if byte == 69 then Float else
+    if byte == 102 then Float else
+    if byte == 70 then Float else
+    if byte == 103 then Float else
+    if byte == 71 then Float else
+    if byte == 112 then Pointer else
+    if byte == 110 then Count else
+    if byte == 67 then Wide else
+    if byte == 83 then Wide else
+    Unexpected

@@ -1,4 +1,4 @@
--- What the automaton answers of a byte.
+-- What the automaton answers of a byte. This project's own.
 use Rattle.std.specs.Prelude.{ℕ, Result, Ok, Err}
 use Rattle.pf_values.specs.declared.refusals.RefusalKind.{RefusalKind}
 use Rattle.pf_text.specs.declared.scanner.Step.TheVariants as steps

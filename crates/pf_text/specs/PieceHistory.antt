@@ -1,5 +1,5 @@
--- What the pieces of a text have given.
-use Rattle.std.specs.Prelude.{◌≡◌, ◌≢◌, ℕ, ◌+◌, ◌≤◌, true, false, List, [], ◌∷◌, ◌++◌, length, map, Option, Some, None, Result, Ok, Err, if◌then◌else◌}
+-- What the pieces of a text have given. This project's own.
+use Rattle.std.specs.Prelude.{◌≡◌, ◌≢◌, ℕ, ◌+◌, ◌≤◌, true, false, List, [], ◌∷◌, ◌++◌, length, map, Option, Some, None, Result, Ok, Err, if◌then◌else◌, ⊤}
 use Rattle.std.specs.Iterator.{Count, at_most}
 use Rattle.std.specs.List.{AllByRecursion}
 use Rattle.pf_values.specs.declared.limits.TheConstants.{MAX_TEXT_LEN}
@@ -19,7 +19,8 @@ items_of (pieces.Literal run) = map Byte run.now
 items_of pieces.Percent = Byte percent ∷ []
 items_of (pieces.Directive d) = Directive d ∷ []
 
--- The pieces of `t` that were given are its first part `read`, with these items. No refusal was given.
+-- The pieces of `t` that were given are its first part `read`, with these items. No refusal was
+-- given.
 pub record HasGiven (pieces : Pieces) (t read : Text) (items : List Item) : Type 0 where
   pub going : pieces.is_over ≡ false
   pub split : t ≡ read ++ pieces.rest.now
@@ -32,18 +33,21 @@ pub record IsLongestRun (run read rest : Text) : Type 0 where
   pub literal : AllByRecursion IsLiteral run
   pub longest : EndsRun read rest
 
+-- what a piece says of the text up to its end, and of what follows
 abbrev pub IsPieceBefore : Piece → Text → Text → Type 0
 IsPieceBefore (pieces.Literal run) read rest = IsLongestRun run.now read rest
-IsPieceBefore pieces.Percent read rest = Unit {0}
-IsPieceBefore (pieces.Directive d) read rest = Unit {0}
+IsPieceBefore pieces.Percent read rest = ⊤
+IsPieceBefore (pieces.Directive d) read rest = ⊤
 
 -- the next piece was given
-pub record GivesPiece (new : Pieces) (t read : Text) (items : List Item) (piece : Piece) : Type 0 where
+pub record GivesPiece (new : Pieces) (t read : Text) (items : List Item)
+    (piece : Piece) : Type 0 where
   pub more : Text
   pub given : HasGiven new t (read ++ more) (items ++ items_of piece)
   pub whole : IsPieceBefore piece (read ++ more) new.rest.now
 
--- inside a call: no run of literal bytes begins behind what was given, the scanner has taken some more bytes, and no item has ended
+-- inside a call: no run of literal bytes begins behind what was given, the scanner has taken some
+-- more bytes, and no item has ended
 pub record IsInside (pieces : Pieces) (t read : Text) (items : List Item) : Type 0 where
   pub fed : Text
   pub no_run : EndsRun read (fed ++ pieces.rest.now)
@@ -78,6 +82,7 @@ pub record GivesEnd (t : Text) (items : List Item) : Type 0 where
   pub reads : Reads t items
   pub limit : length t ≤ MAX_TEXT_LEN
 
+-- a piece, the refusal, or the end
 abbrev pub GivesNext : Option (Result Piece Refusal) → Pieces → Text → Text → List Item → Type 0
 GivesNext None new t read items = GivesEnd t items
 GivesNext (Some (Ok piece)) new t read items = GivesPiece new t read items piece
@@ -86,12 +91,14 @@ GivesNext (Some (Err refusal)) new t read items = GivesRefusal t items refusal
 -- after the end and after a refusal nothing comes
 abbrev pub IsOverAfter : Option (Result Piece Refusal) → Pieces → Type 0
 IsOverAfter None new = new.is_over ≡ true
-IsOverAfter (Some (Ok piece)) new = Unit {0}
+IsOverAfter (Some (Ok piece)) new = ⊤
 IsOverAfter (Some (Err refusal)) new = new.is_over ≡ true
 
 -- what a call of `next` gives
-pub record Gives (old : Pieces) (result : Option (Result Piece Refusal)) (new : Pieces) : Type 0 where
-  pub next : (t read : Text) (items : List Item) → HasGiven old t read items → GivesNext result new t read items
+pub record Gives (old : Pieces) (result : Option (Result Piece Refusal))
+    (new : Pieces) : Type 0 where
+  pub next : (t read : Text) (items : List Item) → HasGiven old t read items
+      → GivesNext result new t read items
   pub over : old.is_over ≡ true → (result ≡ None) × (new ≡ old)
   pub last : IsOverAfter result new
 

@@ -1,4 +1,4 @@
--- Items that stand in a text as its canonical text has them.
+-- Items that stand in a text as its canonical text has them. This project's own.
 use Rattle.std.specs.Prelude.{◌≡◌, ◌≢◌, ℕ, List, ◌++◌, ◌*◌, take, drop, replicate, flat_map}
 use Rattle.std.specs.List.{AllByRecursion}
 use Rattle.pf_values.specs.Canonical.{written}
@@ -22,8 +22,10 @@ pub record IsPlainText (t : Text) (items : List Item) : Type 0 where
   pub plain : AllByRecursion IsPlain items
   pub whole : t ≡ flat_map written items
 
--- after a text that is read, such items at the front of what follows were taken, and no literal byte follows
-pub record PassesPlain (t : Text) (items : List Item) (following : Text) (len : ℕ) (new : Scanner) : Type 0 where
+-- after a text that is read, such items at the front of what follows were taken, and no literal
+-- byte follows
+pub record PassesPlain (t : Text) (items : List Item) (following : Text) (len : ℕ)
+    (new : Scanner) : Type 0 where
   pub more : List Item
   pub plain : IsPlainText (take len following) more
   pub after : IsAfter new (t ++ take len following) (items ++ more)
@@ -31,6 +33,7 @@ pub record PassesPlain (t : Text) (items : List Item) (following : Text) (len : 
   pub longest : EndsRun (t ++ take len following) (drop len following)
 
 -- after a text that is read, so many `%.0s` at the front of what follows were taken
-pub record PassesSilents (t : Text) (items : List Item) (following : Text) (count : ℕ) (new : Scanner) : Type 0 where
+pub record PassesSilents (t : Text) (items : List Item) (following : Text) (count : ℕ)
+    (new : Scanner) : Type 0 where
   pub after : IsAfter new (t ++ take (4 * count) following) (items ++ silents count)
   pub reads : Reads (t ++ take (4 * count) following) (items ++ silents count)

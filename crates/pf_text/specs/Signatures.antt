@@ -9,17 +9,19 @@ use Rattle.pf_text.specs.declared.faults.TextFault.{TextFault}
 use Rattle.pf_text.specs.declared.faults.TextFault.TheVariants.{Memory, Refused}
 use Rattle.pf_text.specs.declared.signatures.Signature.{Signature}
 
+-- the types that it holds, in order
 abbrev pub types_of : Signature → List ArgType
 types_of signature = signature.types.items
 
--- a text is accepted, and its directives take arguments of these types
+-- a text is accepted, and its directives take arguments of these types (C11 7.21.6.1 p3)
 pub record HasTypes (t : Text) (wanted : List ArgType) : Type 0 where
   pub items : List Item
   pub reads : Reads t items
   pub limit : length t ≤ MAX_TEXT_LEN
   pub types_are : wanted ≡ types items
 
--- a text begins with items that take more than eight arguments
+-- a text begins with items that take more than eight arguments; this and what follows is this
+-- project's own
 pub record TakesManyArguments (t : Text) : Type 0 where
   pub front : Text
   pub rest : Text

@@ -1,4 +1,5 @@
--- How far an item has come.
+-- How far an item has come. The parts come in the order of C11 7.21.6.1 p4; the states are this
+-- project's own.
 use Rattle.std.specs.Prelude.{ℕ, Option}
 use Rattle.pf_values.specs.declared.flags.FlagSet.{FlagSet}
 use Rattle.pf_values.specs.declared.lengths.Length.{Length}
@@ -6,6 +7,7 @@ use Rattle.pf_text.specs.declared.state.Automaton.{Automaton}
 use Rattle.pf_text.specs.declared.state.Phase.{Phase}
 use Rattle.pf_text.specs.declared.state.Phase.TheVariants as phases
 
+-- what has come of an item, with the values of its parts
 pub data State : Type 0 where
   -- nothing has come
   Between : State
@@ -22,6 +24,7 @@ pub data State : Type 0 where
   -- all up to letters of a modifier
   Modifier : FlagSet → Option ℕ → Option ℕ → Length → State
 
+-- the state of an automaton in this phase
 abbrev pub state_in_phase : Phase → Automaton → State
 state_in_phase phases.Between a = Between
 state_in_phase phases.Opened a = Opened

@@ -1,4 +1,5 @@
-//! Laws of the definitions: a text has one list of items, or one refusal, and a spelling is read back.
+//! Laws of the definitions: a text has one list of items, or one refusal, and a spelling is read
+//! back.
 ghost use Rattle.std.specs.Prelude.{◌≡◌, ℕ, List};
 ghost use Rattle.pf_values.specs.declared.refusals.RefusalKind.{RefusalKind};
 ghost use Rattle.pf_values.specs.Defined.{IsDefined};
@@ -10,12 +11,14 @@ ghost use Rattle.pf_values.specs.Text.{Text};
 
 /// A text has at most one list of items.
 pub fn reads_once()
-    ensures { (t : Text) (items others : List Item) → Reads t items → Reads t others → items ≡ others }
+    ensures { (t : Text) (items others : List Item) → Reads t items → Reads t others
+        → items ≡ others }
 {}
 
 /// A text is refused for one reason and at one place.
 pub fn refused_once()
-    ensures { (t : Text) (kind other : RefusalKind) (p q : ℕ) → IsRefusedAt t kind p → IsRefusedAt t other q → (kind ≡ other) × (p ≡ q) }
+    ensures { (t : Text) (kind other : RefusalKind) (p q : ℕ) → IsRefusedAt t kind p
+        → IsRefusedAt t other q → (kind ≡ other) × (p ≡ q) }
 {}
 
 /// The spelling of a defined specification is read back as it.

@@ -1,4 +1,5 @@
-//! The letters of specifications, and what single bytes stand for (C11 7.21.6.1, paragraphs 4 to 8).
+//! The letters of specifications, and what single bytes stand for (C11 7.21.6.1, paragraphs 4 to
+//! 8).
 ghost use Rattle.std.specs.Prelude.{◌≡◌};
 ghost use Rattle.pf_values.specs.Conversions.{conv_letter};
 ghost use Rattle.pf_values.specs.Flags.{flag_byte};

@@ -1,5 +1,5 @@
-//! Formats of the C function `printf`: which items a text has, or where and why it is refused; how directives are
-//! spelled; the types of the arguments that a format takes.
+//! Formats of the C function `printf`: which items a text has, or where and why it is refused; how
+//! directives are spelled; the types of the arguments that a format takes.
 #![tactic(auto)]
 
 mod checking;

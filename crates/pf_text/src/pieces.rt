@@ -1,5 +1,5 @@
 //! The pieces of a format in memory: runs of literal bytes, `%%`, and directives.
-ghost use Rattle.std.specs.Prelude.{◌≡◌, ◌<◌, ◌≤◌, List, [], length, IsFalse, MatchOption};
+ghost use Rattle.std.specs.Prelude.{◌≡◌, ◌<◌, ◌≤◌, List, [], length, IsFalse, MatchOption, ⊤};
 ghost use Rattle.pf_values.specs.Items.{Item};
 ghost use Rattle.pf_values.specs.Text.{Text};
 ghost use Rattle.pf_text.specs.History.{EndsRun};
@@ -19,7 +19,8 @@ pub enum Piece<'a> {
     Directive(Directive),
 }
 
-/// The pieces of a text, in order, up to its end or to where it is refused. Then the refusal is given once.
+/// The pieces of a text, in order, up to its end or to where it is refused. Then the refusal is
+/// given once.
 #[derive(Debug, Drop)]
 pub struct Pieces<'a> {
     rest: &'a [u8],
@@ -45,8 +46,9 @@ impl<'a> Pieces<'a> {
     #[inline(always)]
     fn take_bare(&mut self) -> Option<Directive>
         ensures given { (t read : Text) (items : List Item) → HasGiven self.old t read items
-            → MatchOption result (Unit {0}) (λ d. GivesPiece self.new t read items (Piece.Directive d)) }
-        ensures shorter { MatchOption result (self.new ≡ self.old) (λ _. length self.new.rest.now < length self.old.rest.now) }
+            → MatchOption result ⊤ (λ d. GivesPiece self.new t read items (Piece.Directive d)) }
+        ensures shorter { MatchOption result (self.new ≡ self.old)
+            (λ _. length self.new.rest.now < length self.old.rest.now) }
         ensures going { self.new.is_over ≡ self.old.is_over }
     {
         let directive = self.scanner.take_bare(self.rest)?;
@@ -58,8 +60,10 @@ impl<'a> Pieces<'a> {
     #[inline(always)]
     fn take_run(&mut self) -> Option<&'a [u8]>
         ensures given { (t read : Text) (items : List Item) → HasGiven self.old t read items
-            → MatchOption result (IsInside self.new t read items) (λ run. GivesPiece self.new t read items (Piece.Literal run)) }
-        ensures shorter { MatchOption result (length self.new.rest.now ≤ length self.old.rest.now) (λ _. length self.new.rest.now < length self.old.rest.now) }
+            → MatchOption result (IsInside self.new t read items)
+            (λ run. GivesPiece self.new t read items (Piece.Literal run)) }
+        ensures shorter { MatchOption result (length self.new.rest.now ≤ length self.old.rest.now)
+            (λ _. length self.new.rest.now < length self.old.rest.now) }
         ensures going { self.new.is_over ≡ self.old.is_over }
     {
         if !may_be_literal(self.rest) {
@@ -74,13 +78,15 @@ impl<'a> Pieces<'a> {
         Some(run)
     }
 
-    // Moves on behind the first byte of the rest, of which the scanner made this step. Gives the piece that ends
-    // there, if one does. A literal byte never does, since the runs are given before.
+    // Moves on behind the first byte of the rest, of which the scanner made this step. Gives the
+    // piece that ends there, if one does. A literal byte never does, since the runs are given
+    // before.
     #[inline(always)]
     fn advance(&mut self, step: Step) -> Option<Piece<'a>>
         requires { 0 < length self.old.rest.now }
         ensures given { (t read : Text) (items : List Item) → IsFed self.old step t read items
-            → MatchOption result (IsInside self.new t read items) (GivesPiece self.new t read items) }
+            → MatchOption result (IsInside self.new t read items)
+            (GivesPiece self.new t read items) }
         ensures shorter { length self.new.rest.now < length self.old.rest.now }
         ensures going { self.new.is_over ≡ self.old.is_over }
     {

@@ -7,11 +7,12 @@ use std::simd::prelude::*;
 
 const LANES: usize = 16;
 
-// How far the search goes a vector at a time. Most runs end there, and `memchr2` is the faster one behind it.
+// How far the search goes a vector at a time. Most runs end there, and `memchr2` is the faster one
+// behind it.
 const NEAR: usize = 64;
 
-/// Where the first byte stands that isn't literal. It sees no scanner, so that a reader's scanner can lie in
-/// registers, and is never inlined, so that the search stands in the program once.
+/// Where the first byte stands that isn't literal. It sees no scanner, so that a reader's scanner
+/// can lie in registers, and is never inlined, so that the search stands in the program once.
 #[inline(never)]
 pub(crate) fn first_other(text: &[u8]) -> Option<usize>
     ensures { IsFirstByte (is_byte2 37 0) text.now result }

@@ -15,9 +15,11 @@ use std::alloc::{Allocator, Global};
 #[cfg(test)]
 mod tests;
 
-/// The types of the arguments that a format takes. Memory can be refused for more than eight of them only.
+/// The types of the arguments that a format takes. Memory can be refused for more than eight of
+/// them only.
 pub fn signature(alloc: Global, text: &[u8]) -> Result<Signature, TextFault>
-    ensures { MatchResult result (λ signature. HasTypes text.now (types_of signature)) (Hinders text.now) }
+    ensures { MatchResult result (λ signature. HasTypes text.now (types_of signature))
+        (Hinders text.now) }
 {
     let mut found = SmallVec::new(alloc);
     match push_types(&mut found, text) {

@@ -23,8 +23,9 @@ const FLAGS: [Flag; 6] = [
     Flag::Group,
 ];
 
-/// The spelling of a directive: each flag once, in the order `-`, `+`, space, `#`, `0`, `'`, and numbers without
-/// zeros in front. A precision of 0 is `.0`. One of the longest is `%-+ 0'4095.4095lld`.
+/// The spelling of a directive: each flag once, in the order `-`, `+`, space, `#`, `0`, `'`, and
+/// numbers without zeros in front. A precision of 0 is `.0`. One of the longest is `%-+
+/// 0'4095.4095lld`.
 pub fn spell(directive: &Directive) -> Spelling
     ensures bytes { result.items ≡ spelled directive.now }
     ensures short { array_vec_len result ≤ 18 }

@@ -41,7 +41,8 @@ pub(crate) enum Move {
     Ended,
 }
 
-/// What has come of an item, in fields that are changed in place. In each phase only some of them count.
+/// What has come of an item, in fields that are changed in place. In each phase only some of them
+/// count.
 #[derive(Clone, Copy, Debug)]
 pub(crate) struct Automaton {
     phase: Phase,
@@ -170,7 +171,8 @@ impl Automaton {
     #[inline(always)]
     fn widened(&mut self, digit: u8) -> Result<Move, RefusalKind>
         requires { digit < 10 }
-        ensures { (byte : ℕ) → next_by result byte self.new ≡ widened self.old.flags self.old.number digit }
+        ensures { (byte : ℕ)
+            → next_by result byte self.new ≡ widened self.old.flags self.old.number digit }
     {
         let wider = 10 * u32::from(self.number) + u32::from(digit);
         if wider > u32::from(MAX_NUMBER) {
@@ -184,7 +186,8 @@ impl Automaton {
     #[inline(always)]
     fn made_precise(&mut self, digit: u8) -> Result<Move, RefusalKind>
         requires { digit < 10 }
-        ensures { (byte : ℕ) → next_by result byte self.new ≡ made_precise self.old.flags self.old.width self.old.number digit }
+        ensures { (byte : ℕ) → next_by result byte self.new
+            ≡ made_precise self.old.flags self.old.width self.old.number digit }
     {
         let wider = 10 * u32::from(self.number) + u32::from(digit);
         if wider > u32::from(MAX_NUMBER) {
@@ -198,7 +201,8 @@ impl Automaton {
     /// After the numbers a modifier may begin, or the specification ends.
     #[inline(always)]
     fn after_number(&mut self, byte: u8) -> Result<Move, RefusalKind>
-        ensures { next_by result byte self.new ≡ after_number self.old.flags self.old.width self.old.precision byte }
+        ensures { next_by result byte self.new
+            ≡ after_number self.old.flags self.old.width self.old.precision byte }
     {
         if let Some(modifier) = modifier_of(byte) {
             self.modifier = modifier;
@@ -215,7 +219,8 @@ impl Automaton {
     /// A second letter of a modifier, or the end.
     #[inline(always)]
     fn after_modifier(&mut self, byte: u8) -> Result<Move, RefusalKind>
-        ensures { next_by result byte self.new ≡ after_modifier self.old.flags self.old.width self.old.precision self.old.modifier byte }
+        ensures { next_by result byte self.new ≡ after_modifier
+            self.old.flags self.old.width self.old.precision self.old.modifier byte }
     {
         match (self.modifier, byte) {
             (Length::H, b'h') => {
@@ -235,7 +240,8 @@ impl Automaton {
     /// The specification ends, or nothing goes on with it.
     #[inline(always)]
     fn ending(&mut self, byte: u8) -> Result<Move, RefusalKind>
-        ensures { next_by result byte self.new ≡ ending self.old.flags self.old.width self.old.precision self.old.modifier byte }
+        ensures { next_by result byte self.new
+            ≡ ending self.old.flags self.old.width self.old.precision self.old.modifier byte }
     {
         match conv_of(byte) {
             Some(conv) => {
@@ -249,7 +255,9 @@ impl Automaton {
     /// The directive that has ended. What comes next is between items.
     #[inline(always)]
     pub(crate) fn directive(&mut self) -> Result<Directive, RefusalKind>
-        ensures { MatchResult result (λ d. judged_parts self.old ≡ Ok (state_of self.new, steps.Directive d)) (λ kind. judged_parts self.old ≡ Err kind) }
+        ensures { MatchResult result
+            (λ d. judged_parts self.old ≡ Ok (state_of self.new, steps.Directive d))
+            (λ kind. judged_parts self.old ≡ Err kind) }
     {
         self.phase = Phase::Between;
         Directive::new(

@@ -1,4 +1,4 @@
--- The program's arguments.
+-- The program's arguments, each with its type in C. This project's own.
 use Rattle.std.specs.Prelude.{pos}
 use Rattle.pf_values.specs.declared.arguments.Arg.{Arg}
 use Rattle.pf_values.specs.declared.arguments.Arg.TheVariants as variants
@@ -8,9 +8,11 @@ use Rattle.pf_values.specs.declared.types.ArgType.TheVariants.{Int, UInt, Long, 
 use Rattle.pf_values.specs.Arguments.{Argument, Number, String}
 use Rattle.pf_values.specs.Text.{Text}
 
+-- the bytes of a string, without the null character that ends it in C (C11 7.1.1 p1)
 abbrev pub bytes_of : CBytes → Text
 bytes_of s = s.bytes.now
 
+-- the type of the argument of C that it stands for
 abbrev pub type_of : Arg → ArgType
 type_of (variants.Int n) = Int
 type_of (variants.UInt n) = UInt

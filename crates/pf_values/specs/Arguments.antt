@@ -8,29 +8,35 @@ use Rattle.pf_values.specs.DataModel.{FitsIn, IsInRange, bit_count, bits_under}
 use Rattle.pf_values.specs.Specification.{Specification}
 use Rattle.pf_values.specs.Text.{Text}
 
+-- an integer of any type, or the bytes of a string before its null character
 pub data Argument : Type 0 where
   Number : (n : ℤ) → Argument
   String : (bytes : Text) → Argument
 
--- bytes without a zero byte
+-- bytes without a zero byte, which would end the string (C11 7.1.1 p1)
 abbrev pub IsString : Text → Type 0
 IsString bytes = AllByRecursion (λ byte. (0 < byte) × (byte < 256)) bytes
 
+-- an argument is of the type that a directive wants; any other is undefined (C11 7.21.6.1 p9)
 abbrev pub HasType : Argument → ArgType → Type 0
 HasType (Number n) type = IsInRange type n
 HasType (String bytes) Str = IsString bytes
 HasType (String bytes) _ = ⊥
 
--- one argument for each type
+-- one argument for each type, in order: too few are undefined (C11 7.21.6.1 p2), and too many are
+-- wrong in this project alone
 abbrev pub HasTypes : List Argument → List ArgType → Type 0
 HasTypes args types = AllZip HasType args types
 
--- the number in the range that differs from another by a multiple of 2 ^ bits
+-- The number in the range that differs from another by a multiple of 2 ^ bits (C11 6.3.1.3 p1, p2).
+-- For signed types p3 leaves it to the implementation: this project takes two's complement.
 pub record IsConverted (signed : Bool) (bits : ℕ) (from to : ℤ) : Type 0 where
   pub fits : FitsIn signed bits to
   pub times : ℤ
   pub differs : from ≡ to +ℤ times *ℤ pos (2 ^ bits)
 
--- the value that a directive prints for a number
+-- the value that a directive prints for a number: the argument, converted to the type that the
+-- length modifier names (C11 7.21.6.1 p7)
 abbrev pub IsValue : Specification → ℤ → ℤ → Type 0
-IsValue s argument value = IsConverted (is_signed s.conv) (bit_count (bits_under s.length)) argument value
+IsValue s argument value =
+    IsConverted (is_signed s.conv) (bit_count (bits_under s.length)) argument value

@@ -1,4 +1,5 @@
--- Arguments that tell canonical texts apart.
+-- Arguments that tell canonical texts apart. This project's own: the standard doesn't compare
+-- formats.
 use Rattle.std.specs.Prelude.{◌≡◌, ℕ, ◌-◌, ◌^◌, pos, negsuc, List, [], ◌∷◌, map, replicate, Some, slice_get, slice_set, Contains, ◌⊎◌}
 use Rattle.pf_values.specs.declared.types.ArgType.{ArgType}
 use Rattle.pf_values.specs.declared.types.ArgType.TheVariants.{Int, UInt, Long, ULong, LongLong, ULongLong, Str}
@@ -11,12 +12,15 @@ unsigned_candidates bits = map Number (pos 0 ∷ pos 1 ∷ pos 2 ∷ pos (2 ^ bi
 
 -- the least and the greatest number of so many bits last
 abbrev pub signed_candidates : Bits → List Argument
-signed_candidates bits = map Number (pos 0 ∷ pos 1 ∷ negsuc 0 ∷ negsuc (2 ^ (bit_count bits - 1) - 1) ∷ pos (2 ^ (bit_count bits - 1) - 1) ∷ [])
+signed_candidates bits = map Number (pos 0 ∷ pos 1 ∷ negsuc 0
+    ∷ negsuc (2 ^ (bit_count bits - 1) - 1) ∷ pos (2 ^ (bit_count bits - 1) - 1) ∷ [])
 
--- The neutral argument first. An int may be converted to 8, 16 or 32 bits, so it has the ends of each. A string is nothing, `A`, or too long for any precision.
+-- The neutral argument first. An int may be converted to 8, 16 or 32 bits, so it has the ends of
+-- each. A string is nothing, `A`, or too long for any precision.
 abbrev pub candidates : ArgType → List Argument
 candidates Int = map Number (pos 0 ∷ pos 1 ∷ pos 2 ∷ pos 257 ∷ pos 129 ∷ pos 32769
-    ∷ negsuc 0 ∷ negsuc 126 ∷ negsuc 32766 ∷ negsuc 2147483646 ∷ negsuc 127 ∷ negsuc 32767 ∷ negsuc 2147483647
+    ∷ negsuc 0 ∷ negsuc 126 ∷ negsuc 32766 ∷ negsuc 2147483646
+    ∷ negsuc 127 ∷ negsuc 32767 ∷ negsuc 2147483647
     ∷ pos 127 ∷ pos 32767 ∷ pos 2147483647 ∷ [])
 candidates UInt = unsigned_candidates (type_bits UInt)
 candidates ULong = unsigned_candidates (type_bits ULong)
@@ -25,14 +29,17 @@ candidates Long = signed_candidates (type_bits Long)
 candidates LongLong = signed_candidates (type_bits LongLong)
 candidates Str = map String ([] ∷ (65 ∷ []) ∷ replicate 4096 65 ∷ replicate 4096 66 ∷ [])
 
+-- 0, and the empty string
 abbrev pub neutral : ArgType → Argument
 neutral Str = String []
 neutral _ = Number (pos 0)
 
+-- a list of arguments that are all neutral
 abbrev pub neutrals : List ArgType → List Argument
 neutrals types = map neutral types
 
 -- all are neutral, or all but one, which is a candidate of its type
 abbrev pub IsProbe : List ArgType → List Argument → Type 0
-IsProbe types args = (args ≡ neutrals types)
-    ⊎ ((i : ℕ) × (type : ArgType) × (argument : Argument) × (slice_get types i ≡ Some type) × Contains (candidates type) argument × (args ≡ slice_set (neutrals types) i argument))
+IsProbe types args = (args ≡ neutrals types) ⊎ (
+    (i : ℕ) × (type : ArgType) × (argument : Argument) × (slice_get types i ≡ Some type)
+    × Contains (candidates type) argument × (args ≡ slice_set (neutrals types) i argument))

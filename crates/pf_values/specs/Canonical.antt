@@ -1,26 +1,28 @@
--- Canonical texts.
-use Rattle.std.specs.Prelude.{◌≡◌, ℕ, List, [], ◌∷◌, ◌++◌, replicate, ◌==◌, if◌then◌else◌, ◌⊎◌, flat_map}
+-- Canonical texts. This project's own: the standard has no canonical form.
+use Rattle.std.specs.Prelude.{◌≡◌, ◌≢◌, ℕ, List, [], ◌∷◌, ◌++◌, replicate, ◌==◌, if◌then◌else◌, ◌⊎◌, flat_map, ⊤}
 use Rattle.pf_values.specs.Items.{Item, Byte, Directive, Reads}
 use Rattle.pf_values.specs.Normal.{IsNormal, silent}
 use Rattle.pf_values.specs.Printing.{AreEquivalent}
 use Rattle.pf_values.specs.Spelling.{spelled}
 use Rattle.pf_values.specs.Text.{Text, percent}
 
--- the one way in which a canonical text writes an item
+-- the one way in which a canonical text writes an item; `%` is written `%%` (C11 7.21.6.1 p8)
 abbrev pub written : Item → Text
 written (Byte byte) = if byte == percent then percent ∷ percent ∷ [] else byte ∷ []
 written (Directive s) = spelled s
 
+-- no items, or a directive first
 abbrev pub BeginsWithNoByte : List Item → Type 0
-BeginsWithNoByte [] = Unit {0}
+BeginsWithNoByte [] = ⊤
 BeginsWithNoByte (Byte byte ∷ items) = ⊥
-BeginsWithNoByte (Directive s ∷ items) = Unit {0}
+BeginsWithNoByte (Directive s ∷ items) = ⊤
 
 -- each directive is normal, or silent and with no byte after it
 abbrev pub AreCanonical : List Item → Type 0
-AreCanonical [] = Unit {0}
+AreCanonical [] = ⊤
 AreCanonical (Byte byte ∷ items) = AreCanonical items
-AreCanonical (Directive s ∷ items) = (IsNormal s ⊎ ((s ≡ silent) × BeginsWithNoByte items)) × AreCanonical items
+AreCanonical (Directive s ∷ items) =
+    (IsNormal s ⊎ ((s ≡ silent) × BeginsWithNoByte items)) × AreCanonical items
 
 -- a text of canonical items, each written in the one way
 pub record ReadsCanonically (t : Text) (items : List Item) : Type 0 where
@@ -28,6 +30,7 @@ pub record ReadsCanonically (t : Text) (items : List Item) : Type 0 where
   pub canonical : AreCanonical items
   pub whole : t ≡ flat_map written items
 
+-- a text that reads so as some items
 abbrev pub IsCanonicalText : Text → Type 0
 IsCanonicalText t = (items : List Item) × ReadsCanonically t items
 
@@ -36,8 +39,9 @@ pub record IsCanonicalOf (t c : Text) : Type 0 where
   pub canonical : IsCanonicalText c
   pub equivalent : AreEquivalent t c
 
+-- the last item, if there is one, is no silent directive
 abbrev pub EndsInNoSilent : List Item → Type 0
-EndsInNoSilent items = (before : List Item) → items ≡ before ++ Directive silent ∷ [] → ⊥
+EndsInNoSilent items = (before : List Item) → items ≢ before ++ Directive silent ∷ []
 
 -- the canonical text of t, without the silent directives that end its items
 pub record IsSettled (t settled : Text) : Type 0 where

@@ -1,4 +1,5 @@
--- How a counted device counts its failures, and what a call that writes leaves.
+-- How a counted device counts its failures, and what a call that writes leaves. This project's own:
+-- C11 7.21.6.1 p14 has one negative number for every failed write.
 use Rattle.std.specs.Prelude.{◌≡◌, ℕ, ◌+◌, ◌-◌, ◌^◌, ◌<◌, ◌≤◌, Bool, true, ◌&&◌, ◌==◌, nat_lt, min, length, take, Option, Result, Ok, Err, if◌then◌else◌}
 use Rattle.std.specs.Io.KnownBytes.{Appends}
 use Rattle.pf_values.specs.declared.counting.Counted.{Counted}
@@ -6,9 +7,11 @@ use Rattle.pf_values.specs.declared.writing.ShortWrite.{ShortWrite}
 use Rattle.pf_values.specs.Text.{Text}
 
 module _ {T : Type 0} where
+  -- the reader or writer behind it
   abbrev pub device_of : Counted T → T
   device_of c = c.device
 
+  -- how many of its calls have failed
   abbrev pub failures_of : Counted T → ℕ
   failures_of c = c.failures
 
@@ -41,7 +44,8 @@ module _ {W : Type 0} (contents : W → Known) (old new : Counted W) (bytes : Te
 
   -- exactly the first ones went out, and just one call failed
   pub record WritesFirst (written : ℕ) : Type 0 where
-    pub appended : Appends (contents (device_of old)) (contents (device_of new)) (take written bytes)
+    pub appended :
+        Appends (contents (device_of old)) (contents (device_of new)) (take written bytes)
     pub within : written ≤ length bytes
     pub failed : HasFailed old new
 
@@ -50,5 +54,6 @@ module _ {W : Type 0} (contents : W → Known) (old new : Counted W) (bytes : Te
   WritesUpTo written (Ok done) = WritesAll
   WritesUpTo written (Err fault) = WritesFirst (written fault) × (written fault < length bytes)
 
+  -- the same of a call that answers a `ShortWrite`
   abbrev pub Writes : Result (Unit {0}) ShortWrite → Type 0
   Writes result = WritesUpTo (λ short. short.written) result

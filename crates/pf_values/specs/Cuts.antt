@@ -1,9 +1,10 @@
--- What a clause sees of a writer with little room.
+-- What a clause sees of a writer with little room. This project's own.
 use Rattle.std.specs.Prelude.{◌≡◌, ℕ, ◌-◌, Bool, length, take}
 use Rattle.std.specs.declared.io.ErrorKind.{ErrorKind}
 use Rattle.pf_values.specs.Text.{Text}
 use Rattle.pf_values.specs.declared.devices.cutting.Cut.{Cut}
 
+-- the bytes that it has taken, which fill the front of its place
 abbrev pub taken_of : Cut → Text
 taken_of cut = take cut.len cut.place.now
 
@@ -11,12 +12,15 @@ taken_of cut = take cut.len cut.place.now
 abbrev pub room_of : Cut → ℕ
 room_of cut = length cut.place.now - cut.len
 
+-- how many bytes a call takes at most
 abbrev pub step_of : Cut → ℕ
 step_of cut = cut.step
 
+-- the kind of error with which it fails
 abbrev pub kind_of : Cut → ErrorKind
 kind_of cut = cut.kind
 
+-- whether each flush fails
 abbrev pub flush_fails_of : Cut → Bool
 flush_fails_of cut = cut.flush_fails
 

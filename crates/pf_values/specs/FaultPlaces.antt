@@ -1,4 +1,4 @@
--- Where a reader is to fail: after how many bytes, or nowhere.
+-- Where a reader is to fail: after how many bytes, or nowhere. This project's own.
 use Rattle.std.specs.Prelude.{ℕ, ◌-◌, ◌==◌, Bool, false, min, Option, None, Some, Result, Ok, Err}
 use Rattle.std.specs.Option.{option_map}
 

@@ -1,4 +1,4 @@
--- What a clause sees of a reader that fails in the middle.
+-- What a clause sees of a reader that fails in the middle. This project's own.
 use Rattle.std.specs.Prelude.{ℕ, length, min, Option}
 use Rattle.std.specs.declared.io.ErrorKind.{ErrorKind}
 use Rattle.pf_values.specs.FaultPlaces.{up_to}
@@ -9,6 +9,7 @@ use Rattle.pf_values.specs.declared.devices.feeding.Feed.{Feed}
 abbrev pub rest_of : Feed → Text
 rest_of feed = feed.rest.now
 
+-- how many bytes a call hands out at most
 abbrev pub step_of : Feed → ℕ
 step_of feed = feed.step
 
@@ -16,6 +17,7 @@ step_of feed = feed.step
 abbrev pub fault_of : Feed → Option ℕ
 fault_of feed = feed.before_fault
 
+-- the kind of error with which it fails
 abbrev pub kind_of : Feed → ErrorKind
 kind_of feed = feed.kind
 

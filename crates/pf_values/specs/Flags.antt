@@ -4,6 +4,7 @@ use Rattle.pf_values.specs.declared.flags.Flag.{Flag}
 use Rattle.pf_values.specs.declared.flags.Flag.TheVariants.{Minus, Plus, Space, Alt, Zero, Group}
 use Rattle.pf_values.specs.declared.flags.FlagSet.{FlagSet}
 
+-- whether a flag is given (C11 7.21.6.1 p4)
 abbrev pub has : FlagSet → Flag → Bool
 has flags Minus = flags.minus
 has flags Plus = flags.plus
@@ -12,9 +13,12 @@ has flags Alt = flags.alt
 has flags Zero = flags.zero
 has flags Group = flags.group
 
+-- flags may be missing (C11 7.21.6.1 p4)
 abbrev pub no_flags : FlagSet
-no_flags = record { minus = false; plus = false; space = false; alt = false; zero = false; group = false }
+no_flags =
+    record { minus = false; plus = false; space = false; alt = false; zero = false; group = false }
 
+-- one flag more; one that is given already changes nothing (C11 7.21.6.1 p4)
 abbrev pub with_flag : FlagSet → Flag → FlagSet
 with_flag flags Minus = record flags { minus = true }
 with_flag flags Plus = record flags { plus = true }
@@ -23,11 +27,11 @@ with_flag flags Alt = record flags { alt = true }
 with_flag flags Zero = record flags { zero = true }
 with_flag flags Group = record flags { group = true }
 
--- the set of a list of flags, in which one may stand more than once
+-- the set of a list of flags, in any order, in which one may stand more than once (C11 7.21.6.1 p4)
 abbrev pub flag_set : List Flag → FlagSet
 flag_set flags = fold with_flag no_flags flags
 
--- `-`, `+`, a space, `#`, `0` and `'`
+-- `-`, `+`, a space, `#` and `0` (C11 7.21.6.1 p6), and `'` (POSIX fprintf)
 abbrev pub flag_byte : Flag → ℕ
 flag_byte Minus = 45
 flag_byte Plus = 43
@@ -36,6 +40,6 @@ flag_byte Alt = 35
 flag_byte Zero = 48
 flag_byte Group = 39
 
--- the order in which `spelled` writes them
+-- the order in which `spelled` writes them; this project's own
 abbrev pub all_flags : List Flag
 all_flags = Minus ∷ Plus ∷ Space ∷ Alt ∷ Zero ∷ Group ∷ []

@@ -8,25 +8,29 @@ use Rattle.pf_values.specs.Specification.{Specification}
 use Rattle.pf_values.specs.Spelling.{Spells}
 use Rattle.pf_values.specs.Text.{Text, percent}
 
+-- an ordinary character, or a conversion specification (C11 7.21.6.1 p3)
 pub data Item : Type 0 where
   Byte : (byte : ℕ) → Item
   Directive : (parts : Specification) → Item
 
--- what one item is read from: `%%` for the byte `%`, and any other byte but zero for itself
+-- What one item is read from: `%%` for the byte `%` (C11 7.21.6.1 p8), any other byte but zero for
+-- itself (p3), and a specification for its parts (p4), if they are defined together (p4 to p9).
 abbrev pub IsReadAs : Text → Item → Type 0
-IsReadAs t (Byte byte) = MatchBool (byte == percent) (t ≡ percent ∷ percent ∷ []) ((byte ≢ 0) × (t ≡ byte ∷ []))
+IsReadAs t (Byte byte) =
+    MatchBool (byte == percent) (t ≡ percent ∷ percent ∷ []) ((byte ≢ 0) × (t ≡ byte ∷ []))
 IsReadAs t (Directive s) = Spells t s × IsDefined s
 
--- a text is the texts of its items, one after another
+-- a text is the texts of its items, one after another (C11 7.21.6.1 p3)
 abbrev pub Reads : Text → List Item → Type 0
 Reads t [] = t ≡ []
-Reads t (item ∷ items) = (first rest : Text) × IsReadAs first item × Reads rest items × (t ≡ first ++ rest)
+Reads t (item ∷ items) =
+    (first rest : Text) × IsReadAs first item × Reads rest items × (t ≡ first ++ rest)
 
--- a text is read, and is not too long
+-- a text is read, and is not too long; the limit is this project's own
 abbrev pub IsAccepted : Text → Type 0
 IsAccepted t = (items : List Item) × Reads t items × (length t ≤ MAX_TEXT_LEN)
 
--- the types of the directives, in order
+-- the types of the arguments that the directives fetch, in order (C11 7.21.6.1 p3)
 abbrev pub types : List Item → List ArgType
 types [] = []
 types (Byte byte ∷ items) = types items

@@ -1,9 +1,11 @@
--- The numbers and the names of the kinds of refusal.
+-- The numbers and the names of the kinds of refusal. This project's own: the standard leaves a
+-- wrong specification undefined (C11 7.21.6.1 p9).
 use Rattle.std.specs.Prelude.{ℕ, codes}
 use Rattle.pf_values.specs.declared.refusals.RefusalKind.{RefusalKind}
 use Rattle.pf_values.specs.declared.refusals.RefusalKind.TheVariants.{NulByte, Truncated, Unexpected, BadPercent, Star, Numbered, WidthTooLarge, PrecisionTooLarge, Float, Pointer, Count, Wide, AltUndefined, ZeroUndefined, GroupUndefined, PrecisionUndefined, LengthUndefined, TooLong}
 use Rattle.pf_values.specs.Text.{Text}
 
+-- the number that a refusal is told by
 abbrev pub number : RefusalKind → ℕ
 number NulByte = 1
 number Truncated = 2
@@ -24,6 +26,7 @@ number PrecisionUndefined = 16
 number LengthUndefined = 17
 number TooLong = 18
 
+-- the name that is told with it
 abbrev pub name : RefusalKind → Text
 name NulByte = codes "NulByte"
 name Truncated = codes "Truncated"

@@ -1,5 +1,6 @@
--- Where and why a text is refused.
-use Rattle.std.specs.Prelude.{◌≡◌, ◌≢◌, ℕ, ◌<◌, ◌≤◌, false, List, [], ◌∷◌, ◌++◌, length, map, codes, Option, Some, Contains, ◌⊎◌, MatchBool, ◌==◌}
+-- Where and why a text is refused. This project's own, but for the parts of a specification: the
+-- standard leaves a wrong one undefined (C11 7.21.6.1 p9).
+use Rattle.std.specs.Prelude.{◌≡◌, ◌≢◌, ℕ, ◌<◌, ◌≤◌, false, List, [], ◌∷◌, ◌++◌, length, map, codes, Option, Some, Contains, ◌⊎◌, MatchBool, ◌==◌, ⊤}
 use Rattle.pf_values.specs.declared.flags.Flag.{Flag}
 use Rattle.pf_values.specs.declared.limits.TheConstants.{MAX_NUMBER, MAX_TEXT_LEN}
 use Rattle.pf_values.specs.declared.refusals.RefusalKind.{RefusalKind}
@@ -11,14 +12,16 @@ use Rattle.pf_values.specs.Specification.{Specification}
 use Rattle.pf_values.specs.Spelling.{Spells, SpellsWidth, SpellsPrecision}
 use Rattle.pf_values.specs.Text.{Text, dollar, percent, point, star}
 
--- no number above the limit
+-- no number above the limit: one conversion must be able to print 4,095 characters
+-- (C11 7.21.6.1 p15)
 pub record IsWithinLimits (s : Specification) : Type 0 where
   pub width : is_above_limit s.width ≡ false
   pub precision : is_above_limit s.precision ≡ false
 
 -- what begins `%%` or a specification, and is not the whole of it
 abbrev pub IsBegun : Text → Type 0
-IsBegun part = (more : Text) × (s : Specification) × Spells (part ++ more) s × IsWithinLimits s × (more ≢ [])
+IsBegun part =
+    (more : Text) × (s : Specification) × Spells (part ++ more) s × IsWithinLimits s × (more ≢ [])
 
 -- the text of items, and what comes after them
 pub record IsSplit (t : Text) (items : List Item) (part : Text) : Type 0 where
@@ -31,18 +34,18 @@ pub record IsGoodFront (front : Text) (items : List Item) (part : Text) : Type 0
   pub splits : IsSplit front items part
   pub begun : IsBegun part
 
--- `%` and flags
+-- `%` and flags (C11 7.21.6.1 p4)
 abbrev pub flags_text : List Flag → Text
 flags_text flags = percent ∷ map flag_byte flags
 
--- `%`, flags and a width, if there is one
+-- `%`, flags and a width, if there is one (C11 7.21.6.1 p4)
 pub record IsToWidth (part : Text) (width : Option ℕ) : Type 0 where
   pub flags : List Flag
   pub digits : Text
   pub digits_are : SpellsWidth digits width
   pub whole : part ≡ flags_text flags ++ digits
 
--- `%`, flags, a width and a precision, if there are any
+-- `%`, flags, a width and a precision, if there are any (C11 7.21.6.1 p4)
 pub record IsToPrecision (part : Text) (precision : Option ℕ) : Type 0 where
   pub width : Option ℕ
   pub before : Text
@@ -51,11 +54,13 @@ pub record IsToPrecision (part : Text) (precision : Option ℕ) : Type 0 where
   pub digits_are : SpellsPrecision digits precision
   pub whole : part ≡ before ++ digits
 
--- the byte ends a specification that is not defined, for this reason first
+-- the byte ends a specification that is not defined (C11 7.21.6.1 p4 to p9), for this reason first
 abbrev pub EndsUndefined : Text → ℕ → RefusalKind → Type 0
-EndsUndefined part byte kind = (s : Specification) × Spells (part ++ byte ∷ []) s × (first_broken undefined_kinds s ≡ Some kind)
+EndsUndefined part byte kind =
+    (s : Specification) × Spells (part ++ byte ∷ []) s
+    × (first_broken undefined_kinds s ≡ Some kind)
 
--- conversions that are refused wherever they stand
+-- conversions that are refused wherever they stand (C11 7.21.6.1 p8; `C` and `S`: POSIX fprintf)
 abbrev pub letters_of : RefusalKind → Text
 letters_of Float = codes "aAeEfFgG"
 letters_of Pointer = codes "p"
@@ -63,46 +68,56 @@ letters_of Count = codes "n"
 letters_of Wide = codes "CS"
 letters_of _ = []
 
--- `L`, which modifies floating conversions alone
+-- `L`, which modifies floating conversions alone (C11 7.21.6.1 p7)
 abbrev pub long_double_letter : ℕ
 long_double_letter = 76
 
--- a modifier may begin behind the part
+-- a modifier may begin behind the part (C11 7.21.6.1 p4)
 abbrev pub TakesModifier : Text → Type 0
 TakesModifier part = (precision : Option ℕ) × IsToPrecision part precision
 
--- a width or a precision may begin behind the part, and has not
+-- a width or a precision may begin behind the part, and has not, so that `*` may stand there
+-- (C11 7.21.6.1 p5)
 abbrev pub TakesStar : Text → Type 0
-TakesStar part = ((flags : List Flag) × (part ≡ flags_text flags))
-    ⊎ ((before : Text) × (width : Option ℕ) × IsToWidth before width × (part ≡ before ++ point ∷ []))
+TakesStar part = ((flags : List Flag) × (part ≡ flags_text flags)) ⊎ (
+    (before : Text) × (width : Option ℕ) × IsToWidth before width
+    × (part ≡ before ++ point ∷ []))
 
--- Each kind's own reason, where `part` is what has come of an item and `byte` follows.
+-- Each kind's own reason, where `part` is what has come of an item and `byte` follows. `$` after a
+-- number is of POSIX fprintf.
 abbrev pub HasReason : Text → ℕ → RefusalKind → Type 0
 HasReason part byte NulByte = byte ≡ 0
 HasReason part byte BadPercent = byte ≡ percent
-HasReason part byte WidthTooLarge = (n : ℕ) × (MAX_NUMBER < n) × IsToWidth (part ++ byte ∷ []) (Some n)
-HasReason part byte PrecisionTooLarge = (n : ℕ) × (MAX_NUMBER < n) × IsToPrecision (part ++ byte ∷ []) (Some n)
-HasReason part byte Float = Contains (letters_of Float) byte ⊎ ((byte ≡ long_double_letter) × TakesModifier part)
+HasReason part byte WidthTooLarge =
+    (n : ℕ) × (MAX_NUMBER < n) × IsToWidth (part ++ byte ∷ []) (Some n)
+HasReason part byte PrecisionTooLarge =
+    (n : ℕ) × (MAX_NUMBER < n) × IsToPrecision (part ++ byte ∷ []) (Some n)
+HasReason part byte Float =
+    Contains (letters_of Float) byte ⊎ ((byte ≡ long_double_letter) × TakesModifier part)
 HasReason part byte Star = (byte ≡ star) × TakesStar part
 HasReason part byte Numbered = (byte ≡ dollar) × (n : ℕ) × IsToWidth part (Some n)
 HasReason part byte Truncated = ⊥
 HasReason part byte TooLong = ⊥
-HasReason part byte Unexpected = Unit {0}
+HasReason part byte Unexpected = ⊤
 HasReason part byte kind = Contains (letters_of kind) byte ⊎ EndsUndefined part byte kind
 
 -- The kind has its reason, and no other has one; but Unexpected is for what no other explains.
 pub record IsRefusedByte (part : Text) (byte : ℕ) (kind : RefusalKind) : Type 0 where
   pub reason : HasReason part byte kind
-  pub others : (other : RefusalKind) → HasReason part byte other → (other ≡ kind) ⊎ (other ≡ Unexpected)
+  pub others : (other : RefusalKind) → HasReason part byte other
+      → (other ≡ kind) ⊎ (other ≡ Unexpected)
 
--- Why a text is refused behind its longest good front, which has so many bytes: `part` is what has come of an item there, and `rest` follows.
+-- Why a text is refused behind its longest good front, which has so many bytes: `part` is what has
+-- come of an item there, and `rest` follows.
 abbrev pub HasCause : ℕ → Text → Text → RefusalKind → Type 0
 HasCause at part [] kind = kind ≡ Truncated
-HasCause at part (byte ∷ rest) kind = MatchBool (at == MAX_TEXT_LEN) (kind ≡ TooLong) (IsRefusedByte part byte kind)
+HasCause at part (byte ∷ rest) kind =
+    MatchBool (at == MAX_TEXT_LEN) (kind ≡ TooLong) (IsRefusedByte part byte kind)
 
--- The text is not accepted. Its longest good front within the limit has `at` bytes, and the kind says why.
+-- The text is not accepted. Its longest good front within the limit has `at` bytes, and the kind
+-- says why.
 pub record IsRefusedAt (t : Text) (kind : RefusalKind) (at : ℕ) : Type 0 where
-  pub not_accepted : IsAccepted t → ⊥
+  pub not_accepted : ¬ IsAccepted t
   pub front : Text
   pub items : List Item
   pub part : Text
@@ -111,5 +126,6 @@ pub record IsRefusedAt (t : Text) (kind : RefusalKind) (at : ℕ) : Type 0 where
   pub place : at ≡ length front
   pub limit : at ≤ MAX_TEXT_LEN
   pub good : IsGoodFront front items part
-  pub longest : (more after : Text) (items : List Item) (part : Text) → rest ≡ more ++ after → length (front ++ more) ≤ MAX_TEXT_LEN → IsGoodFront (front ++ more) items part → more ≡ []
+  pub longest : (more after : Text) (items : List Item) (part : Text) → rest ≡ more ++ after
+      → length (front ++ more) ≤ MAX_TEXT_LEN → IsGoodFront (front ++ more) items part → more ≡ []
   pub cause : HasCause at part rest kind

@@ -10,17 +10,19 @@ use Rattle.pf_values.specs.Lengths.{length_letters}
 use Rattle.pf_values.specs.Specification.{Specification}
 use Rattle.pf_values.specs.Text.{Text, percent, point}
 
--- a number from 1 on, whose digits don't begin with 0, or nothing
+-- a number from 1 on, or nothing; its digits don't begin with 0, which is a flag (C11 7.21.6.1 p4)
 abbrev pub SpellsWidth : Text → Option ℕ → Type 0
 SpellsWidth t None = t ≡ []
 SpellsWidth t (Some n) = (0 < n) × IsNumeral 10 false 1 n t
 
--- a point and any number of digits, or nothing
+-- a point and any number of digits, of which none are 0, or nothing (C11 7.21.6.1 p4)
 abbrev pub SpellsPrecision : Text → Option ℕ → Type 0
 SpellsPrecision t None = t ≡ []
-SpellsPrecision t (Some n) = (ds : List ℕ) × AreDigits 10 n ds × (t ≡ point ∷ map (digit_glyph false) ds)
+SpellsPrecision t (Some n) =
+    (ds : List ℕ) × AreDigits 10 n ds × (t ≡ point ∷ map (digit_glyph false) ds)
 
 -- `%`, flags in any order and number, width, precision, length modifier and conversion
+-- (C11 7.21.6.1 p4)
 pub record Spells (t : Text) (s : Specification) : Type 0 where
   pub flags : List Flag
   pub width : Text
@@ -28,19 +30,25 @@ pub record Spells (t : Text) (s : Specification) : Type 0 where
   pub flags_are : s.flags ≡ flag_set flags
   pub width_is : SpellsWidth width s.width
   pub precision_is : SpellsPrecision precision s.precision
-  pub whole : t ≡ percent ∷ map flag_byte flags ++ width ++ precision ++ length_letters s.length ++ conv_letter s.conv ∷ []
+  pub whole : t ≡ percent ∷ map flag_byte flags ++ width ++ precision ++ length_letters s.length
+      ++ conv_letter s.conv ∷ []
 
--- The one spelling with each flag once, in one order, numbers without zeros in front, and `.0` for a precision of 0.
+-- each flag once, in one order; the spellings from here on are this project's own
 abbrev pub flags_spelled : FlagSet → Text
 flags_spelled flags = map flag_byte (filter (has flags) all_flags)
 
+-- without zeros in front
 abbrev pub width_spelled : Option ℕ → Text
 width_spelled None = []
 width_spelled (Some n) = decimal n
 
+-- without zeros in front, and `.0` for a precision of 0
 abbrev pub precision_spelled : Option ℕ → Text
 precision_spelled None = []
 precision_spelled (Some n) = point ∷ decimal n
 
+-- the one spelling of a specification
 abbrev pub spelled : Specification → Text
-spelled s = percent ∷ flags_spelled s.flags ++ width_spelled s.width ++ precision_spelled s.precision ++ length_letters s.length ++ conv_letter s.conv ∷ []
+spelled s =
+    percent ∷ flags_spelled s.flags ++ width_spelled s.width ++ precision_spelled s.precision
+    ++ length_letters s.length ++ conv_letter s.conv ∷ []

@@ -12,9 +12,9 @@ mod tests;
 
 /// A reader or a writer over `T`, with how many of its calls failed.
 ///
-/// Each `read`, `write` and `flush` makes one such call of `T`, and repeats none, also not one that was
-/// interrupted. A failure is a call that answered an error, or a write of some bytes that took none. At
-/// the greatest `u64` the count stays.
+/// Each `read`, `write` and `flush` makes one such call of `T`, and repeats none, also not one that
+/// was interrupted. A failure is a call that answered an error, or a write of some bytes that took
+/// none. At the greatest `u64` the count stays.
 #[derive(Debug, Drop)]
 pub struct Counted<T> {
     device: T,
@@ -66,8 +66,10 @@ impl<R: Read> Read for Counted<R> {
 
     fn read(&mut self, buf: &mut [u8]) -> io::Result<usize>
         ensures bound { ReadsAtMost result buf.new }
-        ensures bytes { ReadConsumes (R.remaining (device_of self.old)) (R.remaining (device_of self.new)) result buf.new }
-        ensures failures { failures_of self.new ≡ failures_after (failures_of self.old) (is_err result) }
+        ensures bytes { ReadConsumes (R.remaining (device_of self.old))
+            (R.remaining (device_of self.new)) result buf.new }
+        ensures failures { failures_of self.new
+            ≡ failures_after (failures_of self.old) (is_err result) }
     {
         let result = self.device.read(buf);
         self.count(result.is_err());
@@ -80,8 +82,10 @@ impl<W: Write> Write for Counted<W> {
 
     fn write(&mut self, buf: &[u8]) -> io::Result<usize>
         ensures bound { WritesAtMost result buf.now }
-        ensures bytes { WriteAppends (W.contents (device_of self.old)) (W.contents (device_of self.new)) result buf.now }
-        ensures failures { failures_of self.new ≡ failures_after (failures_of self.old) (write_failed result buf.now) }
+        ensures bytes { WriteAppends (W.contents (device_of self.old))
+            (W.contents (device_of self.new)) result buf.now }
+        ensures failures { failures_of self.new
+            ≡ failures_after (failures_of self.old) (write_failed result buf.now) }
     {
         let result = self.device.write(buf);
         let failed = match &result {
@@ -94,7 +98,8 @@ impl<W: Write> Write for Counted<W> {
 
     fn flush(&mut self) -> io::Result<()>
         ensures bytes { Keeps (W.contents (device_of self.old)) (W.contents (device_of self.new)) }
-        ensures failures { failures_of self.new ≡ failures_after (failures_of self.old) (is_err result) }
+        ensures failures { failures_of self.new
+            ≡ failures_after (failures_of self.old) (is_err result) }
     {
         let result = self.device.flush();
         self.count(result.is_err());

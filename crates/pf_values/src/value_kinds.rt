@@ -4,7 +4,8 @@ ghost use Rattle.pf_values.specs.Arguments.{IsConverted};
 ghost use Rattle.pf_values.specs.DataModel.{Bits, B8, B16, B32, B64, bit_count};
 ghost use Rattle.pf_values.specs.Printing.{is_negative};
 
-/// The type to which a length modifier converts a number before it is printed (C11 7.21.6.1, paragraph 7).
+/// The type to which a length modifier converts a number before it is printed (C11 7.21.6.1,
+/// paragraph 7).
 pub trait ValueKind: Copy {
     ghost is_signed: { Bool };
 

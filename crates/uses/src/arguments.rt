@@ -7,7 +7,8 @@ use pf_text::signature;
 use pf_values::ArgType;
 use std::alloc::Global;
 
-/// Whether a format from outside takes one int and nothing else, so that a program may print a count with it.
+/// Whether a format from outside takes one int and nothing else, so that a program may print a
+/// count with it.
 pub fn takes_one_int(alloc: Global, format: &[u8]) -> bool
     ensures { IsTrue result → HasTypes format.now (types.Int ∷ []) }
 {

@@ -7,10 +7,11 @@ use pf_canon::canonical_stream;
 use pf_values::Counted;
 use std::io::{Read, Write};
 
-/// Copies a format in canonical spelling, in memory of fixed size. True only where the reader was read to its end
-/// and the whole canonical string of what it handed out was written.
+/// Copies a format in canonical spelling, in memory of fixed size. True only where the reader was
+/// read to its end and the whole canonical string of what it handed out was written.
 pub fn copies_tidily<R: Read, W: Write>(reader: &mut Counted<R>, writer: &mut Counted<W>) -> bool
-    ensures { IsTrue result → (count : ℕ) × CopiesAll (R.remaining (device_of reader.old)) (R.remaining (device_of reader.new))
+    ensures { IsTrue result → (count : ℕ) × CopiesAll
+        (R.remaining (device_of reader.old)) (R.remaining (device_of reader.new))
         (W.contents (device_of writer.old)) (W.contents (device_of writer.new)) count }
 {
     canonical_stream(reader, writer).is_ok()

@@ -7,8 +7,8 @@ use pf_compare::confirms;
 use pf_values::Arg;
 use std::alloc::Global;
 
-/// Whether a number shows that two formats differ: both take an int and nothing else, and print different bytes
-/// for this one.
+/// Whether a number shows that two formats differ: both take an int and nothing else, and print
+/// different bytes for this one.
 pub fn shows_difference(alloc: Global, old: &[u8], new: &[u8], number: i32) -> bool
     ensures { IsTrue result → TellApart old.now new.now (args.Int number ∷ []) }
 {

@@ -1,5 +1,5 @@
-//! Uses of the libraries, as a caller writes them. Each is proved from the contracts of the calls alone, with no
-//! proof file.
+//! Uses of the libraries, as a caller writes them. Each is proved from the contracts of the calls
+//! alone, with no proof file.
 #![tactic(auto)]
 
 pub mod arguments;

@@ -4,8 +4,8 @@ ghost use Rattle.pf_values.specs.Printing.{AreEquivalent};
 
 use pf_canon::same_text;
 
-/// Whether two formats take the same types and print the same bytes for all arguments; none where one of them is
-/// refused. It takes no memory.
+/// Whether two formats take the same types and print the same bytes for all arguments; none where
+/// one of them is refused. It takes no memory.
 pub fn are_equivalent(first: &[u8], second: &[u8]) -> Option<bool>
     ensures { IfSome result (λ same. IsTrue same ↔ AreEquivalent first.now second.now) }
 {

@@ -7,10 +7,11 @@ use pf_render::{RenderFault, render};
 use pf_values::{Arg, Counted};
 use std::io::Write;
 
-/// Writes how many files there are. At Ok all was written and no call of the writer failed; at `Write(n)` exactly
-/// the first n bytes were.
+/// Writes how many files there are. At Ok all was written and no call of the writer failed; at
+/// `Write(n)` exactly the first n bytes were.
 pub fn print_count<W: Write>(count: i32, writer: &mut Counted<W>) -> Result<(), RenderFault>
-    ensures { RendersInto W.contents writer.old writer.new (codes "%d files") (args.Int count ∷ []) result }
+    ensures { RendersInto W.contents writer.old writer.new
+        (codes "%d files") (args.Int count ∷ []) result }
 {
     render(b"%d files", &[Arg::Int(count)], writer)
 }

@@ -6,8 +6,9 @@ use pf_canon::canonical;
 use pf_canon::laws::one_canonical_text_means_the_same;
 use std::alloc::Global;
 
-/// Whether `new` may be put in the place of `old`, by their canonical strings. True only where both take the same
-/// types and print the same bytes for all arguments; so not for a refused format, nor for want of memory.
+/// Whether `new` may be put in the place of `old`, by their canonical strings. True only where both
+/// take the same types and print the same bytes for all arguments; so not for a refused format, nor
+/// for want of memory.
 pub fn may_replace(alloc: Global, old: &[u8], new: &[u8]) -> bool
     ensures { IsTrue result → AreEquivalent old.now new.now }
 {

@@ -6,10 +6,11 @@ ghost use Rattle.pf_render.specs.Rendering.{DifferFirstAt};
 use pf_compare::{Verdict, compare};
 use std::alloc::Global;
 
-/// The first argument for which a translation wants another type than its source, counted from 0; the number of
-/// arguments of the one that takes fewer, where one begins as the other.
+/// The first argument for which a translation wants another type than its source, counted from 0;
+/// the number of arguments of the one that takes fewer, where one begins as the other.
 pub fn other_type_at(alloc: Global, source: &[u8], translation: &[u8]) -> Option<u64>
-    ensures { IfSome result (λ at. (first second : List Item) × Reads source.now first × Reads translation.now second
+    ensures { IfSome result (λ at.
+        (first second : List Item) × Reads source.now first × Reads translation.now second
         × DifferFirstAt (types first) (types second) at) }
 {
     let Ok(comparison) = compare(alloc, source, translation) else {

@@ -4,8 +4,8 @@ ghost use Rattle.std.specs.Prelude.{◌≡◌, ◌≤◌, length};
 use std::io;
 use std::io::{Error, ErrorKind, Write};
 
-/// A writer into a place in memory. A call takes as many bytes as there is room for, and at most a step of them.
-/// Where the place is full, a write of some bytes fails.
+/// A writer into a place in memory. A call takes as many bytes as there is room for, and at most a
+/// step of them. Where the place is full, a write of some bytes fails.
 pub struct Cut<'a> {
     place: &'a mut [u8],
     len: usize,

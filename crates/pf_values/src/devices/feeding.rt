@@ -6,8 +6,8 @@ ghost use Rattle.pf_values.specs.FaultPlaces.{after, up_to};
 use std::io;
 use std::io::{Error, ErrorKind, Read};
 
-/// A reader of some bytes. A call hands out at most a step of them, and none past the place where it is to fail.
-/// There one call fails; then it goes on.
+/// A reader of some bytes. A call hands out at most a step of them, and none past the place where
+/// it is to fail. There one call fails; then it goes on.
 #[derive(Debug, Drop)]
 pub struct Feed<'a> {
     rest: &'a [u8],
@@ -21,7 +21,8 @@ pub struct Feed<'a> {
 impl<'a> Feed<'a> {
     ghost use Rattle.pf_values.specs.Feeds.{fault_of, kind_of, part, rest_of, step_of};
 
-    /// A reader of all these bytes. One call fails with this kind, where `fail_at` of them were handed out.
+    /// A reader of all these bytes. One call fails with this kind, where `fail_at` of them were
+    /// handed out.
     pub fn new(bytes: &'a [u8], step: usize, fail_at: Option<u64>, kind: ErrorKind) -> Feed<'a>
         requires moves { 1 ≤ step }
         ensures rest { rest_of result ≡ bytes.now }
