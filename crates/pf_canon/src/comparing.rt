@@ -13,23 +13,27 @@ use pf_text::Refusal;
 use pf_values::Counted;
 use std::io::Read;
 
-/// Whether the formats that two readers hand out up to their ends have equal types, and print equal bytes for all
-/// arguments. A difference doesn't stop the reading. Where a text is refused or its reader fails, the first text's
-/// fault is answered if it has one, and then the second text is not read further. It takes no memory.
+/// Whether the formats that two readers hand out up to their ends have equal types, and print equal
+/// bytes for all arguments. A difference doesn't stop the reading. Where a text is refused or its
+/// reader fails, the first text's fault is answered if it has one, and then the second text is not
+/// read further. It takes no memory.
 pub fn same_stream<R: Read, S: Read>(
     r: &mut Counted<R>,
     s: &mut Counted<S>,
 ) -> Result<bool, SideFault>
     ensures compared { MatchResult result
-        (EndsBoth (R.remaining (device_of r.old)) (R.remaining (device_of r.new)) (S.remaining (device_of s.old)) (S.remaining (device_of s.new)))
-        (StopsSide (R.remaining (device_of r.old)) (R.remaining (device_of r.new)) (S.remaining (device_of s.old)) (S.remaining (device_of s.new))) }
-    ensures counts { CountsSides (λ old new. failures_of new ≡ failures_of old) HasFailed (λ old new. failures_of new ≡ failures_of old) HasFailed result r.old r.new s.old s.new }
+        (EndsBoth (R.remaining (device_of r.old)) (R.remaining (device_of r.new))
+        (S.remaining (device_of s.old)) (S.remaining (device_of s.new)))
+        (StopsSide (R.remaining (device_of r.old)) (R.remaining (device_of r.new))
+        (S.remaining (device_of s.old)) (S.remaining (device_of s.new))) }
+    ensures counts { CountsSides (λ old new. failures_of new ≡ failures_of old) HasFailed
+        (λ old new. failures_of new ≡ failures_of old) HasFailed result r.old r.new s.old s.new }
 {
     same_bytes(r, s)
 }
 
-/// Whether two formats have equal types, and print equal bytes for all arguments. Where a text is refused, the
-/// first text's refusal is answered if it has one. It takes no memory.
+/// Whether two formats have equal types, and print equal bytes for all arguments. Where a text is
+/// refused, the first text's refusal is answered if it has one. It takes no memory.
 pub fn same_text(f: &[u8], g: &[u8]) -> Result<bool, (Side, Refusal)>
     ensures { MatchResult result (AreTextsSame f.now g.now) (TextStops f.now g.now) }
 {
@@ -107,7 +111,9 @@ fn pace_of_bytes(first: u8, second: u8) -> Pace
 }
 
 fn same_bytes<A: Bytes, B: Bytes>(a: &mut A, b: &mut B) -> Result<bool, SideFault>
-    ensures compared { MatchResult result (EndsBoth (A.left a.old) (A.left a.new) (B.left b.old) (B.left b.new)) (StopsSide (A.left a.old) (A.left a.new) (B.left b.old) (B.left b.new)) }
+    ensures compared { MatchResult result
+        (EndsBoth (A.left a.old) (A.left a.new) (B.left b.old) (B.left b.new))
+        (StopsSide (A.left a.old) (A.left a.new) (B.left b.old) (B.left b.new)) }
     ensures counts { CountsSides A.kept A.failed B.kept B.failed result a.old a.new b.old b.new }
 {
     let mut first = Source::new();
@@ -129,7 +135,8 @@ fn pace_both<A: Bytes, B: Bytes>(
     second: &mut Source,
     b: &mut B,
 ) -> Result<Pace, SideFault>
-    ensures paced { (f g : Known) → IsInStep first.old (A.left a.old) second.old (B.left b.old) f g → PacesTo first.new (A.left a.new) second.new (B.left b.new) f g result }
+    ensures paced { (f g : Known) → IsInStep first.old (A.left a.old) second.old (B.left b.old) f g
+        → PacesTo first.new (A.left a.new) second.new (B.left b.new) f g result }
     ensures counts { CountsSides A.kept A.failed B.kept B.failed result a.old a.new b.old b.new }
     ensures lower { Lowers first.old first.new result }
 {
@@ -151,7 +158,9 @@ fn pace_second<A: Bytes, B: Bytes>(
     second: &mut Source,
     b: &mut B,
 ) -> Result<Pace, SideFault>
-    ensures paced { (f g : Known) (t u given : Text) → Gave x first.old f (A.left a.old) t given → History second.old g (B.left b.old) u given → PacesTo first.new (A.left a.new) second.new (B.left b.new) f g result }
+    ensures paced { (f g : Known) (t u given : Text) → Gave x first.old f (A.left a.old) t given
+        → History second.old g (B.left b.old) u given
+        → PacesTo first.new (A.left a.new) second.new (B.left b.new) f g result }
     ensures counts { CountsSides A.kept A.failed B.kept B.failed result a.old a.new b.old b.new }
     ensures first { IfOk result (λ _. first.new ≡ first.old) }
     ensures going { GoesOnlyWith x result }
@@ -165,7 +174,9 @@ fn pace_second<A: Bytes, B: Bytes>(
 
 // The second text stopped. The first text's fault comes before.
 fn behind_second<A: Bytes>(first: &mut Source, a: &mut A, fault: StreamFault) -> SideFault
-    ensures stopped { (x : Option ℕ) (second : Source) (f g b : Known) (t u given : Text) → Gave x first.old f (A.left a.old) t given → Leaves (Some (Err fault)) second g b u given → StopsSide f (A.left a.new) g b result }
+    ensures stopped { (x : Option ℕ) (second : Source) (f g b : Known) (t u given : Text)
+        → Gave x first.old f (A.left a.old) t given → Leaves (Some (Err fault)) second g b u given
+        → StopsSide f (A.left a.new) g b result }
     ensures counts { CountsBehind A.kept A.failed fault result.side result.fault a.old a.new }
 {
     match drain(first, a) {
@@ -187,7 +198,10 @@ fn drain_both<A: Bytes, B: Bytes>(
     second: &mut Source,
     b: &mut B,
 ) -> Result<bool, SideFault>
-    ensures compared { (f g : Known) → IsApart first.old (A.left a.old) second.old (B.left b.old) f g → MatchResult result (EndsBoth f (A.left a.new) g (B.left b.new)) (StopsSide f (A.left a.new) g (B.left b.new)) }
+    ensures compared { (f g : Known)
+        → IsApart first.old (A.left a.old) second.old (B.left b.old) f g
+        → MatchResult result (EndsBoth f (A.left a.new) g (B.left b.new))
+        (StopsSide f (A.left a.new) g (B.left b.new)) }
     ensures counts { CountsSides A.kept A.failed B.kept B.failed result a.old a.new b.old b.new }
 {
     match drain(first, a) {
@@ -207,7 +221,9 @@ fn drain_both<A: Bytes, B: Bytes>(
 
 // Takes the rest, and gives none of it.
 fn drain<B: Bytes>(source: &mut Source, bytes: &mut B) -> Result<(), StreamFault>
-    ensures drained { (x : Option ℕ) (start : Known) (taken given : Text) → Gave x source.old start (B.left bytes.old) taken given → DrainsTo x start (B.left bytes.new) given result }
+    ensures drained { (x : Option ℕ) (start : Known) (taken given : Text)
+        → Gave x source.old start (B.left bytes.old) taken given
+        → DrainsTo x start (B.left bytes.new) given result }
     ensures counts { CountsDrain B.kept B.failed result bytes.old bytes.new }
 {
     loop {

@@ -14,7 +14,8 @@ impl Front {
     /// Appends what it settles.
     pub(crate) fn append<R: Room>(&self, text: &[u8], out: &mut R) -> Result<(), AllocError>
         requires { IsFrontWithin self.now text.now }
-        ensures { IfOk result (λ _. R.bytes_of out.new ≡ R.bytes_of out.old ++ front_text self.now text.now) }
+        ensures { IfOk result (λ _. R.bytes_of out.new ≡ R.bytes_of out.old
+            ++ front_text self.now text.now) }
     {
         out.append(&text[..self.run])?;
         self.append_item(text, out)
@@ -22,7 +23,8 @@ impl Front {
 
     fn append_item<R: Room>(&self, text: &[u8], out: &mut R) -> Result<(), AllocError>
         requires { IsFrontWithin self.now text.now }
-        ensures { IfOk result (λ _. R.bytes_of out.new ≡ R.bytes_of out.old ++ item_text self.now text.now) }
+        ensures { IfOk result (λ _. R.bytes_of out.new ≡ R.bytes_of out.old
+            ++ item_text self.now text.now) }
     {
         match &self.made {
             Made::Nothing => Ok(()),

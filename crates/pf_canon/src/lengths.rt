@@ -12,7 +12,8 @@ use pf_text::Refusal;
 
 /// How many bytes the canonical text of a format has, or the format's refusal. It takes no memory.
 pub fn canonical_len(text: &[u8]) -> Result<u128, Refusal>
-    ensures { MatchResult result (λ len. (c : Text) × IsCanonicalFor text.now c × (len ≡ length c)) (λ refusal. IsRefusedAt text.now refusal.kind refusal.at) }
+    ensures { MatchResult result (λ len. (c : Text) × IsCanonicalFor text.now c × (len ≡ length c))
+        (λ refusal. IsRefusedAt text.now refusal.kind refusal.at) }
 {
     len_from(Transducer::new(), text, 0, 0)
 }
@@ -25,7 +26,8 @@ pub(crate) fn len_from(
     len: u128,
 ) -> Result<u128, Refusal>
     requires { (out : Text) × IsUpTo transducer text.now at out × (len ≡ length out) }
-    ensures { MatchResult result (λ len. (c : Text) × IsCanonicalFor text.now c × (len ≡ length c)) (λ refusal. IsRefusedAt text.now refusal.kind refusal.at) }
+    ensures { MatchResult result (λ len. (c : Text) × IsCanonicalFor text.now c × (len ≡ length c))
+        (λ refusal. IsRefusedAt text.now refusal.kind refusal.at) }
 {
     let mut at = at;
     let mut len = len;
@@ -89,7 +91,8 @@ impl Parts {
     }
 }
 
-// How many bytes some padding, silent directives of four bytes, and a spelling of so many bytes are.
+// How many bytes some padding, silent directives of four bytes, and a spelling of so many bytes
+// are.
 fn whole_len(spaces: u16, zeros: u16, silents: u64, spelling: usize, trail: u16) -> u128
     ensures total { result ≡ spaces + (zeros + (4 * silents + (spelling + trail))) }
     ensures few { result < 2 ^ 100 }

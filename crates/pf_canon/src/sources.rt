@@ -44,7 +44,8 @@ impl Source {
 
     /// The next byte of the canonical text, or why there is none. After a fault nothing comes.
     pub(crate) fn next<B: Bytes>(&mut self, bytes: &mut B) -> Option<Result<u8, StreamFault>>
-        ensures steps { StepsBy B.left B.kept B.failed self.old bytes.old result self.new bytes.new }
+        ensures steps { StepsBy B.left B.kept B.failed self.old bytes.old
+            result self.new bytes.new }
         ensures lower { LowersAnswer result self.old self.new }
     {
         loop {
@@ -57,8 +58,11 @@ impl Source {
 
     // Gives a byte that waits, or takes one.
     fn turn<B: Bytes>(&mut self, bytes: &mut B) -> Turn
-        ensures next { (start : Known) (taken given : Text) → History self.old start (B.left bytes.old) taken given → (more : Text) × Turns result self.new start (B.left bytes.new) (taken ++ more) given }
-        ensures over { IsOver self.old → (result ≡ Done None) × IsOver self.new × (bytes.new ≡ bytes.old) }
+        ensures next { (start : Known) (taken given : Text)
+            → History self.old start (B.left bytes.old) taken given
+            → (more : Text) × Turns result self.new start (B.left bytes.new) (taken ++ more) given }
+        ensures over { IsOver self.old → (result ≡ Done None) × IsOver self.new
+            × (bytes.new ≡ bytes.old) }
         ensures counts { CountsTurn B.kept B.failed result bytes.old bytes.new }
         ensures lower { LowersUnits result self.old self.new }
     {
@@ -82,7 +86,10 @@ impl Source {
     fn take(&mut self, byte: u8) -> Turn
         requires open { self.old.is_open ≡ true }
         requires none_due { due_text self.old.due ≡ [] }
-        ensures next { (start left : Known) (taken given : Text) (items : List Item) → Consumes start left (taken ++ byte ∷ []) → IsReadFor taken given → IsThrough self.old.transducer taken items given → (more : Text) × Turns result self.new start left (taken ++ more) given }
+        ensures next { (start left : Known) (taken given : Text) (items : List Item)
+            → Consumes start left (taken ++ byte ∷ []) → IsReadFor taken given
+            → IsThrough self.old.transducer taken items given
+            → (more : Text) × Turns result self.new start left (taken ++ more) given }
         ensures told { IsTold result }
         ensures lower { LowersUnits result self.old self.new }
     {
@@ -104,7 +111,10 @@ impl Source {
     fn end(&mut self) -> Turn
         requires open { self.old.is_open ≡ true }
         requires none_due { due_text self.old.due ≡ [] }
-        ensures next { (start left : Known) (taken given : Text) (items : List Item) → Consumes start left taken → IsAtEnd left → IsReadFor taken given → IsThrough self.old.transducer taken items given → (more : Text) × Turns result self.new start left (taken ++ more) given }
+        ensures next { (start left : Known) (taken given : Text) (items : List Item)
+            → Consumes start left taken → IsAtEnd left → IsReadFor taken given
+            → IsThrough self.old.transducer taken items given
+            → (more : Text) × Turns result self.new start left (taken ++ more) given }
         ensures told { IsTold result }
         ensures lower { LowersUnits result self.old self.new }
     {

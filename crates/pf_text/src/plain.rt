@@ -9,9 +9,9 @@ ghost use Rattle.pf_text.specs.Plain.{IsPlainText, silents};
 use crate::letters::conv_of;
 use crate::search::first_other;
 
-/// How many bytes of the text are literal bytes, `%%`, and directives that are normal and spelled by their conversion
-/// alone, up to the first other item. It makes no directive, sees no scanner, and is never inlined, as
-/// `first_other`.
+/// How many bytes of the text are literal bytes, `%%`, and directives that are normal and spelled
+/// by their conversion alone, up to the first other item. It makes no directive, sees no scanner,
+/// and is never inlined, as `first_other`.
 #[inline(never)]
 pub(crate) fn plain_len(text: &[u8]) -> usize
     ensures within { result ≤ length text.now }
@@ -49,7 +49,8 @@ fn plain_front(text: &[u8]) -> usize
     0
 }
 
-// Whether a byte behind `%` ends such an item: `%`, or a conversion, but not `i`, since `%d` is the normal one.
+// Whether a byte behind `%` ends such an item: `%`, or a conversion, but not `i`, since `%d` is the
+// normal one.
 #[inline(always)]
 fn ends_plain(letter: u8) -> bool
     ensures { IsTrue result → (item : Item) × IsPlainText (37 ∷ letter ∷ []) (item ∷ []) }

@@ -53,18 +53,21 @@ impl Scanner {
         }
     }
 
-    /// Takes one more byte, and tells what it makes: where it ends an item, that item. A refused byte isn't taken,
-    /// and from then on that refusal is all that is answered.
+    /// Takes one more byte, and tells what it makes: where it ends an item, that item. A refused
+    /// byte isn't taken, and from then on that refusal is all that is answered.
     #[inline(always)]
     pub fn feed(&mut self, byte: u8) -> Result<Step, Refusal>
         // One more byte of a text is taken, or is refused however the text goes on.
-        ensures fed { (t : Text) (items : List Item) → IsAfter self.old t items → Feeds t items byte result self.new }
+        ensures fed { (t : Text) (items : List Item) → IsAfter self.old t items
+            → Feeds t items byte result self.new }
         // A refusal is kept.
-        ensures kept { MatchResult result (λ _. offset_of self.new ≡ offset_of self.old + 1) (λ refusal. HasRefused self.new refusal × (offset_of self.new ≡ offset_of self.old)) }
+        ensures kept { MatchResult result (λ _. offset_of self.new ≡ offset_of self.old + 1)
+            (λ refusal. HasRefused self.new refusal × (offset_of self.new ≡ offset_of self.old)) }
         // No byte is taken past the limit.
         ensures below { OnOk result (offset_of self.old < MAX_TEXT_LEN) }
         // After a refusal the same is answered.
-        ensures stays { (refusal : Refusal) → HasRefused self.old refusal → (result ≡ Err refusal) × (self.new ≡ self.old) }
+        ensures stays { (refusal : Refusal) → HasRefused self.old refusal
+            → (result ≡ Err refusal) × (self.new ≡ self.old) }
     {
         if let Some(refusal) = self.refused {
             return Err(refusal);
@@ -75,11 +78,14 @@ impl Scanner {
         }
     }
 
-    /// The same of a reader that has refused nothing. Of a refused byte it tells why, and keeps nothing.
+    /// The same of a reader that has refused nothing. Of a refused byte it tells why, and keeps
+    /// nothing.
     #[inline(always)]
     pub(crate) fn take(&mut self, byte: u8) -> Result<Step, RefusalKind>
-        ensures fed { (t : Text) (items : List Item) → IsAfter self.old t items → Feeds t items byte (refused_by self.new result) self.new }
-        ensures kept { MatchResult result (λ _. offset_of self.new ≡ offset_of self.old + 1) (λ _. offset_of self.new ≡ offset_of self.old) }
+        ensures fed { (t : Text) (items : List Item) → IsAfter self.old t items
+            → Feeds t items byte (refused_by self.new result) self.new }
+        ensures kept { MatchResult result (λ _. offset_of self.new ≡ offset_of self.old + 1)
+            (λ _. offset_of self.new ≡ offset_of self.old) }
         ensures below { OnOk result (offset_of self.old < MAX_TEXT_LEN) }
     {
         if self.offset >= MAX_TEXT_LEN {
@@ -97,7 +103,9 @@ impl Scanner {
     // What one more byte makes of the automaton, with the directive, if one has ended.
     #[inline(always)]
     fn step(&mut self, byte: u8) -> Result<Step, RefusalKind>
-        ensures made { MatchResult result (λ step. next (state_of self.old.automaton) byte ≡ Ok (state_of self.new.automaton, step)) (λ kind. next (state_of self.old.automaton) byte ≡ Err kind) }
+        ensures made { MatchResult result (λ step. next (state_of self.old.automaton) byte
+            ≡ Ok (state_of self.new.automaton, step))
+            (λ kind. next (state_of self.old.automaton) byte ≡ Err kind) }
         ensures offset { self.new.offset ≡ self.old.offset }
         ensures refused { self.new.refused ≡ self.old.refused }
     {
@@ -126,13 +134,16 @@ impl Scanner {
         }
     }
 
-    /// Takes the longest run of literal bytes at the front of `text`, and tells how many there are. One call of
-    /// `feed` for each of them would do the same. Inside an item, and after a refusal, it takes none.
+    /// Takes the longest run of literal bytes at the front of `text`, and tells how many there are.
+    /// One call of `feed` for each of them would do the same. Inside an item, and after a refusal,
+    /// it takes none.
     #[inline(always)]
     pub fn pass_literals(&mut self, text: &[u8]) -> usize
         ensures within { result ≤ length text.now }
-        ensures passed { (t : Text) (items : List Item) → IsAfter self.old t items → Reads t items → Passes t items text.now result self.new }
-        ensures between { (t : Text) (items : List Item) → IsAfter self.old t items → 0 < result → Reads t items }
+        ensures passed { (t : Text) (items : List Item) → IsAfter self.old t items → Reads t items
+            → Passes t items text.now result self.new }
+        ensures between { (t : Text) (items : List Item) → IsAfter self.old t items → 0 < result
+            → Reads t items }
         ensures idle { result ≡ 0 → self.new ≡ self.old }
         ensures stays { (refusal : Refusal) → HasRefused self.old refusal → result ≡ 0 }
     {
@@ -146,14 +157,17 @@ impl Scanner {
         taken as usize
     }
 
-    /// Takes literal bytes, `%%`, and directives that are normal and spelled by their conversion alone, as many as
-    /// stand at the front of `text` before the first other item, and tells how many bytes they have. One call of
-    /// `feed` for each of them would do the same. Inside an item, and after a refusal, it takes none.
+    /// Takes literal bytes, `%%`, and directives that are normal and spelled by their conversion
+    /// alone, as many as stand at the front of `text` before the first other item, and tells how
+    /// many bytes they have. One call of `feed` for each of them would do the same. Inside an item,
+    /// and after a refusal, it takes none.
     #[inline(always)]
     pub fn pass_plain(&mut self, text: &[u8]) -> usize
         ensures within { result ≤ length text.now }
-        ensures passed { (t : Text) (items : List Item) → IsAfter self.old t items → Reads t items → PassesPlain t items text.now result self.new }
-        ensures between { (t : Text) (items : List Item) → IsAfter self.old t items → 0 < result → Reads t items }
+        ensures passed { (t : Text) (items : List Item) → IsAfter self.old t items → Reads t items
+            → PassesPlain t items text.now result self.new }
+        ensures between { (t : Text) (items : List Item) → IsAfter self.old t items → 0 < result
+            → Reads t items }
         ensures idle { result ≡ 0 → self.new ≡ self.old }
         ensures stays { (refusal : Refusal) → HasRefused self.old refusal → result ≡ 0 }
     {
@@ -167,13 +181,16 @@ impl Scanner {
         run
     }
 
-    /// Takes the directives `%.0s` at the front of `text`, and tells how many there are. One call of `feed` for each
-    /// of their bytes would do the same. Inside an item, and after a refusal, it takes none.
+    /// Takes the directives `%.0s` at the front of `text`, and tells how many there are. One call
+    /// of `feed` for each of their bytes would do the same. Inside an item, and after a refusal, it
+    /// takes none.
     #[inline(always)]
     pub fn pass_silents(&mut self, text: &[u8]) -> usize
         ensures within { 4 * result ≤ length text.now }
-        ensures passed { (t : Text) (items : List Item) → IsAfter self.old t items → Reads t items → PassesSilents t items text.now result self.new }
-        ensures between { (t : Text) (items : List Item) → IsAfter self.old t items → 0 < result → Reads t items }
+        ensures passed { (t : Text) (items : List Item) → IsAfter self.old t items → Reads t items
+            → PassesSilents t items text.now result self.new }
+        ensures between { (t : Text) (items : List Item) → IsAfter self.old t items → 0 < result
+            → Reads t items }
         ensures idle { result ≡ 0 → self.new ≡ self.old }
         ensures stays { (refusal : Refusal) → HasRefused self.old refusal → result ≡ 0 }
     {
@@ -187,12 +204,13 @@ impl Scanner {
         count
     }
 
-    /// Takes the directive that is spelled by its conversion alone, if `text` begins with one. The automaton would
-    /// come to the same by way of flags, numbers and a modifier that are not there.
+    /// Takes the directive that is spelled by its conversion alone, if `text` begins with one. The
+    /// automaton would come to the same by way of flags, numbers and a modifier that are not there.
     #[inline(always)]
     pub(crate) fn take_bare(&mut self, text: &[u8]) -> Option<Directive>
         ensures within { MatchOption result (self.new ≡ self.old) (λ _. 2 ≤ length text.now) }
-        ensures taken { (t : Text) (items : List Item) → IsAfter self.old t items → Reads t items → MatchOption result (Unit {0}) (TakesDirective t items text.now self.new) }
+        ensures taken { (t : Text) (items : List Item) → IsAfter self.old t items → Reads t items
+            → MatchOption result (Unit {0}) (TakesDirective t items text.now self.new) }
     {
         let conv = bare_conv(text)?;
         if self.offset >= MAX_TEXT_LEN - 1 {
@@ -223,9 +241,11 @@ impl Scanner {
         refusal_at(kind, self.offset)
     }
 
-    /// Whether the text so far is whole. If not, it is refused as truncated, unless a byte of it was refused.
+    /// Whether the text so far is whole. If not, it is refused as truncated, unless a byte of it
+    /// was refused.
     pub fn finish(&self) -> Result<(), Refusal>
-        ensures finished { (t : Text) (items : List Item) → IsAfter self.now t items → Finishes t items result }
+        ensures finished { (t : Text) (items : List Item) → IsAfter self.now t items
+            → Finishes t items result }
         ensures stays { (refusal : Refusal) → HasRefused self.now refusal → result ≡ Err refusal }
     {
         if let Some(refusal) = self.refused {
@@ -248,7 +268,8 @@ impl Scanner {
 // The conversion that ends the first two bytes of a text, where these are a directive.
 #[inline(always)]
 fn bare_conv(text: &[u8]) -> Option<Conv>
-    ensures { MatchOption result (Unit {0}) (λ conv. (2 ≤ length text.now) × (take 2 text.now ≡ 37 ∷ conv_letter conv ∷ [])) }
+    ensures { MatchOption result (Unit {0}) (λ conv. (2 ≤ length text.now)
+        × (take 2 text.now ≡ 37 ∷ conv_letter conv ∷ [])) }
 {
     if text.len() < 2 {
         return None;
@@ -259,7 +280,8 @@ fn bare_conv(text: &[u8]) -> Option<Conv>
     conv_of(text[1])
 }
 
-// Never inlined: so the offset of a reader is never part of an answer, and stays whole in its register.
+// Never inlined: so the offset of a reader is never part of an answer, and stays whole in its
+// register.
 #[inline(never)]
 fn refusal_at(kind: RefusalKind, at: u64) -> Refusal
     ensures { result ≡ record { kind = kind; at = at } }
