@@ -2,7 +2,14 @@
 ghost use Rattle.std.specs.Prelude.{◌≡◌, ◌≢◌, ◌≤◌, ◌<◌, ◌+◌, max, ◌++◌, ◌⊎◌, Bool, false, true, IsTrue, length};
 ghost use Rattle.pf_values.specs.declared.flags.Flag.TheVariants.{Alt};
 ghost use Rattle.pf_values.specs.declared.limits.TheConstants.{MAX_NUMBER};
-ghost use Rattle.pf_values.specs.Conversions.{alternative_under, is_octal, is_prefixed, is_signed, is_text, kind_of};
+ghost use Rattle.pf_values.specs.Conversions.{
+  alternative_under,
+  is_octal,
+  is_prefixed,
+  is_signed,
+  is_text,
+  kind_of,
+};
 ghost use Rattle.pf_values.specs.Flags.{has, no_flags, with_flag};
 ghost use Rattle.pf_values.specs.Normal.{digits_at_most};
 ghost use Rattle.pf_values.specs.Printing.{is_zero_filled};

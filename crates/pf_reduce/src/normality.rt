@@ -1,7 +1,18 @@
 //! Which directives are normal.
 ghost use Rattle.std.specs.Prelude.{◌≡◌, ◌↔◌, IsTrue};
 ghost use Rattle.pf_values.specs.Defined.{IsDefined};
-ghost use Rattle.pf_values.specs.Normal.{IsNormal, IsNormalString, IsNormalPlain, IsNormalOctal, IsNormalFilled, IsNormalPrefixed, IsNormalSigned, HasNormalForm, HasSignedForm, HasUnsignedForm};
+ghost use Rattle.pf_values.specs.Normal.{
+  IsNormal,
+  IsNormalString,
+  IsNormalPlain,
+  IsNormalOctal,
+  IsNormalFilled,
+  IsNormalPrefixed,
+  IsNormalSigned,
+  HasNormalForm,
+  HasSignedForm,
+  HasUnsignedForm,
+};
 ghost use Rattle.pf_reduce.specs.NormalParts.{HasNormalParts};
 ghost use Rattle.pf_values.specs.Conversions.{kind_of};
 ghost use Rattle.pf_values.specs.Flags.{no_flags};

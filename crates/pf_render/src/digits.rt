@@ -33,7 +33,8 @@ impl Model for Digits {
 impl Digits {
     /// The digits of a number as a kind of conversions prints them, none for 0.
     pub(crate) fn of(number: u64, kind: Kind) -> Digits
-        ensures { result ≡ map (digit_glyph (has_capitals kind)) (digits_of (number_of (base_under kind)) number) }
+        ensures { let base = number_of (base_under kind) in
+            result ≡ map (digit_glyph (has_capitals kind)) (digits_of base number) }
     {
         let mut bytes = [0; MAX_DIGITS];
         let start = match kind.base() {
@@ -55,7 +56,8 @@ impl Digits {
 // Returns where they start.
 fn write_decimal(number: u64, buf: &mut [u8; MAX_DIGITS]) -> usize
     ensures within { result ≤ MAX_DIGITS }
-    ensures digits { (capitals : Bool) → drop result buf.new ≡ map (digit_glyph capitals) (digits_of 10 number) }
+    ensures digits { (capitals : Bool)
+        → drop result buf.new ≡ map (digit_glyph capitals) (digits_of 10 number) }
 {
     if number == 0 {
         return MAX_DIGITS;

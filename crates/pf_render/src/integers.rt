@@ -62,7 +62,8 @@ fn sign(directive: &Directive, value: &Value) -> &'static [u8]
 }
 
 fn prefix(directive: &Directive, value: &Value, base: Base, capitals: bool) -> &'static [u8]
-    ensures value { result.now ≡ prefix_under (alternative_of base) base capitals directive.now value.now }
+    ensures value { let form = alternative_of base in
+        result.now ≡ prefix_under form base capitals directive.now value.now }
     ensures short { length result.now ≤ 2 }
 {
     let flags = directive.flags();

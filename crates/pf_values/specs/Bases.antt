@@ -1,4 +1,4 @@
--- The bases in which numbers are printed: a row for each, and all that hangs on the base stands in it.
+-- The bases in which numbers are printed: a row for each, with all that hangs on the base.
 use Rattle.std.specs.Prelude.{ℕ, Bool, true, false, if◌then◌else◌, [], codes}
 use Rattle.pf_values.specs.declared.bases.Alternative.{Alternative}
 use Rattle.pf_values.specs.declared.bases.Alternative.TheVariants.{Undefined, Raised, Prefixed}

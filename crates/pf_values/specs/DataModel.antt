@@ -32,7 +32,8 @@ pub record Row : Type 0 where
   pub unsigned : ArgType
 
 abbrev pub row : Length → Bits → ArgType → ArgType → Row
-row kept bits signed unsigned = record { kept = kept; bits = bits; signed = signed; unsigned = unsigned }
+row kept bits signed unsigned =
+    record { kept = kept; bits = bits; signed = signed; unsigned = unsigned }
 
 abbrev pub row_of : Length → Row
 row_of lengths.Hh = row lengths.Hh B8 Int Int

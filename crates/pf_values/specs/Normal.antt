@@ -19,8 +19,8 @@ use Rattle.pf_values.specs.Specification.{Specification, width_of}
 abbrev pub precision_of : Specification → ℕ
 precision_of s = unwrap_or s.precision 1
 
--- The same beside a sign or prefix of so many bytes, where the flag `0` makes it what is left of the
--- width (C11 7.21.6.1 p6).
+-- The same beside a sign or prefix of so many bytes, where the flag `0` makes it what is left of
+-- the width (C11 7.21.6.1 p6).
 abbrev pub effective_precision : Specification → ℕ → ℕ
 effective_precision s front =
     if is_zero_filled s then max (width_of s - front) 1 else precision_of s

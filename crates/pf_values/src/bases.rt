@@ -1,7 +1,13 @@
 //! The bases in which numbers are printed.
 ghost use Rattle.std.specs.Prelude.{◌≡◌, ◌≤◌, length};
 ghost use Rattle.pf_values.specs.Bits.{Bits, bit_count, by_bits};
-ghost use Rattle.pf_values.specs.Bases.{alternative_of, is_grouped, most_digits_in, number_of, prefix_of};
+ghost use Rattle.pf_values.specs.Bases.{
+  alternative_of,
+  is_grouped,
+  most_digits_in,
+  number_of,
+  prefix_of,
+};
 
 /// A base in which a number is printed (C11 7.21.6.1, paragraph 8).
 #[derive(Clone, Copy, Debug, PartialEq, Eq)]
@@ -59,8 +65,8 @@ impl Base {
         }
     }
 
-    /// The letters that the flag `#` puts before a number, in lower case or as capitals; none where it
-    /// puts none.
+    /// The letters that the flag `#` puts before a number, in lower case or as capitals; none where
+    /// it puts none (C11 7.21.6.1, paragraph 6).
     pub fn prefix(self, capitals: bool) -> &'static [u8]
         ensures value { result.now ≡ prefix_of self capitals }
         ensures short { length result.now ≤ 2 }

@@ -61,8 +61,8 @@ impl Conv {
         Conv::S,
     ];
 
-    /// The conversion that a normal directive has for it: `i` is another name for `d` (C11 7.21.6.1,
-    /// paragraph 8).
+    /// The conversion that a normal directive has for it: `i` is another name for `d`
+    /// (C11 7.21.6.1, paragraph 8).
     pub fn representative(self) -> Conv
         ensures { result ≡ kept_conv self }
     {

@@ -1,7 +1,14 @@
-//! The data model LP64: what a length modifier says. `type_bits` of the definitions has the bits of the types.
-ghost use Rattle.std.specs.Prelude.{◌≡◌};
-ghost use Rattle.pf_values.specs.Bits.{bit_count};
-ghost use Rattle.pf_values.specs.DataModel.{bits_under, kept_length, signed_type, unsigned_type};
+//! The data model LP64: what a length modifier says, and how many bits a type has.
+ghost use Rattle.std.specs.Prelude.{◌≡◌, ◌↔◌, IsTrue, false, true};
+ghost use Rattle.pf_values.specs.Bits.{Bits, bit_count};
+ghost use Rattle.pf_values.specs.DataModel.{
+  FitsIn,
+  bits_under,
+  kept_length,
+  signed_type,
+  type_bits,
+  unsigned_type,
+};
 
 use crate::lengths::Length;
 use crate::types::ArgType;
@@ -45,5 +52,44 @@ fn columns(kept: Length, bits: u8, signed: ArgType, unsigned: ArgType) -> Row
         bits,
         signed,
         unsigned,
+    }
+}
+
+/// The bits of an integer type (C11 6.2.5). A string has none, and nothing reads its row.
+pub(crate) fn type_bits(arg_type: ArgType) -> u8
+    ensures { result ≡ bit_count (type_bits arg_type) }
+{
+    match arg_type {
+        ArgType::Int => 32,
+        ArgType::UInt => 32,
+        ArgType::Long => 64,
+        ArgType::ULong => 64,
+        ArgType::LongLong => 64,
+        ArgType::ULongLong => 64,
+        ArgType::Str => 64,
+    }
+}
+
+/// Whether a number fits so many bits with its sign.
+pub(crate) fn fits_signed(number: i128, bits: u8) -> bool
+    ensures { (b : Bits) → bits ≡ bit_count b → (IsTrue result ↔ FitsIn true (bit_count b) number) }
+{
+    match bits {
+        8 => i8::try_from(number).is_ok(),
+        16 => i16::try_from(number).is_ok(),
+        32 => i32::try_from(number).is_ok(),
+        _ => i64::try_from(number).is_ok(),
+    }
+}
+
+/// Whether a number fits so many bits without a sign.
+pub(crate) fn fits_unsigned(number: i128, bits: u8) -> bool
+    ensures { (b : Bits) → bits ≡ bit_count b → (IsTrue result ↔ FitsIn false (bit_count b) number) }
+{
+    match bits {
+        8 => u8::try_from(number).is_ok(),
+        16 => u16::try_from(number).is_ok(),
+        32 => u32::try_from(number).is_ok(),
+        _ => u64::try_from(number).is_ok(),
     }
 }

@@ -112,7 +112,8 @@ impl Directive {
         self.conv
     }
 
-    /// Whether the flag `0` counts: beside `-` or a precision it doesn't (C11 7.21.6.1, paragraph 6).
+    /// Whether the flag `0` counts: beside `-` or a precision it doesn't (C11 7.21.6.1,
+    /// paragraph 6).
     pub fn is_zero_filled(&self) -> bool
         ensures { result ≡ is_zero_filled self.now }
     {
@@ -120,8 +121,8 @@ impl Directive {
         flags.has(Flag::Zero) && !flags.has(Flag::Minus) && self.precision.is_none()
     }
 
-    /// The precision of a number beside a sign or prefix of so many bytes: as it is given, or 1; where the
-    /// flag `0` counts, what is left of the width (C11 7.21.6.1, paragraphs 6 and 8).
+    /// The precision of a number beside a sign or prefix of so many bytes: as it is given, or 1;
+    /// where the flag `0` counts, what is left of the width (C11 7.21.6.1, paragraphs 6 and 8).
     pub fn effective_precision(&self, front: u16) -> u16
         ensures value { result ≡ effective_precision self.now front }
         ensures limit { result ≤ MAX_NUMBER }
