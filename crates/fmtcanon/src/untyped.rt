@@ -40,13 +40,16 @@ fn number_as(number: i128, arg_type: ArgType) -> Option<Arg<'static>>
     ensures some { IfSome result
         (λ arg. (type_of arg ≡ arg_type) × (argument_of arg ≡ Number number)) }
 {
+    if !arg_type.contains(number) {
+        return None;
+    }
     match arg_type {
-        ArgType::Int => Some(Arg::Int(i32::try_from(number).ok()?)),
-        ArgType::UInt => Some(Arg::UInt(u32::try_from(number).ok()?)),
-        ArgType::Long => Some(Arg::Long(i64::try_from(number).ok()?)),
-        ArgType::ULong => Some(Arg::ULong(u64::try_from(number).ok()?)),
-        ArgType::LongLong => Some(Arg::LongLong(i64::try_from(number).ok()?)),
-        ArgType::ULongLong => Some(Arg::ULongLong(u64::try_from(number).ok()?)),
+        ArgType::Int => Some(Arg::Int(number as i32)),
+        ArgType::UInt => Some(Arg::UInt(number as u32)),
+        ArgType::Long => Some(Arg::Long(number as i64)),
+        ArgType::ULong => Some(Arg::ULong(number as u64)),
+        ArgType::LongLong => Some(Arg::LongLong(number as i64)),
+        ArgType::ULongLong => Some(Arg::ULongLong(number as u64)),
         ArgType::Str => None,
     }
 }

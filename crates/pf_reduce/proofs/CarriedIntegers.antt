@@ -3,44 +3,65 @@ use Rattle.std.proofs.Common.{◌≡◌, ℕ, zero, suc, ◌≤◌, Bool, true, 
 use Rattle.std.specs.Prelude.{Option, Some, unwrap_or}
 use Rattle.std.proofs.lemmas.List.{append-nil}
 use Rattle.pf_values.specs.declared.conversions.Conv.{Conv}
-use Rattle.pf_values.specs.declared.conversions.Conv.TheVariants.{D, I, C, S}
+use Rattle.pf_values.specs.declared.conversions.Conv.TheVariants.{I}
+use Rattle.pf_values.specs.declared.conversions.Kind.{Kind}
+use Rattle.pf_values.specs.declared.conversions.Kind.TheVariants as kinds
 use Rattle.pf_values.specs.declared.flags.Flag.TheVariants.{Minus}
 use Rattle.pf_values.specs.declared.flags.FlagSet.{FlagSet}
 use Rattle.pf_values.specs.declared.lengths.Length.{Length}
 use Rattle.pf_values.specs.declared.lengths.Length.TheVariants as lengths
 use Rattle.pf_values.specs.declared.limits.TheConstants.{MAX_NUMBER}
 use Rattle.pf_values.specs.Arguments.{Number, String, IsConverted}
-use Rattle.pf_values.specs.Conversions.{is_signed, is_text}
-use Rattle.pf_values.specs.DataModel.{FitsIn, bit_count, bits_under, signed_type, type_under, unsigned_type}
+use Rattle.pf_values.specs.Conversions.{
+  is_signed,
+  is_text,
+  kept_conv,
+  kind_of,
+  prints_signed,
+  prints_text,
+}
+use Rattle.pf_values.specs.DataModel.{
+  FitsIn,
+  bit_count,
+  bits_under,
+  kept_length,
+  signed_type,
+  type_of_kind,
+  type_under,
+  unsigned_type,
+}
 use Rattle.pf_values.specs.Flags.{has}
-use Rattle.pf_values.specs.Printing.{PrintsNumber, PrintsUnder, field}
+use Rattle.pf_values.specs.Printing.{PrintsKind, PrintsNumber, field}
 use Rattle.pf_values.specs.Specification.{Specification, width_given}
 use Rattle.pf_values.specs.Text.{Text}
 use Rattle.pf_values.proofs.PrintsOnce.{PrintsNumber-is, PrintsNumber-value, value_text}
 use Rattle.pf_reduce.specs.declared.padding.Padding.{Padding}
 use Rattle.pf_reduce.specs.declared.results.Reduced.{Reduced}
-use Rattle.pf_reduce.specs.Made.{kept_conv, kept_length, made, made_core, sided}
+use Rattle.pf_reduce.specs.Made.{made, made_core, sided}
 use Rattle.pf_reduce.specs.Padded.{constants, padded, padding_of}
 use Rattle.pf_reduce.specs.Reducing.{IsNormalCore, IsReducedTo, around, core_of}
 use Rattle.pf_reduce.proofs.Carried.{Carries, prints_reduced}
 
-under_number : (conv : Conv) → is_text conv ≡ false → (s : Specification) (n : ℤ) (body : Text) → PrintsUnder conv s (Number n) body → PrintsNumber s n body
-under_number C e s n body h = cc
-under_number S e s n body h = cc
-under_number D e s n body h = h
-under_number _ e s n body h = h
+under_number : (k : Kind) → prints_text k ≡ false → (s : Specification) (n : ℤ) (body : Text)
+    → PrintsKind k s (Number n) body → PrintsNumber s n body
+under_number kinds.Signed e s n body h = h
+under_number (kinds.Unsigned base capitals) e s n body h = h
+under_number kinds.Char e s n body h = cc
+under_number kinds.String e s n body h = cc
 
-number_under : (conv : Conv) → is_text conv ≡ false → (s : Specification) (n : ℤ) (body : Text) → PrintsNumber s n body → PrintsUnder conv s (Number n) body
-number_under C e s n body h = cc
-number_under S e s n body h = cc
-number_under D e s n body h = h
-number_under _ e s n body h = h
+number_under : (k : Kind) → prints_text k ≡ false → (s : Specification) (n : ℤ) (body : Text)
+    → PrintsNumber s n body → PrintsKind k s (Number n) body
+number_under kinds.Signed e s n body h = h
+number_under (kinds.Unsigned base capitals) e s n body h = h
+number_under kinds.Char e s n body h = cc
+number_under kinds.String e s n body h = cc
 
-no_string_under : (conv : Conv) → is_text conv ≡ false → (s : Specification) (t body : Text) → PrintsUnder conv s (String t) body → ⊥
-no_string_under C e s t body h = cc
-no_string_under S e s t body h = cc
-no_string_under D e s t body h = h
-no_string_under _ e s t body h = h
+no_string_under : (k : Kind) → prints_text k ≡ false → (s : Specification) (t body : Text)
+    → PrintsKind k s (String t) body → ⊥
+no_string_under kinds.Signed e s t body h = h
+no_string_under (kinds.Unsigned base capitals) e s t body h = h
+no_string_under kinds.Char e s t body h = cc
+no_string_under kinds.String e s t body h = cc
 
 -- a value that a directive may print
 abbrev pub IsValueOf : Specification → ℤ → Type 0
@@ -49,53 +70,57 @@ IsValueOf s v = FitsIn (is_signed s.conv) (bit_count (bits_under s.length)) v
 carries : (s : Specification) (r : Reduced) → is_text s.conv ≡ false → is_text (core_of r.core).conv ≡ false → is_signed (core_of r.core).conv ≡ is_signed s.conv → bits_under (core_of r.core).length ≡ bits_under s.length
     → ((v : ℤ) → IsValueOf s v → field s (value_text s v) ≡ around r (field (core_of r.core) (value_text (core_of r.core) v)))
     → Carries s r
-carries s r e f sign bits same (String t) inner typed p = absurd (no_string_under (core_of r.core).conv f (core_of r.core) t p.0 p.1)
+carries s r e f sign bits same (String t) inner typed p = absurd (no_string_under (kind_of (core_of r.core).conv) f (core_of r.core) t p.0 p.1)
 carries s r e f sign bits same (Number n) inner typed p =
-    let h = under_number (core_of r.core).conv f (core_of r.core) n p.0 p.1 in
+    let h = under_number (kind_of (core_of r.core).conv) f (core_of r.core) n p.0 p.1 in
     let value : IsConverted (is_signed s.conv) (bit_count (bits_under s.length)) n h.value = rw (← sign, ← bits) h.value_is in
     let body = PrintsNumber-is (core_of r.core) n p.0 h in (
       value_text s h.value,
-      number_under s.conv e s n _ (PrintsNumber-value s n h.value value),
+      number_under (kind_of s.conv) e s n _ (PrintsNumber-value s n h.value value),
       ap (around r) (p.2 ∙ ap (field (core_of r.core)) body) ∙ sym (same h.value value.fits),
     )
 
 -- The names that a normal directive doesn't have are other names for the same.
-kept_signed_type : (length : Length) → signed_type (kept_length length) ≡ signed_type length
-kept_signed_type lengths.Hh = refl
-kept_signed_type lengths.H = refl
-kept_signed_type lengths.None = refl
-kept_signed_type lengths.Ll = refl
-kept_signed_type _ = refl
+record IsSameRow (first second : Length) : Type 0 where
+  signed : signed_type first ≡ signed_type second
+  unsigned : unsigned_type first ≡ unsigned_type second
+  bits : bits_under first ≡ bits_under second
 
-kept_unsigned_type : (length : Length) → unsigned_type (kept_length length) ≡ unsigned_type length
-kept_unsigned_type lengths.Hh = refl
-kept_unsigned_type lengths.H = refl
-kept_unsigned_type lengths.None = refl
-kept_unsigned_type lengths.Ll = refl
-kept_unsigned_type _ = refl
+kept_row : (length : Length) → IsSameRow (kept_length length) length
+kept_row lengths.None = record { signed = refl; unsigned = refl; bits = refl }
+kept_row lengths.Hh = record { signed = refl; unsigned = refl; bits = refl }
+kept_row lengths.H = record { signed = refl; unsigned = refl; bits = refl }
+kept_row lengths.L = record { signed = refl; unsigned = refl; bits = refl }
+kept_row lengths.Ll = record { signed = refl; unsigned = refl; bits = refl }
+kept_row lengths.J = record { signed = refl; unsigned = refl; bits = refl }
+kept_row lengths.Z = record { signed = refl; unsigned = refl; bits = refl }
+kept_row lengths.T = record { signed = refl; unsigned = refl; bits = refl }
 
-kept_type : (conv : Conv) (length : Length) → type_under (kept_conv conv) (kept_length length) ≡ type_under conv length
-kept_type D length = kept_signed_type length
-kept_type I length = kept_signed_type length
-kept_type C length = refl
-kept_type S length = refl
-kept_type _ length = kept_unsigned_type length
+pub kept_kind : (conv : Conv) → kind_of (kept_conv conv) ≡ kind_of conv
+kept_kind I = refl
+kept_kind _ = refl
+
+kept_type_of : (k : Kind) (length : Length)
+    → type_of_kind k (kept_length length) ≡ type_of_kind k length
+kept_type_of kinds.Signed length = (kept_row length).signed
+kept_type_of (kinds.Unsigned base capitals) length = (kept_row length).unsigned
+kept_type_of kinds.Char length = refl
+kept_type_of kinds.String length = refl
+
+kept_type : (conv : Conv) (length : Length)
+    → type_under (kept_conv conv) (kept_length length) ≡ type_under conv length
+kept_type conv length =
+    ap (λ k. type_of_kind k (kept_length length)) (kept_kind conv)
+    ∙ kept_type_of (kind_of conv) length
 
 pub kept_bits : (length : Length) → bits_under (kept_length length) ≡ bits_under length
-kept_bits lengths.Hh = refl
-kept_bits lengths.H = refl
-kept_bits lengths.None = refl
-kept_bits _ = refl
+kept_bits length = (kept_row length).bits
 
 kept_text : (conv : Conv) → is_text (kept_conv conv) ≡ is_text conv
-kept_text D = refl
-kept_text I = refl
-kept_text _ = refl
+kept_text conv = ap prints_text (kept_kind conv)
 
-kept_sign : (conv : Conv) → is_signed (kept_conv conv) ≡ is_signed conv
-kept_sign D = refl
-kept_sign I = refl
-kept_sign _ = refl
+pub kept_sign : (conv : Conv) → is_signed (kept_conv conv) ≡ is_signed conv
+kept_sign conv = ap prints_signed (kept_kind conv)
 
 pub width_is : (w : ℕ) → unwrap_or (width_given (Some w)) 0 ≡ w
 width_is zero = refl

@@ -6,7 +6,7 @@ use Rattle.pf_values.specs.declared.flags.Flag.TheVariants.{Alt, Minus, Zero}
 use Rattle.pf_values.specs.declared.flags.FlagSet.{FlagSet}
 use Rattle.pf_values.specs.Conversions.{base_of, is_upper}
 use Rattle.pf_values.specs.Flags.{has, no_flags, with_flag}
-use Rattle.pf_values.specs.Normal.{precision_of}
+use Rattle.pf_values.specs.Normal.{effective_precision, precision_of}
 use Rattle.pf_values.specs.Printing.{is_zero_filled, sign_or_prefix}
 use Rattle.pf_values.specs.Specification.{Specification, width_of}
 use Rattle.pf_values.proofs.NumberTexts.{number_text, value_text-is, value_text-unfilled}
@@ -14,7 +14,6 @@ use Rattle.pf_values.proofs.Printed.{count_of, filled_precision, natural_of, pre
 use Rattle.pf_values.proofs.PrintsOnce.{value_text}
 use Rattle.pf_reduce.specs.declared.padding.Padding.{Padding}
 use Rattle.pf_reduce.specs.Made.{made_core, sided, written}
-use Rattle.pf_reduce.specs.Numbers.{effective_precision}
 
 -- what the flag `0` makes of the width: as many zeros, where the sign or prefix has the length
 filled_max : (w f sign natural : ℕ) → (f ≡ sign) ⊎ (w ≤ 1) → max (filled_precision w f natural) natural ≡ max (max (w - sign) 1) natural

@@ -1,17 +1,39 @@
--- Hexadecimal numbers with a prefix.
-use Rattle.std.proofs.Common.{◌≡◌, ℕ, zero, suc, ◌+◌, ◌≤◌, max, Bool, true, false, [], ◌∷◌, ◌++◌, length, refl, sym, ap, ◌∙◌, arith, inl, inr, ℤ}
+-- Numbers with a prefix.
+use Rattle.std.proofs.Common.{◌≡◌, ℕ, zero, suc, ◌+◌, ◌≤◌, max, Bool, true, false, [], ◌++◌, length, refl, sym, ap, ◌∙◌, arith, inl, inr, ℤ}
 use Rattle.std.specs.Prelude.{None, nat_abs, not, ◌&&◌, ◌⊎◌, if◌then◌else◌}
 use Rattle.std.proofs.lemmas.List.{length-append}
+use Rattle.pf_values.specs.declared.bases.Alternative.TheVariants.{Prefixed}
+use Rattle.pf_values.specs.declared.bases.Base.{Base}
+use Rattle.pf_values.specs.declared.bases.Base.TheVariants.{Octal, Decimal, Hexadecimal}
 use Rattle.pf_values.specs.declared.conversions.Conv.{Conv}
-use Rattle.pf_values.specs.declared.conversions.Conv.TheVariants.{D, I, U, O, X, UpperX, C, S}
+use Rattle.pf_values.specs.declared.conversions.Kind.{Kind}
+use Rattle.pf_values.specs.declared.conversions.Kind.TheVariants as kinds
 use Rattle.pf_values.specs.declared.flags.Flag.TheVariants.{Alt, Zero}
 use Rattle.pf_values.specs.declared.flags.FlagSet.{FlagSet}
 use Rattle.pf_values.specs.declared.limits.TheConstants.{MAX_NUMBER}
-use Rattle.pf_values.specs.Conversions.{base_of, is_octal, is_signed, is_text, is_upper}
+use Rattle.pf_values.specs.Bases.{
+  alternative_of,
+  number_of,
+  prefix_of,
+  puts_prefix,
+  raises_precision,
+}
+use Rattle.pf_values.specs.Conversions.{
+  alternative_under,
+  base_of,
+  base_under,
+  has_capitals,
+  is_prefixed,
+  is_upper,
+  kept_conv,
+  kind_of,
+  prints_signed,
+  prints_text,
+}
 use Rattle.pf_values.specs.DataModel.{bits_under}
 use Rattle.pf_values.specs.Flags.{has, no_flags, with_flag}
-use Rattle.pf_values.specs.Normal.{digits_at_most}
-use Rattle.pf_values.specs.Printing.{is_zero, is_zero_filled, sign_or_prefix, sign_or_prefix_under}
+use Rattle.pf_values.specs.Normal.{digits_at_most, effective_precision}
+use Rattle.pf_values.specs.Printing.{front_under, is_zero, is_zero_filled, sign_or_prefix}
 use Rattle.pf_values.specs.Specification.{Specification, width_of}
 use Rattle.pf_values.specs.Text.{Text}
 use Rattle.pf_values.proofs.Counts.{count-ge, count-le}
@@ -19,11 +41,10 @@ use Rattle.pf_values.proofs.NumberTexts.{number_text}
 use Rattle.pf_values.proofs.Printed.{count_of, zero_digits}
 use Rattle.pf_values.proofs.PrintsOnce.{value_text}
 use Rattle.pf_reduce.specs.declared.padding.Padding.{Padding}
-use Rattle.pf_reduce.specs.Made.{kept_conv, made, made_core, written}
-use Rattle.pf_reduce.specs.Numbers.{effective_precision}
+use Rattle.pf_reduce.specs.Made.{made, made_core, written}
 use Rattle.pf_reduce.specs.Padded.{IsUnseen, constants, padded, padding_of}
 use Rattle.pf_reduce.specs.Reducing.{IsNormalCore, IsReducedTo}
-use Rattle.pf_reduce.proofs.CarriedIntegers.{integer_reduced, width_is}
+use Rattle.pf_reduce.proofs.CarriedIntegers.{integer_reduced, kept_kind, width_is}
 use Rattle.pf_reduce.proofs.PlainNumbers.{digits_text, length-digits_text, natural_is}
 use Rattle.pf_reduce.proofs.Precisions.{PrintsLike, alt_kept, core_text, effective, filled_right, same_filled, same_number}
 
@@ -31,28 +52,50 @@ use Rattle.pf_reduce.proofs.Precisions.{PrintsLike, alt_kept, core_text, effecti
 abbrev IsPrefix : ℕ → Text → Type 0
 IsPrefix n t = ((n ≡ 0) × (t ≡ [])) ⊎ ((1 ≤ n) × (length t ≡ 2))
 
-prefix_is : (letter n : ℕ) (alt : Bool) → alt ≡ true → IsPrefix n (if alt && not (is_zero n) then 48 ∷ letter ∷ [] else [])
-prefix_is letter zero true e = inl (refl, refl)
-prefix_is letter (suc n) true e = inr (omega arith, refl)
-prefix_is letter n false e = cc
+prefix_is : (letters : Text) (n : ℕ) (alt : Bool) → length letters ≡ 2 → alt ≡ true
+    → IsPrefix n (if alt && not (is_zero n) then letters else [])
+prefix_is letters zero true two e = inl (refl, refl)
+prefix_is letters (suc n) true two e = inr (omega arith, two)
+prefix_is letters n false two e = cc
 
-pub record IsHexadecimal (conv : Conv) : Type 0 where
-  pub octal : is_octal conv ≡ false
-  pub sign : is_signed conv ≡ false
-  pub text : is_text conv ≡ false
-  pub kept : kept_conv conv ≡ conv
-  pub prefix : (s : Specification) (v : ℤ) → has s.flags Alt ≡ true → IsPrefix (nat_abs v) (sign_or_prefix_under conv s v)
-  pub one_prefix : (s t : Specification) (v : ℤ) → has s.flags Alt ≡ true → has t.flags Alt ≡ true → sign_or_prefix_under conv t v ≡ sign_or_prefix_under conv s v
+-- what is known of a kind of numbers that have a prefix under `#`
+pub record HasPrefix (k : Kind) : Type 0 where
+  pub raised : raises_precision (alternative_under k) ≡ false
+  pub sign : prints_signed k ≡ false
+  pub text : prints_text k ≡ false
+  pub base : 2 ≤ number_of (base_under k)
+  pub prefix : (s : Specification) (v : ℤ) → has s.flags Alt ≡ true
+      → IsPrefix (nat_abs v) (front_under k s v)
+  pub one_prefix : (s t : Specification) (v : ℤ) → has s.flags Alt ≡ true
+      → has t.flags Alt ≡ true → front_under k t v ≡ front_under k s v
 
-pub hexadecimal : (conv : Conv) → base_of conv ≡ 16 → IsHexadecimal conv
-hexadecimal X e = record { octal = refl; sign = refl; text = refl; kept = refl; prefix = λ s v a. prefix_is 120 (nat_abs v) (has s.flags Alt) a; one_prefix = λ s t v a b. rw (a, b) refl }
-hexadecimal UpperX e = record { octal = refl; sign = refl; text = refl; kept = refl; prefix = λ s v a. prefix_is 88 (nat_abs v) (has s.flags Alt) a; one_prefix = λ s t v a b. rw (a, b) refl }
-hexadecimal D e = absurd (omega arith)
-hexadecimal I e = absurd (omega arith)
-hexadecimal U e = absurd (omega arith)
-hexadecimal O e = absurd (omega arith)
-hexadecimal C e = absurd (omega arith)
-hexadecimal S e = absurd (omega arith)
+prefix_of_two : (base : Base) (capitals : Bool) → alternative_of base ≡ Prefixed
+    → length (prefix_of base capitals) ≡ 2
+prefix_of_two Octal capitals e = cc
+prefix_of_two Decimal capitals e = cc
+prefix_of_two Hexadecimal true e = refl
+prefix_of_two Hexadecimal false e = refl
+
+prefixed_under : (base : Base) (capitals : Bool) → puts_prefix (alternative_of base) ≡ true
+    → HasPrefix (kinds.Unsigned base capitals)
+prefixed_under Octal capitals e = cc
+prefixed_under Decimal capitals e = cc
+prefixed_under Hexadecimal capitals e = record {
+  raised = refl;
+  sign = refl;
+  text = refl;
+  base = omega arith;
+  prefix = λ s v a.
+      let two = prefix_of_two Hexadecimal capitals refl in
+      prefix_is (prefix_of Hexadecimal capitals) (nat_abs v) (has s.flags Alt) two a;
+  one_prefix = λ s t v a b. rw (a, b) refl;
+}
+
+prefixed_kind : (k : Kind) → puts_prefix (alternative_under k) ≡ true → HasPrefix k
+prefixed_kind kinds.Signed e = cc
+prefixed_kind (kinds.Unsigned base capitals) e = prefixed_under base capitals e
+prefixed_kind kinds.Char e = cc
+prefixed_kind kinds.String e = cc
 
 -- how long it is, and that it is empty only with precision 0
 pub record IsPrefixed (precision digits : ℕ) (body : Text) : Type 0 where
@@ -60,7 +103,9 @@ pub record IsPrefixed (precision digits : ℕ) (body : Text) : Type 0 where
   pub most : length body ≤ 2 + max precision digits
   pub some : precision ≡ 0 → (body ≡ []) ⊎ (3 ≤ length body)
 
-prefixed : (conv : Conv) (precision most n : ℕ) (t : Text) → base_of conv ≡ 16 → count_of (base_of conv) n ≤ most → IsPrefix n t → IsPrefixed precision most (t ++ digits_text conv precision n)
+prefixed : (conv : Conv) (precision most n : ℕ) (t : Text) → 2 ≤ base_of conv
+    → count_of (base_of conv) n ≤ most → IsPrefix n t
+    → IsPrefixed precision most (t ++ digits_text conv precision n)
 prefixed conv precision most n t base few (inl h) =
     let len = length-digits_text conv precision n in
     let whole = length-append t (digits_text conv precision n) in
@@ -70,25 +115,34 @@ prefixed conv precision most n t base few (inl h) =
 prefixed conv precision most n t base few (inr h) =
     let len = length-digits_text conv precision n in
     let whole = length-append t (digits_text conv precision n) in
-    let some : 1 ≤ count_of (base_of conv) n = rw base (count-ge 16 n (omega arith) h.0) in
+    let some = count-ge (base_of conv) n base h.0 in
     record { least = omega arith; most = omega arith; some = λ e. inr (omega arith) }
 
 narrow_of : (w : ℕ) → (1 ≤ 0) ⊎ (w ≤ 1) → w ≤ 1
 narrow_of w (inl h) = absurd (omega arith)
 narrow_of w (inr h) = h
 
-module _ (s : Specification) (base : base_of s.conv ≡ 16) (alt : has s.flags Alt ≡ true) where
-  like : (t : Specification) (v : ℤ) → t.conv ≡ kept_conv s.conv → has t.flags Alt ≡ true → PrintsLike s t v
-  like t v e a =
-      let h = hexadecimal s.conv base in
-      let same : t.conv ≡ s.conv = e ∙ h.kept in
-      record { base = ap base_of same; upper = ap is_upper same; natural = rw (same, a, alt) refl; front = ap (λ conv. sign_or_prefix_under conv t v) same ∙ h.one_prefix s t v alt a }
+module _ (s : Specification) (form : is_prefixed s.conv ≡ true) (alt : has s.flags Alt ≡ true) where
+  has_prefix : HasPrefix (kind_of s.conv)
+  has_prefix = prefixed_kind (kind_of s.conv) form
 
-  number_text-prefixed : (precision : ℕ) (v : ℤ) → number_text s precision v ≡ sign_or_prefix s v ++ digits_text s.conv precision (nat_abs v)
+  like : (t : Specification) (v : ℤ) → t.conv ≡ kept_conv s.conv → has t.flags Alt ≡ true
+      → PrintsLike s t v
+  like t v e a =
+      let same : kind_of t.conv ≡ kind_of s.conv = ap kind_of e ∙ kept_kind s.conv in
+      record {
+        base = ap (λ k. number_of (base_under k)) same;
+        upper = ap has_capitals same;
+        natural = rw (same, a, alt) refl;
+        front = ap (λ k. front_under k t v) same ∙ has_prefix.one_prefix s t v alt a;
+      }
+
+  number_text-prefixed : (precision : ℕ) (v : ℤ)
+      → number_text s precision v ≡ sign_or_prefix s v ++ digits_text s.conv precision (nat_abs v)
   number_text-prefixed precision v =
-      let h = hexadecimal s.conv base in
-      let natural = natural_is s.conv (has s.flags Alt) (nat_abs v) (rw h.octal refl) in
-      ap (λ k. sign_or_prefix s v ++ zero_digits (base_of s.conv) (is_upper s.conv) k (nat_abs v)) (omega arith)
+      let natural = natural_is s.conv (has s.flags Alt) (nat_abs v) (rw has_prefix.raised refl) in
+      ap (λ k. sign_or_prefix s v ++ zero_digits (base_of s.conv) (is_upper s.conv) k (nat_abs v))
+      (omega arith)
 
   pub prefixed_reduced : (p : Padding) (precision : ℕ) → (is_zero_filled s ≡ true → (1 ≤ 0) ⊎ (width_of s ≤ 1)) → precision ≡ effective_precision s 0 → IsNormalCore (made s p (with_flag no_flags Alt) (written precision)).core → constants p ≤ MAX_NUMBER
       → ((body : Text) → IsPrefixed precision (digits_at_most s) body → padded (padding_of s) body ≡ padded p body)
@@ -96,12 +150,12 @@ module _ (s : Specification) (base : base_of s.conv ≡ 16) (alt : has s.flags A
   prefixed_reduced p precision narrow p_is normal few same =
       let flags : FlagSet = with_flag no_flags Alt in
       let t : Specification = made_core s p flags (written precision) in
-      let h = hexadecimal s.conv base in
+      let h = has_prefix in
       integer_reduced s p flags (written precision) h.text refl normal few (λ v fits.
       let body = number_text s precision v in
       let whole : value_text s v ≡ body = effective s v 0 (λ filled. inr (narrow_of (width_of s) (narrow filled))) ∙ ap (λ k. number_text s k v) (sym p_is) in
       let core : value_text t v ≡ body = core_text s p flags precision v refl ∙ same_number s t precision v (like t v refl (alt_kept p.left)) in
-      let is : IsPrefixed precision (digits_at_most s) body = rw (number_text-prefixed precision v) (prefixed s.conv precision _ (nat_abs v) (sign_or_prefix s v) base (count-le s.conv (bits_under s.length) h.text v fits) (h.prefix s v alt)) in
+      let is : IsPrefixed precision (digits_at_most s) body = rw (number_text-prefixed precision v) (prefixed s.conv precision _ (nat_abs v) (sign_or_prefix s v) h.base (count-le s.conv (bits_under s.length) h.text v fits) (h.prefix s v alt)) in
       ap (padded (padding_of s)) whole ∙ same body is ∙ ap (padded p) (sym core))
 
   -- zeros up to the width, which stay
@@ -110,7 +164,7 @@ module _ (s : Specification) (base : base_of s.conv ≡ 16) (alt : has s.flags A
       let flags : FlagSet = with_flag (with_flag no_flags Alt) Zero in
       let t : Specification = made_core s (padding_of s) flags None in
       let right = filled_right s all in
-      let h = hexadecimal s.conv base in
+      let h = has_prefix in
       integer_reduced s (padding_of s) flags None h.text refl normal (omega arith) (λ v fits.
       ap (padded (padding_of s)) (sym (same_filled s t v (like t v refl (rw right refl)) (width_is (width_of s)) all (rw right refl))))
 

@@ -1,17 +1,37 @@
 -- Numbers with a sign.
-use Rattle.std.proofs.Common.{◌≡◌, ◌≢◌, ℕ, zero, suc, ◌+◌, ◌-◌, ◌≤◌, max, Bool, true, false, [], ◌++◌, length, refl, sym, ap, ◌∙◌, arith, inl, inr, ℤ, pos, negsuc}
+use Rattle.std.proofs.Common.{◌≡◌, ◌≢◌, ℕ, zero, suc, ◌+◌, ◌≤◌, max, Bool, true, false, [], ◌++◌, length, refl, sym, ap, ◌∙◌, subst, arith, inl, inr, ℤ, pos, negsuc}
 use Rattle.std.specs.Prelude.{None, codes, nat_abs, ◌⊎◌, if◌then◌else◌}
 use Rattle.std.proofs.lemmas.List.{length-append}
-use Rattle.pf_values.specs.declared.conversions.Conv.{Conv}
-use Rattle.pf_values.specs.declared.conversions.Conv.TheVariants.{D, I, U, O, X, UpperX, C, S}
+use Rattle.pf_values.specs.declared.conversions.Conv.TheVariants.{D}
+use Rattle.pf_values.specs.declared.conversions.Kind.{Kind}
+use Rattle.pf_values.specs.declared.conversions.Kind.TheVariants as kinds
 use Rattle.pf_values.specs.declared.flags.Flag.TheVariants.{Alt, Minus, Plus, Space, Zero}
 use Rattle.pf_values.specs.declared.flags.FlagSet.{FlagSet}
 use Rattle.pf_values.specs.declared.limits.TheConstants.{MAX_NUMBER}
-use Rattle.pf_values.specs.Conversions.{base_of, is_octal, is_signed, is_text, is_upper}
+use Rattle.pf_values.specs.Bases.{number_of, raises_precision}
+use Rattle.pf_values.specs.Conversions.{
+  alternative_under,
+  base_of,
+  base_under,
+  has_capitals,
+  is_octal,
+  is_signed,
+  is_text,
+  is_upper,
+  kind_of,
+  prints_signed,
+  prints_text,
+}
 use Rattle.pf_values.specs.DataModel.{bits_under}
 use Rattle.pf_values.specs.Flags.{has, no_flags, with_flag}
-use Rattle.pf_values.specs.Normal.{digits_at_most}
-use Rattle.pf_values.specs.Printing.{is_negative, is_zero_filled, sign, sign_or_prefix, sign_or_prefix_under}
+use Rattle.pf_values.specs.Normal.{digits_at_most, effective_precision}
+use Rattle.pf_values.specs.Printing.{
+  front_under,
+  is_negative,
+  is_zero_filled,
+  sign,
+  sign_or_prefix,
+}
 use Rattle.pf_values.specs.Specification.{Specification, width_of}
 use Rattle.pf_values.specs.Text.{Text}
 use Rattle.pf_values.proofs.Counts.{count-ge, count-le}
@@ -21,36 +41,28 @@ use Rattle.pf_values.proofs.PrintsOnce.{value_text}
 use Rattle.pf_reduce.specs.declared.padding.Padding.{Padding}
 use Rattle.pf_reduce.specs.declared.signs.Sign.{Sign}
 use Rattle.pf_reduce.specs.declared.signs.Sign.TheVariants as signs
-use Rattle.pf_reduce.specs.Made.{kept_conv, made, made_core, sided, written}
-use Rattle.pf_reduce.specs.Numbers.{effective_precision}
+use Rattle.pf_reduce.specs.Made.{made, made_core, sided, written}
 use Rattle.pf_reduce.specs.Padded.{IsUnseen, constants, padded, padding_of}
 use Rattle.pf_reduce.specs.Reducing.{IsNormalCore, IsReducedTo}
 use Rattle.pf_reduce.specs.Signs.{sign_flags, sign_length, sign_of, sign_text}
-use Rattle.pf_reduce.proofs.CarriedIntegers.{integer_reduced, width_is}
-use Rattle.pf_reduce.proofs.PlainNumbers.{digits_text, length-digits_text, natural_is}
+use Rattle.pf_reduce.proofs.CarriedIntegers.{integer_reduced, kept_kind, kept_sign, width_is}
+use Rattle.pf_reduce.proofs.PlainNumbers.{
+  digits_text,
+  length-digits_text,
+  natural_is,
+  same_digits,
+}
 use Rattle.pf_reduce.proofs.Precisions.{PrintsLike, core_text, effective, filled_right, same_filled}
 
 -- a sign, and the digits
 abbrev pub signed_text : Sign → ℕ → ℤ → Text
 signed_text sign precision v = sign_text sign (is_negative v) ++ digits_text D precision (nat_abs v)
 
-record IsLikeD (conv : Conv) : Type 0 where
-  pub octal : is_octal conv ≡ false
-  pub text : is_text conv ≡ false
-  pub base : base_of conv ≡ 10
-  pub upper : is_upper conv ≡ false
-  pub kept : kept_conv conv ≡ D
-  pub sign_is : (s : Specification) (v : ℤ) → sign_or_prefix_under conv s v ≡ sign s v
-
-like_d : (conv : Conv) → is_signed conv ≡ true → IsLikeD conv
-like_d D e = record { octal = refl; text = refl; base = refl; upper = refl; kept = refl; sign_is = λ s v. refl }
-like_d I e = record { octal = refl; text = refl; base = refl; upper = refl; kept = refl; sign_is = λ s v. refl }
-like_d U e = cc
-like_d O e = cc
-like_d X e = cc
-like_d UpperX e = cc
-like_d C e = cc
-like_d S e = cc
+signed_kind : (k : Kind) → prints_signed k ≡ true → k ≡ kinds.Signed
+signed_kind kinds.Signed e = refl
+signed_kind (kinds.Unsigned base capitals) e = cc
+signed_kind kinds.Char e = cc
+signed_kind kinds.String e = cc
 
 sign_under : (negative plus spaced : Bool) → (if negative then codes "-" else (if plus then codes "+" else (if spaced then codes " " else [])))
     ≡ sign_text (if plus then signs.Plus else (if spaced then signs.Space else signs.None)) negative
@@ -64,14 +76,27 @@ sign_under false false false = refl
 sign-is : (s : Specification) (v : ℤ) → sign s v ≡ sign_text (sign_of s.flags) (is_negative v)
 sign-is s v = sign_under (is_negative v) (has s.flags Plus) (has s.flags Space)
 
-number_text-signed : (s : Specification) (precision : ℕ) (v : ℤ) → is_signed s.conv ≡ true → number_text s precision v ≡ signed_text (sign_of s.flags) precision v
+front-is : (s : Specification) (v : ℤ) → is_signed s.conv ≡ true
+    → sign_or_prefix s v ≡ sign_text (sign_of s.flags) (is_negative v)
+front-is s v signed =
+    ap (λ k. front_under k s v) (signed_kind (kind_of s.conv) signed) ∙ sign-is s v
+
+natural_signed : (s : Specification) (n : ℕ) → is_signed s.conv ≡ true
+    → natural_of s n ≡ count_of (base_of s.conv) n
+natural_signed s n signed =
+    let k = signed_kind (kind_of s.conv) signed in
+    let raised : is_octal s.conv ≡ false = ap (λ k. raises_precision (alternative_under k)) k in
+    natural_is s.conv (has s.flags Alt) n (rw raised refl)
+
+number_text-signed : (s : Specification) (precision : ℕ) (v : ℤ) → is_signed s.conv ≡ true
+    → number_text s precision v ≡ signed_text (sign_of s.flags) precision v
 number_text-signed s precision v signed =
-    let d = like_d s.conv signed in
-    let natural = natural_is s.conv (has s.flags Alt) (nat_abs v) (rw d.octal refl) in
-    let digits : zero_digits (base_of s.conv) (is_upper s.conv) (precision - count_of (base_of s.conv) (nat_abs v)) (nat_abs v) ≡ digits_text D precision (nat_abs v) = rw (d.base, d.upper) refl in
-    ap (λ k. sign_or_prefix s v ++ zero_digits (base_of s.conv) (is_upper s.conv) k (nat_abs v)) (omega arith)
+    let n = nat_abs v in
+    let natural = natural_signed s n signed in
+    let digits = same_digits s.conv D precision n (signed_kind (kind_of s.conv) signed) in
+    ap (λ k. sign_or_prefix s v ++ zero_digits (base_of s.conv) (is_upper s.conv) k n) (omega arith)
     ∙ ap (λ t. sign_or_prefix s v ++ t) digits
-    ∙ ap (λ t. t ++ digits_text D precision (nat_abs v)) (d.sign_is s v ∙ sign-is s v)
+    ∙ ap (λ t. t ++ digits_text D precision n) (front-is s v signed)
 
 sign_some : (sign : Sign) (negative : Bool) → 1 ≤ sign_length sign → length (sign_text sign negative) ≡ sign_length sign
 sign_some signs.None negative h = absurd (omega arith)
@@ -83,7 +108,7 @@ sign_some signs.Space false h = refl
 -- each number has the sign's length, or the field has no room for zeros
 zeros_by_precision : (s : Specification) (v : ℤ) → is_signed s.conv ≡ true → (1 ≤ sign_length (sign_of s.flags)) ⊎ (width_of s ≤ 1) → (length (sign_or_prefix s v) ≡ sign_length (sign_of s.flags)) ⊎ (width_of s ≤ 1)
 zeros_by_precision s v signed (inl some) =
-    inl (ap length ((like_d s.conv signed).sign_is s v ∙ sign-is s v) ∙ sign_some (sign_of s.flags) (is_negative v) some)
+    inl (ap length (front-is s v signed) ∙ sign_some (sign_of s.flags) (is_negative v) some)
 zeros_by_precision s v signed (inr narrow) = inr narrow
 
 signed_value : (s : Specification) (v : ℤ) → is_signed s.conv ≡ true → (is_zero_filled s ≡ true → (1 ≤ sign_length (sign_of s.flags)) ⊎ (width_of s ≤ 1)) → value_text s v ≡ signed_text (sign_of s.flags) (effective_precision s (sign_length (sign_of s.flags))) v
@@ -114,12 +139,14 @@ module _ (s : Specification) (signed : is_signed s.conv ≡ true) where
       → IsReducedTo s (made s p (sign_flags sign) (written precision))
   signed_reduced p sign precision narrow p_is normal few same =
       let t : Specification = made_core s p (sign_flags sign) (written precision) in
-      let d = like_d s.conv signed in
+      let k = signed_kind (kind_of s.conv) signed in
+      let text : is_text s.conv ≡ false = ap prints_text k in
       let flags = no_other_flag sign in
-      integer_reduced s p (sign_flags sign) (written precision) d.text flags.1 normal few (λ v fits.
+      integer_reduced s p (sign_flags sign) (written precision) text flags.1 normal few (λ v fits.
       let core : value_text t v ≡ signed_text sign precision v =
-      core_text s p (sign_flags sign) precision v flags.0 ∙ number_text-signed t precision v (rw d.kept refl) ∙ ap (λ u. signed_text u precision v) (sign_kept p.left sign) in
-      let count : count_of 10 (nat_abs v) ≤ digits_at_most s = rw (← d.base) (count-le s.conv (bits_under s.length) d.text v fits) in
+      core_text s p (sign_flags sign) precision v flags.0 ∙ number_text-signed t precision v (kept_sign s.conv ∙ signed) ∙ ap (λ u. signed_text u precision v) (sign_kept p.left sign) in
+      let count : count_of 10 (nat_abs v) ≤ digits_at_most s =
+      subst (λ k. count_of (number_of (base_under k)) (nat_abs v) ≤ digits_at_most s) k (count-le s.conv (bits_under s.length) text v fits) in
       ap (padded (padding_of s)) (signed_value s v signed narrow ∙ ap (λ k. signed_text (sign_of s.flags) k v) (sym p_is)) ∙ same v count ∙ ap (padded p) (sym core))
 
   -- zeros up to the width, which stay
@@ -128,13 +155,16 @@ module _ (s : Specification) (signed : is_signed s.conv ≡ true) where
       let flags : FlagSet = with_flag no_flags Zero in
       let t : Specification = made_core s (padding_of s) flags None in
       let right = filled_right s all in
-      let d = like_d s.conv signed in
-      integer_reduced s (padding_of s) flags None d.text refl normal (omega arith) (λ v fits.
+      let text : is_text s.conv ≡ false = ap prints_text (signed_kind (kind_of s.conv) signed) in
+      let same = kept_kind s.conv in
+      let signed_core : is_signed t.conv ≡ true = kept_sign s.conv ∙ signed in
+      integer_reduced s (padding_of s) flags None text refl normal (omega arith) (λ v fits.
       let front : sign_or_prefix t v ≡ sign_or_prefix s v =
-      ap (λ conv. sign_or_prefix_under conv t v) d.kept ∙ sign-is t v ∙ ap (λ u. sign_text u (is_negative v)) (rw right refl ∙ sym (no_sign (sign_of s.flags) none)) ∙ sym (d.sign_is s v ∙ sign-is s v) in
+      front-is t v signed_core ∙ ap (λ u. sign_text u (is_negative v)) (rw right refl ∙ sym (no_sign (sign_of s.flags) none)) ∙ sym (front-is s v signed) in
+      let base : base_of t.conv ≡ base_of s.conv = ap (λ k. number_of (base_under k)) same in
       let natural : natural_of t (nat_abs v) ≡ natural_of s (nat_abs v) =
-      rw d.kept refl ∙ sym (natural_is s.conv (has s.flags Alt) (nat_abs v) (rw d.octal refl) ∙ ap (λ base. count_of base (nat_abs v)) d.base) in
-      let like : PrintsLike s t v = record { base = rw d.kept (sym d.base); upper = rw d.kept (sym d.upper); natural = natural; front = front } in
+      natural_signed t (nat_abs v) signed_core ∙ ap (λ b. count_of b (nat_abs v)) base ∙ sym (natural_signed s (nat_abs v) signed) in
+      let like : PrintsLike s t v = record { base = base; upper = ap has_capitals same; natural = natural; front = front } in
       ap (padded (padding_of s)) (sym (same_filled s t v like (width_is (width_of s)) all (rw right refl))))
 
 sign_lengths : (sign : Sign) (negative : Bool) → (sign_length sign ≤ length (sign_text sign negative)) × (length (sign_text sign negative) ≤ 1)

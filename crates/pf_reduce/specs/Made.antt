@@ -1,28 +1,14 @@
 -- Directives made of parts as a normal directive writes them. This project's own.
 use Rattle.std.specs.Prelude.{if◌then◌else◌, Bool, ℕ, zero, suc, Option, Some, None}
-use Rattle.pf_values.specs.declared.conversions.Conv.{Conv}
-use Rattle.pf_values.specs.declared.conversions.Conv.TheVariants.{D, I}
 use Rattle.pf_values.specs.declared.flags.Flag.TheVariants.{Minus}
 use Rattle.pf_values.specs.declared.flags.FlagSet.{FlagSet}
-use Rattle.pf_values.specs.declared.lengths.Length.{Length}
-use Rattle.pf_values.specs.declared.lengths.Length.TheVariants as lengths
+use Rattle.pf_values.specs.Conversions.{kept_conv}
+use Rattle.pf_values.specs.DataModel.{kept_length}
 use Rattle.pf_values.specs.Flags.{with_flag}
 use Rattle.pf_values.specs.Specification.{Specification, given}
 use Rattle.pf_reduce.specs.declared.padding.Padding.{Padding}
 use Rattle.pf_reduce.specs.declared.results.Core.TheVariants.{Normal}
 use Rattle.pf_reduce.specs.declared.results.Reduced.{Reduced}
-
--- `i` is `d` (C11 7.21.6.1 p8)
-abbrev pub kept_conv : Conv → Conv
-kept_conv I = D
-kept_conv conv = conv
-
--- `j`, `z` and `t` are `l`: in LP64 what they name are `long` and `unsigned long` (C11 7.21.6.1 p7)
-abbrev pub kept_length : Length → Length
-kept_length lengths.J = lengths.L
-kept_length lengths.Z = lengths.L
-kept_length lengths.T = lengths.L
-kept_length length = length
 
 -- a precision of 1 is none (C11 7.21.6.1 p8)
 abbrev pub written : ℕ → Option ℕ

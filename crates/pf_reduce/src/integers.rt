@@ -1,9 +1,15 @@
 //! Integers.
 ghost use Rattle.std.specs.Prelude.{◌≡◌, ◌≢◌, ◌≤◌, ◌<◌, ◌+◌, max, ◌++◌, ◌⊎◌, Bool, false, true, IsTrue, length};
-ghost use Rattle.pf_values.specs.declared.conversions.Conv.TheVariants.{O};
 ghost use Rattle.pf_values.specs.declared.flags.Flag.TheVariants.{Alt};
 ghost use Rattle.pf_values.specs.declared.limits.TheConstants.{MAX_NUMBER};
-ghost use Rattle.pf_values.specs.Conversions.{base_of, is_signed, is_text};
+ghost use Rattle.pf_values.specs.Conversions.{
+  alternative_under,
+  is_octal,
+  is_prefixed,
+  is_signed,
+  is_text,
+  kind_of,
+};
 ghost use Rattle.pf_values.specs.Flags.{has, no_flags, with_flag};
 ghost use Rattle.pf_values.specs.Normal.{digits_at_most};
 ghost use Rattle.pf_values.specs.Printing.{is_zero_filled};
@@ -16,21 +22,38 @@ ghost use Rattle.pf_reduce.specs.Reducing.{IsNormalCore, IsReducedTo};
 ghost use Rattle.pf_reduce.specs.Signs.{sign_flags, sign_length, sign_text};
 
 use crate::making::{within, written};
-use crate::numbers::{effective_precision, is_zero_filled, max_digits, width};
+use crate::numbers::{max_digits, width};
 use crate::padding::Padding;
 use crate::results::Reduced;
 use crate::signs::Sign;
-use pf_values::{Directive, Flag, FlagSet};
+use pf_values::{Alternative, Directive, Flag, FlagSet};
 
-/// `u`, and `o x X` without `#`: digits alone.
-pub(crate) fn reduce_plain(directive: &Directive) -> Reduced
+/// `u o x X`, by what the flag `#` does.
+pub(crate) fn reduce_unsigned(directive: &Directive, alternative: Alternative) -> Reduced
+    requires text { is_text directive.now.conv ≡ false }
+    requires sign { is_signed directive.now.conv ≡ false }
+    requires alternative { alternative ≡ alternative_under (kind_of directive.now.conv) }
+    ensures { IsReducedTo directive.now result }
+{
+    let alt = directive.flags().has(Flag::Alt);
+    match alternative {
+        Alternative::Raised if alt => reduce_octal(directive),
+        Alternative::Prefixed if alt => reduce_prefixed(directive),
+        Alternative::Undefined | Alternative::Raised | Alternative::Prefixed => {
+            reduce_plain(directive)
+        }
+    }
+}
+
+// `u`, and `o x X` without `#`: digits alone.
+fn reduce_plain(directive: &Directive) -> Reduced
     requires text { is_text directive.now.conv ≡ false }
     requires sign { is_signed directive.now.conv ≡ false }
     requires alt { has directive.now.flags Alt ≡ false }
     ensures { IsReducedTo directive.now result }
 {
     let digits = max_digits(directive);
-    let precision = effective_precision(directive, 0);
+    let precision = directive.effective_precision(0);
     let zeros = precision.saturating_sub(digits);
     let padding = Padding::of(directive)
         .cut(precision.max(digits))
@@ -40,14 +63,14 @@ pub(crate) fn reduce_plain(directive: &Directive) -> Reduced
     plain_core(padding, directive, precision - zeros)
 }
 
-/// `o` with `#`: digits that begin with 0.
-pub(crate) fn reduce_octal(directive: &Directive) -> Reduced
-    requires octal { directive.now.conv ≡ O }
+// `o` with `#`: digits that begin with 0.
+fn reduce_octal(directive: &Directive) -> Reduced
+    requires octal { is_octal directive.now.conv ≡ true }
     requires alt { has directive.now.flags Alt ≡ true }
     ensures { IsReducedTo directive.now result }
 {
     let digits = max_digits(directive);
-    let precision = effective_precision(directive, 0).max(1);
+    let precision = directive.effective_precision(0).max(1);
     let padding = Padding::of(directive)
         .cut(precision.max(digits + 1))
         .without_idle_width(precision);
@@ -61,9 +84,9 @@ pub(crate) fn reduce_octal(directive: &Directive) -> Reduced
     plain_core(padding, directive, precision - zeros)
 }
 
-/// `x X` with `#`: digits after `0x` or `0X`.
-pub(crate) fn reduce_prefixed(directive: &Directive) -> Reduced
-    requires base { base_of directive.now.conv ≡ 16 }
+// `x X` with `#`: digits after a prefix of two letters.
+fn reduce_prefixed(directive: &Directive) -> Reduced
+    requires prefixed { is_prefixed directive.now.conv ≡ true }
     requires alt { has directive.now.flags Alt ≡ true }
     ensures { IsReducedTo directive.now result }
 {
@@ -71,7 +94,7 @@ pub(crate) fn reduce_prefixed(directive: &Directive) -> Reduced
         let flags = FlagSet::empty().with(Flag::Alt).with(Flag::Zero);
         return within(Padding::of(directive), directive, flags, None);
     }
-    let precision = effective_precision(directive, 0);
+    let precision = directive.effective_precision(0);
     let padding = Padding::of(directive)
         .cut(2 + precision.max(max_digits(directive)))
         .without_idle_width(precision)
@@ -90,7 +113,7 @@ pub(crate) fn reduce_signed(directive: &Directive) -> Reduced
         return within(Padding::of(directive), directive, flags, None);
     }
     let digits = max_digits(directive);
-    let precision = effective_precision(directive, sign.len());
+    let precision = directive.effective_precision(sign.len());
     let padding = Padding::of(directive)
         .cut(1 + precision.max(digits))
         .without_idle_width(sign.len() + precision);
@@ -117,7 +140,7 @@ fn plain_core(padding: Padding, directive: &Directive, precision: u16) -> Reduce
 
 // Digits after a prefix, not filled with zeros.
 fn prefixed_core(padding: Padding, directive: &Directive, precision: u16) -> Reduced
-    requires base { base_of directive.now.conv ≡ 16 }
+    requires prefixed { is_prefixed directive.now.conv ≡ true }
     requires limit { (padding.width ≤ MAX_NUMBER) × (precision ≤ MAX_NUMBER) }
     requires least { 0 < padding.width → precision < padding.width }
     requires most { padding.width ≤ 2 + max precision (digits_at_most directive.now) }
@@ -158,7 +181,7 @@ fn keeps_zeros(directive: &Directive, sign: u16) -> bool
     ensures idle { result ≡ false → is_zero_filled directive.now ≡ true
         → (1 ≤ sign) ⊎ (width_of directive.now ≤ 1) }
 {
-    is_zero_filled(directive) && sign == 0 && width(directive) >= 2
+    directive.is_zero_filled() && sign == 0 && width(directive) >= 2
 }
 
 // On the right, in a field for the most digits and a sign, a space comes before each number that is

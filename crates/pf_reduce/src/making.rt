@@ -3,7 +3,7 @@ ghost use Rattle.std.specs.Prelude.{◌≡◌};
 ghost use Rattle.pf_values.specs.Defined.{IsDefined};
 ghost use Rattle.pf_values.specs.Normal.{IsNormal};
 ghost use Rattle.pf_values.specs.Specification.{given};
-ghost use Rattle.pf_reduce.specs.Made.{kept_conv, kept_length, made, made_core, written};
+ghost use Rattle.pf_reduce.specs.Made.{made, made_core, written};
 ghost use Rattle.pf_reduce.specs.Reducing.{IsNormalCore};
 
 use crate::padding::Padding;
@@ -42,8 +42,8 @@ pub(crate) fn within(
     } else {
         flags
     };
-    let length = kept_length(directive.length());
-    let conv = kept_conv(directive.conv());
+    let length = directive.length().representative();
+    let conv = directive.conv().representative();
     let core = defined(flags, padding.width, precision, length, conv);
     Reduced {
         spaces: padding.spaces,
@@ -60,23 +60,5 @@ pub(crate) fn written(precision: u16) -> Option<u16>
     match precision {
         1 => None,
         other => Some(other),
-    }
-}
-
-fn kept_length(length: Length) -> Length
-    ensures { result ≡ kept_length length }
-{
-    match length {
-        Length::J | Length::Z | Length::T => Length::L,
-        other => other,
-    }
-}
-
-fn kept_conv(conv: Conv) -> Conv
-    ensures { result ≡ kept_conv conv }
-{
-    match conv {
-        Conv::I => Conv::D,
-        other => other,
     }
 }

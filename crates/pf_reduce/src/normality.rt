@@ -1,12 +1,24 @@
 //! Which directives are normal.
 ghost use Rattle.std.specs.Prelude.{◌≡◌, ◌↔◌, IsTrue};
 ghost use Rattle.pf_values.specs.Defined.{IsDefined};
-ghost use Rattle.pf_values.specs.Normal.{IsNormal, IsNormalString, IsNormalPlain, IsNormalOctal, IsNormalFilled, IsNormalPrefixed, IsNormalSigned, HasNormalForm, is_kept_length};
+ghost use Rattle.pf_values.specs.Normal.{
+  IsNormal,
+  IsNormalString,
+  IsNormalPlain,
+  IsNormalOctal,
+  IsNormalFilled,
+  IsNormalPrefixed,
+  IsNormalSigned,
+  HasNormalForm,
+  HasSignedForm,
+  HasUnsignedForm,
+};
 ghost use Rattle.pf_reduce.specs.NormalParts.{HasNormalParts};
+ghost use Rattle.pf_values.specs.Conversions.{kind_of};
 ghost use Rattle.pf_values.specs.Flags.{no_flags};
 
 use crate::numbers::{longest, max_digits, precision, sign_len, width};
-use pf_values::{Conv, Directive, Flag, FlagSet, Length};
+use pf_values::{Alternative, Directive, Flag, FlagSet, Kind};
 
 /// Whether a directive is normal. `reduce` leaves a normal directive as it is.
 pub fn is_normal(directive: &Directive) -> bool
@@ -21,37 +33,53 @@ fn has_normal_parts(directive: &Directive) -> bool
 {
     let flags = directive.flags();
     let conv = directive.conv();
-    if flags.has(Flag::Group) || !is_kept_length(directive.length()) {
+    let length = directive.length();
+    if flags.has(Flag::Group)
+        || length.representative() != length
+        || conv.representative() != conv
+    {
         return false;
     }
-    if (flags.has(Flag::Plus) || flags.has(Flag::Space)) && !matches!(conv, Conv::D) {
+    let kind = conv.kind();
+    if (flags.has(Flag::Plus) || flags.has(Flag::Space)) && !matches!(kind, Kind::Signed) {
         return false;
     }
-    directive.precision() != Some(1) || matches!(conv, Conv::S)
+    directive.precision() != Some(1) || matches!(kind, Kind::String)
 }
 
 fn has_normal_form(directive: &Directive) -> bool
-    ensures { IsTrue result ↔ HasNormalForm directive.now.conv directive.now }
+    ensures { IsTrue result ↔ HasNormalForm (kind_of directive.now.conv) directive.now }
 {
-    let alt = directive.flags().has(Flag::Alt);
-    let zero = directive.flags().has(Flag::Zero);
-    match directive.conv() {
-        Conv::C => is_bare(directive),
-        Conv::S => is_normal_string(directive),
-        Conv::O if alt => is_normal_octal(directive),
-        Conv::X | Conv::UpperX if alt && zero => is_normal_filled(directive),
-        Conv::X | Conv::UpperX if alt => is_normal_prefixed(directive),
-        Conv::U | Conv::O | Conv::X | Conv::UpperX => is_normal_plain(directive),
-        Conv::D if zero => is_normal_filled(directive) && sign_len(directive) == 0,
-        Conv::D => is_normal_signed(directive),
-        Conv::I => false,
+    match directive.conv().kind() {
+        Kind::Signed => has_signed_form(directive),
+        Kind::Unsigned(base, _) => has_unsigned_form(directive, base.alternative()),
+        Kind::Char => is_bare(directive),
+        Kind::String => is_normal_string(directive),
     }
 }
 
-fn is_kept_length(length: Length) -> bool
-    ensures { result ≡ is_kept_length length }
+fn has_signed_form(directive: &Directive) -> bool
+    ensures { IsTrue result ↔ HasSignedForm directive.now }
 {
-    !matches!(length, Length::J | Length::Z | Length::T)
+    if directive.flags().has(Flag::Zero) {
+        return is_normal_filled(directive) && sign_len(directive) == 0;
+    }
+    is_normal_signed(directive)
+}
+
+fn has_unsigned_form(directive: &Directive, alternative: Alternative) -> bool
+    ensures { IsTrue result ↔ HasUnsignedForm alternative directive.now }
+{
+    let alt = directive.flags().has(Flag::Alt);
+    let zero = directive.flags().has(Flag::Zero);
+    match alternative {
+        Alternative::Raised if alt => is_normal_octal(directive),
+        Alternative::Prefixed if alt && zero => is_normal_filled(directive),
+        Alternative::Prefixed if alt => is_normal_prefixed(directive),
+        Alternative::Undefined | Alternative::Raised | Alternative::Prefixed => {
+            is_normal_plain(directive)
+        }
+    }
 }
 
 fn is_bare(directive: &Directive) -> bool

@@ -3,11 +3,11 @@ ghost use Rattle.std.specs.Prelude.{◌≡◌};
 ghost use Rattle.pf_values.specs.Normal.{IsNormal, silent};
 ghost use Rattle.pf_reduce.specs.Reducing.{IsReducedTo};
 
-use crate::integers::{reduce_octal, reduce_plain, reduce_prefixed, reduce_signed};
+use crate::integers::{reduce_signed, reduce_unsigned};
 use crate::normality::is_normal;
 use crate::results::{Core, Normal, Reduced};
 use crate::texts::{reduce_char, reduce_string};
-use pf_values::{Conv, Directive, Flag};
+use pf_values::{Directive, Kind};
 
 /// The padding and the normal core that print what the directive prints (C11 7.21.6.1, paragraphs 4
 /// to 8), for each argument of its type. A normal directive is its own core, and `%.0s` is
@@ -27,13 +27,10 @@ pub fn reduce(directive: &Directive) -> Reduced
             trail: 0,
         };
     }
-    let alt = directive.flags().has(Flag::Alt);
-    match directive.conv() {
-        Conv::C => reduce_char(directive),
-        Conv::S => reduce_string(directive),
-        Conv::D | Conv::I => reduce_signed(directive),
-        Conv::O if alt => reduce_octal(directive),
-        Conv::X | Conv::UpperX if alt => reduce_prefixed(directive),
-        Conv::U | Conv::O | Conv::X | Conv::UpperX => reduce_plain(directive),
+    match directive.conv().kind() {
+        Kind::Signed => reduce_signed(directive),
+        Kind::Unsigned(base, _) => reduce_unsigned(directive, base.alternative()),
+        Kind::Char => reduce_char(directive),
+        Kind::String => reduce_string(directive),
     }
 }

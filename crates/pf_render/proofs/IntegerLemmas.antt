@@ -1,19 +1,40 @@
 -- What is written of a number is what is printed of it.
 use Rattle.std.proofs.Common.{◌≡◌, ℕ, ◌+◌, ◌-◌, max, Bool, true, false, ◌++◌, length, map, replicate, refl, sym, ap, ◌∙◌, arith, ℤ}
-use Rattle.std.specs.Prelude.{nat_abs, ◌&&◌, if◌then◌else◌, unwrap_or, nat_lt, IsFalse}
+use Rattle.std.specs.Prelude.{nat_abs, ◌&&◌, if◌then◌else◌, IsFalse}
 use Rattle.std.specs.Fmt.{digit_glyph}
 use Rattle.std.specs.Int.Digits.{digits_of}
+use Rattle.std.proofs.lemmas.Bool.Decides.{nat_tests}
 use Rattle.std.proofs.lemmas.List.{length-map}
 use Rattle.pf_values.specs.declared.conversions.Conv.{Conv}
-use Rattle.pf_values.specs.declared.conversions.Conv.TheVariants.{O, C, S}
+use Rattle.pf_values.specs.declared.conversions.Conv.TheVariants.{O}
+use Rattle.pf_values.specs.declared.conversions.Kind.{Kind}
+use Rattle.pf_values.specs.declared.conversions.Kind.TheVariants as kinds
 use Rattle.pf_values.specs.declared.flags.Flag.TheVariants.{Alt}
 use Rattle.pf_values.specs.Arguments.{Number, IsValue}
-use Rattle.pf_values.specs.Conversions.{base_of, is_octal, is_text, is_upper}
+use Rattle.pf_values.specs.Bases.{number_of}
+use Rattle.pf_values.specs.Conversions.{
+  base_of,
+  base_under,
+  has_capitals,
+  is_octal,
+  is_text,
+  is_upper,
+  kind_of,
+  prints_text,
+}
 use Rattle.pf_values.specs.Flags.{has}
-use Rattle.pf_values.specs.Printing.{Prints, PrintsNumber, PrintsUnder, field, is_zero_filled, sign_or_prefix}
+use Rattle.pf_values.specs.Normal.{precision_of}
+use Rattle.pf_values.specs.Printing.{
+  Prints,
+  PrintsKind,
+  PrintsNumber,
+  field,
+  is_zero_filled,
+  sign_or_prefix,
+}
 use Rattle.pf_values.specs.Specification.{Specification, width_of}
 use Rattle.pf_values.specs.Text.{Text, zero_digit}
-use Rattle.pf_values.proofs.Printed.{count_of, natural_len, natural_of, precision_under, printed_digits-is, printed_precision, zeros_of}
+use Rattle.pf_values.proofs.Printed.{count_of, filled_precision, natural_len, natural_of, precision_under, printed_digits-is, printed_precision, zeros_of}
 use Rattle.pf_values.proofs.PrintsOnce.{PrintsNumber-value, value_text}
 use Rattle.pf_render.specs.Zeros.{fewest_digits, zeros_for}
 
@@ -21,8 +42,10 @@ use Rattle.pf_render.specs.Zeros.{fewest_digits, zeros_for}
 abbrev pub glyphs : Specification → ℕ → Text
 glyphs s n = map (digit_glyph (is_upper s.conv)) (digits_of (base_of s.conv) n)
 
-pub glyphs_are : (s : Specification) (v : ℤ) (conv : Conv) (n : ℕ) → conv ≡ s.conv → n ≡ nat_abs v → map (digit_glyph (is_upper conv)) (digits_of (base_of conv) n) ≡ glyphs s (nat_abs v)
-glyphs_are s v conv n e h = rw (e, h) refl
+pub glyphs_are : (s : Specification) (v : ℤ) (k : Kind) (n : ℕ) → k ≡ kind_of s.conv → n ≡ nat_abs v
+    → map (digit_glyph (has_capitals k)) (digits_of (number_of (base_under k)) n)
+    ≡ glyphs s (nat_abs v)
+glyphs_are s v k n e h = rw (e, h) refl
 
 fewest_under : (conv : Conv) (alt : Bool) (n : ℕ) → natural_len (is_octal conv && alt) (base_of conv) n ≡ (if is_octal conv && alt then count_of (base_of conv) n + 1 else count_of (base_of conv) n)
 fewest_under O true n = omega arith
@@ -32,10 +55,17 @@ fewest_under _ alt n = refl
 fewest_is : (s : Specification) (n : ℕ) → fewest_digits s (length (glyphs s n)) ≡ natural_of s n
 fewest_is s n = ap (fewest_digits s) (length-map _ _) ∙ sym (fewest_under s.conv (has s.flags Alt) n)
 
+filled_max : (width front natural : ℕ)
+    → max (max (width - front) 1) natural ≡ max (filled_precision width front natural) natural
+filled_max width front natural = grind (arith, nat_tests)
+
+-- what is left of the width, or less where the digits need more
 precision_is : (b : Bool) (s : Specification) (v : ℤ) (fewest : ℕ) → fewest ≡ natural_of s (nat_abs v)
-    → (if b then (if nat_lt (length (sign_or_prefix s v) + max 1 fewest) (width_of s) then width_of s - length (sign_or_prefix s v) else 1) else unwrap_or s.precision 1) ≡ precision_under b s v
-precision_is true s v fewest e = rw e refl
-precision_is false s v fewest e = refl
+    → max (if b then max (width_of s - length (sign_or_prefix s v)) 1 else precision_of s) fewest
+    ≡ max (precision_under b s v) (natural_of s (nat_abs v))
+precision_is true s v fewest e =
+    rw e (filled_max (width_of s) (length (sign_or_prefix s v)) (natural_of s (nat_abs v)))
+precision_is false s v fewest e = rw e refl
 
 zeros_is : (s : Specification) (v : ℤ) → zeros_for s (length (sign_or_prefix s v)) (length (glyphs s (nat_abs v))) ≡ zeros_of s (printed_precision s v) (nat_abs v)
 zeros_is s v =
@@ -51,12 +81,14 @@ written s v = sign_or_prefix s v ++ (replicate (zeros_for s (length (sign_or_pre
 written_is : (s : Specification) (v : ℤ) → written s v ≡ value_text s v
 written_is s v = ap (λ t. sign_or_prefix s v ++ t) (ap (λ k. replicate k zero_digit ++ glyphs s (nat_abs v)) (zeros_is s v) ∙ sym (printed_digits-is s (printed_precision s v) (nat_abs v)))
 
-under_number : (conv : Conv) (s : Specification) (a : ℤ) (body : Text) → IsFalse (is_text conv) → PrintsNumber s a body → PrintsUnder conv s (Number a) body
-under_number C s a body e h = cc
-under_number S s a body e h = cc
-under_number _ s a body e h = h
+under_number : (k : Kind) (s : Specification) (a : ℤ) (body : Text) → IsFalse (prints_text k)
+    → PrintsNumber s a body → PrintsKind k s (Number a) body
+under_number kinds.Signed s a body e h = h
+under_number (kinds.Unsigned base capitals) s a body e h = h
+under_number kinds.Char s a body e h = cc
+under_number kinds.String s a body e h = cc
 
 -- the sign or prefix, the zeros and the digits, in the field
 pub Prints-written : (s : Specification) (a v : ℤ) (sign zeros digits : Text) → IsFalse (is_text s.conv) → IsValue s a v → sign ≡ sign_or_prefix s v → digits ≡ glyphs s (nat_abs v) → zeros ≡ replicate (zeros_for s (length sign) (length digits)) zero_digit
     → Prints s (Number a) (field s (sign ++ (zeros ++ digits)))
-Prints-written s a v sign zeros digits e h f g k = (sign ++ (zeros ++ digits), under_number s.conv s a _ e (rw (k, f, g, written_is) (PrintsNumber-value s a v h)), refl)
+Prints-written s a v sign zeros digits e h f g k = (sign ++ (zeros ++ digits), under_number (kind_of s.conv) s a _ e (rw (k, f, g, written_is) (PrintsNumber-value s a v h)), refl)

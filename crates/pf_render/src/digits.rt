@@ -1,15 +1,16 @@
 //! The digits of a number.
-ghost use Rattle.std.specs.Prelude.{◌≡◌, ◌≤◌, drop, map, ◌⊎◌, false};
+ghost use Rattle.std.specs.Prelude.{◌≡◌, ◌≤◌, drop, map, Bool};
 ghost use Rattle.std.specs.Fmt.{digit_glyph};
 ghost use Rattle.std.specs.Int.Digits.{digits_of};
-ghost use Rattle.pf_values.specs.Conversions.{base_of, is_upper};
+ghost use Rattle.pf_values.specs.Bases.{number_of};
+ghost use Rattle.pf_values.specs.Conversions.{base_under, has_capitals};
 
 use itoa::write_digits;
-use pf_values::Conv;
+use pf_values::{Base, Kind};
 use std::marker::Model;
 
-/// The most digits that a number of 64 bits has, those of an octal one.
-const MAX_DIGITS: usize = 22;
+/// The most digits that a number of 64 bits has, those in base two.
+pub(crate) const MAX_DIGITS: usize = 64;
 
 /// The digits of a number, as bytes.
 #[derive(Drop)]
@@ -20,25 +21,25 @@ pub(crate) struct Digits {
 
 impl Model for Digits {
     ghost use Rattle.std.specs.Prelude.{ℕ, ◌≤◌, List, drop};
+    ghost use Rattle.pf_render.specs.declared.digits.TheConstants.{MAX_DIGITS};
 
     ghost Value = { List ℕ };
 
     ghost view = { λ d. drop d.start d.bytes };
 
-    ghost invariant = { λ d. d.start ≤ 22 };
+    ghost invariant = { λ d. d.start ≤ MAX_DIGITS };
 }
 
 impl Digits {
-    /// The digits of a number in the base of the conversion, none for 0.
-    pub(crate) fn of(number: u64, conv: Conv) -> Digits
-        ensures { result ≡ map (digit_glyph (is_upper conv)) (digits_of (base_of conv) number) }
+    /// The digits of a number as a kind of conversions prints them, none for 0.
+    pub(crate) fn of(number: u64, kind: Kind) -> Digits
+        ensures { let base = number_of (base_under kind) in
+            result ≡ map (digit_glyph (has_capitals kind)) (digits_of base number) }
     {
         let mut bytes = [0; MAX_DIGITS];
-        let start = match conv {
-            Conv::O => write_based(number, 8, false, &mut bytes),
-            Conv::X => write_based(number, 16, false, &mut bytes),
-            Conv::UpperX => write_based(number, 16, true, &mut bytes),
-            _ => write_decimal(number, &mut bytes),
+        let start = match kind.base() {
+            Base::Decimal => write_decimal(number, &mut bytes),
+            base => write_based(number, base.number(), kind.has_capitals(), &mut bytes),
         };
         Digits { bytes, start }
     }
@@ -55,7 +56,8 @@ impl Digits {
 // Returns where they start.
 fn write_decimal(number: u64, buf: &mut [u8; MAX_DIGITS]) -> usize
     ensures within { result ≤ MAX_DIGITS }
-    ensures digits { drop result buf.new ≡ map (digit_glyph false) (digits_of 10 number) }
+    ensures digits { (capitals : Bool)
+        → drop result buf.new ≡ map (digit_glyph capitals) (digits_of 10 number) }
 {
     if number == 0 {
         return MAX_DIGITS;
@@ -65,29 +67,29 @@ fn write_decimal(number: u64, buf: &mut [u8; MAX_DIGITS]) -> usize
 
 // Writes the digits of a number, none for 0, so that they end where the buffer does. Returns
 // where they start.
-fn write_based(number: u64, base: u64, upper: bool, buf: &mut [u8; MAX_DIGITS]) -> usize
-    requires { (base ≡ 8) ⊎ (base ≡ 16) }
+fn write_based(number: u64, base: u64, capitals: bool, buf: &mut [u8; MAX_DIGITS]) -> usize
+    requires { (2 ≤ base) × (base ≤ 36) }
     ensures within { result ≤ MAX_DIGITS }
-    ensures digits { drop result buf.new ≡ map (digit_glyph upper) (digits_of base number) }
+    ensures digits { drop result buf.new ≡ map (digit_glyph capitals) (digits_of base number) }
 {
     let mut left = number;
     let mut start = MAX_DIGITS;
     while left > 0 {
         start -= 1;
-        buf[start] = glyph((left % base) as u8, upper);
+        buf[start] = glyph((left % base) as u8, capitals);
         left /= base;
     }
     start
 }
 
 // The byte of a digit.
-fn glyph(digit: u8, upper: bool) -> u8
-    requires { digit ≤ 15 }
-    ensures { result ≡ digit_glyph upper digit }
+fn glyph(digit: u8, capitals: bool) -> u8
+    requires { digit ≤ 35 }
+    ensures { result ≡ digit_glyph capitals digit }
 {
     match digit {
         0..=9 => b'0' + digit,
-        _ if upper => b'A' + (digit - 10),
+        _ if capitals => b'A' + (digit - 10),
         _ => b'a' + (digit - 10),
     }
 }

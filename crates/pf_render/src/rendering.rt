@@ -11,7 +11,7 @@ ghost use Rattle.pf_render.specs.Counts.{WritesCounted};
 use crate::faults::WriteFault;
 use crate::integers::write_integer;
 use crate::texts::{write_char, write_string};
-use pf_values::{Arg, Conv, Counted, Directive, ShortWrite};
+use pf_values::{Arg, Counted, Directive, Kind, ShortWrite};
 use std::io::Write;
 
 /// Writes what the directive prints for an argument of its type (C11 7.21.6.1). Where the writer
@@ -40,9 +40,9 @@ pub(crate) fn write_argument<W: Write>(
     ensures { (out : Text) × PrintsOnly directive.now (argument_of argument.entry) out
         × WritesCounted W.contents writer.old writer.new out result }
 {
-    match directive.conv() {
-        Conv::S => write_string(directive, string_of(argument), writer),
-        Conv::C => write_char(directive, number_of(argument), writer),
+    match directive.conv().kind() {
+        Kind::String => write_string(directive, string_of(argument), writer),
+        Kind::Char => write_char(directive, number_of(argument), writer),
         _ => write_integer(directive, number_of(argument), writer),
     }
 }

@@ -1,7 +1,8 @@
 //! What directives print of bytes and of strings.
 ghost use Rattle.std.specs.Prelude.{◌≡◌};
-ghost use Rattle.pf_values.specs.declared.conversions.Conv.TheVariants.{C, S};
+ghost use Rattle.pf_values.specs.declared.conversions.Kind.TheVariants as kinds;
 ghost use Rattle.pf_values.specs.Arguments.{Number, String};
+ghost use Rattle.pf_values.specs.Conversions.{kind_of};
 ghost use Rattle.pf_values.specs.Printing.{Prints, shown};
 ghost use Rattle.pf_values.specs.Text.{Text};
 ghost use Rattle.pf_render.specs.Counts.{WritesCounted};
@@ -16,7 +17,7 @@ pub(crate) fn write_char<W: Write>(
     number: i128,
     writer: &mut Counted<W>,
 ) -> Result<usize, ShortWrite>
-    requires char { directive.now.conv ≡ C }
+    requires char { kind_of directive.now.conv ≡ kinds.Char }
     ensures { (out : Text) × Prints directive.now (Number number) out
         × WritesCounted W.contents writer.old writer.new out result }
 {
@@ -30,7 +31,7 @@ pub(crate) fn write_string<W: Write>(
     bytes: &[u8],
     writer: &mut Counted<W>,
 ) -> Result<usize, ShortWrite>
-    requires string { directive.now.conv ≡ S }
+    requires string { kind_of directive.now.conv ≡ kinds.String }
     ensures { (out : Text) × Prints directive.now (String bytes.now) out
         × WritesCounted W.contents writer.old writer.new out result }
 {

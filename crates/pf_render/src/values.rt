@@ -5,7 +5,7 @@ ghost use Rattle.pf_values.specs.Conversions.{is_text};
 ghost use Rattle.pf_values.specs.DataModel.{Bits, bit_count};
 ghost use Rattle.pf_values.specs.Printing.{is_negative};
 
-use pf_values::{Conv, Directive, ValueKind};
+use pf_values::{Directive, Kind, ValueKind};
 use std::marker::Model;
 
 /// The value that a directive prints for a number, by its sign and its size.
@@ -32,8 +32,8 @@ impl Value {
         requires integer { IsFalse (is_text directive.now.conv) }
         ensures { IsValue directive.now number result }
     {
-        match directive.conv() {
-            Conv::D | Conv::I => Value::signed(directive.bits(), number),
+        match directive.conv().kind() {
+            Kind::Signed => Value::signed(directive.bits(), number),
             _ => Value::unsigned(directive.bits(), number),
         }
     }

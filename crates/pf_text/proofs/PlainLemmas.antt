@@ -15,7 +15,7 @@ use Rattle.pf_values.specs.declared.conversions.Conv.TheVariants.{D, I, U, O, X,
 use Rattle.pf_values.specs.declared.lengths.Length.TheVariants as lengths
 use Rattle.pf_values.specs.declared.limits.TheConstants.{MAX_TEXT_LEN}
 use Rattle.pf_values.specs.Canonical.{written}
-use Rattle.pf_values.specs.Conversions.{conv_letter}
+use Rattle.pf_values.specs.Conversions.{conv_letter, kept_conv, kind_of}
 use Rattle.pf_values.specs.Defined.{IsDefined, refused_as}
 use Rattle.pf_values.specs.Flags.{no_flags}
 use Rattle.pf_values.specs.Items.{Item, Byte, Directive, IsReadAs, Reads}
@@ -80,7 +80,7 @@ plain_normal conv some = record { not_filled = refl; precision = some; least = �
 string_normal : IsNormalString (bare S)
 string_normal = record { shows_some = λ e. cc; width = tt; left = λ e. absurd (cc) }
 
-bare_form : (conv : Conv) → conv ≢ I → HasNormalForm conv (bare conv)
+bare_form : (conv : Conv) → conv ≢ I → HasNormalForm (kind_of conv) (bare conv)
 bare_form D other = signed_normal
 bare_form I other = absurd (other refl)
 bare_form U other = plain_normal U (omega arith)
@@ -90,12 +90,17 @@ bare_form UpperX other = plain_normal UpperX (omega arith)
 bare_form C other = (refl, refl, refl)
 bare_form S other = string_normal
 
+bare_kept : (conv : Conv) → conv ≢ I → kept_conv conv ≡ conv
+bare_kept I other = absurd (other refl)
+bare_kept _ other = refl
+
 bare_normal : (conv : Conv) → conv ≢ I → IsNormal (bare conv)
 bare_normal conv other =
     record {
       defined = bare_defined conv;
       no_group = refl;
       length = refl;
+      conv = bare_kept conv other;
       no_plus = λ e. absurd (cc);
       no_space = λ e. absurd (cc);
       precision = λ e. absurd (cc);

@@ -13,16 +13,6 @@ use pf_values::{Directive, Flag, FlagSet, Length};
 /// The bytes of a spelling.
 pub type Spelling = ArrayVec<u8, 20>;
 
-/// The order in which flags are spelled.
-const FLAGS: [Flag; 6] = [
-    Flag::Minus,
-    Flag::Plus,
-    Flag::Space,
-    Flag::Alt,
-    Flag::Zero,
-    Flag::Group,
-];
-
 /// The spelling of a directive: each flag once, in the order `-`, `+`, space, `#`, `0`, `'`, and
 /// numbers without zeros in front. A precision of 0 is `.0`. One of the longest is `%-+
 /// 0'4095.4095lld`.
@@ -45,7 +35,7 @@ fn push_flags(out: &mut Spelling, flags: FlagSet)
     ensures bytes { out.new.items ≡ out.old.items ++ flags_spelled flags }
     ensures len { array_vec_len out.new ≤ array_vec_len out.old + 6 }
 {
-    for flag in FLAGS {
+    for flag in Flag::ALL {
         push_flag(out, flags, flag);
     }
 }

@@ -3,10 +3,23 @@ use Rattle.std.proofs.Common.{◌≡◌, ℕ, suc, ◌-◌, ◌^◌, ◌<◌, �
 use Rattle.std.specs.Prelude.{nat_abs}
 use Rattle.std.proofs.lemmas.Int.{ints}
 use Rattle.std.proofs.lemmas.Int.Digits.{length-digits_of-le, length-digits_of_step}
+use Rattle.pf_values.specs.declared.bases.Base.{Base}
+use Rattle.pf_values.specs.declared.bases.Base.TheVariants.{Octal, Decimal, Hexadecimal}
 use Rattle.pf_values.specs.declared.conversions.Conv.{Conv}
-use Rattle.pf_values.specs.declared.conversions.Conv.TheVariants.{D, I, U, O, X, UpperX, C, S}
-use Rattle.pf_values.specs.Conversions.{base_of, is_signed, is_text}
-use Rattle.pf_values.specs.DataModel.{Bits, B8, B16, B32, B64, FitsIn, bit_count, most_digits}
+use Rattle.pf_values.specs.declared.conversions.Kind.{Kind}
+use Rattle.pf_values.specs.declared.conversions.Kind.TheVariants as kinds
+use Rattle.pf_values.specs.Bases.{most_digits_in, number_of}
+use Rattle.pf_values.specs.Bits.{Bits, B8, B16, B32, B64, bit_count}
+use Rattle.pf_values.specs.Conversions.{
+  base_of,
+  base_under,
+  is_signed,
+  is_text,
+  kind_of,
+  prints_signed,
+  prints_text,
+}
+use Rattle.pf_values.specs.DataModel.{FitsIn, most_digits, most_digits_of}
 use Rattle.pf_values.proofs.Printed.{count_of}
 
 -- the greatest value of so many bits has its digits in a base
@@ -19,42 +32,40 @@ signed : (base count bits : ℕ) (v : ℤ) → 2 ≤ base → 2 ^ (bits - 1) < b
 signed base count bits (pos n) b most h = length-digits_of-le base count n b (let lt = h.1 in omega (arith, ints))
 signed base count bits (negsuc n) b most h = length-digits_of-le base count (suc n) b (let ge = h.0 in omega (arith, ints))
 
-abbrev Most : Conv → Bits → Type 0
-Most conv bits = (v : ℤ) → FitsIn (is_signed conv) (bit_count bits) v → count_of (base_of conv) (nat_abs v) ≤ most_digits conv bits
+most_signed : (bits : Bits) (v : ℤ) → FitsIn true (bit_count bits) v
+    → count_of 10 (nat_abs v) ≤ most_digits_of kinds.Signed bits
+most_signed B8 v h = signed 10 3 8 v (omega arith) (omega arith) h
+most_signed B16 v h = signed 10 5 16 v (omega arith) (omega arith) h
+most_signed B32 v h = signed 10 10 32 v (omega arith) (omega arith) h
+most_signed B64 v h = signed 10 19 64 v (omega arith) (omega arith) h
 
-most_d : (bits : Bits) → Most D bits
-most_d B8 v h = signed 10 3 8 v (omega arith) (omega arith) h
-most_d B16 v h = signed 10 5 16 v (omega arith) (omega arith) h
-most_d B32 v h = signed 10 10 32 v (omega arith) (omega arith) h
-most_d B64 v h = signed 10 19 64 v (omega arith) (omega arith) h
+most_unsigned : (base : Base) (bits : Bits) (v : ℤ) → FitsIn false (bit_count bits) v
+    → count_of (number_of base) (nat_abs v) ≤ most_digits_in base bits
+most_unsigned Octal B8 v h = unsigned 8 3 8 v (omega arith) (omega arith) h
+most_unsigned Octal B16 v h = unsigned 8 6 16 v (omega arith) (omega arith) h
+most_unsigned Octal B32 v h = unsigned 8 11 32 v (omega arith) (omega arith) h
+most_unsigned Octal B64 v h = unsigned 8 22 64 v (omega arith) (omega arith) h
+most_unsigned Decimal B8 v h = unsigned 10 3 8 v (omega arith) (omega arith) h
+most_unsigned Decimal B16 v h = unsigned 10 5 16 v (omega arith) (omega arith) h
+most_unsigned Decimal B32 v h = unsigned 10 10 32 v (omega arith) (omega arith) h
+most_unsigned Decimal B64 v h = unsigned 10 20 64 v (omega arith) (omega arith) h
+most_unsigned Hexadecimal B8 v h = unsigned 16 2 8 v (omega arith) (omega arith) h
+most_unsigned Hexadecimal B16 v h = unsigned 16 4 16 v (omega arith) (omega arith) h
+most_unsigned Hexadecimal B32 v h = unsigned 16 8 32 v (omega arith) (omega arith) h
+most_unsigned Hexadecimal B64 v h = unsigned 16 16 64 v (omega arith) (omega arith) h
 
-most_u : (bits : Bits) → Most U bits
-most_u B8 v h = unsigned 10 3 8 v (omega arith) (omega arith) h
-most_u B16 v h = unsigned 10 5 16 v (omega arith) (omega arith) h
-most_u B32 v h = unsigned 10 10 32 v (omega arith) (omega arith) h
-most_u B64 v h = unsigned 10 20 64 v (omega arith) (omega arith) h
+most_of : (k : Kind) (bits : Bits) → prints_text k ≡ false → (v : ℤ)
+    → FitsIn (prints_signed k) (bit_count bits) v
+    → count_of (number_of (base_under k)) (nat_abs v) ≤ most_digits_of k bits
+most_of kinds.Signed bits e v h = most_signed bits v h
+most_of (kinds.Unsigned base capitals) bits e v h = most_unsigned base bits v h
+most_of kinds.Char bits e v h = cc
+most_of kinds.String bits e v h = cc
 
-most_o : (bits : Bits) → Most O bits
-most_o B8 v h = unsigned 8 3 8 v (omega arith) (omega arith) h
-most_o B16 v h = unsigned 8 6 16 v (omega arith) (omega arith) h
-most_o B32 v h = unsigned 8 11 32 v (omega arith) (omega arith) h
-most_o B64 v h = unsigned 8 22 64 v (omega arith) (omega arith) h
-
-most_x : (bits : Bits) → Most X bits
-most_x B8 v h = unsigned 16 2 8 v (omega arith) (omega arith) h
-most_x B16 v h = unsigned 16 4 16 v (omega arith) (omega arith) h
-most_x B32 v h = unsigned 16 8 32 v (omega arith) (omega arith) h
-most_x B64 v h = unsigned 16 16 64 v (omega arith) (omega arith) h
-
-pub count-le : (conv : Conv) (bits : Bits) → is_text conv ≡ false → Most conv bits
-count-le D bits h = most_d bits
-count-le I bits h = most_d bits
-count-le U bits h = most_u bits
-count-le O bits h = most_o bits
-count-le X bits h = most_x bits
-count-le UpperX bits h = most_x bits
-count-le C bits h = cc
-count-le S bits h = cc
+pub count-le : (conv : Conv) (bits : Bits) → is_text conv ≡ false → (v : ℤ)
+    → FitsIn (is_signed conv) (bit_count bits) v
+    → count_of (base_of conv) (nat_abs v) ≤ most_digits conv bits
+count-le conv bits e v h = most_of (kind_of conv) bits e v h
 
 -- a number other than 0 has a digit
 pub count-ge : (base n : ℕ) → 2 ≤ base → 1 ≤ n → 1 ≤ count_of base n

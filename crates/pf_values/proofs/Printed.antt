@@ -1,6 +1,8 @@
 -- For each directive and argument of its type there is one text that it prints.
 use Rattle.std.proofs.Common.{◌≡◌, ℕ, zero, suc, ◌+◌, ◌-◌, ◌<◌, ◌≤◌, max, Bool, true, false, List, [], ◌∷◌, ◌++◌, length, get_or, map, replicate, refl, ap, ◌∙◌, subst, arith, inl, inr, ℤ}
 use Rattle.std.specs.Prelude.{MatchBool, ◌&&◌, nat_abs, unwrap_or, nat_lt, if◌then◌else◌}
+use Rattle.pf_values.specs.declared.bases.Base.{Base}
+use Rattle.pf_values.specs.declared.bases.Base.TheVariants.{Octal, Decimal, Hexadecimal}
 use Rattle.pf_values.specs.declared.conversions.Conv.{Conv}
 use Rattle.pf_values.specs.declared.conversions.Conv.TheVariants.{O, X, UpperX}
 use Rattle.std.specs.Fmt.{digit_glyph}
@@ -11,7 +13,8 @@ use Rattle.std.proofs.lemmas.Int.Digits.{first_digits_of}
 use Rattle.std.proofs.lemmas.List.{length-append, length-map}
 use Rattle.pf_values.specs.Digits.{IsNumeral, IsLeastFrom}
 use Rattle.pf_values.specs.Flags.{has}
-use Rattle.pf_values.specs.Conversions.{base_of, is_octal, is_upper}
+use Rattle.pf_values.specs.Bases.{number_of}
+use Rattle.pf_values.specs.Conversions.{base_of, base_under, is_octal, is_upper, kind_of}
 use Rattle.pf_values.specs.declared.flags.Flag.TheVariants.{Alt}
 use Rattle.pf_values.specs.Printing.{AreDigitsOf, IsOctalFromZero, BeginsWithZero, IsPrecision, ReachesWidth, is_zero_filled, sign_or_prefix}
 use Rattle.pf_values.specs.Specification.{Specification, width_of}
@@ -114,11 +117,13 @@ abbrev pub len_under : Bool → ℕ → ℕ → ℕ
 len_under true precision count = max precision (suc count)
 len_under false precision count = max precision count
 
-base_from_two : (c : Conv) → 2 ≤ base_of c
-base_from_two O = omega arith
-base_from_two X = omega arith
-base_from_two UpperX = omega arith
-base_from_two _ = omega arith
+from_two : (base : Base) → 2 ≤ number_of base
+from_two Octal = omega arith
+from_two Decimal = omega arith
+from_two Hexadecimal = omega arith
+
+pub base_from_two : (conv : Conv) → 2 ≤ base_of conv
+base_from_two conv = from_two (base_under (kind_of conv))
 
 pub AreDigitsOf-exist : (s : Specification) (precision n : ℕ) → AreDigitsOf s precision n (printed_digits s precision n)
 AreDigitsOf-exist s precision n = under_exists (from_zero s) (base_of s.conv) (is_upper s.conv) precision n (base_from_two s.conv)

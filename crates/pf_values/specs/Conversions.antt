@@ -1,9 +1,23 @@
--- Conversions: their letters, and what the standard says of each.
+-- Conversions: a row for each with its letter, and one with its kind, from which all else is read.
 use Rattle.std.specs.Prelude.{ℕ, Bool, true, false}
+use Rattle.pf_values.specs.declared.bases.Alternative.{Alternative}
+use Rattle.pf_values.specs.declared.bases.Alternative.TheVariants.{Undefined}
+use Rattle.pf_values.specs.declared.bases.Base.{Base}
+use Rattle.pf_values.specs.declared.bases.Base.TheVariants.{Octal, Decimal, Hexadecimal}
 use Rattle.pf_values.specs.declared.conversions.Conv.{Conv}
 use Rattle.pf_values.specs.declared.conversions.Conv.TheVariants.{D, I, U, O, X, UpperX, C, S}
+use Rattle.pf_values.specs.declared.conversions.Kind.{Kind}
+use Rattle.pf_values.specs.declared.conversions.Kind.TheVariants as kinds
+use Rattle.pf_values.specs.Bases.{
+  alternative_of,
+  is_defined,
+  is_grouped,
+  number_of,
+  puts_prefix,
+  raises_precision,
+}
 
--- `d`, `i`, `u`, `o`, `x`, `X`, `c` and `s`
+-- `d`, `i`, `u`, `o`, `x`, `X`, `c` and `s` (C11 7.21.6.1 p8)
 abbrev pub conv_letter : Conv → ℕ
 conv_letter D = 100
 conv_letter I = 105
@@ -14,51 +28,113 @@ conv_letter UpperX = 88
 conv_letter C = 99
 conv_letter S = 115
 
--- a byte or a string
+-- what is printed (C11 7.21.6.1 p8)
+abbrev pub kind_of : Conv → Kind
+kind_of D = kinds.Signed
+kind_of I = kinds.Signed
+kind_of U = kinds.Unsigned Decimal false
+kind_of O = kinds.Unsigned Octal false
+kind_of X = kinds.Unsigned Hexadecimal false
+kind_of UpperX = kinds.Unsigned Hexadecimal true
+kind_of C = kinds.Char
+kind_of S = kinds.String
+
+-- The conversion that a normal directive has for it: `i` is another name for `d` (C11 7.21.6.1 p8).
+abbrev pub kept_conv : Conv → Conv
+kept_conv I = D
+kept_conv D = D
+kept_conv U = U
+kept_conv O = O
+kept_conv X = X
+kept_conv UpperX = UpperX
+kept_conv C = C
+kept_conv S = S
+
+-- a byte or a string (C11 7.21.6.1 p8 on `c s`)
+abbrev pub prints_text : Kind → Bool
+prints_text kinds.Signed = false
+prints_text (kinds.Unsigned base capitals) = false
+prints_text kinds.Char = true
+prints_text kinds.String = true
+
+abbrev pub prints_char : Kind → Bool
+prints_char kinds.Signed = false
+prints_char (kinds.Unsigned base capitals) = false
+prints_char kinds.Char = true
+prints_char kinds.String = false
+
+abbrev pub prints_string : Kind → Bool
+prints_string kinds.Signed = false
+prints_string (kinds.Unsigned base capitals) = false
+prints_string kinds.Char = false
+prints_string kinds.String = true
+
+-- a number that may be below 0 (C11 7.21.6.1 p8 on `d i`)
+abbrev pub prints_signed : Kind → Bool
+prints_signed kinds.Signed = true
+prints_signed (kinds.Unsigned base capitals) = false
+prints_signed kinds.Char = false
+prints_signed kinds.String = false
+
+-- a number in base ten, whose digits `'` groups (POSIX fprintf)
+abbrev pub prints_grouped : Kind → Bool
+prints_grouped kinds.Signed = true
+prints_grouped (kinds.Unsigned base capitals) = is_grouped base
+prints_grouped kinds.Char = false
+prints_grouped kinds.String = false
+
+-- What `#` does: nothing that is defined to a number with a sign, a byte and a string
+-- (C11 7.21.6.1 p6).
+abbrev pub alternative_under : Kind → Alternative
+alternative_under kinds.Signed = Undefined
+alternative_under (kinds.Unsigned base capitals) = alternative_of base
+alternative_under kinds.Char = Undefined
+alternative_under kinds.String = Undefined
+
+-- the base of the digits, ten where there is a sign (C11 7.21.6.1 p8)
+abbrev pub base_under : Kind → Base
+base_under kinds.Signed = Decimal
+base_under (kinds.Unsigned base capitals) = base
+base_under kinds.Char = Decimal
+base_under kinds.String = Decimal
+
+-- the digits from ten on are `ABCDEF`, and not `abcdef` (C11 7.21.6.1 p8 on `x X`)
+abbrev pub has_capitals : Kind → Bool
+has_capitals kinds.Signed = false
+has_capitals (kinds.Unsigned base capitals) = capitals
+has_capitals kinds.Char = false
+has_capitals kinds.String = false
+
+-- the same of conversions
 abbrev pub is_text : Conv → Bool
-is_text C = true
-is_text S = true
-is_text _ = false
+is_text conv = prints_text (kind_of conv)
 
 abbrev pub is_char : Conv → Bool
-is_char C = true
-is_char _ = false
+is_char conv = prints_char (kind_of conv)
 
 abbrev pub is_string : Conv → Bool
-is_string S = true
-is_string _ = false
+is_string conv = prints_string (kind_of conv)
 
--- a number in base ten
 abbrev pub is_decimal : Conv → Bool
-is_decimal D = true
-is_decimal I = true
-is_decimal U = true
-is_decimal _ = false
+is_decimal conv = prints_grouped (kind_of conv)
 
 abbrev pub is_signed : Conv → Bool
-is_signed D = true
-is_signed I = true
-is_signed _ = false
+is_signed conv = prints_signed (kind_of conv)
 
+-- `#` raises the precision
 abbrev pub is_octal : Conv → Bool
-is_octal O = true
-is_octal _ = false
+is_octal conv = raises_precision (alternative_under (kind_of conv))
+
+-- `#` puts two letters before the digits
+abbrev pub is_prefixed : Conv → Bool
+is_prefixed conv = puts_prefix (alternative_under (kind_of conv))
 
 -- `#` says something of it
 abbrev pub has_alternative_form : Conv → Bool
-has_alternative_form O = true
-has_alternative_form X = true
-has_alternative_form UpperX = true
-has_alternative_form _ = false
+has_alternative_form conv = is_defined (alternative_under (kind_of conv))
 
--- the base of the digits
 abbrev pub base_of : Conv → ℕ
-base_of O = 8
-base_of X = 16
-base_of UpperX = 16
-base_of _ = 10
+base_of conv = number_of (base_under (kind_of conv))
 
--- the digits from ten on are `ABCDEF`, and not `abcdef`
 abbrev pub is_upper : Conv → Bool
-is_upper UpperX = true
-is_upper _ = false
+is_upper conv = has_capitals (kind_of conv)

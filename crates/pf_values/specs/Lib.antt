@@ -1,6 +1,8 @@
 pub mod Text
 pub mod Flags
 pub mod Lengths
+pub mod Bits
+pub mod Bases
 pub mod Conversions
 pub mod RefusalKinds
 pub mod Specification

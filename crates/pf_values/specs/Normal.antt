@@ -1,19 +1,29 @@
 -- Which directives are normal: in each form no two print alike.
-use Rattle.std.specs.Prelude.{◌≡◌, ◌≢◌, ℕ, ◌+◌, ◌<◌, ◌≤◌, max, Bool, true, false, Some, None, unwrap_or, IsTrue, IsFalse, MatchBool, IfSome, if◌then◌else◌, ◌||◌}
-use Rattle.pf_values.specs.declared.conversions.Conv.{Conv}
-use Rattle.pf_values.specs.declared.conversions.Conv.TheVariants.{D, I, U, O, X, UpperX, C, S}
+use Rattle.std.specs.Prelude.{◌≡◌, ◌≢◌, ℕ, ◌+◌, ◌-◌, ◌<◌, ◌≤◌, max, Bool, true, false, Some, None, unwrap_or, IsTrue, IsFalse, MatchBool, IfSome, if◌then◌else◌, ◌||◌}
+use Rattle.pf_values.specs.declared.bases.Alternative.{Alternative}
+use Rattle.pf_values.specs.declared.bases.Alternative.TheVariants.{Undefined, Raised, Prefixed}
+use Rattle.pf_values.specs.declared.conversions.Conv.TheVariants.{S}
+use Rattle.pf_values.specs.declared.conversions.Kind.{Kind}
+use Rattle.pf_values.specs.declared.conversions.Kind.TheVariants as kinds
 use Rattle.pf_values.specs.declared.flags.Flag.TheVariants.{Minus, Plus, Space, Alt, Zero, Group}
-use Rattle.pf_values.specs.declared.lengths.Length.{Length}
 use Rattle.pf_values.specs.declared.lengths.Length.TheVariants as lengths
-use Rattle.pf_values.specs.Conversions.{is_string}
-use Rattle.pf_values.specs.DataModel.{bits_under, most_digits}
+use Rattle.pf_values.specs.Bases.{alternative_of}
+use Rattle.pf_values.specs.Conversions.{is_signed, is_string, kept_conv, kind_of}
+use Rattle.pf_values.specs.DataModel.{bits_under, kept_length, most_digits}
 use Rattle.pf_values.specs.Defined.{IsDefined}
 use Rattle.pf_values.specs.Flags.{has, no_flags}
+use Rattle.pf_values.specs.Printing.{is_zero_filled}
 use Rattle.pf_values.specs.Specification.{Specification, width_of}
 
 -- the precision of an integer
 abbrev pub precision_of : Specification → ℕ
 precision_of s = unwrap_or s.precision 1
+
+-- The same beside a sign or prefix of so many bytes, where the flag `0` makes it what is left of
+-- the width (C11 7.21.6.1 p6).
+abbrev pub effective_precision : Specification → ℕ → ℕ
+effective_precision s front =
+    if is_zero_filled s then max (width_of s - front) 1 else precision_of s
 
 -- the most digits that its value has
 abbrev pub digits_at_most : Specification → ℕ
@@ -76,35 +86,32 @@ IsNormalHexadecimal true true s = IsNormalFilled s
 IsNormalHexadecimal true false s = IsNormalPrefixed s
 IsNormalHexadecimal false _ s = IsNormalPlain s
 
-abbrev pub HasNormalForm : Conv → Specification → Type 0
-HasNormalForm C s = (s.flags ≡ no_flags) × (s.width ≡ None) × (s.precision ≡ None)
-HasNormalForm S s = IsNormalString s
-HasNormalForm U s = IsNormalPlain s
-HasNormalForm O s = MatchBool (has s.flags Alt) (IsNormalOctal s) (IsNormalPlain s)
-HasNormalForm X s = IsNormalHexadecimal (has s.flags Alt) (has s.flags Zero) s
-HasNormalForm UpperX s = IsNormalHexadecimal (has s.flags Alt) (has s.flags Zero) s
-HasNormalForm D s = MatchBool (has s.flags Zero) (IsNormalFilled s × (sign_len s ≡ 0)) (IsNormalSigned s)
-HasNormalForm I s = ⊥
+-- `u o x X`, by what `#` does
+abbrev pub HasUnsignedForm : Alternative → Specification → Type 0
+HasUnsignedForm Undefined s = IsNormalPlain s
+HasUnsignedForm Raised s = MatchBool (has s.flags Alt) (IsNormalOctal s) (IsNormalPlain s)
+HasUnsignedForm Prefixed s = IsNormalHexadecimal (has s.flags Alt) (has s.flags Zero) s
 
--- `j`, `z` and `t` have another name
-abbrev pub is_kept_length : Length → Bool
-is_kept_length lengths.J = false
-is_kept_length lengths.Z = false
-is_kept_length lengths.T = false
-is_kept_length _ = true
+-- `d`
+abbrev pub HasSignedForm : Specification → Type 0
+HasSignedForm s =
+    MatchBool (has s.flags Zero) (IsNormalFilled s × (sign_len s ≡ 0)) (IsNormalSigned s)
 
-abbrev pub takes_signs : Conv → Bool
-takes_signs D = true
-takes_signs _ = false
+abbrev pub HasNormalForm : Kind → Specification → Type 0
+HasNormalForm kinds.Signed s = HasSignedForm s
+HasNormalForm (kinds.Unsigned base capitals) s = HasUnsignedForm (alternative_of base) s
+HasNormalForm kinds.Char s = (s.flags ≡ no_flags) × (s.width ≡ None) × (s.precision ≡ None)
+HasNormalForm kinds.String s = IsNormalString s
 
 pub record IsNormal (s : Specification) : Type 0 where
   pub defined : IsDefined s
   pub no_group : IsFalse (has s.flags Group)
-  pub length : IsTrue (is_kept_length s.length)
-  pub no_plus : IsTrue (has s.flags Plus) → IsTrue (takes_signs s.conv)
-  pub no_space : IsTrue (has s.flags Space) → IsTrue (takes_signs s.conv)
+  pub length : kept_length s.length ≡ s.length
+  pub conv : kept_conv s.conv ≡ s.conv
+  pub no_plus : IsTrue (has s.flags Plus) → IsTrue (is_signed s.conv)
+  pub no_space : IsTrue (has s.flags Space) → IsTrue (is_signed s.conv)
   pub precision : s.precision ≡ Some 1 → IsTrue (is_string s.conv)
-  pub form : HasNormalForm s.conv s
+  pub form : HasNormalForm (kind_of s.conv) s
 
 -- `%.0s`, which takes a string and prints nothing
 abbrev pub silent : Specification

@@ -1,10 +1,16 @@
 -- What a directive prints, and what a text does.
 use Rattle.std.specs.Prelude.{◌≡◌, ℕ, zero, suc, ◌-◌, ◌≤◌, ℤ, pos, negsuc, nat_abs, Bool, true, false, not, ◌&&◌, List, [], ◌∷◌, ◌++◌, length, take, replicate, slice_index, codes, Option, Some, None, unwrap_or, is_none, if◌then◌else◌, MatchBool, ◌↔◌}
+use Rattle.pf_values.specs.declared.bases.Alternative.{Alternative}
+use Rattle.pf_values.specs.declared.bases.Alternative.TheVariants.{Undefined, Raised, Prefixed}
+use Rattle.pf_values.specs.declared.bases.Base.{Base}
+use Rattle.pf_values.specs.declared.bases.Base.TheVariants.{Octal}
 use Rattle.pf_values.specs.declared.conversions.Conv.{Conv}
-use Rattle.pf_values.specs.declared.conversions.Conv.TheVariants.{D, I, O, X, UpperX, C, S}
+use Rattle.pf_values.specs.declared.conversions.Kind.{Kind}
+use Rattle.pf_values.specs.declared.conversions.Kind.TheVariants as kinds
 use Rattle.pf_values.specs.declared.flags.Flag.TheVariants.{Minus, Plus, Space, Alt, Zero}
 use Rattle.pf_values.specs.Arguments.{Argument, Number, String, HasType, HasTypes, IsConverted, IsValue}
-use Rattle.pf_values.specs.Conversions.{base_of, is_octal, is_upper}
+use Rattle.pf_values.specs.Bases.{alternative_of, number_of, prefix_of}
+use Rattle.pf_values.specs.Conversions.{base_of, is_octal, is_upper, kind_of}
 use Rattle.pf_values.specs.DataModel.{B8, arg_type, bit_count}
 use Rattle.pf_values.specs.Digits.{IsNumeral, IsLeastFrom}
 use Rattle.pf_values.specs.Flags.{has}
@@ -17,7 +23,7 @@ BeginsWithZero t = slice_index t 0 ≡ zero_digit
 
 -- an octal numeral whose first digit is 0
 abbrev pub IsOctalFromZero : ℕ → ℕ → Text → Type 0
-IsOctalFromZero precision n t = IsNumeral (base_of O) false precision n t × BeginsWithZero t
+IsOctalFromZero precision n t = IsNumeral (number_of Octal) false precision n t × BeginsWithZero t
 
 -- The digits of a number, at least as many as the precision. `#` raises the precision of an octal number, by as little as makes it begin with 0.
 abbrev pub AreDigitsOf : Specification → ℕ → ℕ → Text → Type 0
@@ -43,12 +49,20 @@ sign s value =
 abbrev pub base_prefix : Text → Specification → ℤ → Text
 base_prefix letters s value = if has s.flags Alt && not (is_zero (nat_abs value)) then letters else []
 
+abbrev pub prefix_under : Alternative → Base → Bool → Specification → ℤ → Text
+prefix_under Undefined base capitals s value = []
+prefix_under Raised base capitals s value = []
+prefix_under Prefixed base capitals s value = base_prefix (prefix_of base capitals) s value
+
+abbrev pub front_under : Kind → Specification → ℤ → Text
+front_under kinds.Signed s value = sign s value
+front_under (kinds.Unsigned base capitals) s value =
+    prefix_under (alternative_of base) base capitals s value
+front_under kinds.Char s value = []
+front_under kinds.String s value = []
+
 abbrev pub sign_or_prefix_under : Conv → Specification → ℤ → Text
-sign_or_prefix_under D s value = sign s value
-sign_or_prefix_under I s value = sign s value
-sign_or_prefix_under X s value = base_prefix (codes "0x") s value
-sign_or_prefix_under UpperX s value = base_prefix (codes "0X") s value
-sign_or_prefix_under _ s value = []
+sign_or_prefix_under conv s value = front_under (kind_of conv) s value
 
 -- what stands before the digits
 abbrev pub sign_or_prefix : Specification → ℤ → Text
@@ -87,13 +101,18 @@ abbrev pub shown : Option ℕ → Text → Text
 shown None bytes = bytes
 shown (Some most) bytes = take most bytes
 
+abbrev pub PrintsKind : Kind → Specification → Argument → Text → Type 0
+PrintsKind kinds.Signed s (Number n) body = PrintsNumber s n body
+PrintsKind kinds.Signed s (String bytes) body = ⊥
+PrintsKind (kinds.Unsigned base capitals) s (Number n) body = PrintsNumber s n body
+PrintsKind (kinds.Unsigned base capitals) s (String bytes) body = ⊥
+PrintsKind kinds.Char s (Number n) body = PrintsChar n body
+PrintsKind kinds.Char s (String bytes) body = ⊥
+PrintsKind kinds.String s (Number n) body = ⊥
+PrintsKind kinds.String s (String bytes) body = body ≡ shown s.precision bytes
+
 abbrev pub PrintsUnder : Conv → Specification → Argument → Text → Type 0
-PrintsUnder C s (Number n) body = PrintsChar n body
-PrintsUnder S s (String bytes) body = body ≡ shown s.precision bytes
-PrintsUnder C s (String bytes) body = ⊥
-PrintsUnder S s (Number n) body = ⊥
-PrintsUnder _ s (Number n) body = PrintsNumber s n body
-PrintsUnder _ s (String bytes) body = ⊥
+PrintsUnder conv s argument body = PrintsKind (kind_of conv) s argument body
 
 -- the fewest spaces with which a text has this many bytes
 abbrev pub padding : ℕ → Text → Text

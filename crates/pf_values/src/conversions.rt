@@ -1,6 +1,18 @@
-//! Conversions.
+//! Conversions, and what they print.
 ghost use Rattle.std.specs.Prelude.{◌≡◌};
-ghost use Rattle.pf_values.specs.Conversions.{has_alternative_form, is_char, is_decimal, is_text};
+ghost use Rattle.pf_values.specs.Bases.{is_defined};
+ghost use Rattle.pf_values.specs.Conversions.{
+  alternative_under,
+  base_under,
+  has_capitals,
+  kept_conv,
+  kind_of,
+  prints_char,
+  prints_grouped,
+  prints_text,
+};
+
+use crate::bases::{Alternative, Base};
 
 /// A conversion (C11 7.21.6.1, paragraph 8).
 #[derive(Clone, Copy, Debug, PartialEq, Eq)]
@@ -23,28 +35,116 @@ pub enum Conv {
     S,
 }
 
+/// What a conversion prints (C11 7.21.6.1, paragraph 8).
+#[derive(Clone, Copy, Debug, PartialEq, Eq)]
+pub enum Kind {
+    /// A number that may be below 0, in base ten.
+    Signed,
+    /// A number that is not, in a base; and whether its digits from ten on are capitals.
+    Unsigned(Base, bool),
+    /// One byte.
+    Char,
+    /// The bytes of a string.
+    String,
+}
+
 impl Conv {
-    pub(crate) fn is_text(self) -> bool
-        ensures { result ≡ is_text self }
+    /// All conversions.
+    pub const ALL: [Conv; 8] = [
+        Conv::D,
+        Conv::I,
+        Conv::U,
+        Conv::O,
+        Conv::X,
+        Conv::UpperX,
+        Conv::C,
+        Conv::S,
+    ];
+
+    /// The conversion that a normal directive has for it: `i` is another name for `d`
+    /// (C11 7.21.6.1, paragraph 8).
+    pub fn representative(self) -> Conv
+        ensures { result ≡ kept_conv self }
     {
-        matches!(self, Conv::C | Conv::S)
+        match self {
+            Conv::I => Conv::D,
+            other => other,
+        }
+    }
+
+    /// What it prints.
+    pub fn kind(self) -> Kind
+        ensures { result ≡ kind_of self }
+    {
+        match self {
+            Conv::D | Conv::I => Kind::Signed,
+            Conv::U => Kind::Unsigned(Base::Decimal, false),
+            Conv::O => Kind::Unsigned(Base::Octal, false),
+            Conv::X => Kind::Unsigned(Base::Hexadecimal, false),
+            Conv::UpperX => Kind::Unsigned(Base::Hexadecimal, true),
+            Conv::C => Kind::Char,
+            Conv::S => Kind::String,
+        }
+    }
+}
+
+impl Kind {
+    pub(crate) fn is_text(self) -> bool
+        ensures { result ≡ prints_text self }
+    {
+        matches!(self, Kind::Char | Kind::String)
     }
 
     pub(crate) fn is_char(self) -> bool
-        ensures { result ≡ is_char self }
+        ensures { result ≡ prints_char self }
     {
-        matches!(self, Conv::C)
+        matches!(self, Kind::Char)
     }
 
-    pub(crate) fn is_decimal(self) -> bool
-        ensures { result ≡ is_decimal self }
+    // In a base whose digits the apostrophe groups.
+    pub(crate) fn is_grouped(self) -> bool
+        ensures { result ≡ prints_grouped self }
     {
-        matches!(self, Conv::D | Conv::I | Conv::U)
+        match self {
+            Kind::Signed => true,
+            Kind::Unsigned(base, _) => base.is_grouped(),
+            Kind::Char | Kind::String => false,
+        }
     }
 
     pub(crate) fn has_alternative_form(self) -> bool
-        ensures { result ≡ has_alternative_form self }
+        ensures { result ≡ is_defined (alternative_under self) }
     {
-        matches!(self, Conv::O | Conv::X | Conv::UpperX)
+        !matches!(self.alternative(), Alternative::Undefined)
+    }
+
+    /// The base of the digits, ten where there is a sign; a byte and a string have none.
+    pub fn base(self) -> Base
+        ensures { result ≡ base_under self }
+    {
+        match self {
+            Kind::Unsigned(base, _) => base,
+            Kind::Signed | Kind::Char | Kind::String => Base::Decimal,
+        }
+    }
+
+    /// Whether the digits from ten on are capitals.
+    pub fn has_capitals(self) -> bool
+        ensures { result ≡ has_capitals self }
+    {
+        match self {
+            Kind::Unsigned(_, capitals) => capitals,
+            Kind::Signed | Kind::Char | Kind::String => false,
+        }
+    }
+
+    /// What the flag `#` does to it (C11 7.21.6.1, paragraph 6).
+    pub fn alternative(self) -> Alternative
+        ensures { result ≡ alternative_under self }
+    {
+        match self {
+            Kind::Unsigned(base, _) => base.alternative(),
+            Kind::Signed | Kind::Char | Kind::String => Alternative::Undefined,
+        }
     }
 }

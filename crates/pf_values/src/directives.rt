@@ -1,11 +1,15 @@
 //! Directives: conversion specifications that the standard defines, within the limits.
-ghost use Rattle.std.specs.Prelude.{◌≡◌, MatchResult};
+ghost use Rattle.std.specs.Prelude.{◌≡◌, ◌≤◌, MatchResult};
+ghost use Rattle.pf_values.specs.declared.limits.TheConstants.{MAX_NUMBER};
 ghost use Rattle.pf_values.specs.Defined.{IsDefined, first_broken, refused_as, undefined_kinds};
 ghost use Rattle.pf_values.specs.Specification.{given};
-ghost use Rattle.pf_values.specs.DataModel.{arg_type, bits_under, by_bits, signed_type, unsigned_type, value_bits};
-ghost use Rattle.pf_values.specs.Normal.{digits_at_most};
+ghost use Rattle.pf_values.specs.DataModel.{arg_type, value_bits};
+ghost use Rattle.pf_values.specs.Normal.{digits_at_most, effective_precision};
+ghost use Rattle.pf_values.specs.Printing.{is_zero_filled};
 
-use crate::conversions::Conv;
+use crate::bases::by_bits;
+use crate::conversions::{Conv, Kind};
+use crate::data_model::row_of;
 use crate::flags::{Flag, FlagSet};
 use crate::lengths::Length;
 use crate::limits::MAX_NUMBER;
@@ -108,15 +112,39 @@ impl Directive {
         self.conv
     }
 
+    /// Whether the flag `0` counts: beside `-` or a precision it doesn't (C11 7.21.6.1,
+    /// paragraph 6).
+    pub fn is_zero_filled(&self) -> bool
+        ensures { result ≡ is_zero_filled self.now }
+    {
+        let flags = self.flags;
+        flags.has(Flag::Zero) && !flags.has(Flag::Minus) && self.precision.is_none()
+    }
+
+    /// The precision of a number beside a sign or prefix of so many bytes: as it is given, or 1;
+    /// where the flag `0` counts, what is left of the width (C11 7.21.6.1, paragraphs 6 and 8).
+    pub fn effective_precision(&self, front: u16) -> u16
+        ensures value { result ≡ effective_precision self.now front }
+        ensures limit { result ≤ MAX_NUMBER }
+    {
+        let width = self.width.unwrap_or(0);
+        let precision = self.precision.unwrap_or(1);
+        if self.is_zero_filled() {
+            width.saturating_sub(front).max(1)
+        } else {
+            precision
+        }
+    }
+
     /// The type of the argument that it takes.
     pub fn arg_type(&self) -> ArgType
         ensures { result ≡ arg_type self.now }
     {
-        match self.conv {
-            Conv::D | Conv::I => signed_type(self.length),
-            Conv::U | Conv::O | Conv::X | Conv::UpperX => unsigned_type(self.length),
-            Conv::C => ArgType::Int,
-            Conv::S => ArgType::Str,
+        match self.conv.kind() {
+            Kind::Signed => row_of(self.length).signed,
+            Kind::Unsigned(_, _) => row_of(self.length).unsigned,
+            Kind::Char => ArgType::Int,
+            Kind::String => ArgType::Str,
         }
     }
 
@@ -124,56 +152,22 @@ impl Directive {
     pub fn bits(&self) -> u8
         ensures { result ≡ value_bits self.now }
     {
-        if self.conv.is_text() {
+        if self.conv.kind().is_text() {
             return 0;
         }
-        by_bits(self.length, 8, 16, 32, 64)
+        row_of(self.length).bits
     }
 
     /// The most digits that its value has, the sign not counted; 0 for `c` and `s`.
     pub fn max_digits(&self) -> u8
         ensures { result ≡ digits_at_most self.now }
     {
-        match self.conv {
-            Conv::D | Conv::I => by_bits(self.length, 3, 5, 10, 19),
-            Conv::U => by_bits(self.length, 3, 5, 10, 20),
-            Conv::O => by_bits(self.length, 3, 6, 11, 22),
-            Conv::X | Conv::UpperX => by_bits(self.length, 2, 4, 8, 16),
-            Conv::C | Conv::S => 0,
+        let bits = row_of(self.length).bits;
+        match self.conv.kind() {
+            Kind::Signed => by_bits(bits, 3, 5, 10, 19),
+            Kind::Unsigned(base, _) => base.max_digits(bits),
+            Kind::Char | Kind::String => 0,
         }
-    }
-}
-
-// One of four, for values of 8, 16, 32 and 64 bits.
-fn by_bits(length: Length, b8: u8, b16: u8, b32: u8, b64: u8) -> u8
-    ensures { result ≡ by_bits (bits_under length) b8 b16 b32 b64 }
-{
-    match length {
-        Length::Hh => b8,
-        Length::H => b16,
-        Length::None => b32,
-        Length::L | Length::Ll | Length::J | Length::Z | Length::T => b64,
-    }
-}
-
-fn signed_type(length: Length) -> ArgType
-    ensures { result ≡ signed_type length }
-{
-    match length {
-        Length::None | Length::Hh | Length::H => ArgType::Int,
-        Length::L | Length::J | Length::Z | Length::T => ArgType::Long,
-        Length::Ll => ArgType::LongLong,
-    }
-}
-
-fn unsigned_type(length: Length) -> ArgType
-    ensures { result ≡ unsigned_type length }
-{
-    match length {
-        Length::Hh | Length::H => ArgType::Int,
-        Length::None => ArgType::UInt,
-        Length::L | Length::J | Length::Z | Length::T => ArgType::ULong,
-        Length::Ll => ArgType::ULongLong,
     }
 }
 
@@ -186,22 +180,23 @@ fn undefined(
 ) -> Option<RefusalKind>
     ensures { result ≡ first_broken undefined_kinds (given flags None precision length conv) }
 {
-    if conv.is_text() && length.is_long() {
+    let kind = conv.kind();
+    if kind.is_text() && length.is_long() {
         return Some(RefusalKind::Wide);
     }
-    if !conv.has_alternative_form() && flags.has(Flag::Alt) {
+    if !kind.has_alternative_form() && flags.has(Flag::Alt) {
         return Some(RefusalKind::AltUndefined);
     }
-    if conv.is_text() && flags.has(Flag::Zero) {
+    if kind.is_text() && flags.has(Flag::Zero) {
         return Some(RefusalKind::ZeroUndefined);
     }
-    if !conv.is_decimal() && flags.has(Flag::Group) {
+    if !kind.is_grouped() && flags.has(Flag::Group) {
         return Some(RefusalKind::GroupUndefined);
     }
-    if conv.is_char() && precision.is_some() {
+    if kind.is_char() && precision.is_some() {
         return Some(RefusalKind::PrecisionUndefined);
     }
-    if conv.is_text() && !length.is_plain() {
+    if kind.is_text() && !length.is_plain() {
         return Some(RefusalKind::LengthUndefined);
     }
     None

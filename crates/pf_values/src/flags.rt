@@ -19,6 +19,18 @@ pub enum Flag {
     Group,
 }
 
+impl Flag {
+    /// All flags, in the order in which `spell` writes them.
+    pub const ALL: [Flag; 6] = [
+        Flag::Minus,
+        Flag::Plus,
+        Flag::Space,
+        Flag::Alt,
+        Flag::Zero,
+        Flag::Group,
+    ];
+}
+
 /// A set of flags. A flag that is given twice means the same as once.
 #[derive(Clone, Copy, Debug, PartialEq, Eq)]
 pub struct FlagSet {

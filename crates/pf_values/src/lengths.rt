@@ -1,6 +1,9 @@
 //! Length modifiers.
 ghost use Rattle.std.specs.Prelude.{◌≡◌};
+ghost use Rattle.pf_values.specs.DataModel.{kept_length};
 ghost use Rattle.pf_values.specs.Lengths.{is_long, is_plain};
+
+use crate::data_model::row_of;
 
 /// A length modifier (C11 7.21.6.1, paragraph 7).
 #[derive(Clone, Copy, Debug, PartialEq, Eq)]
@@ -24,6 +27,26 @@ pub enum Length {
 }
 
 impl Length {
+    /// All length modifiers.
+    pub const ALL: [Length; 8] = [
+        Length::None,
+        Length::Hh,
+        Length::H,
+        Length::L,
+        Length::Ll,
+        Length::J,
+        Length::Z,
+        Length::T,
+    ];
+
+    /// The length modifier that a normal directive has for it: one that names the same types
+    /// (C11 7.21.6.1, paragraph 7).
+    pub fn representative(self) -> Length
+        ensures { result ≡ kept_length self }
+    {
+        row_of(self).kept
+    }
+
     pub(crate) fn is_plain(self) -> bool
         ensures { result ≡ is_plain self }
     {

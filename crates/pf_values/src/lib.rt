@@ -4,8 +4,10 @@
 #![tactic(auto)]
 
 mod arguments;
+mod bases;
 mod conversions;
 mod counting;
+mod data_model;
 pub mod devices;
 mod directives;
 mod flags;
@@ -20,7 +22,8 @@ mod value_kinds;
 mod writing;
 
 pub use arguments::{Arg, CBytes};
-pub use conversions::Conv;
+pub use bases::{Alternative, Base};
+pub use conversions::{Conv, Kind};
 pub use counting::Counted;
 pub use directives::Directive;
 pub use flags::{Flag, FlagSet};

@@ -2,37 +2,6 @@
 use crate::laws::prints_once;
 use crate::{Arg, ArgType, CBytes, Conv, Directive, Flag, FlagSet, Length, RefusalKind, ValueKind};
 
-const CONVERSIONS: [Conv; 8] = [
-    Conv::D,
-    Conv::I,
-    Conv::U,
-    Conv::O,
-    Conv::X,
-    Conv::UpperX,
-    Conv::C,
-    Conv::S,
-];
-
-const FLAGS: [Flag; 6] = [
-    Flag::Minus,
-    Flag::Plus,
-    Flag::Space,
-    Flag::Alt,
-    Flag::Zero,
-    Flag::Group,
-];
-
-const LENGTHS: [Length; 8] = [
-    Length::None,
-    Length::Hh,
-    Length::H,
-    Length::L,
-    Length::Ll,
-    Length::J,
-    Length::Z,
-    Length::T,
-];
-
 // The number of the refusal, or 0.
 fn refused(made: Result<Directive, RefusalKind>) -> u8 {
     match made {
@@ -45,7 +14,7 @@ fn number_of(flags: FlagSet, width: u16, precision: Option<u16>, length: Length,
     refused(Directive::new(flags, Some(width), precision, length, conv))
 }
 
-// By conversion, as in the standard's paragraphs on each flag: a row for each of `CONVERSIONS`.
+// By conversion, as in the standard's paragraphs on each flag: a row for each of `Conv::ALL`.
 #[rattlefmt::skip]
 const WITH_FLAG: [[u8; 6]; 8] = [
     // -  +  ' '  #   0   '
@@ -61,8 +30,8 @@ const WITH_FLAG: [[u8; 6]; 8] = [
 
 #[test]
 fn each_flag_with_each_conversion(rt: HostRuntime) {
-    for (conv, row) in CONVERSIONS.iter().zip(WITH_FLAG.iter()) {
-        for (flag, want) in FLAGS.iter().zip(row.iter()) {
+    for (conv, row) in Conv::ALL.iter().zip(WITH_FLAG.iter()) {
+        for (flag, want) in Flag::ALL.iter().zip(row.iter()) {
             let flags = FlagSet::empty().with(*flag);
             assert_eq!(rt;
                 number_of(flags, 0, None, Length::None, *conv),
@@ -88,8 +57,8 @@ const WITH_LENGTH: [[u8; 8]; 8] = [
 
 #[test]
 fn each_modifier_with_each_conversion(rt: HostRuntime) {
-    for (conv, row) in CONVERSIONS.iter().zip(WITH_LENGTH.iter()) {
-        for (length, want) in LENGTHS.iter().zip(row.iter()) {
+    for (conv, row) in Conv::ALL.iter().zip(WITH_LENGTH.iter()) {
+        for (length, want) in Length::ALL.iter().zip(row.iter()) {
             assert_eq!(rt;
                 number_of(FlagSet::empty(), 0, None, *length, *conv),
                 *want,
@@ -101,7 +70,7 @@ fn each_modifier_with_each_conversion(rt: HostRuntime) {
 
 #[test]
 fn a_precision_with_each_conversion(rt: HostRuntime) {
-    for (conv, want) in CONVERSIONS.iter().zip([0, 0, 0, 0, 0, 0, 16, 0]) {
+    for (conv, want) in Conv::ALL.iter().zip([0, 0, 0, 0, 0, 0, 16, 0]) {
         assert_eq!(rt;
             number_of(FlagSet::empty(), 0, Some(0), Length::None, *conv),
             want,
@@ -153,7 +122,7 @@ fn a_directive_has_its_parts(rt: HostRuntime) {
         assert!(rt; false, "refused");
         return;
     };
-    for flag in FLAGS {
+    for flag in Flag::ALL {
         let want = flag == Flag::Minus || flag == Flag::Plus;
         assert_eq!(rt; made.flags().has(flag), want, "{flag:?}");
     }
@@ -188,10 +157,10 @@ fn type_of(length: Length, conv: Conv) -> Result<ArgType, RefusalKind> {
 
 #[test]
 fn each_argument_has_its_type(rt: HostRuntime) {
-    for (i, conv) in CONVERSIONS.iter().enumerate() {
+    for (i, conv) in Conv::ALL.iter().enumerate() {
         let table = if i < 2 { SIGNED_TYPES } else { UNSIGNED_TYPES };
         if i < 6 {
-            for (length, want) in LENGTHS.iter().zip(table.iter()) {
+            for (length, want) in Length::ALL.iter().zip(table.iter()) {
                 assert_eq!(rt; type_of(*length, *conv), Ok(*want), "{conv:?} {length:?}");
             }
         }
@@ -200,7 +169,7 @@ fn each_argument_has_its_type(rt: HostRuntime) {
     assert_eq!(rt; type_of(Length::None, Conv::S), Ok(ArgType::Str));
 }
 
-// The bits of a value under each modifier of `LENGTHS`.
+// The bits of a value under each modifier of `Length::ALL`.
 const BITS: [u8; 8] = [32, 8, 16, 64, 64, 64, 64, 64];
 
 fn bits_of(length: Length, conv: Conv) -> Result<u8, RefusalKind> {
@@ -209,8 +178,8 @@ fn bits_of(length: Length, conv: Conv) -> Result<u8, RefusalKind> {
 
 #[test]
 fn each_value_has_its_bits(rt: HostRuntime) {
-    for conv in CONVERSIONS.iter().take(6) {
-        for (length, want) in LENGTHS.iter().zip(BITS.iter()) {
+    for conv in Conv::ALL.iter().take(6) {
+        for (length, want) in Length::ALL.iter().zip(BITS.iter()) {
             assert_eq!(rt; bits_of(*length, *conv), Ok(*want), "{conv:?} {length:?}");
         }
     }
@@ -243,7 +212,7 @@ fn each_kind_converts(rt: HostRuntime) {
     }
 }
 
-// A row for each of `CONVERSIONS`; without a modifier, and then `hh h l ll j z t`.
+// A row for each of `Conv::ALL`; without a modifier, and then `hh h l ll j z t`.
 #[rattlefmt::skip]
 static MAX_DIGITS: [[u8; 8]; 6] = [
     [10, 3, 5, 19, 19, 19, 19, 19], // d
@@ -260,8 +229,8 @@ fn max_digits_of(length: Length, conv: Conv) -> Result<u8, RefusalKind> {
 
 #[test]
 fn each_value_has_so_many_digits_at_most(rt: HostRuntime) {
-    for (conv, row) in CONVERSIONS.iter().zip(MAX_DIGITS.iter()) {
-        for (length, want) in LENGTHS.iter().zip(row.iter()) {
+    for (conv, row) in Conv::ALL.iter().zip(MAX_DIGITS.iter()) {
+        for (length, want) in Length::ALL.iter().zip(row.iter()) {
             assert_eq!(rt;
                 max_digits_of(*length, *conv),
                 Ok(*want),

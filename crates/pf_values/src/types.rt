@@ -1,4 +1,8 @@
 //! Argument types.
+ghost use Rattle.std.specs.Prelude.{◌↔◌, IsTrue};
+ghost use Rattle.pf_values.specs.DataModel.{IsInRange};
+
+use crate::data_model::{fits_signed, fits_unsigned, type_bits};
 
 /// The type of an argument, in the data model LP64.
 #[derive(Clone, Copy, Debug, Default, PartialEq, Eq)]
@@ -18,4 +22,18 @@ pub enum ArgType {
     ULongLong,
     /// A pointer to bytes that end in a null.
     Str,
+}
+
+impl ArgType {
+    /// Whether the number is in the range of the type (C11 6.2.5); no number is in that of a string.
+    pub fn contains(self, number: i128) -> bool
+        ensures { IsTrue result ↔ IsInRange self number }
+    {
+        let bits = type_bits(self);
+        match self {
+            ArgType::Int | ArgType::Long | ArgType::LongLong => fits_signed(number, bits),
+            ArgType::UInt | ArgType::ULong | ArgType::ULongLong => fits_unsigned(number, bits),
+            ArgType::Str => false,
+        }
+    }
 }

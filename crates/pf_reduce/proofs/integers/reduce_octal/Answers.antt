@@ -1,12 +1,21 @@
-use Rattle.std.proofs.Common.{◌≡◌, ◌+◌, ◌-◌, max, false, refl, arith, ap, sym, ◌∙◌}
+use Rattle.std.proofs.Common.{◌≡◌, ◌+◌, ◌-◌, max, false, arith, ap, sym, ◌∙◌}
 use Rattle.std.specs.Prelude.{nat_abs}
-use Rattle.pf_values.specs.Conversions.{is_signed, is_text}
+use Rattle.pf_values.specs.Conversions.{is_signed, is_text, prints_signed, prints_text}
 use Rattle.pf_values.specs.Flags.{no_flags, with_flag}
 use Rattle.pf_values.specs.declared.flags.Flag.TheVariants.{Alt}
-use Rattle.pf_values.specs.Normal.{digits_at_most}
-use Rattle.pf_reduce.specs.Numbers.{effective_precision}
+use Rattle.pf_values.specs.Normal.{digits_at_most, effective_precision}
 use Rattle.pf_reduce.specs.Padded.{padded, padding_of}
-use Rattle.pf_reduce.proofs.PlainNumbers.{digits_reduced, length-octal_text, octal_count, octal_reduced, octal_split, octal_text, octal_value, one_or_none}
+use Rattle.pf_reduce.proofs.PlainNumbers.{
+  digits_reduced,
+  length-octal_text,
+  octal,
+  octal_count,
+  octal_reduced,
+  octal_split,
+  octal_text,
+  octal_value,
+  one_or_none,
+}
 use Rattle.pf_reduce.proofs.integers.reduce_octal.Goals as goal
 
 pub returns-then-has_spaces_before : goal.returns-then-has_spaces_before
@@ -15,7 +24,7 @@ returns-then-has_spaces_before c =
     let p = c.max-precision.result in
     let p_is : p ≡ max (effective_precision s 0) 1 = c.max-precision.ensures ∙ ap (λ k. max k 1) c.effective_precision.ensures.value in
     let flags : c.with-alt.result ≡ with_flag no_flags Alt = c.with-alt.ensures ∙ ap (λ f. with_flag f Alt) c.empty.ensures in
-    let e = c.requires.octal in
+    let e = octal s.conv c.requires.octal in
     rw (c.within.ensures.value, c.written.ensures, flags) (octal_reduced s c.without_idle_width-padding.result p e c.requires.alt (rw (c.within.ensures.value, c.written.ensures, flags) at c.within.ensures.normal) (omega (arith, c.of.ensures.limit, c.cut.ensures.constant, c.without_idle_width-padding.ensures.constant)) (λ v count.
     let body = octal_text p (nat_abs v) in
     let len = length-octal_text p (nat_abs v) in
@@ -27,9 +36,9 @@ returns-then-has_spaces_before c =
 pub returns : goal.returns
 returns c =
     let s = c.args.directive.now in
-    let e = c.requires.octal in
-    let text : is_text s.conv ≡ false = rw e refl in
-    let signed : is_signed s.conv ≡ false = rw e refl in
+    let e = octal s.conv c.requires.octal in
+    let text : is_text s.conv ≡ false = ap prints_text e in
+    let signed : is_signed s.conv ≡ false = ap prints_signed e in
     let p = c.max-precision.result in
     let p_is : p ≡ max (effective_precision s 0) 1 = c.max-precision.ensures ∙ ap (λ k. max k 1) c.effective_precision.ensures.value in
     let z = 1 + c.saturating_sub-zeros.result in

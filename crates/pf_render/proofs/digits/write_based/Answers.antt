@@ -2,7 +2,8 @@ use Rattle.std.proofs.Common.{◌≤◌, arith, ◌∙◌}
 use Rattle.std.proofs.lemmas.Int.Digits.{length-digits_of_step}
 use Rattle.std.proofs.lemmas.List.{drop_all, append-nil, length-set}
 use Rattle.std.specs.Fmt.{digit_glyph}
-use Rattle.pf_render.proofs.DigitLemmas.{digit_in_front, fits_22}
+use Rattle.pf_render.proofs.DigitLemmas.{digit_in_front, fits}
+use Rattle.pf_render.specs.declared.digits.TheConstants.{MAX_DIGITS}
 use Rattle.pf_render.proofs.digits.write_based.Goals as goal
 
 pub loop-left-init : goal.loop-left-init
@@ -10,8 +11,8 @@ loop-left-init c =
     record {
       size = c.told-buf;
       within = omega arith;
-      room = fits_22 c.args.base c.args.number c.requires c.ranges.number.fits;
-      digits = rw (drop_all 22 c.args.buf.now (omega arith)) (append-nil _);
+      room = fits c.args.base c.args.number c.requires.0 c.ranges.number.fits;
+      digits = rw (drop_all MAX_DIGITS c.args.buf.now (omega arith)) (append-nil _);
     }
 
 pub overflow_sub-start : goal.overflow_sub-start
@@ -26,5 +27,5 @@ loop-left-preserved c =
       size = length-set _ _ _ ∙ c.loop-left.invariant.size;
       within = omega arith;
       room = omega (arith, c.loop-left.invariant.room);
-      digits = rw c.glyph.ensures (digit_in_front (digit_glyph c.args.upper) c.args.base c.loop-left.left c.loop-left.start c.loop-left.buf _ base c.loop-left-test.true (omega (arith, c.loop-left.invariant.room)) (omega (arith, c.loop-left.invariant.size)) c.loop-left.invariant.digits);
+      digits = rw c.glyph.ensures (digit_in_front (digit_glyph c.args.capitals) c.args.base c.loop-left.left c.loop-left.start c.loop-left.buf _ base c.loop-left-test.true (omega (arith, c.loop-left.invariant.room)) (omega (arith, c.loop-left.invariant.size)) c.loop-left.invariant.digits);
     }

@@ -5,8 +5,8 @@ use Rattle.pf_values.specs.Arg.{argument_of}
 use Rattle.pf_values.proofs.PrintsOnce.{PrintsOnly-is}
 use Rattle.pf_render.proofs.rendering.write_argument.Goals as goal
 
-pub returns-in-C : goal.returns-in-C
-returns-in-C g c =
+pub returns-in-Char : goal.returns-in-Char
+returns-in-Char g c =
     let out = c.write_char.ensures in
     let number : to_z w128 (of_z w128 c.number_of.result) ≡ c.number_of.result = omega (arith, ints) in
     (out.0, PrintsOnly-is c.args.directive.now (argument_of c.args.argument) out.0 c.requires.typed (rw c.number_of.ensures (rw number at out.1)), out.2)

@@ -1,0 +1,80 @@
+-- The bases in which numbers are printed: a row for each, with all that hangs on the base.
+use Rattle.std.specs.Prelude.{ℕ, Bool, true, false, if◌then◌else◌, [], codes}
+use Rattle.pf_values.specs.declared.bases.Alternative.{Alternative}
+use Rattle.pf_values.specs.declared.bases.Alternative.TheVariants.{Undefined, Raised, Prefixed}
+use Rattle.pf_values.specs.declared.bases.Base.{Base}
+use Rattle.pf_values.specs.declared.bases.Base.TheVariants.{Octal, Decimal, Hexadecimal}
+use Rattle.pf_values.specs.Bits.{Bits, by_bits}
+use Rattle.pf_values.specs.Text.{Text}
+
+pub record Row : Type 0 where
+  -- the base itself (C11 7.21.6.1 p8)
+  pub number : ℕ
+  -- what `#` does (C11 7.21.6.1 p6)
+  pub alternative : Alternative
+  -- the letters that `#` puts before a number, in lower case and as capitals (C11 7.21.6.1 p6)
+  pub prefix : Text
+  pub capital_prefix : Text
+  -- `'` groups the digits (POSIX fprintf)
+  pub grouped : Bool
+  -- the most digits of an unsigned number of so many bits
+  pub digits : Bits → ℕ
+
+abbrev pub row_of : Base → Row
+row_of Octal = record {
+  number = 8;
+  alternative = Raised;
+  prefix = [];
+  capital_prefix = [];
+  grouped = false;
+  digits = λ bits. by_bits bits 3 6 11 22;
+}
+row_of Decimal = record {
+  number = 10;
+  alternative = Undefined;
+  prefix = [];
+  capital_prefix = [];
+  grouped = true;
+  digits = λ bits. by_bits bits 3 5 10 20;
+}
+row_of Hexadecimal = record {
+  number = 16;
+  alternative = Prefixed;
+  prefix = codes "0x";
+  capital_prefix = codes "0X";
+  grouped = false;
+  digits = λ bits. by_bits bits 2 4 8 16;
+}
+
+abbrev pub number_of : Base → ℕ
+number_of base = (row_of base).number
+
+abbrev pub alternative_of : Base → Alternative
+alternative_of base = (row_of base).alternative
+
+abbrev pub prefix_of : Base → Bool → Text
+prefix_of base capitals = if capitals then (row_of base).capital_prefix else (row_of base).prefix
+
+abbrev pub is_grouped : Base → Bool
+is_grouped base = (row_of base).grouped
+
+abbrev pub most_digits_in : Base → Bits → ℕ
+most_digits_in base bits = (row_of base).digits bits
+
+-- `#` is defined (C11 7.21.6.1 p6)
+abbrev pub is_defined : Alternative → Bool
+is_defined Undefined = false
+is_defined Raised = true
+is_defined Prefixed = true
+
+-- `#` raises the precision (C11 7.21.6.1 p6)
+abbrev pub raises_precision : Alternative → Bool
+raises_precision Undefined = false
+raises_precision Raised = true
+raises_precision Prefixed = false
+
+-- `#` puts two letters before a number (C11 7.21.6.1 p6)
+abbrev pub puts_prefix : Alternative → Bool
+puts_prefix Undefined = false
+puts_prefix Raised = false
+puts_prefix Prefixed = true

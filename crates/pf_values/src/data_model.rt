@@ -1,0 +1,95 @@
+//! The data model LP64: what a length modifier says, and how many bits a type has.
+ghost use Rattle.std.specs.Prelude.{◌≡◌, ◌↔◌, IsTrue, false, true};
+ghost use Rattle.pf_values.specs.Bits.{Bits, bit_count};
+ghost use Rattle.pf_values.specs.DataModel.{
+  FitsIn,
+  bits_under,
+  kept_length,
+  signed_type,
+  type_bits,
+  unsigned_type,
+};
+
+use crate::lengths::Length;
+use crate::types::ArgType;
+
+/// What a length modifier says (C11 7.21.6.1, paragraph 7).
+#[derive(Clone, Copy, Debug, PartialEq, Eq)]
+pub(crate) struct Row {
+    /// The modifier that a normal directive has for it.
+    pub(crate) kept: Length,
+    /// The bits of the value that is printed.
+    pub(crate) bits: u8,
+    /// The type of the argument of `d` and `i`.
+    pub(crate) signed: ArgType,
+    /// The type of the argument of `u`, `o`, `x` and `X`.
+    pub(crate) unsigned: ArgType,
+}
+
+/// The row of a length modifier.
+pub(crate) fn row_of(length: Length) -> Row
+    ensures kept { result.kept ≡ kept_length length }
+    ensures bits { result.bits ≡ bit_count (bits_under length) }
+    ensures signed { result.signed ≡ signed_type length }
+    ensures unsigned { result.unsigned ≡ unsigned_type length }
+{
+    match length {
+        Length::Hh => columns(Length::Hh, 8, ArgType::Int, ArgType::Int),
+        Length::H => columns(Length::H, 16, ArgType::Int, ArgType::Int),
+        Length::None => columns(Length::None, 32, ArgType::Int, ArgType::UInt),
+        Length::Ll => columns(Length::Ll, 64, ArgType::LongLong, ArgType::ULongLong),
+        Length::L | Length::J | Length::Z | Length::T => {
+            columns(Length::L, 64, ArgType::Long, ArgType::ULong)
+        }
+    }
+}
+
+fn columns(kept: Length, bits: u8, signed: ArgType, unsigned: ArgType) -> Row
+    ensures { result ≡ record { kept = kept; bits = bits; signed = signed; unsigned = unsigned } }
+{
+    Row {
+        kept,
+        bits,
+        signed,
+        unsigned,
+    }
+}
+
+/// The bits of an integer type (C11 6.2.5). A string has none, and nothing reads its row.
+pub(crate) fn type_bits(arg_type: ArgType) -> u8
+    ensures { result ≡ bit_count (type_bits arg_type) }
+{
+    match arg_type {
+        ArgType::Int => 32,
+        ArgType::UInt => 32,
+        ArgType::Long => 64,
+        ArgType::ULong => 64,
+        ArgType::LongLong => 64,
+        ArgType::ULongLong => 64,
+        ArgType::Str => 64,
+    }
+}
+
+/// Whether a number fits so many bits with its sign.
+pub(crate) fn fits_signed(number: i128, bits: u8) -> bool
+    ensures { (b : Bits) → bits ≡ bit_count b → (IsTrue result ↔ FitsIn true (bit_count b) number) }
+{
+    match bits {
+        8 => i8::try_from(number).is_ok(),
+        16 => i16::try_from(number).is_ok(),
+        32 => i32::try_from(number).is_ok(),
+        _ => i64::try_from(number).is_ok(),
+    }
+}
+
+/// Whether a number fits so many bits without a sign.
+pub(crate) fn fits_unsigned(number: i128, bits: u8) -> bool
+    ensures { (b : Bits) → bits ≡ bit_count b → (IsTrue result ↔ FitsIn false (bit_count b) number) }
+{
+    match bits {
+        8 => u8::try_from(number).is_ok(),
+        16 => u16::try_from(number).is_ok(),
+        32 => u32::try_from(number).is_ok(),
+        _ => u64::try_from(number).is_ok(),
+    }
+}
