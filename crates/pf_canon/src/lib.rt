@@ -1,7 +1,8 @@
 //! Canonical texts: the one spelling to which each printf format is brought.
 #![tactic(auto)]
 
-mod building;
+mod canonical_texts;
+mod canonicity;
 mod comparing;
 mod copying;
 mod cutting;
@@ -14,7 +15,6 @@ pub mod limits;
 mod parts;
 mod putting;
 mod reading;
-mod recognizing;
 mod rooms;
 mod sides;
 mod sources;
@@ -23,11 +23,11 @@ mod streaming;
 mod tests;
 mod transducing;
 
-pub use building::canonical;
+pub use canonical_texts::canonical;
+pub use canonicity::is_canonical;
 pub use comparing::{same_stream, same_text};
 pub use copying::{canonical_stream, copy_canonical};
 pub use faults::{CanonFault, CopyFault, SideFault, StreamFault};
 pub use lengths::canonical_len;
-pub use recognizing::is_canonical;
 pub use sides::Side;
 pub use streaming::CanonBytes;

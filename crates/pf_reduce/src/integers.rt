@@ -21,7 +21,7 @@ ghost use Rattle.pf_reduce.specs.Padded.{padded};
 ghost use Rattle.pf_reduce.specs.Reducing.{IsNormalCore, IsReducedTo};
 ghost use Rattle.pf_reduce.specs.Signs.{sign_flags, sign_length, sign_text};
 
-use crate::making::{within, written};
+use crate::normal_directives::{within, written};
 use crate::numbers::{max_digits, width};
 use crate::padding::Padding;
 use crate::results::Reduced;

@@ -3,7 +3,7 @@
 #![tactic(auto)]
 
 mod integers;
-mod making;
+mod normal_directives;
 mod normality;
 mod numbers;
 mod padding;

@@ -7,7 +7,7 @@ ghost use Rattle.pf_values.specs.Text.{Text};
 ghost use Rattle.pf_reduce.specs.Padded.{constants, padded};
 ghost use Rattle.pf_reduce.specs.Reducing.{IsReducedTo};
 
-use crate::making::within;
+use crate::normal_directives::within;
 use crate::numbers::width;
 use crate::padding::Padding;
 use crate::results::{Core, Reduced};

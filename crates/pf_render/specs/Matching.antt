@@ -7,7 +7,7 @@ use Rattle.pf_values.specs.Arg.{argument_of, type_of}
 use Rattle.pf_values.specs.Arguments.{HasType, HasTypes}
 use Rattle.pf_values.specs.Text.{Text}
 use Rattle.pf_text.specs.Signatures as signatures
-use Rattle.pf_render.specs.declared.matching.Tally.{Tally}
+use Rattle.pf_render.specs.declared.argument_lists.Tally.{Tally}
 
 -- an argument is of a type; any other than that of its directive is undefined (C11 7.21.6.1 p9)
 pub record IsOfType (arg : Arg) (type : ArgType) : Type 0 where

@@ -10,9 +10,9 @@ ghost use Rattle.pf_render.specs.Keeping.{KeepsAll, items_of_parts, most_parts};
 ghost use Rattle.pf_render.specs.Matching.{TakesArguments};
 ghost use Rattle.pf_render.specs.Rendering.{RendersInto, RendersTo};
 
+use crate::argument_lists::check_arguments;
 use crate::faults::{RenderFault, WriteFault};
 use crate::kept::{Kept, Part};
-use crate::matching::check_arguments;
 use crate::progress::Progress;
 use pf_text::Pieces;
 use pf_values::{Arg, Counted};

@@ -9,9 +9,9 @@ ghost use Rattle.pf_render.specs.Counts.{WritesCounted};
 ghost use Rattle.pf_render.specs.Keeping.{items_of_part};
 ghost use Rattle.pf_render.specs.Progressing.{WritesNext, next_arguments};
 
+use crate::directives::write_argument;
 use crate::faults::WriteFault;
 use crate::kept::Part;
-use crate::rendering::write_argument;
 use pf_values::{Arg, Counted, ShortWrite, write_bytes};
 use std::io::Write;
 

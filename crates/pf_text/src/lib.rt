@@ -2,6 +2,7 @@
 //! directives are spelled; the types of the arguments that a format takes.
 #![tactic(auto)]
 
+mod argument_types;
 mod checking;
 mod faults;
 pub mod laws;
@@ -12,17 +13,16 @@ mod refusal;
 mod scanner;
 mod search;
 mod signatures;
-mod signing;
 mod spelling;
 mod state;
 #[cfg(test)]
 mod tests;
 
+pub use argument_types::signature;
 pub use checking::check;
 pub use faults::TextFault;
 pub use pieces::{Piece, Pieces};
 pub use refusal::Refusal;
 pub use scanner::{Scanner, Step};
 pub use signatures::Signature;
-pub use signing::signature;
 pub use spelling::{Spelling, spell};
