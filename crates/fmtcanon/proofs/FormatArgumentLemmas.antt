@@ -77,7 +77,7 @@ module _ (given : List UntypedArg) (wanted : List ArgType) (args : List Arg) (at
     }
 
 -- there are more or fewer words than the format takes arguments
-pub wrong_count_hinders : (format : Text) (words : List Text) (wanted : List ArgType) → signatures.HasTypes format wanted → (arguments : List Argument) → SpellArguments words arguments
+pub wrong_count_hinders : (format : Text) (words : List Text) (wanted : List ArgType) → signatures.TakesTypes format wanted → (arguments : List Argument) → SpellArguments words arguments
     → (count given : ℕ) → count ≡ length wanted → given ≡ length arguments → count ≢ given → HindersArguments format words (WrongCount count given)
 wrong_count_hinders format words wanted takes arguments spelled count given is_count is_given differ = (
   takes.items,

@@ -15,7 +15,7 @@ use Rattle.fmtcanon.specs.FormatArguments.{AreArgumentsFor}
 
 module _ (format : Text) (words : List Text) (args : List Arg) (gives : AreArgumentsFor format words args) where
   -- the types that the format takes are those of the arguments
-  its_types : (wanted : List ArgType) → signatures.HasTypes format wanted → wanted ≡ map type_of args
+  its_types : (wanted : List ArgType) → signatures.TakesTypes format wanted → wanted ≡ map type_of args
   its_types wanted takes = takes.types_are ∙ ap types (Reads-unique format takes.items gives.items takes.reads gives.given.reads) ∙ sym gives.types_are
 
   pub only_memory_hinders : (fault : RenderVecFault) → HindersVec format args fault → fault ≡ Memory

@@ -17,7 +17,7 @@ use Rattle.pf_text.specs.Stages.{State}
 use Rattle.pf_text.specs.Stages.{Between}
 use Rattle.pf_text.specs.History.{with_step}
 use Rattle.pf_text.specs.PieceHistory.{Gives, items_of}
-use Rattle.pf_text.specs.Signatures.{HasTypes}
+use Rattle.pf_text.specs.Signatures.{TakesTypes}
 use Rattle.pf_text.specs.States.{Next, next}
 use Rattle.pf_text.proofs.Complete.{On}
 use Rattle.pf_text.proofs.Runs.{moved, run, run-append, run-refused}
@@ -62,7 +62,7 @@ taken_first pieces t done xs h g =
     let more = front_items t h.read pieces.rest.now h.items xs h.given.split h.given.reads g in
     (types more.0, ap types more.1 ∙ types-append h.items more.0 ∙ ap (λ ts. ts ++ types more.0) (sym h.types_are))
 
-pub types_of_all : (t : Text) (wanted : List ArgType) (xs : List Item) → HasTypes t wanted → Reads t xs → types xs ≡ wanted
+pub types_of_all : (t : Text) (wanted : List ArgType) (xs : List Item) → TakesTypes t wanted → Reads t xs → types xs ≡ wanted
 types_of_all t wanted xs h g = ap types (Reads-unique t xs h.items g h.reads) ∙ sym h.types_are
 
 taken_as : (pieces : Pieces) (t : Text) (done : List ArgType) → HasFound pieces t done → HasTaken pieces t done
@@ -83,7 +83,7 @@ module _ (old new : Pieces) (t : Text) (done : List ArgType) (h : HasTaken old t
     pub not_refused : IsAccepted t → (refusal : Refusal) → given ≡ Err refusal → ⊥
     not_refused accepted refusal e = (refused old new t done (found_as old t done h) given steps refusal e).refused.not_accepted accepted
 
-  pub taken_all : Gives old None new → HasTypes t done
+  pub taken_all : Gives old None new → TakesTypes t done
   taken_all steps = all_found old new t done (found_as old t done h) steps
 
 -- both have taken the same types so far
@@ -115,7 +115,7 @@ some_there pieces t done type xs h g = let more = taken_first pieces t (done ++ 
 
 -- Another type comes in the second list, or none.
 pub differ_here : (first second : Pieces) (f g : Text) (done : List ArgType) (index : ℕ) (wanted : ArgType) (given : Option ArgType) (xs ys : List Item) → index ≡ length done
-    → HasTaken first f (done ++ wanted ∷ []) → MatchOption given (HasTypes g done) (λ type. HasTaken second g (done ++ type ∷ [])) → given ≢ Some wanted → Reads f xs → Reads g ys → DifferFirstAt (types xs) (types ys) index
+    → HasTaken first f (done ++ wanted ∷ []) → MatchOption given (TakesTypes g done) (λ type. HasTaken second g (done ++ type ∷ [])) → given ≢ Some wanted → Reads f xs → Reads g ys → DifferFirstAt (types xs) (types ys) index
 differ_here first second f g done index wanted None xs ys at h k other a b =
     let one = some_there first f done wanted xs h a in
     differ_after_front done (types xs) (types ys) (wanted ∷ one.0) [] index one.1 (none_there done (types ys) (types_of_all g done ys k b)) at (λ e. cc)
@@ -126,7 +126,7 @@ differ_here first second f g done index wanted (Some type) xs ys at h k other a 
 
 -- The same type comes in both.
 pub stepped : (first second : Pieces) (f g : Text) (done : List ArgType) (index : ℕ) (wanted : ArgType) (given : Option ArgType) → index ≡ length done
-    → HasTaken first f (done ++ wanted ∷ []) → MatchOption given (HasTypes g done) (λ type. HasTaken second g (done ++ type ∷ [])) → given ≡ Some wanted → AreInStep first second f g (index + 1)
+    → HasTaken first f (done ++ wanted ∷ []) → MatchOption given (TakesTypes g done) (λ type. HasTaken second g (done ++ type ∷ [])) → given ≡ Some wanted → AreInStep first second f g (index + 1)
 stepped first second f g done index wanted None at h k same = absurd (cc)
 stepped first second f g done index wanted (Some type) at h k same =
     let is : type ≡ wanted = cc in
@@ -139,12 +139,12 @@ stepped first second f g done index wanted (Some type) at h k same =
 
 -- The second list is longer.
 pub differ_after : (second : Pieces) (f g : Text) (done : List ArgType) (index : ℕ) (type : ArgType) (xs ys : List Item) → index ≡ length done
-    → HasTypes f done → HasTaken second g (done ++ type ∷ []) → Reads f xs → Reads g ys → DifferFirstAt (types xs) (types ys) index
+    → TakesTypes f done → HasTaken second g (done ++ type ∷ []) → Reads f xs → Reads g ys → DifferFirstAt (types xs) (types ys) index
 differ_after second f g done index type xs ys at h k a b =
     let two = some_there second g done type ys k b in
     differ_after_front done (types xs) (types ys) [] (type ∷ two.0) index (none_there done (types xs) (types_of_all f done xs h a)) two.1 at (λ e. cc)
 
-pub same_lists_of : (f g : Text) (done : List ArgType) (xs ys : List Item) → HasTypes f done → HasTypes g done → Reads f xs → Reads g ys → types xs ≡ types ys
+pub same_lists_of : (f g : Text) (done : List ArgType) (xs ys : List Item) → TakesTypes f done → TakesTypes g done → Reads f xs → Reads g ys → types xs ≡ types ys
 same_lists_of f g done xs ys h k a b = types_of_all f done xs h a ∙ sym (types_of_all g done ys k b)
 
 pub same_types_of : (f g : Text) (a : IsAccepted f) (b : IsAccepted g) → ((xs ys : List Item) → Reads f xs → Reads g ys → types xs ≡ types ys) → HaveSameTypes f g

@@ -1,7 +1,7 @@
 //! Comparing two formats.
 ghost use Rattle.std.specs.Prelude.{IfOk, MatchResult, false};
 ghost use Rattle.pf_canon.specs.Comparing.{AreTextsSame};
-ghost use Rattle.pf_compare.specs.Answers.{HaveSameTypes, Hinders, IsComparisonOf};
+ghost use Rattle.pf_compare.specs.Answers.{HaveSameTypes, HindersComparison, IsComparisonOf};
 
 use crate::faults::CompareFault;
 use crate::layouts::lay_out;
@@ -16,7 +16,7 @@ use std::alloc::{AllocError, Global};
 /// the first before the second. Memory is taken only for arguments: where both are accepted, have
 /// the same types, and are not equivalent.
 pub fn compare(alloc: Global, f: &[u8], g: &[u8]) -> Result<Comparison, CompareFault>
-    ensures { MatchResult result (IsComparisonOf f.now g.now) (Hinders f.now g.now) }
+    ensures { MatchResult result (IsComparisonOf f.now g.now) (HindersComparison f.now g.now) }
 {
     let same = match same_text(f, g) {
         Ok(same) => same,

@@ -5,7 +5,7 @@ ghost use Rattle.pf_values.specs.declared.types.ArgType.{ArgType};
 ghost use Rattle.pf_values.specs.Items.{IsAccepted, Item, Reads, types};
 ghost use Rattle.pf_values.specs.Text.{Text};
 ghost use Rattle.pf_text.specs.PieceHistory.{items_of};
-ghost use Rattle.pf_text.specs.Signatures.{HasTypes};
+ghost use Rattle.pf_text.specs.Signatures.{TakesTypes};
 ghost use Rattle.pf_render.specs.Rendering.{DifferFirstAt};
 ghost use Rattle.pf_compare.specs.TypeLists.{HasTaken};
 
@@ -44,7 +44,7 @@ pub(crate) fn first_other_type(f: &[u8], g: &[u8]) -> Option<u64>
 // The type of the next argument of an accepted format, if one comes.
 fn next_type(pieces: &mut Pieces<'_>) -> Option<ArgType>
     ensures { (t : Text) (done : List ArgType) → IsAccepted t → HasTaken pieces.old t done
-        → MatchOption result (HasTypes t done) (λ next. HasTaken pieces.new t (done ++ next ∷ [])) }
+        → MatchOption result (TakesTypes t done) (λ next. HasTaken pieces.new t (done ++ next ∷ [])) }
 {
     while let Some(piece) = pieces.next() {
         if let Ok(piece) = piece {

@@ -100,7 +100,7 @@ module _ (args : List Arg) (types : List ArgType) (type : ArgType) (matched : �
       }
 
 -- what so many arguments are, where the tally is of all types
-module _ (tally : Tally) (t : Text) (args : List Arg) (types : List ArgType) (h : Tallies tally args types) (takes : signatures.HasTypes t types) (same : tally.wanted ≡ length args) where
+module _ (tally : Tally) (t : Text) (args : List Arg) (types : List ArgType) (h : Tallies tally args types) (takes : signatures.TakesTypes t types) (same : tally.wanted ≡ length args) where
   pub wrong_type : (tally.matched ≡ tally.wanted → ⊥) → HasWrongType t args tally.matched
   wrong_type less =
       let before : tally.matched < length types = omega (arith, h.within, h.wanted_is) in
@@ -118,7 +118,7 @@ module _ (tally : Tally) (t : Text) (args : List Arg) (types : List ArgType) (h 
       let all : Match args types = subst (λ ts. Match args ts) wanted (subst (λ xs. Match xs (take tally.matched types)) given h.matching) in
       let types_are = types_matched args types all in
       record {
-        takes = subst (signatures.HasTypes t) (sym types_are) takes;
+        takes = subst (signatures.TakesTypes t) (sym types_are) takes;
         typed = subst (HasTypes (map argument_of args)) (sym types_are) (typed_matched args types all);
       }
 
@@ -149,7 +149,7 @@ module _ {before : Pieces} {t : Text} {args : List Arg} {tally : Tally} {kept : 
   pub few_found : length h.types ≤ MAX_TEXT_LEN
   few_found = let found = h.found in omega (arith, ap length found.types_are, length_types found.items, length_items found.read found.items found.given.reads, found.given.scanned.limit)
 
-  pub all_checked : {new : Pieces} → Gives before None new → signatures.HasTypes t h.types × KeepsAll kept t
+  pub all_checked : {new : Pieces} → Gives before None new → signatures.TakesTypes t h.types × KeepsAll kept t
   all_checked {new} steps =
       let end = steps.next t h.found.read h.found.items h.found.given in
       (all_found before new t h.types h.found steps, (h.found.items, end.reads, h.keeps))

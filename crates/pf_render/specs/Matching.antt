@@ -29,5 +29,5 @@ pub record Tallies (tally : Tally) (args : List Arg) (types : List ArgType) : Ty
 
 -- an accepted text takes just these arguments (C11 7.21.6.1 p2, p9)
 pub record TakesArguments (t : Text) (args : List Arg) : Type 0 where
-  pub takes : signatures.HasTypes t (map type_of args)
+  pub takes : signatures.TakesTypes t (map type_of args)
   pub typed : HasTypes (map argument_of args) (map type_of args)

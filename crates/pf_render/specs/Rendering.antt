@@ -8,7 +8,7 @@ use Rattle.pf_values.specs.Counting.{Known, WritesAll, WritesFirst}
 use Rattle.pf_values.specs.Printing.{PrintsAll}
 use Rattle.pf_values.specs.Refusals.{IsRefusedAt}
 use Rattle.pf_values.specs.Text.{Text}
-use Rattle.pf_text.specs.Signatures.{HasTypes}
+use Rattle.pf_text.specs.Signatures.{TakesTypes}
 use Rattle.pf_render.specs.declared.faults.RenderFault.{RenderFault}
 use Rattle.pf_render.specs.declared.faults.RenderFault.TheVariants as faults
 use Rattle.pf_render.specs.declared.faults.RenderVecFault.{RenderVecFault}
@@ -16,7 +16,7 @@ use Rattle.pf_render.specs.declared.faults.RenderVecFault.TheVariants as vec_fau
 
 -- an accepted text prints this for arguments of its types, and nothing else (C11 7.21.6.1 p2, p3)
 pub record Renders (t : Text) (args : List Arg) (out : Text) : Type 0 where
-  pub takes : HasTypes t (map type_of args)
+  pub takes : TakesTypes t (map type_of args)
   pub prints : PrintsAll takes.items (map argument_of args) out
   pub only : (other : Text) → PrintsAll takes.items (map argument_of args) other → other ≡ out
 
@@ -28,7 +28,7 @@ RendersTo t args IsLeft = (out : Text) × Renders t args out × IsLeft out
 -- too many are wrong in this project alone
 pub record HasWrongCount (t : Text) (args : List Arg) (wanted given : ℕ) : Type 0 where
   pub types : List ArgType
-  pub takes : HasTypes t types
+  pub takes : TakesTypes t types
   pub wanted_is : wanted ≡ length types
   pub given_is : given ≡ length args
   pub differ : wanted ≢ given
@@ -42,16 +42,16 @@ pub record DifferFirstAt {A : Type 0} (xs ys : List A) (place : ℕ) : Type 0 wh
 -- (C11 7.21.6.1 p9)
 pub record HasWrongType (t : Text) (args : List Arg) (index : ℕ) : Type 0 where
   pub types : List ArgType
-  pub takes : HasTypes t types
+  pub takes : TakesTypes t types
   pub same_count : length args ≡ length types
   pub first : DifferFirstAt (map type_of args) types index
 
 -- why nothing is written
-abbrev pub Hinders : Text → List Arg → RenderFault → Type 0
-Hinders t args (faults.Refused refusal) = IsRefusedAt t refusal.kind refusal.at
-Hinders t args (faults.WrongCount wanted given) = HasWrongCount t args wanted given
-Hinders t args (faults.WrongType index) = HasWrongType t args index
-Hinders t args (faults.Write written) = ⊥
+abbrev pub HindersRender : Text → List Arg → RenderFault → Type 0
+HindersRender t args (faults.Refused refusal) = IsRefusedAt t refusal.kind refusal.at
+HindersRender t args (faults.WrongCount wanted given) = HasWrongCount t args wanted given
+HindersRender t args (faults.WrongType index) = HasWrongType t args index
+HindersRender t args (faults.Write written) = ⊥
 
 -- what a call leaves in a writer, and answers: all that is printed, nothing, or exactly the first
 -- bytes
@@ -61,7 +61,7 @@ module _ {W : Type 0} (contents : W → Known) (old new : Counted W) (t : Text)
   abbrev pub StopsWith : RenderFault → Type 0
   StopsWith (faults.Write written) =
       RendersTo t args (λ out. WritesFirst contents old new out written × (written < length out))
-  StopsWith fault = Hinders t args fault × (new ≡ old)
+  StopsWith fault = HindersRender t args fault × (new ≡ old)
 
   -- what a call leaves and answers: all that is printed went out, or there is a fault
   abbrev pub RendersInto : Result (Unit {0}) RenderFault → Type 0
@@ -70,10 +70,10 @@ module _ {W : Type 0} (contents : W → Known) (old new : Counted W) (t : Text)
 
 -- the same of a call that gives what is printed; where that is nothing, it takes no memory
 abbrev pub HindersVec : Text → List Arg → RenderVecFault → Type 0
-HindersVec t args (vec_faults.Refused refusal) = Hinders t args (faults.Refused refusal)
+HindersVec t args (vec_faults.Refused refusal) = HindersRender t args (faults.Refused refusal)
 HindersVec t args (vec_faults.WrongCount wanted given) =
-    Hinders t args (faults.WrongCount wanted given)
-HindersVec t args (vec_faults.WrongType index) = Hinders t args (faults.WrongType index)
+    HindersRender t args (faults.WrongCount wanted given)
+HindersVec t args (vec_faults.WrongType index) = HindersRender t args (faults.WrongType index)
 HindersVec t args vec_faults.Memory = RendersTo t args (λ out. out ≢ [])
 
 -- the fault of a call that renders into memory: there a write fails only where a growth is refused

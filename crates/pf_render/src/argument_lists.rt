@@ -4,10 +4,10 @@ ghost use Rattle.pf_values.specs.declared.limits.TheConstants.{MAX_TEXT_LEN};
 ghost use Rattle.pf_values.specs.declared.types.ArgType.{ArgType};
 ghost use Rattle.pf_values.specs.Arg.{type_of};
 ghost use Rattle.pf_values.specs.Text.{Text};
-ghost use Rattle.pf_text.specs.Signatures.{HasTypes};
+ghost use Rattle.pf_text.specs.Signatures.{TakesTypes};
 ghost use Rattle.pf_render.specs.Keeping.{Keeps, KeepsAll};
 ghost use Rattle.pf_render.specs.Matching.{IsOfTypeAt, TakesArguments, Tallies};
-ghost use Rattle.pf_render.specs.Rendering.{Hinders};
+ghost use Rattle.pf_render.specs.Rendering.{HindersRender};
 
 use crate::faults::RenderFault;
 use crate::kept::Kept;
@@ -24,7 +24,7 @@ pub(crate) fn check_arguments<'a>(
 ) -> Result<(), RenderFault>
     requires { Keeps kept.old [] }
     ensures matched { MatchResult result (λ _. TakesArguments text.now args.now)
-        (Hinders text.now args.now) }
+        (HindersRender text.now args.now) }
     ensures kept { OnOk result (KeepsAll kept.new text.now) }
 {
     let mut tally = Tally {
@@ -85,8 +85,8 @@ impl Tally {
     // What is wrong with so many arguments.
     fn judge(self, given: usize) -> Result<(), RenderFault>
         ensures { (t : Text) (args : List Arg) (types : List ArgType) → given ≡ length args
-            → HasTypes t types → Tallies self args types
-            → MatchResult result (λ _. TakesArguments t args) (Hinders t args) }
+            → TakesTypes t types → Tallies self args types
+            → MatchResult result (λ _. TakesArguments t args) (HindersRender t args) }
     {
         if self.wanted != given {
             return Err(RenderFault::WrongCount {

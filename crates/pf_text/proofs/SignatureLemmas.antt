@@ -10,7 +10,7 @@ use Rattle.pf_text.specs.declared.pieces.Piece.{Piece}
 use Rattle.pf_text.specs.declared.pieces.Pieces.{Pieces}
 use Rattle.pf_text.specs.declared.refusal.Refusal.{Refusal}
 use Rattle.pf_text.specs.PieceHistory.{Gives, GivesNext, GivesPiece, GivesRefusal, HasGiven, items_of}
-use Rattle.pf_text.specs.Signatures.{HasTypes, TakesManyArguments}
+use Rattle.pf_text.specs.Signatures.{TakesTypes, TakesManyArguments}
 
 pub no_success : {T E : Type 0} (r : Result T E) → true ≡ is_err r → IsOk r → ⊥
 no_success (Ok x) e h = cc
@@ -47,7 +47,7 @@ module _ (old new : Pieces) (t : Text) (found : List ArgType) (h : HasFound old 
         let f = more_found piece (type ∷ []) e same in
         record { front = f.read; rest = new.rest.now; items = f.items; split = f.given.split; reads = f.given.reads; many = omega (arith, ap length f.types_are, length_push found type) }
 
-  pub all_found : Gives old None new → HasTypes t found
+  pub all_found : Gives old None new → TakesTypes t found
   all_found steps = let end = steps.next t h.read h.items h.given in record { items = h.items; reads = end.reads; limit = end.limit; types_are = h.types_are }
 
 -- a piece that takes no argument

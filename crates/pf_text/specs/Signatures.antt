@@ -14,7 +14,7 @@ abbrev pub types_of : Signature → List ArgType
 types_of signature = signature.types.items
 
 -- a text is accepted, and its directives take arguments of these types (C11 7.21.6.1 p3)
-pub record HasTypes (t : Text) (wanted : List ArgType) : Type 0 where
+pub record TakesTypes (t : Text) (wanted : List ArgType) : Type 0 where
   pub items : List Item
   pub reads : Reads t items
   pub limit : length t ≤ MAX_TEXT_LEN
@@ -31,6 +31,6 @@ pub record TakesManyArguments (t : Text) : Type 0 where
   pub many : 8 < length (types items)
 
 -- why a text has no signature
-abbrev pub Hinders : Text → TextFault → Type 0
-Hinders t (Refused refusal) = IsRefusedAt t refusal.kind refusal.at
-Hinders t Memory = TakesManyArguments t
+abbrev pub HindersSignature : Text → TextFault → Type 0
+HindersSignature t (Refused refusal) = IsRefusedAt t refusal.kind refusal.at
+HindersSignature t Memory = TakesManyArguments t

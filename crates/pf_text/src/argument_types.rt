@@ -3,7 +3,7 @@ ghost use Rattle.std.specs.Prelude.{◌≡◌, ◌≤◌, [], MatchResult};
 ghost use Rattle.std.specs.Option.{option_to_list};
 ghost use Rattle.pf_values.specs.Items.{types};
 ghost use Rattle.pf_text.specs.PieceHistory.{items_of};
-ghost use Rattle.pf_text.specs.Signatures.{HasTypes, Hinders, types_of};
+ghost use Rattle.pf_text.specs.Signatures.{TakesTypes, HindersSignature, types_of};
 
 use crate::faults::TextFault;
 use crate::pieces::{Piece, Pieces};
@@ -18,8 +18,8 @@ mod tests;
 /// The types of the arguments that a format takes. Memory can be refused for more than eight of
 /// them only.
 pub fn signature(alloc: Global, text: &[u8]) -> Result<Signature, TextFault>
-    ensures { MatchResult result (λ signature. HasTypes text.now (types_of signature))
-        (Hinders text.now) }
+    ensures { MatchResult result (λ signature. TakesTypes text.now (types_of signature))
+        (HindersSignature text.now) }
 {
     let mut found = SmallVec::new(alloc);
     match push_types(&mut found, text) {
@@ -34,7 +34,7 @@ fn push_types<A: Allocator + Copy>(
 ) -> Result<(), TextFault>
     requires none { found.old.items ≡ [] }
     requires room { 8 ≤ found.old.capacity }
-    ensures { MatchResult result (λ _. HasTypes text.now found.new.items) (Hinders text.now) }
+    ensures { MatchResult result (λ _. TakesTypes text.now found.new.items) (HindersSignature text.now) }
 {
     for piece in Pieces::new(text) {
         let piece = match piece {
