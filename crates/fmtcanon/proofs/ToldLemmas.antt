@@ -22,7 +22,7 @@ decimal_spells zero h = record {
   whole = decimal_digit 0 (omega arith);
 }
 decimal_spells (suc n) h =
-    let whole = decimal_glyphs (suc n) (omega arith) h in
+    let whole = decimal_glyphs false (suc n) (omega arith) h in
     record {
       digits = digits_of 10 (suc n);
       are_digits = record { below = all_below_base_digits_of 10 (suc n) (omega arith); sum = place_sum-digits_of 10 (suc n) (omega arith) };

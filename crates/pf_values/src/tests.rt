@@ -1,6 +1,10 @@
 //! The tables of the standard, and each public call once.
 use crate::laws::prints_once;
-use crate::{Arg, ArgType, CBytes, Conv, Directive, Flag, FlagSet, Length, RefusalKind, ValueKind};
+use crate::{
+    Alternative, Arg, ArgType, Base, CBytes, Conv, Directive, Flag, FlagSet, Kind, Length,
+    RefusalKind, ValueKind,
+};
+use std::process::Abort;
 
 // The number of the refusal, or 0.
 fn refused(made: Result<Directive, RefusalKind>) -> u8 {
@@ -155,18 +159,22 @@ fn type_of(length: Length, conv: Conv) -> Result<ArgType, RefusalKind> {
     Directive::new(FlagSet::empty(), None, None, length, conv).map(|d| d.arg_type())
 }
 
+fn check_types(rt: &impl Abort, conv: Conv, types: [ArgType; 8]) {
+    for (length, want) in Length::ALL.iter().zip(types.iter()) {
+        assert_eq!(rt; type_of(*length, conv), Ok(*want), "{conv:?} {length:?}");
+    }
+}
+
 #[test]
 fn each_argument_has_its_type(rt: HostRuntime) {
-    for (i, conv) in Conv::ALL.iter().enumerate() {
-        let table = if i < 2 { SIGNED_TYPES } else { UNSIGNED_TYPES };
-        if i < 6 {
-            for (length, want) in Length::ALL.iter().zip(table.iter()) {
-                assert_eq!(rt; type_of(*length, *conv), Ok(*want), "{conv:?} {length:?}");
-            }
+    for conv in Conv::ALL {
+        match conv.kind() {
+            Kind::Signed => check_types(&rt, conv, SIGNED_TYPES),
+            Kind::Unsigned(_, _) => check_types(&rt, conv, UNSIGNED_TYPES),
+            Kind::Char => assert_eq!(rt; type_of(Length::None, conv), Ok(ArgType::Int)),
+            Kind::String => assert_eq!(rt; type_of(Length::None, conv), Ok(ArgType::Str)),
         }
     }
-    assert_eq!(rt; type_of(Length::None, Conv::C), Ok(ArgType::Int));
-    assert_eq!(rt; type_of(Length::None, Conv::S), Ok(ArgType::Str));
 }
 
 // The bits of a value under each modifier of `Length::ALL`.
@@ -176,15 +184,69 @@ fn bits_of(length: Length, conv: Conv) -> Result<u8, RefusalKind> {
     Directive::new(FlagSet::empty(), None, None, length, conv).map(|d| d.bits())
 }
 
+fn check_bits(rt: &impl Abort, conv: Conv) {
+    for (length, want) in Length::ALL.iter().zip(BITS.iter()) {
+        assert_eq!(rt; bits_of(*length, conv), Ok(*want), "{conv:?} {length:?}");
+    }
+}
+
 #[test]
 fn each_value_has_its_bits(rt: HostRuntime) {
-    for conv in Conv::ALL.iter().take(6) {
-        for (length, want) in Length::ALL.iter().zip(BITS.iter()) {
-            assert_eq!(rt; bits_of(*length, *conv), Ok(*want), "{conv:?} {length:?}");
+    for conv in Conv::ALL {
+        match conv.kind() {
+            Kind::Signed | Kind::Unsigned(_, _) => check_bits(&rt, conv),
+            Kind::Char | Kind::String => assert_eq!(rt; bits_of(Length::None, conv), Ok(0)),
         }
     }
-    assert_eq!(rt; bits_of(Length::None, Conv::C), Ok(0));
-    assert_eq!(rt; bits_of(Length::None, Conv::S), Ok(0));
+}
+
+// The conversions, each with its kind and with the one that a normal directive has for it.
+const CONVERSIONS: [(Conv, Kind, Conv); 8] = [
+    (Conv::D, Kind::Signed, Conv::D),
+    (Conv::I, Kind::Signed, Conv::D),
+    (Conv::U, Kind::Unsigned(Base::Decimal, false), Conv::U),
+    (Conv::O, Kind::Unsigned(Base::Octal, false), Conv::O),
+    (Conv::X, Kind::Unsigned(Base::Hexadecimal, false), Conv::X),
+    (
+        Conv::UpperX,
+        Kind::Unsigned(Base::Hexadecimal, true),
+        Conv::UpperX,
+    ),
+    (Conv::C, Kind::Char, Conv::C),
+    (Conv::S, Kind::String, Conv::S),
+];
+
+#[test]
+fn each_conversion_has_its_kind(rt: HostRuntime) {
+    for (conv, kind, representative) in CONVERSIONS {
+        assert_eq!(rt; conv.kind(), kind, "{conv:?}");
+        assert_eq!(rt; conv.representative(), representative, "{conv:?}");
+    }
+}
+
+#[test]
+fn each_modifier_has_its_representative(rt: HostRuntime) {
+    for length in Length::ALL {
+        let want = match length {
+            Length::J | Length::Z | Length::T => Length::L,
+            other => other,
+        };
+        assert_eq!(rt; length.representative(), want, "{length:?}");
+    }
+}
+
+#[test]
+fn each_base_has_its_row(rt: HostRuntime) {
+    for (base, number, alternative, small, capital) in [
+        (Base::Octal, 8, Alternative::Raised, "", ""),
+        (Base::Decimal, 10, Alternative::Undefined, "", ""),
+        (Base::Hexadecimal, 16, Alternative::Prefixed, "0x", "0X"),
+    ] {
+        assert_eq!(rt; base.number(), number, "{base:?}");
+        assert_eq!(rt; base.alternative(), alternative, "{base:?}");
+        assert_eq!(rt; base.prefix(false), small.as_bytes(), "{base:?}");
+        assert_eq!(rt; base.prefix(true), capital.as_bytes(), "{base:?}");
+    }
 }
 
 // The sign and the size of the value of this kind.

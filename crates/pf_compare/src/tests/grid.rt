@@ -7,19 +7,8 @@ use pf_values::{Arg, ArgType, Conv, Directive, Flag, FlagSet, Length};
 use std::alloc::Global;
 use std::test::Fail;
 
+// The flag `'` stands in no normal directive.
 static FLAGS: [Flag; 5] = [Flag::Minus, Flag::Plus, Flag::Space, Flag::Alt, Flag::Zero];
-
-static CONVERSIONS: [Conv; 7] = [
-    Conv::D,
-    Conv::U,
-    Conv::O,
-    Conv::X,
-    Conv::UpperX,
-    Conv::C,
-    Conv::S,
-];
-
-static LENGTHS: [Length; 5] = [Length::None, Length::Hh, Length::H, Length::L, Length::Ll];
 
 // As many digits as the greatest precision but one has, for strings.
 const STRING_DIGITS: u16 = 4094;
@@ -120,9 +109,9 @@ fn push_form(
 
 fn grid(alloc: Global, wanted: ArgType) -> Result<Vec<Directive>, Fail> {
     let mut found = Vec::new(alloc);
-    for conv in &CONVERSIONS {
-        for length in &LENGTHS {
-            push_form(alloc, &mut found, wanted, *conv, *length)?;
+    for conv in Conv::ALL {
+        for length in Length::ALL {
+            push_form(alloc, &mut found, wanted, conv, length)?;
         }
     }
     Ok(found)

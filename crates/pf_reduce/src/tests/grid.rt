@@ -3,37 +3,6 @@ use crate::{Core, Reduced, is_normal, reduce};
 use pf_values::{Conv, Directive, Flag, FlagSet, Length};
 use std::process::Abort;
 
-static FLAGS: [Flag; 6] = [
-    Flag::Minus,
-    Flag::Plus,
-    Flag::Space,
-    Flag::Alt,
-    Flag::Zero,
-    Flag::Group,
-];
-
-static CONVERSIONS: [Conv; 8] = [
-    Conv::D,
-    Conv::I,
-    Conv::U,
-    Conv::O,
-    Conv::X,
-    Conv::UpperX,
-    Conv::C,
-    Conv::S,
-];
-
-static LENGTHS: [Length; 8] = [
-    Length::None,
-    Length::Hh,
-    Length::H,
-    Length::L,
-    Length::Ll,
-    Length::J,
-    Length::Z,
-    Length::T,
-];
-
 // The numbers of a directive; with 4096 there is none.
 static NUMBERS: [u16; 15] = [4096, 0, 1, 2, 3, 4, 5, 6, 7, 8, 9, 10, 11, 12, 4095];
 
@@ -45,9 +14,9 @@ fn number(given: u16) -> Option<u16> {
 fn flags_of(bits: u8) -> FlagSet {
     let mut flags = FlagSet::empty();
     let mut rest = bits;
-    for flag in &FLAGS {
+    for flag in Flag::ALL {
         if rest % 2 == 1 {
-            flags = flags.with(*flag);
+            flags = flags.with(flag);
         }
         rest = rest / 2;
     }
@@ -94,9 +63,9 @@ fn check_grid(rt: &impl Abort, flags: FlagSet, length: Length, conv: Conv) {
 #[test]
 fn a_core_is_its_own_core(rt: HostRuntime) {
     for bits in 0..64 {
-        for conv in &CONVERSIONS {
-            for length in &LENGTHS {
-                check_grid(&rt, flags_of(bits), *length, *conv);
+        for conv in Conv::ALL {
+            for length in Length::ALL {
+                check_grid(&rt, flags_of(bits), length, conv);
             }
         }
     }
