@@ -336,7 +336,7 @@ fn a_refused_format_writes_nothing(rt: HostRuntime) {
 }
 
 #[test]
-fn a_format_that_begins_with_a_minus_stands_behind_two(rt: HostRuntime) {
+fn a_format_that_begins_with_a_minus_stands_after_two(rt: HostRuntime) {
     let (outcome, written) = ran(rt.alloc(), ["canon", "--", "-%i"].as_slice());
     assert!(rt; matches!(outcome, Outcome::Done));
     assert!(rt; written.as_slice() == b"-%d\n".as_slice());

@@ -42,7 +42,7 @@ fn format_stops(rt: HostRuntime) {
 }
 
 #[test]
-fn format_wants_a_format_and_its_words_behind_two_minuses(rt: HostRuntime) {
+fn format_wants_a_format_and_its_words_after_two_minuses(rt: HostRuntime) {
     assert!(rt; is_usage(&rt, ["format"].as_slice(), "error: "));
     assert!(rt; is_usage(&rt, ["format", "%d", "-5"].as_slice(), "error: "));
     assert!(rt; is_usage(&rt, ["format", "-%d", "n:5"].as_slice(), "error: "));
