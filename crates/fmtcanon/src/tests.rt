@@ -19,6 +19,10 @@ mod streams;
 mod types;
 mod written_rows;
 
+use self::written_rows::{
+    CANON, MORE_CANON, MORE_SAME_LINES, MORE_SHOW_LINES, SAME_LINES, SHOW_LINES, TYPE_LINES,
+    Written,
+};
 use crate::outcome::Outcome;
 use crate::report::report;
 use crate::run::run;
@@ -69,42 +73,38 @@ fn repeated(alloc: Global, text: &str, count: usize) -> Result<String, AllocErro
     Ok(whole)
 }
 
+// Whether a run writes a row and ends well.
+fn is_written(alloc: Global, row: &Written) -> bool {
+    let (outcome, written) = ran(alloc, row.0);
+    let told = reported(alloc, &outcome);
+    let status = match outcome {
+        Outcome::Done | Outcome::Same => Some(0),
+        Outcome::Different => Some(1),
+        _ => None,
+    };
+    status == Some(outcome.status()) && told.is_empty() && written.as_slice() == row.2
+}
+
+// The first row that isn't written.
+fn first_unwritten(alloc: Global, rows: &[Written]) -> Option<usize> {
+    for (at, row) in rows.iter().enumerate() {
+        if !is_written(alloc, row) {
+            return Some(at);
+        }
+    }
+    None
+}
+
 #[test]
 fn canon_writes_the_canonical_string(rt: HostRuntime) {
-    let rows = [
-        ("Total: %i of %u%%", "Total: %d of %u%%\n"),
-        ("", "\n"),
-        ("%d%i%u%s", "%d%d%u%s\n"),
-        ("100%%", "100%%\n"),
-        ("%%%%i", "%%%%i\n"),
-        ("%i%%d", "%d%%d\n"),
-        ("d\n\t%i\\n", "d\n\t%d\\n\n"),
-        ("größer als %i", "größer als %d\n"),
-        ("%05u", "%.5u\n"),
-        ("% 11d", "%11d\n"),
-        ("%#o", "0%.0o\n"),
-        ("%-5c%.0s!", "%c    !%.0s\n"),
-        ("%5.0s%.0s", "     %.0s%.0s\n"),
-        ("%5d", "%5d\n"),
-    ];
-    for (format, want) in rows {
-        assert!(rt;
-            answers(rt.alloc(), ["canon", format].as_slice(), want),
-            "{format}"
-        );
-    }
+    assert_eq!(rt; first_unwritten(rt.alloc(), &CANON), None);
+    assert_eq!(rt; first_unwritten(rt.alloc(), &MORE_CANON), None);
 }
 
 #[test]
 fn types_writes_a_line_for_each_argument(rt: HostRuntime) {
+    assert_eq!(rt; first_unwritten(rt.alloc(), &TYPE_LINES), None);
     let rows = [
-        ("", ""),
-        ("100%%", ""),
-        (
-            "%d %hhu %zu %lld %s",
-            "int\nint\nunsigned long\nlong long\nstring\n",
-        ),
-        ("%u%ld%llu", "unsigned int\nlong\nunsigned long long\n"),
         ("%*d", "refused 5 Star at byte 1\n"),
         ("%d%y", "refused 3 Unexpected at byte 3\n"),
         ("a\0%d", "refused 1 NulByte at byte 1\n"),
@@ -134,39 +134,9 @@ fn types_answers_as_the_model(rt: HostRuntime) {
 
 #[test]
 fn show_writes_a_line_for_each_part(rt: HostRuntime) {
+    assert_eq!(rt; first_unwritten(rt.alloc(), &SHOW_LINES), None);
+    assert_eq!(rt; first_unwritten(rt.alloc(), &MORE_SHOW_LINES), None);
     let rows = [
-        ("", ""),
-        (
-            "x%20d%%",
-            "text 1\ndirective %20d: int: 9 0 %11d 0\npercent\n",
-        ),
-        (
-            "%-5c%.0s!",
-            "directive %-5c: int: 0 0 %c 4\ndirective %.0s: string: 0 0 %.0s 0\ntext 1\n",
-        ),
-        ("%%%%", "percent\npercent\n"),
-        ("0123456789größer", "text 18\n"),
-        ("a%%b", "text 1\npercent\ntext 1\n"),
-        ("%''++-+d", "directive %-+'d: int: 0 0 %+d 0\n"),
-        ("%-20d", "directive %-20d: int: 0 0 %-11d 9\n"),
-        (
-            "%30.20u",
-            "directive %30.20u: unsigned int: 10 10 %.10u 0\n",
-        ),
-        ("%-12.0s", "directive %-12.0s: string: 12 0 %.0s 0\n"),
-        ("%5c", "directive %5c: int: 4 0 %c 0\n"),
-        ("%#o", "directive %#o: unsigned int: 0 1 %.0o 0\n"),
-        ("%#20o", "directive %#20o: unsigned int: 8 0 %#12o 0\n"),
-        ("%-#20X", "directive %-#20X: unsigned int: 0 0 %-#10X 10\n"),
-        (
-            "%+020lld",
-            "directive %+020lld: long long: 0 0 %+.19lld 0\n",
-        ),
-        ("%-+7.0hhd", "directive %-+7.0hhd: int: 0 0 %-+4.0hhd 3\n"),
-        ("%#.20x", "directive %#.20x: unsigned int: 0 0 %#.20x 0\n"),
-        ("%.300d", "directive %.300d: int: 0 0 %.300d 0\n"),
-        ("%020hd", "directive %020hd: int: 0 0 %020hd 0\n"),
-        ("%zi", "directive %zi: long: 0 0 %ld 0\n"),
         ("100%", "refused 2 Truncated at byte 4\n"),
         ("%d%y", "refused 3 Unexpected at byte 3\n"),
         ("a\0%d", "refused 1 NulByte at byte 1\n"),
@@ -177,13 +147,6 @@ fn show_writes_a_line_for_each_part(rt: HostRuntime) {
             "{format}"
         );
     }
-    assert!(rt;
-        answers(
-            rt.alloc(),
-            ["show", "--", "-%-- 1.5hho!"].as_slice(),
-            "text 1\ndirective %- 1.5hho: int: 0 2 %.3hho 0\ntext 1\n"
-        )
-    );
 }
 
 #[test]
@@ -225,33 +188,12 @@ fn canon_answers_as_the_model(rt: HostRuntime) {
 
 #[test]
 fn same_tells_whether_one_may_stand_for_the_other(rt: HostRuntime) {
+    assert_eq!(rt; first_unwritten(rt.alloc(), &SAME_LINES), None);
+    assert_eq!(rt; first_unwritten(rt.alloc(), &MORE_SAME_LINES), None);
     let rows = [
-        ("%05d", "%.5d", "different\nn:-1\n"),
-        ("%d%05d", "%d%.5d", "different\nn:0\nn:-1\n"),
-        ("%hhx", "%hx", "different\nn:257\n"),
-        ("%zd", "%ld", "same\n"),
-        ("%ld", "%lld", "types differ at argument 0\n"),
-        ("%d", "%d%d", "types differ at argument 1\n"),
-        ("%d%d", "%d", "types differ at argument 1\n"),
-        ("% 10d", "%10d", "different\nn:2147483647\n"),
-        ("%5c", "    %c", "same\n"),
-        ("a%d", "b%d", "different\nn:0\n"),
-        ("%.0s%s", "%s%.0s", "different\ns:A\ns:\n"),
-        ("%#x", "0x%x", "different\nn:0\n"),
-        ("%#o", "0%o", "different\nn:0\n"),
-        ("%s%4095c", "%s", "types differ at argument 1\n"),
         ("%y", "%z", "first: refused 3 Unexpected at byte 1\n"),
         ("%d", "%l", "second: refused 2 Truncated at byte 2\n"),
         ("%y", "%d", "first: refused 3 Unexpected at byte 1\n"),
-        ("%x", "%X", "different\nn:4294967295\n"),
-        ("%#o", "%o", "different\nn:1\n"),
-        ("%d", "%u", "types differ at argument 0\n"),
-        ("%d%d", "%d%ld", "types differ at argument 1\n"),
-        ("%.0s", "%s", "different\ns:A\n"),
-        ("% 11d", "%11d", "same\n"),
-        ("%d", "%i", "same\n"),
-        ("a", "b", "different\n"),
-        ("", "", "same\n"),
     ];
     for (first, second, want) in rows {
         assert!(rt;
@@ -336,7 +278,7 @@ fn a_refused_format_writes_nothing(rt: HostRuntime) {
 }
 
 #[test]
-fn a_format_that_begins_with_a_minus_stands_behind_two(rt: HostRuntime) {
+fn a_format_that_begins_with_a_minus_stands_after_two(rt: HostRuntime) {
     let (outcome, written) = ran(rt.alloc(), ["canon", "--", "-%i"].as_slice());
     assert!(rt; matches!(outcome, Outcome::Done));
     assert!(rt; written.as_slice() == b"-%d\n".as_slice());

@@ -179,7 +179,7 @@ fn nothing_is_silent_but_a_string_of_no_bytes(rt: HostRuntime) {
     }
 }
 
-// The caller of CALLING.md, with `directive_of`.
+// The caller in CALLING.md that `crates/uses` doesn't have. It calls `directive_of`.
 fn reduced_char(width: u16) -> Result<(u16, Option<Directive>), RefusalKind> {
     let directive = Directive::new(FlagSet::empty(), Some(width), None, Length::None, Conv::C)?;
     let reduced = reduce(&directive);

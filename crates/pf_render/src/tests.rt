@@ -14,6 +14,7 @@ mod faults;
 mod formats;
 mod grid;
 mod long;
+mod rooms;
 mod rows;
 mod vectors;
 
@@ -76,7 +77,7 @@ fn prints(alloc: Global, format: &str, number: i128, text: &str) -> Result<bool,
     Ok(out.as_deref() == Some(text.as_bytes()))
 }
 
-// The argument of a type that a word stands for: a number behind `n:`, and a string behind `s:`.
+// The argument of a type that a word stands for: a number after `n:`, or a string after `s:`.
 fn argument(word: &'static str, arg_type: ArgType) -> Option<Arg<'static>> {
     if let Some(text) = word.strip_prefix("s:") {
         return Some(Arg::Str(CBytes::new(text.as_bytes())?));

@@ -372,7 +372,7 @@ fn an_argument_has_its_type(rt: HostRuntime) {
     prints_once();
 }
 
-// The caller of CALLING.md.
+// The caller in CALLING.md that `crates/uses` doesn't have.
 fn type_of_a_padded_long(conv: Conv) -> Result<ArgType, RefusalKind> {
     let flags = FlagSet::empty().with(Flag::Minus);
     let directive = Directive::new(flags, Some(5), None, Length::L, conv)?;

@@ -2,29 +2,6 @@
 use super::{answers, repeated};
 use std::alloc::AllocError;
 
-// What C says is the same in fewer bytes, or as it stands.
-#[test]
-fn canon_leaves_what_prints_the_same(rt: HostRuntime) {
-    let rows = [
-        ("% 10d", "% 10d\n"),
-        ("%-1s", "%1s\n"),
-        ("%-2s", "%-2s\n"),
-        ("%-#5o", "0%-4.0o\n"),
-        ("%.20u", "0000000000%.10u\n"),
-        ("%20d", "         %11d\n"),
-        ("%11.10d", "% .10d\n"),
-        ("% 011d", "% .10d\n"),
-        ("%-#3.0x", "%#3.0x\n"),
-        ("%-#4.0x", "%-#4.0x\n"),
-    ];
-    for (format, want) in rows {
-        assert!(rt;
-            answers(rt.alloc(), ["canon", format].as_slice(), want),
-            "{format}"
-        );
-    }
-}
-
 #[test]
 fn canon_takes_the_greatest_width_apart(rt: HostRuntime) -> Result<(), AllocError> {
     let mut want = repeated(rt.alloc(), " ", 4084)?;

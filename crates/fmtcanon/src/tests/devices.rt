@@ -6,18 +6,18 @@ use std::alloc::Global;
 use std::io;
 use std::io::{Error, ErrorKind, Write};
 
-// Takes all bytes, and notes its calls.
+/// Takes all bytes, and notes its calls, which `Cut` doesn't.
 #[derive(Drop)]
-struct Watched {
-    taken: usize,
+pub(super) struct Watched {
+    pub(super) taken: usize,
     writes: u32,
-    flushes: u32,
-    taken_at_flush: usize,
+    pub(super) flushes: u32,
+    pub(super) taken_at_flush: usize,
     fails_at_flush: bool,
 }
 
 impl Watched {
-    fn new(fails_at_flush: bool) -> Watched {
+    pub(super) fn new(fails_at_flush: bool) -> Watched {
         Watched {
             taken: 0,
             writes: 0,

@@ -1,7 +1,8 @@
 //! Runs over writers with little room: what fits goes out, and just that is told.
 use super::repeated;
 use super::written_rows::{
-    CANON, DIRECTIVES, LINES, MORE_PRINTED, PRINTED, STREAM, STREAMED, Written,
+    CANON, DIRECTIVES, MORE_CANON, MORE_PRINTED, MORE_SAME_LINES, MORE_SHOW_LINES, PRINTED,
+    SAME_LINES, SHOW_LINES, STREAM, STREAMED, TYPE_LINES, UNFINISHED, Written,
 };
 use crate::outcome::Outcome;
 use crate::run::run;
@@ -155,11 +156,24 @@ fn first_wrong(alloc: Global, rows: &[Written]) -> Option<usize> {
 #[test]
 fn each_room_for_canon(rt: HostRuntime) {
     assert_eq!(rt; first_wrong(rt.alloc(), &CANON), None);
+    assert_eq!(rt; first_wrong(rt.alloc(), &MORE_CANON), None);
 }
 
 #[test]
-fn each_room_for_lines(rt: HostRuntime) {
-    assert_eq!(rt; first_wrong(rt.alloc(), &LINES), None);
+fn each_room_for_types(rt: HostRuntime) {
+    assert_eq!(rt; first_wrong(rt.alloc(), &TYPE_LINES), None);
+}
+
+#[test]
+fn each_room_for_show(rt: HostRuntime) {
+    assert_eq!(rt; first_wrong(rt.alloc(), &SHOW_LINES), None);
+    assert_eq!(rt; first_wrong(rt.alloc(), &MORE_SHOW_LINES), None);
+}
+
+#[test]
+fn each_room_for_same(rt: HostRuntime) {
+    assert_eq!(rt; first_wrong(rt.alloc(), &SAME_LINES), None);
+    assert_eq!(rt; first_wrong(rt.alloc(), &MORE_SAME_LINES), None);
 }
 
 #[test]
@@ -181,22 +195,11 @@ fn each_room_for_a_directive(rt: HostRuntime) {
     }
 }
 
-// A text that is refused, what `stream` writes of it, and the place of the refusal.
-#[rattlefmt::skip]
-static REFUSED: [(&[u8], &[u8], u64); 6] = [
-    (b"a%.0sb%5d%q", b"ab%.0s%5d", 10),
-    (b"a%.0s%y", b"a", 6),
-    (b"%%.0s%y", b"%%.0s", 6),
-    (b"100%", b"100", 4),
-    (b"%20d%y", b"         %11d", 5),
-    (b"%y", b"", 1),
-];
-
 // What is settled is written before a refusal, which is told even where it can't be flushed.
 #[test]
 fn each_room_before_a_refusal(rt: HostRuntime) {
     let alloc = rt.alloc();
-    for (text, settled, at) in REFUSED {
+    for (text, settled, at) in UNFINISHED {
         let row = (STREAM.as_slice(), text, settled);
         for step in STEPS {
             for kind in KINDS {

@@ -1,52 +1,23 @@
 //! The command `stream`: its rows, in cuts of some lengths, over readers and writers that fail.
+use super::devices::Watched;
 use super::stream_rows::{DONE, REFUSED};
+use super::written_rows::{STREAMED, UNFINISHED};
 use crate::outcome::Outcome;
 use crate::report::report;
 use crate::run::run;
 use pf_values::Counted;
+use pf_values::devices::Feed;
 use std::alloc::Global;
-use std::io;
-use std::io::{Error, ErrorKind, Read, Write};
+use std::io::ErrorKind;
 
-// Hands out at most `step` bytes a call, and fails once where `fail_at` bytes were handed out.
-#[derive(Drop)]
-struct Feed<'a> {
-    bytes: &'a [u8],
-    at: usize,
-    step: usize,
-    fail_at: Option<usize>,
-}
-
-impl<'a> Read for Feed<'a> {
-    fn read(&mut self, buf: &mut [u8]) -> io::Result<usize> {
-        if self.fail_at == Some(self.at) {
-            self.fail_at = None;
-            return Err(Error::from(ErrorKind::Interrupted));
-        }
-        let end = self.fail_at.unwrap_or(usize::MAX).min(self.bytes.len());
-        let len = end.saturating_sub(self.at).min(self.step).min(buf.len());
-        let Some(part) = self.bytes.get(self.at..self.at.saturating_add(len)) else {
-            return Ok(0);
-        };
-        buf[..part.len()].copy_from_slice(part);
-        self.at = self.at.saturating_add(part.len());
-        Ok(part.len())
-    }
+// A reader that hands out at most `step` bytes a call, and is interrupted once if it is to.
+fn feed(bytes: &[u8], step: usize, fail_at: Option<u64>) -> Feed<'_> {
+    Feed::new(bytes, step.max(1), fail_at, ErrorKind::Interrupted)
 }
 
 // How a run of `stream` ended over these bytes, in such cuts, and what it wrote.
-fn streamed(
-    alloc: Global,
-    bytes: &[u8],
-    step: usize,
-    fail_at: Option<usize>,
-) -> (Outcome, Vec<u8>) {
-    let mut reader = Counted::new(Feed {
-        bytes,
-        at: 0,
-        step,
-        fail_at,
-    });
+fn streamed(alloc: Global, bytes: &[u8], step: usize, fail_at: Option<u64>) -> (Outcome, Vec<u8>) {
+    let mut reader = Counted::new(feed(bytes, step, fail_at));
     let mut writer = Counted::new(Vec::new(alloc));
     let outcome = run(alloc, ["stream"].as_slice(), &mut reader, &mut writer);
     (outcome, writer.into_inner())
@@ -75,32 +46,30 @@ fn stream_answers_as_the_model(rt: HostRuntime) {
     }
 }
 
-// A text, what is written of it, and the place of its refusal.
-#[rattlefmt::skip]
-static ROWS: [(&[u8], &[u8], Option<u64>); 6] = [
-    (b"a%.0sb%5d%q", b"ab%.0s%5d", Some(10)),
-    (b"a%.0s%y", b"a", Some(6)),
-    (b"%%.0s%y", b"%%.0s", Some(6)),
-    (b"", b"", None),
-    (b"%5c", b"    %c", None),
-    (b"%.0s%s%.0s!", b"%.0s%s!%.0s", None),
-];
-
 #[test]
 fn stream_writes_what_is_settled(rt: HostRuntime) {
-    for (bytes, want, refused) in &ROWS {
-        for step in STEPS {
+    for step in STEPS {
+        for (at, (_, bytes, want)) in STREAMED.iter().enumerate() {
             let (outcome, written) = streamed(rt.alloc(), bytes, step, None);
-            match outcome {
-                Outcome::Done => assert!(rt; refused.is_none()),
-                Outcome::Refused { side, refusal } => {
-                    assert!(rt; side.is_none());
-                    assert_eq!(rt; Some(refusal.at), *refused);
-                }
-                _ => assert!(rt; false),
-            }
-            assert!(rt; written.as_slice() == *want);
+            assert!(rt; matches!(outcome, Outcome::Done), "{at}");
+            assert!(rt; written.as_slice() == *want, "{at}");
         }
+        for (bytes, want, at) in UNFINISHED {
+            let (outcome, written) = streamed(rt.alloc(), bytes, step, None);
+            assert_eq!(rt; refused_at(&outcome), Some(at));
+            assert!(rt; written.as_slice() == want, "{at}");
+        }
+    }
+}
+
+// The place of a refusal that is told of no side.
+fn refused_at(outcome: &Outcome) -> Option<u64> {
+    match outcome {
+        Outcome::Refused {
+            side: None,
+            refusal,
+        } => Some(refusal.at),
+        _ => None,
     }
 }
 
@@ -146,12 +115,7 @@ fn a_write_that_fails_is_told_with_what_went_out(rt: HostRuntime) {
     for step in STEPS {
         for room in 0..want.len() {
             let mut place = [0u8; 16];
-            let mut reader = Counted::new(Feed {
-                bytes: b"a%.0sb%5d",
-                at: 0,
-                step,
-                fail_at: None,
-            });
+            let mut reader = Counted::new(feed(b"a%.0sb%5d", step, None));
             let mut writer = Counted::new(&mut place[..room]);
             let outcome = run(rt.alloc(), ["stream"].as_slice(), &mut reader, &mut writer);
             let failures = writer.failures();
@@ -165,52 +129,22 @@ fn a_write_that_fails_is_told_with_what_went_out(rt: HostRuntime) {
     }
 }
 
-// Takes all bytes, fails at each flush if it is to, and counts these.
-#[derive(Drop)]
-struct Flushed {
-    taken: usize,
-    flushes: u32,
-    taken_at_flush: usize,
-    fails: bool,
-}
-
-impl Write for Flushed {
-    fn write(&mut self, buf: &[u8]) -> io::Result<usize> {
-        self.taken = self.taken.saturating_add(buf.len());
-        Ok(buf.len())
-    }
-
-    fn flush(&mut self) -> io::Result<()> {
-        self.flushes = self.flushes.saturating_add(1);
-        self.taken_at_flush = self.taken;
-        if self.fails {
-            return Err(Error::from(ErrorKind::Other));
-        }
-        Ok(())
-    }
-}
-
 // How `stream` ended over a text, and its writer.
 fn stream_over(
     alloc: Global,
     bytes: &[u8],
-    fail_at: Option<usize>,
+    fail_at: Option<u64>,
     fails: bool,
-) -> (Outcome, Flushed) {
-    let mut reader = Counted::new(Feed {
-        bytes,
-        at: 0,
-        step: 3,
-        fail_at,
-    });
-    let mut writer = Counted::new(Flushed {
-        taken: 0,
-        flushes: 0,
-        taken_at_flush: 0,
-        fails,
-    });
+) -> (Outcome, Watched) {
+    let mut reader = Counted::new(feed(bytes, 3, fail_at));
+    let mut writer = Counted::new(Watched::new(fails));
     let outcome = run(alloc, ["stream"].as_slice(), &mut reader, &mut writer);
     (outcome, writer.into_inner())
+}
+
+// How many bytes a writer took, how often it was flushed, and after how many bytes.
+fn noted(writer: &Watched) -> (usize, u32, usize) {
+    (writer.taken, writer.flushes, writer.taken_at_flush)
 }
 
 #[test]
@@ -222,22 +156,13 @@ fn stream_flushes_once_after_what_it_wrote(rt: HostRuntime) {
         } else {
             assert!(rt; matches!(outcome, Outcome::Done));
         }
-        assert_eq!(rt;
-            (writer.taken, writer.flushes, writer.taken_at_flush),
-            (5, 1, 5)
-        );
+        assert_eq!(rt; noted(&writer), (5, 1, 5));
         // A refusal and a read that fails are told even where the flush fails.
         let (outcome, writer) = stream_over(rt.alloc(), b"ab%y", None, fails);
         assert!(rt; matches!(outcome, Outcome::Refused { .. }));
-        assert_eq!(rt;
-            (writer.taken, writer.flushes, writer.taken_at_flush),
-            (2, 1, 2)
-        );
+        assert_eq!(rt; noted(&writer), (2, 1, 2));
         let (outcome, writer) = stream_over(rt.alloc(), b"ab%5d", Some(2), fails);
         assert!(rt; matches!(outcome, Outcome::Read));
-        assert_eq!(rt;
-            (writer.taken, writer.flushes, writer.taken_at_flush),
-            (2, 1, 2)
-        );
+        assert_eq!(rt; noted(&writer), (2, 1, 2));
     }
 }

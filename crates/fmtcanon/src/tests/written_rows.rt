@@ -1,4 +1,5 @@
-//! Runs that write: words, what is read, and what is written. Worked out by hand from what C says is printed.
+//! Runs that write: words, what is read, and what is written. Worked out by hand from what C says
+//! is printed.
 
 /// Words, what is read, and what is written.
 pub(super) type Written = (&'static [&'static str], &'static [u8], &'static [u8]);
@@ -25,17 +26,86 @@ pub(super) static CANON: [Written; 14] = [
 ];
 
 #[rattlefmt::skip]
-pub(super) static LINES: [Written; 10] = [
+pub(super) static MORE_CANON: [Written; 10] = [
+    (&["canon", "%d%i%u%s"], b"", b"%d%d%u%s\n"),
+    (&["canon", "%%%%i"], b"", b"%%%%i\n"),
+    (&["canon", "%i%%d"], b"", b"%d%%d\n"),
+    (&["canon", "d\n\t%i\\n"], b"", b"d\n\t%d\\n\n"),
+    (&["canon", "größer als %i"], b"", b"gr\xc3\xb6\xc3\x9fer als %d\n"),
+    (&["canon", "%5d"], b"", b"%5d\n"),
+    (&["canon", "% 10d"], b"", b"% 10d\n"),
+    (&["canon", "%-2s"], b"", b"%-2s\n"),
+    (&["canon", "%11.10d"], b"", b"% .10d\n"),
+    (&["canon", "%-#3.0x"], b"", b"%#3.0x\n"),
+];
+
+#[rattlefmt::skip]
+pub(super) static TYPE_LINES: [Written; 4] = [
+    (&["types", ""], b"", b""),
+    (&["types", "100%%"], b"", b""),
     (&["types", "%d %hhu %zu %lld %s"], b"", b"int\nint\nunsigned long\nlong long\nstring\n"),
+    (&["types", "%u%ld%llu"], b"", b"unsigned int\nlong\nunsigned long long\n"),
+];
+
+#[rattlefmt::skip]
+pub(super) static SHOW_LINES: [Written; 11] = [
+    (&["show", ""], b"", b""),
     (&["show", "x%20d%%"], b"", b"text 1\ndirective %20d: int: 9 0 %11d 0\npercent\n"),
     (&["show", "%-5c%.0s!"], b"", b"directive %-5c: int: 0 0 %c 4\ndirective %.0s: string: 0 0 %.0s 0\ntext 1\n"),
+    (&["show", "%%%%"], b"", b"percent\npercent\n"),
+    (&["show", "0123456789größer"], b"", b"text 18\n"),
+    (&["show", "a%%b"], b"", b"text 1\npercent\ntext 1\n"),
+    (&["show", "%''++-+d"], b"", b"directive %-+'d: int: 0 0 %+d 0\n"),
+    (&["show", "%-20d"], b"", b"directive %-20d: int: 0 0 %-11d 9\n"),
+    (&["show", "%30.20u"], b"", b"directive %30.20u: unsigned int: 10 10 %.10u 0\n"),
+    (&["show", "%-12.0s"], b"", b"directive %-12.0s: string: 12 0 %.0s 0\n"),
+    (&["show", "%5c"], b"", b"directive %5c: int: 4 0 %c 0\n"),
+];
+
+#[rattlefmt::skip]
+pub(super) static MORE_SHOW_LINES: [Written; 10] = [
+    (&["show", "%#o"], b"", b"directive %#o: unsigned int: 0 1 %.0o 0\n"),
+    (&["show", "%#20o"], b"", b"directive %#20o: unsigned int: 8 0 %#12o 0\n"),
+    (&["show", "%-#20X"], b"", b"directive %-#20X: unsigned int: 0 0 %-#10X 10\n"),
+    (&["show", "%+020lld"], b"", b"directive %+020lld: long long: 0 0 %+.19lld 0\n"),
+    (&["show", "%-+7.0hhd"], b"", b"directive %-+7.0hhd: int: 0 0 %-+4.0hhd 3\n"),
+    (&["show", "%#.20x"], b"", b"directive %#.20x: unsigned int: 0 0 %#.20x 0\n"),
+    (&["show", "%.300d"], b"", b"directive %.300d: int: 0 0 %.300d 0\n"),
+    (&["show", "%020hd"], b"", b"directive %020hd: int: 0 0 %020hd 0\n"),
+    (&["show", "%zi"], b"", b"directive %zi: long: 0 0 %ld 0\n"),
+    (&["show", "--", "-%-- 1.5hho!"], b"", b"text 1\ndirective %- 1.5hho: int: 0 2 %.3hho 0\ntext 1\n"),
+];
+
+#[rattlefmt::skip]
+pub(super) static SAME_LINES: [Written; 12] = [
     (&["same", "%05d", "%.5d"], b"", b"different\nn:-1\n"),
+    (&["same", "%d%05d", "%d%.5d"], b"", b"different\nn:0\nn:-1\n"),
     (&["same", "%hhx", "%hx"], b"", b"different\nn:257\n"),
     (&["same", "%zd", "%ld"], b"", b"same\n"),
-    (&["same", "%d", "%ld"], b"", b"types differ at argument 0\n"),
+    (&["same", "%ld", "%lld"], b"", b"types differ at argument 0\n"),
     (&["same", "%d", "%d%d"], b"", b"types differ at argument 1\n"),
+    (&["same", "%d%d", "%d"], b"", b"types differ at argument 1\n"),
+    (&["same", "% 10d", "%10d"], b"", b"different\nn:2147483647\n"),
+    (&["same", "%5c", "    %c"], b"", b"same\n"),
+    (&["same", "a%d", "b%d"], b"", b"different\nn:0\n"),
     (&["same", "%.0s%s", "%s%.0s"], b"", b"different\ns:A\ns:\n"),
+    (&["same", "%#x", "0x%x"], b"", b"different\nn:0\n"),
+];
+
+#[rattlefmt::skip]
+pub(super) static MORE_SAME_LINES: [Written; 12] = [
+    (&["same", "%#o", "0%o"], b"", b"different\nn:0\n"),
+    (&["same", "%s%4095c", "%s"], b"", b"types differ at argument 1\n"),
+    (&["same", "%x", "%X"], b"", b"different\nn:4294967295\n"),
+    (&["same", "%#o", "%o"], b"", b"different\nn:1\n"),
+    (&["same", "%d", "%u"], b"", b"types differ at argument 0\n"),
+    (&["same", "%d%d", "%d%ld"], b"", b"types differ at argument 1\n"),
+    (&["same", "%.0s", "%s"], b"", b"different\ns:A\n"),
+    (&["same", "% 11d", "%11d"], b"", b"same\n"),
+    (&["same", "%d", "%i"], b"", b"same\n"),
     (&["same", "a", "b"], b"", b"different\n"),
+    (&["same", "", ""], b"", b"same\n"),
+    (&["same", "%d", "%ld"], b"", b"types differ at argument 0\n"),
 ];
 
 #[rattlefmt::skip]
@@ -73,9 +143,10 @@ pub(super) static MORE_PRINTED: [Written; 13] = [
 ];
 
 #[rattlefmt::skip]
-pub(super) static STREAMED: [Written; 10] = [
+pub(super) static STREAMED: [Written; 11] = [
     (&["stream"], b"", b""),
     (&["stream"], b"100%%", b"100%%"),
+    (&["stream"], b"%5c", b"    %c"),
     (&["stream"], b"%.0s%s%.0s!", b"%.0s%s!%.0s"),
     (&["stream"], b"a%.0sb%5d", b"ab%.0s%5d"),
     (&["stream"], b"%-5c%.0s!", b"%c    !%.0s"),
@@ -84,6 +155,17 @@ pub(super) static STREAMED: [Written; 10] = [
     (&["stream"], b"%%%.0s%-12d", b"%%%.0s%-11d "),
     (&["stream"], b"a%.0s%5cb%.0s", b"a    %.0s%cb%.0s"),
     (&["stream"], b"%.0s%5.0sx", b"     x%.0s%.0s"),
+];
+
+/// A text that is refused, what `stream` writes of it, and the place of the refusal.
+#[rattlefmt::skip]
+pub(super) static UNFINISHED: [(&[u8], &[u8], u64); 6] = [
+    (b"a%.0sb%5d%q", b"ab%.0s%5d", 10),
+    (b"a%.0s%y", b"a", 6),
+    (b"%%.0s%y", b"%%.0s", 6),
+    (b"100%", b"100", 4),
+    (b"%20d%y", b"         %11d", 5),
+    (b"%y", b"", 1),
 ];
 
 /// A directive and its canonical string.

@@ -1,93 +1,30 @@
-//! Readers and writers that fail, and that take or hand out little at a time.
-use std::io;
-use std::io::{Error, ErrorKind, Read, Write};
+//! Readers that hand out little at a time, and are interrupted once.
+use pf_values::devices::Feed;
+use std::io::{ErrorKind, Read};
 
-// Hands out a text, at most `step` bytes a call, and fails once where `fails_at` bytes were handed out.
-#[derive(Drop)]
-pub(crate) struct Cuts<'a> {
-    rest: &'a [u8],
-    step: usize,
-    fails_at: Option<usize>,
+/// A reader of a text that hands out at most `step` bytes a call.
+pub(super) fn whole(text: &[u8], step: usize) -> Feed<'_> {
+    Feed::new(text, step.max(1), None, ErrorKind::Interrupted)
 }
 
-impl<'a> Cuts<'a> {
-    pub(crate) fn new(rest: &'a [u8], step: usize) -> Cuts<'a> {
-        Cuts {
-            rest,
-            step,
-            fails_at: None,
-        }
-    }
-
-    pub(crate) fn failing(rest: &'a [u8], step: usize, fails_at: usize) -> Cuts<'a> {
-        Cuts {
-            rest,
-            step,
-            fails_at: Some(fails_at),
-        }
-    }
-
-    // The bytes that were not handed out.
-    pub(crate) fn left(&self) -> usize {
-        self.rest.len()
-    }
+/// The same, but one call fails, where `fails_at` bytes were handed out.
+pub(super) fn failing(text: &[u8], step: usize, fails_at: usize) -> Feed<'_> {
+    Feed::new(
+        text,
+        step.max(1),
+        Some(fails_at as u64),
+        ErrorKind::Interrupted,
+    )
 }
 
-impl Read for Cuts<'_> {
-    fn read(&mut self, buf: &mut [u8]) -> io::Result<usize> {
-        let mut n = buf.len().min(self.step).min(self.rest.len());
-        if let Some(room) = self.fails_at {
-            if room == 0 {
-                self.fails_at = None;
-                return Err(Error::from(ErrorKind::Interrupted));
-            }
-            n = n.min(room);
-            self.fails_at = Some(room.saturating_sub(n));
-        }
-        let n = n.min(buf.len()).min(self.rest.len());
-        buf[..n].copy_from_slice(&self.rest[..n]);
-        self.rest = &self.rest[n..];
-        Ok(n)
-    }
-}
-
-// Takes at most `room` bytes, and at most `step` a call. Then each call fails, or takes nothing.
-#[derive(Drop)]
-pub(crate) struct Narrow {
-    pub(crate) taken: [u8; 64],
-    pub(crate) len: usize,
-    room: usize,
-    step: usize,
-    fails: bool,
-}
-
-impl Narrow {
-    pub(crate) fn new(room: usize, step: usize, fails: bool) -> Narrow {
-        Narrow {
-            taken: [0; 64],
-            len: 0,
-            room,
-            step,
-            fails,
+/// Whether a reader has these bytes left, and no more.
+pub(super) fn has_left(feed: Feed<'_>, bytes: &[u8]) -> bool {
+    let mut feed = feed;
+    let mut byte = [0u8; 1];
+    for wanted in bytes {
+        if feed.read(&mut byte).ok() != Some(1) || byte[0] != *wanted {
+            return false;
         }
     }
-}
-
-impl Write for Narrow {
-    fn write(&mut self, buf: &[u8]) -> io::Result<usize> {
-        let room = self.room.min(64).saturating_sub(self.len);
-        if room == 0 && self.fails {
-            return Err(Error::from(ErrorKind::Interrupted));
-        }
-        let n = buf.len().min(room).min(self.step);
-        if self.len <= 64 && n <= 64 - self.len {
-            self.taken[self.len..self.len + n].copy_from_slice(&buf[..n]);
-            self.len += n;
-        }
-        Ok(n)
-    }
-
-    fn flush(&mut self) -> io::Result<()> {
-        Ok(())
-    }
+    feed.read(&mut byte).ok() == Some(0)
 }

@@ -1,5 +1,5 @@
 //! Two texts, compared in step.
-use super::devices::Cuts;
+use super::devices::{failing, has_left, whole};
 use super::{DIRECTIVES, FORMATS};
 use crate::{Side, SideFault, StreamFault, same_stream, same_text};
 use pf_text::Refusal;
@@ -11,8 +11,8 @@ static CUTS: [usize; 4] = [1, 2, 3, 7];
 // What `same_stream` answers of two texts in a cut.
 fn streamed(first: &str, second: &str, step: usize) -> Result<bool, SideFault> {
     same_stream(
-        &mut Counted::new(Cuts::new(first.as_bytes(), step)),
-        &mut Counted::new(Cuts::new(second.as_bytes(), step)),
+        &mut Counted::new(whole(first.as_bytes(), step)),
+        &mut Counted::new(whole(second.as_bytes(), step)),
     )
 }
 
@@ -100,13 +100,13 @@ fn the_second_text_is_read_no_further(rt: HostRuntime) {
     let first: &[u8] = b"%s%y";
     let second: &[u8] = b"%s%zabc";
     let mut r = Counted::new(first);
-    let mut s = Counted::new(Cuts::new(second, 1));
+    let mut s = Counted::new(whole(second, 1));
     let want = SideFault {
         side: Side::First,
         fault: StreamFault::Refused(refusal(RefusalKind::Unexpected, 3)),
     };
     assert!(rt; same_stream(&mut r, &mut s) == Err(want));
-    assert_eq!(rt; s.into_inner().left(), 5);
+    assert!(rt; has_left(s.into_inner(), b"%zabc"));
 }
 
 #[test]
@@ -115,24 +115,24 @@ fn a_reader_that_fails_is_told_by_its_side(rt: HostRuntime) {
     for step in CUTS {
         for fails_at in 0..6usize {
             let fault = StreamFault::Read;
-            let mut r = Counted::new(Cuts::failing(text, step, fails_at));
-            let mut s = Counted::new(Cuts::new(text, step));
+            let mut r = Counted::new(failing(text, step, fails_at));
+            let mut s = Counted::new(whole(text, step));
             let first = SideFault {
                 side: Side::First,
                 fault,
             };
             assert!(rt; same_stream(&mut r, &mut s) == Err(first));
             assert_eq!(rt; (r.failures(), s.failures()), (1, 0));
-            let mut r = Counted::new(Cuts::new(text, step));
-            let mut s = Counted::new(Cuts::failing(text, step, fails_at));
+            let mut r = Counted::new(whole(text, step));
+            let mut s = Counted::new(failing(text, step, fails_at));
             let second = SideFault {
                 side: Side::Second,
                 fault,
             };
             assert!(rt; same_stream(&mut r, &mut s) == Err(second));
             assert_eq!(rt; (r.failures(), s.failures()), (0, 1));
-            let mut r = Counted::new(Cuts::failing(text, step, 5));
-            let mut s = Counted::new(Cuts::failing(text, step, fails_at));
+            let mut r = Counted::new(failing(text, step, 5));
+            let mut s = Counted::new(failing(text, step, fails_at));
             assert!(rt; same_stream(&mut r, &mut s) == Err(first));
         }
     }

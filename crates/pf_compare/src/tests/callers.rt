@@ -1,4 +1,4 @@
-//! The caller of CALLING.md.
+//! The caller in CALLING.md that `crates/uses` doesn't have.
 use crate::{CompareFault, Verdict, compare, confirms};
 use pf_values::Arg;
 use std::alloc::Global;

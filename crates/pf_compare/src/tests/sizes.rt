@@ -11,8 +11,8 @@ fn ended(alloc: Global, len: usize, end: &[u8]) -> Result<Vec<u8>, AllocError> {
     Ok(text)
 }
 
-// Whether 1 is told to print otherwise by `%d` than by `%5d` behind so many bytes, and as by `%i`.
-fn confirms_behind(alloc: Global, len: usize) -> Result<bool, AllocError> {
+// Whether 1 is told to print otherwise by `%d` than by `%5d` after so many bytes, and as by `%i`.
+fn confirms_after(alloc: Global, len: usize) -> Result<bool, AllocError> {
     let plain = ended(alloc, len, b"%d")?;
     let wide = ended(alloc, len, b"%5d")?;
     let alike = ended(alloc, len, b"%i")?;
@@ -24,9 +24,9 @@ fn confirms_behind(alloc: Global, len: usize) -> Result<bool, AllocError> {
 fn texts_of_any_size(rt: HostRuntime) -> Result<(), AllocError> {
     let mut len = 1usize;
     for _ in 0..21u32 {
-        assert!(rt; confirms_behind(rt.alloc(), len)?, "{len}");
+        assert!(rt; confirms_after(rt.alloc(), len)?, "{len}");
         assert!(rt;
-            confirms_behind(rt.alloc(), len.saturating_sub(1))?,
+            confirms_after(rt.alloc(), len.saturating_sub(1))?,
             "one less than {len}"
         );
         len = len.saturating_mul(2);

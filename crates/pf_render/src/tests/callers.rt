@@ -1,4 +1,4 @@
-//! The caller of CALLING.md.
+//! The caller in CALLING.md that `crates/uses` doesn't have.
 use crate::{RenderFault, render};
 use pf_values::{Arg, CBytes, Counted};
 use std::io::Write;

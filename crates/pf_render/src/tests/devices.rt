@@ -1,142 +1,10 @@
-//! Devices that take a little at a time, fail, or take nothing.
-use super::{arguments, printed, write_number};
-use crate::{RenderFault, WriteFault, render};
+//! How often a writer is called, and a writer that takes nothing where it is full.
+use super::write_number;
+use crate::{RenderFault, render};
 use pf_values::{Arg, Counted};
 use std::alloc::AllocError;
 use std::io;
-use std::io::{Error, ErrorKind, Write};
-use std::test::Fail;
-
-const ROOM: usize = 24;
-
-// Takes at most `step` bytes a call. Where `room` bytes were taken it answers nothing but `full`.
-#[derive(Drop)]
-struct Narrow {
-    taken: [u8; ROOM],
-    len: usize,
-    room: usize,
-    step: usize,
-    full: Option<ErrorKind>,
-}
-
-impl Narrow {
-    fn took_front_of(&self, text: &[u8]) -> bool {
-        self.taken.get(..self.len) == text.get(..self.len)
-    }
-}
-
-impl Write for Narrow {
-    fn write(&mut self, buf: &[u8]) -> io::Result<usize> {
-        let left = self.room.min(ROOM).saturating_sub(self.len);
-        if left == 0 {
-            return match self.full {
-                Some(kind) => Err(Error::from(kind)),
-                None => Ok(0),
-            };
-        }
-        let n = buf.len().min(left).min(self.step);
-        if self.len <= ROOM && n <= ROOM - self.len {
-            self.taken[self.len..self.len + n].copy_from_slice(&buf[..n]);
-            self.len += n;
-            return Ok(n);
-        }
-        Err(Error::from(ErrorKind::Other))
-    }
-
-    fn flush(&mut self) -> io::Result<()> {
-        Ok(())
-    }
-}
-
-// Directives with a sign or prefix, zeros, digits and spaces on each side, and what they print.
-#[rattlefmt::skip]
-static CASES: [(&str, i128, &str); 7] = [
-    ("%d", -42, "-42"),
-    ("%+8.3ld", 5, "    +005"),
-    ("%-+8.3ld", 5, "+005    "),
-    ("%#08x", 255, "0x0000ff"),
-    ("%-#8X", 255, "0XFF    "),
-    ("%#8.5o", 8, "   00010"),
-    ("%20lld", -9223372036854775808, "-9223372036854775808"),
-];
-
-#[test]
-fn what_fits_goes_out(rt: HostRuntime) {
-    for (format, number, text) in &CASES {
-        for full in [Some(ErrorKind::Other), Some(ErrorKind::Interrupted), None] {
-            for step in [1usize, 2, 3, 7] {
-                for room in 0..text.len() + 1 {
-                    let mut writer = Counted::new(Narrow {
-                        taken: [0; ROOM],
-                        len: 0,
-                        room,
-                        step,
-                        full,
-                    });
-                    let answer = write_number(format, *number, &mut writer);
-                    let failures = writer.failures();
-                    let narrow = writer.into_inner();
-                    assert_eq!(rt; narrow.len, room, "{format} {full:?} {step} {room}");
-                    assert!(rt;
-                        narrow.took_front_of(text.as_bytes()),
-                        "{format} {step} {room}"
-                    );
-                    if room == text.len() {
-                        assert_eq!(rt; answer, Some(Ok(())), "{format} {step}");
-                        assert_eq!(rt; failures, 0, "{format} {step}");
-                    } else {
-                        let written = room as u128;
-                        assert_eq!(rt;
-                            answer,
-                            Some(Err(WriteFault { written })),
-                            "{format} {step} {room}"
-                        );
-                        assert_eq!(rt; failures, 1, "{format} {step} {room}");
-                    }
-                }
-            }
-        }
-    }
-}
-
-// A format whose literals and directives print spaces, digits, prefixes, strings, single bytes and nothing.
-const FORMAT: &[u8] = b"ab%%%5d,%-4sz%#x%c%.0s!%%";
-
-const WORDS: [&str; 5] = ["n:42", "s:xy", "n:255", "n:65", "s:zzz"];
-
-const PRINTED: &[u8] = b"ab%   42,xy  z0xffA!%";
-
-#[test]
-fn what_fits_of_a_format_goes_out(rt: HostRuntime) -> Result<(), Fail> {
-    let args = arguments(rt.alloc(), FORMAT, &WORDS)?.expect(&rt, "words of these types");
-    for full in [Some(ErrorKind::Other), Some(ErrorKind::Interrupted), None] {
-        for step in [1usize, 2, 3, 7] {
-            for room in 0..PRINTED.len() + 1 {
-                let mut writer = Counted::new(Narrow {
-                    taken: [0; ROOM],
-                    len: 0,
-                    room,
-                    step,
-                    full,
-                });
-                let answer = render(FORMAT, args.as_slice(), &mut writer);
-                let failures = writer.failures();
-                let narrow = writer.into_inner();
-                assert_eq!(rt; narrow.len, room, "{full:?} {step} {room}");
-                assert!(rt; narrow.took_front_of(PRINTED), "{step} {room}");
-                if room == PRINTED.len() {
-                    assert_eq!(rt; answer, Ok(()), "{step}");
-                    assert_eq!(rt; failures, 0, "{step}");
-                } else {
-                    let written = room as u128;
-                    assert_eq!(rt; answer, Err(RenderFault::Write(written)), "{step} {room}");
-                    assert_eq!(rt; failures, 1, "{step} {room}");
-                }
-            }
-        }
-    }
-    Ok(())
-}
+use std::io::Write;
 
 #[test]
 fn room_for_one_byte(rt: HostRuntime) {
@@ -150,7 +18,7 @@ fn room_for_one_byte(rt: HostRuntime) {
     assert_eq!(rt; room, [b' ']);
 }
 
-// Counts its calls and the bytes that it is given.
+// Counts its calls and the bytes that it is given, which `Cut` doesn't.
 #[derive(Drop)]
 struct Calls {
     calls: usize,
@@ -230,22 +98,5 @@ fn long_literals_are_not_flushed(rt: HostRuntime) -> Result<(), AllocError> {
         assert_eq!(rt; calls.bytes, len + len + 1);
         assert_eq!(rt; calls.flushes, 0);
     }
-    Ok(())
-}
-
-// The greatest padding, and the most zeros behind a sign.
-#[test]
-fn long_runs(rt: HostRuntime) -> Result<(), Fail> {
-    let out = printed(rt.alloc(), "%4095d", 7)?;
-    let out = out.as_deref().unwrap_or(&[]);
-    assert_eq!(rt; out.len(), 4095);
-    assert!(rt; out.iter().take(4094).all(|byte| *byte == b' '));
-    assert_eq!(rt; out.last(), Some(&b'7'));
-    let out = printed(rt.alloc(), "%.4095d", -7)?;
-    let out = out.as_deref().unwrap_or(&[]);
-    assert_eq!(rt; out.len(), 4096);
-    assert_eq!(rt; out.first(), Some(&b'-'));
-    assert!(rt; out.iter().skip(1).take(4094).all(|byte| *byte == b'0'));
-    assert_eq!(rt; out.last(), Some(&b'7'));
     Ok(())
 }

@@ -4,10 +4,10 @@ use std::alloc::{AllocError, Global};
 use std::test::Fail;
 
 // A format, the words of its arguments, and what it prints.
-type Row = (&'static str, [&'static str; 5], &'static str);
+pub(super) type Row = (&'static str, [&'static str; 5], &'static str);
 
 // The same, with one argument.
-type ShortRow = (&'static str, &'static str, &'static str);
+pub(super) type ShortRow = (&'static str, &'static str, &'static str);
 
 fn first_wrong(alloc: Global, table: &[Row]) -> Result<Option<&'static str>, AllocError> {
     for (format, words, text) in table {
@@ -47,7 +47,7 @@ fn short_rows(rt: HostRuntime) -> Result<(), Fail> {
 
 // Worked rows.
 #[rattlefmt::skip]
-static WORKED: [Row; 21] = [
+pub(super) static WORKED: [Row; 21] = [
     ("%3d|", ["n:5", "", "", "", ""], "  5|"),
     ("%hhd", ["n:300", "", "", "", ""], "44"),
     ("%c", ["n:256", "", "", "", ""], "\0"),
@@ -73,7 +73,7 @@ static WORKED: [Row; 21] = [
 
 // What test suites of other programs say.
 #[rattlefmt::skip]
-static OF_SUITES: [Row; 22] = [
+pub(super) static OF_SUITES: [Row; 22] = [
     ("abc %% def", ["", "", "", "", ""], "abc % def"),
     ("%%%%%%", ["", "", "", "", ""], "%%%"),
     ("%-5.4d%+.4u", ["n:75", "n:25", "", "", ""], "0075 0025"),
@@ -100,7 +100,7 @@ static OF_SUITES: [Row; 22] = [
 
 // What two C libraries print.
 #[rattlefmt::skip]
-static OF_LIBRARIES: [Row; 14] = [
+pub(super) static OF_LIBRARIES: [Row; 14] = [
     ("%-8d|", ["n:1", "", "", "", ""], "1       |"),
     ("%-8d|", ["n:-1", "", "", "", ""], "-1      |"),
     ("%-8d|", ["n:32767", "", "", "", ""], "32767   |"),
@@ -119,7 +119,7 @@ static OF_LIBRARIES: [Row; 14] = [
 
 // What a C library, glibc 2.36, prints of strings.
 #[rattlefmt::skip]
-static STRINGS: [ShortRow; 56] = [
+pub(super) static STRINGS: [ShortRow; 56] = [
     ("%s|", "s:", "|"),
     ("%s|", "s:a", "a|"),
     ("%s|", "s:abc", "abc|"),
@@ -180,7 +180,7 @@ static STRINGS: [ShortRow; 56] = [
 
 // What it prints of single bytes.
 #[rattlefmt::skip]
-static CHARS: [ShortRow; 24] = [
+pub(super) static CHARS: [ShortRow; 24] = [
     ("%c|", "n:65", "A|"),
     ("%c|", "n:126", "~|"),
     ("%c|", "n:37", "%|"),

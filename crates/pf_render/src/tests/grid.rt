@@ -1,5 +1,6 @@
 //! Each conversion under each length modifier, with a dozen shapes and five values. What is printed is
 //! what a C library prints, kept as data: `docs/grid.c` wrote the tables, on glibc 2.36.
+use super::rooms::is_exact_at_interrupts;
 use super::{directive_of, printed, prints};
 use pf_values::{ArgType, Directive};
 use std::alloc::{AllocError, Global};
@@ -15,8 +16,8 @@ mod unsigned;
 // number of so many bits.
 type ShortRow = (&'static str, u32, [&'static str; 5]);
 
-// The same, where a byte stands many times: for each number what comes before, that byte, how often it
-// stands there, and what comes behind.
+// The same, where a byte stands many times: for each number what comes before, that byte, how often
+// it stands there, and what comes after.
 type LongRow = (
     &'static str,
     u32,
@@ -65,6 +66,29 @@ fn short_rows(rt: HostRuntime) -> Result<(), Fail> {
     assert_eq!(rt; first_wrong(rt.alloc(), &octal::OCTAL)?, None);
     assert_eq!(rt; first_wrong(rt.alloc(), &hexadecimal::HEXADECIMAL)?, None);
     Ok(())
+}
+
+// The first row whose text isn't written just as far as there is room.
+fn first_inexact(table: &[ShortRow]) -> Option<(&'static str, i128)> {
+    for (format, bits, texts) in table {
+        let Some(directive) = directive_of(format) else {
+            return Some((*format, 0));
+        };
+        for (number, text) in numbers(&directive, *bits).iter().zip(texts) {
+            if !is_exact_at_interrupts(&directive, *number, text.as_bytes()) {
+                return Some((*format, *number));
+            }
+        }
+    }
+    None
+}
+
+#[test]
+fn each_room_for_short_rows(rt: HostRuntime) {
+    assert_eq!(rt; first_inexact(&signed::SIGNED), None);
+    assert_eq!(rt; first_inexact(&unsigned::UNSIGNED), None);
+    assert_eq!(rt; first_inexact(&octal::OCTAL), None);
+    assert_eq!(rt; first_inexact(&hexadecimal::HEXADECIMAL), None);
 }
 
 // Whether a text is `head`, the byte so many times, and `tail`.

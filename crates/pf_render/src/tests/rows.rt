@@ -1,10 +1,11 @@
 //! Worked rows.
 use super::prints;
+use super::vectors::NumberRow;
 use std::test::Fail;
 
 // A directive, a number, and what it prints.
 #[rattlefmt::skip]
-static ROWS: [(&str, i128, &str); 32] = [
+pub(super) static ROWS: [NumberRow; 32] = [
     ("%08.3d", 5, "     005"),
     ("% 05d", 42, " 0042"),
     ("%#8.5o", 8, "   00010"),

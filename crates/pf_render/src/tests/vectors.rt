@@ -4,9 +4,12 @@ use std::alloc::{AllocError, Global};
 use std::test::Fail;
 
 // A directive, a number, and what it prints.
-type Row = (&'static str, i128, &'static str);
+pub(super) type NumberRow = (&'static str, i128, &'static str);
 
-fn first_wrong(alloc: Global, table: &[Row]) -> Result<Option<(&'static str, i128)>, AllocError> {
+fn first_wrong(
+    alloc: Global,
+    table: &[NumberRow],
+) -> Result<Option<(&'static str, i128)>, AllocError> {
     for (format, number, text) in table {
         if !prints(alloc, format, *number, text)? {
             return Ok(Some((*format, *number)));
@@ -26,7 +29,7 @@ fn vectors(rt: HostRuntime) -> Result<(), Fail> {
 }
 
 #[rattlefmt::skip]
-static SIGNED: [Row; 110] = [
+pub(super) static SIGNED: [NumberRow; 110] = [
     ("%0.0d", 2, "2"),
     ("%+ld", 162664, "+162664"),
     ("%ld", 0, "0"),
@@ -140,7 +143,7 @@ static SIGNED: [Row; 110] = [
 ];
 
 #[rattlefmt::skip]
-static MORE_SIGNED: [Row; 111] = [
+pub(super) static MORE_SIGNED: [NumberRow; 111] = [
     ("%+2d", 2563, "+2563"),
     ("% 7.7d", -21523, "-0021523"),
     ("%05.ld", 1, "    1"),
@@ -255,7 +258,7 @@ static MORE_SIGNED: [Row; 111] = [
 ];
 
 #[rattlefmt::skip]
-static UNSIGNED: [Row; 11] = [
+pub(super) static UNSIGNED: [NumberRow; 11] = [
     ("%6u", 1234, "  1234"),
     ("%hu", 12, "12"),
     ("%u", 49152, "49152"),
@@ -270,7 +273,7 @@ static UNSIGNED: [Row; 11] = [
 ];
 
 #[rattlefmt::skip]
-static OCTAL: [Row; 4] = [
+pub(super) static OCTAL: [NumberRow; 4] = [
     ("%#10.8o", 42798, "  00123456"),
     ("%o", 2423, "4567"),
     ("%0#6o", 491, "000753"),
@@ -278,7 +281,7 @@ static OCTAL: [Row; 4] = [
 ];
 
 #[rattlefmt::skip]
-static HEXADECIMAL: [Row; 245] = [
+pub(super) static HEXADECIMAL: [NumberRow; 245] = [
     ("%-6X", 6536774, "63BE46"),
     ("%-x", 3536268507, "d2c72cdb"),
     ("%x", 4294967295, "ffffffff"),

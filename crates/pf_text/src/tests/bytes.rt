@@ -1,4 +1,4 @@
-//! Each byte behind each kind of beginning, against the table of the grammar.
+//! Each byte after each kind of beginning, against the table of the grammar.
 use crate::{Scanner, Step};
 
 // What may follow the beginning of a specification.
@@ -6,7 +6,7 @@ struct Row {
     front: &'static str,
     // Bytes with which the specification goes on.
     goes_on: &'static str,
-    // Letters that end it, and behind the first `%` another.
+    // Letters that end it; after the first `%` another `%` does, too.
     ends: &'static str,
     // Bytes that are refused here by a kind of their own.
     refused: &'static [(u8, &'static str)],
@@ -94,7 +94,7 @@ fn given(scanner: Scanner, byte: u8) -> Answer {
 }
 
 #[test]
-fn every_byte_behind_every_front(rt: HostRuntime) {
+fn every_byte_after_every_front(rt: HostRuntime) {
     for row in &ROWS {
         let mut scanner = Scanner::new();
         for byte in row.front.as_bytes() {

@@ -1,8 +1,8 @@
-//! The caller of CALLING.md.
+//! The caller in CALLING.md that `crates/uses` doesn't have.
 use crate::{Piece, Pieces, Refusal, Spelling, spell};
 use pf_values::RefusalKind;
 
-/// The first directive of a format in its shortest spelling.
+/// The first directive of a format in its one spelling.
 fn first_directive(format: &[u8]) -> Result<Option<Spelling>, Refusal> {
     for piece in Pieces::new(format) {
         let piece = match piece {

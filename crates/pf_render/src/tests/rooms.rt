@@ -1,0 +1,279 @@
+//! The rows of the other tests, written into each room from none to that for the whole text:
+//! exactly the bytes that fit go out, and a failure is counted.
+use super::formats::{CHARS, OF_LIBRARIES, OF_SUITES, Row, STRINGS, ShortRow, WORKED};
+use super::rows::ROWS;
+use super::vectors::{HEXADECIMAL, MORE_SIGNED, NumberRow, OCTAL, SIGNED, UNSIGNED};
+use super::{argument, arguments, directive_of, number_of};
+use crate::{RenderFault, render, render_one};
+use pf_values::devices::Cut;
+use pf_values::{Arg, Counted, Directive};
+use std::alloc::{AllocError, Global};
+use std::io::{ErrorKind, Write};
+use std::test::Fail;
+
+// No text of a table is longer.
+const PLACE: usize = 64;
+
+// The length of the longest text.
+const LONGEST: usize = 4_096;
+
+static STEPS: [usize; 4] = [1, 2, 3, 7];
+
+static KINDS: [ErrorKind; 5] = [
+    ErrorKind::Interrupted,
+    ErrorKind::WouldBlock,
+    ErrorKind::BrokenPipe,
+    ErrorKind::WriteZero,
+    ErrorKind::Other,
+];
+
+// What is to be printed: a directive for an argument of its type, or a format.
+#[derive(Clone, Copy)]
+enum Job<'a> {
+    One(Directive, Arg<'a>),
+    Whole(&'a [u8], &'a [Arg<'a>]),
+}
+
+// How a call ended: all was written, or so many bytes were.
+#[derive(Clone, Copy, Debug, PartialEq, Eq)]
+enum Ended {
+    Whole,
+    Cut(u128),
+    Other,
+}
+
+fn end_of<W: Write>(job: &Job<'_>, writer: &mut Counted<W>) -> Ended {
+    match job {
+        Job::One(directive, argument) => end_of_one(directive, *argument, writer),
+        Job::Whole(format, args) => end_of_whole(format, args, writer),
+    }
+}
+
+fn end_of_one<W: Write>(
+    directive: &Directive,
+    argument: Arg<'_>,
+    writer: &mut Counted<W>,
+) -> Ended {
+    if argument.arg_type() != directive.arg_type() {
+        return Ended::Other;
+    }
+    match render_one(directive, argument, writer) {
+        Ok(()) => Ended::Whole,
+        Err(fault) => Ended::Cut(fault.written),
+    }
+}
+
+fn end_of_whole<W: Write>(format: &[u8], args: &[Arg<'_>], writer: &mut Counted<W>) -> Ended {
+    match render(format, args, writer) {
+        Ok(()) => Ended::Whole,
+        Err(RenderFault::Write(written)) => Ended::Cut(written),
+        Err(_) => Ended::Other,
+    }
+}
+
+// How a call is to end in a room, and how many failures are to be counted by then.
+fn wanted(text: &[u8], room: usize) -> (Ended, u64) {
+    if room == text.len() {
+        (Ended::Whole, 0)
+    } else {
+        (Ended::Cut(room as u128), 1)
+    }
+}
+
+// Whether a writer that fails where it is full has taken the front of the text, and the call has
+// told so. Each flush of it fails, too: the call makes none, and the one after it is counted and
+// takes nothing away.
+fn takes_front(job: &Job<'_>, text: &[u8], place: &mut [u8], step: usize, kind: ErrorKind) -> bool {
+    let room = place.len();
+    let mut writer = Counted::new(Cut::new(place, step.max(1), kind, true));
+    let (end, failures) = wanted(text, room);
+    if end_of(job, &mut writer) != end || writer.failures() != failures {
+        return false;
+    }
+    let flush_fails = writer.flush().is_err();
+    let is_counted = writer.failures() == failures.saturating_add(1);
+    flush_fails && is_counted && Some(writer.into_inner().taken()) == text.get(..room)
+}
+
+// The same of a writer that takes nothing where it is full.
+fn fills(job: &Job<'_>, text: &[u8], place: &mut [u8]) -> bool {
+    let room = place.len();
+    let mut writer = Counted::new(&mut *place);
+    let (end, failures) = wanted(text, room);
+    if end_of(job, &mut writer) != end || writer.failures() != failures {
+        return false;
+    }
+    text.get(..room) == Some(&*place)
+}
+
+// Whether just what fits goes out, in each room, of writers that are full in each of these ways.
+fn is_exact_by(job: &Job<'_>, text: &[u8], place: &mut [u8], kinds: &[ErrorKind]) -> bool {
+    for room in 0..text.len().saturating_add(1) {
+        let Some(part) = place.get_mut(..room) else {
+            return false;
+        };
+        if !fills(job, text, part) {
+            return false;
+        }
+        for step in STEPS {
+            for kind in kinds {
+                if !takes_front(job, text, part, step, *kind) {
+                    return false;
+                }
+            }
+        }
+    }
+    true
+}
+
+fn is_exact(job: &Job<'_>, text: &[u8]) -> bool {
+    let mut place = [0u8; PLACE];
+    is_exact_by(job, text, &mut place, &KINDS)
+}
+
+// Whether a number is written so by a directive, and by the format that the directive is.
+fn is_number_exact(format: &str, number: i128, text: &str) -> bool {
+    let Some(directive) = directive_of(format) else {
+        return false;
+    };
+    let Some(arg) = number_of(directive.arg_type(), number) else {
+        return false;
+    };
+    let args = [arg];
+    is_exact(&Job::One(directive, arg), text.as_bytes())
+        && is_exact(&Job::Whole(format.as_bytes(), &args), text.as_bytes())
+}
+
+/// Whether a number is written so by a directive, over writers that are interrupted where they are
+/// full.
+pub(super) fn is_exact_at_interrupts(directive: &Directive, number: i128, text: &[u8]) -> bool {
+    let Some(arg) = number_of(directive.arg_type(), number) else {
+        return false;
+    };
+    let mut place = [0u8; LONGEST];
+    let job = Job::One(*directive, arg);
+    is_exact_by(&job, text, &mut place, &KINDS[..1])
+}
+
+fn first_wrong_number(table: &[NumberRow]) -> Option<(&'static str, i128)> {
+    for (format, number, text) in table {
+        if !is_number_exact(format, *number, text) {
+            return Some((*format, *number));
+        }
+    }
+    None
+}
+
+// Directives with a sign or prefix, zeros, digits and spaces on each side, and what they print.
+#[rattlefmt::skip]
+static CASES: [NumberRow; 7] = [
+    ("%d", -42, "-42"),
+    ("%+8.3ld", 5, "    +005"),
+    ("%-+8.3ld", 5, "+005    "),
+    ("%#08x", 255, "0x0000ff"),
+    ("%-#8X", 255, "0XFF    "),
+    ("%#8.5o", 8, "   00010"),
+    ("%20lld", -9223372036854775808, "-9223372036854775808"),
+];
+
+#[test]
+fn each_room_for_numbers(rt: HostRuntime) {
+    assert_eq!(rt; first_wrong_number(&CASES), None);
+    assert_eq!(rt; first_wrong_number(&ROWS), None);
+    assert_eq!(rt; first_wrong_number(&SIGNED), None);
+    assert_eq!(rt; first_wrong_number(&MORE_SIGNED), None);
+    assert_eq!(rt; first_wrong_number(&UNSIGNED), None);
+    assert_eq!(rt; first_wrong_number(&OCTAL), None);
+    assert_eq!(rt; first_wrong_number(&HEXADECIMAL), None);
+}
+
+fn is_format_exact(
+    alloc: Global,
+    format: &str,
+    words: &[&'static str],
+    text: &str,
+) -> Result<bool, AllocError> {
+    let Some(args) = arguments(alloc, format.as_bytes(), words)? else {
+        return Ok(false);
+    };
+    let job = Job::Whole(format.as_bytes(), args.as_slice());
+    Ok(is_exact(&job, text.as_bytes()))
+}
+
+fn first_wrong(alloc: Global, table: &[Row]) -> Result<Option<&'static str>, AllocError> {
+    for (format, words, text) in table {
+        if !is_format_exact(alloc, format, words.as_slice(), text)? {
+            return Ok(Some(*format));
+        }
+    }
+    Ok(None)
+}
+
+// A format whose literals and directives print spaces, digits, prefixes, strings, single bytes and
+// nothing.
+static MIXED: [Row; 1] = [(
+    "ab%%%5d,%-4sz%#x%c%.0s!%%",
+    ["n:42", "s:xy", "n:255", "n:65", "s:zzz"],
+    "ab%   42,xy  z0xffA!%",
+)];
+
+#[test]
+fn each_room_for_formats(rt: HostRuntime) -> Result<(), Fail> {
+    assert_eq!(rt; first_wrong(rt.alloc(), &MIXED)?, None);
+    assert_eq!(rt; first_wrong(rt.alloc(), &WORKED)?, None);
+    assert_eq!(rt; first_wrong(rt.alloc(), &OF_SUITES)?, None);
+    assert_eq!(rt; first_wrong(rt.alloc(), &OF_LIBRARIES)?, None);
+    Ok(())
+}
+
+// Whether a format that is one directive and then `|` is written so, and the directive alone, too.
+fn is_short_exact(format: &str, word: &'static str, text: &str) -> bool {
+    let Some(directive) = directive_of(format) else {
+        return false;
+    };
+    let (Some(arg), Some(alone)) = (argument(word, directive.arg_type()), text.strip_suffix("|"))
+    else {
+        return false;
+    };
+    let args = [arg];
+    is_exact(&Job::One(directive, arg), alone.as_bytes())
+        && is_exact(&Job::Whole(format.as_bytes(), &args), text.as_bytes())
+}
+
+fn first_wrong_short(table: &[ShortRow]) -> Option<(&'static str, &'static str)> {
+    for (format, word, text) in table {
+        if !is_short_exact(format, word, text) {
+            return Some((*format, *word));
+        }
+    }
+    None
+}
+
+#[test]
+fn each_room_for_strings_and_bytes(rt: HostRuntime) {
+    assert_eq!(rt; first_wrong_short(&STRINGS), None);
+    assert_eq!(rt; first_wrong_short(&CHARS), None);
+}
+
+// The greatest padding.
+#[test]
+fn each_room_for_a_wide_field(rt: HostRuntime) -> Result<(), Fail> {
+    let directive = directive_of("%4095d").expect(&rt, "accepted");
+    let mut text = Vec::new(rt.alloc());
+    text.resize(4_094, b' ')?;
+    text.push(b'7')?;
+    assert!(rt; is_exact_at_interrupts(&directive, 7, text.as_slice()));
+    Ok(())
+}
+
+// The most zeros after a sign.
+#[test]
+fn each_room_for_many_zeros(rt: HostRuntime) -> Result<(), Fail> {
+    let directive = directive_of("%.4095d").expect(&rt, "accepted");
+    let mut text = Vec::new(rt.alloc());
+    text.push(b'-')?;
+    text.resize(4_095, b'0')?;
+    text.push(b'7')?;
+    assert!(rt; is_exact_at_interrupts(&directive, -7, text.as_slice()));
+    Ok(())
+}
