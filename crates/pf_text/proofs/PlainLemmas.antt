@@ -8,7 +8,7 @@ use Rattle.std.proofs.Math.Seq.{take-add}
 use Rattle.std.proofs.lemmas.Bool.{cases_lt}
 use Rattle.std.proofs.lemmas.Bool.Decides.{nat_tests}
 use Rattle.std.proofs.lemmas.Grind.{flat_map-append}
-use Rattle.std.proofs.lemmas.List.{append_assoc, get_or-drop, get_or-take, length-append, length-take-le, replicate-append-replicate, take-append-drop, take-append-le}
+use Rattle.std.proofs.lemmas.List.{append_assoc, drop-take, length-drop, length-take, get_or-drop, get_or-take, length-append, length-take-le, replicate-append-replicate, take-append-drop, take-append-le}
 use Rattle.memchr.specs.Find.{is_byte2}
 use Rattle.pf_values.specs.declared.conversions.Conv.{Conv}
 use Rattle.pf_values.specs.declared.conversions.Conv.TheVariants.{D, I, U, O, X, UpperX, C, S}
@@ -25,7 +25,7 @@ use Rattle.pf_values.specs.Spelling.{spelled}
 use Rattle.pf_values.specs.Text.{Text, percent}
 use Rattle.pf_text.specs.History.{EndsRun, IsAfter, IsLiteral}
 use Rattle.pf_text.specs.Letters.{conv_of}
-use Rattle.pf_text.specs.Plain.{IsPlain, IsPlainText, PassesPlain, silents}
+use Rattle.pf_text.specs.Plain.{IsPlain, IsPlainText, BeginsSilent, PassesPlain, silents}
 use Rattle.pf_text.specs.declared.scanner.Scanner.{Scanner}
 use Rattle.pf_text.proofs.LiteralLemmas.{after_read, or_full, stops}
 use Rattle.pf_text.proofs.ReadBack.{spelled_read}
@@ -156,6 +156,16 @@ ends_here t [] h = tt
 ends_here t (b ∷ rest) (inl full) = inr (inr full)
 ends_here t (b ∷ rest) (inr ends) = or_full b (length t ≡ MAX_TEXT_LEN) (stops b (ends (omega arith)))
 
+take_front : (n m : ℕ) (bytes : Text) → n ≤ length (take m bytes) → take n (take m bytes) ≡ take n bytes
+take_front n m bytes few = sym (take-append-le n (take m bytes) (drop m bytes) few) ∙ ap (take n) (take-append-drop m bytes)
+
+-- what begins the rest of a front begins the rest of the text
+still_silent : (n m : ℕ) (text : Text) → 4 ≤ m → BeginsSilent (drop n text) → BeginsSilent (drop n (take (n + m) text))
+still_silent n m text some h =
+    let rest = drop n text in
+    let few : 4 ≤ length (take m rest) = omega (arith, some, h.0, length-take m rest) in
+    subst BeginsSilent (sym (drop-take n m text)) (few, take_front 4 m rest few ∙ h.1)
+
 -- the run, or what of it the limit leaves
 module _ (scanner : Scanner) (t text : Text) (items : List Item) (n most room : ℕ) (h : IsAfter scanner t items) (reads : Reads t items) (full : room ≡ MAX_TEXT_LEN - scanner.offset) (least : most ≡ min (length text) room) where
   front_len : length (take most text) ≡ most
@@ -163,7 +173,7 @@ module _ (scanner : Scanner) (t text : Text) (items : List Item) (n most room : 
 
   module _ (within : n ≤ length (take most text)) where
     taken : take n (take most text) ≡ take n text
-    taken = sym (take-append-le n (take most text) (drop most text) within) ∙ ap (take n) (take-append-drop most text)
+    taken = take_front n most text within
 
     long : length (take n text) ≡ n
     long = length-take-le n text (omega (arith, least, within, front_len))
@@ -192,6 +202,19 @@ module _ (scanner : Scanner) (t text : Text) (items : List Item) (n most room : 
         let now = Reads-plain t (take n text) items more reads p in
         record { more = more; plain = p; after = read_passed more now; reads = now; longest = plain_ends ends }
 
+    -- where `%.0s` follows, though it doesn't in what the limit leaves, it passes the limit
+    pub silents_end : ¬ BeginsSilent (drop n (take most text)) → BeginsSilent (drop n text) → MAX_TEXT_LEN < length (t ++ take n text) + 4
+    silents_end none begins = elim (cases_lt most (n + 4)) [
+      | inl cut ↦ elim (cases_lt most (length text)) [
+        | inl less ↦ omega (arith, less, cut, least, full, h.offset, h.limit, length-append t (take n text), long)
+        | inr whole ↦ (let rest = begins.0 in absurd (omega (arith, whole, cut, rest, length-drop n text)))
+      ]
+      | inr room ↦
+          let m = most - n in
+          let e : most ≡ n + m = omega (arith, room) in
+          absurd (none (subst (λ k. BeginsSilent (drop n (take k text))) (sym e) (still_silent n m text (omega (arith, room)) begins)))
+    ]
+
     pub items_passed : (more : List Item) → Reads (take n (take most text)) more → IsAfter (record scanner { offset = scanner.offset + n }) (t ++ take n text) (items ++ more) × Reads (t ++ take n text) (items ++ more)
     items_passed more read =
         let now = Reads-append t (take n text) items more reads (subst (λ u. Reads u more) taken read) in
@@ -216,3 +239,10 @@ first_four (a ∷ []) few = absurd (omega (arith, few))
 first_four (a ∷ b ∷ []) few = absurd (omega (arith, few))
 first_four (a ∷ b ∷ c ∷ []) few = absurd (omega (arith, few))
 first_four (a ∷ b ∷ c ∷ d ∷ text) few = refl
+
+-- the bytes of a text that begins so
+pub silent_bytes : (text : Text) → BeginsSilent text
+    → (get_or text 0 0 ≡ 37) × (get_or text 1 0 ≡ 46) × (get_or text 2 0 ≡ 48) × (get_or text 3 0 ≡ 115)
+silent_bytes text h =
+    let bytes = sym (first_four text h.0) ∙ h.1 ∙ spelled_silent in
+    (ap (λ t. get_or t 0 0) bytes, ap (λ t. get_or t 1 0) bytes, ap (λ t. get_or t 2 0) bytes, ap (λ t. get_or t 3 0) bytes)

@@ -1,9 +1,11 @@
 -- Items that stand in a text as its canonical text has them. This project's own.
-use Rattle.std.specs.Prelude.{◌≡◌, ◌≢◌, ℕ, List, ◌++◌, ◌*◌, take, drop, replicate, flat_map}
+use Rattle.std.specs.Prelude.{◌≡◌, ◌≢◌, ℕ, ◌+◌, ◌<◌, ◌≤◌, List, ◌++◌, ◌*◌, length, take, drop, replicate, flat_map}
 use Rattle.std.specs.List.{AllByRecursion}
+use Rattle.pf_values.specs.declared.limits.TheConstants.{MAX_TEXT_LEN}
 use Rattle.pf_values.specs.Canonical.{written}
 use Rattle.pf_values.specs.Items.{Item, Byte, Directive, Reads}
 use Rattle.pf_values.specs.Normal.{IsNormal, silent}
+use Rattle.pf_values.specs.Spelling.{spelled}
 use Rattle.pf_values.specs.Text.{Text}
 use Rattle.pf_text.specs.declared.scanner.Scanner.{Scanner}
 use Rattle.pf_text.specs.History.{EndsRun, IsAfter}
@@ -32,8 +34,15 @@ pub record PassesPlain (t : Text) (items : List Item) (following : Text) (len : 
   pub reads : Reads (t ++ take len following) (items ++ more)
   pub longest : EndsRun (t ++ take len following) (drop len following)
 
--- after a text that is read, so many `%.0s` at the front of what follows were taken
+-- `%.0s` begins a text
+abbrev pub BeginsSilent : Text → Type 0
+BeginsSilent t = (4 ≤ length t) × (take 4 t ≡ spelled silent)
+
+-- after a text that is read, so many `%.0s` at the front of what follows were taken, and no more
+-- could be
 pub record PassesSilents (t : Text) (items : List Item) (following : Text) (count : ℕ)
     (new : Scanner) : Type 0 where
   pub after : IsAfter new (t ++ take (4 * count) following) (items ++ silents count)
   pub reads : Reads (t ++ take (4 * count) following) (items ++ silents count)
+  pub longest : BeginsSilent (drop (4 * count) following)
+      → MAX_TEXT_LEN < length (t ++ take (4 * count) following) + 4

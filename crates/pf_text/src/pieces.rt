@@ -69,7 +69,7 @@ impl<'a> Pieces<'a> {
         if !may_be_literal(self.rest) {
             return None;
         }
-        let len = self.scanner.pass_literals(self.rest);
+        let len = self.scanner.take_literals(self.rest);
         if len == 0 {
             return None;
         }

@@ -1,10 +1,8 @@
 //! The search for the end of a run of items that stand in a text as its canonical text has them.
-ghost use Rattle.std.specs.Prelude.{◌≡◌, ◌<◌, ◌≤◌, [], ◌∷◌, ◌*◌, List, length, take, IsTrue};
+ghost use Rattle.std.specs.Prelude.{◌≡◌, ◌<◌, ◌≤◌, [], ◌∷◌, ◌*◌, List, drop, length, take, IsTrue, ◌↔◌};
 ghost use Rattle.memchr.specs.Find.{Passes, is_byte2};
 ghost use Rattle.pf_values.specs.Items.{Item, Reads};
-ghost use Rattle.pf_values.specs.Normal.{silent};
-ghost use Rattle.pf_values.specs.Spelling.{spelled};
-ghost use Rattle.pf_text.specs.Plain.{IsPlainText, silents};
+ghost use Rattle.pf_text.specs.Plain.{BeginsSilent, IsPlainText, silents};
 
 use crate::letters::conv_of;
 use crate::search::first_other;
@@ -69,6 +67,7 @@ fn ends_plain(letter: u8) -> bool
 pub(crate) fn count_silents(text: &[u8]) -> usize
     ensures within { 4 * result ≤ length text.now }
     ensures read { Reads (take (4 * result) text.now) (silents result) }
+    ensures longest { ¬ BeginsSilent (drop (4 * result) text.now) }
 {
     let mut count = 0;
     let mut at = 0;
@@ -82,7 +81,7 @@ pub(crate) fn count_silents(text: &[u8]) -> usize
 // Whether a text begins with `%.0s`.
 #[inline(always)]
 fn begins_silent(text: &[u8]) -> bool
-    ensures { IsTrue result → (4 ≤ length text.now) × (take 4 text.now ≡ spelled silent) }
+    ensures { IsTrue result ↔ BeginsSilent text.now }
 {
     if text.len() < 4 {
         return false;

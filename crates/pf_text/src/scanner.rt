@@ -150,6 +150,17 @@ impl Scanner {
         if !self.is_between() {
             return 0;
         }
+        self.take_literals(text)
+    }
+
+    /// The same of a reader that stands between items.
+    #[inline(always)]
+    pub(crate) fn take_literals(&mut self, text: &[u8]) -> usize
+        ensures within { result ≤ length text.now }
+        ensures passed { (t : Text) (items : List Item) → IsAfter self.old t items
+            → Reads t items → Passes t items text.now result self.new }
+        ensures idle { result ≡ 0 → self.new ≡ self.old }
+    {
         let run = first_other(text).unwrap_or(text.len());
         let room = MAX_TEXT_LEN.saturating_sub(self.offset);
         let taken = (run as u64).min(room);

@@ -181,22 +181,22 @@ fn undefined(
     ensures { result ≡ first_broken undefined_kinds (given flags None precision length conv) }
 {
     let kind = conv.kind();
-    if kind.is_text() && length.is_long() {
+    if length.is_long() && kind.is_text() {
         return Some(RefusalKind::Wide);
     }
-    if !kind.has_alternative_form() && flags.has(Flag::Alt) {
+    if flags.has(Flag::Alt) && !kind.has_alternative_form() {
         return Some(RefusalKind::AltUndefined);
     }
-    if kind.is_text() && flags.has(Flag::Zero) {
+    if flags.has(Flag::Zero) && kind.is_text() {
         return Some(RefusalKind::ZeroUndefined);
     }
-    if !kind.is_grouped() && flags.has(Flag::Group) {
+    if flags.has(Flag::Group) && !kind.is_grouped() {
         return Some(RefusalKind::GroupUndefined);
     }
-    if kind.is_char() && precision.is_some() {
+    if precision.is_some() && kind.is_char() {
         return Some(RefusalKind::PrecisionUndefined);
     }
-    if kind.is_text() && !length.is_plain() {
+    if !length.is_plain() && kind.is_text() {
         return Some(RefusalKind::LengthUndefined);
     }
     None

@@ -8,7 +8,7 @@ loop-at-preserved c =
     let text = c.args.text.now in
     let at = c.loop-at.at in
     let i = c.loop-at.invariant in
-    let here = rw take_rest at c.begins_silent.ensures c.loop-at-test.true in
+    let here = rw take_rest at c.begins_silent.ensures.0 c.loop-at-test.true in
     let few : 4 ≤ length (drop at text) = here.0 in
     record {
       within = omega (arith, few, length-drop at text, i.within);

@@ -1,6 +1,6 @@
 use Rattle.std.proofs.Common.{subst, sym}
 use Rattle.pf_text.proofs.LiteralLemmas.{IsRun, passed, run_found}
-use Rattle.pf_text.proofs.scanner.Scanner.pass_literals.Goals as goal
+use Rattle.pf_text.proofs.scanner.Scanner.take_literals.Goals as goal
 
 pub returns-clause-passed : goal.returns-clause-passed
 returns-clause-passed c t items h reads =
