@@ -92,9 +92,11 @@ fn fewest_digits(directive: &Directive, count: usize) -> usize
     ensures value { result ≡ fewest_digits directive.now count }
     ensures at_least { (count ≤ result) × (result ≤ count + 1) }
 {
-    let alternative = directive.conv().kind().alternative();
-    if matches!(alternative, Alternative::Raised) && directive.flags().has(Flag::Alt) {
-        return count + 1;
+    if !directive.flags().has(Flag::Alt) {
+        return count;
     }
-    count
+    match directive.conv().kind().alternative() {
+        Alternative::Raised => count + 1,
+        Alternative::Undefined | Alternative::Prefixed => count,
+    }
 }
