@@ -82,7 +82,7 @@ pub wrong_count_hinders : (format : Text) (words : List Text) (wanted : List Arg
 wrong_count_hinders format words wanted takes arguments spelled count given is_count is_given differ = (
   takes.items,
   arguments,
-  record { reads = takes.reads; limit = takes.limit; spelled = spelled },
+  record { accepted = takes.accepted; spelled = spelled },
   is_count ∙ ap length takes.types_are,
   is_given ∙ AllZip-long SpellsArgument _ _ spelled,
   differ,

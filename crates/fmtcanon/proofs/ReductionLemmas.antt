@@ -3,7 +3,6 @@ use Rattle.std.proofs.Common.{◌≡◌, ◌≢◌, ℕ, zero, suc, List, [], �
 use Rattle.std.specs.Prelude.{IfOk, flat_map}
 use Rattle.std.proofs.lemmas.List.{length-replicate}
 use Rattle.std.proofs.lemmas.Result.{IfOk-weaker}
-use Rattle.pf_values.specs.Arguments.{HasTypes}
 use Rattle.pf_values.specs.Canonical.{AreCanonical, ReadsCanonically, written}
 use Rattle.pf_values.specs.Defined.{IsDefined}
 use Rattle.pf_values.specs.Items.{Item, Byte, Directive, Reads}
@@ -11,7 +10,7 @@ use Rattle.pf_values.specs.Normal.{IsNormal, silent}
 use Rattle.pf_values.specs.Specification.{Specification}
 use Rattle.pf_values.specs.Spelling.{spelled}
 use Rattle.pf_values.specs.Text.{Text, space, zero_digit}
-use Rattle.pf_values.proofs.Alike.{AreAlike, alike-equivalent, alike_trans}
+use Rattle.pf_values.proofs.Alike.{alike-equivalent, alike_sym, alike_trans}
 use Rattle.pf_text.proofs.ReadBack.{spelled_read}
 use Rattle.pf_text.proofs.Texts.{Reads-unique}
 use Rattle.pf_reduce.specs.Reducing.{IsNormalCore, IsReducedTo, core_of}
@@ -73,12 +72,6 @@ reduction_reads s r h = record {
   canonical = before_canonical (replicate r.spaces space ++ replicate r.zeros zero_digit) (Directive (core_of r.core) ∷ map Byte (replicate r.trail space))
       (core_canonical r.core r.trail h.normal (λ e. (h.silent e).2));
   whole = refl;
-}
-
-alike_sym : (a b : List Item) → AreAlike a b → AreAlike b a
-alike_sym a b h = record {
-  same_types = sym h.same_types;
-  same_bytes = λ args t. sym (h.same_bytes args (subst (HasTypes args) (sym h.same_types) t));
 }
 
 same_items : (s : Specification) (r q : Reduced) → IsReducedTo s r → IsReducedTo s q → reduced_items r ≡ reduced_items q

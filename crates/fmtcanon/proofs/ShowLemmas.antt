@@ -133,7 +133,7 @@ module _ (old new : Pieces) (t out : Text) (h : HasShown old t out) where
       let none = same_whole h.items h.read t old.rest.now h.given.reads end.reads h.given.split in
       let all : h.read ≡ t = sym (h.given.split ∙ ap (λ u. h.read ++ u) none ∙ append-nil h.read) in
       record {
-        accepted = (h.items, end.reads, end.limit);
+        accepted = (h.items, end);
         shown = h.shown;
         parts = h.parts;
         cut = cut_whole h.shown t (subst (λ u. IsCutBefore u t h.shown) none (subst (λ u. IsCutBefore old.rest.now u h.shown) all (h.cut end.limit)));

@@ -1,13 +1,12 @@
 -- The arguments that words give for a format, why they give none, and what it prints for them. This
 -- project's own.
-use Rattle.std.specs.Prelude.{◌≡◌, ◌≢◌, ℕ, ◌≤◌, List, length, map, take, None, Some, slice_get, ⊤}
+use Rattle.std.specs.Prelude.{◌≡◌, ◌≢◌, ℕ, List, length, map, take, None, Some, slice_get, ⊤}
 use Rattle.std.specs.List.{AllByRecursion, AllZip}
 use Rattle.pf_values.specs.declared.arguments.Arg.{Arg}
-use Rattle.pf_values.specs.declared.limits.TheConstants.{MAX_TEXT_LEN}
 use Rattle.pf_values.specs.declared.types.ArgType.{ArgType}
 use Rattle.pf_values.specs.Arg.{argument_of, type_of}
 use Rattle.pf_values.specs.Arguments.{Argument, HasType, HasTypes}
-use Rattle.pf_values.specs.Items.{IsAccepted, Item, Reads, types}
+use Rattle.pf_values.specs.Items.{HasItems, IsAccepted, Item, types}
 use Rattle.pf_values.specs.Printing.{PrintsAll}
 use Rattle.pf_values.specs.Refusals.{IsRefusedAt}
 use Rattle.pf_values.specs.Text.{Text}
@@ -55,8 +54,7 @@ IsWrongType arguments wanted _ = ⊥
 -- the items of an accepted format, and the arguments that words give
 pub record IsGiven (format : Text) (words : List Text) (items : List Item)
     (arguments : List Argument) : Type 0 where
-  pub reads : Reads format items
-  pub limit : length format ≤ MAX_TEXT_LEN
+  pub accepted : HasItems format items
   pub spelled : SpellArguments words arguments
 
 -- the words give these arguments for a format, each of its type

@@ -1,9 +1,8 @@
 -- The types of a format's arguments, as lines. This project's own.
-use Rattle.std.specs.Prelude.{◌≡◌, ◌≤◌, List, codes, flat_map, length}
-use Rattle.pf_values.specs.declared.limits.TheConstants.{MAX_TEXT_LEN}
+use Rattle.std.specs.Prelude.{◌≡◌, List, codes, flat_map}
 use Rattle.pf_values.specs.declared.types.ArgType.{ArgType}
 use Rattle.pf_values.specs.declared.types.ArgType.TheVariants.{Int, UInt, Long, ULong, LongLong, ULongLong, Str}
-use Rattle.pf_values.specs.Items.{Item, Reads, types}
+use Rattle.pf_values.specs.Items.{HasItems, Item, types}
 use Rattle.pf_values.specs.Text.{Text}
 use Rattle.fmtcanon.specs.Lines.{line}
 
@@ -24,5 +23,4 @@ type_line type = line (type_name type)
 -- a line for each argument of an accepted format, in order
 abbrev pub HasTypeLines : Text → Text → Type 0
 HasTypeLines format lines =
-    (items : List Item) × Reads format items × (length format ≤ MAX_TEXT_LEN)
-    × (lines ≡ flat_map type_line (types items))
+    (items : List Item) × HasItems format items × (lines ≡ flat_map type_line (types items))

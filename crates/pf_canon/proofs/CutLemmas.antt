@@ -60,7 +60,7 @@ cut_to_end t out r items at parts left is whole h ends behind e =
     let c = out ++ parts_text parts in
     let reads = rw all at ends.0 in
     let canonical = ends.1 in (
-      (items, reads, rw all at h.after.limit),
+      (items, record { reads = reads; limit = rw all at h.after.limit }),
       (
         λ yes. subst IsCanonicalText (sym (used_up_canonical t c left behind (e.0 yes))) canonical.canonical,
         λ is_text. e.1 (same_used_up t c left behind (ends.2 (subst IsCanonicalText (sym all) is_text) ∙ all)),

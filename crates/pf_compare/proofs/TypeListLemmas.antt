@@ -63,7 +63,7 @@ taken_first pieces t done xs h g =
     (types more.0, ap types more.1 ∙ types-append h.items more.0 ∙ ap (λ ts. ts ++ types more.0) (sym h.types_are))
 
 pub types_of_all : (t : Text) (wanted : List ArgType) (xs : List Item) → TakesTypes t wanted → Reads t xs → types xs ≡ wanted
-types_of_all t wanted xs h g = ap types (Reads-unique t xs h.items g h.reads) ∙ sym h.types_are
+types_of_all t wanted xs h g = ap types (Reads-unique t xs h.items g h.accepted.reads) ∙ sym h.types_are
 
 taken_as : (pieces : Pieces) (t : Text) (done : List ArgType) → HasFound pieces t done → HasTaken pieces t done
 taken_as pieces t done h = record { read = h.read; items = h.items; given = h.given; types_are = h.types_are }
@@ -151,8 +151,8 @@ pub same_types_of : (f g : Text) (a : IsAccepted f) (b : IsAccepted g) → ((xs 
 same_types_of f g a b same =
     record {
       types = types a.0;
-      first = record { items = a.0; reads = a.1; limit = a.2; types_are = refl };
-      second = record { items = b.0; reads = b.1; limit = b.2; types_are = same a.0 b.0 a.1 b.1 };
+      first = record { items = a.0; accepted = a.1; types_are = refl };
+      second = record { items = b.0; accepted = b.1; types_are = same a.0 b.0 a.1.reads b.1.reads };
     }
 
 -- The types of holes are those of the items.

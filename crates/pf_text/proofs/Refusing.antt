@@ -20,7 +20,7 @@ use Rattle.pf_text.proofs.Texts.{start, run-reads, run-split, run-good, begun, s
 
 -- neither a byte of it nor its end is wrong: what is read is run through to its end
 not_read : (t : Text) (kind : RefusalKind) → run start t ≡ Err kind → IsAccepted t → ⊥
-not_read t kind e accepted = let all = run-reads accepted.0 t [] accepted.1 in cc
+not_read t kind e accepted = let all = run-reads accepted.0 t [] accepted.1.reads in cc
 
 module _ (t part : Text) (items : List Item) (state : State) (h : IsSplit t items part) (at : IsAt state part) where
   good : IsGoodFront t items part
@@ -76,7 +76,7 @@ module _ (t part : Text) (items : List Item) (state : State) (h : IsSplit t item
   pub too_long_at : (byte : ℕ) (more : Text) → length t ≡ MAX_TEXT_LEN → IsRefusedAt (t ++ byte ∷ more) TooLong (length t)
   too_long_at byte more full =
       record {
-        not_accepted = λ accepted. omega (arith, accepted.2, length-append t (byte ∷ more));
+        not_accepted = λ accepted. omega (arith, accepted.1.limit, length-append t (byte ∷ more));
         front = t;
         items = items;
         part = part;
@@ -96,7 +96,7 @@ module _ (t part : Text) (items : List Item) (state : State) (h : IsSplit t item
   pub truncated_at : state ≢ Between → length t ≤ MAX_TEXT_LEN → IsRefusedAt t Truncated (length t)
   truncated_at inside few =
       record {
-        not_accepted = λ accepted. inside (ap state_in (sym (run-split t part items state h at) ∙ run-reads accepted.0 t [] accepted.1));
+        not_accepted = λ accepted. inside (ap state_in (sym (run-split t part items state h at) ∙ run-reads accepted.0 t [] accepted.1.reads));
         front = t;
         items = items;
         part = part;

@@ -1,9 +1,8 @@
 -- What the pieces of a text have given. This project's own.
-use Rattle.std.specs.Prelude.{◌≡◌, ◌≢◌, ℕ, ◌+◌, ◌≤◌, true, false, List, [], ◌∷◌, ◌++◌, length, map, Option, Some, None, Result, Ok, Err, if◌then◌else◌, ⊤}
+use Rattle.std.specs.Prelude.{◌≡◌, ◌≢◌, ℕ, ◌+◌, true, false, List, [], ◌∷◌, ◌++◌, length, map, Option, Some, None, Result, Ok, Err, if◌then◌else◌, ⊤}
 use Rattle.std.specs.Iterator.{Count, at_most}
 use Rattle.std.specs.List.{AllByRecursion}
-use Rattle.pf_values.specs.declared.limits.TheConstants.{MAX_TEXT_LEN}
-use Rattle.pf_values.specs.Items.{Item, Byte, Directive, Reads}
+use Rattle.pf_values.specs.Items.{HasItems, Item, Byte, Directive, Reads}
 use Rattle.pf_values.specs.Refusals.{IsGoodFront, IsRefusedAt}
 use Rattle.pf_values.specs.Text.{Text, percent}
 use Rattle.pf_text.specs.declared.pieces.Piece.{Piece}
@@ -77,14 +76,9 @@ pub record GivesRefusal (t : Text) (items : List Item) (refusal : Refusal) : Typ
   pub place : refusal.at ≡ length front
   pub good : IsGoodFront front items part
 
--- the text was given to its end, and is accepted
-pub record GivesEnd (t : Text) (items : List Item) : Type 0 where
-  pub reads : Reads t items
-  pub limit : length t ≤ MAX_TEXT_LEN
-
--- a piece, the refusal, or the end
+-- a piece, the refusal, or the end of an accepted text
 abbrev pub GivesNext : Option (Result Piece Refusal) → Pieces → Text → Text → List Item → Type 0
-GivesNext None new t read items = GivesEnd t items
+GivesNext None new t read items = HasItems t items
 GivesNext (Some (Ok piece)) new t read items = GivesPiece new t read items piece
 GivesNext (Some (Err refusal)) new t read items = GivesRefusal t items refusal
 

@@ -1,8 +1,7 @@
 -- The argument types of a text.
-use Rattle.std.specs.Prelude.{◌≡◌, ◌<◌, ◌≤◌, List, ◌++◌, length}
-use Rattle.pf_values.specs.declared.limits.TheConstants.{MAX_TEXT_LEN}
+use Rattle.std.specs.Prelude.{◌≡◌, ◌<◌, List, ◌++◌, length}
 use Rattle.pf_values.specs.declared.types.ArgType.{ArgType}
-use Rattle.pf_values.specs.Items.{Item, Reads, types}
+use Rattle.pf_values.specs.Items.{HasItems, Item, Reads, types}
 use Rattle.pf_values.specs.Refusals.{IsRefusedAt}
 use Rattle.pf_values.specs.Text.{Text}
 use Rattle.pf_text.specs.declared.faults.TextFault.{TextFault}
@@ -16,8 +15,7 @@ types_of signature = signature.types.items
 -- a text is accepted, and its directives take arguments of these types (C11 7.21.6.1 p3)
 pub record TakesTypes (t : Text) (wanted : List ArgType) : Type 0 where
   pub items : List Item
-  pub reads : Reads t items
-  pub limit : length t ≤ MAX_TEXT_LEN
+  pub accepted : HasItems t items
   pub types_are : wanted ≡ types items
 
 -- a text begins with items that take more than eight arguments; this and what follows is this

@@ -6,7 +6,7 @@ use Rattle.pf_values.specs.declared.types.ArgType.{ArgType}
 use Rattle.pf_values.specs.Arguments.{Argument, HasTypes}
 use Rattle.pf_values.specs.DataModel.{arg_type}
 use Rattle.pf_values.specs.Items.{Item, Byte, Directive, Reads, types}
-use Rattle.pf_values.specs.Printing.{AreEquivalent, PrintsAll}
+use Rattle.pf_values.specs.Printing.{AreEquivalent, PrintAlike, PrintsAll}
 use Rattle.pf_values.specs.Text.{Text}
 use Rattle.pf_values.proofs.ItemTypes.{types-append}
 use Rattle.pf_values.proofs.PrintsOnce.{printed, printed-is, Prints-unique}
@@ -51,14 +51,32 @@ alike_trans a b c h g = record {
   same_bytes = λ args t. h.same_bytes args t ∙ g.same_bytes args (rw (← h.same_types) t);
 }
 
+pub alike_sym : (a b : List Item) → AreAlike a b → AreAlike b a
+alike_sym a b h = record {
+  same_types = sym h.same_types;
+  same_bytes = λ args t. sym (h.same_bytes args (rw h.same_types t));
+}
+
 -- what the one prints the other does
-pub alike-prints : (a b : List Item) → AreAlike a b → (args : List Argument) (out : Text) → HasTypes args (types a) → (PrintsAll a args out ↔ PrintsAll b args out)
-alike-prints a b h args out typed =
-    let typed' : HasTypes args (types b) = rw (← h.same_types) typed in
-    let equal = h.same_bytes args typed in (
-      λ p. rw (PrintsAll-unique a args out typed p ∙ equal) (all_printed-is b args typed'),
-      λ p. rw (PrintsAll-unique b args out typed' p ∙ sym equal) (all_printed-is a args typed),
-    )
+pub alike-printed : (a b : List Item) → AreAlike a b → PrintAlike a b
+alike-printed a b h = record { same_types = h.same_types; same_bytes = both }
+  where
+    both : (args : List Argument) (out : Text) → HasTypes args (types a)
+        → (PrintsAll a args out ↔ PrintsAll b args out)
+    both args out typed =
+        let typed' : HasTypes args (types b) = rw (← h.same_types) typed in
+        let equal = h.same_bytes args typed in (
+          λ p. rw (PrintsAll-unique a args out typed p ∙ equal) (all_printed-is b args typed'),
+          λ p. rw (PrintsAll-unique b args out typed' p ∙ sym equal) (all_printed-is a args typed),
+        )
+
+pub printed-alike : (a b : List Item) → PrintAlike a b → AreAlike a b
+printed-alike a b h = record {
+  same_types = h.same_types;
+  same_bytes = λ args typed.
+      PrintsAll-unique b args (all_printed a args) (rw (← h.same_types) typed)
+      ((h.same_bytes args (all_printed a args) typed).0 (all_printed-is a args typed));
+}
 
 -- texts that read as such items are equivalent
 pub alike-equivalent : (t u : Text) (a b : List Item) → Reads t a → Reads u b → AreAlike a b → AreEquivalent t u
@@ -67,8 +85,7 @@ alike-equivalent t u a b h g same = record {
   second = b;
   reads_first = h;
   reads_second = g;
-  same_types = same.same_types;
-  same_bytes = alike-prints a b same;
+  alike = alike-printed a b same;
 }
 
 -- one item more in front of both

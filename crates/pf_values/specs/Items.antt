@@ -26,9 +26,14 @@ Reads t [] = t ≡ []
 Reads t (item ∷ items) =
     (first rest : Text) × IsReadAs first item × Reads rest items × (t ≡ first ++ rest)
 
--- a text is read, and is not too long; the limit is this project's own
+-- a text is read as these items, and is not too long; the limit is this project's own
+pub record HasItems (t : Text) (items : List Item) : Type 0 where
+  pub reads : Reads t items
+  pub limit : length t ≤ MAX_TEXT_LEN
+
+-- a text has some items
 abbrev pub IsAccepted : Text → Type 0
-IsAccepted t = (items : List Item) × Reads t items × (length t ≤ MAX_TEXT_LEN)
+IsAccepted t = (items : List Item) × HasItems t items
 
 -- the types of the arguments that the directives fetch, in order (C11 7.21.6.1 p3)
 abbrev pub types : List Item → List ArgType

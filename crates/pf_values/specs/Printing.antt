@@ -137,14 +137,20 @@ PrintsAll (Byte byte ∷ items) args out = (rest : Text) × PrintsAll items args
 PrintsAll (Directive s ∷ items) [] out = ⊥
 PrintsAll (Directive s ∷ items) (argument ∷ args) out = (first rest : Text) × Prints s argument first × PrintsAll items args rest × (out ≡ first ++ rest)
 
--- one text may stand for the other: equal types, and equal bytes for all arguments
+-- Items that fetch arguments of the same types, and print the same bytes for all of them
+-- (C11 7.21.6.1 p2, p3).
+pub record PrintAlike (a b : List Item) : Type 0 where
+  pub same_types : types a ≡ types b
+  pub same_bytes : (args : List Argument) (out : Text) → HasTypes args (types a)
+      → (PrintsAll a args out ↔ PrintsAll b args out)
+
+-- one text may stand for the other: their items print alike
 pub record AreEquivalent (t u : Text) : Type 0 where
   pub first : List Item
   pub second : List Item
   pub reads_first : Reads t first
   pub reads_second : Reads u second
-  pub same_types : types first ≡ types second
-  pub same_bytes : (args : List Argument) (out : Text) → HasTypes args (types first) → (PrintsAll first args out ↔ PrintsAll second args out)
+  pub alike : PrintAlike first second
 
 -- a directive prints this text for an argument, and no other
 abbrev pub PrintsOnly : Specification → Argument → Text → Type 0

@@ -1,6 +1,6 @@
 //! Whether a translated format takes the arguments of its source.
 ghost use Rattle.std.specs.Prelude.{IfSome, List};
-ghost use Rattle.pf_values.specs.Items.{Item, Reads, types};
+ghost use Rattle.pf_values.specs.Items.{HasItems, Item, types};
 ghost use Rattle.pf_render.specs.Rendering.{DifferFirstAt};
 
 use pf_compare::{Verdict, compare};
@@ -10,7 +10,7 @@ use std::alloc::Global;
 /// the number of arguments of the one that takes fewer, where one begins as the other.
 pub fn other_type_at(alloc: Global, source: &[u8], translation: &[u8]) -> Option<u64>
     ensures { IfSome result (λ at.
-        (first second : List Item) × Reads source.now first × Reads translation.now second
+        (first second : List Item) × HasItems source.now first × HasItems translation.now second
         × DifferFirstAt (types first) (types second) at) }
 {
     let Ok(comparison) = compare(alloc, source, translation) else {

@@ -29,4 +29,4 @@ pub returns : goal.returns
 returns c =
     let found = c.loop-piece.invariant.found in
     let all = all_found c.loop-piece.piece-iterator c.next.new.self c.args.text.now found.0 found.1 c.in-None.ensures.steps in
-    (all.items, all.reads, all.limit)
+    (all.items, all.accepted)
