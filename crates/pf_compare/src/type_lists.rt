@@ -44,7 +44,8 @@ pub(crate) fn first_other_type(f: &[u8], g: &[u8]) -> Option<u64>
 // The type of the next argument of an accepted format, if one comes.
 fn next_type(pieces: &mut Pieces<'_>) -> Option<ArgType>
     ensures { (t : Text) (done : List ArgType) → IsAccepted t → HasTaken pieces.old t done
-        → MatchOption result (TakesTypes t done) (λ next. HasTaken pieces.new t (done ++ next ∷ [])) }
+        → MatchOption result (TakesTypes t done)
+        (λ next. HasTaken pieces.new t (done ++ next ∷ [])) }
 {
     while let Some(piece) = pieces.next() {
         if let Ok(piece) = piece {

@@ -34,7 +34,8 @@ fn push_types<A: Allocator + Copy>(
 ) -> Result<(), TextFault>
     requires none { found.old.items ≡ [] }
     requires room { 8 ≤ found.old.capacity }
-    ensures { MatchResult result (λ _. TakesTypes text.now found.new.items) (HindersSignature text.now) }
+    ensures { MatchResult result
+        (λ _. TakesTypes text.now found.new.items) (HindersSignature text.now) }
 {
     for piece in Pieces::new(text) {
         let piece = match piece {

@@ -27,7 +27,8 @@ breaks s _ = false
 
 -- combinations that the standard leaves undefined, by their numbers
 abbrev pub undefined_kinds : List RefusalKind
-undefined_kinds = Wide ∷ AltUndefined ∷ ZeroUndefined ∷ GroupUndefined ∷ PrecisionUndefined ∷ LengthUndefined ∷ []
+undefined_kinds =
+    Wide ∷ AltUndefined ∷ ZeroUndefined ∷ GroupUndefined ∷ PrecisionUndefined ∷ LengthUndefined ∷ []
 
 abbrev pub first_broken : List RefusalKind → Specification → Option RefusalKind
 first_broken kinds s = find (breaks s) kinds

@@ -76,9 +76,12 @@ pub record IsNormalSigned (s : Specification) : Type 0 where
   pub one_sign : IsTrue (has s.flags Plus) → IsFalse (has s.flags Space)
   pub least : 0 < width_of s → sign_len s + precision_of s < width_of s
   pub most : width_of s ≤ 1 + longest s
-  pub right_space : IsFalse (has s.flags Minus) → IsTrue (has s.flags Space) → width_of s ≢ 1 + longest s
-  pub right_bare : IsFalse (has s.flags Minus) → sign_len s ≡ 0 → digits_at_most s ≤ precision_of s → width_of s ≢ 1 + longest s
-  pub left : IsTrue (has s.flags Minus) → (0 < width_of s) × (IsFalse (has s.flags Plus) → precision_of s ≡ 0 → sign_len s + 1 < width_of s)
+  pub right_space : IsFalse (has s.flags Minus) → IsTrue (has s.flags Space)
+      → width_of s ≢ 1 + longest s
+  pub right_bare : IsFalse (has s.flags Minus) → sign_len s ≡ 0 → digits_at_most s ≤ precision_of s
+      → width_of s ≢ 1 + longest s
+  pub left : IsTrue (has s.flags Minus) → (0 < width_of s)
+      × (IsFalse (has s.flags Plus) → precision_of s ≡ 0 → sign_len s + 1 < width_of s)
 
 -- `x X`, with or without `#` and with or without `0`
 abbrev pub IsNormalHexadecimal : Bool → Bool → Specification → Type 0
@@ -115,4 +118,5 @@ pub record IsNormal (s : Specification) : Type 0 where
 
 -- `%.0s`, which takes a string and prints nothing
 abbrev pub silent : Specification
-silent = record { flags = no_flags; width = None; precision = Some 0; length = lengths.None; conv = S }
+silent =
+    record { flags = no_flags; width = None; precision = Some 0; length = lengths.None; conv = S }

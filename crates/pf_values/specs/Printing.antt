@@ -25,10 +25,12 @@ BeginsWithZero t = slice_index t 0 ≡ zero_digit
 abbrev pub IsOctalFromZero : ℕ → ℕ → Text → Type 0
 IsOctalFromZero precision n t = IsNumeral (number_of Octal) false precision n t × BeginsWithZero t
 
--- The digits of a number, at least as many as the precision. `#` raises the precision of an octal number, by as little as makes it begin with 0.
+-- The digits of a number, at least as many as the precision. `#` raises the precision of an octal
+-- number, by as little as makes it begin with 0.
 abbrev pub AreDigitsOf : Specification → ℕ → ℕ → Text → Type 0
 AreDigitsOf s precision n t = MatchBool (is_octal s.conv && has s.flags Alt)
-    ((raised : ℕ) × IsLeastFrom precision (λ p. (u : Text) × IsOctalFromZero p n u) raised × IsOctalFromZero raised n t)
+    ((raised : ℕ) × IsLeastFrom precision (λ p. (u : Text) × IsOctalFromZero p n u) raised
+    × IsOctalFromZero raised n t)
     (IsNumeral (base_of s.conv) (is_upper s.conv) precision n t)
 
 abbrev pub is_negative : ℤ → Bool
@@ -47,7 +49,8 @@ sign s value =
 
 -- `0x` or `0X`, which 0 doesn't have
 abbrev pub base_prefix : Text → Specification → ℤ → Text
-base_prefix letters s value = if has s.flags Alt && not (is_zero (nat_abs value)) then letters else []
+base_prefix letters s value =
+    if has s.flags Alt && not (is_zero (nat_abs value)) then letters else []
 
 abbrev pub prefix_under : Alternative → Base → Bool → Specification → ℤ → Text
 prefix_under Undefined base capitals s value = []
@@ -74,9 +77,11 @@ is_zero_filled s = has s.flags Zero && not (has s.flags Minus) && is_none s.prec
 
 -- with this precision the sign or prefix and the digits reach the width
 abbrev pub ReachesWidth : Specification → ℤ → ℕ → Type 0
-ReachesWidth s value precision = (t : Text) × AreDigitsOf s precision (nat_abs value) t × (width_of s ≤ length (sign_or_prefix s value ++ t))
+ReachesWidth s value precision = (t : Text) × AreDigitsOf s precision (nat_abs value) t
+    × (width_of s ≤ length (sign_or_prefix s value ++ t))
 
--- The precision with which a number is printed: as it is given, or 1. The flag `0` makes it the least with which the width is reached.
+-- The precision with which a number is printed: as it is given, or 1. The flag `0` makes it the
+-- least with which the width is reached.
 abbrev pub IsPrecision : Specification → ℤ → ℕ → Type 0
 IsPrecision s value precision = MatchBool (is_zero_filled s)
     (IsLeastFrom 1 (ReachesWidth s value) precision)
@@ -94,7 +99,8 @@ pub record PrintsNumber (s : Specification) (argument : ℤ) (body : Text) : Typ
 
 -- the byte that is the number modulo 256
 abbrev pub PrintsChar : ℤ → Text → Type 0
-PrintsChar argument body = (byte : ℕ) × IsConverted false (bit_count B8) argument (pos byte) × (body ≡ byte ∷ [])
+PrintsChar argument body = (byte : ℕ) × IsConverted false (bit_count B8) argument (pos byte)
+    × (body ≡ byte ∷ [])
 
 -- no more bytes than the precision, if there is one
 abbrev pub shown : Option ℕ → Text → Text
@@ -133,9 +139,11 @@ Prints s argument out = (body : Text) × PrintsUnder s.conv s argument body × (
 abbrev pub PrintsAll : List Item → List Argument → Text → Type 0
 PrintsAll [] [] out = out ≡ []
 PrintsAll [] (argument ∷ args) out = ⊥
-PrintsAll (Byte byte ∷ items) args out = (rest : Text) × PrintsAll items args rest × (out ≡ byte ∷ rest)
+PrintsAll (Byte byte ∷ items) args out = (rest : Text) × PrintsAll items args rest
+    × (out ≡ byte ∷ rest)
 PrintsAll (Directive s ∷ items) [] out = ⊥
-PrintsAll (Directive s ∷ items) (argument ∷ args) out = (first rest : Text) × Prints s argument first × PrintsAll items args rest × (out ≡ first ++ rest)
+PrintsAll (Directive s ∷ items) (argument ∷ args) out = (first rest : Text)
+    × Prints s argument first × PrintsAll items args rest × (out ≡ first ++ rest)
 
 -- Items that fetch arguments of the same types, and print the same bytes for all of them
 -- (C11 7.21.6.1 p2, p3).
@@ -154,8 +162,10 @@ pub record AreEquivalent (t u : Text) : Type 0 where
 
 -- a directive prints this text for an argument, and no other
 abbrev pub PrintsOnly : Specification → Argument → Text → Type 0
-PrintsOnly s argument out = Prints s argument out × ((other : Text) → Prints s argument other → other ≡ out)
+PrintsOnly s argument out = Prints s argument out
+    × ((other : Text) → Prints s argument other → other ≡ out)
 
 -- a directive and an argument of its type print one text
 abbrev pub PrintsOnce : Type 0
-PrintsOnce = (s : Specification) (argument : Argument) → HasType argument (arg_type s) → (out : Text) × PrintsOnly s argument out
+PrintsOnce = (s : Specification) (argument : Argument) → HasType argument (arg_type s)
+    → (out : Text) × PrintsOnly s argument out

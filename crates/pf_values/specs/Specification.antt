@@ -21,4 +21,11 @@ width_given (Some zero) = None
 width_given o = o
 
 abbrev pub given : FlagSet → Option ℕ → Option ℕ → Length → Conv → Specification
-given flags width precision length conv = record { flags = flags; width = width_given width; precision = precision; length = length; conv = conv }
+given flags width precision length conv =
+    record {
+      flags = flags;
+      width = width_given width;
+      precision = precision;
+      length = length;
+      conv = conv;
+    }

@@ -84,7 +84,8 @@ pub(crate) fn fits_signed(number: i128, bits: u8) -> bool
 
 /// Whether a number fits so many bits without a sign.
 pub(crate) fn fits_unsigned(number: i128, bits: u8) -> bool
-    ensures { (b : Bits) → bits ≡ bit_count b → (IsTrue result ↔ FitsIn false (bit_count b) number) }
+    ensures { (b : Bits) → bits ≡ bit_count b
+        → (IsTrue result ↔ FitsIn false (bit_count b) number) }
 {
     match bits {
         8 => u8::try_from(number).is_ok(),

@@ -33,16 +33,35 @@ impl Model for Directive {
 
     ghost Value = { Specification };
 
-    ghost view = { λ d. record { flags = d.flags; width = d.width; precision = d.precision; length = d.length; conv = d.conv } };
+    ghost view = { λ d. record {
+      flags = d.flags;
+      width = d.width;
+      precision = d.precision;
+      length = d.length;
+      conv = d.conv;
+    } };
 
-    ghost invariant = { λ d. IsDefined (record { flags = d.flags; width = d.width; precision = d.precision; length = d.length; conv = d.conv }) };
+    ghost invariant = { λ d. IsDefined (record {
+      flags = d.flags;
+      width = d.width;
+      precision = d.precision;
+      length = d.length;
+      conv = d.conv;
+    }) };
 
-    ghost inverse = { λ s. record { flags = s.flags; width = s.width; precision = s.precision; length = s.length; conv = s.conv } };
+    ghost inverse = { λ s. record {
+      flags = s.flags;
+      width = s.width;
+      precision = s.precision;
+      length = s.length;
+      conv = s.conv;
+    } };
 }
 
 impl Directive {
-    /// The directive of these parts, or the kind of least number that refuses them: a number above the
-    /// limit, or what C11 7.21.6.1 (paragraphs 4 to 9) and POSIX leave undefined. A width of 0 is none.
+    /// The directive of these parts, or the kind of least number that refuses them: a number above
+    /// the limit, or what C11 7.21.6.1 (paragraphs 4 to 9) and POSIX leave undefined. A width of 0
+    /// is none.
     pub fn new(
         flags: FlagSet,
         width: Option<u16>,
@@ -51,7 +70,8 @@ impl Directive {
         conv: Conv,
     ) -> Result<Directive, RefusalKind>
         ensures { let asked = given flags width precision length conv in
-            MatchResult result (λ d. (d ≡ asked) × IsDefined asked) (λ kind. refused_as asked ≡ Some kind) }
+            MatchResult result (λ d. (d ≡ asked) × IsDefined asked)
+            (λ kind. refused_as asked ≡ Some kind) }
     {
         let width = width.filter(|w| *w != 0);
         if width.is_some_and(|w| w > MAX_NUMBER) {
