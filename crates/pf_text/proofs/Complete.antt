@@ -7,6 +7,7 @@ use Rattle.std.specs.Int.Digits.{number_from_digits_after}
 use Rattle.std.proofs.Math.Nat.{pow-zero}
 use Rattle.std.proofs.lemmas.Bool.Decides.{nat_tests}
 use Rattle.std.proofs.lemmas.Int.Digits.{number_after_ge}
+use Rattle.pf_values.specs.declared.limits.TheConstants.{MAX_NUMBER}
 use Rattle.pf_values.specs.declared.conversions.Conv.{Conv}
 use Rattle.pf_values.specs.declared.conversions.Conv.TheVariants.{D, I, U, O, X, UpperX, C, S}
 use Rattle.pf_values.specs.declared.flags.Flag.{Flag}
@@ -67,13 +68,13 @@ digit_is d h = (grind (arith, nat_tests), grind (arith, nat_tests))
 no_flag : (d : ℕ) → 0 < d → d < 10 → (flag_of (digit_glyph false d) ≡ None) × ((digit_glyph false d == 37) ≡ false)
 no_flag d low high = (grind (arith, nat_tests), grind (arith, nat_tests))
 
-small : (n : ℕ) → n ≤ 4095 → nat_lt 4095 n ≡ false
+small : (n : ℕ) → n ≤ MAX_NUMBER → nat_lt MAX_NUMBER n ≡ false
 small n h = grind (arith, nat_tests)
 
-pub large : (n : ℕ) → 4095 < n → nat_lt 4095 n ≡ true
+pub large : (n : ℕ) → MAX_NUMBER < n → nat_lt MAX_NUMBER n ≡ true
 large n h = grind (arith, nat_tests)
 
-pub fits_le : (n : ℕ) → is_above_limit (Some n) ≡ false → n ≤ 4095
+pub fits_le : (n : ℕ) → is_above_limit (Some n) ≡ false → n ≤ MAX_NUMBER
 fits_le n h = grind (arith, nat_tests)
 
 pub first_above_zero : (n d : ℕ) (ds : List ℕ) → 0 < n → AreLeastDigits 10 1 n (d ∷ ds) → 0 < d
@@ -97,13 +98,13 @@ module _ (items : List Item) where
       let first : moved items (next Opened (flag_byte flag)) ≡ On (Flags (with_flag no_flags flag)) = rw (no_percent flag, flag_of_byte flag) refl in
       ap (λ p. run p (map flag_byte flags)) first ∙ run_more_flags flags (with_flag no_flags flag)
 
-  pub more_width : (set : FlagSet) (n d : ℕ) → d < 10 → n * 10 + d ≤ 4095 → moved items (next (Width set n) (digit_glyph false d)) ≡ On (Width set (n * 10 + d))
+  pub more_width : (set : FlagSet) (n d : ℕ) → d < 10 → n * 10 + d ≤ MAX_NUMBER → moved items (next (Width set n) (digit_glyph false d)) ≡ On (Width set (n * 10 + d))
   more_width set n d h few =
       let digit = digit_is d h in
       let next : 10 * n + (digit_glyph false d - 48) ≡ n * 10 + d = omega (arith, digit.1) in
       rw (digit.0, next, small) refl
 
-  run_width : (ds : List ℕ) (set : FlagSet) (n : ℕ) → AllByRecursion (λ d. d < 10) ds → number_from_digits_after 10 n ds ≤ 4095
+  run_width : (ds : List ℕ) (set : FlagSet) (n : ℕ) → AllByRecursion (λ d. d < 10) ds → number_from_digits_after 10 n ds ≤ MAX_NUMBER
       → run (On (Width set n)) (map (digit_glyph false) ds) ≡ On (Width set (number_from_digits_after 10 n ds))
   run_width [] set n h few = refl
   run_width (d ∷ ds) set n h few =
@@ -222,14 +223,14 @@ module _ (flags : List Flag) (width precision : Option ℕ) (t : Text) (s : Spel
   conv_at_length length conv = ending_at_conv (flag_set flags) width precision length conv
 
 module _ (items : List Item) where
-  pub more_precision : (set : FlagSet) (width : Option ℕ) (n d : ℕ) → d < 10 → n * 10 + d ≤ 4095
+  pub more_precision : (set : FlagSet) (width : Option ℕ) (n d : ℕ) → d < 10 → n * 10 + d ≤ MAX_NUMBER
       → moved items (next (Precision set width n) (digit_glyph false d)) ≡ On items (Precision set width (n * 10 + d))
   more_precision set width n d h few =
       let digit = digit_is d h in
       let next : 10 * n + (digit_glyph false d - 48) ≡ n * 10 + d = omega (arith, digit.1) in
       rw (digit.0, next, small) refl
 
-  run_precision : (ds : List ℕ) (set : FlagSet) (width : Option ℕ) (n : ℕ) → AllByRecursion (λ d. d < 10) ds → number_from_digits_after 10 n ds ≤ 4095
+  run_precision : (ds : List ℕ) (set : FlagSet) (width : Option ℕ) (n : ℕ) → AllByRecursion (λ d. d < 10) ds → number_from_digits_after 10 n ds ≤ MAX_NUMBER
       → run (On items (Precision set width n)) (map (digit_glyph false) ds) ≡ On items (Precision set width (number_from_digits_after 10 n ds))
   run_precision [] set width n h few = refl
   run_precision (d ∷ ds) set width n h few =
@@ -243,7 +244,7 @@ module _ (items : List Item) where
       let few = small d (omega arith) in
       rw (digit.0, next, few) refl
 
-  run_point : (ds : List ℕ) (set : FlagSet) (width : Option ℕ) (n : ℕ) → AreDigits 10 n ds → n ≤ 4095 → run (On items (Point set width)) (map (digit_glyph false) ds) ≡ On items (at_digits set width ds)
+  run_point : (ds : List ℕ) (set : FlagSet) (width : Option ℕ) (n : ℕ) → AreDigits 10 n ds → n ≤ MAX_NUMBER → run (On items (Point set width)) (map (digit_glyph false) ds) ≡ On items (at_digits set width ds)
   run_point [] set width n a few = refl
   run_point (d ∷ ds) set width n a few =
       let value : number_from_digits_after 10 d ds ≡ n = omega (arith, number_after-place_sum 10 d ds, a.sum) in

@@ -8,6 +8,7 @@ use Rattle.std.proofs.lemmas.Bool.{cases_lt}
 use Rattle.std.proofs.lemmas.Bool.Decides.{nat_tests}
 use Rattle.std.proofs.lemmas.List.{same_from_push}
 use Rattle.std.proofs.lemmas.List.Elements.{All-from_recursion, All-contains}
+use Rattle.pf_values.specs.declared.limits.TheConstants.{MAX_NUMBER}
 use Rattle.pf_values.specs.declared.flags.Flag.{Flag}
 use Rattle.pf_values.specs.declared.flags.FlagSet.{FlagSet}
 use Rattle.pf_values.specs.declared.lengths.Length.{Length}
@@ -35,29 +36,29 @@ use Rattle.pf_text.proofs.Runs.{moved, run, run-append, run-refused, front-ok}
 use Rattle.pf_text.proofs.Sound.{given_same}
 use Rattle.pf_text.proofs.Texts.{start, state_in, split_last, IsEnded-spelled, run-ended}
 
-above_is : (n : ℕ) → is_above_limit (Some n) ≡ true → 4095 < n
+above_is : (n : ℕ) → is_above_limit (Some n) ≡ true → MAX_NUMBER < n
 above_is n e = grind (arith, nat_tests)
 
-above_not : (n : ℕ) → 4095 < n → is_above_limit (Some n) ≡ true
+above_not : (n : ℕ) → MAX_NUMBER < n → is_above_limit (Some n) ≡ true
 above_not n h = grind (arith, nat_tests)
 
 -- a number that passes the limit is refused at one of its digits
-width_passes : (set : FlagSet) (n d : ℕ) → d < 10 → 4095 < n * 10 + d → moved [] (next (Width set n) (digit_glyph false d)) ≡ Err WidthTooLarge
+width_passes : (set : FlagSet) (n d : ℕ) → d < 10 → MAX_NUMBER < n * 10 + d → moved [] (next (Width set n) (digit_glyph false d)) ≡ Err WidthTooLarge
 width_passes set n d h many =
     let digit = digit_is d h in
     let next : 10 * n + (digit_glyph false d - 48) ≡ n * 10 + d = omega (arith, digit.1) in
     rw (digit.0, next, large) refl
 
-run_passing_width : (ds : List ℕ) (set : FlagSet) (n : ℕ) → AllByRecursion (λ d. d < 10) ds → n ≤ 4095 → 4095 < number_from_digits_after 10 n ds → run (On [] (Width set n)) (map (digit_glyph false) ds) ≡ Err WidthTooLarge
+run_passing_width : (ds : List ℕ) (set : FlagSet) (n : ℕ) → AllByRecursion (λ d. d < 10) ds → n ≤ MAX_NUMBER → MAX_NUMBER < number_from_digits_after 10 n ds → run (On [] (Width set n)) (map (digit_glyph false) ds) ≡ Err WidthTooLarge
 run_passing_width [] set n h few many = absurd (omega arith)
 run_passing_width (d ∷ ds) set n h few many =
-    let rest = λ (le : n * 10 + d ≤ 4095). run_passing_width ds set (n * 10 + d) h.1 le many in
-    elim (cases_lt 4095 (n * 10 + d)) [
+    let rest = λ (le : n * 10 + d ≤ MAX_NUMBER). run_passing_width ds set (n * 10 + d) h.1 le many in
+    elim (cases_lt MAX_NUMBER (n * 10 + d)) [
       | inl passes ↦ ap (λ p. run p (map (digit_glyph false) ds)) (width_passes set n d h.0 passes) ∙ run-refused WidthTooLarge (map (digit_glyph false) ds)
       | inr le ↦ ap (λ p. run p (map (digit_glyph false) ds)) (more_width [] set n d h.0 le) ∙ rest le
     ]
 
-run_large_width : (flags : List Flag) (n : ℕ) (t : Text) → SpellsWidth t (Some n) → 4095 < n → run (On [] (at_flags flags)) t ≡ Err WidthTooLarge
+run_large_width : (flags : List Flag) (n : ℕ) (t : Text) → SpellsWidth t (Some n) → MAX_NUMBER < n → run (On [] (at_flags flags)) t ≡ Err WidthTooLarge
 run_large_width flags n t h many = go h.1.0 h.1.1 h.1.2 where
   go : (ds : List ℕ) → AreLeastDigits 10 1 n ds → t ≡ map (digit_glyph false) ds → run (On [] (at_flags flags)) t ≡ Err WidthTooLarge
   go [] l e = absurd (omega (arith, l.enough))
@@ -68,23 +69,23 @@ run_large_width flags n t h many = go h.1.0 h.1.1 h.1.2 where
       ∙ ap (λ p. run p (map (digit_glyph false) ds)) (first_width [] flags d (first_above_zero n d ds h.0 l) below.0)
       ∙ run_passing_width ds (flag_set flags) d below.1 (omega (arith, below.0)) (omega arith)
 
-precision_passes : (set : FlagSet) (width : Option ℕ) (n d : ℕ) → d < 10 → 4095 < n * 10 + d → moved [] (next (Precision set width n) (digit_glyph false d)) ≡ Err PrecisionTooLarge
+precision_passes : (set : FlagSet) (width : Option ℕ) (n d : ℕ) → d < 10 → MAX_NUMBER < n * 10 + d → moved [] (next (Precision set width n) (digit_glyph false d)) ≡ Err PrecisionTooLarge
 precision_passes set width n d h many =
     let digit = digit_is d h in
     let next : 10 * n + (digit_glyph false d - 48) ≡ n * 10 + d = omega (arith, digit.1) in
     rw (digit.0, next, large) refl
 
-run_passing_precision : (ds : List ℕ) (set : FlagSet) (width : Option ℕ) (n : ℕ) → AllByRecursion (λ d. d < 10) ds → n ≤ 4095 → 4095 < number_from_digits_after 10 n ds
+run_passing_precision : (ds : List ℕ) (set : FlagSet) (width : Option ℕ) (n : ℕ) → AllByRecursion (λ d. d < 10) ds → n ≤ MAX_NUMBER → MAX_NUMBER < number_from_digits_after 10 n ds
     → run (On [] (Precision set width n)) (map (digit_glyph false) ds) ≡ Err PrecisionTooLarge
 run_passing_precision [] set width n h few many = absurd (omega arith)
 run_passing_precision (d ∷ ds) set width n h few many =
-    let rest = λ (le : n * 10 + d ≤ 4095). run_passing_precision ds set width (n * 10 + d) h.1 le many in
-    elim (cases_lt 4095 (n * 10 + d)) [
+    let rest = λ (le : n * 10 + d ≤ MAX_NUMBER). run_passing_precision ds set width (n * 10 + d) h.1 le many in
+    elim (cases_lt MAX_NUMBER (n * 10 + d)) [
       | inl passes ↦ ap (λ p. run p (map (digit_glyph false) ds)) (precision_passes set width n d h.0 passes) ∙ run-refused PrecisionTooLarge (map (digit_glyph false) ds)
       | inr le ↦ ap (λ p. run p (map (digit_glyph false) ds)) (more_precision [] set width n d h.0 le) ∙ rest le
     ]
 
-run_large_digits : (ds : List ℕ) (set : FlagSet) (width : Option ℕ) (n : ℕ) → AreDigits 10 n ds → 4095 < n → run (On [] (Point set width)) (map (digit_glyph false) ds) ≡ Err PrecisionTooLarge
+run_large_digits : (ds : List ℕ) (set : FlagSet) (width : Option ℕ) (n : ℕ) → AreDigits 10 n ds → MAX_NUMBER < n → run (On [] (Point set width)) (map (digit_glyph false) ds) ≡ Err PrecisionTooLarge
 run_large_digits [] set width n a many = absurd (omega (arith, a.sum))
 run_large_digits (d ∷ ds) set width n a many =
     let value : number_from_digits_after 10 d ds ≡ n = omega (arith, number_after-place_sum 10 d ds, a.sum) in
@@ -280,10 +281,10 @@ module _ (state : State) (part : Text) (byte : ℕ) (k : RefusalKind) (at : IsAt
       let all : run start (part ++ byte ∷ []) ≡ Err kind = run_it ∙ ap (λ w. moved [] (judged (g w) (refused_as (g w)))) given.0 ∙ ap (λ o. moved [] (judged s o)) (skipped ∙ h.2) in
       cc (all, refused)
 
-  of_width : (n : ℕ) → 4095 < n → IsToWidth (part ++ byte ∷ []) (Some n) → WidthTooLarge ≡ k
+  of_width : (n : ℕ) → MAX_NUMBER < n → IsToWidth (part ++ byte ∷ []) (Some n) → WidthTooLarge ≡ k
   of_width n many h = let all = to_width_large (part ++ byte ∷ []) (Some n) h (above_not n many) in cc (all, refused)
 
-  of_precision : (n : ℕ) → 4095 < n → IsToPrecision (part ++ byte ∷ []) (Some n) → PrecisionTooLarge ≡ k
+  of_precision : (n : ℕ) → MAX_NUMBER < n → IsToPrecision (part ++ byte ∷ []) (Some n) → PrecisionTooLarge ≡ k
   of_precision n many h =
       let cut = split_last h.digits (λ none. let same = none in cc (h.digits_are.2)) in
       let front = same_from_push part (h.before ++ cut.0) byte cut.1 (h.whole ∙ ap (λ u. h.before ++ u) cut.2 ∙ sym (append_assoc h.before cut.0 (cut.1 ∷ []))) in

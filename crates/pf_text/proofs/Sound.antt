@@ -8,6 +8,7 @@ use Rattle.std.proofs.lemmas.Bool.{eqb-true}
 use Rattle.std.proofs.lemmas.Bool.Decides.{nat_tests}
 use Rattle.std.proofs.lemmas.Grind.{fold-append}
 use Rattle.std.proofs.lemmas.List.{append_assoc, append-nil, map_push, length_push}
+use Rattle.pf_values.specs.declared.limits.TheConstants.{MAX_NUMBER}
 use Rattle.pf_values.specs.declared.conversions.Conv.{Conv}
 use Rattle.pf_values.specs.declared.flags.Flag.{Flag}
 use Rattle.pf_values.specs.declared.flags.FlagSet.{FlagSet}
@@ -328,8 +329,8 @@ module _ (part : Text) (byte : ℕ) where
 
     judge_widened : is_digit byte ≡ true → Judges part byte (widened set n (byte - 48))
     judge_widened d =
-        choose (nat_lt 4095 (10 * n + (byte - 48))) _ _
-        (λ e. let above : 4095 < 10 * n + (byte - 48) = grind (arith, nat_tests) in (
+        choose (nat_lt MAX_NUMBER (10 * n + (byte - 48))) _ _
+        (λ e. let above : MAX_NUMBER < 10 * n + (byte - 48) = grind (arith, nat_tests) in (
           10 * n + (byte - 48),
           above,
           record { flags = h.flags; digits = h.width_text ++ byte ∷ []; digits_are = SpellsWidth-push h.width_text n byte d h.width_is; whole = longer_width },
@@ -355,8 +356,8 @@ module _ (part : Text) (byte : ℕ) where
 
     judge_made_precise : is_digit byte ≡ true → Judges part byte (made_precise set width n (byte - 48))
     judge_made_precise d =
-        choose (nat_lt 4095 (10 * n + (byte - 48))) _ _
-        (λ e. let above : 4095 < 10 * n + (byte - 48) = grind (arith, nat_tests) in (
+        choose (nat_lt MAX_NUMBER (10 * n + (byte - 48))) _ _
+        (λ e. let above : MAX_NUMBER < 10 * n + (byte - 48) = grind (arith, nat_tests) in (
           10 * n + (byte - 48),
           above,
           record {

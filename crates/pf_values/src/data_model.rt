@@ -72,7 +72,8 @@ pub(crate) fn type_bits(arg_type: ArgType) -> u8
 
 /// Whether a number fits so many bits with its sign.
 pub(crate) fn fits_signed(number: i128, bits: u8) -> bool
-    ensures { (b : Bits) → bits ≡ bit_count b → (IsTrue result ↔ FitsIn true (bit_count b) number) }
+    ensures { (b : Bits) → bits ≡ bit_count b
+        → (IsTrue result ↔ FitsIn true (bit_count b) number) }
 {
     match bits {
         8 => i8::try_from(number).is_ok(),

@@ -25,8 +25,7 @@ pub enum ArgType {
 }
 
 impl ArgType {
-    /// Whether the number is in the range of the type (C11 6.2.5); no number is in that of a
-    /// string.
+    /// Whether the number is in the range of the type (C11 6.2.5). A string has none.
     pub fn contains(self, number: i128) -> bool
         ensures { IsTrue result ↔ IsInRange self number }
     {
