@@ -1,5 +1,4 @@
-pub mod PresenceLemmas
-pub mod WordLemmas
+pub mod command_line
 mod MagnitudeLemmas
 mod ArgumentWordLemmas
 mod ToldLemmas

@@ -76,14 +76,12 @@ fn push_word(out: &mut Vec<u8>, arg: Arg<'_>) -> Result<(), AllocError>
     ensures { IfOk result
         (λ _. out.new.items ≡ out.old.items ++ argument_word (argument_of arg.entry)) }
 {
-    match arg {
-        Arg::Int(n) => push_number(out, i128::from(n)),
-        Arg::UInt(n) => push_number(out, i128::from(n)),
-        Arg::Long(n) => push_number(out, i128::from(n)),
-        Arg::ULong(n) => push_number(out, i128::from(n)),
-        Arg::LongLong(n) => push_number(out, i128::from(n)),
-        Arg::ULongLong(n) => push_number(out, i128::from(n)),
-        Arg::Str(bytes) => push_string(out, bytes.bytes()),
+    if let Arg::Str(bytes) = arg {
+        return push_string(out, bytes.bytes());
+    }
+    match arg.number() {
+        Some(number) => push_number(out, number),
+        None => unreachable!(),
     }
 }
 

@@ -52,12 +52,9 @@ fn number_of(argument: Arg<'_>) -> i128
     requires { (bytes : Text) → argument_of argument ≢ String bytes }
     ensures { argument_of argument.entry ≡ Number result }
 {
-    match argument {
-        Arg::Int(n) => i128::from(n),
-        Arg::UInt(n) => i128::from(n),
-        Arg::Long(n) | Arg::LongLong(n) => i128::from(n),
-        Arg::ULong(n) | Arg::ULongLong(n) => i128::from(n),
-        Arg::Str(_) => unreachable!(),
+    match argument.number() {
+        Some(number) => number,
+        None => unreachable!(),
     }
 }
 

@@ -1,5 +1,5 @@
 //! Arguments of directives.
-ghost use Rattle.std.specs.Prelude.{◌≡◌, ◌<◌, ◌↔◌, IfSome, IsNone, Contains, All};
+ghost use Rattle.std.specs.Prelude.{◌≡◌, ◌<◌, ◌↔◌, IfSome, IsNone, MatchOption, Contains, All};
 
 use crate::types::ArgType;
 
@@ -53,7 +53,8 @@ pub enum Arg<'a> {
 
 impl<'a> Arg<'a> {
     ghost use Rattle.pf_values.specs.Arg.{argument_of, type_of};
-    ghost use Rattle.pf_values.specs.Arguments.{HasType};
+    ghost use Rattle.pf_values.specs.Arguments.{HasType, Number, String};
+    ghost use Rattle.pf_values.specs.Text.{Text};
 
     /// The type of the argument.
     pub fn arg_type(self) -> ArgType
@@ -68,6 +69,20 @@ impl<'a> Arg<'a> {
             Arg::LongLong(_) => ArgType::LongLong,
             Arg::ULongLong(_) => ArgType::ULongLong,
             Arg::Str(_) => ArgType::Str,
+        }
+    }
+
+    /// The number of an integer argument; `None` for a string.
+    pub fn number(self) -> Option<i128>
+        ensures { MatchOption result ((bytes : Text) × (argument_of self.entry ≡ String bytes))
+            (λ n. argument_of self.entry ≡ Number n) }
+    {
+        match self {
+            Arg::Int(n) => Some(i128::from(n)),
+            Arg::UInt(n) => Some(i128::from(n)),
+            Arg::Long(n) | Arg::LongLong(n) => Some(i128::from(n)),
+            Arg::ULong(n) | Arg::ULongLong(n) => Some(i128::from(n)),
+            Arg::Str(_) => None,
         }
     }
 }

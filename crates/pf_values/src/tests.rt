@@ -372,6 +372,29 @@ fn an_argument_has_its_type(rt: HostRuntime) {
     prints_once();
 }
 
+#[test]
+fn an_integer_argument_has_its_number(rt: HostRuntime) {
+    let rows = [
+        (Arg::Int(i32::MIN).number(), -2_147_483_648),
+        (Arg::UInt(u32::MAX).number(), 4_294_967_295),
+        (Arg::Long(i64::MIN).number(), -9_223_372_036_854_775_808),
+        (Arg::ULong(u64::MAX).number(), 18_446_744_073_709_551_615),
+        (Arg::LongLong(-1).number(), -1),
+        (
+            Arg::ULongLong(u64::MAX).number(),
+            18_446_744_073_709_551_615,
+        ),
+    ];
+    for (found, want) in rows {
+        assert_eq!(rt; found, Some(want));
+    }
+    let Some(text) = CBytes::new(b"7") else {
+        assert!(rt; false, "refused");
+        return;
+    };
+    assert_eq!(rt; Arg::Str(text).number(), None);
+}
+
 // The caller in CALLING.md that `crates/uses` doesn't have.
 fn type_of_a_padded_long(conv: Conv) -> Result<ArgType, RefusalKind> {
     let flags = FlagSet::empty().with(Flag::Minus);

@@ -5,16 +5,7 @@ use crate::argument_words::read_argument;
 // The type and the number of the argument that a word gives at a type.
 fn number_at(word: &str, arg_type: ArgType) -> Option<(ArgType, i128)> {
     let arg = read_argument(word.as_bytes())?.as_type(arg_type)?;
-    let number = match arg {
-        Arg::Int(n) => i128::from(n),
-        Arg::UInt(n) => i128::from(n),
-        Arg::Long(n) => i128::from(n),
-        Arg::ULong(n) => i128::from(n),
-        Arg::LongLong(n) => i128::from(n),
-        Arg::ULongLong(n) => i128::from(n),
-        Arg::Str(_) => return None,
-    };
-    Some((arg.arg_type(), number))
+    Some((arg.arg_type(), arg.number()?))
 }
 
 #[test]

@@ -11,14 +11,11 @@ use std::test::Fail;
 type Row = (&'static str, &'static str, &'static str);
 
 fn write_arg(out: &mut String, arg: &OwnedArg) -> Result<(), Fail> {
-    match arg {
-        OwnedArg::Int(n) => write!(out, " n:{n}")?,
-        OwnedArg::UInt(n) => write!(out, " n:{n}")?,
-        OwnedArg::Long(n) => write!(out, " n:{n}")?,
-        OwnedArg::ULong(n) => write!(out, " n:{n}")?,
-        OwnedArg::LongLong(n) => write!(out, " n:{n}")?,
-        OwnedArg::ULongLong(n) => write!(out, " n:{n}")?,
-        OwnedArg::Str(bytes) => match bytes.as_bytes().bytes() {
+    if let Some(number) = arg.as_arg().number() {
+        write!(out, " n:{number}")?;
+    }
+    if let OwnedArg::Str(bytes) = arg {
+        match bytes.as_bytes().bytes() {
             [] => write!(out, " s:")?,
             [byte] => write!(out, " s:{}", char::from(*byte))?,
             [byte, ..] => write!(
@@ -27,7 +24,7 @@ fn write_arg(out: &mut String, arg: &OwnedArg) -> Result<(), Fail> {
                 char::from(*byte),
                 bytes.as_bytes().bytes().len()
             )?,
-        },
+        }
     }
     Ok(())
 }

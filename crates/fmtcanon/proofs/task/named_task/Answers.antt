@@ -5,7 +5,7 @@ use Rattle.clap.specs.declared.parser.matches.ArgMatches.{ArgMatches}
 use Rattle.clap.proofs.WalkLemmas.{first_value-rows, raw_values-rows}
 use Rattle.fmtcanon.specs.Tasks.{HasAllValues, HasValue, Names, rows_in}
 use Rattle.fmtcanon.specs.Words.{the_command}
-use Rattle.fmtcanon.proofs.WordLemmas.{IsWanted, at_asked, canon_wants, format_wants, same_wants, show_wants, types_wants, value_given}
+use Rattle.fmtcanon.proofs.command_line.WordLemmas.{IsWanted, at_asked, canon_wants, format_wants, same_wants, show_wants, types_wants, value_given}
 use Rattle.fmtcanon.proofs.task.named_task.Goals as goal
 
 -- the argument that the command wants is there

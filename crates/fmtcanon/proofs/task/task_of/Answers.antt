@@ -14,7 +14,7 @@ use Rattle.fmtcanon.specs.Words.{IsTaken, the_command}
 use Rattle.fmtcanon.specs.Tasks.{IsAnsweredBy, IsNoTaskOf, Names, rows_in}
 use Rattle.fmtcanon.specs.declared.task.NoTask.{NoTask}
 use Rattle.fmtcanon.specs.declared.task.NoTask.TheVariants.{Usage, Memory}
-use Rattle.fmtcanon.proofs.WordLemmas.{free_command, simple_command, subcommand_given}
+use Rattle.fmtcanon.proofs.command_line.WordLemmas.{free_command, simple_command, subcommand_given}
 use Rattle.fmtcanon.proofs.task.task_of.Goals as goal
 
 answered : (words : List Text) (k : ErrorKind) (r : NoTask) → (IsTaken words → k ≡ kind.OutOfMemory) → (k ≡ kind.OutOfMemory) ⊎ IsAmong k (fault_of the_command words) → IsAnsweredBy k r → IsNoTaskOf words r

@@ -7,7 +7,7 @@ use Rattle.clap.specs.Faults.{fault_of, is_simple_and_free}
 use Rattle.clap.proofs.OnLiterals.{clap_on_literals}
 use Rattle.fmtcanon.specs.Tasks.{Names}
 use Rattle.fmtcanon.specs.Words.{the_command}
-use Rattle.fmtcanon.proofs.PresenceLemmas.{required_has_value, required_is_named, requires_value}
+use Rattle.fmtcanon.proofs.command_line.PresenceLemmas.{required_has_value, required_is_named, requires_value}
 
 pub simple_command : is_simple the_command ≡ true
 unfolding the_command clap_on_literals

@@ -1,0 +1,2 @@
+pub mod PresenceLemmas
+pub mod WordLemmas
