@@ -16,10 +16,14 @@ use Rattle.fmtcanon.specs.FormatArguments.{AreArgumentsFor}
 module _ (format : Text) (words : List Text) (args : List Arg) (gives : AreArgumentsFor format words args) where
   -- the types that the format takes are those of the arguments
   its_types : (wanted : List ArgType) → signatures.TakesTypes format wanted → wanted ≡ map type_of args
-  its_types wanted takes = takes.types_are ∙ ap types (Reads-unique format takes.items gives.items takes.accepted.reads gives.given.accepted.reads) ∙ sym gives.types_are
+  its_types wanted takes =
+      takes.types_are ∙ ap types
+      (Reads-unique format takes.items gives.items takes.accepted.reads gives.given.accepted.reads)
+      ∙ sym gives.types_are
 
   pub only_memory_hinders : (fault : RenderVecFault) → HindersVec format args fault → fault ≡ Memory
   only_memory_hinders Memory h = refl
-  only_memory_hinders (Refused refusal) h = absurd (h.not_accepted (gives.items, gives.given.accepted))
+  only_memory_hinders (Refused refusal) h =
+      absurd (h.not_accepted (gives.items, gives.given.accepted))
   only_memory_hinders (WrongCount wanted given) h = absurd (h.differ (h.wanted_is ∙ ap length (its_types h.types h.takes) ∙ length-map args type_of ∙ sym h.given_is))
   only_memory_hinders (WrongType index) h = absurd (h.first.differ (ap (λ ts. slice_get ts index) (sym (its_types h.types h.takes))))

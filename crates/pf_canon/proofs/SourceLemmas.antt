@@ -144,7 +144,14 @@ module _ (r : Transducer) (start left : Known) (taken given : Text) (items : Lis
   module _ (end : IsAtEnd left) where
     -- what the end settled waits
     pub waits_last : (parts : Parts) (due : Text) → parts_text parts ≡ due → Ends taken items given (Ok parts) → (more : Text) × IsEnding due start left (taken ++ more) given
-    waits_last parts due same e = none_more (λ t. IsEnding due start left t given) taken (record { reader = reader; end = end; accepted = (items, record { reads = e.0; limit = through.after.limit }); canonical = rw same at e.1; read = read })
+    waits_last parts due same e = none_more (λ t. IsEnding due start left t given) taken
+        (record {
+          reader = reader;
+          end = end;
+          accepted = (items, record { reads = e.0; limit = through.after.limit });
+          canonical = rw same at e.1;
+          read = read;
+        })
 
     -- the end is refused
     pub refuses_end : (refusal : Refusal) (P : Type 0) → P → Ends taken items given (Err refusal) → (more : Text) × (IsRefusedBehind start left (taken ++ more) refusal × SettlesTo (taken ++ more) given × IsReadFor (taken ++ more) given × P)

@@ -63,7 +63,8 @@ taken_first pieces t done xs h g =
     (types more.0, ap types more.1 ∙ types-append h.items more.0 ∙ ap (λ ts. ts ++ types more.0) (sym h.types_are))
 
 pub types_of_all : (t : Text) (wanted : List ArgType) (xs : List Item) → TakesTypes t wanted → Reads t xs → types xs ≡ wanted
-types_of_all t wanted xs h g = ap types (Reads-unique t xs h.items g h.accepted.reads) ∙ sym h.types_are
+types_of_all t wanted xs h g = ap types (Reads-unique t xs h.items g h.accepted.reads)
+    ∙ sym h.types_are
 
 taken_as : (pieces : Pieces) (t : Text) (done : List ArgType) → HasFound pieces t done → HasTaken pieces t done
 taken_as pieces t done h = record { read = h.read; items = h.items; given = h.given; types_are = h.types_are }

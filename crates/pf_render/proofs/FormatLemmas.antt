@@ -43,7 +43,8 @@ module _ (t : Text) (args : List Arg) (h : TakesArguments t args) where
   -- it prints something
   pub renders : (out : Text) × Renders t args out
   renders =
-      let out = PrintsAll-exists h.takes.items (arguments args) (typed_items h.takes.items h.takes.accepted.reads) in
+      let out = PrintsAll-exists h.takes.items (arguments args)
+      (typed_items h.takes.items h.takes.accepted.reads) in
       (out.0, renders_items h.takes.items h.takes.accepted.reads out.0 out.1)
 
   -- all its parts are kept
@@ -94,7 +95,8 @@ module _ {W : Type 0} {contents : W → Known} {old : Counted W} {t : Text} {arg
         given = g;
         whole = refl;
         few = omega (arith, none.1);
-        printing = nothing_yet progress r.1.takes.items none (typed_items t args h r.1.takes.items r.1.takes.accepted.reads) r.1.prints;
+        printing = nothing_yet progress r.1.takes.items none
+            (typed_items t args h r.1.takes.items r.1.takes.accepted.reads) r.1.prints;
       }
 
   module _ {now : Counted W} {before : Pieces} {progress : Progress} (h : IsUnderWay contents old t args now before progress) where
@@ -106,7 +108,9 @@ module _ {W : Type 0} {contents : W → Known} {old : Counted W} {t : Text} {arg
     pub text_written : {new : Pieces} → Gives before None new → RendersTo t args (λ out. WritesAll contents old now out)
     text_written steps =
         let end = steps.next t h.read h.items h.given in
-        let same : h.items ++ h.others ≡ h.items ++ [] = sym h.whole ∙ Reads-unique t h.renders.takes.items h.items h.renders.takes.accepted.reads end.reads ∙ sym (append-nil h.items) in
+        let same : h.items ++ h.others ≡ h.items ++ [] = sym h.whole
+        ∙ Reads-unique t h.renders.takes.items h.items h.renders.takes.accepted.reads end.reads
+        ∙ sym (append-nil h.items) in
         (h.out, h.renders, all_written h.printing (append_cancel_left h.items h.others [] same))
 
     module _ {new : Pieces} {r : Result Piece Refusal} (steps : Gives before (Some r) new) where
@@ -122,7 +126,10 @@ module _ {W : Type 0} {contents : W → Known} {old : Counted W} {t : Text} {arg
         piece_given = subst (λ x. GivesNext (Some x) new t h.read h.items) is (steps.next t h.read h.items h.given)
 
         pub all_items : Begin (h.items ++ items_of piece) h.renders.takes.items
-        all_items = let g = piece_given in front_items (h.read ++ g.more) new.rest.now _ _ g.given.reads (subst (λ u. Reads u h.renders.takes.items) g.given.split h.renders.takes.accepted.reads)
+        all_items = let g = piece_given in front_items (h.read ++ g.more) new.rest.now _ _
+            g.given.reads
+            (subst (λ u. Reads u h.renders.takes.items) g.given.split
+            h.renders.takes.accepted.reads)
 
         abbrev pub later : List Item
         later = all_items.0

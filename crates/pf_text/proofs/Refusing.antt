@@ -96,7 +96,10 @@ module _ (t part : Text) (items : List Item) (state : State) (h : IsSplit t item
   pub truncated_at : state ≢ Between → length t ≤ MAX_TEXT_LEN → IsRefusedAt t Truncated (length t)
   truncated_at inside few =
       record {
-        not_accepted = λ accepted. inside (ap state_in (sym (run-split t part items state h at) ∙ run-reads accepted.0 t [] accepted.1.reads));
+        not_accepted =
+            λ accepted. inside
+            (ap state_in
+            (sym (run-split t part items state h at) ∙ run-reads accepted.0 t [] accepted.1.reads));
         front = t;
         items = items;
         part = part;

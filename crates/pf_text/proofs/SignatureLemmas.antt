@@ -48,7 +48,12 @@ module _ (old new : Pieces) (t : Text) (found : List ArgType) (h : HasFound old 
         record { front = f.read; rest = new.rest.now; items = f.items; split = f.given.split; reads = f.given.reads; many = omega (arith, ap length f.types_are, length_push found type) }
 
   pub all_found : Gives old None new → TakesTypes t found
-  all_found steps = record { items = h.items; accepted = steps.next t h.read h.items h.given; types_are = h.types_are }
+  all_found steps =
+      record {
+        items = h.items;
+        accepted = steps.next t h.read h.items h.given;
+        types_are = h.types_are;
+      }
 
 -- a piece that takes no argument
 pub found_same : (pieces : Pieces) (t : Text) (found : List ArgType) → HasFound pieces t (found ++ []) → HasFound pieces t found
