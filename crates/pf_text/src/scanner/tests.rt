@@ -8,8 +8,8 @@ const TOO_LONG: Refusal = Refusal {
     at: LIMIT,
 };
 
-// A scanner behind so many literal bytes.
-fn behind(offset: u64) -> Scanner {
+// A scanner after so many literal bytes.
+fn after(offset: u64) -> Scanner {
     Scanner {
         automaton: Automaton::new(),
         offset,
@@ -19,7 +19,7 @@ fn behind(offset: u64) -> Scanner {
 
 #[test]
 fn one_byte_to_the_limit(rt: HostRuntime) {
-    let mut scanner = behind(LIMIT - 1);
+    let mut scanner = after(LIMIT - 1);
     assert!(rt; scanner.feed(b'a') == Ok(Step::Byte(b'a')));
     assert!(rt; scanner.offset() == LIMIT);
     assert!(rt; scanner.finish() == Ok(()));
@@ -34,14 +34,14 @@ fn one_byte_to_the_limit(rt: HostRuntime) {
 #[test]
 fn each_byte_at_the_limit(rt: HostRuntime) {
     for byte in 0..=u8::MAX {
-        let mut scanner = behind(LIMIT);
+        let mut scanner = after(LIMIT);
         assert!(rt; scanner.feed(byte) == Err(TOO_LONG), "byte {byte}");
     }
 }
 
 #[test]
 fn an_item_open_at_the_limit(rt: HostRuntime) {
-    let mut scanner = behind(LIMIT - 1);
+    let mut scanner = after(LIMIT - 1);
     let truncated = Refusal {
         kind: RefusalKind::Truncated,
         at: LIMIT,
@@ -55,12 +55,10 @@ fn an_item_open_at_the_limit(rt: HostRuntime) {
 #[test]
 fn runs_up_to_the_limit(rt: HostRuntime) {
     for (left, taken) in [(0, 0), (1, 1), (2, 2), (5, 5), (6, 6), (7, 6), (8, 6)] {
-        let mut scanner = behind(LIMIT - left);
+        let start = LIMIT.saturating_sub(left);
+        let mut scanner = after(start);
         assert_eq!(rt; scanner.pass_literals(b"abcdef%d"), taken, "{left} left");
-        assert_eq!(rt;
-            scanner.offset(),
-            (LIMIT - left).saturating_add(taken as u64)
-        );
+        assert_eq!(rt; scanner.offset(), start.saturating_add(taken as u64));
     }
 }
 
@@ -78,17 +76,37 @@ fn plain_runs_up_to_the_limit(rt: HostRuntime) {
         (7, 6),
         (9, 6),
     ] {
-        let mut scanner = behind(LIMIT - left);
+        let start = LIMIT.saturating_sub(left);
+        let mut scanner = after(start);
         assert_eq!(rt; scanner.pass_plain(b"%dab%%%i%s"), taken, "{left} left");
-        assert_eq!(rt;
-            scanner.offset(),
-            (LIMIT - left).saturating_add(taken as u64)
-        );
+        assert_eq!(rt; scanner.offset(), start.saturating_add(taken as u64));
+    }
+}
+
+// No directive is cut in two.
+#[test]
+fn silent_runs_up_to_the_limit(rt: HostRuntime) {
+    for (left, taken) in [(0, 0), (3, 0), (4, 1), (7, 1), (8, 2), (12, 2)] {
+        let start = LIMIT.saturating_sub(left);
+        let mut scanner = after(start);
+        assert_eq!(rt; scanner.pass_silents(b"%.0s%.0s%.0d"), taken, "{left} left");
+        let len = (taken as u64).saturating_mul(4);
+        assert_eq!(rt; scanner.offset(), start.saturating_add(len));
     }
 }
 
 #[test]
-fn each_letter_behind_percent(rt: HostRuntime) {
+fn inside_an_item_no_run_is_taken(rt: HostRuntime) {
+    let mut scanner = Scanner::new();
+    assert!(rt; scanner.feed(b'%') == Ok(Step::More));
+    assert_eq!(rt; scanner.pass_literals(b"abc"), 0);
+    assert_eq!(rt; scanner.pass_plain(b"abc"), 0);
+    assert_eq!(rt; scanner.pass_silents(b"%.0s"), 0);
+    assert_eq!(rt; scanner.offset(), 1);
+}
+
+#[test]
+fn each_letter_after_percent(rt: HostRuntime) {
     for letter in 0..=u8::MAX {
         let mut scanner = Scanner::new();
         let taken = if b"%douxXcs".contains(&letter) { 2 } else { 0 };
