@@ -1,8 +1,7 @@
 -- What a run leaves, by its outcome. This project's own.
-use Rattle.std.specs.Prelude.{◌≡◌, ℕ, List}
-use Rattle.std.specs.Io.KnownBytes.{Keeps}
+use Rattle.std.specs.Prelude.{◌≡◌, ℕ, List, true}
 use Rattle.pf_values.specs.declared.counting.Counted.{Counted}
-use Rattle.pf_values.specs.Counting.{Known, WritesAll, WritesFirst, device_of}
+use Rattle.pf_values.specs.Counting.{Known, WritesAll, WritesFirst, is_flushed}
 use Rattle.pf_values.specs.Text.{Text}
 use Rattle.fmtcanon.specs.Answers.{IsAnswer, IsHindered}
 use Rattle.fmtcanon.specs.Streams.{LeavesCopy}
@@ -19,15 +18,12 @@ use Rattle.fmtcanon.specs.declared.task.Task.{Task}
 use Rattle.fmtcanon.specs.declared.task.Task.TheVariants.{Answer, Stream}
 
 module _ {W : Type 0} (contents : W → Known) (old new : Counted W) where
-  -- nothing went out
-  abbrev pub KeepsAll : Type 0
-  KeepsAll = Keeps (contents (device_of old)) (contents (device_of new))
-
-  -- All of an answer went out.
+  -- All of an answer went out, and then it was flushed.
   pub record AnswersAll (question : Question) (ending : Ending) : Type 0 where
     pub out : Text
     pub answer : IsAnswer question out ending
     pub written : WritesAll contents old new out
+    pub flushed : is_flushed new ≡ true
 
   -- Just the first bytes of an answer went out, and one call failed.
   pub record AnswersFirst (question : Question) (count : ℕ) : Type 0 where
@@ -36,9 +32,9 @@ module _ {W : Type 0} (contents : W → Known) (old new : Counted W) where
     pub answer : IsAnswer question out ending
     pub written : WritesFirst contents old new out count
 
-  -- There is no answer, and nothing went out.
+  -- There is no answer, and the writer was not called.
   abbrev pub AnswersNothing : Question → Fault → Type 0
-  AnswersNothing question fault = IsHindered question fault × KeepsAll
+  AnswersNothing question fault = IsHindered question fault × (new ≡ old)
 
   -- what the run of a question leaves
   abbrev pub LeavesAnswer : Question → Outcome → Type 0
@@ -56,10 +52,12 @@ module _ {W : Type 0} (contents : W → Known) (old new : Counted W) where
   LeavesAnswer question Read = ⊥
   LeavesAnswer question (Usage text) = ⊥
 
-  -- all bytes went out, and the run ends so; or the first of them and a call failed
+  -- all bytes went out and were flushed, and the run ends so; or the first of them and a call
+  -- failed
   abbrev pub LeavesBytes : Text → Outcome → Outcome → Type 0
   LeavesBytes bytes end (Write count) = WritesFirst contents old new bytes count
-  LeavesBytes bytes end outcome = (outcome ≡ end) × WritesAll contents old new bytes
+  LeavesBytes bytes end outcome =
+      (outcome ≡ end) × WritesAll contents old new bytes × (is_flushed new ≡ true)
 
 module _ {R W : Type 0} (remaining : R → Known) (contents : W → Known) (reader left : Counted R)
     (old new : Counted W) where
@@ -69,9 +67,9 @@ module _ {R W : Type 0} (remaining : R → Known) (contents : W → Known) (read
       LeavesAnswer contents old new question outcome × (left ≡ reader)
   LeavesTask Stream outcome = LeavesCopy remaining contents reader left old new outcome
 
-  -- nothing was read or written
+  -- neither the reader nor the writer was called
   abbrev pub LeavesNothing : Type 0
-  LeavesNothing = KeepsAll contents old new × (left ≡ reader)
+  LeavesNothing = (new ≡ old) × (left ≡ reader)
 
   -- Usage is answered for a fault that clap finds in the words, never for want of memory or for
   -- words that it takes. For want of memory nothing goes out.

@@ -1,7 +1,7 @@
 -- What a run leaves that copies the canonical string of its reader. This project's own.
-use Rattle.std.specs.Prelude.{◌≡◌, ℕ, None, Some, ◌⊎◌}
+use Rattle.std.specs.Prelude.{◌≡◌, ℕ, None, Some, true, ◌⊎◌}
 use Rattle.pf_values.specs.declared.counting.Counted.{Counted}
-use Rattle.pf_values.specs.Counting.{HasFailed, Known, device_of, failures_of}
+use Rattle.pf_values.specs.Counting.{HasFailed, Known, device_of, failures_of, is_flushed}
 use Rattle.pf_canon.specs.Copying.{CopiesAll, CopyStops}
 use Rattle.pf_canon.specs.declared.faults.CopyFault.{CopyFault}
 use Rattle.pf_canon.specs.declared.faults.CopyFault.TheVariants as faults
@@ -22,12 +22,17 @@ module _ {R W : Type 0} (remaining : R → Known) (contents : W → Known) (read
       (remaining (device_of reader)) (remaining (device_of left))
       (contents (device_of old)) (contents (device_of new)) fault
 
-  -- At Write the bytes are fewer than all, but where the flush failed after all went out.
+  -- At Write the bytes are fewer than all, but where the flush failed after all went out. At Refused
+  -- and Read the flush may have failed, too.
   abbrev pub LeavesCopy : Outcome → Type 0
-  LeavesCopy Done = ((count : ℕ) × AllCopied count) × (failures_of new ≡ failures_of old)
-  LeavesCopy (Refused None refusal) = CopyStopped (faults.Refused refusal)
+  LeavesCopy Done =
+      ((count : ℕ) × AllCopied count) × (failures_of new ≡ failures_of old)
+      × (is_flushed new ≡ true)
+  LeavesCopy (Refused None refusal) =
+      CopyStopped (faults.Refused refusal) × (is_flushed new ≡ true)
   LeavesCopy (Refused (Some side) refusal) = ⊥
-  LeavesCopy Read = CopyStopped faults.Read × HasFailed reader left
+  LeavesCopy Read =
+      CopyStopped faults.Read × HasFailed reader left × (is_flushed new ≡ true)
   LeavesCopy (Write count) =
       (CopyStopped (faults.Write count) ⊎ AllCopied count) × HasFailed old new
   LeavesCopy Same = ⊥

@@ -15,6 +15,10 @@ module _ {T : Type 0} where
   abbrev pub failures_of : Counted T → ℕ
   failures_of c = c.failures
 
+  -- whether its last call was a flush, which may have failed
+  abbrev pub is_flushed : Counted T → Bool
+  is_flushed c = c.is_flushed
+
 -- where the count stays
 abbrev pub max_failures : ℕ
 max_failures = 2 ^ 64 - 1

@@ -1,8 +1,14 @@
 //! A reader or a writer that counts how often it failed.
-ghost use Rattle.std.specs.Prelude.{◌≡◌, is_err};
+ghost use Rattle.std.specs.Prelude.{◌≡◌, is_err, true, false};
 ghost use Rattle.std.specs.Io.{ReadsAtMost, WritesAtMost};
 ghost use Rattle.std.specs.Io.KnownBytes.{Keeps, ReadConsumes, WriteAppends};
-ghost use Rattle.pf_values.specs.Counting.{device_of, failures_after, failures_of, write_failed};
+ghost use Rattle.pf_values.specs.Counting.{
+  device_of,
+  failures_after,
+  failures_of,
+  is_flushed,
+  write_failed,
+};
 
 use std::io;
 use std::io::{Read, Write};
@@ -19,6 +25,8 @@ mod tests;
 pub struct Counted<T> {
     device: T,
     failures: u64,
+    // Whether the last call was a flush. Only contracts ask for it.
+    is_flushed: bool,
 }
 
 impl<T> Counted<T> {
@@ -26,10 +34,12 @@ impl<T> Counted<T> {
     pub fn new(device: T) -> Counted<T>
         ensures device { device_of result ≡ device }
         ensures none { failures_of result ≡ 0 }
+        ensures flushed { is_flushed result ≡ false }
     {
         Counted {
             device,
             failures: 0,
+            is_flushed: false,
         }
     }
 
@@ -47,14 +57,18 @@ impl<T> Counted<T> {
         let Counted {
             device,
             failures: _,
+            is_flushed: _,
         } = self;
         device
     }
 
-    fn count(&mut self, failed: bool)
+    // Notes a call: whether it was a flush, and whether it failed.
+    fn note(&mut self, flushed: bool, failed: bool)
         ensures device { device_of self.new ≡ device_of self.old }
         ensures failures { failures_of self.new ≡ failures_after (failures_of self.old) failed }
+        ensures flushed { is_flushed self.new ≡ flushed }
     {
+        self.is_flushed = flushed;
         if failed {
             self.failures = self.failures.saturating_add(1);
         }
@@ -70,9 +84,10 @@ impl<R: Read> Read for Counted<R> {
             (R.remaining (device_of self.new)) result buf.new }
         ensures failures { failures_of self.new
             ≡ failures_after (failures_of self.old) (is_err result) }
+        ensures flushed { is_flushed self.new ≡ false }
     {
         let result = self.device.read(buf);
-        self.count(result.is_err());
+        self.note(false, result.is_err());
         result
     }
 }
@@ -86,13 +101,14 @@ impl<W: Write> Write for Counted<W> {
             (W.contents (device_of self.new)) result buf.now }
         ensures failures { failures_of self.new
             ≡ failures_after (failures_of self.old) (write_failed result buf.now) }
+        ensures flushed { is_flushed self.new ≡ false }
     {
         let result = self.device.write(buf);
         let failed = match &result {
             Ok(taken) => *taken == 0 && !buf.is_empty(),
             Err(_) => true,
         };
-        self.count(failed);
+        self.note(false, failed);
         result
     }
 
@@ -100,9 +116,10 @@ impl<W: Write> Write for Counted<W> {
         ensures bytes { Keeps (W.contents (device_of self.old)) (W.contents (device_of self.new)) }
         ensures failures { failures_of self.new
             ≡ failures_after (failures_of self.old) (is_err result) }
+        ensures flushed { is_flushed self.new ≡ true }
     {
         let result = self.device.flush();
-        self.count(result.is_err());
+        self.note(true, result.is_err());
         result
     }
 }
