@@ -3,12 +3,12 @@ use Rattle.std.proofs.Common.{◌≡◌, ◌≢◌, ℕ, zero, suc, List, [], �
 use Rattle.std.specs.Prelude.{IfOk, flat_map}
 use Rattle.std.proofs.lemmas.List.{length-replicate}
 use Rattle.std.proofs.lemmas.Result.{IfOk-weaker}
-use Rattle.pf_values.specs.Canonical.{AreCanonical, ReadsCanonically, written}
+use Rattle.pf_values.specs.Canonical.{AreCanonical, ReadsCanonically, item_spelling}
 use Rattle.pf_values.specs.Defined.{IsDefined}
 use Rattle.pf_values.specs.Items.{Item, Byte, Directive, Reads}
 use Rattle.pf_values.specs.Normal.{IsNormal, silent}
 use Rattle.pf_values.specs.Specification.{Specification}
-use Rattle.pf_values.specs.Spelling.{spelled}
+use Rattle.pf_values.specs.Spelling.{spelling_of}
 use Rattle.pf_values.specs.Text.{Text, space, zero_digit}
 use Rattle.pf_values.proofs.Alike.{alike-equivalent, alike_sym, alike_trans}
 use Rattle.pf_text.proofs.ReadBack.{spelled_read}
@@ -31,22 +31,22 @@ core_defined : (core : Core) → IsNormalCore core → IsDefined (core_of core)
 core_defined (Normal s) h = h.defined
 core_defined Silent h = silent_defined
 
-spaces_read : (n : ℕ) → Reads (flat_map written (map Byte (replicate n space))) (map Byte (replicate n space))
+spaces_read : (n : ℕ) → Reads (flat_map item_spelling (map Byte (replicate n space))) (map Byte (replicate n space))
 spaces_read zero = refl
-spaces_read (suc n) = (space ∷ [], flat_map written (map Byte (replicate n space)), (λ e. cc, refl), spaces_read n, refl)
+spaces_read (suc n) = (space ∷ [], flat_map item_spelling (map Byte (replicate n space)), (λ e. cc, refl), spaces_read n, refl)
 
 -- the text of a directive before spaces
-core_reads : (core : Core) (trail : ℕ) → IsNormalCore core → Reads (flat_map written (Directive (core_of core) ∷ map Byte (replicate trail space))) (Directive (core_of core) ∷ map Byte (replicate trail space))
-core_reads core trail h = (spelled (core_of core), flat_map written (map Byte (replicate trail space)), (spelled_read (core_of core) (core_defined core h), core_defined core h), spaces_read trail, refl)
+core_reads : (core : Core) (trail : ℕ) → IsNormalCore core → Reads (flat_map item_spelling (Directive (core_of core) ∷ map Byte (replicate trail space))) (Directive (core_of core) ∷ map Byte (replicate trail space))
+core_reads core trail h = (spelling_of (core_of core), flat_map item_spelling (map Byte (replicate trail space)), (spelled_read (core_of core) (core_defined core h), core_defined core h), spaces_read trail, refl)
 
-zeros_read : (n : ℕ) (items : List Item) → Reads (flat_map written items) items → Reads (flat_map written (map Byte (replicate n zero_digit) ++ items)) (map Byte (replicate n zero_digit) ++ items)
+zeros_read : (n : ℕ) (items : List Item) → Reads (flat_map item_spelling items) items → Reads (flat_map item_spelling (map Byte (replicate n zero_digit) ++ items)) (map Byte (replicate n zero_digit) ++ items)
 zeros_read zero items h = h
-zeros_read (suc n) items h = (zero_digit ∷ [], flat_map written (map Byte (replicate n zero_digit) ++ items), (λ e. cc, refl), zeros_read n items h, refl)
+zeros_read (suc n) items h = (zero_digit ∷ [], flat_map item_spelling (map Byte (replicate n zero_digit) ++ items), (λ e. cc, refl), zeros_read n items h, refl)
 
-padding_reads : (n m : ℕ) (items : List Item) → Reads (flat_map written items) items
-    → Reads (flat_map written (map Byte (replicate n space ++ replicate m zero_digit) ++ items)) (map Byte (replicate n space ++ replicate m zero_digit) ++ items)
+padding_reads : (n m : ℕ) (items : List Item) → Reads (flat_map item_spelling items) items
+    → Reads (flat_map item_spelling (map Byte (replicate n space ++ replicate m zero_digit) ++ items)) (map Byte (replicate n space ++ replicate m zero_digit) ++ items)
 padding_reads zero m items h = zeros_read m items h
-padding_reads (suc n) m items h = (space ∷ [], flat_map written (map Byte (replicate n space ++ replicate m zero_digit) ++ items), (λ e. cc, refl), padding_reads n m items h, refl)
+padding_reads (suc n) m items h = (space ∷ [], flat_map item_spelling (map Byte (replicate n space ++ replicate m zero_digit) ++ items), (λ e. cc, refl), padding_reads n m items h, refl)
 
 -- bytes are canonical after anything but a silent directive
 bytes_canonical : (bytes : Text) → AreCanonical (map Byte bytes)
@@ -64,7 +64,7 @@ core_canonical Silent (suc n) h none = absurd (let e = none refl in omega (arith
 
 -- the text of a reduction
 abbrev reduction_text : Reduced → Text
-reduction_text r = flat_map written (reduced_items r)
+reduction_text r = flat_map item_spelling (reduced_items r)
 
 reduction_reads : (s : Specification) (r : Reduced) → IsReducedTo s r → ReadsCanonically (reduction_text r) (reduced_items r)
 reduction_reads s r h = record {

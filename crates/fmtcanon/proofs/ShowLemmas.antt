@@ -18,11 +18,11 @@ use Rattle.pf_values.specs.declared.limits.TheConstants.{MAX_TEXT_LEN}
 use Rattle.pf_values.specs.Defined.{IsDefined}
 use Rattle.pf_values.specs.Items.{Item}
 use Rattle.pf_values.specs.Normal.{silent}
-use Rattle.pf_values.specs.Spelling.{Spells, spelled}
+use Rattle.pf_values.specs.Spelling.{Spells, spelling_of}
 use Rattle.pf_values.specs.Text.{Text, percent}
 use Rattle.fmtcanon.specs.Shows.{BeginsNoRun, HasShownLines, IsCut, IsLineOf, Shown, Run, Percent, Specified, shown_of}
 
-pub silent_spelled : codes "%.0s" ≡ spelled silent
+pub silent_spelled : codes "%.0s" ≡ spelling_of silent
 unfolding digits
 silent_spelled = refl
 

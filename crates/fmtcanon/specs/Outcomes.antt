@@ -14,12 +14,12 @@ outcome_of endings.Same = Same
 outcome_of endings.Different = Different
 
 -- there was no answer
-abbrev pub faulted : Fault → Outcome
-faulted (faults.Refused side refusal) = Refused side refusal
-faulted (faults.BadWord index) = BadWord index
-faulted (faults.WrongCount wanted given) = WrongCount wanted given
-faulted (faults.WrongType index) = WrongType index
-faulted faults.Memory = Memory
+abbrev pub outcome_of_fault : Fault → Outcome
+outcome_of_fault (faults.Refused side refusal) = Refused side refusal
+outcome_of_fault (faults.BadWord index) = BadWord index
+outcome_of_fault (faults.WrongCount wanted given) = WrongCount wanted given
+outcome_of_fault (faults.WrongType index) = WrongType index
+outcome_of_fault faults.Memory = Memory
 
 -- 0 where all was written and nothing differs, 1 for formats that differ, 2 for a refused format, 3
 -- for wrong words or arguments, 4 where reading, writing or memory failed

@@ -22,7 +22,7 @@ module _ {W : Type 0} (contents : W → Known) (old new : Counted W) where
   pub record AnswersAll (question : Question) (ending : Ending) : Type 0 where
     pub out : Text
     pub answer : IsAnswer question out ending
-    pub written : WritesAll contents old new out
+    pub writes : WritesAll contents old new out
     pub flushed : is_flushed new ≡ true
 
   -- Just the first bytes of an answer went out, and one call failed.
@@ -30,7 +30,7 @@ module _ {W : Type 0} (contents : W → Known) (old new : Counted W) where
     pub out : Text
     pub ending : Ending
     pub answer : IsAnswer question out ending
-    pub written : WritesFirst contents old new out count
+    pub writes : WritesFirst contents old new out count
 
   -- There is no answer, and the writer was not called.
   abbrev pub AnswersNothing : Question → Fault → Type 0

@@ -10,7 +10,7 @@ use Rattle.pf_values.specs.DataModel.{arg_type}
 use Rattle.pf_values.specs.Defined.{IsDefined}
 use Rattle.pf_values.specs.Items.{IsAccepted}
 use Rattle.pf_values.specs.Specification.{Specification}
-use Rattle.pf_values.specs.Spelling.{Spells, spelled}
+use Rattle.pf_values.specs.Spelling.{Spells, spelling_of}
 use Rattle.pf_values.specs.Text.{Text, percent}
 use Rattle.fmtcanon.specs.Lines.{line}
 use Rattle.fmtcanon.specs.TypeLines.{type_name}
@@ -39,12 +39,12 @@ IsCut t (Specified s ∷ xs) =
 -- spaces, zeros, the core, and spaces after it
 abbrev pub reduced_text : Reduced → Text
 reduced_text r =
-    decimal r.spaces ++ codes " " ++ decimal r.zeros ++ codes " " ++ spelled (core_of r.core)
+    decimal r.spaces ++ codes " " ++ decimal r.zeros ++ codes " " ++ spelling_of (core_of r.core)
     ++ codes " " ++ decimal r.trail
 
 -- the line of a reduction
 abbrev pub reduced_line : Specification → Reduced → Text
-reduced_line s r = line (codes "directive " ++ spelled s ++ codes ": "
+reduced_line s r = line (codes "directive " ++ spelling_of s ++ codes ": "
     ++ type_name (arg_type s) ++ codes ": " ++ reduced_text r)
 
 -- A directive has one reduction, and its line tells that.

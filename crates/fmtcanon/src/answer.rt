@@ -6,7 +6,7 @@ ghost use Rattle.fmtcanon.specs.declared.answer.Ending.TheVariants.{Done};
 
 use crate::comparison::comparison_answer;
 use crate::fault::Fault;
-use crate::printing::printed;
+use crate::printing::print_format;
 use crate::show_lines::show_lines;
 use crate::task::Question;
 use crate::type_lines::type_lines;
@@ -42,7 +42,7 @@ pub fn answer_to(alloc: Global, question: &Question<'_>) -> Result<Answer, Fault
         Question::Types(format) => done(type_lines(alloc, format.as_bytes())),
         Question::Canon(format) => done(canonical_line(alloc, format.as_bytes())),
         Question::Show(format) => done(show_lines(alloc, format.as_bytes())),
-        Question::Format { format, words } => done(printed(alloc, format.as_bytes(), words)),
+        Question::Format { format, words } => done(print_format(alloc, format.as_bytes(), words)),
         Question::Same { first, second } => {
             comparison_answer(alloc, first.as_bytes(), second.as_bytes())
         }
@@ -66,11 +66,11 @@ fn canonical_line(alloc: Global, format: &[u8]) -> Result<Vec<u8>, Fault>
         (HindersFormat format.now) }
 {
     let canonical = canonical(alloc, format)?;
-    Ok(ended(canonical)?)
+    Ok(with_newline(canonical)?)
 }
 
 // A text with a newline after it.
-fn ended(mut text: Vec<u8>) -> Result<Vec<u8>, AllocError>
+fn with_newline(mut text: Vec<u8>) -> Result<Vec<u8>, AllocError>
     ensures { IfOk result (λ out. out.items ≡ line text.items) }
 {
     text.push(b'\n')?;

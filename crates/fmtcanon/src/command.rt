@@ -19,14 +19,14 @@ pub fn definition<'a>(alloc: Global) -> Result<Command<'a>, AllocError>
     let format = "Writes what a format prints for arguments, and nothing else";
     let same = "Tells whether one format may stand for another; if not, in what they differ";
     let stream = "Writes the canonical string of standard input";
-    let with_types = adding(top(alloc)?, on_format(alloc, "types", types, texts::TYPES)?)?;
-    let with_canon = adding(with_types, on_format(alloc, "canon", canon, texts::CANON)?)?;
-    let with_show = adding(with_canon, on_format(alloc, "show", show, texts::SHOW)?)?;
+    let with_types = with_subcommand(top(alloc)?, on_format(alloc, "types", types, texts::TYPES)?)?;
+    let with_canon = with_subcommand(with_types, on_format(alloc, "canon", canon, texts::CANON)?)?;
+    let with_show = with_subcommand(with_canon, on_format(alloc, "show", show, texts::SHOW)?)?;
     let on_arguments = taking_arguments(alloc, on_format(alloc, "format", format, texts::FORMAT)?)?;
-    let with_format = adding(with_show, on_arguments)?;
+    let with_format = with_subcommand(with_show, on_arguments)?;
     let on_formats = taking_second(alloc, on_format(alloc, "same", same, texts::SAME)?)?;
-    let with_same = adding(with_format, on_formats)?;
-    adding(
+    let with_same = with_subcommand(with_format, on_formats)?;
+    with_subcommand(
         with_same,
         on_nothing(alloc, "stream", stream, texts::STREAM)?,
     )
@@ -101,7 +101,7 @@ fn taking_arguments<'a>(alloc: Global, command: Command<'a>) -> Result<Command<'
 }
 
 // The command with one more subcommand.
-fn adding<'a>(command: Command<'a>, sub: Command<'a>) -> Result<Command<'a>, AllocError>
+fn with_subcommand<'a>(command: Command<'a>, sub: Command<'a>) -> Result<Command<'a>, AllocError>
     requires { (fields_of sub).has_globals ≡ false }
     ensures { IfOk result
         (λ r. app_of r ≡ with_subcommand (app_of command.entry) (app_of sub.entry).top) }

@@ -30,7 +30,7 @@ pub fn arguments_for<'a>(
             given: given.len() as u64,
         });
     }
-    typed(alloc, &given, wanted.as_slice())
+    at_types(alloc, &given, wanted.as_slice())
 }
 
 // The arguments that the words give.
@@ -54,7 +54,7 @@ fn read_words<'a>(alloc: Global, words: &[&'a str]) -> Result<Vec<UntypedArg<'a>
 }
 
 // The arguments at the types that are wanted, of which there are as many.
-fn typed<'a>(
+fn at_types<'a>(
     alloc: Global,
     given: &[UntypedArg<'a>],
     wanted: &[ArgType],

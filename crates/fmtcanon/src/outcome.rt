@@ -1,6 +1,6 @@
 //! How a run ended.
 ghost use Rattle.std.specs.Prelude.{◌≡◌};
-ghost use Rattle.fmtcanon.specs.Outcomes.{faulted, outcome_of, status_of};
+ghost use Rattle.fmtcanon.specs.Outcomes.{outcome_of_fault, outcome_of, status_of};
 
 use crate::answer::Ending;
 use crate::fault::Fault;
@@ -58,7 +58,7 @@ impl Outcome {
 
     /// That of a question without an answer.
     pub fn of_fault(fault: Fault) -> Outcome
-        ensures { result ≡ faulted fault }
+        ensures { result ≡ outcome_of_fault fault }
     {
         match fault {
             Fault::Refused { side, refusal } => Outcome::Refused { side, refusal },

@@ -8,7 +8,7 @@ use pf_render::{RenderVecFault, render_vec};
 use std::alloc::Global;
 
 /// What a format prints for the arguments that words give.
-pub fn printed(alloc: Global, format: &[u8], words: &[&str]) -> Result<Vec<u8>, Fault>
+pub fn print_format(alloc: Global, format: &[u8], words: &[&str]) -> Result<Vec<u8>, Fault>
     ensures ok { IfOk result (λ out. IsPrinted format.now (map (λ s. s.now) words.now) out.items) }
     ensures err { IfErr result (HindersArguments format.now (map (λ s. s.now) words.now)) }
 {

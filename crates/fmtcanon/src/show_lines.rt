@@ -3,7 +3,7 @@ ghost use Rattle.std.specs.Prelude.{◌≡◌, ◌++◌, IfOk, MatchResult, code
 ghost use Rattle.pf_reduce.specs.Reducing.{IsReducedTo, core_of};
 ghost use Rattle.pf_reduce.specs.declared.results.Reduced.{Reduced};
 ghost use Rattle.pf_values.specs.DataModel.{arg_type};
-ghost use Rattle.pf_values.specs.Spelling.{spelled};
+ghost use Rattle.pf_values.specs.Spelling.{spelling_of};
 ghost use Rattle.pf_values.specs.Text.{Text};
 ghost use Rattle.fmtcanon.specs.Answers.{HindersFormat};
 ghost use Rattle.fmtcanon.specs.Lines.{line};
@@ -76,7 +76,7 @@ fn push_directive(out: &mut Vec<u8>, directive: &Directive) -> Result<(), AllocE
 // The spelling of a directive, and its type.
 fn push_front(out: &mut Vec<u8>, directive: &Directive) -> Result<(), AllocError>
     ensures { IfOk result (λ _.
-        out.new.items ≡ out.old.items ++ codes "directive " ++ spelled directive.now ++ codes ": "
+        out.new.items ≡ out.old.items ++ codes "directive " ++ spelling_of directive.now ++ codes ": "
         ++ type_name (arg_type directive.now) ++ codes ": ") }
 {
     out.extend_from_slice(b"directive ")?;
@@ -116,7 +116,7 @@ fn push_padding(out: &mut Vec<u8>, spaces: u16, zeros: u16) -> Result<(), AllocE
 }
 
 fn push_core(out: &mut Vec<u8>, core: Core) -> Result<(), AllocError>
-    ensures { IfOk result (λ _. out.new.items ≡ out.old.items ++ spelled (core_of core)) }
+    ensures { IfOk result (λ _. out.new.items ≡ out.old.items ++ spelling_of (core_of core)) }
 {
     match core {
         Core::Normal(normal) => out.extend_from_slice(&spell(&normal.directive())),

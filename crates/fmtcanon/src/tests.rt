@@ -40,7 +40,7 @@ fn ran(alloc: Global, words: &[&str]) -> (Outcome, Vec<u8>) {
 }
 
 // What is reported of an outcome.
-fn reported(alloc: Global, outcome: &Outcome) -> Vec<u8> {
+fn report_of(alloc: Global, outcome: &Outcome) -> Vec<u8> {
     let mut errors = Counted::new(Vec::new(alloc));
     report(outcome, &mut errors);
     errors.into_inner()
@@ -49,7 +49,7 @@ fn reported(alloc: Global, outcome: &Outcome) -> Vec<u8> {
 // Whether a run answers this, or is refused, writes nothing and reports this.
 fn answers(alloc: Global, words: &[&str], want: &str) -> bool {
     let (outcome, written) = ran(alloc, words);
-    let told = reported(alloc, &outcome);
+    let told = report_of(alloc, &outcome);
     match outcome {
         Outcome::Done | Outcome::Same => {
             outcome.status() == 0 && told.is_empty() && written.as_slice() == want.as_bytes()
@@ -65,7 +65,7 @@ fn answers(alloc: Global, words: &[&str], want: &str) -> bool {
 }
 
 // A text so many times.
-fn repeated(alloc: Global, text: &str, count: usize) -> Result<String, AllocError> {
+fn repeat(alloc: Global, text: &str, count: usize) -> Result<String, AllocError> {
     let mut whole = String::new(alloc);
     for _ in 0..count {
         whole.push_str(text)?;
@@ -76,7 +76,7 @@ fn repeated(alloc: Global, text: &str, count: usize) -> Result<String, AllocErro
 // Whether a run writes a row and ends well.
 fn is_written(alloc: Global, row: &Written) -> bool {
     let (outcome, written) = ran(alloc, row.0);
-    let told = reported(alloc, &outcome);
+    let told = report_of(alloc, &outcome);
     let status = match outcome {
         Outcome::Done | Outcome::Same => Some(0),
         Outcome::Different => Some(1),
@@ -287,7 +287,7 @@ fn a_format_that_begins_with_a_minus_stands_after_two(rt: HostRuntime) {
 // Words that are no command, and what clap's answer begins with.
 fn is_usage(rt: &HostRuntime, words: &[&str], begins: &str) -> bool {
     let (outcome, written) = ran(rt.alloc(), words);
-    let told = reported(rt.alloc(), &outcome);
+    let told = report_of(rt.alloc(), &outcome);
     let is_told = match &outcome {
         Outcome::Usage(text) => told.as_slice() == text.as_bytes(),
         _ => false,
@@ -373,7 +373,7 @@ fn each_outcome_has_its_status_and_line(rt: HostRuntime) -> Result<(), AllocErro
     for (outcome, status, line) in &rows {
         assert_eq!(rt; outcome.status(), *status);
         assert!(rt;
-            reported(rt.alloc(), outcome).as_slice() == line.as_bytes(),
+            report_of(rt.alloc(), outcome).as_slice() == line.as_bytes(),
             "{line}"
         );
     }

@@ -3,7 +3,7 @@ use Rattle.std.proofs.Common.{◌≡◌, ◌≢◌, ℕ, ◌-◌, ◌<◌, ◌�
 use Rattle.std.specs.Prelude.{flat_map, IsTrue, List, MatchOption, ◌↔◌}
 use Rattle.std.specs.Borrow.{Bor}
 use Rattle.std.proofs.lemmas.List.{append-nil, append_assoc, append_cancel_left, take_all}
-use Rattle.pf_values.specs.Canonical.{IsCanonicalText, written}
+use Rattle.pf_values.specs.Canonical.{IsCanonicalText, item_spelling}
 use Rattle.pf_values.specs.Items.{IsAccepted, Item}
 use Rattle.pf_values.specs.Text.{Text}
 use Rattle.pf_canon.specs.declared.parts.Parts.{Parts}
@@ -40,9 +40,9 @@ behind_more t out bytes None rest h g = rw g (λ rest e. h (bytes ++ rest) (e �
 pub cut_one : (left mid rest : Option (Bor Text)) (count more byte : ℕ) → 0 < more → more ≤ count → IsCutOff left (replicate (count - more) byte) mid → IsCutOff mid (byte ∷ []) rest → IsCutOff left (replicate (count - (more - 1)) byte) rest
 cut_one left mid rest count more byte some few h g = subst (λ t. IsCutOff left t rest) (run_more count more 1 byte few (omega (arith, some))) (cut_then left mid rest (replicate (count - more) byte) (byte ∷ []) h g)
 
-pub cut_silent : (left mid rest : Option (Bor Text)) (count more : ℕ) → 0 < more → more ≤ count → IsCutOff left (flat_map written (silents (count - more))) mid → IsCutOff mid silent_bytes rest
-    → IsCutOff left (flat_map written (silents (count - (more - 1)))) rest
-cut_silent left mid rest count more some few h g = subst (λ t. IsCutOff left t rest) (silents_next count more some few) (cut_then left mid rest (flat_map written (silents (count - more))) silent_bytes h g)
+pub cut_silent : (left mid rest : Option (Bor Text)) (count more : ℕ) → 0 < more → more ≤ count → IsCutOff left (flat_map item_spelling (silents (count - more))) mid → IsCutOff mid silent_bytes rest
+    → IsCutOff left (flat_map item_spelling (silents (count - (more - 1)))) rest
+cut_silent left mid rest count more some few h g = subst (λ t. IsCutOff left t rest) (silents_next count more some few) (cut_then left mid rest (flat_map item_spelling (silents (count - more))) silent_bytes h g)
 
 -- the canonical text was cut off its format
 used_up_canonical : (t c : Text) (left : Option (Bor Text)) → IsBehind t c left → IsUsedUp left → t ≡ c

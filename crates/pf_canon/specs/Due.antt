@@ -1,6 +1,6 @@
 -- The bytes that wait to be given. This project's own.
 use Rattle.std.specs.Prelude.{◌≡◌, ℕ, ◌-◌, ◌==◌, [], ◌∷◌, ◌++◌, drop, replicate, flat_map, Option, Some, None, if◌then◌else◌}
-use Rattle.pf_values.specs.Canonical.{written}
+use Rattle.pf_values.specs.Canonical.{item_spelling}
 use Rattle.pf_values.specs.Text.{Text, space, zero_digit}
 use Rattle.pf_canon.specs.declared.due.Due.{Due}
 use Rattle.pf_canon.specs.declared.due.Silents.{Silents}
@@ -24,7 +24,7 @@ silent_rest at =
 -- some `%.0s`, the first of them from a place on
 abbrev pub silents_text : Silents → Text
 silents_text s =
-    if s.count == 0 then [] else silent_rest s.at ++ flat_map written (silents (s.count - 1))
+    if s.count == 0 then [] else silent_rest s.at ++ flat_map item_spelling (silents (s.count - 1))
 
 -- the spelling of a directive, but for the bytes that were given
 abbrev pub spelling_text : Spelled → Text

@@ -1,6 +1,6 @@
 //! What is left of a text behind its front.
 ghost use Rattle.std.specs.Prelude.{flat_map, replicate};
-ghost use Rattle.pf_values.specs.Canonical.{written};
+ghost use Rattle.pf_values.specs.Canonical.{item_spelling};
 ghost use Rattle.pf_canon.specs.Cutting.{IsCutOff};
 ghost use Rattle.pf_text.specs.Plain.{silents};
 ghost use Rattle.pf_canon.specs.Parts.{parts_text};
@@ -70,7 +70,7 @@ fn cut_repeated<'a>(byte: u8, count: u16, left: Option<&'a [u8]>) -> Option<&'a 
 }
 
 fn cut_silents<'a>(count: u64, left: Option<&'a [u8]>) -> Option<&'a [u8]>
-    ensures { IsCutOff left.entry (flat_map written (silents count)) result }
+    ensures { IsCutOff left.entry (flat_map item_spelling (silents count)) result }
 {
     let mut left = left;
     let mut more = count;

@@ -7,7 +7,7 @@ ghost use Rattle.pf_values.specs.DataModel.{arg_type};
 ghost use Rattle.pf_values.specs.Items.{Item, types};
 ghost use Rattle.pf_values.specs.declared.types.ArgType.TheVariants.{Str};
 ghost use Rattle.pf_compare.specs.Answers.{FindsProbe};
-ghost use Rattle.pf_compare.specs.Layouts.{AreLevel, FillAlike, FillUnlike, FindsUnlike, IsInside, IsLayoutOf, filled};
+ghost use Rattle.pf_compare.specs.Layouts.{AreLevel, FillAlike, FillUnlike, FindsUnlike, IsInside, IsLayoutOf, fill};
 
 use crate::candidate_rows::{owned_row, row_of};
 use crate::equality::are_equal;
@@ -170,7 +170,7 @@ fn tell_apart(
 // Whether this stands in a hole.
 fn stays(whole: &[u8], hole: &Hole, printed: &[u8]) -> bool
     requires { IsInside whole.now hole.now }
-    ensures { IsTrue result → filled whole.now hole.now printed.now ≡ whole.now }
+    ensures { IsTrue result → fill whole.now hole.now printed.now ≡ whole.now }
 {
     !are_unlike(&whole[hole.start..hole.end], printed)
 }
@@ -188,8 +188,8 @@ fn differ_filled(
     requires first { IsInside whole.now first.now }
     requires second { IsInside whole.now second.now }
     ensures { IfOk result (λ told. MatchBool told
-        (filled whole.now first.now x.now ≢ filled whole.now second.now y.now)
-        (filled whole.now first.now x.now ≡ filled whole.now second.now y.now)) }
+        (fill whole.now first.now x.now ≢ fill whole.now second.now y.now)
+        (fill whole.now first.now x.now ≡ fill whole.now second.now y.now)) }
 {
     let from = first.start.min(second.start);
     let to = first.end.max(second.end);

@@ -7,7 +7,7 @@ use Rattle.pf_values.specs.Normal.{IsNormal}
 use Rattle.pf_values.specs.Printing.{Prints}
 use Rattle.pf_values.specs.Specification.{Specification}
 use Rattle.pf_values.specs.Text.{Text}
-use Rattle.pf_values.proofs.PrintsOnce.{Prints-unique, printed, printed-is}
+use Rattle.pf_values.proofs.PrintsOnce.{Prints-unique, printed_text, printed-is}
 use Rattle.pf_reduce.specs.declared.results.Core.TheVariants.{Normal}
 use Rattle.pf_reduce.specs.declared.results.Reduced.{Reduced}
 use Rattle.pf_reduce.specs.Reducing.{IsReducedTo, PrintsReduced, around, core_of}
@@ -19,7 +19,7 @@ Carries s r = (argument : Argument) (inner : Text) → HasType argument (arg_typ
 pub prints_reduced : (s : Specification) (r : Reduced) → arg_type (core_of r.core) ≡ arg_type s → Carries s r → PrintsReduced s r
 prints_reduced s r e h argument out typed =
     let typed_core : HasType argument (arg_type (core_of r.core)) = subst (HasType argument) (sym e) typed in
-    let inner = printed (core_of r.core) argument in
+    let inner = printed_text (core_of r.core) argument in
     let inner_is = printed-is (core_of r.core) argument typed_core in
     let same = Prints-unique s argument (around r inner) typed (h argument inner typed inner_is) in (
       λ p. (inner, inner_is, Prints-unique s argument out typed p ∙ sym same),

@@ -37,8 +37,8 @@ use Rattle.pf_values.specs.Text.{Text}
 use Rattle.pf_values.proofs.PrintsOnce.{PrintsNumber-is, PrintsNumber-value, value_text}
 use Rattle.pf_reduce.specs.declared.padding.Padding.{Padding}
 use Rattle.pf_reduce.specs.declared.results.Reduced.{Reduced}
-use Rattle.pf_reduce.specs.Made.{made, made_core, sided}
-use Rattle.pf_reduce.specs.Padded.{constants, padded, padding_of}
+use Rattle.pf_reduce.specs.Made.{result_within, core_within, with_side}
+use Rattle.pf_reduce.specs.Padded.{constants, with_padding, padding_of}
 use Rattle.pf_reduce.specs.Reducing.{IsNormalCore, IsReducedTo, around, core_of}
 use Rattle.pf_reduce.proofs.Carried.{Carries, prints_reduced}
 
@@ -126,23 +126,23 @@ pub width_is : (w : ℕ) → unwrap_or (width_given (Some w)) 0 ≡ w
 width_is zero = refl
 width_is (suc w) = refl
 
-minus_is : (left : Bool) (flags : FlagSet) → has flags Minus ≡ false → has (sided left flags) Minus ≡ left
+minus_is : (left : Bool) (flags : FlagSet) → has flags Minus ≡ false → has (with_side left flags) Minus ≡ left
 minus_is true flags h = refl
 minus_is false flags h = h
 
 -- the field of a directive, and that of a core within its padding
-pub field-padded : (s : Specification) (body : Text) → field s body ≡ padded (padding_of s) body
+pub field-padded : (s : Specification) (body : Text) → field s body ≡ with_padding (padding_of s) body
 field-padded s body = sym (append-nil (field s body))
 
-pub padded-made : (s : Specification) (p : Padding) (flags : FlagSet) (precision : Option ℕ) (body : Text) → has flags Minus ≡ false → padded p body ≡ around (made s p flags precision) (field (made_core s p flags precision) body)
+pub padded-made : (s : Specification) (p : Padding) (flags : FlagSet) (precision : Option ℕ) (body : Text) → has flags Minus ≡ false → with_padding p body ≡ around (result_within s p flags precision) (field (core_within s p flags precision) body)
 padded-made s p flags precision body right = rw (minus_is p.left flags right, width_is p.width) refl
 
 -- A core made of parts prints the same values, within its padding.
-pub integer_reduced : (s : Specification) (p : Padding) (flags : FlagSet) (precision : Option ℕ) → is_text s.conv ≡ false → has flags Minus ≡ false → IsNormalCore (made s p flags precision).core → constants p ≤ MAX_NUMBER
-    → ((v : ℤ) → IsValueOf s v → padded (padding_of s) (value_text s v) ≡ padded p (value_text (made_core s p flags precision) v))
-    → IsReducedTo s (made s p flags precision)
+pub integer_reduced : (s : Specification) (p : Padding) (flags : FlagSet) (precision : Option ℕ) → is_text s.conv ≡ false → has flags Minus ≡ false → IsNormalCore (result_within s p flags precision).core → constants p ≤ MAX_NUMBER
+    → ((v : ℤ) → IsValueOf s v → with_padding (padding_of s) (value_text s v) ≡ with_padding p (value_text (core_within s p flags precision) v))
+    → IsReducedTo s (result_within s p flags precision)
 integer_reduced s p flags precision text right normal few same =
-    let r : Reduced = made s p flags precision in
+    let r : Reduced = result_within s p flags precision in
     let agree : (v : ℤ) → IsValueOf s v → field s (value_text s v) ≡ around r (field (core_of r.core) (value_text (core_of r.core) v)) =
     λ v fits. field-padded s _ ∙ same v fits ∙ padded-made s p flags precision _ right in
     record {

@@ -37,8 +37,8 @@ use Rattle.pf_values.proofs.NumberTexts.{length-zero_digits, number_text}
 use Rattle.pf_values.proofs.Printed.{count_of, natural_len, zero_digits}
 use Rattle.pf_values.proofs.PrintsOnce.{value_text}
 use Rattle.pf_reduce.specs.declared.padding.Padding.{Padding}
-use Rattle.pf_reduce.specs.Made.{made, made_core, sided, written}
-use Rattle.pf_reduce.specs.Padded.{IsUnseen, constants, padded, padding_of}
+use Rattle.pf_reduce.specs.Made.{result_within, core_within, with_side, kept_precision}
+use Rattle.pf_reduce.specs.Padded.{IsUnseen, constants, with_padding, padding_of}
 use Rattle.pf_reduce.specs.Reducing.{IsNormalCore, IsReducedTo}
 use Rattle.pf_reduce.proofs.CarriedIntegers.{integer_reduced, kept_kind, kept_sign}
 use Rattle.pf_reduce.proofs.Precisions.{alt_kept, core_text, effective}
@@ -92,22 +92,22 @@ pub same_digits : (c d : Conv) (precision n : ℕ) → kind_of c ≡ kind_of d
     → digits_text c precision n ≡ digits_text d precision n
 same_digits c d precision n e = rw e refl
 
-no_alt : (left : Bool) → has (sided left no_flags) Alt ≡ false
+no_alt : (left : Bool) → has (with_side left no_flags) Alt ≡ false
 no_alt true = refl
 no_alt false = refl
 
 -- Digits alone are left.
-pub digits_reduced : (s : Specification) (p : Padding) (precision : ℕ) → is_text s.conv ≡ false → is_signed s.conv ≡ false → IsNormalCore (made s p no_flags (written precision)).core → constants p ≤ MAX_NUMBER
-    → ((v : ℤ) → count_of (base_of s.conv) (nat_abs v) ≤ digits_at_most s → padded (padding_of s) (value_text s v) ≡ padded p (digits_text s.conv precision (nat_abs v)))
-    → IsReducedTo s (made s p no_flags (written precision))
+pub digits_reduced : (s : Specification) (p : Padding) (precision : ℕ) → is_text s.conv ≡ false → is_signed s.conv ≡ false → IsNormalCore (result_within s p no_flags (kept_precision precision)).core → constants p ≤ MAX_NUMBER
+    → ((v : ℤ) → count_of (base_of s.conv) (nat_abs v) ≤ digits_at_most s → with_padding (padding_of s) (value_text s v) ≡ with_padding p (digits_text s.conv precision (nat_abs v)))
+    → IsReducedTo s (result_within s p no_flags (kept_precision precision))
 digits_reduced s p precision text sign normal few same =
-    let t : Specification = made_core s p no_flags (written precision) in
+    let t : Specification = core_within s p no_flags (kept_precision precision) in
     let kept = kept_kind s.conv in
-    integer_reduced s p no_flags (written precision) text refl normal few (λ v fits.
+    integer_reduced s p no_flags (kept_precision precision) text refl normal few (λ v fits.
     let core : value_text t v ≡ digits_text s.conv precision (nat_abs v) =
     core_text s p no_flags precision v refl ∙ number_text-plain t precision v (kept_sign s.conv ∙ sign) (no_alt p.left)
     ∙ same_digits t.conv s.conv precision (nat_abs v) kept in
-    same v (count-le s.conv (bits_under s.length) text v fits) ∙ ap (padded p) (sym core))
+    same v (count-le s.conv (bits_under s.length) text v fits) ∙ ap (with_padding p) (sym core))
 
 -- what `u`, and `o x X` without `#`, print
 pub plain_value : (s : Specification) (v : ℤ) → is_signed s.conv ≡ false → has s.flags Alt ≡ false → value_text s v ≡ digits_text s.conv (effective_precision s 0) (nat_abs v)
@@ -175,14 +175,14 @@ pub octal_count : (s : Specification) → IsOctal s.conv → (n : ℕ)
 octal_count s e n h = subst (λ k. count_of (number_of (base_under k)) n ≤ digits_at_most s) e h
 
 -- the flag `#` stays
-pub octal_reduced : (s : Specification) (p : Padding) (precision : ℕ) → IsOctal s.conv → has s.flags Alt ≡ true → IsNormalCore (made s p (with_flag no_flags Alt) (written precision)).core → constants p ≤ MAX_NUMBER
-    → ((v : ℤ) → count_of 8 (nat_abs v) ≤ digits_at_most s → padded (padding_of s) (value_text s v) ≡ padded p (octal_text precision (nat_abs v)))
-    → IsReducedTo s (made s p (with_flag no_flags Alt) (written precision))
+pub octal_reduced : (s : Specification) (p : Padding) (precision : ℕ) → IsOctal s.conv → has s.flags Alt ≡ true → IsNormalCore (result_within s p (with_flag no_flags Alt) (kept_precision precision)).core → constants p ≤ MAX_NUMBER
+    → ((v : ℤ) → count_of 8 (nat_abs v) ≤ digits_at_most s → with_padding (padding_of s) (value_text s v) ≡ with_padding p (octal_text precision (nat_abs v)))
+    → IsReducedTo s (result_within s p (with_flag no_flags Alt) (kept_precision precision))
 octal_reduced s p precision e alt normal few same =
     let flags = with_flag no_flags Alt in
-    let t : Specification = made_core s p flags (written precision) in
+    let t : Specification = core_within s p flags (kept_precision precision) in
     let text : is_text s.conv ≡ false = ap prints_text e in
-    integer_reduced s p flags (written precision) text refl normal few (λ v fits.
+    integer_reduced s p flags (kept_precision precision) text refl normal few (λ v fits.
     let core : value_text t v ≡ octal_text precision (nat_abs v) =
     core_text s p flags precision v refl ∙ number_text-octal t precision v (kept_kind s.conv ∙ e) (alt_kept p.left) in
-    same v (octal_count s e (nat_abs v) (count-le s.conv (bits_under s.length) text v fits)) ∙ ap (padded p) (sym core))
+    same v (octal_count s e (nat_abs v) (count-le s.conv (bits_under s.length) text v fits)) ∙ ap (with_padding p) (sym core))

@@ -13,7 +13,7 @@ use Rattle.pf_values.proofs.NumberTexts.{number_text, value_text-is, value_text-
 use Rattle.pf_values.proofs.Printed.{count_of, filled_precision, natural_of, precision_under, zero_digits}
 use Rattle.pf_values.proofs.PrintsOnce.{value_text}
 use Rattle.pf_reduce.specs.declared.padding.Padding.{Padding}
-use Rattle.pf_reduce.specs.Made.{made_core, sided, written}
+use Rattle.pf_reduce.specs.Made.{core_within, with_side, kept_precision}
 
 -- what the flag `0` makes of the width: as many zeros, where the sign or prefix has the length
 filled_max : (w f sign natural : ℕ) → (f ≡ sign) ⊎ (w ≤ 1) → max (filled_precision w f natural) natural ≡ max (max (w - sign) 1) natural
@@ -29,18 +29,18 @@ effective_under false s v sign h = refl
 pub effective : (s : Specification) (v : ℤ) (sign : ℕ) → (is_zero_filled s ≡ true → (length (sign_or_prefix s v) ≡ sign) ⊎ (width_of s ≤ 1)) → value_text s v ≡ number_text s (effective_precision s sign) v
 effective s v sign h = value_text-is s v ∙ effective_under (is_zero_filled s) s v sign h
 
-pub written_is : (p : ℕ) → unwrap_or (written p) 1 ≡ p
+pub written_is : (p : ℕ) → unwrap_or (kept_precision p) 1 ≡ p
 written_is zero = refl
 written_is (suc zero) = refl
 written_is (suc (suc p)) = refl
 
-unfilled : (left : Bool) (flags : FlagSet) (b : Bool) → has flags Zero ≡ false → (has (sided left flags) Zero && not (has (sided left flags) Minus) && b) ≡ false
+unfilled : (left : Bool) (flags : FlagSet) (b : Bool) → has flags Zero ≡ false → (has (with_side left flags) Zero && not (has (with_side left flags) Minus) && b) ≡ false
 unfilled true flags b h = rw h refl
 unfilled false flags b h = rw h refl
 
-pub core_text : (s : Specification) (p : Padding) (flags : FlagSet) (precision : ℕ) (v : ℤ) → has flags Zero ≡ false → let t : Specification = made_core s p flags (written precision) in value_text t v ≡ number_text t precision v
+pub core_text : (s : Specification) (p : Padding) (flags : FlagSet) (precision : ℕ) (v : ℤ) → has flags Zero ≡ false → let t : Specification = core_within s p flags (kept_precision precision) in value_text t v ≡ number_text t precision v
 core_text s p flags precision v h =
-    let t : Specification = made_core s p flags (written precision) in
+    let t : Specification = core_within s p flags (kept_precision precision) in
     value_text-unfilled t v (unfilled p.left flags _ h) ∙ ap (λ k. number_text t k v) (written_is precision)
 
 -- one base, and one sign or prefix
@@ -73,6 +73,6 @@ right_of false true c h = cc
 pub filled_right : (s : Specification) → is_zero_filled s ≡ true → has s.flags Minus ≡ false
 filled_right s h = right_of (has s.flags Zero) (has s.flags Minus) _ h
 
-pub alt_kept : (left : Bool) → has (sided left (with_flag no_flags Alt)) Alt ≡ true
+pub alt_kept : (left : Bool) → has (with_side left (with_flag no_flags Alt)) Alt ≡ true
 alt_kept true = refl
 alt_kept false = refl

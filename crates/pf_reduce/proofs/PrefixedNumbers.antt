@@ -41,8 +41,8 @@ use Rattle.pf_values.proofs.NumberTexts.{number_text}
 use Rattle.pf_values.proofs.Printed.{count_of, zero_digits}
 use Rattle.pf_values.proofs.PrintsOnce.{value_text}
 use Rattle.pf_reduce.specs.declared.padding.Padding.{Padding}
-use Rattle.pf_reduce.specs.Made.{made, made_core, written}
-use Rattle.pf_reduce.specs.Padded.{IsUnseen, constants, padded, padding_of}
+use Rattle.pf_reduce.specs.Made.{result_within, core_within, kept_precision}
+use Rattle.pf_reduce.specs.Padded.{IsUnseen, constants, with_padding, padding_of}
 use Rattle.pf_reduce.specs.Reducing.{IsNormalCore, IsReducedTo}
 use Rattle.pf_reduce.proofs.CarriedIntegers.{integer_reduced, kept_kind, width_is}
 use Rattle.pf_reduce.proofs.PlainNumbers.{digits_text, length-digits_text, natural_is}
@@ -144,29 +144,29 @@ module _ (s : Specification) (form : is_prefixed s.conv ≡ true) (alt : has s.f
       ap (λ k. sign_or_prefix s v ++ zero_digits (base_of s.conv) (is_upper s.conv) k (nat_abs v))
       (omega arith)
 
-  pub prefixed_reduced : (p : Padding) (precision : ℕ) → (is_zero_filled s ≡ true → (1 ≤ 0) ⊎ (width_of s ≤ 1)) → precision ≡ effective_precision s 0 → IsNormalCore (made s p (with_flag no_flags Alt) (written precision)).core → constants p ≤ MAX_NUMBER
-      → ((body : Text) → IsPrefixed precision (digits_at_most s) body → padded (padding_of s) body ≡ padded p body)
-      → IsReducedTo s (made s p (with_flag no_flags Alt) (written precision))
+  pub prefixed_reduced : (p : Padding) (precision : ℕ) → (is_zero_filled s ≡ true → (1 ≤ 0) ⊎ (width_of s ≤ 1)) → precision ≡ effective_precision s 0 → IsNormalCore (result_within s p (with_flag no_flags Alt) (kept_precision precision)).core → constants p ≤ MAX_NUMBER
+      → ((body : Text) → IsPrefixed precision (digits_at_most s) body → with_padding (padding_of s) body ≡ with_padding p body)
+      → IsReducedTo s (result_within s p (with_flag no_flags Alt) (kept_precision precision))
   prefixed_reduced p precision narrow p_is normal few same =
       let flags : FlagSet = with_flag no_flags Alt in
-      let t : Specification = made_core s p flags (written precision) in
+      let t : Specification = core_within s p flags (kept_precision precision) in
       let h = has_prefix in
-      integer_reduced s p flags (written precision) h.text refl normal few (λ v fits.
+      integer_reduced s p flags (kept_precision precision) h.text refl normal few (λ v fits.
       let body = number_text s precision v in
       let whole : value_text s v ≡ body = effective s v 0 (λ filled. inr (narrow_of (width_of s) (narrow filled))) ∙ ap (λ k. number_text s k v) (sym p_is) in
       let core : value_text t v ≡ body = core_text s p flags precision v refl ∙ same_number s t precision v (like t v refl (alt_kept p.left)) in
       let is : IsPrefixed precision (digits_at_most s) body = rw (number_text-prefixed precision v) (prefixed s.conv precision _ (nat_abs v) (sign_or_prefix s v) h.base (count-le s.conv (bits_under s.length) h.text v fits) (h.prefix s v alt)) in
-      ap (padded (padding_of s)) whole ∙ same body is ∙ ap (padded p) (sym core))
+      ap (with_padding (padding_of s)) whole ∙ same body is ∙ ap (with_padding p) (sym core))
 
   -- zeros up to the width, which stay
-  pub prefixed_filled : is_zero_filled s ≡ true → (let flags = with_flag (with_flag no_flags Alt) Zero in IsNormalCore (made s (padding_of s) flags None).core → IsReducedTo s (made s (padding_of s) flags None))
+  pub prefixed_filled : is_zero_filled s ≡ true → (let flags = with_flag (with_flag no_flags Alt) Zero in IsNormalCore (result_within s (padding_of s) flags None).core → IsReducedTo s (result_within s (padding_of s) flags None))
   prefixed_filled all normal =
       let flags : FlagSet = with_flag (with_flag no_flags Alt) Zero in
-      let t : Specification = made_core s (padding_of s) flags None in
+      let t : Specification = core_within s (padding_of s) flags None in
       let right = filled_right s all in
       let h = has_prefix in
       integer_reduced s (padding_of s) flags None h.text refl normal (omega arith) (λ v fits.
-      ap (padded (padding_of s)) (sym (same_filled s t v (like t v refl (rw right refl)) (width_is (width_of s)) all (rw right refl))))
+      ap (with_padding (padding_of s)) (sym (same_filled s t v (like t v refl (rw right refl)) (width_is (width_of s)) all (rw right refl))))
 
 -- with precision 0 the side isn't seen up to a width of 3
 pub unseen_side : (w most precision : ℕ) (body : Text) → (precision ≡ 0 → most ≡ 3) → (1 ≤ precision → most ≡ 0) → (precision ≡ 0 → (body ≡ []) ⊎ (3 ≤ length body)) → w ≤ most → IsUnseen w body

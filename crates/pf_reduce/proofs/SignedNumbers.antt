@@ -41,8 +41,8 @@ use Rattle.pf_values.proofs.PrintsOnce.{value_text}
 use Rattle.pf_reduce.specs.declared.padding.Padding.{Padding}
 use Rattle.pf_reduce.specs.declared.signs.Sign.{Sign}
 use Rattle.pf_reduce.specs.declared.signs.Sign.TheVariants as signs
-use Rattle.pf_reduce.specs.Made.{made, made_core, sided, written}
-use Rattle.pf_reduce.specs.Padded.{IsUnseen, constants, padded, padding_of}
+use Rattle.pf_reduce.specs.Made.{result_within, core_within, with_side, kept_precision}
+use Rattle.pf_reduce.specs.Padded.{IsUnseen, constants, with_padding, padding_of}
 use Rattle.pf_reduce.specs.Reducing.{IsNormalCore, IsReducedTo}
 use Rattle.pf_reduce.specs.Signs.{sign_flags, sign_length, sign_of, sign_text}
 use Rattle.pf_reduce.proofs.CarriedIntegers.{integer_reduced, kept_kind, kept_sign, width_is}
@@ -114,7 +114,7 @@ zeros_by_precision s v signed (inr narrow) = inr narrow
 signed_value : (s : Specification) (v : ℤ) → is_signed s.conv ≡ true → (is_zero_filled s ≡ true → (1 ≤ sign_length (sign_of s.flags)) ⊎ (width_of s ≤ 1)) → value_text s v ≡ signed_text (sign_of s.flags) (effective_precision s (sign_length (sign_of s.flags))) v
 signed_value s v signed h = effective s v _ (λ filled. zeros_by_precision s v signed (h filled)) ∙ number_text-signed s _ v signed
 
-sign_kept : (left : Bool) (sign : Sign) → sign_of (sided left (sign_flags sign)) ≡ sign
+sign_kept : (left : Bool) (sign : Sign) → sign_of (with_side left (sign_flags sign)) ≡ sign
 sign_kept true signs.None = refl
 sign_kept true signs.Plus = refl
 sign_kept true signs.Space = refl
@@ -134,26 +134,26 @@ no_sign signs.Space h = absurd (omega arith)
 
 module _ (s : Specification) (signed : is_signed s.conv ≡ true) where
   pub signed_reduced : (p : Padding) (sign : Sign) (precision : ℕ) → (is_zero_filled s ≡ true → (1 ≤ sign_length (sign_of s.flags)) ⊎ (width_of s ≤ 1)) → precision ≡ effective_precision s (sign_length (sign_of s.flags))
-      → IsNormalCore (made s p (sign_flags sign) (written precision)).core → constants p ≤ MAX_NUMBER
-      → ((v : ℤ) → count_of 10 (nat_abs v) ≤ digits_at_most s → padded (padding_of s) (signed_text (sign_of s.flags) precision v) ≡ padded p (signed_text sign precision v))
-      → IsReducedTo s (made s p (sign_flags sign) (written precision))
+      → IsNormalCore (result_within s p (sign_flags sign) (kept_precision precision)).core → constants p ≤ MAX_NUMBER
+      → ((v : ℤ) → count_of 10 (nat_abs v) ≤ digits_at_most s → with_padding (padding_of s) (signed_text (sign_of s.flags) precision v) ≡ with_padding p (signed_text sign precision v))
+      → IsReducedTo s (result_within s p (sign_flags sign) (kept_precision precision))
   signed_reduced p sign precision narrow p_is normal few same =
-      let t : Specification = made_core s p (sign_flags sign) (written precision) in
+      let t : Specification = core_within s p (sign_flags sign) (kept_precision precision) in
       let k = signed_kind (kind_of s.conv) signed in
       let text : is_text s.conv ≡ false = ap prints_text k in
       let flags = no_other_flag sign in
-      integer_reduced s p (sign_flags sign) (written precision) text flags.1 normal few (λ v fits.
+      integer_reduced s p (sign_flags sign) (kept_precision precision) text flags.1 normal few (λ v fits.
       let core : value_text t v ≡ signed_text sign precision v =
       core_text s p (sign_flags sign) precision v flags.0 ∙ number_text-signed t precision v (kept_sign s.conv ∙ signed) ∙ ap (λ u. signed_text u precision v) (sign_kept p.left sign) in
       let count : count_of 10 (nat_abs v) ≤ digits_at_most s =
       subst (λ k. count_of (number_of (base_under k)) (nat_abs v) ≤ digits_at_most s) k (count-le s.conv (bits_under s.length) text v fits) in
-      ap (padded (padding_of s)) (signed_value s v signed narrow ∙ ap (λ k. signed_text (sign_of s.flags) k v) (sym p_is)) ∙ same v count ∙ ap (padded p) (sym core))
+      ap (with_padding (padding_of s)) (signed_value s v signed narrow ∙ ap (λ k. signed_text (sign_of s.flags) k v) (sym p_is)) ∙ same v count ∙ ap (with_padding p) (sym core))
 
   -- zeros up to the width, which stay
-  pub signed_filled : is_zero_filled s ≡ true → sign_length (sign_of s.flags) ≡ 0 → (let flags = with_flag no_flags Zero in IsNormalCore (made s (padding_of s) flags None).core → IsReducedTo s (made s (padding_of s) flags None))
+  pub signed_filled : is_zero_filled s ≡ true → sign_length (sign_of s.flags) ≡ 0 → (let flags = with_flag no_flags Zero in IsNormalCore (result_within s (padding_of s) flags None).core → IsReducedTo s (result_within s (padding_of s) flags None))
   signed_filled all none normal =
       let flags : FlagSet = with_flag no_flags Zero in
-      let t : Specification = made_core s (padding_of s) flags None in
+      let t : Specification = core_within s (padding_of s) flags None in
       let right = filled_right s all in
       let text : is_text s.conv ≡ false = ap prints_text (signed_kind (kind_of s.conv) signed) in
       let same = kept_kind s.conv in
@@ -165,7 +165,7 @@ module _ (s : Specification) (signed : is_signed s.conv ≡ true) where
       let natural : natural_of t (nat_abs v) ≡ natural_of s (nat_abs v) =
       natural_signed t (nat_abs v) signed_core ∙ ap (λ b. count_of b (nat_abs v)) base ∙ sym (natural_signed s (nat_abs v) signed) in
       let like : PrintsLike s t v = record { base = base; upper = ap has_capitals same; natural = natural; front = front } in
-      ap (padded (padding_of s)) (sym (same_filled s t v like (width_is (width_of s)) all (rw right refl))))
+      ap (with_padding (padding_of s)) (sym (same_filled s t v like (width_is (width_of s)) all (rw right refl))))
 
 sign_lengths : (sign : Sign) (negative : Bool) → (sign_length sign ≤ length (sign_text sign negative)) × (length (sign_text sign negative) ≤ 1)
 sign_lengths signs.None true = (omega arith, omega arith)

@@ -5,31 +5,31 @@ use Rattle.pf_values.specs.declared.flags.FlagSet.{FlagSet}
 use Rattle.pf_values.specs.Conversions.{kept_conv}
 use Rattle.pf_values.specs.DataModel.{kept_length}
 use Rattle.pf_values.specs.Flags.{with_flag}
-use Rattle.pf_values.specs.Specification.{Specification, given}
+use Rattle.pf_values.specs.Specification.{Specification, specification_of}
 use Rattle.pf_reduce.specs.declared.padding.Padding.{Padding}
 use Rattle.pf_reduce.specs.declared.results.Core.TheVariants.{Normal}
 use Rattle.pf_reduce.specs.declared.results.Reduced.{Reduced}
 
 -- a precision of 1 is none (C11 7.21.6.1 p8)
-abbrev pub written : ℕ → Option ℕ
-written (suc zero) = None
-written precision = Some precision
+abbrev pub kept_precision : ℕ → Option ℕ
+kept_precision (suc zero) = None
+kept_precision precision = Some precision
 
 -- `-` for a body at the left of its field (C11 7.21.6.1 p6)
-abbrev pub sided : Bool → FlagSet → FlagSet
-sided left flags = if left then with_flag flags Minus else flags
+abbrev pub with_side : Bool → FlagSet → FlagSet
+with_side left flags = if left then with_flag flags Minus else flags
 
 -- a directive with another width, other flags and another precision, and its letters as they are
 -- kept
-abbrev pub made_core : Specification → Padding → FlagSet → Option ℕ → Specification
-made_core s p flags precision =
-    given (sided p.left flags) (Some p.width) precision (kept_length s.length) (kept_conv s.conv)
+abbrev pub core_within : Specification → Padding → FlagSet → Option ℕ → Specification
+core_within s p flags precision =
+    specification_of (with_side p.left flags) (Some p.width) precision (kept_length s.length) (kept_conv s.conv)
 
 -- such a directive as a core, within the padding that is constant
-abbrev pub made : Specification → Padding → FlagSet → Option ℕ → Reduced
-made s p flags precision = record {
+abbrev pub result_within : Specification → Padding → FlagSet → Option ℕ → Reduced
+result_within s p flags precision = record {
   spaces = p.spaces;
   zeros = p.zeros;
-  core = Normal (made_core s p flags precision);
+  core = Normal (core_within s p flags precision);
   trail = p.trail;
 }

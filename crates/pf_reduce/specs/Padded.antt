@@ -8,8 +8,8 @@ use Rattle.pf_values.specs.Text.{Text, space, zero_digit}
 use Rattle.pf_reduce.specs.declared.padding.Padding.{Padding}
 
 -- spaces, zeros, the body in its field, and spaces
-abbrev pub padded : Padding → Text → Text
-padded p body =
+abbrev pub with_padding : Padding → Text → Text
+with_padding p body =
     replicate p.spaces space
     ++ (replicate p.zeros zero_digit ++ (field_of p.left p.width body ++ replicate p.trail space))
 

@@ -16,12 +16,12 @@ ghost use Rattle.pf_values.specs.Printing.{is_zero_filled};
 ghost use Rattle.pf_values.specs.Specification.{width_of};
 ghost use Rattle.pf_values.specs.Text.{Text};
 ghost use Rattle.pf_reduce.specs.declared.signs.Sign.TheVariants as signs;
-ghost use Rattle.pf_reduce.specs.Made.{made, written};
-ghost use Rattle.pf_reduce.specs.Padded.{padded};
+ghost use Rattle.pf_reduce.specs.Made.{result_within, kept_precision};
+ghost use Rattle.pf_reduce.specs.Padded.{with_padding};
 ghost use Rattle.pf_reduce.specs.Reducing.{IsNormalCore, IsReducedTo};
 ghost use Rattle.pf_reduce.specs.Signs.{sign_flags, sign_length, sign_text};
 
-use crate::normal_directives::{within, written};
+use crate::normal_directives::{within, kept_precision};
 use crate::numbers::{max_digits, width};
 use crate::padding::Padding;
 use crate::results::Reduced;
@@ -77,7 +77,7 @@ fn reduce_octal(directive: &Directive) -> Reduced
     if padding.has_spaces_before() {
         // they come before the first 0, which the core has to print
         let alt = FlagSet::empty().with(Flag::Alt);
-        return within(padding, directive, alt, written(precision));
+        return within(padding, directive, alt, kept_precision(precision));
     }
     let zeros = 1 + (precision - 1).saturating_sub(digits);
     let padding = padding.past_zeros(zeros).right_up_to(1);
@@ -132,10 +132,10 @@ fn plain_core(padding: Padding, directive: &Directive, precision: u16) -> Reduce
     requires room { 0 < padding.width
         → (precision < padding.width) × (padding.width ≤ digits_at_most directive.now) }
     requires wide { IsTrue padding.left → 1 < padding.width }
-    ensures value { result ≡ made directive.now padding no_flags (written precision) }
+    ensures value { result ≡ result_within directive.now padding no_flags (kept_precision precision) }
     ensures normal { IsNormalCore result.core }
 {
-    within(padding, directive, FlagSet::empty(), written(precision))
+    within(padding, directive, FlagSet::empty(), kept_precision(precision))
 }
 
 // Digits after a prefix, not filled with zeros.
@@ -147,11 +147,11 @@ fn prefixed_core(padding: Padding, directive: &Directive, precision: u16) -> Red
     requires left { padding.left ≡ true
         → (0 < padding.width) × (precision ≡ 0 → 3 < padding.width) }
     ensures value { result
-        ≡ made directive.now padding (with_flag no_flags Alt) (written precision) }
+        ≡ result_within directive.now padding (with_flag no_flags Alt) (kept_precision precision) }
     ensures normal { IsNormalCore result.core }
 {
     let alt = FlagSet::empty().with(Flag::Alt);
-    within(padding, directive, alt, written(precision))
+    within(padding, directive, alt, kept_precision(precision))
 }
 
 // Digits after a sign, not filled with zeros.
@@ -167,10 +167,10 @@ fn signed_core(padding: Padding, directive: &Directive, sign: Sign, precision: u
         → padding.width ≢ 1 + max precision (digits_at_most directive.now) }
     requires left { padding.left ≡ true → (0 < padding.width)
         × (sign ≢ signs.Plus → precision ≡ 0 → sign_length sign + 1 < padding.width) }
-    ensures value { result ≡ made directive.now padding (sign_flags sign) (written precision) }
+    ensures value { result ≡ result_within directive.now padding (sign_flags sign) (kept_precision precision) }
     ensures normal { IsNormalCore result.core }
 {
-    within(padding, directive, sign.flags(), written(precision))
+    within(padding, directive, sign.flags(), kept_precision(precision))
 }
 
 // Whether the zeros up to the width stay a matter of the width. Beside a sign, which each number
@@ -190,8 +190,8 @@ fn keeps_zeros(directive: &Directive, sign: u16) -> bool
 fn sign_in_field(sign: Sign, padding: Padding, precision: u16, digits: u16) -> Sign
     requires { max precision digits ≤ MAX_NUMBER }
     ensures same { (negative : Bool) (number : Text) → length number ≤ max precision digits
-        → padded padding (sign_text sign negative ++ number)
-        ≡ padded padding (sign_text result negative ++ number) }
+        → with_padding padding (sign_text sign negative ++ number)
+        ≡ with_padding padding (sign_text result negative ++ number) }
     ensures space { padding.left ≡ false → padding.width ≡ 1 + max precision digits
         → result ≡ signs.Space → digits ≤ precision }
     ensures none { padding.left ≡ false → padding.width ≡ 1 + max precision digits

@@ -2,23 +2,23 @@
 ghost use Rattle.std.specs.Prelude.{◌≡◌};
 ghost use Rattle.pf_values.specs.Defined.{IsDefined};
 ghost use Rattle.pf_values.specs.Normal.{IsNormal};
-ghost use Rattle.pf_values.specs.Specification.{given};
-ghost use Rattle.pf_reduce.specs.Made.{made, made_core, written};
+ghost use Rattle.pf_values.specs.Specification.{specification_of};
+ghost use Rattle.pf_reduce.specs.Made.{result_within, core_within, kept_precision};
 ghost use Rattle.pf_reduce.specs.Reducing.{IsNormalCore};
 
 use crate::padding::Padding;
 use crate::results::{Core, Normal, Reduced};
 use pf_values::{Conv, Directive, Flag, FlagSet, Length};
 
-fn defined(
+fn new_directive(
     flags: FlagSet,
     width: u16,
     precision: Option<u16>,
     length: Length,
     conv: Conv,
 ) -> Directive
-    requires { IsDefined (given flags (Some width) precision length conv) }
-    ensures { result ≡ given flags (Some width) precision length conv }
+    requires { IsDefined (specification_of flags (Some width) precision length conv) }
+    ensures { result ≡ specification_of flags (Some width) precision length conv }
 {
     match Directive::new(flags, Some(width), precision, length, conv) {
         Ok(directive) => directive,
@@ -33,8 +33,8 @@ pub(crate) fn within(
     flags: FlagSet,
     precision: Option<u16>,
 ) -> Reduced
-    requires { IsNormal (made_core directive.now padding flags precision) }
-    ensures value { result ≡ made directive.now padding flags precision }
+    requires { IsNormal (core_within directive.now padding flags precision) }
+    ensures value { result ≡ result_within directive.now padding flags precision }
     ensures normal { IsNormalCore result.core }
 {
     let flags = if padding.left {
@@ -44,7 +44,7 @@ pub(crate) fn within(
     };
     let length = directive.length().representative();
     let conv = directive.conv().representative();
-    let core = defined(flags, padding.width, precision, length, conv);
+    let core = new_directive(flags, padding.width, precision, length, conv);
     Reduced {
         spaces: padding.spaces,
         zeros: padding.zeros,
@@ -54,8 +54,8 @@ pub(crate) fn within(
 }
 
 /// A precision of 1 is none.
-pub(crate) fn written(precision: u16) -> Option<u16>
-    ensures { result ≡ written precision }
+pub(crate) fn kept_precision(precision: u16) -> Option<u16>
+    ensures { result ≡ kept_precision precision }
 {
     match precision {
         1 => None,

@@ -18,7 +18,7 @@ pub(crate) struct Padding {
 }
 
 impl Padding {
-    ghost use Rattle.pf_reduce.specs.Padded.{IsUnseen, constants, padded, padding_of};
+    ghost use Rattle.pf_reduce.specs.Padded.{IsUnseen, constants, with_padding, padding_of};
 
     /// As the directive says.
     pub(crate) fn of(directive: &Directive) -> Padding
@@ -38,7 +38,7 @@ impl Padding {
     /// Where at most so many bytes are printed, the spaces beyond them are constant.
     pub(crate) fn cut(self, most: u16) -> Padding
         requires { (self.spaces ≡ 0) × (self.zeros ≡ 0) × (self.trail ≡ 0) }
-        ensures same { (body : Text) → length body ≤ most → padded self body ≡ padded result body }
+        ensures same { (body : Text) → length body ≤ most → with_padding self body ≡ with_padding result body }
         ensures constant { constants result ≡ self.width - most }
         ensures left { result.left ≡ self.left }
         ensures width { result.width ≡ min self.width most }
@@ -62,7 +62,7 @@ impl Padding {
 
     /// Where at least so many bytes are printed, a width of no more is none.
     pub(crate) fn without_idle_width(self, least: u16) -> Padding
-        ensures same { (body : Text) → least ≤ length body → padded self body ≡ padded result body }
+        ensures same { (body : Text) → least ≤ length body → with_padding self body ≡ with_padding result body }
         ensures constant { constants result ≡ constants self }
         ensures left { result.left ≡ self.left }
         ensures idle { self.width ≤ least → result.width ≡ 0 }
@@ -87,7 +87,7 @@ impl Padding {
         requires apart { (self.left ≡ true) ⊎ (self.width ≡ 0) ⊎ (count ≡ 0) }
         requires room { constants self + count < 2 ^ 16 }
         ensures same { (body : Text)
-            → padded self (replicate count zero_digit ++ body) ≡ padded result body }
+            → with_padding self (replicate count zero_digit ++ body) ≡ with_padding result body }
         ensures constant { constants result ≡ constants self + count }
         ensures left { result.left ≡ self.left }
         ensures width { result.width ≡ self.width - count }
@@ -102,7 +102,7 @@ impl Padding {
     /// On the right up to a width whose side isn't seen.
     pub(crate) fn right_up_to(self, most: u16) -> Padding
         ensures same { (body : Text) → (self.width ≤ most → IsUnseen self.width body)
-            → padded self body ≡ padded result body }
+            → with_padding self body ≡ with_padding result body }
         ensures constant { constants result ≡ constants self }
         ensures width { result.width ≡ self.width }
         ensures wide { IsTrue result.left → IsTrue self.left × (most < self.width) }

@@ -11,7 +11,7 @@ fn with_digit(number: Option<u16>, digit: u8) -> Option<u16> {
 }
 
 // The directive that a text spells, in which `_` stands for a space.
-fn parsed(rt: &impl Abort, text: &str) -> Directive {
+fn parse(rt: &impl Abort, text: &str) -> Directive {
     let mut flags = FlagSet::empty();
     let mut width = None;
     let mut precision = None;
@@ -136,11 +136,11 @@ fn directive_of(core: Core) -> Option<Directive> {
 
 fn check_row(rt: &impl Abort, row: Row) {
     let (given, spaces, zeros, core, trail) = row;
-    let reduced = reduce(&parsed(rt, given));
+    let reduced = reduce(&parse(rt, given));
     assert_eq!(rt; reduced.spaces, spaces, "{given}");
     assert_eq!(rt; reduced.zeros, zeros, "{given}");
-    let found = directive_of(reduced.core).unwrap_or(parsed(rt, "%.0s"));
-    assert_eq!(rt; found, parsed(rt, core), "{given}");
+    let found = directive_of(reduced.core).unwrap_or(parse(rt, "%.0s"));
+    assert_eq!(rt; found, parse(rt, core), "{given}");
     assert_eq!(rt; reduced.trail, trail, "{given}");
 }
 
@@ -173,9 +173,9 @@ fn nothing_is_silent_but_a_string_of_no_bytes(rt: HostRuntime) {
         ("%.1s", false),
         ("%.0d", false),
     ] {
-        let reduced = reduce(&parsed(&rt, text));
+        let reduced = reduce(&parse(&rt, text));
         assert_eq!(rt; directive_of(reduced.core).is_none(), silent, "{text}");
-        assert!(rt; !silent || !is_normal(&parsed(&rt, text)), "{text}");
+        assert!(rt; !silent || !is_normal(&parse(&rt, text)), "{text}");
     }
 }
 
@@ -188,6 +188,6 @@ fn reduced_char(width: u16) -> Result<(u16, Option<Directive>), RefusalKind> {
 
 #[test]
 fn a_caller_gets_the_spaces_and_the_core(rt: HostRuntime) {
-    assert_eq!(rt; reduced_char(5), Ok((4, Some(parsed(&rt, "%c")))));
+    assert_eq!(rt; reduced_char(5), Ok((4, Some(parse(&rt, "%c")))));
     assert_eq!(rt; reduced_char(4096), Err(RefusalKind::WidthTooLarge));
 }

@@ -1,10 +1,10 @@
 //! Characters and strings.
 ghost use Rattle.std.specs.Prelude.{◌≡◌, ◌≤◌, ◌+◌, IfSome, Some};
 ghost use Rattle.pf_values.specs.declared.conversions.Conv.TheVariants.{C, S};
-ghost use Rattle.pf_values.specs.Printing.{shown};
+ghost use Rattle.pf_values.specs.Printing.{printed_front};
 ghost use Rattle.pf_values.specs.Specification.{width_of};
 ghost use Rattle.pf_values.specs.Text.{Text};
-ghost use Rattle.pf_reduce.specs.Padded.{constants, padded};
+ghost use Rattle.pf_reduce.specs.Padded.{constants, with_padding};
 ghost use Rattle.pf_reduce.specs.Reducing.{IsReducedTo};
 
 use crate::normal_directives::within;
@@ -54,7 +54,7 @@ pub(crate) fn reduce_string(directive: &Directive) -> Reduced
 fn cut_string(padding: Padding, precision: Option<u16>) -> Padding
     requires { (padding.spaces ≡ 0) × (padding.zeros ≡ 0) × (padding.trail ≡ 0) }
     ensures same { (bytes : Text)
-        → padded padding (shown precision bytes) ≡ padded result (shown precision bytes) }
+        → with_padding padding (printed_front precision bytes) ≡ with_padding result (printed_front precision bytes) }
     ensures constant { constants result ≤ padding.width }
     ensures narrower { result.width ≤ padding.width }
     ensures width { IfSome precision (λ most. result.width ≤ most) }

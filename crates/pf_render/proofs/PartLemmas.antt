@@ -8,31 +8,31 @@ use Rattle.pf_values.specs.declared.counting.Counted.{Counted}
 use Rattle.pf_values.specs.Counting.{Known, WritesAll, WritesFirst}
 use Rattle.pf_values.specs.Text.{Text}
 use Rattle.pf_values.proofs.WriteLemmas.{WritesFirst-more}
-use Rattle.pf_render.specs.Parts.{joined}
+use Rattle.pf_render.specs.Parts.{join}
 
 module _ (parts : List (Bor (List ℕ))) (i : ℕ) (blank : Bor (List ℕ)) (is_one : i < length parts) where
   abbrev before : Text
-  before = joined (take i parts)
+  before = join (take i parts)
 
   abbrev part : Text
   part = (slice_index_or parts i blank).now
 
   abbrev rest : Text
-  rest = joined (drop (i + 1) parts)
+  rest = join (drop (i + 1) parts)
 
-  joined-split : joined parts ≡ before ++ (part ++ rest)
+  joined-split : join parts ≡ before ++ (part ++ rest)
   joined-split =
       let one = slice_index_or parts i blank in
       let split : take i parts ++ (one ∷ drop (i + 1) parts) ≡ parts = ap (λ t. take i parts ++ t) (sym (drop_more parts i blank is_one)) ∙ take-append-drop i parts in
-      ap joined (sym split) ∙ flat_map-append (λ p. p.now) (take i parts) (one ∷ drop (i + 1) parts)
+      ap join (sym split) ∙ flat_map-append (λ p. p.now) (take i parts) (one ∷ drop (i + 1) parts)
 
   -- what went out before a part, with that part or some of it, is no more than the whole
-  pub part-within : (written n : ℕ) → written ≡ length before → n ≤ length part → written + n ≤ length (joined parts)
+  pub part-within : (written n : ℕ) → written ≡ length before → n ≤ length part → written + n ≤ length (join parts)
   part-within written n e h = omega (arith, length-flat_map-take (λ p. p.now) parts i blank is_one)
 
   -- the parts before one went out, and then the first bytes of that one
   pub part-stopped : {W : Type 0} (contents : W → Known) (old mid new : Counted W) (written n : ℕ) → written ≡ length before → WritesAll contents old mid before → WritesFirst contents mid new part n → n < length part
-      → WritesFirst contents old new (joined parts) (written + n) × (written + n < length (joined parts))
+      → WritesFirst contents old new (join parts) (written + n) × (written + n < length (join parts))
   part-stopped contents old mid new written n e h g few = (
     rw (joined-split, e) (WritesFirst-more contents old mid new before part rest n h g),
     omega (arith, length-flat_map-take (λ p. p.now) parts i blank is_one),

@@ -8,7 +8,7 @@ use Rattle.pf_values.specs.Arg.{argument_of}
 use Rattle.pf_values.specs.Arguments.{Number, String, IsConverted}
 use Rattle.pf_values.specs.Conversions.{kind_of}
 use Rattle.pf_values.specs.DataModel.{B8, bit_count}
-use Rattle.pf_values.specs.Printing.{Prints, PrintsKind, field, shown}
+use Rattle.pf_values.specs.Printing.{Prints, PrintsKind, field, printed_front}
 use Rattle.pf_values.specs.Specification.{Specification}
 use Rattle.pf_values.specs.Text.{Text}
 
@@ -19,7 +19,7 @@ Prints-char s n byte e h =
     (byte ∷ [], prints, refl)
 
 pub Prints-string : (s : Specification) (bytes text : Text) → kind_of s.conv ≡ kinds.String
-    → text ≡ shown s.precision bytes → Prints s (String bytes) (field s text)
+    → text ≡ printed_front s.precision bytes → Prints s (String bytes) (field s text)
 Prints-string s bytes text e h =
     (text, subst (λ k. PrintsKind k s (String bytes) text) (sym e) h, refl)
 

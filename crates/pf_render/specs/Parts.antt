@@ -4,5 +4,5 @@ use Rattle.std.specs.Borrow.{Bor}
 use Rattle.pf_values.specs.Text.{Text}
 
 -- the text of the parts, one after another
-abbrev pub joined : List (Bor (List ℕ)) → Text
-joined parts = flat_map (λ part. part.now) parts
+abbrev pub join : List (Bor (List ℕ)) → Text
+join parts = flat_map (λ part. part.now) parts

@@ -1,7 +1,7 @@
 //! Fields: texts with spaces up to a width.
 ghost use Rattle.std.specs.Prelude.{◌≡◌, ◌+◌, ◌++◌, ◌<◌, ◌^◌, length};
 ghost use Rattle.pf_render.specs.Counts.{WritesCounted};
-ghost use Rattle.pf_render.specs.Parts.{joined};
+ghost use Rattle.pf_render.specs.Parts.{join};
 ghost use Rattle.pf_values.specs.Printing.{field};
 
 use crate::blocks::spaces;
@@ -33,8 +33,8 @@ pub(crate) fn write_field<'a, W: Write>(
 
 // Writes the parts, one after another.
 fn write_parts<W: Write>(parts: &[&[u8]], writer: &mut Counted<W>) -> Result<usize, ShortWrite>
-    requires { length (joined parts.now) < 2 ^ 64 }
-    ensures { WritesCounted W.contents writer.old writer.new (joined parts.now) result }
+    requires { length (join parts.now) < 2 ^ 64 }
+    ensures { WritesCounted W.contents writer.old writer.new (join parts.now) result }
 {
     let mut written = 0;
     for part in parts {

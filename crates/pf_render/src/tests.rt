@@ -61,7 +61,7 @@ fn write_number<W: Write>(
 }
 
 // What is printed of the number; nothing but a `Vec` without room makes it fail.
-fn printed(alloc: Global, format: &str, number: i128) -> Result<Option<Vec<u8>>, AllocError> {
+fn print_of(alloc: Global, format: &str, number: i128) -> Result<Option<Vec<u8>>, AllocError> {
     let mut out = Vec::new(alloc);
     out.reserve(8192)?;
     let mut writer = Counted::new(out);
@@ -73,7 +73,7 @@ fn printed(alloc: Global, format: &str, number: i128) -> Result<Option<Vec<u8>>,
 
 // Whether the directive prints this of the number.
 fn prints(alloc: Global, format: &str, number: i128, text: &str) -> Result<bool, AllocError> {
-    let out = printed(alloc, format, number)?;
+    let out = print_of(alloc, format, number)?;
     Ok(out.as_deref() == Some(text.as_bytes()))
 }
 
@@ -106,7 +106,7 @@ fn arguments(
 }
 
 // What a format prints into a writer and into memory, where that is the same.
-fn rendered(alloc: Global, format: &[u8], args: &[Arg<'_>]) -> Result<Option<Vec<u8>>, AllocError> {
+fn rendering_of(alloc: Global, format: &[u8], args: &[Arg<'_>]) -> Result<Option<Vec<u8>>, AllocError> {
     let mut out = Vec::new(alloc);
     out.reserve(1 << 20)?;
     let mut writer = Counted::new(out);
@@ -130,6 +130,6 @@ fn renders(
     let Some(args) = arguments(alloc, format.as_bytes(), words)? else {
         return Ok(false);
     };
-    let out = rendered(alloc, format.as_bytes(), args.as_slice())?;
+    let out = rendering_of(alloc, format.as_bytes(), args.as_slice())?;
     Ok(out.as_deref() == Some(text.as_bytes()))
 }

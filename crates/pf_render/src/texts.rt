@@ -3,7 +3,7 @@ ghost use Rattle.std.specs.Prelude.{◌≡◌};
 ghost use Rattle.pf_values.specs.declared.conversions.Kind.TheVariants as kinds;
 ghost use Rattle.pf_values.specs.Arguments.{Number, String};
 ghost use Rattle.pf_values.specs.Conversions.{kind_of};
-ghost use Rattle.pf_values.specs.Printing.{Prints, shown};
+ghost use Rattle.pf_values.specs.Printing.{Prints, printed_front};
 ghost use Rattle.pf_values.specs.Text.{Text};
 ghost use Rattle.pf_render.specs.Counts.{WritesCounted};
 
@@ -35,12 +35,12 @@ pub(crate) fn write_string<W: Write>(
     ensures { (out : Text) × Prints directive.now (String bytes.now) out
         × WritesCounted W.contents writer.old writer.new out result }
 {
-    write_field(directive, b"", b"", shown(directive, bytes), writer)
+    write_field(directive, b"", b"", printed_front(directive, bytes), writer)
 }
 
 // The bytes of a string up to the precision.
-fn shown<'a>(directive: &Directive, bytes: &'a [u8]) -> &'a [u8]
-    ensures { result.now ≡ shown directive.now.precision bytes.now }
+fn printed_front<'a>(directive: &Directive, bytes: &'a [u8]) -> &'a [u8]
+    ensures { result.now ≡ printed_front directive.now.precision bytes.now }
 {
     match directive.precision() {
         Some(most) => &bytes[..usize::from(most).min(bytes.len())],

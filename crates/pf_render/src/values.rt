@@ -33,36 +33,36 @@ impl Value {
         ensures { IsValue directive.now number result }
     {
         match directive.conv().kind() {
-            Kind::Signed => Value::signed(directive.bits(), number),
-            _ => Value::unsigned(directive.bits(), number),
+            Kind::Signed => Value::of_signed(directive.bits(), number),
+            _ => Value::of_unsigned(directive.bits(), number),
         }
     }
 
-    fn signed(bits: u8, number: i128) -> Value
+    fn of_signed(bits: u8, number: i128) -> Value
         requires { (b : Bits) × (bits ≡ bit_count b) }
         ensures { IsConverted true bits number result }
     {
         match bits {
-            8 => Value::converted::<i8>(number),
-            16 => Value::converted::<i16>(number),
-            32 => Value::converted::<i32>(number),
-            _ => Value::converted::<i64>(number),
+            8 => Value::of_kind::<i8>(number),
+            16 => Value::of_kind::<i16>(number),
+            32 => Value::of_kind::<i32>(number),
+            _ => Value::of_kind::<i64>(number),
         }
     }
 
-    fn unsigned(bits: u8, number: i128) -> Value
+    fn of_unsigned(bits: u8, number: i128) -> Value
         requires { (b : Bits) × (bits ≡ bit_count b) }
         ensures { IsConverted false bits number result }
     {
         match bits {
-            8 => Value::converted::<u8>(number),
-            16 => Value::converted::<u16>(number),
-            32 => Value::converted::<u32>(number),
-            _ => Value::converted::<u64>(number),
+            8 => Value::of_kind::<u8>(number),
+            16 => Value::of_kind::<u16>(number),
+            32 => Value::of_kind::<u32>(number),
+            _ => Value::of_kind::<u64>(number),
         }
     }
 
-    fn converted<V: ValueKind>(number: i128) -> Value
+    fn of_kind<V: ValueKind>(number: i128) -> Value
         ensures { IsConverted V.is_signed (bit_count V.bits) number result }
     {
         let value = V::of(number);

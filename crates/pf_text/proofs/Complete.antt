@@ -27,7 +27,7 @@ use Rattle.pf_values.proofs.Numerals.{number_after-place_sum}
 use Rattle.pf_text.specs.Stages.{State}
 use Rattle.pf_text.specs.Stages.{Between, Opened, Flags, Width, Point, Precision, Modifier}
 use Rattle.pf_text.specs.Letters.{flag_of, modifier_of, conv_of}
-use Rattle.pf_text.specs.States.{next, is_digit, after_flags, after_number, inside, ending, judged_as}
+use Rattle.pf_text.specs.States.{next, is_digit, after_flags, after_number, inside, end_at, judged_as}
 use Rattle.pf_text.specs.Fronts.{IsFront, IsAt}
 use Rattle.pf_text.proofs.Runs.{Progress, moved, run, run-append}
 
@@ -206,7 +206,7 @@ letter_tests UpperX = record { modifier = refl; no_float = refl; no_h = refl; no
 letter_tests C = record { modifier = refl; no_float = refl; no_h = refl; no_l = refl; high = omega arith; conv_is = refl }
 letter_tests S = record { modifier = refl; no_float = refl; no_h = refl; no_l = refl; high = omega arith; conv_is = refl }
 
-ending_at_conv : (set : FlagSet) (width precision : Option ℕ) (length : Length) (conv : Conv) → ending set width precision length (conv_letter conv) ≡ judged_as set width precision length conv
+ending_at_conv : (set : FlagSet) (width precision : Option ℕ) (length : Length) (conv : Conv) → end_at set width precision length (conv_letter conv) ≡ judged_as set width precision length conv
 ending_at_conv set width precision length conv = let tests = letter_tests conv in rw tests.conv_is refl
 
 after_number_at_conv : (set : FlagSet) (width precision : Option ℕ) (conv : Conv) → after_number set width precision (conv_letter conv) ≡ judged_as set width precision lengths.None conv

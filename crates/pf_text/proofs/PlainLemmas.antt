@@ -14,14 +14,14 @@ use Rattle.pf_values.specs.declared.conversions.Conv.{Conv}
 use Rattle.pf_values.specs.declared.conversions.Conv.TheVariants.{D, I, U, O, X, UpperX, C, S}
 use Rattle.pf_values.specs.declared.lengths.Length.TheVariants as lengths
 use Rattle.pf_values.specs.declared.limits.TheConstants.{MAX_TEXT_LEN}
-use Rattle.pf_values.specs.Canonical.{written}
+use Rattle.pf_values.specs.Canonical.{item_spelling}
 use Rattle.pf_values.specs.Conversions.{conv_letter, kept_conv, kind_of}
 use Rattle.pf_values.specs.Defined.{IsDefined, refused_as}
 use Rattle.pf_values.specs.Flags.{no_flags}
 use Rattle.pf_values.specs.Items.{Item, Byte, Directive, IsReadAs, Reads}
 use Rattle.pf_values.specs.Normal.{HasNormalForm, IsNormal, IsNormalPlain, IsNormalSigned, IsNormalString, digits_at_most, silent}
 use Rattle.pf_values.specs.Specification.{Specification}
-use Rattle.pf_values.specs.Spelling.{spelled}
+use Rattle.pf_values.specs.Spelling.{spelling_of}
 use Rattle.pf_values.specs.Text.{Text, percent}
 use Rattle.pf_text.specs.History.{EndsRun, IsAfter, IsLiteral}
 use Rattle.pf_text.specs.Letters.{conv_of}
@@ -33,12 +33,12 @@ use Rattle.pf_text.proofs.Texts.{Reads-push}
 use Rattle.pf_text.proofs.Sound.{byte_of_conv}
 
 -- a byte that is written as it is
-plain_written : (byte : ℕ) → IsLiteral byte → written (Byte byte) ≡ byte ∷ []
+plain_written : (byte : ℕ) → IsLiteral byte → item_spelling (Byte byte) ≡ byte ∷ []
 plain_written byte h = let other = h.0 in grind (arith, nat_tests)
 
-pub literal_written : (bytes : Text) → AllByRecursion IsLiteral bytes → flat_map written (map Byte bytes) ≡ bytes
+pub literal_written : (bytes : Text) → AllByRecursion IsLiteral bytes → flat_map item_spelling (map Byte bytes) ≡ bytes
 literal_written [] h = refl
-literal_written (byte ∷ bytes) h = ap (λ t. t ++ flat_map written (map Byte bytes)) (plain_written byte h.0) ∙ ap (λ t. byte ∷ t) (literal_written bytes h.1)
+literal_written (byte ∷ bytes) h = ap (λ t. t ++ flat_map item_spelling (map Byte bytes)) (plain_written byte h.0) ∙ ap (λ t. byte ∷ t) (literal_written bytes h.1)
 
 literals_some : (bytes : Text) → AllByRecursion IsLiteral bytes → AllByRecursion IsPlain (map Byte bytes)
 literals_some [] h = tt
@@ -121,7 +121,7 @@ all_append [] b h g = g
 all_append (item ∷ a) b h g = (h.0, all_append a b h.1 g)
 
 pub plain_append : (t u : Text) (a b : List Item) → IsPlainText t a → IsPlainText u b → IsPlainText (t ++ u) (a ++ b)
-plain_append t u a b h g = record { plain = all_append a b h.plain g.plain; whole = ap₂ (λ (x y : Text). x ++ y) h.whole g.whole ∙ sym (flat_map-append written a b) }
+plain_append t u a b h g = record { plain = all_append a b h.plain g.plain; whole = ap₂ (λ (x y : Text). x ++ y) h.whole g.whole ∙ sym (flat_map-append item_spelling a b) }
 
 -- more bytes of a text are such items
 pub plain_more : (text : Text) (at more : ℕ) (a b : List Item) → IsPlainText (take at text) a → IsPlainText (take more (drop at text)) b → IsPlainText (take (at + more) text) (a ++ b)
@@ -131,16 +131,16 @@ is_read_byte : (byte : ℕ) (b : Bool) → byte ≢ 0 → MatchBool b ((if b the
 is_read_byte byte true some = refl
 is_read_byte byte false some = (some, refl)
 
-pub byte_read : (byte : ℕ) → byte ≢ 0 → IsReadAs (written (Byte byte)) (Byte byte)
+pub byte_read : (byte : ℕ) → byte ≢ 0 → IsReadAs (item_spelling (Byte byte)) (Byte byte)
 byte_read byte some = is_read_byte byte (byte == percent) some
 
-read_plain : (item : Item) → IsPlain item → IsReadAs (written item) item
+read_plain : (item : Item) → IsPlain item → IsReadAs (item_spelling item) item
 read_plain (Byte byte) h = byte_read byte h
 read_plain (Directive s) h = (spelled_read s h.defined, h.defined)
 
-all_read : (items : List Item) → AllByRecursion IsPlain items → Reads (flat_map written items) items
+all_read : (items : List Item) → AllByRecursion IsPlain items → Reads (flat_map item_spelling items) items
 all_read [] h = refl
-all_read (item ∷ items) h = (written item, flat_map written items, read_plain item h.0, all_read items h.1, refl)
+all_read (item ∷ items) h = (item_spelling item, flat_map item_spelling items, read_plain item h.0, all_read items h.1, refl)
 
 -- a text of items behind another
 pub Reads-append : (t u : Text) (a b : List Item) → Reads t a → Reads u b → Reads (t ++ u) (a ++ b)
@@ -221,15 +221,15 @@ module _ (scanner : Scanner) (t text : Text) (items : List Item) (n most room : 
         (read_passed more now, now)
 
 -- `%.0s`
-silent_read : IsReadAs (spelled silent) (Directive silent)
+silent_read : IsReadAs (spelling_of silent) (Directive silent)
 silent_read = let defined : IsDefined silent = record { width = λ e. cc; allowed = refl } in (spelled_read silent defined, defined)
 
 -- once more
-pub silents_more : (text : Text) (at count : ℕ) → at ≡ 4 * count → Reads (take at text) (silents count) → take 4 (drop at text) ≡ spelled silent → Reads (take (at + 4) text) (silents (count + 1))
+pub silents_more : (text : Text) (at count : ℕ) → at ≡ 4 * count → Reads (take at text) (silents count) → take 4 (drop at text) ≡ spelling_of silent → Reads (take (at + 4) text) (silents (count + 1))
 silents_more text at count e reads here =
-    rw (take-add at 4 text, here, ← replicate-append-replicate count 1 (Directive silent)) (Reads-push (silents count) (take at text) (spelled silent) (Directive silent) reads silent_read)
+    rw (take-add at 4 text, here, ← replicate-append-replicate count 1 (Directive silent)) (Reads-push (silents count) (take at text) (spelling_of silent) (Directive silent) reads silent_read)
 
-pub spelled_silent : spelled silent ≡ 37 ∷ 46 ∷ 48 ∷ 115 ∷ []
+pub spelled_silent : spelling_of silent ≡ 37 ∷ 46 ∷ 48 ∷ 115 ∷ []
 unfolding digits
 spelled_silent = refl
 

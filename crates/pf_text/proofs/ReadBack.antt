@@ -15,7 +15,7 @@ use Rattle.pf_values.specs.Defined.{IsDefined, is_above_limit}
 use Rattle.pf_values.specs.Digits.{AreDigits, AreLeastDigits}
 use Rattle.pf_values.specs.Flags.{all_flags, flag_set, has, with_flag}
 use Rattle.pf_values.specs.Specification.{Specification}
-use Rattle.pf_values.specs.Spelling.{Spells, SpellsPrecision, SpellsWidth, precision_spelled, spelled, width_spelled}
+use Rattle.pf_values.specs.Spelling.{Spells, SpellsPrecision, SpellsWidth, precision_spelled, spelling_of, width_spelled}
 use Rattle.pf_values.proofs.Numerals.{place_sum-digits_of}
 use Rattle.pf_text.proofs.Complete.{fits_le}
 use Rattle.pf_text.proofs.Texts.{within}
@@ -90,7 +90,7 @@ precision_read (Some zero) few = (0 ∷ [], record { below = (omega arith, tt); 
 precision_read (Some (suc n)) few =
     (digits_of 10 (suc n), digits_are (suc n), ap (λ t. 46 ∷ t) (decimal_is (suc n) (omega arith) (omega (arith, fits_le (suc n) few))))
 
-pub spelled_read : (s : Specification) → IsDefined s → Spells (spelled s) s
+pub spelled_read : (s : Specification) → IsDefined s → Spells (spelling_of s) s
 spelled_read s defined =
     let few = within s defined.allowed in
     record {

@@ -30,7 +30,7 @@ use Rattle.pf_text.specs.Stages.{State}
 use Rattle.pf_text.specs.Stages.{Between, Opened, Flags, Width, Point, Precision, Modifier}
 use Rattle.pf_text.specs.Fronts.{IsAt}
 use Rattle.pf_text.specs.Letters.{modifier_of, conv_of, refused_letter}
-use Rattle.pf_text.specs.States.{Next, next, after_number, ending, judged}
+use Rattle.pf_text.specs.States.{Next, next, after_number, end_at, judgement_of}
 use Rattle.pf_text.proofs.Complete.{On, at_flags, at_width, at_point, next-at_flags, digit_is, first_above_zero, run-flags, run-width, run-point, first_width, first_precision, more_width, more_precision, point_step, letter_at_point, run-at, no_test, no_digit, no_high_flag, large}
 use Rattle.pf_text.proofs.Runs.{moved, run, run-append, run-refused, front-ok}
 use Rattle.pf_text.proofs.Sound.{given_same}
@@ -179,7 +179,7 @@ module _ (kind : RefusalKind) (byte : ℕ) (h : IsBad kind byte) where
   bad_number : (set : FlagSet) (width precision : Option ℕ) → after_number set width precision byte ≡ Err (refused_letter byte)
   bad_number set width precision = rw (h.modifier, h.float, h.conv) refl
 
-  bad_end : (set : FlagSet) (width precision : Option ℕ) (length : Length) → ending set width precision length byte ≡ Err (refused_letter byte)
+  bad_end : (set : FlagSet) (width precision : Option ℕ) (length : Length) → end_at set width precision length byte ≡ Err (refused_letter byte)
   bad_end set width precision length = rw (h.conv) refl
 
   not_h : (byte == 104) ≡ false
@@ -278,7 +278,7 @@ module _ (state : State) (part : Text) (byte : ℕ) (k : RefusalKind) (at : IsAt
       let given = given_same spells.width s.width spells.width_is in
       let g : Option ℕ → Specification = λ w. record { flags = s.flags; width = w; precision = s.precision; length = s.length; conv = s.conv } in
       let skipped : refused_as s ≡ first_broken undefined_kinds s = rw (width, precision) refl in
-      let all : run start (part ++ byte ∷ []) ≡ Err kind = run_it ∙ ap (λ w. moved [] (judged (g w) (refused_as (g w)))) given.0 ∙ ap (λ o. moved [] (judged s o)) (skipped ∙ h.2) in
+      let all : run start (part ++ byte ∷ []) ≡ Err kind = run_it ∙ ap (λ w. moved [] (judgement_of (g w) (refused_as (g w)))) given.0 ∙ ap (λ o. moved [] (judgement_of s o)) (skipped ∙ h.2) in
       cc (all, refused)
 
   of_width : (n : ℕ) → MAX_NUMBER < n → IsToWidth (part ++ byte ∷ []) (Some n) → WidthTooLarge ≡ k

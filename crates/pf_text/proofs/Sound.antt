@@ -33,7 +33,7 @@ use Rattle.pf_text.specs.Stages.{Between, Opened, Flags, Width, Point, Precision
 use Rattle.pf_text.specs.Fronts.{IsFront, IsAt}
 use Rattle.pf_text.specs.History.{IsLiteral}
 use Rattle.pf_text.specs.Letters.{flag_of, modifier_of, conv_of, refused_letter}
-use Rattle.pf_text.specs.States.{Next, next, is_digit, after_flags, flagged, after_number, modified, ending, ended, judged, judged_as, widened, made_precise, after_modifier}
+use Rattle.pf_text.specs.States.{Next, next, is_digit, after_flags, flag_or_after, after_number, modifier_or_end, end_at, end_by, judgement_of, judged_as, width_with, precision_with, after_modifier}
 use Rattle.pf_text.proofs.Complete.{first_above_zero}
 
 -- what a step says of the part that the byte goes on with
@@ -211,9 +211,9 @@ module _ (part : Text) (byte : ℕ) where
       (choose_kind (byte == 112) _ _ (λ e. inl (0, omega arith, is_byte 112 e)) (choose_kind (byte == 110) _ _ (λ e. inl (0, omega arith, is_byte 110 e))
       (choose_kind (byte == 67) _ _ (λ e. inl (0, omega arith, is_byte 67 e)) (choose_kind (byte == 83) _ _ (λ e. inl (1, omega arith, is_byte 83 e)) tt)))))))))))))
 
-  judge_spelled : (s : Specification) → Spells (part ++ byte ∷ []) s → s.width ≢ Some 0 → is_above_limit s.width ≡ false → is_above_limit s.precision ≡ false → Judges part byte (judged s (refused_as s))
+  judge_spelled : (s : Specification) → Spells (part ++ byte ∷ []) s → s.width ≢ Some 0 → is_above_limit s.width ≡ false → is_above_limit s.precision ≡ false → Judges part byte (judgement_of s (refused_as s))
   judge_spelled s spells some w p = go (refused_as s) refl where
-    go : (o : Option RefusalKind) → refused_as s ≡ o → Judges part byte (judged s o)
+    go : (o : Option RefusalKind) → refused_as s ≡ o → Judges part byte (judgement_of s o)
     go None e = (refl, (spells, record { width = some; allowed = e }))
     go (Some kind) e =
         let skipped : refused_as s ≡ first_broken undefined_kinds s = rw (w, p) refl in
@@ -235,11 +235,11 @@ module _ (part : Text) (byte : ℕ) where
           precision_is = h.precision_is;
           whole = ap (λ t. t ++ byte ∷ []) h.whole ∙ ap (λ b. 37 ∷ map flag_byte h.flags ++ h.width_text ++ h.precision_text ++ length_letters length ++ b ∷ []) letter;
         } in
-        subst (λ w. Judges part byte (judged (s w) (refused_as (s w)))) (sym same.0) (judge_spelled (s width) spells same.1 h.width_fits h.precision_fits)
+        subst (λ w. Judges part byte (judgement_of (s w) (refused_as (s w)))) (sym same.0) (judge_spelled (s width) spells same.1 h.width_fits h.precision_fits)
 
-    judge_ending : Judges part byte (ending set width precision length byte)
+    judge_ending : Judges part byte (end_at set width precision length byte)
     judge_ending = go (conv_of byte) refl where
-      go : (o : Option Conv) → conv_of byte ≡ o → Judges part byte (ended set width precision length byte o)
+      go : (o : Option Conv) → conv_of byte ≡ o → Judges part byte (end_by set width precision length byte o)
       go None e = reason_letter
       go (Some conv) e = judge_conv conv e
 
@@ -260,7 +260,7 @@ module _ (part : Text) (byte : ℕ) where
 
     judge_after_number : Judges part byte (after_number set width precision byte)
     judge_after_number = go (modifier_of byte) refl where
-      go : (o : Option Length) → modifier_of byte ≡ o → Judges part byte (modified set width precision byte o)
+      go : (o : Option Length) → modifier_of byte ≡ o → Judges part byte (modifier_or_end set width precision byte o)
       go (Some length) e = let letter = letter_of byte length e in (with_modifier length letter.0, letter.1)
       go None e = choose (byte == 76) _ _ (λ b. inr (eqb-true byte 76 b, (precision, to_precision h))) (λ _. judge_ending set width precision lengths.None h)
 
@@ -317,7 +317,7 @@ module _ (part : Text) (byte : ℕ) where
 
     judge_after_flags : Judges part byte (after_flags set byte)
     judge_after_flags = go (flag_of byte) refl where
-      go : (o : Option Flag) → flag_of byte ≡ o → Judges part byte (flagged set byte o)
+      go : (o : Option Flag) → flag_of byte ≡ o → Judges part byte (flag_or_after set byte o)
       go (Some flag) e = with_another_flag flag e
       go None e =
           choose (is_digit byte) _ _ (λ d. with_first_digit d (no_flag_zero byte e d)) (λ _. choose (byte == 46) _ _ (with_point set None h)
@@ -327,7 +327,7 @@ module _ (part : Text) (byte : ℕ) where
     longer_width : part ++ byte ∷ [] ≡ flags_text h.flags ++ (h.width_text ++ byte ∷ [])
     longer_width = ap (λ t. t ++ byte ∷ []) (whole_width h) ∙ append_assoc (flags_text h.flags) h.width_text (byte ∷ [])
 
-    judge_widened : is_digit byte ≡ true → Judges part byte (widened set n (byte - 48))
+    judge_widened : is_digit byte ≡ true → Judges part byte (width_with set n (byte - 48))
     judge_widened d =
         choose (nat_lt MAX_NUMBER (10 * n + (byte - 48))) _ _
         (λ e. let above : MAX_NUMBER < 10 * n + (byte - 48) = grind (arith, nat_tests) in (
@@ -354,7 +354,7 @@ module _ (part : Text) (byte : ℕ) where
     no_point : h.precision_text ++ byte ∷ [] ≢ 46 ∷ []
     no_point e = omega (arith, ap length e, length_push h.precision_text byte, ap length h.precision_is.2)
 
-    judge_made_precise : is_digit byte ≡ true → Judges part byte (made_precise set width n (byte - 48))
+    judge_made_precise : is_digit byte ≡ true → Judges part byte (precision_with set width n (byte - 48))
     judge_made_precise d =
         choose (nat_lt MAX_NUMBER (10 * n + (byte - 48))) _ _
         (λ e. let above : MAX_NUMBER < 10 * n + (byte - 48) = grind (arith, nat_tests) in (

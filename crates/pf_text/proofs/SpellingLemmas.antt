@@ -21,7 +21,7 @@ use Rattle.pf_values.specs.Defined.{IsDefined, breaks, first_broken, is_above_li
 use Rattle.pf_values.specs.Flags.{all_flags, flag_byte, has}
 use Rattle.pf_values.specs.Lengths.{length_letters}
 use Rattle.pf_values.specs.Specification.{Specification}
-use Rattle.pf_values.specs.Spelling.{flags_spelled, precision_spelled, spelled, width_spelled}
+use Rattle.pf_values.specs.Spelling.{flags_spelled, precision_spelled, spelling_of, width_spelled}
 use Rattle.pf_values.specs.Text.{Text}
 use Rattle.pf_text.specs.Letters.{flags_kept}
 use Rattle.pf_text.proofs.Complete.{fits_le}
@@ -115,7 +115,7 @@ length-flags_spelled set missing =
     ]
 
 -- the longest spelling
-pub length-spelled : (s : Specification) → IsDefined s → length (spelled s) ≤ 18
+pub length-spelled : (s : Specification) → IsDefined s → length (spelling_of s) ≤ 18
 length-spelled s defined =
     let none = not_broken (WidthTooLarge ∷ PrecisionTooLarge ∷ undefined_kinds) s defined.allowed in
     let flags = length-flags_spelled s.flags (one_missing s.conv s.flags.alt s.flags.group none.1.1.1.0 none.1.1.1.1.1.0) in

@@ -23,7 +23,7 @@ use Rattle.pf_text.specs.Stages.{State}
 use Rattle.pf_text.specs.Stages.{Between, Opened, Flags, Width, Point, Precision, Modifier}
 use Rattle.pf_text.specs.Fronts.{IsFront, IsAt}
 use Rattle.pf_text.specs.History.{Says, with_step}
-use Rattle.pf_text.specs.States.{judged, judged_as}
+use Rattle.pf_text.specs.States.{judgement_of, judged_as}
 use Rattle.pf_text.proofs.Complete.{On, run-front, conv_at_front, run-at, at_front}
 use Rattle.pf_text.proofs.Runs.{Progress, moved, run, run-append, front-ok}
 use Rattle.pf_text.proofs.Sound.{LeadsTo}
@@ -82,8 +82,8 @@ run-directive items t s h defined =
     let same = given_width s.width defined.width in
     let g : Option ℕ → Specification = λ w. record { flags = s.flags; width = w; precision = s.precision; length = s.length; conv = s.conv } in
     run-ended items t s (IsEnded-spelled t s h (within s defined.allowed))
-    ∙ ap (λ w. moved items (judged (g w) (refused_as (g w)))) same
-    ∙ ap (λ o. moved items (judged s o)) defined.allowed
+    ∙ ap (λ w. moved items (judgement_of (g w) (refused_as (g w)))) same
+    ∙ ap (λ o. moved items (judgement_of s o)) defined.allowed
 
 run-byte : (items : List Item) (t : Text) (byte : ℕ) (b : Bool) → (byte == 37) ≡ b → MatchBool b (t ≡ 37 ∷ 37 ∷ []) ((byte ≢ 0) × (t ≡ byte ∷ [])) → run (On items Between) t ≡ On (items ++ Byte byte ∷ []) Between
 run-byte items t byte true e h = ap (run (On items Between)) h ∙ ap (λ k. On (items ++ Byte k ∷ []) Between) (sym (eqb-true byte 37 e))

@@ -2,10 +2,10 @@
 use Rattle.std.specs.Prelude.{◌≡◌, ◌≢◌, ℕ, ◌+◌, ◌<◌, ◌≤◌, List, ◌++◌, ◌*◌, length, take, drop, replicate, flat_map}
 use Rattle.std.specs.List.{AllByRecursion}
 use Rattle.pf_values.specs.declared.limits.TheConstants.{MAX_TEXT_LEN}
-use Rattle.pf_values.specs.Canonical.{written}
+use Rattle.pf_values.specs.Canonical.{item_spelling}
 use Rattle.pf_values.specs.Items.{Item, Byte, Directive, Reads}
 use Rattle.pf_values.specs.Normal.{IsNormal, silent}
-use Rattle.pf_values.specs.Spelling.{spelled}
+use Rattle.pf_values.specs.Spelling.{spelling_of}
 use Rattle.pf_values.specs.Text.{Text}
 use Rattle.pf_text.specs.declared.scanner.Scanner.{Scanner}
 use Rattle.pf_text.specs.History.{EndsRun, IsAfter}
@@ -22,7 +22,7 @@ IsPlain (Directive s) = IsNormal s
 -- such items, each written in the one way
 pub record IsPlainText (t : Text) (items : List Item) : Type 0 where
   pub plain : AllByRecursion IsPlain items
-  pub whole : t ≡ flat_map written items
+  pub whole : t ≡ flat_map item_spelling items
 
 -- after a text that is read, such items at the front of what follows were taken, and no literal
 -- byte follows
@@ -36,7 +36,7 @@ pub record PassesPlain (t : Text) (items : List Item) (following : Text) (len : 
 
 -- `%.0s` begins a text
 abbrev pub BeginsSilent : Text → Type 0
-BeginsSilent t = (4 ≤ length t) × (take 4 t ≡ spelled silent)
+BeginsSilent t = (4 ≤ length t) × (take 4 t ≡ spelling_of silent)
 
 -- after a text that is read, so many `%.0s` at the front of what follows were taken, and no more
 -- could be

@@ -6,7 +6,7 @@ ghost use Rattle.pf_values.specs.Defined.{IsDefined};
 ghost use Rattle.pf_values.specs.Items.{Item, Reads};
 ghost use Rattle.pf_values.specs.Refusals.{IsRefusedAt};
 ghost use Rattle.pf_values.specs.Specification.{Specification};
-ghost use Rattle.pf_values.specs.Spelling.{Spells, spelled};
+ghost use Rattle.pf_values.specs.Spelling.{Spells, spelling_of};
 ghost use Rattle.pf_values.specs.Text.{Text};
 
 /// A text has at most one list of items.
@@ -23,5 +23,5 @@ pub fn refused_once()
 
 /// The spelling of a defined specification is read back as it.
 pub fn spelled_is_read()
-    ensures { (s : Specification) → IsDefined s → Spells (spelled s) s }
+    ensures { (s : Specification) → IsDefined s → Spells (spelling_of s) s }
 {}

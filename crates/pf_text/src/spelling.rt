@@ -3,7 +3,7 @@ ghost use Rattle.std.specs.Prelude.{◌≡◌, ◌≤◌, ◌<◌, ◌+◌, ◌+
 ghost use Rattle.arrayvec.specs.ArrayVec.{array_vec_len};
 ghost use Rattle.pf_values.specs.Defined.{is_above_limit};
 ghost use Rattle.pf_values.specs.Lengths.{length_letters};
-ghost use Rattle.pf_values.specs.Spelling.{flags_spelled, precision_spelled, spelled, width_spelled};
+ghost use Rattle.pf_values.specs.Spelling.{flags_spelled, precision_spelled, spelling_of, width_spelled};
 ghost use Rattle.pf_text.specs.Letters.{flags_kept};
 
 use crate::letters::{conv_letter, flag_byte, length_letters};
@@ -17,7 +17,7 @@ pub type Spelling = ArrayVec<u8, 20>;
 /// numbers without zeros in front. A precision of 0 is `.0`. One of the longest is `%-+
 /// 0'4095.4095lld`.
 pub fn spell(directive: &Directive) -> Spelling
-    ensures bytes { result.items ≡ spelled directive.now }
+    ensures bytes { result.items ≡ spelling_of directive.now }
     ensures short { array_vec_len result ≤ 18 }
 {
     let mut out = ArrayVec::new();

@@ -3,7 +3,7 @@ ghost use Rattle.std.specs.Prelude.{◌≡◌, ◌<◌, ◌↔◌, ℕ, IsTrue, 
 ghost use Rattle.pf_text.specs.declared.scanner.Step.TheVariants as steps;
 ghost use Rattle.pf_text.specs.Moves.{judged_parts, next_by};
 ghost use Rattle.pf_text.specs.Stages.{Between, state_of};
-ghost use Rattle.pf_text.specs.States.{next, after_flags, after_modifier, after_number, ending, widened, made_precise};
+ghost use Rattle.pf_text.specs.States.{next, after_flags, after_modifier, after_number, end_at, width_with, precision_with};
 
 use crate::letters::{conv_of, flag_of, modifier_of, refused_letter};
 use pf_values::limits::MAX_NUMBER;
@@ -104,7 +104,7 @@ impl Automaton {
             },
             Phase::Flags => self.after_flags(byte),
             Phase::Width => match byte {
-                b'0'..=b'9' => self.widened(byte - b'0'),
+                b'0'..=b'9' => self.width_with(byte - b'0'),
                 b'.' => {
                     self.width = Some(self.number);
                     self.phase = Phase::Point;
@@ -120,7 +120,7 @@ impl Automaton {
             Phase::Point => match byte {
                 b'0'..=b'9' => {
                     self.number = 0;
-                    self.made_precise(byte - b'0')
+                    self.precision_with(byte - b'0')
                 }
                 b'*' => Err(RefusalKind::Star),
                 _ => {
@@ -129,7 +129,7 @@ impl Automaton {
                 }
             },
             Phase::Precision => match byte {
-                b'0'..=b'9' => self.made_precise(byte - b'0'),
+                b'0'..=b'9' => self.precision_with(byte - b'0'),
                 _ => {
                     self.precision = Some(self.number);
                     self.after_number(byte)
@@ -169,10 +169,10 @@ impl Automaton {
     }
 
     #[inline(always)]
-    fn widened(&mut self, digit: u8) -> Result<Move, RefusalKind>
+    fn width_with(&mut self, digit: u8) -> Result<Move, RefusalKind>
         requires { digit < 10 }
         ensures { (byte : ℕ)
-            → next_by result byte self.new ≡ widened self.old.flags self.old.number digit }
+            → next_by result byte self.new ≡ width_with self.old.flags self.old.number digit }
     {
         let wider = 10 * u32::from(self.number) + u32::from(digit);
         if wider > u32::from(MAX_NUMBER) {
@@ -184,10 +184,10 @@ impl Automaton {
     }
 
     #[inline(always)]
-    fn made_precise(&mut self, digit: u8) -> Result<Move, RefusalKind>
+    fn precision_with(&mut self, digit: u8) -> Result<Move, RefusalKind>
         requires { digit < 10 }
         ensures { (byte : ℕ) → next_by result byte self.new
-            ≡ made_precise self.old.flags self.old.width self.old.number digit }
+            ≡ precision_with self.old.flags self.old.width self.old.number digit }
     {
         let wider = 10 * u32::from(self.number) + u32::from(digit);
         if wider > u32::from(MAX_NUMBER) {
@@ -213,7 +213,7 @@ impl Automaton {
             return Err(RefusalKind::Float);
         }
         self.modifier = Length::None;
-        self.ending(byte)
+        self.end_at(byte)
     }
 
     /// A second letter of a modifier, or the end.
@@ -233,15 +233,15 @@ impl Automaton {
                 self.phase = Phase::Modifier;
                 Ok(Move::More)
             }
-            _ => self.ending(byte),
+            _ => self.end_at(byte),
         }
     }
 
     /// The specification ends, or nothing goes on with it.
     #[inline(always)]
-    fn ending(&mut self, byte: u8) -> Result<Move, RefusalKind>
+    fn end_at(&mut self, byte: u8) -> Result<Move, RefusalKind>
         ensures { next_by result byte self.new
-            ≡ ending self.old.flags self.old.width self.old.precision self.old.modifier byte }
+            ≡ end_at self.old.flags self.old.width self.old.precision self.old.modifier byte }
     {
         match conv_of(byte) {
             Some(conv) => {

@@ -9,14 +9,14 @@ use Rattle.pf_values.specs.Items.{Item, Byte, Directive, Reads, types}
 use Rattle.pf_values.specs.Printing.{AreEquivalent, PrintAlike, PrintsAll}
 use Rattle.pf_values.specs.Text.{Text}
 use Rattle.pf_values.proofs.ItemTypes.{types-append}
-use Rattle.pf_values.proofs.PrintsOnce.{printed, printed-is, Prints-unique}
+use Rattle.pf_values.proofs.PrintsOnce.{printed_text, printed-is, Prints-unique}
 
 -- what items print for arguments; too few or too many of them print nothing
 abbrev pub all_printed : List Item → List Argument → Text
 all_printed [] args = []
 all_printed (Byte byte ∷ items) args = byte ∷ all_printed items args
 all_printed (Directive s ∷ items) [] = []
-all_printed (Directive s ∷ items) (argument ∷ args) = printed s argument ++ all_printed items args
+all_printed (Directive s ∷ items) (argument ∷ args) = printed_text s argument ++ all_printed items args
 
 pub all_printed-is : (items : List Item) (args : List Argument) → HasTypes args (types items) → PrintsAll items args (all_printed items args)
 all_printed-is [] [] h = refl
@@ -24,7 +24,7 @@ all_printed-is [] (argument ∷ args) h = absurd h
 all_printed-is (Byte byte ∷ items) [] h = (all_printed items [], all_printed-is items [] h, refl)
 all_printed-is (Byte byte ∷ items) (argument ∷ args) h = (all_printed items (argument ∷ args), all_printed-is items (argument ∷ args) h, refl)
 all_printed-is (Directive s ∷ items) [] h = absurd h
-all_printed-is (Directive s ∷ items) (argument ∷ args) h = (printed s argument, all_printed items args, printed-is s argument h.0, all_printed-is items args h.1, refl)
+all_printed-is (Directive s ∷ items) (argument ∷ args) h = (printed_text s argument, all_printed items args, printed-is s argument h.0, all_printed-is items args h.1, refl)
 
 pub PrintsAll-unique : (items : List Item) (args : List Argument) (out : Text) → HasTypes args (types items) → PrintsAll items args out → out ≡ all_printed items args
 PrintsAll-unique [] [] out h g = g
@@ -35,7 +35,7 @@ PrintsAll-unique (Directive s ∷ items) [] out h g = absurd h
 PrintsAll-unique (Directive s ∷ items) (argument ∷ args) out h g =
     let first = Prints-unique s argument g.0 h.0 g.2 in
     let rest = PrintsAll-unique items args g.1 h.1 g.3 in
-    g.4 ∙ ap (λ t. t ++ g.1) first ∙ ap (λ t. printed s argument ++ t) rest
+    g.4 ∙ ap (λ t. t ++ g.1) first ∙ ap (λ t. printed_text s argument ++ t) rest
 
 -- the same types, and the same bytes
 pub record AreAlike (a b : List Item) : Type 0 where
@@ -101,7 +101,7 @@ alike_behind (Directive s) a b h = record {
   where
     go : (args : List Argument) → HasTypes args (types (Directive s ∷ a)) → all_printed (Directive s ∷ a) args ≡ all_printed (Directive s ∷ b) args
     go [] t = refl
-    go (argument ∷ args) t = ap (λ u. printed s argument ++ u) (h.same_bytes args t.1)
+    go (argument ∷ args) t = ap (λ u. printed_text s argument ++ u) (h.same_bytes args t.1)
 
 pub alike_after : (front a b : List Item) → AreAlike a b → AreAlike (front ++ a) (front ++ b)
 alike_after [] a b h = h
@@ -134,8 +134,8 @@ all_printed-append [] b (argument ∷ first) second h = absurd h
 all_printed-append (Byte byte ∷ a) b first second h = ap (λ t. byte ∷ t) (all_printed-append a b first second h)
 all_printed-append (Directive s ∷ a) b [] second h = absurd h
 all_printed-append (Directive s ∷ a) b (argument ∷ first) second h =
-    ap (λ t. printed s argument ++ t) (all_printed-append a b first second h.1)
-    ∙ sym (append_assoc (printed s argument) (all_printed a first) (all_printed b second))
+    ap (λ t. printed_text s argument ++ t) (all_printed-append a b first second h.1)
+    ∙ sym (append_assoc (printed_text s argument) (all_printed a first) (all_printed b second))
 
 pub alike_before : (a b back : List Item) → AreAlike a b → AreAlike (a ++ back) (b ++ back)
 alike_before a b back h = record {

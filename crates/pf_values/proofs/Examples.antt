@@ -13,8 +13,8 @@ use Rattle.pf_values.specs.Arguments.{Number, String}
 use Rattle.pf_values.specs.Defined.{refused_as}
 use Rattle.pf_values.specs.Flags.{flag_set}
 use Rattle.pf_values.specs.Specification.{Specification}
-use Rattle.pf_values.specs.Spelling.{spelled}
-use Rattle.pf_values.proofs.PrintsOnce.{printed}
+use Rattle.pf_values.specs.Spelling.{spelling_of}
+use Rattle.pf_values.proofs.PrintsOnce.{printed_text}
 
 abbrev spec : List Flag → Option ℕ → Option ℕ → Length → Conv → Specification
 spec flags width precision length conv = record { flags = flag_set flags; width = width; precision = precision; length = length; conv = conv }
@@ -27,57 +27,57 @@ max_text_len : MAX_TEXT_LEN ≡ 2 ^ 62
 max_text_len = refl
 
 -- `%05d` prints -42 as `-0042`
-zeros_behind_the_sign : printed (spec (Zero ∷ []) (Some 5) None lengths.None D) (Number (negsuc 41)) ≡ codes "-0042"
+zeros_behind_the_sign : printed_text (spec (Zero ∷ []) (Some 5) None lengths.None D) (Number (negsuc 41)) ≡ codes "-0042"
 zeros_behind_the_sign = refl
 
 -- `%#o` prints 0 as `0`, and 8 as `010`
-octal_zero : printed (spec (Alt ∷ []) None None lengths.None O) (Number (pos 0)) ≡ codes "0"
+octal_zero : printed_text (spec (Alt ∷ []) None None lengths.None O) (Number (pos 0)) ≡ codes "0"
 octal_zero = refl
 
-octal_eight : printed (spec (Alt ∷ []) None None lengths.None O) (Number (pos 8)) ≡ codes "010"
+octal_eight : printed_text (spec (Alt ∷ []) None None lengths.None O) (Number (pos 8)) ≡ codes "010"
 octal_eight = refl
 
 -- `%+.0d` prints 0 as `+`
-sign_without_digits : printed (spec (Plus ∷ []) None (Some 0) lengths.None D) (Number (pos 0)) ≡ codes "+"
+sign_without_digits : printed_text (spec (Plus ∷ []) None (Some 0) lengths.None D) (Number (pos 0)) ≡ codes "+"
 sign_without_digits = refl
 
 -- `%#06x` prints 255 as `0x00ff`, and 0 without a prefix
-zeros_behind_the_prefix : printed (spec (Alt ∷ Zero ∷ []) (Some 6) None lengths.None X) (Number (pos 255)) ≡ codes "0x00ff"
+zeros_behind_the_prefix : printed_text (spec (Alt ∷ Zero ∷ []) (Some 6) None lengths.None X) (Number (pos 255)) ≡ codes "0x00ff"
 zeros_behind_the_prefix = refl
 
-no_prefix_at_zero : printed (spec (Alt ∷ Zero ∷ []) (Some 6) None lengths.None X) (Number (pos 0)) ≡ codes "000000"
+no_prefix_at_zero : printed_text (spec (Alt ∷ Zero ∷ []) (Some 6) None lengths.None X) (Number (pos 0)) ≡ codes "000000"
 no_prefix_at_zero = refl
 
 -- `%hhd` prints 300 as `44`, and 128 as `-128`
-value_in_range : printed (spec [] None None lengths.Hh D) (Number (pos 300)) ≡ codes "44"
+value_in_range : printed_text (spec [] None None lengths.Hh D) (Number (pos 300)) ≡ codes "44"
 value_in_range = refl
 
-value_wrapped : printed (spec [] None None lengths.Hh D) (Number (pos 128)) ≡ codes "-128"
+value_wrapped : printed_text (spec [] None None lengths.Hh D) (Number (pos 128)) ≡ codes "-128"
 value_wrapped = refl
 
 -- `%-5c` prints 65 as `A` and four spaces, `%3c` two spaces and `A`
-char_on_the_left : printed (spec (Minus ∷ []) (Some 5) None lengths.None C) (Number (pos 65)) ≡ codes "A    "
+char_on_the_left : printed_text (spec (Minus ∷ []) (Some 5) None lengths.None C) (Number (pos 65)) ≡ codes "A    "
 char_on_the_left = refl
 
-char_on_the_right : printed (spec [] (Some 3) None lengths.None C) (Number (pos 321)) ≡ codes "  A"
+char_on_the_right : printed_text (spec [] (Some 3) None lengths.None C) (Number (pos 321)) ≡ codes "  A"
 char_on_the_right = refl
 
 -- `%.3s` prints `abcdef` as `abc`, and `%5.2s` as `   ab`
-string_cut : printed (spec [] None (Some 3) lengths.None S) (String (codes "abcdef")) ≡ codes "abc"
+string_cut : printed_text (spec [] None (Some 3) lengths.None S) (String (codes "abcdef")) ≡ codes "abc"
 string_cut = refl
 
-string_in_a_field : printed (spec [] (Some 5) (Some 2) lengths.None S) (String (codes "abcdef")) ≡ codes "   ab"
+string_in_a_field : printed_text (spec [] (Some 5) (Some 2) lengths.None S) (String (codes "abcdef")) ≡ codes "   ab"
 string_in_a_field = refl
 
 -- a longest spelling of a directive has 18 bytes
 abbrev longest_defined : Specification
 longest_defined = spec (Minus ∷ Plus ∷ Space ∷ Zero ∷ Group ∷ []) (Some 4095) (Some 4095) lengths.Ll D
 
-spelling_of_18_bytes : spelled longest_defined ≡ codes "%-+ 0'4095.4095lld"
+spelling_of_18_bytes : spelling_of longest_defined ≡ codes "%-+ 0'4095.4095lld"
 unfolding digits
 spelling_of_18_bytes = refl
 
-its_length : length (spelled longest_defined) ≡ 18
+its_length : length (spelling_of longest_defined) ≡ 18
 unfolding digits
 its_length = refl
 

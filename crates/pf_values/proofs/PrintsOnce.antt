@@ -25,13 +25,13 @@ use Rattle.pf_values.specs.Printing.{
   PrintsOnce,
   PrintsOnly,
   field,
-  shown,
+  printed_front,
   sign_or_prefix,
 }
 use Rattle.pf_values.specs.Specification.{Specification}
 use Rattle.pf_values.specs.Text.{Text}
 use Rattle.pf_values.proofs.Printed.{printed_digits, printed_precision, AreDigitsOf-exist, AreDigitsOf-unique, IsPrecision-exists, IsPrecision-unique}
-use Rattle.pf_values.proofs.Values.{wrapped, converted, converted-is, IsConverted-unique}
+use Rattle.pf_values.proofs.Values.{wrapped, converted_number, converted-is, IsConverted-unique}
 
 -- what is printed of a value, without padding
 abbrev pub value_text : Specification → ℤ → Text
@@ -57,7 +57,7 @@ PrintsNumber-is s n body h =
 
 -- the value that a directive makes of a number
 abbrev pub value_of : Specification → ℤ → ℤ
-value_of s n = converted (is_signed s.conv) (bits_under s.length) n
+value_of s n = converted_number (is_signed s.conv) (bits_under s.length) n
 
 -- what is printed of an argument, without padding; an argument of another type has none
 abbrev pub body_of_kind : Kind → Specification → Argument → Text
@@ -68,14 +68,14 @@ body_of_kind (kinds.Unsigned base capitals) s (String bytes) = []
 body_of_kind kinds.Char s (Number n) = wrapped 256 n ∷ []
 body_of_kind kinds.Char s (String bytes) = []
 body_of_kind kinds.String s (Number n) = []
-body_of_kind kinds.String s (String bytes) = shown s.precision bytes
+body_of_kind kinds.String s (String bytes) = printed_front s.precision bytes
 
 abbrev pub body_under : Conv → Specification → Argument → Text
 body_under conv s argument = body_of_kind (kind_of conv) s argument
 
 -- what a directive prints for an argument
-abbrev pub printed : Specification → Argument → Text
-printed s argument = field s (body_under s.conv s argument)
+abbrev pub printed_text : Specification → Argument → Text
+printed_text s argument = field s (body_under s.conv s argument)
 
 -- a body, and no other
 abbrev IsOne : Kind → Specification → Argument → Type 0
@@ -141,14 +141,14 @@ one_body kinds.Char length s (String t) h = absurd h
 one_body kinds.String length s (Number n) h = absurd h
 one_body kinds.String length s (String t) h = (refl, λ other same. same)
 
-pub printed-is : (s : Specification) (argument : Argument) → HasType argument (arg_type s) → Prints s argument (printed s argument)
+pub printed-is : (s : Specification) (argument : Argument) → HasType argument (arg_type s) → Prints s argument (printed_text s argument)
 printed-is s argument h = (body_under s.conv s argument, (one_body (kind_of s.conv) s.length s argument h).0, refl)
 
-pub Prints-unique : (s : Specification) (argument : Argument) (out : Text) → HasType argument (arg_type s) → Prints s argument out → out ≡ printed s argument
+pub Prints-unique : (s : Specification) (argument : Argument) (out : Text) → HasType argument (arg_type s) → Prints s argument out → out ≡ printed_text s argument
 Prints-unique s argument out h g = g.2 ∙ ap (field s) ((one_body (kind_of s.conv) s.length s argument h).1 g.0 g.1)
 
 pub PrintsOnly-is : (s : Specification) (argument : Argument) (out : Text) → HasType argument (arg_type s) → Prints s argument out → PrintsOnly s argument out
 PrintsOnly-is s argument out h g = (g, λ other f. Prints-unique s argument other h f ∙ sym (Prints-unique s argument out h g))
 
 pub prints_once : PrintsOnce
-prints_once s argument h = (printed s argument, PrintsOnly-is s argument _ h (printed-is s argument h))
+prints_once s argument h = (printed_text s argument, PrintsOnly-is s argument _ h (printed-is s argument h))

@@ -17,9 +17,9 @@ abbrev pub signed_from : ℕ → ℕ → ℤ
 signed_from half n = if nat_lt n half then pos n else negsuc (2 * half - 1 - n)
 
 -- the value in the range of so many bits, signed or not
-abbrev pub converted : Bool → Bits → ℤ → ℤ
-converted false bits n = pos (wrapped (2 ^ bit_count bits) n)
-converted true bits n = signed_from (2 ^ (bit_count bits - 1)) (wrapped (2 ^ bit_count bits) n)
+abbrev pub converted_number : Bool → Bits → ℤ → ℤ
+converted_number false bits n = pos (wrapped (2 ^ bit_count bits) n)
+converted_number true bits n = signed_from (2 ^ (bit_count bits - 1)) (wrapped (2 ^ bit_count bits) n)
 
 signed_from-low : (half n : ℕ) → n < half → signed_from half n ≡ pos n
 signed_from-low half n h = grind (arith, nat_tests)
@@ -71,7 +71,7 @@ next_64 : HasNext (2 ^ 64)
 next_64 k = omega (arith, ints)
 
 -- the value is the number in the range that differs by a multiple of 2 ^ bits
-pub converted-is : (bits : Bits) (signed : Bool) (a : ℤ) → IsConverted signed (bit_count bits) a (converted signed bits a)
+pub converted-is : (bits : Bits) (signed : Bool) (a : ℤ) → IsConverted signed (bit_count bits) a (converted_number signed bits a)
 converted-is B8 true a = let v = signed_of (2 ^ 7) (omega arith) next_8 a in record { fits = (v.1, v.2); times = v.0; differs = v.3 }
 converted-is B8 false a = let k = times_of (2 ^ 7) (omega arith) a in record { fits = unsigned_of (2 ^ 7) (omega arith) a; times = k.0; differs = k.1 }
 converted-is B16 true a = let v = signed_of (2 ^ 15) (omega arith) next_16 a in record { fits = (v.1, v.2); times = v.0; differs = v.3 }

@@ -3,13 +3,13 @@ use Rattle.std.specs.Prelude.{◌≡◌, ◌≢◌, ℕ, List, [], ◌∷◌, �
 use Rattle.pf_values.specs.Items.{Item, Byte, Directive, Reads}
 use Rattle.pf_values.specs.Normal.{IsNormal, silent}
 use Rattle.pf_values.specs.Printing.{AreEquivalent}
-use Rattle.pf_values.specs.Spelling.{spelled}
+use Rattle.pf_values.specs.Spelling.{spelling_of}
 use Rattle.pf_values.specs.Text.{Text, percent}
 
 -- the one way in which a canonical text writes an item; `%` is written `%%` (C11 7.21.6.1 p8)
-abbrev pub written : Item → Text
-written (Byte byte) = if byte == percent then percent ∷ percent ∷ [] else byte ∷ []
-written (Directive s) = spelled s
+abbrev pub item_spelling : Item → Text
+item_spelling (Byte byte) = if byte == percent then percent ∷ percent ∷ [] else byte ∷ []
+item_spelling (Directive s) = spelling_of s
 
 -- no items, or a directive first
 abbrev pub BeginsWithNoByte : List Item → Type 0
@@ -28,7 +28,7 @@ AreCanonical (Directive s ∷ items) =
 pub record ReadsCanonically (t : Text) (items : List Item) : Type 0 where
   pub reads : Reads t items
   pub canonical : AreCanonical items
-  pub whole : t ≡ flat_map written items
+  pub whole : t ≡ flat_map item_spelling items
 
 -- a text that reads so as some items
 abbrev pub IsCanonicalText : Text → Type 0
@@ -51,4 +51,4 @@ pub record IsSettled (t settled : Text) : Type 0 where
   pub canonical_is : IsCanonicalOf t canonical
   pub reads : Reads canonical (items ++ replicate waiting (Directive silent))
   pub no_more : EndsInNoSilent items
-  pub whole : settled ≡ flat_map written items
+  pub whole : settled ≡ flat_map item_spelling items

@@ -103,9 +103,9 @@ PrintsChar argument body = (byte : ℕ) × IsConverted false (bit_count B8) argu
     × (body ≡ byte ∷ [])
 
 -- no more bytes than the precision, if there is one
-abbrev pub shown : Option ℕ → Text → Text
-shown None bytes = bytes
-shown (Some most) bytes = take most bytes
+abbrev pub printed_front : Option ℕ → Text → Text
+printed_front None bytes = bytes
+printed_front (Some most) bytes = take most bytes
 
 abbrev pub PrintsKind : Kind → Specification → Argument → Text → Type 0
 PrintsKind kinds.Signed s (Number n) body = PrintsNumber s n body
@@ -115,7 +115,7 @@ PrintsKind (kinds.Unsigned base capitals) s (String bytes) body = ⊥
 PrintsKind kinds.Char s (Number n) body = PrintsChar n body
 PrintsKind kinds.Char s (String bytes) body = ⊥
 PrintsKind kinds.String s (Number n) body = ⊥
-PrintsKind kinds.String s (String bytes) body = body ≡ shown s.precision bytes
+PrintsKind kinds.String s (String bytes) body = body ≡ printed_front s.precision bytes
 
 abbrev pub PrintsUnder : Conv → Specification → Argument → Text → Type 0
 PrintsUnder conv s argument body = PrintsKind (kind_of conv) s argument body

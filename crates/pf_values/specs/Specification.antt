@@ -20,8 +20,8 @@ abbrev pub width_given : Option ℕ → Option ℕ
 width_given (Some zero) = None
 width_given o = o
 
-abbrev pub given : FlagSet → Option ℕ → Option ℕ → Length → Conv → Specification
-given flags width precision length conv =
+abbrev pub specification_of : FlagSet → Option ℕ → Option ℕ → Length → Conv → Specification
+specification_of flags width precision length conv =
     record {
       flags = flags;
       width = width_given width;

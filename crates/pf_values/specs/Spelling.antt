@@ -48,7 +48,7 @@ precision_spelled None = []
 precision_spelled (Some n) = point ∷ decimal n
 
 -- the one spelling of a specification
-abbrev pub spelled : Specification → Text
-spelled s =
+abbrev pub spelling_of : Specification → Text
+spelling_of s =
     percent ∷ flags_spelled s.flags ++ width_spelled s.width ++ precision_spelled s.precision
     ++ length_letters s.length ++ conv_letter s.conv ∷ []

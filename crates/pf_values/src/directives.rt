@@ -2,7 +2,7 @@
 ghost use Rattle.std.specs.Prelude.{◌≡◌, ◌≤◌, MatchResult};
 ghost use Rattle.pf_values.specs.declared.limits.TheConstants.{MAX_NUMBER};
 ghost use Rattle.pf_values.specs.Defined.{IsDefined, first_broken, refused_as, undefined_kinds};
-ghost use Rattle.pf_values.specs.Specification.{given};
+ghost use Rattle.pf_values.specs.Specification.{specification_of};
 ghost use Rattle.pf_values.specs.DataModel.{arg_type, value_bits};
 ghost use Rattle.pf_values.specs.Normal.{digits_at_most, effective_precision};
 ghost use Rattle.pf_values.specs.Printing.{is_zero_filled};
@@ -69,7 +69,7 @@ impl Directive {
         length: Length,
         conv: Conv,
     ) -> Result<Directive, RefusalKind>
-        ensures { let asked = given flags width precision length conv in
+        ensures { let asked = specification_of flags width precision length conv in
             MatchResult result (λ d. (d ≡ asked) × IsDefined asked)
             (λ kind. refused_as asked ≡ Some kind) }
     {
@@ -80,7 +80,7 @@ impl Directive {
         if precision.is_some_and(|p| p > MAX_NUMBER) {
             return Err(RefusalKind::PrecisionTooLarge);
         }
-        if let Some(kind) = undefined(flags, precision, length, conv) {
+        if let Some(kind) = first_undefined(flags, precision, length, conv) {
             return Err(kind);
         }
         Ok(Directive {
@@ -192,13 +192,13 @@ impl Directive {
 }
 
 // The first combination that the standard leaves undefined.
-fn undefined(
+fn first_undefined(
     flags: FlagSet,
     precision: Option<u16>,
     length: Length,
     conv: Conv,
 ) -> Option<RefusalKind>
-    ensures { result ≡ first_broken undefined_kinds (given flags None precision length conv) }
+    ensures { result ≡ first_broken undefined_kinds (specification_of flags None precision length conv) }
 {
     let kind = conv.kind();
     if length.is_long() && kind.is_text() {

@@ -7,7 +7,7 @@ use crate::{
 use std::process::Abort;
 
 // The number of the refusal, or 0.
-fn refused(made: Result<Directive, RefusalKind>) -> u8 {
+fn refusal_of(made: Result<Directive, RefusalKind>) -> u8 {
     match made {
         Ok(_) => 0,
         Err(kind) => kind.number(),
@@ -15,7 +15,7 @@ fn refused(made: Result<Directive, RefusalKind>) -> u8 {
 }
 
 fn number_of(flags: FlagSet, width: u16, precision: Option<u16>, length: Length, conv: Conv) -> u8 {
-    refused(Directive::new(flags, Some(width), precision, length, conv))
+    refusal_of(Directive::new(flags, Some(width), precision, length, conv))
 }
 
 // By conversion, as in the standard's paragraphs on each flag: a row for each of `Conv::ALL`.

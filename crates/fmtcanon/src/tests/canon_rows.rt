@@ -1,10 +1,10 @@
 //! Canonical strings worked out by hand from what C says a directive prints.
-use super::{answers, repeated};
+use super::{answers, repeat};
 use std::alloc::AllocError;
 
 #[test]
 fn canon_takes_the_greatest_width_apart(rt: HostRuntime) -> Result<(), AllocError> {
-    let mut want = repeated(rt.alloc(), " ", 4084)?;
+    let mut want = repeat(rt.alloc(), " ", 4084)?;
     want.push_str("%11d\n")?;
     assert!(rt; answers(rt.alloc(), ["canon", "%4095d"].as_slice(), &want));
     Ok(())

@@ -21,7 +21,7 @@ static KINDS: [ErrorKind; 3] = [
 // A front that is accepted, or the number and the place of its refusal.
 type Answer = Option<(u8, u64)>;
 
-fn checked(front: &[u8]) -> Answer {
+fn check_of(front: &[u8]) -> Answer {
     match check(front) {
         Ok(()) => None,
         Err(refusal) => Some((refusal.kind.number(), refusal.at)),
@@ -88,7 +88,7 @@ fn is_cut(alloc: Global, format: &[u8], len: usize, wanted: Wanted<'_>) -> bool 
             }
         }
     }
-    checked(front) == wanted.answer
+    check_of(front) == wanted.answer
 }
 
 // A refused format: how many literal bytes stand at its front, and the number and the place of its refusal.

@@ -54,7 +54,7 @@ fn run_over(alloc: Global, words: &[&str], fails_at_flush: bool) -> (Outcome, Wa
 }
 
 // Words that are answered, and the length of the answer; one ends in no newline, and one is empty.
-fn answered(alloc: Global, at: usize) -> Option<(Vec<&'static str>, usize)> {
+fn answer_of(alloc: Global, at: usize) -> Option<(Vec<&'static str>, usize)> {
     let rows: [(&[&'static str], usize); 8] = [
         (&["types", "%d%s"], 11),
         (&["types", ""], 0),
@@ -72,7 +72,7 @@ fn answered(alloc: Global, at: usize) -> Option<(Vec<&'static str>, usize)> {
 #[test]
 fn an_answer_is_flushed_once_after_its_bytes(rt: HostRuntime) {
     for at in 0..8 {
-        let Some((words, len)) = answered(rt.alloc(), at) else {
+        let Some((words, len)) = answer_of(rt.alloc(), at) else {
             assert!(rt; false);
             continue;
         };
@@ -88,7 +88,7 @@ fn an_answer_is_flushed_once_after_its_bytes(rt: HostRuntime) {
 #[test]
 fn a_flush_that_fails_is_told_after_all_bytes(rt: HostRuntime) {
     for at in 0..8 {
-        let Some((words, len)) = answered(rt.alloc(), at) else {
+        let Some((words, len)) = answer_of(rt.alloc(), at) else {
             assert!(rt; false);
             continue;
         };

@@ -1,5 +1,5 @@
 //! What `format` prints, and what it reports. The rows of the model are of a model of the program that is not ours.
-use super::{first_unwritten, is_usage, ran, reported, written_rows};
+use super::{first_unwritten, is_usage, ran, report_of, written_rows};
 use crate::outcome::Outcome;
 use std::alloc::Global;
 
@@ -12,12 +12,12 @@ type Stopped = (&'static [&'static str], u8, &'static str);
 fn prints(alloc: Global, row: &Printed) -> bool {
     let (outcome, written) = ran(alloc, row.0);
     let is_done = matches!(outcome, Outcome::Done);
-    is_done && reported(alloc, &outcome).is_empty() && written.as_slice() == row.1
+    is_done && report_of(alloc, &outcome).is_empty() && written.as_slice() == row.1
 }
 
 fn stops(alloc: Global, row: &Stopped) -> bool {
     let (outcome, written) = ran(alloc, row.0);
-    let told = reported(alloc, &outcome);
+    let told = report_of(alloc, &outcome);
     written.is_empty() && outcome.status() == row.1 && told.as_slice() == row.2.as_bytes()
 }
 

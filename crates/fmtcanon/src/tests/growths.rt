@@ -20,13 +20,13 @@ enum Seen {
     Wrong,
 }
 
-fn answered(right: bool) -> Seen {
+fn answer_of(right: bool) -> Seen {
     if right { Seen::Answer } else { Seen::Wrong }
 }
 
 fn canonical_seen(alloc: Global) -> Seen {
     match canonical(alloc, b"%4095d%.0sx") {
-        Ok(text) => answered(
+        Ok(text) => answer_of(
             text.len() == 4_084 + 9
                 && text.as_slice().iter().take(4_084).all(|byte| *byte == b' ')
                 && text.as_slice().ends_with(b"%11dx%.0s"),
@@ -38,7 +38,7 @@ fn canonical_seen(alloc: Global) -> Seen {
 
 fn signature_seen(alloc: Global) -> Seen {
     match signature(alloc, b"%d%d%d%d%d%d%d%d%d") {
-        Ok(types) => answered(types.as_slice() == [ArgType::Int; 9].as_slice()),
+        Ok(types) => answer_of(types.as_slice() == [ArgType::Int; 9].as_slice()),
         Err(TextFault::Memory) => Seen::Memory,
         Err(TextFault::Refused(_)) => Seen::Wrong,
     }
@@ -46,7 +46,7 @@ fn signature_seen(alloc: Global) -> Seen {
 
 fn render_vec_seen(alloc: Global) -> Seen {
     match render_vec(alloc, b"%4095d", &[Arg::Int(1)]) {
-        Ok(bytes) => answered(
+        Ok(bytes) => answer_of(
             bytes.len() == 4_095
                 && bytes
                     .as_slice()
@@ -62,7 +62,7 @@ fn render_vec_seen(alloc: Global) -> Seen {
 
 fn confirms_seen(alloc: Global) -> Seen {
     match confirms(alloc, b"%05d", b"%.5d", &[Arg::Int(-1)]) {
-        Ok(told) => answered(told),
+        Ok(told) => answer_of(told),
         Err(AllocError) => Seen::Memory,
     }
 }
@@ -82,7 +82,7 @@ fn is_wanted(arg: &OwnedArg) -> bool {
 fn compare_seen(alloc: Global, f: &str, g: &str, renderings: u8) -> Seen {
     match compare(alloc, f.as_bytes(), g.as_bytes()) {
         Ok(comparison) => match &comparison.verdict {
-            Verdict::Args(args) => answered(
+            Verdict::Args(args) => answer_of(
                 comparison.renderings == renderings
                     && args.len() == 1
                     && args.as_slice().iter().all(is_wanted),
@@ -103,7 +103,7 @@ fn run_seen(alloc: Global, words: &[&str], want: &str) -> Seen {
     let left = writer.into_inner().len();
     let is_written = place.get(..32usize.saturating_sub(left)) == Some(want.as_bytes());
     match outcome {
-        Outcome::Done | Outcome::Different => answered(is_written),
+        Outcome::Done | Outcome::Different => answer_of(is_written),
         Outcome::Memory if left == 32 => Seen::Memory,
         _ => Seen::Wrong,
     }
@@ -125,7 +125,7 @@ enum Call {
     Stream,
 }
 
-fn called(alloc: Global, call: Call) -> Seen {
+fn outcome_of_call(alloc: Global, call: Call) -> Seen {
     match call {
         Call::Canonical => canonical_seen(alloc),
         Call::Signature => signature_seen(alloc),
@@ -171,7 +171,7 @@ fn try_call(alloc: Global, call: Call, block: usize, first: usize) -> Result<Tri
     };
     for _ in 0..BLOCKS {
         let has_first = Vec::<u8>::with_capacity(alloc, first).is_ok();
-        tried.last = called(alloc, call);
+        tried.last = outcome_of_call(alloc, call);
         if tried.last != Seen::Memory {
             return Ok(tried);
         }

@@ -67,7 +67,7 @@ fn compare_takes_no_memory_but_for_arguments(rt: HostRuntime) -> Result<(), Allo
 }
 
 // How many types a signature has, or whether memory was wanted for them.
-fn counted(alloc: Global, format: &[u8]) -> Option<usize> {
+fn length_of(alloc: Global, format: &[u8]) -> Option<usize> {
     match signature(alloc, format) {
         Ok(signature) => Some(signature.len()),
         Err(TextFault::Memory) => None,
@@ -78,8 +78,8 @@ fn counted(alloc: Global, format: &[u8]) -> Option<usize> {
 #[test]
 fn eight_types_take_no_memory(rt: HostRuntime) -> Result<(), AllocError> {
     let exhausted = Exhausted::new(rt.alloc())?;
-    let eight = counted(rt.alloc(), b"%d%d%d%d%d%d%d%d");
-    let nine = counted(rt.alloc(), b"%d%d%d%d%d%d%d%d%d");
+    let eight = length_of(rt.alloc(), b"%d%d%d%d%d%d%d%d");
+    let nine = length_of(rt.alloc(), b"%d%d%d%d%d%d%d%d%d");
     drop(exhausted);
     assert_eq!(rt; eight, Some(8));
     assert_eq!(rt; nine, None);

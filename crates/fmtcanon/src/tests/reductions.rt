@@ -60,7 +60,7 @@ fn directive_of(format: &str) -> Option<Directive> {
 }
 
 // What a directive prints of a number, between so many spaces and zeros and so many spaces.
-fn printed(
+fn print_of(
     alloc: Global,
     directive: &Directive,
     number: i128,
@@ -98,9 +98,9 @@ fn prints_the_same(alloc: Global, directive: &Directive, number: i128) -> Result
     let Some(core) = normal_core(reduced.core) else {
         return Ok(false);
     };
-    let whole = printed(alloc, directive, number, (0, 0), 0)?;
+    let whole = print_of(alloc, directive, number, (0, 0), 0)?;
     let before = (reduced.spaces, reduced.zeros);
-    let parts = printed(alloc, &core.directive(), number, before, reduced.trail)?;
+    let parts = print_of(alloc, &core.directive(), number, before, reduced.trail)?;
     Ok(whole.is_some() && whole == parts)
 }
 

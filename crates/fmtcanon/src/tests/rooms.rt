@@ -1,5 +1,5 @@
 //! Runs over writers with little room: what fits goes out, and just that is told.
-use super::repeated;
+use super::repeat;
 use super::written_rows::{
     CANON, DIRECTIVES, MORE_CANON, MORE_PRINTED, MORE_SAME_LINES, MORE_SHOW_LINES, PRINTED,
     SAME_LINES, SHOW_LINES, STREAM, STREAMED, TYPE_LINES, UNFINISHED, Written,
@@ -216,11 +216,11 @@ fn each_room_before_a_refusal(rt: HostRuntime) {
 // The canonical string of `%4095d`, and what tells `%s` from the longest precision.
 #[test]
 fn each_room_for_long_answers(rt: HostRuntime) -> Result<(), AllocError> {
-    let mut padded = repeated(rt.alloc(), " ", 4_084)?;
+    let mut padded = repeat(rt.alloc(), " ", 4_084)?;
     padded.push_str("%11d")?;
     let row = (STREAM.as_slice(), b"%4095d".as_slice(), padded.as_bytes());
     let mut told = String::from_str(rt.alloc(), "different\ns:")?;
-    told.push_str(&repeated(rt.alloc(), "A", 4_096)?)?;
+    told.push_str(&repeat(rt.alloc(), "A", 4_096)?)?;
     told.push('\n')?;
     let words = ["same", "%s", "%.4095s"];
     let other = (words.as_slice(), b"".as_slice(), told.as_bytes());

@@ -1,5 +1,5 @@
 //! With ample memory each command answers, at sizes on either side of each power of two.
-use super::{answers, ran, repeated};
+use super::{answers, ran, repeat};
 use crate::outcome::Outcome;
 use crate::run::run;
 use pf_values::Counted;
@@ -25,14 +25,14 @@ fn text_of(alloc: Global, len: usize) -> Result<String, AllocError> {
 }
 
 // A text and what stands after it.
-fn followed(alloc: Global, text: &str, by: &str) -> Result<String, AllocError> {
+fn text_followed_by(alloc: Global, text: &str, by: &str) -> Result<String, AllocError> {
     let mut whole = String::from_str(alloc, text)?;
     whole.push_str(by)?;
     Ok(whole)
 }
 
 // What `stream` writes for this input, if it comes to its end.
-fn streamed(alloc: Global, input: &str) -> Option<Vec<u8>> {
+fn stream_over(alloc: Global, input: &str) -> Option<Vec<u8>> {
     let mut reader = Counted::new(input.as_bytes());
     let mut writer = Counted::new(Vec::new(alloc));
     match run(alloc, ["stream"].as_slice(), &mut reader, &mut writer) {
@@ -43,7 +43,7 @@ fn streamed(alloc: Global, input: &str) -> Option<Vec<u8>> {
 
 // Whether each command answers for a text of literal bytes.
 fn takes_text(alloc: Global, text: &str) -> Result<bool, AllocError> {
-    let line = followed(alloc, text, "\n")?;
+    let line = text_followed_by(alloc, text, "\n")?;
     let shown = match text.len() {
         0 => String::new(alloc),
         len => format!(in alloc; "text {len}\n")?,
@@ -60,7 +60,7 @@ fn takes_text(alloc: Global, text: &str) -> Result<bool, AllocError> {
             && answers(alloc, ["format", text].as_slice(), text)
             && answers(alloc, ["format", "%s", &word].as_slice(), text)
             && answers(alloc, ["same", text, text].as_slice(), "same\n")
-            && streamed(alloc, text).is_some_and(|out| out.as_slice() == text.as_bytes()),
+            && stream_over(alloc, text).is_some_and(|out| out.as_slice() == text.as_bytes()),
     )
 }
 
@@ -77,17 +77,17 @@ fn each_command_takes_texts_of_any_size(rt: HostRuntime) -> Result<(), AllocErro
 
 // Whether each command answers for so many directives.
 fn takes_directives(alloc: Global, count: usize) -> Result<bool, AllocError> {
-    let format = repeated(alloc, "%i", count)?;
-    let canonical = repeated(alloc, "%d", count)?;
-    let line = followed(alloc, &canonical, "\n")?;
-    let types = repeated(alloc, "int\n", count)?;
-    let shown = repeated(alloc, "directive %d: int: 0 0 %d 0\n", count)?;
+    let format = repeat(alloc, "%i", count)?;
+    let canonical = repeat(alloc, "%d", count)?;
+    let line = text_followed_by(alloc, &canonical, "\n")?;
+    let types = repeat(alloc, "int\n", count)?;
+    let shown = repeat(alloc, "directive %d: int: 0 0 %d 0\n", count)?;
     Ok(
         answers(alloc, ["canon", &format].as_slice(), &line)
             && answers(alloc, ["types", &format].as_slice(), &types)
             && answers(alloc, ["show", &canonical].as_slice(), &shown)
             && answers(alloc, ["same", &format, &canonical].as_slice(), "same\n")
-            && streamed(alloc, &format).is_some_and(|out| out.as_slice() == canonical.as_bytes()),
+            && stream_over(alloc, &format).is_some_and(|out| out.as_slice() == canonical.as_bytes()),
     )
 }
 
@@ -122,8 +122,8 @@ fn format_words<'a>(
 
 // Whether `format` prints so many arguments, a digit each.
 fn prints_arguments(alloc: Global, count: usize) -> Result<bool, AllocError> {
-    let format = repeated(alloc, "%d", count)?;
-    let digits = repeated(alloc, "0123456789", 5)?;
+    let format = repeat(alloc, "%d", count)?;
+    let digits = repeat(alloc, "0123456789", 5)?;
     let words = format_words(alloc, "format", &format, &ARGS, count)?;
     let (outcome, written) = ran(alloc, words.as_slice());
     Ok(
@@ -135,12 +135,12 @@ fn prints_arguments(alloc: Global, count: usize) -> Result<bool, AllocError> {
 
 // Whether `same` tells so many directives from others that differ in the last one alone.
 fn tells_last(alloc: Global, before: usize) -> Result<bool, AllocError> {
-    let front = repeated(alloc, "%d", before)?;
-    let first = followed(alloc, &front, "%d")?;
-    let alike = followed(alloc, &front, "%i")?;
-    let other = followed(alloc, &front, "%5d")?;
+    let front = repeat(alloc, "%d", before)?;
+    let first = text_followed_by(alloc, &front, "%d")?;
+    let alike = text_followed_by(alloc, &front, "%i")?;
+    let other = text_followed_by(alloc, &front, "%5d")?;
     let mut want = String::from_str(alloc, "different\n")?;
-    want.push_str(&repeated(alloc, "n:0\n", before)?)?;
+    want.push_str(&repeat(alloc, "n:0\n", before)?)?;
     want.push_str("n:0\n")?;
     Ok(
         answers(alloc, ["same", &first, &alike].as_slice(), "same\n")

@@ -16,7 +16,7 @@ fn feed(bytes: &[u8], step: usize, fail_at: Option<u64>) -> Feed<'_> {
 }
 
 // How a run of `stream` ended over these bytes, in such cuts, and what it wrote.
-fn streamed(alloc: Global, bytes: &[u8], step: usize, fail_at: Option<u64>) -> (Outcome, Vec<u8>) {
+fn stream_over(alloc: Global, bytes: &[u8], step: usize, fail_at: Option<u64>) -> (Outcome, Vec<u8>) {
     let mut reader = Counted::new(feed(bytes, step, fail_at));
     let mut writer = Counted::new(Vec::new(alloc));
     let outcome = run(alloc, ["stream"].as_slice(), &mut reader, &mut writer);
@@ -29,14 +29,14 @@ const STEPS: [usize; 5] = [1, 2, 3, 7, 4096];
 fn stream_answers_as_the_model(rt: HostRuntime) {
     for (bytes, want) in &DONE {
         for step in STEPS {
-            let (outcome, written) = streamed(rt.alloc(), bytes, step, None);
+            let (outcome, written) = stream_over(rt.alloc(), bytes, step, None);
             assert!(rt; matches!(outcome, Outcome::Done));
             assert!(rt; written.as_slice() == *want);
         }
     }
     for (bytes, want, line) in &REFUSED {
         for step in STEPS {
-            let (outcome, written) = streamed(rt.alloc(), bytes, step, None);
+            let (outcome, written) = stream_over(rt.alloc(), bytes, step, None);
             let mut errors = Counted::new(Vec::new(rt.alloc()));
             report(&outcome, &mut errors);
             assert_eq!(rt; outcome.status(), 2);
@@ -50,12 +50,12 @@ fn stream_answers_as_the_model(rt: HostRuntime) {
 fn stream_writes_what_is_settled(rt: HostRuntime) {
     for step in STEPS {
         for (at, (_, bytes, want)) in STREAMED.iter().enumerate() {
-            let (outcome, written) = streamed(rt.alloc(), bytes, step, None);
+            let (outcome, written) = stream_over(rt.alloc(), bytes, step, None);
             assert!(rt; matches!(outcome, Outcome::Done), "{at}");
             assert!(rt; written.as_slice() == *want, "{at}");
         }
         for (bytes, want, at) in UNFINISHED {
-            let (outcome, written) = streamed(rt.alloc(), bytes, step, None);
+            let (outcome, written) = stream_over(rt.alloc(), bytes, step, None);
             assert_eq!(rt; refused_at(&outcome), Some(at));
             assert!(rt; written.as_slice() == want, "{at}");
         }
@@ -76,7 +76,7 @@ fn refused_at(outcome: &Outcome) -> Option<u64> {
 // Padding is written before the directives that print nothing.
 #[test]
 fn stream_keeps_no_padding(rt: HostRuntime) {
-    let (outcome, written) = streamed(rt.alloc(), b"%.0s%.0s%4095c", 4096, None);
+    let (outcome, written) = stream_over(rt.alloc(), b"%.0s%.0s%4095c", 4096, None);
     assert!(rt; matches!(outcome, Outcome::Done));
     assert_eq!(rt; written.len(), 4094 + 10);
     assert!(rt;
@@ -101,7 +101,7 @@ fn a_read_that_fails_is_told_after_what_is_settled(rt: HostRuntime) {
             (8, b"ab"),
             (9, b"ab%.0s%5d"),
         ] {
-            let (outcome, written) = streamed(rt.alloc(), text, step, Some(fail_at));
+            let (outcome, written) = stream_over(rt.alloc(), text, step, Some(fail_at));
             assert!(rt; matches!(outcome, Outcome::Read), "{fail_at}");
             assert_eq!(rt; outcome.status(), 4);
             assert!(rt; written.as_slice() == want, "{fail_at}");
@@ -143,7 +143,7 @@ fn stream_over(
 }
 
 // How many bytes a writer took, how often it was flushed, and after how many bytes.
-fn noted(writer: &Watched) -> (usize, u32, usize) {
+fn calls_of(writer: &Watched) -> (usize, u32, usize) {
     (writer.taken, writer.flushes, writer.taken_at_flush)
 }
 
@@ -156,13 +156,13 @@ fn stream_flushes_once_after_what_it_wrote(rt: HostRuntime) {
         } else {
             assert!(rt; matches!(outcome, Outcome::Done));
         }
-        assert_eq!(rt; noted(&writer), (5, 1, 5));
+        assert_eq!(rt; calls_of(&writer), (5, 1, 5));
         // A refusal and a read that fails are told even where the flush fails.
         let (outcome, writer) = stream_over(rt.alloc(), b"ab%y", None, fails);
         assert!(rt; matches!(outcome, Outcome::Refused { .. }));
-        assert_eq!(rt; noted(&writer), (2, 1, 2));
+        assert_eq!(rt; calls_of(&writer), (2, 1, 2));
         let (outcome, writer) = stream_over(rt.alloc(), b"ab%5d", Some(2), fails);
         assert!(rt; matches!(outcome, Outcome::Read));
-        assert_eq!(rt; noted(&writer), (2, 1, 2));
+        assert_eq!(rt; calls_of(&writer), (2, 1, 2));
     }
 }

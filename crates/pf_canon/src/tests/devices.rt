@@ -8,7 +8,7 @@ pub(super) fn whole(text: &[u8], step: usize) -> Feed<'_> {
 }
 
 /// The same, but one call fails, where `fails_at` bytes were handed out.
-pub(super) fn failing(text: &[u8], step: usize, fails_at: usize) -> Feed<'_> {
+pub(super) fn feed_that_fails(text: &[u8], step: usize, fails_at: usize) -> Feed<'_> {
     Feed::new(
         text,
         step.max(1),

@@ -1,5 +1,5 @@
 //! Two texts, compared in step.
-use super::devices::{failing, has_left, whole};
+use super::devices::{feed_that_fails, has_left, whole};
 use super::{DIRECTIVES, FORMATS};
 use crate::{Side, SideFault, StreamFault, same_stream, same_text};
 use pf_text::Refusal;
@@ -9,7 +9,7 @@ use std::alloc::AllocError;
 static CUTS: [usize; 4] = [1, 2, 3, 7];
 
 // What `same_stream` answers of two texts in a cut.
-fn streamed(first: &str, second: &str, step: usize) -> Result<bool, SideFault> {
+fn same_over(first: &str, second: &str, step: usize) -> Result<bool, SideFault> {
     same_stream(
         &mut Counted::new(whole(first.as_bytes(), step)),
         &mut Counted::new(whole(second.as_bytes(), step)),
@@ -26,7 +26,7 @@ fn all_answer(first: &str, second: &str, want: Result<bool, (Side, Refusal)>) ->
         }),
     };
     for step in CUTS {
-        if streamed(first, second, step) != wanted {
+        if same_over(first, second, step) != wanted {
             return false;
         }
     }
@@ -115,7 +115,7 @@ fn a_reader_that_fails_is_told_by_its_side(rt: HostRuntime) {
     for step in CUTS {
         for fails_at in 0..6usize {
             let fault = StreamFault::Read;
-            let mut r = Counted::new(failing(text, step, fails_at));
+            let mut r = Counted::new(feed_that_fails(text, step, fails_at));
             let mut s = Counted::new(whole(text, step));
             let first = SideFault {
                 side: Side::First,
@@ -124,15 +124,15 @@ fn a_reader_that_fails_is_told_by_its_side(rt: HostRuntime) {
             assert!(rt; same_stream(&mut r, &mut s) == Err(first));
             assert_eq!(rt; (r.failures(), s.failures()), (1, 0));
             let mut r = Counted::new(whole(text, step));
-            let mut s = Counted::new(failing(text, step, fails_at));
+            let mut s = Counted::new(feed_that_fails(text, step, fails_at));
             let second = SideFault {
                 side: Side::Second,
                 fault,
             };
             assert!(rt; same_stream(&mut r, &mut s) == Err(second));
             assert_eq!(rt; (r.failures(), s.failures()), (0, 1));
-            let mut r = Counted::new(failing(text, step, 5));
-            let mut s = Counted::new(failing(text, step, fails_at));
+            let mut r = Counted::new(feed_that_fails(text, step, 5));
+            let mut s = Counted::new(feed_that_fails(text, step, fails_at));
             assert!(rt; same_stream(&mut r, &mut s) == Err(first));
         }
     }

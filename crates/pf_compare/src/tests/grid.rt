@@ -161,7 +161,7 @@ struct Tally {
     alone: Vec<usize>,
 }
 
-fn tallied(alloc: Global, wanted: ArgType) -> Result<Tally, Fail> {
+fn tally_of(alloc: Global, wanted: ArgType) -> Result<Tally, Fail> {
     let owned = owned_row(alloc, wanted)?;
     let row = row_of(alloc, &owned)?;
     let mut texts = Vec::new(alloc);
@@ -219,7 +219,7 @@ fn are_told_by(
     directives: usize,
     needed: &[bool],
 ) -> Result<bool, Fail> {
-    let tally = tallied(alloc, wanted)?;
+    let tally = tally_of(alloc, wanted)?;
     let pairs = directives.saturating_mul(directives.saturating_sub(1)) / 2;
     Ok(tally.pairs == pairs && tally.untold == 0 && tally.needs(needed))
 }

@@ -4,7 +4,7 @@ use pf_values::Arg;
 use std::alloc::{AllocError, Global};
 
 // So many bytes and an end.
-fn ended(alloc: Global, len: usize, end: &[u8]) -> Result<Vec<u8>, AllocError> {
+fn text_that_ends(alloc: Global, len: usize, end: &[u8]) -> Result<Vec<u8>, AllocError> {
     let mut text = Vec::new(alloc);
     text.resize(len, b'a')?;
     text.extend_from_slice(end)?;
@@ -13,9 +13,9 @@ fn ended(alloc: Global, len: usize, end: &[u8]) -> Result<Vec<u8>, AllocError> {
 
 // Whether 1 is told to print otherwise by `%d` than by `%5d` after so many bytes, and as by `%i`.
 fn confirms_after(alloc: Global, len: usize) -> Result<bool, AllocError> {
-    let plain = ended(alloc, len, b"%d")?;
-    let wide = ended(alloc, len, b"%5d")?;
-    let alike = ended(alloc, len, b"%i")?;
+    let plain = text_that_ends(alloc, len, b"%d")?;
+    let wide = text_that_ends(alloc, len, b"%5d")?;
+    let alike = text_that_ends(alloc, len, b"%i")?;
     let one = [Arg::Int(1)];
     Ok(confirms(alloc, &plain, &wide, &one)? && !confirms(alloc, &plain, &alike, &one)?)
 }

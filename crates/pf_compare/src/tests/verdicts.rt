@@ -29,7 +29,7 @@ fn write_arg(out: &mut String, arg: &OwnedArg) -> Result<(), Fail> {
     Ok(())
 }
 
-fn shown(alloc: Global, f: &[u8], g: &[u8]) -> Result<String, Fail> {
+fn verdict_text(alloc: Global, f: &[u8], g: &[u8]) -> Result<String, Fail> {
     let mut out = String::new(alloc);
     match compare(alloc, f, g) {
         Ok(comparison) => match &comparison.verdict {
@@ -65,7 +65,7 @@ fn shown(alloc: Global, f: &[u8], g: &[u8]) -> Result<String, Fail> {
 #[test]
 fn first_half(rt: HostRuntime) -> Result<(), Fail> {
     for (f, g, wanted) in &FIRST {
-        let found = shown(rt.alloc(), f.as_bytes(), g.as_bytes())?;
+        let found = verdict_text(rt.alloc(), f.as_bytes(), g.as_bytes())?;
         assert!(rt; found.as_str() == *wanted, "{f} {g}: {found}");
     }
     Ok(())
@@ -74,7 +74,7 @@ fn first_half(rt: HostRuntime) -> Result<(), Fail> {
 #[test]
 fn second_half(rt: HostRuntime) -> Result<(), Fail> {
     for (f, g, wanted) in &SECOND {
-        let found = shown(rt.alloc(), f.as_bytes(), g.as_bytes())?;
+        let found = verdict_text(rt.alloc(), f.as_bytes(), g.as_bytes())?;
         assert!(rt; found.as_str() == *wanted, "{f} {g}: {found}");
     }
     Ok(())

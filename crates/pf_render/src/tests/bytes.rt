@@ -1,5 +1,5 @@
 //! Bytes that are no ASCII characters, and zero bytes.
-use super::{directive_of, rendered};
+use super::{directive_of, rendering_of};
 use crate::render_one;
 use pf_values::{Arg, CBytes, Counted};
 use std::test::Fail;
@@ -22,7 +22,7 @@ fn plain_bytes() -> [u8; 254] {
 fn bytes_print_themselves(rt: HostRuntime) -> Result<(), Fail> {
     let bytes = plain_bytes();
     assert_eq!(rt; bytes.last(), Some(&255));
-    let out = rendered(rt.alloc(), &bytes, &[])?;
+    let out = rendering_of(rt.alloc(), &bytes, &[])?;
     assert!(rt; out.as_deref() == Some(bytes.as_slice()));
     Ok(())
 }
@@ -33,12 +33,12 @@ fn strings_of_bytes(rt: HostRuntime) -> Result<(), Fail> {
     let Some(string) = CBytes::new(&bytes) else {
         panic!(rt; "a zero byte is found");
     };
-    let out = rendered(rt.alloc(), b"%s", &[Arg::Str(string)])?;
+    let out = rendering_of(rt.alloc(), b"%s", &[Arg::Str(string)])?;
     assert!(rt; out.as_deref() == Some(bytes.as_slice()));
     let Some(string) = CBytes::new(b"\xc3\xa9\x80\xff") else {
         panic!(rt; "a zero byte is found");
     };
-    let out = rendered(
+    let out = rendering_of(
         rt.alloc(),
         b"\xff%.1s|%3.1s|%-4.2s\x80",
         &[Arg::Str(string); 3],
@@ -70,9 +70,9 @@ static CHARS: [(i32, u8); 14] = [
 fn chars(rt: HostRuntime) -> Result<(), Fail> {
     for (number, byte) in &CHARS {
         let arg = Arg::Int(*number);
-        let out = rendered(rt.alloc(), b"%c", &[arg])?;
+        let out = rendering_of(rt.alloc(), b"%c", &[arg])?;
         assert!(rt; out.as_deref() == Some([*byte].as_slice()), "{number}");
-        let out = rendered(rt.alloc(), b"%3c%-2c%1c", &[arg, arg, arg])?;
+        let out = rendering_of(rt.alloc(), b"%3c%-2c%1c", &[arg, arg, arg])?;
         let wanted = [b' ', b' ', *byte, *byte, b' ', *byte];
         assert!(rt; out.as_deref() == Some(wanted.as_slice()), "{number}");
     }

@@ -1,5 +1,5 @@
 //! What is found before any byte is written.
-use super::rendered;
+use super::rendering_of;
 use crate::{RenderFault, RenderVecFault, render, render_vec};
 use pf_text::Refusal;
 use pf_values::{Arg, CBytes, Counted, RefusalKind};
@@ -36,7 +36,7 @@ fn fault_of(
     Ok(None)
 }
 
-fn refused(kind: RefusalKind, at: u64) -> Option<RenderFault> {
+fn refusal_of(kind: RefusalKind, at: u64) -> Option<RenderFault> {
     Some(RenderFault::Refused(Refusal { kind, at }))
 }
 
@@ -59,13 +59,13 @@ fn string() -> Arg<'static> {
 fn refusals_come_first(rt: HostRuntime) -> Result<(), Fail> {
     let one = Arg::Int(1);
     let found = fault_of(rt.alloc(), b"%5%", &[one])?;
-    assert_eq!(rt; found, refused(RefusalKind::BadPercent, 2));
+    assert_eq!(rt; found, refusal_of(RefusalKind::BadPercent, 2));
     let found = fault_of(rt.alloc(), b"a%d%s%", &[])?;
-    assert_eq!(rt; found, refused(RefusalKind::Truncated, 6));
+    assert_eq!(rt; found, refusal_of(RefusalKind::Truncated, 6));
     let found = fault_of(rt.alloc(), b"%d%d%y", &[string(), string(), string()])?;
-    assert_eq!(rt; found, refused(RefusalKind::Unexpected, 5));
+    assert_eq!(rt; found, refusal_of(RefusalKind::Unexpected, 5));
     let found = fault_of(rt.alloc(), b"%d\0", &[one])?;
-    assert_eq!(rt; found, refused(RefusalKind::NulByte, 2));
+    assert_eq!(rt; found, refusal_of(RefusalKind::NulByte, 2));
     Ok(())
 }
 
@@ -151,7 +151,7 @@ fn each_type(rt: HostRuntime) -> Result<(), Fail> {
         for (k, arg) in args.iter().enumerate() {
             if i == k {
                 let wanted: &[u8] = if k == 6 { b"x" } else { b"120" };
-                let out = rendered(rt.alloc(), format.as_bytes(), &[*arg])?;
+                let out = rendering_of(rt.alloc(), format.as_bytes(), &[*arg])?;
                 assert!(rt; out.as_deref() == Some(wanted), "{format}");
             } else {
                 let found = fault_of(rt.alloc(), format.as_bytes(), &[*arg])?;

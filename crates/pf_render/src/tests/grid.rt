@@ -1,7 +1,7 @@
 //! Each conversion under each length modifier, with a dozen shapes and five values. What is printed is
 //! what a C library prints, kept as data: `docs/grid.c` wrote the tables, on glibc 2.36.
 use super::rooms::is_exact_at_interrupts;
-use super::{directive_of, printed, prints};
+use super::{directive_of, print_of, prints};
 use pf_values::{ArgType, Directive};
 use std::alloc::{AllocError, Global};
 use std::test::Fail;
@@ -111,7 +111,7 @@ fn first_wrong_run(
             return Ok(Some((*format, 0)));
         };
         for (i, number) in numbers(&directive, *bits).iter().enumerate() {
-            let out = printed(alloc, format, *number)?;
+            let out = print_of(alloc, format, *number)?;
             let out = out.as_deref().unwrap_or(&[]);
             if i < 5 && !is_run(out, heads[i], *byte, counts[i], tails[i]) {
                 return Ok(Some((*format, *number)));

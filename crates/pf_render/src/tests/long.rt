@@ -1,11 +1,11 @@
 //! Long strings, many arguments, and long formats.
-use super::rendered;
+use super::rendering_of;
 use pf_values::{Arg, CBytes};
 use std::alloc::{AllocError, Global};
 use std::test::Fail;
 
 // A text so many times.
-fn repeated(alloc: Global, text: &[u8], count: usize) -> Result<Vec<u8>, AllocError> {
+fn repeat(alloc: Global, text: &[u8], count: usize) -> Result<Vec<u8>, AllocError> {
     let mut out = Vec::new(alloc);
     for _ in 0..count {
         out.extend_from_slice(text)?;
@@ -15,18 +15,18 @@ fn repeated(alloc: Global, text: &[u8], count: usize) -> Result<Vec<u8>, AllocEr
 
 #[test]
 fn long_strings(rt: HostRuntime) -> Result<(), Fail> {
-    let text = repeated(rt.alloc(), b"abcdefgh", 12_500)?;
+    let text = repeat(rt.alloc(), b"abcdefgh", 12_500)?;
     let Some(string) = CBytes::new(text.as_slice()) else {
         panic!(rt; "a zero byte is found");
     };
     let string = Arg::Str(string);
-    let out = rendered(rt.alloc(), b"%s", &[string])?;
+    let out = rendering_of(rt.alloc(), b"%s", &[string])?;
     assert!(rt; out.as_deref() == Some(text.as_slice()));
-    let out = rendered(rt.alloc(), b"%4095s", &[string])?;
+    let out = rendering_of(rt.alloc(), b"%4095s", &[string])?;
     assert!(rt; out.as_deref() == Some(text.as_slice()));
-    let out = rendered(rt.alloc(), b"%.4095s", &[string])?;
+    let out = rendering_of(rt.alloc(), b"%.4095s", &[string])?;
     assert!(rt; out.as_deref() == text.get(..4095));
-    let out = rendered(rt.alloc(), b"%-4095.4094s", &[string])?;
+    let out = rendering_of(rt.alloc(), b"%-4095.4094s", &[string])?;
     let out = out.as_deref().unwrap_or(&[]);
     assert_eq!(rt; out.len(), 4095);
     assert!(rt; out.get(..4094) == text.get(..4094));
@@ -36,7 +36,7 @@ fn long_strings(rt: HostRuntime) -> Result<(), Fail> {
 
 #[test]
 fn widths_of_bytes(rt: HostRuntime) -> Result<(), Fail> {
-    let out = rendered(rt.alloc(), b"%4095c%-4095c", &[Arg::Int(65), Arg::Int(66)])?;
+    let out = rendering_of(rt.alloc(), b"%4095c%-4095c", &[Arg::Int(65), Arg::Int(66)])?;
     let out = out.as_deref().unwrap_or(&[]);
     assert_eq!(rt; out.len(), 8190);
     assert!(rt; out.iter().take(4094).all(|byte| *byte == b' '));
@@ -47,8 +47,8 @@ fn widths_of_bytes(rt: HostRuntime) -> Result<(), Fail> {
 
 #[test]
 fn a_thousand_arguments(rt: HostRuntime) -> Result<(), Fail> {
-    let format = repeated(rt.alloc(), b"%d,%s;", 500)?;
-    let wanted = repeated(rt.alloc(), b"-7,x;", 500)?;
+    let format = repeat(rt.alloc(), b"%d,%s;", 500)?;
+    let wanted = repeat(rt.alloc(), b"-7,x;", 500)?;
     let Some(string) = CBytes::new(b"x") else {
         panic!(rt; "a zero byte is found");
     };
@@ -57,28 +57,28 @@ fn a_thousand_arguments(rt: HostRuntime) -> Result<(), Fail> {
         args.push(Arg::Int(-7))?;
         args.push(Arg::Str(string))?;
     }
-    let out = rendered(rt.alloc(), format.as_slice(), args.as_slice())?;
+    let out = rendering_of(rt.alloc(), format.as_slice(), args.as_slice())?;
     assert!(rt; out.as_deref() == Some(wanted.as_slice()));
     Ok(())
 }
 
 #[test]
 fn ten_thousand_directives(rt: HostRuntime) -> Result<(), Fail> {
-    let format = repeated(rt.alloc(), b"a%%%3ld", 10_000)?;
-    let wanted = repeated(rt.alloc(), b"a%  5", 10_000)?;
+    let format = repeat(rt.alloc(), b"a%%%3ld", 10_000)?;
+    let wanted = repeat(rt.alloc(), b"a%  5", 10_000)?;
     let mut args = Vec::new(rt.alloc());
     for _ in 0..10_000usize {
         args.push(Arg::Long(5))?;
     }
-    let out = rendered(rt.alloc(), format.as_slice(), args.as_slice())?;
+    let out = rendering_of(rt.alloc(), format.as_slice(), args.as_slice())?;
     assert!(rt; out.as_deref() == Some(wanted.as_slice()));
     Ok(())
 }
 
 #[test]
 fn a_long_literal(rt: HostRuntime) -> Result<(), Fail> {
-    let format = repeated(rt.alloc(), b"abcdefghi\n", 50_000)?;
-    let out = rendered(rt.alloc(), format.as_slice(), &[])?;
+    let format = repeat(rt.alloc(), b"abcdefghi\n", 50_000)?;
+    let out = rendering_of(rt.alloc(), format.as_slice(), &[])?;
     assert!(rt; out.as_deref() == Some(format.as_slice()));
     Ok(())
 }

@@ -72,7 +72,7 @@ fn end_of_whole<W: Write>(format: &[u8], args: &[Arg<'_>], writer: &mut Counted<
 }
 
 // How a call is to end in a room, and how many failures are to be counted by then.
-fn wanted(text: &[u8], room: usize) -> (Ended, u64) {
+fn wanted_end(text: &[u8], room: usize) -> (Ended, u64) {
     if room == text.len() {
         (Ended::Whole, 0)
     } else {
@@ -86,7 +86,7 @@ fn wanted(text: &[u8], room: usize) -> (Ended, u64) {
 fn takes_front(job: &Job<'_>, text: &[u8], place: &mut [u8], step: usize, kind: ErrorKind) -> bool {
     let room = place.len();
     let mut writer = Counted::new(Cut::new(place, step.max(1), kind, true));
-    let (end, failures) = wanted(text, room);
+    let (end, failures) = wanted_end(text, room);
     if end_of(job, &mut writer) != end || writer.failures() != failures {
         return false;
     }
@@ -99,7 +99,7 @@ fn takes_front(job: &Job<'_>, text: &[u8], place: &mut [u8], step: usize, kind: 
 fn fills(job: &Job<'_>, text: &[u8], place: &mut [u8]) -> bool {
     let room = place.len();
     let mut writer = Counted::new(&mut *place);
-    let (end, failures) = wanted(text, room);
+    let (end, failures) = wanted_end(text, room);
     if end_of(job, &mut writer) != end || writer.failures() != failures {
         return false;
     }

@@ -73,7 +73,7 @@ fn kind_of(row: &Row, byte: u8) -> u8 {
     UNEXPECTED
 }
 
-fn wanted(row: &Row, byte: u8) -> Answer {
+fn wanted_answer(row: &Row, byte: u8) -> Answer {
     if has(row.goes_on, byte) {
         Answer::GoesOn
     } else if has(row.ends, byte) {
@@ -84,7 +84,7 @@ fn wanted(row: &Row, byte: u8) -> Answer {
 }
 
 // What a scanner makes of the byte.
-fn given(scanner: Scanner, byte: u8) -> Answer {
+fn given_answer(scanner: Scanner, byte: u8) -> Answer {
     let mut scanner = scanner;
     match scanner.feed(byte) {
         Ok(Step::More) => Answer::GoesOn,
@@ -102,8 +102,8 @@ fn every_byte_after_every_front(rt: HostRuntime) {
         }
         for byte in 0..=u8::MAX {
             assert_eq!(rt;
-                given(scanner, byte),
-                wanted(row, byte),
+                given_answer(scanner, byte),
+                wanted_answer(row, byte),
                 "{} and byte {byte}",
                 row.front
             );

@@ -16,7 +16,7 @@ struct Device {
 }
 
 impl Device {
-    fn called(&mut self) -> Answer {
+    fn call(&mut self) -> Answer {
         self.calls = self.calls.saturating_add(1);
         self.answer
     }
@@ -47,13 +47,13 @@ impl Write for Device {
     }
 }
 
-fn counted(answer: Answer) -> Counted<Device> {
+fn counting(answer: Answer) -> Counted<Device> {
     Counted::new(Device { answer, calls: 0 })
 }
 
 // How many failures a write, a write of nothing, a read and a flush count, one after another.
 fn failures_of_each(answer: Answer) -> ([u64; 4], u32) {
-    let mut device = counted(answer);
+    let mut device = counting(answer);
     let _ = device.write(b"abc");
     let after_write = device.failures();
     let _ = device.write(b"");
@@ -106,9 +106,9 @@ fn the_greatest_count_stays(rt: HostRuntime) {
 #[test]
 fn a_call_answers_as_the_device_does(rt: HostRuntime) {
     let mut place = [0u8; 4];
-    assert_eq!(rt; counted(Answer::Takes(2)).write(b"abc").ok(), Some(2));
-    assert_eq!(rt; counted(Answer::Takes(2)).read(&mut place).ok(), Some(2));
-    assert!(rt; counted(Answer::Takes(2)).flush().is_ok());
+    assert_eq!(rt; counting(Answer::Takes(2)).write(b"abc").ok(), Some(2));
+    assert_eq!(rt; counting(Answer::Takes(2)).read(&mut place).ok(), Some(2));
+    assert!(rt; counting(Answer::Takes(2)).flush().is_ok());
 }
 
 #[test]
@@ -121,11 +121,11 @@ fn the_kind_of_an_error_is_the_devices(rt: HostRuntime) {
         ErrorKind::Other,
     ] {
         let fails = Answer::Fails(kind);
-        let written = counted(fails).write(b"abc");
+        let written = counting(fails).write(b"abc");
         assert_eq!(rt; written.err().map(|e| e.kind()), Some(kind));
-        let read = counted(fails).read(&mut place);
+        let read = counting(fails).read(&mut place);
         assert_eq!(rt; read.err().map(|e| e.kind()), Some(kind));
-        let flushed = counted(fails).flush();
+        let flushed = counting(fails).flush();
         assert_eq!(rt; flushed.err().map(|e| e.kind()), Some(kind));
     }
 }
@@ -134,14 +134,14 @@ fn the_kind_of_an_error_is_the_devices(rt: HostRuntime) {
 #[test]
 fn a_call_hands_on_all_that_it_is_given(rt: HostRuntime) {
     let long = [b'x'; 5_000];
-    let mut device = counted(Answer::Takes(usize::MAX));
+    let mut device = counting(Answer::Takes(usize::MAX));
     assert_eq!(rt; device.write(&long).ok(), Some(5_000));
     assert_eq!(rt; device.into_inner().calls, 1);
     let mut long = [0u8; 5_000];
-    let mut device = counted(Answer::Takes(usize::MAX));
+    let mut device = counting(Answer::Takes(usize::MAX));
     assert_eq!(rt; device.read(&mut long).ok(), Some(5_000));
     assert_eq!(rt; device.into_inner().calls, 1);
-    let mut device = counted(Answer::Takes(usize::MAX));
+    let mut device = counting(Answer::Takes(usize::MAX));
     assert_eq!(rt; device.read(&mut []).ok(), Some(0));
     assert_eq!(rt; device.into_inner().calls, 1);
 }

@@ -19,4 +19,4 @@ returns c =
     let format = next _ _ _ _ _ c.in_ok-with_format.ensures show arguments in
     let formats = c.in_ok-on_formats.ensures.0 ∙ ap (λ a. with_rule a (wanted (codes "G"))) c.in_ok-on_format-5.ensures.0 in
     let same = next _ _ _ _ _ c.in_ok-with_same.ensures format formats in
-    IfOk-weaker c.adding-6.result _ _ (λ r h. next r _ _ _ _ h same c.in_ok-on_nothing.ensures.0) c.adding-6.ensures
+    IfOk-weaker c.with_subcommand-6.result _ _ (λ r h. next r _ _ _ _ h same c.in_ok-on_nothing.ensures.0) c.with_subcommand-6.ensures

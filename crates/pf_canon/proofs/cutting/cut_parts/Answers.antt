@@ -1,6 +1,6 @@
 use Rattle.std.proofs.Common.{replicate}
 use Rattle.std.specs.Prelude.{flat_map}
-use Rattle.pf_values.specs.Canonical.{written}
+use Rattle.pf_values.specs.Canonical.{item_spelling}
 use Rattle.pf_values.specs.Text.{space, zero_digit}
 use Rattle.pf_text.specs.Plain.{silents}
 use Rattle.pf_canon.proofs.CutLemmas.{cut_then}
@@ -17,5 +17,5 @@ returns c =
     let last = c.cut_repeated.result in
     cut_then left a last (replicate p.spaces space) _ c.cut_repeated-left.ensures
     (cut_then a b last (replicate p.zeros zero_digit) _ c.cut_repeated-left-2.ensures
-    (cut_then b d last (flat_map written (silents p.silents)) _ c.cut_silents-left.ensures
+    (cut_then b d last (flat_map item_spelling (silents p.silents)) _ c.cut_silents-left.ensures
     (cut_then d e last p.spelling.items (replicate p.trail space) (rw c.deref.ensures.0 at c.cut-left.ensures) c.cut_repeated.ensures)))

@@ -1,6 +1,6 @@
 use Rattle.std.proofs.Common.{◌≡◌, ◌-◌, ◌≤◌, ◌++◌}
 use Rattle.std.specs.Prelude.{flat_map}
-use Rattle.pf_values.specs.Canonical.{written}
+use Rattle.pf_values.specs.Canonical.{item_spelling}
 use Rattle.pf_text.specs.Plain.{silents}
 use Rattle.pf_canon.proofs.parts.append_silents.Given as goal
 
@@ -8,7 +8,7 @@ use Rattle.pf_canon.proofs.parts.append_silents.Given as goal
 abbrev pub invariant-loop-left : goal.invariant-loop-left
 invariant-loop-left g l = record {
   within : l.left ≤ l.count;
-  out : g.R.Room.bytes_of l.out ≡ g.R.Room.bytes_of l.fn.out ++ flat_map written (silents (l.count - l.left));
+  out : g.R.Room.bytes_of l.out ≡ g.R.Room.bytes_of l.fn.out ++ flat_map item_spelling (silents (l.count - l.left));
 }
 
 abbrev pub decreases-loop-left : goal.decreases-loop-left

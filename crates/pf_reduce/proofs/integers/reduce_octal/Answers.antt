@@ -4,7 +4,7 @@ use Rattle.pf_values.specs.Conversions.{is_signed, is_text, prints_signed, print
 use Rattle.pf_values.specs.Flags.{no_flags, with_flag}
 use Rattle.pf_values.specs.declared.flags.Flag.TheVariants.{Alt}
 use Rattle.pf_values.specs.Normal.{digits_at_most, effective_precision}
-use Rattle.pf_reduce.specs.Padded.{padded, padding_of}
+use Rattle.pf_reduce.specs.Padded.{with_padding, padding_of}
 use Rattle.pf_reduce.proofs.PlainNumbers.{
   digits_reduced,
   length-octal_text,
@@ -25,11 +25,11 @@ returns-then-has_spaces_before c =
     let p_is : p ≡ max (effective_precision s 0) 1 = c.max-precision.ensures ∙ ap (λ k. max k 1) c.effective_precision.ensures.value in
     let flags : c.with-alt.result ≡ with_flag no_flags Alt = c.with-alt.ensures ∙ ap (λ f. with_flag f Alt) c.empty.ensures in
     let e = octal s.conv c.requires.octal in
-    rw (c.within.ensures.value, c.written.ensures, flags) (octal_reduced s c.without_idle_width-padding.result p e c.requires.alt (rw (c.within.ensures.value, c.written.ensures, flags) at c.within.ensures.normal) (omega (arith, c.of.ensures.limit, c.cut.ensures.constant, c.without_idle_width-padding.ensures.constant)) (λ v count.
+    rw (c.within.ensures.value, c.kept_precision.ensures, flags) (octal_reduced s c.without_idle_width-padding.result p e c.requires.alt (rw (c.within.ensures.value, c.kept_precision.ensures, flags) at c.within.ensures.normal) (omega (arith, c.of.ensures.limit, c.cut.ensures.constant, c.without_idle_width-padding.ensures.constant)) (λ v count.
     let body = octal_text p (nat_abs v) in
     let len = length-octal_text p (nat_abs v) in
-    ap (padded (padding_of s)) (octal_value s v e c.requires.alt ∙ ap (λ k. octal_text k (nat_abs v)) (sym p_is))
-    ∙ ap (λ q. padded q body) (sym c.of.ensures.value)
+    ap (with_padding (padding_of s)) (octal_value s v e c.requires.alt ∙ ap (λ k. octal_text k (nat_abs v)) (sym p_is))
+    ∙ ap (λ q. with_padding q body) (sym c.of.ensures.value)
     ∙ c.cut.ensures.same body (omega (arith, c.max.ensures, c.max_digits-digits.ensures.value))
     ∙ c.without_idle_width-padding.ensures.same body (omega arith)))
 
@@ -48,10 +48,10 @@ returns c =
     let few = octal_count s e n count in
     let body = octal_text p n in
     let len = length-octal_text p n in
-    ap (padded (padding_of s)) (octal_value s v e c.requires.alt ∙ ap (λ k. octal_text k n) (sym p_is))
-    ∙ ap (λ q. padded q body) (sym c.of.ensures.value)
+    ap (with_padding (padding_of s)) (octal_value s v e c.requires.alt ∙ ap (λ k. octal_text k n) (sym p_is))
+    ∙ ap (λ q. with_padding q body) (sym c.of.ensures.value)
     ∙ c.cut.ensures.same body (omega (arith, c.max.ensures, c.max_digits-digits.ensures.value))
     ∙ c.without_idle_width-padding.ensures.same body (omega arith)
-    ∙ ap (padded c.without_idle_width-padding.result) (octal_split s.conv e p (digits_at_most s) z n (omega arith) z_is few)
+    ∙ ap (with_padding c.without_idle_width-padding.result) (octal_split s.conv e p (digits_at_most s) z n (omega arith) z_is few)
     ∙ c.past_zeros.ensures.same _
     ∙ c.right_up_to-padding.ensures.same _ (one_or_none _ _)))

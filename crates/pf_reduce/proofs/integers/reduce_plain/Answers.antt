@@ -3,7 +3,7 @@ use Rattle.std.specs.Prelude.{nat_abs}
 use Rattle.pf_values.specs.Conversions.{base_of}
 use Rattle.pf_values.specs.Normal.{digits_at_most}
 use Rattle.pf_values.proofs.Printed.{count_of}
-use Rattle.pf_reduce.specs.Padded.{padded, padding_of}
+use Rattle.pf_reduce.specs.Padded.{with_padding, padding_of}
 use Rattle.pf_reduce.proofs.PlainNumbers.{beyond_most, digits_reduced, digits_text, length-digits_text, one_or_none, plain_value, split_zeros}
 use Rattle.pf_reduce.proofs.integers.reduce_plain.Goals as goal
 
@@ -17,10 +17,10 @@ returns c =
     let n = nat_abs v in
     let body = digits_text s.conv p n in
     let len = length-digits_text s.conv p n in
-    ap (padded (padding_of s)) (plain_value s v c.requires.sign c.requires.alt ∙ ap (λ k. digits_text s.conv k n) (sym c.effective_precision-precision.ensures.value))
-    ∙ ap (λ q. padded q body) (sym c.of.ensures.value)
+    ap (with_padding (padding_of s)) (plain_value s v c.requires.sign c.requires.alt ∙ ap (λ k. digits_text s.conv k n) (sym c.effective_precision-precision.ensures.value))
+    ∙ ap (λ q. with_padding q body) (sym c.of.ensures.value)
     ∙ c.cut.ensures.same body (omega (arith, c.max.ensures, c.max_digits-digits.ensures.value))
     ∙ c.without_idle_width.ensures.same body (omega arith)
-    ∙ ap (padded c.without_idle_width.result) (split_zeros s.conv p z n _ (rw z_is (beyond_most p (digits_at_most s) (count_of (base_of s.conv) n) count)))
+    ∙ ap (with_padding c.without_idle_width.result) (split_zeros s.conv p z n _ (rw z_is (beyond_most p (digits_at_most s) (count_of (base_of s.conv) n) count)))
     ∙ c.past_zeros.ensures.same _
     ∙ c.right_up_to-padding.ensures.same _ (one_or_none _ _)))

@@ -1,7 +1,7 @@
 use Rattle.std.proofs.Common.{◌≡◌, arith, ap, sym, ◌∙◌}
 use Rattle.pf_values.specs.Flags.{no_flags, with_flag}
 use Rattle.pf_values.specs.declared.flags.Flag.TheVariants.{Alt, Zero}
-use Rattle.pf_reduce.specs.Padded.{padded}
+use Rattle.pf_reduce.specs.Padded.{with_padding}
 use Rattle.pf_reduce.proofs.PrefixedNumbers.{prefixed_filled, prefixed_reduced, unseen_side}
 use Rattle.pf_reduce.proofs.integers.reduce_prefixed.Goals as goal
 
@@ -18,7 +18,7 @@ returns c =
     let p = c.effective_precision-precision.result in
     rw c.prefixed_core.ensures.value (prefixed_reduced s c.requires.prefixed c.requires.alt c.right_up_to-padding.result p (c.keeps_zeros.ensures.idle c.if-keeps_zeros.false) c.effective_precision-precision.ensures.value (rw c.prefixed_core.ensures.value at c.prefixed_core.ensures.normal)
     (omega (arith, c.of-2.ensures.limit, c.cut.ensures.constant, c.without_idle_width.ensures.constant, c.right_up_to-padding.ensures.constant)) (λ body is.
-    ap (λ q. padded q body) (sym c.of-2.ensures.value)
+    ap (λ q. with_padding q body) (sym c.of-2.ensures.value)
     ∙ c.cut.ensures.same body (omega (arith, is.most, c.max.ensures, c.max_digits.ensures.value))
     ∙ c.without_idle_width.ensures.same body is.least
     ∙ c.right_up_to-padding.ensures.same body (unseen_side _ c.unseen_width.result p body c.unseen_width.ensures.none c.unseen_width.ensures.some is.some)))

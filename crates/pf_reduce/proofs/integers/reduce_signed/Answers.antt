@@ -5,7 +5,7 @@ use Rattle.pf_values.specs.declared.conversions.Conv.TheVariants.{D}
 use Rattle.pf_values.specs.declared.flags.Flag.TheVariants.{Zero}
 use Rattle.pf_values.specs.Printing.{is_negative}
 use Rattle.pf_values.specs.Normal.{digits_at_most, effective_precision}
-use Rattle.pf_reduce.specs.Padded.{padded, padding_of}
+use Rattle.pf_reduce.specs.Padded.{with_padding, padding_of}
 use Rattle.pf_reduce.specs.Signs.{sign_length, sign_of}
 use Rattle.pf_reduce.proofs.PlainNumbers.{digits_text, length-digits_text}
 use Rattle.pf_reduce.proofs.SignedNumbers.{signed_filled, signed_least, signed_most, signed_reduced, signed_text, unseen_signed_side}
@@ -35,8 +35,8 @@ returns c =
     let most = c.max_digits-digits.ensures.value in
     let before = signed_text given p v in
     let after = signed_text kept p v in
-    ap (λ u. padded (padding_of s) (signed_text u p v)) (sym sign)
-    ∙ ap (λ q. padded q before) (sym c.of-2.ensures.value)
+    ap (λ u. with_padding (padding_of s) (signed_text u p v)) (sym sign)
+    ∙ ap (λ q. with_padding q before) (sym c.of-2.ensures.value)
     ∙ c.cut.ensures.same before (omega (arith, c.max.ensures, signed_most given p (digits_at_most s) v count))
     ∙ c.without_idle_width-padding.ensures.same before (omega (arith, c.len-3.ensures, signed_least given p v))
     ∙ c.sign_in_field-sign.ensures.same (is_negative v) number (omega arith)

@@ -5,7 +5,7 @@ use Rattle.std.proofs.lemmas.Slice.Zip.{zip_end, zip_turn}
 use Rattle.std.specs.Result.{is_ok}
 use Rattle.fmtcanon.proofs.FormatArgumentLemmas.{first_wrong_type, one_more_typed, typed_so_far}
 use Rattle.fmtcanon.specs.UntypedArgs.{argument_given}
-use Rattle.fmtcanon.proofs.format_arguments.typed.Goals as goal
+use Rattle.fmtcanon.proofs.format_arguments.at_types.Goals as goal
 
 pub returns-in-None-as_type-clause-err : goal.returns-in-None-as_type-clause-err
 returns-in-None-as_type-clause-err c =

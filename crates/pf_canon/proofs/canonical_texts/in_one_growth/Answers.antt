@@ -3,7 +3,7 @@ use Rattle.std.proofs.lemmas.List.{length-take-le}
 use Rattle.std.proofs.lemmas.Result.{err_from_is_err_and}
 use Rattle.pf_canon.specs.Through.{IsThrough}
 use Rattle.pf_canon.proofs.BuildingLemmas.{hindered}
-use Rattle.pf_canon.proofs.canonical_texts.counted.Goals as goal
+use Rattle.pf_canon.proofs.canonical_texts.in_one_growth.Goals as goal
 
 pub len_from-requires : goal.len_from-requires
 len_from-requires g c =

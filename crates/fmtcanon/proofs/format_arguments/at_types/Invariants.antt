@@ -1,6 +1,6 @@
 use Rattle.std.proofs.Common.{length}
 use Rattle.fmtcanon.proofs.FormatArgumentLemmas.{AreTyped}
-use Rattle.fmtcanon.proofs.format_arguments.typed.Given as goal
+use Rattle.fmtcanon.proofs.format_arguments.at_types.Given as goal
 
 -- the arguments so far are there, each of its type
 abbrev pub invariant-loop-argument : goal.invariant-loop-argument
