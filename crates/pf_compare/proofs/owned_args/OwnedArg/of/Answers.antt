@@ -5,5 +5,5 @@ use Rattle.pf_probes.specs.Candidate.{argument_of}
 use Rattle.pf_compare.proofs.CandidateLemmas.{repeated_byte}
 use Rattle.pf_compare.proofs.owned_args.OwnedArg.of.Goals as goal
 
-pub repeated-requires : goal.repeated-requires
-repeated-requires c = repeated_byte c.in-Repeat.count c.in-Repeat.byte c.args.arg_type (subst (λ (candidate : Candidate). HasType (argument_of candidate) c.args.arg_type) c.in-Repeat.is c.requires)
+pub of_one_byte-requires : goal.of_one_byte-requires
+of_one_byte-requires c = repeated_byte c.in-Repeat.count c.in-Repeat.byte c.args.arg_type (subst (λ (candidate : Candidate). HasType (argument_of candidate) c.args.arg_type) c.in-Repeat.is c.requires)
