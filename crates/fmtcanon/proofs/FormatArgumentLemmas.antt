@@ -6,6 +6,7 @@ use Rattle.std.proofs.lemmas.Option.{slice_get-get_or, slice_get-map}
 use Rattle.std.proofs.lemmas.Slice.Zip.{AllZip-long, all_zipped_more}
 use Rattle.pf_text.specs.Signatures as signatures
 use Rattle.pf_values.specs.declared.arguments.Arg.{Arg}
+use Rattle.pf_values.specs.declared.models.Model.{Model}
 use Rattle.pf_values.specs.declared.types.ArgType.{ArgType}
 use Rattle.pf_values.specs.Arg.{argument_of, type_of}
 use Rattle.pf_values.specs.Arguments.{Argument, HasType, HasTypes}
@@ -43,19 +44,19 @@ module _ (words : List (Bor Text)) (at : ℕ) (given : List UntypedArg)
     }
 
 -- the arguments before the one with this index have their types
-pub record AreTyped (given : List UntypedArg) (wanted : List ArgType) (args : List Arg) (at : ℕ) : Type 0 where
+pub record AreTyped (model : Model) (given : List UntypedArg) (wanted : List ArgType) (args : List Arg) (at : ℕ) : Type 0 where
   pub same : map argument_of args ≡ map argument_given (take at given)
   pub types_are : map type_of args ≡ take at wanted
-  pub typed : HasTypes (map argument_given (take at given)) (take at wanted)
+  pub typed : HasTypes model (map argument_given (take at given)) (take at wanted)
 
-module _ (given : List UntypedArg) (wanted : List ArgType) (args : List Arg) (at : ℕ) (before : AreTyped given wanted args at) where
+module _ (model : Model) (given : List UntypedArg) (wanted : List ArgType) (args : List Arg) (at : ℕ) (before : AreTyped model given wanted args at) where
   pub typed_so_far : at < length given → length args ≡ at
   typed_so_far here = sym (length-map args argument_of) ∙ ap length before.same ∙ length-map (take at given) argument_given ∙ length-take-le at given (omega arith)
 
   module _ (argument : UntypedArg) (type : ArgType) (here : at < length given) (type_here : at < length wanted)
       (is_here : (d : UntypedArg) → argument ≡ get_or given at d) (type_is_here : (d : ArgType) → type ≡ get_or wanted at d) where
-    pub one_more_typed : (arg : Arg) → argument_of arg ≡ argument_given argument → type_of arg ≡ type → HasType (argument_given argument) type
-        → AreTyped given wanted (args ++ arg ∷ []) (at + 1)
+    pub one_more_typed : (arg : Arg) → argument_of arg ≡ argument_given argument → type_of arg ≡ type → HasType model (argument_given argument) type
+        → AreTyped model given wanted (args ++ arg ∷ []) (at + 1)
     one_more_typed arg same type_is typed =
         let first = map_more argument_given given at argument here in
         let second = take_more wanted at type type_here in
@@ -63,10 +64,10 @@ module _ (given : List UntypedArg) (wanted : List ArgType) (args : List Arg) (at
         record {
           same = map-append argument_of args (arg ∷ []) ∙ ap₂ pushed before.same (same ∙ ap argument_given (is_here argument)) ∙ sym first;
           types_are = map-append type_of args (arg ∷ []) ∙ ap₂ (λ (xs : List ArgType) x. xs ++ x ∷ []) before.types_are (type_is ∙ type_is_here type) ∙ sym second;
-          typed = rw (first, second, ← is_here argument, ← type_is_here type) (all_zipped_more HasType _ _ (argument_given argument) type before.typed typed);
+          typed = rw (first, second, ← is_here argument, ← type_is_here type) (all_zipped_more (HasType model) _ _ (argument_given argument) type before.typed typed);
         }
 
-    pub first_wrong_type : (HasType (argument_given argument) type → ⊥) → IsFirstWrongType (map argument_given given) wanted at
+    pub first_wrong_type : (HasType model (argument_given argument) type → ⊥) → IsFirstWrongType model (map argument_given given) wanted at
     first_wrong_type wrong = record {
       argument = argument_given argument;
       type = type;
@@ -77,9 +78,9 @@ module _ (given : List UntypedArg) (wanted : List ArgType) (args : List Arg) (at
     }
 
 -- there are more or fewer words than the format takes arguments
-pub wrong_count_hinders : (format : Text) (words : List Text) (wanted : List ArgType) → signatures.TakesTypes format wanted → (arguments : List Argument) → SpellArguments words arguments
-    → (count given : ℕ) → count ≡ length wanted → given ≡ length arguments → count ≢ given → HindersArguments format words (WrongCount count given)
-wrong_count_hinders format words wanted takes arguments spelled count given is_count is_given differ = (
+pub wrong_count_hinders : (model : Model) (format : Text) (words : List Text) (wanted : List ArgType) → signatures.TakesTypes model format wanted → (arguments : List Argument) → SpellArguments words arguments
+    → (count given : ℕ) → count ≡ length wanted → given ≡ length arguments → count ≢ given → HindersArguments model format words (WrongCount count given)
+wrong_count_hinders model format words wanted takes arguments spelled count given is_count is_given differ = (
   takes.items,
   arguments,
   record { accepted = takes.accepted; spelled = spelled },

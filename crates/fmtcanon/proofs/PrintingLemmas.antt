@@ -7,21 +7,22 @@ use Rattle.pf_render.specs.declared.faults.RenderVecFault.{RenderVecFault}
 use Rattle.pf_render.specs.declared.faults.RenderVecFault.TheVariants.{Refused, WrongCount, WrongType, Memory}
 use Rattle.pf_render.specs.Rendering.{HindersVec}
 use Rattle.pf_values.specs.declared.arguments.Arg.{Arg}
+use Rattle.pf_values.specs.declared.models.Model.{Model}
 use Rattle.pf_values.specs.declared.types.ArgType.{ArgType}
 use Rattle.pf_values.specs.Arg.{type_of}
 use Rattle.pf_values.specs.Items.{types}
 use Rattle.pf_values.specs.Text.{Text}
 use Rattle.fmtcanon.specs.FormatArguments.{AreArgumentsFor}
 
-module _ (format : Text) (words : List Text) (args : List Arg) (gives : AreArgumentsFor format words args) where
+module _ (model : Model) (format : Text) (words : List Text) (args : List Arg) (gives : AreArgumentsFor model format words args) where
   -- the types that the format takes are those of the arguments
-  its_types : (wanted : List ArgType) → signatures.TakesTypes format wanted → wanted ≡ map type_of args
+  its_types : (wanted : List ArgType) → signatures.TakesTypes model format wanted → wanted ≡ map type_of args
   its_types wanted takes =
-      takes.types_are ∙ ap types
+      takes.types_are ∙ ap (types model)
       (Reads-unique format takes.items gives.items takes.accepted.reads gives.given.accepted.reads)
       ∙ sym gives.types_are
 
-  pub only_memory_hinders : (fault : RenderVecFault) → HindersVec format args fault → fault ≡ Memory
+  pub only_memory_hinders : (fault : RenderVecFault) → HindersVec model format args fault → fault ≡ Memory
   only_memory_hinders Memory h = refl
   only_memory_hinders (Refused refusal) h =
       absurd (h.not_accepted (gives.items, gives.given.accepted))

@@ -3,6 +3,7 @@ use Rattle.std.proofs.Common.{◌≡◌, ◌≢◌, ℕ, zero, suc, List, [], �
 use Rattle.std.specs.Prelude.{IfOk, flat_map}
 use Rattle.std.proofs.lemmas.List.{length-replicate}
 use Rattle.std.proofs.lemmas.Result.{IfOk-weaker}
+use Rattle.pf_values.specs.declared.models.Model.{Model}
 use Rattle.pf_values.specs.Canonical.{AreCanonical, ReadsCanonically, item_spelling}
 use Rattle.pf_values.specs.Defined.{IsDefined}
 use Rattle.pf_values.specs.Items.{Item, Byte, Directive, Reads}
@@ -24,20 +25,20 @@ use Rattle.fmtcanon.specs.Shows.{IsLineOf, Shown, Specified, reduced_line}
 silent_defined : IsDefined silent
 silent_defined = record { width = λ e. cc; allowed = refl }
 
-silent_not_normal : IsNormal silent → ⊥
-silent_not_normal h = h.form.shows_some refl
+silent_not_normal : (model : Model) → IsNormal model silent → ⊥
+silent_not_normal model h = h.form.shows_some refl
 
-core_defined : (core : Core) → IsNormalCore core → IsDefined (core_of core)
-core_defined (Normal s) h = h.defined
-core_defined Silent h = silent_defined
+core_defined : (model : Model) (core : Core) → IsNormalCore model core → IsDefined (core_of core)
+core_defined model (Normal s) h = h.defined
+core_defined model Silent h = silent_defined
 
 spaces_read : (n : ℕ) → Reads (flat_map item_spelling (map Byte (replicate n space))) (map Byte (replicate n space))
 spaces_read zero = refl
 spaces_read (suc n) = (space ∷ [], flat_map item_spelling (map Byte (replicate n space)), (λ e. cc, refl), spaces_read n, refl)
 
 -- the text of a directive before spaces
-core_reads : (core : Core) (trail : ℕ) → IsNormalCore core → Reads (flat_map item_spelling (Directive (core_of core) ∷ map Byte (replicate trail space))) (Directive (core_of core) ∷ map Byte (replicate trail space))
-core_reads core trail h = (spelling_of (core_of core), flat_map item_spelling (map Byte (replicate trail space)), (spelled_read (core_of core) (core_defined core h), core_defined core h), spaces_read trail, refl)
+core_reads : (model : Model) (core : Core) (trail : ℕ) → IsNormalCore model core → Reads (flat_map item_spelling (Directive (core_of core) ∷ map Byte (replicate trail space))) (Directive (core_of core) ∷ map Byte (replicate trail space))
+core_reads model core trail h = (spelling_of (core_of core), flat_map item_spelling (map Byte (replicate trail space)), (spelled_read (core_of core) (core_defined model core h), core_defined model core h), spaces_read trail, refl)
 
 zeros_read : (n : ℕ) (items : List Item) → Reads (flat_map item_spelling items) items → Reads (flat_map item_spelling (map Byte (replicate n zero_digit) ++ items)) (map Byte (replicate n zero_digit) ++ items)
 zeros_read zero items h = h
@@ -49,37 +50,37 @@ padding_reads zero m items h = zeros_read m items h
 padding_reads (suc n) m items h = (space ∷ [], flat_map item_spelling (map Byte (replicate n space ++ replicate m zero_digit) ++ items), (λ e. cc, refl), padding_reads n m items h, refl)
 
 -- bytes are canonical after anything but a silent directive
-bytes_canonical : (bytes : Text) → AreCanonical (map Byte bytes)
-bytes_canonical [] = tt
-bytes_canonical (b ∷ bytes) = bytes_canonical bytes
+bytes_canonical : (model : Model) (bytes : Text) → AreCanonical model (map Byte bytes)
+bytes_canonical model [] = tt
+bytes_canonical model (b ∷ bytes) = bytes_canonical model bytes
 
-before_canonical : (bytes : Text) (items : List Item) → AreCanonical items → AreCanonical (map Byte bytes ++ items)
-before_canonical [] items h = h
-before_canonical (b ∷ bytes) items h = before_canonical bytes items h
+before_canonical : (model : Model) (bytes : Text) (items : List Item) → AreCanonical model items → AreCanonical model (map Byte bytes ++ items)
+before_canonical model [] items h = h
+before_canonical model (b ∷ bytes) items h = before_canonical model bytes items h
 
-core_canonical : (core : Core) (trail : ℕ) → IsNormalCore core → (core ≡ Silent → trail ≡ 0) → AreCanonical (Directive (core_of core) ∷ map Byte (replicate trail space))
-core_canonical (Normal s) trail h none = (inl h, bytes_canonical (replicate trail space))
-core_canonical Silent zero h none = (inr (refl, tt), tt)
-core_canonical Silent (suc n) h none = absurd (let e = none refl in omega (arith, e))
+core_canonical : (model : Model) (core : Core) (trail : ℕ) → IsNormalCore model core → (core ≡ Silent → trail ≡ 0) → AreCanonical model (Directive (core_of core) ∷ map Byte (replicate trail space))
+core_canonical model (Normal s) trail h none = (inl h, bytes_canonical model (replicate trail space))
+core_canonical model Silent zero h none = (inr (refl, tt), tt)
+core_canonical model Silent (suc n) h none = absurd (let e = none refl in omega (arith, e))
 
 -- the text of a reduction
 abbrev reduction_text : Reduced → Text
 reduction_text r = flat_map item_spelling (reduced_items r)
 
-reduction_reads : (s : Specification) (r : Reduced) → IsReducedTo s r → ReadsCanonically (reduction_text r) (reduced_items r)
-reduction_reads s r h = record {
-  reads = padding_reads r.spaces r.zeros (Directive (core_of r.core) ∷ map Byte (replicate r.trail space)) (core_reads r.core r.trail h.normal);
-  canonical = before_canonical (replicate r.spaces space ++ replicate r.zeros zero_digit) (Directive (core_of r.core) ∷ map Byte (replicate r.trail space))
-      (core_canonical r.core r.trail h.normal (λ e. (h.silent e).2));
+reduction_reads : (model : Model) (s : Specification) (r : Reduced) → IsReducedTo model s r → ReadsCanonically model (reduction_text r) (reduced_items r)
+reduction_reads model s r h = record {
+  reads = padding_reads r.spaces r.zeros (Directive (core_of r.core) ∷ map Byte (replicate r.trail space)) (core_reads model r.core r.trail h.normal);
+  canonical = before_canonical model (replicate r.spaces space ++ replicate r.zeros zero_digit) (Directive (core_of r.core) ∷ map Byte (replicate r.trail space))
+      (core_canonical model r.core r.trail h.normal (λ e. (h.silent e).2));
   whole = refl;
 }
 
-same_items : (s : Specification) (r q : Reduced) → IsReducedTo s r → IsReducedTo s q → reduced_items r ≡ reduced_items q
-same_items s r q h g =
-    let one = reduction_reads s r h in
-    let two = reduction_reads s q g in
-    let alike = alike_trans (reduced_items r) (Directive s ∷ []) (reduced_items q) (alike_sym (Directive s ∷ []) (reduced_items r) (reduced_alike s r h)) (reduced_alike s q g) in
-    let text = equivalent_one (reduction_text r) (reduction_text q) (reduced_items r, one) (reduced_items q, two) (alike-equivalent _ _ (reduced_items r) (reduced_items q) one.reads two.reads alike) in
+same_items : (model : Model) (s : Specification) (r q : Reduced) → IsReducedTo model s r → IsReducedTo model s q → reduced_items r ≡ reduced_items q
+same_items model s r q h g =
+    let one = reduction_reads model s r h in
+    let two = reduction_reads model s q g in
+    let alike = alike_trans model (reduced_items r) (Directive s ∷ []) (reduced_items q) (alike_sym model (Directive s ∷ []) (reduced_items r) (reduced_alike model s r h)) (reduced_alike model s q g) in
+    let text = equivalent_one model (reduction_text r) (reduction_text q) (reduced_items r, one) (reduced_items q, two) (alike-equivalent model _ _ (reduced_items r) (reduced_items q) one.reads two.reads alike) in
     Reads-unique (reduction_text r) (reduced_items r) (reduced_items q) one.reads (subst (λ t. Reads t (reduced_items q)) (sym text) two.reads)
 
 same_bytes : (x y : Text) → map Byte x ≡ map Byte y → x ≡ y
@@ -127,11 +128,11 @@ same_runs x z n (suc a) b (suc c) d e =
 other_byte : space ≢ zero_digit
 other_byte e = omega (arith, e)
 
-same_core : (c d : Core) → IsNormalCore c → IsNormalCore d → core_of c ≡ core_of d → c ≡ d
-same_core (Normal s) (Normal t) h g e = ap Normal e
-same_core (Normal s) Silent h g e = absurd (silent_not_normal (subst IsNormal e h))
-same_core Silent (Normal t) h g e = absurd (silent_not_normal (subst IsNormal (sym e) g))
-same_core Silent Silent h g e = refl
+same_core : (model : Model) (c d : Core) → IsNormalCore model c → IsNormalCore model d → core_of c ≡ core_of d → c ≡ d
+same_core model (Normal s) (Normal t) h g e = ap Normal e
+same_core model (Normal s) Silent h g e = absurd (silent_not_normal model (subst (IsNormal model) e h))
+same_core model Silent (Normal t) h g e = absurd (silent_not_normal model (subst (IsNormal model) (sym e) g))
+same_core model Silent Silent h g e = refl
 
 abbrev whole : ℕ → ℕ → Core → ℕ → Reduced
 whole spaces zeros core trail = record { spaces = spaces; zeros = zeros; core = core; trail = trail }
@@ -141,14 +142,14 @@ same_reduced r q a b c d =
     let same : whole r.spaces r.zeros r.core r.trail ≡ whole q.spaces q.zeros q.core q.trail = cc in
     same
 
-pub one_reduction : (s : Specification) (r q : Reduced) → IsReducedTo s r → IsReducedTo s q → r ≡ q
-one_reduction s r q h g =
-    let parts = split_items _ _ (core_of r.core) (core_of q.core) _ _ (same_items s r q h g) in
+pub one_reduction : (model : Model) (s : Specification) (r q : Reduced) → IsReducedTo model s r → IsReducedTo model s q → r ≡ q
+one_reduction model s r q h g =
+    let parts = split_items _ _ (core_of r.core) (core_of q.core) _ _ (same_items model s r q h g) in
     let padding = same_runs space zero_digit other_byte r.spaces r.zeros q.spaces q.zeros parts.before in
-    same_reduced r q padding.0 padding.1 (same_core r.core q.core h.normal g.normal parts.core) (same_count r.trail q.trail space parts.behind)
+    same_reduced r q padding.0 padding.1 (same_core model r.core q.core h.normal g.normal parts.core) (same_count r.trail q.trail space parts.behind)
 
 -- the line of a directive, of which a reduction is known
-pub shown_directive : {E : Type 0} (shown : Shown) (s : Specification) (old new : Text) (result : Result (Unit {0}) E) → shown ≡ Specified s
-    → IfOk result (λ x. (r : Reduced) × IsReducedTo s r × (new ≡ old ++ reduced_line s r)) → IfOk result (λ x. (part : Text) × IsLineOf shown part × (new ≡ old ++ part))
-shown_directive shown s old new result e h =
-    IfOk-weaker result _ _ (λ x g. (reduced_line s g.0, subst (λ y. IsLineOf y (reduced_line s g.0)) (sym e) (g.0, g.1, λ other is. one_reduction s other g.0 is g.1, refl), g.2)) h
+pub shown_directive : (model : Model) {E : Type 0} (shown : Shown) (s : Specification) (old new : Text) (result : Result (Unit {0}) E) → shown ≡ Specified s
+    → IfOk result (λ x. (r : Reduced) × IsReducedTo model s r × (new ≡ old ++ reduced_line model s r)) → IfOk result (λ x. (part : Text) × IsLineOf model shown part × (new ≡ old ++ part))
+shown_directive model shown s old new result e h =
+    IfOk-weaker result _ _ (λ x g. (reduced_line model s g.0, subst (λ y. IsLineOf model y (reduced_line model s g.0)) (sym e) (g.0, g.1, λ other is. one_reduction model s other g.0 is g.1, refl), g.2)) h

@@ -6,6 +6,7 @@ use Rattle.std.specs.Fmt.{digits}
 use Rattle.std.proofs.lemmas.List.{append_assoc, append-nil, length-append}
 use Rattle.std.proofs.lemmas.List.Folds.{concat-append}
 use Rattle.std.proofs.lemmas.Slice.Zip.{all_zipped_more}
+use Rattle.pf_values.specs.declared.models.Model.{Model}
 use Rattle.pf_text.proofs.PieceTexts.{IsTextOf, text_of_piece}
 use Rattle.pf_text.proofs.Unique.{same_whole}
 use Rattle.pf_text.specs.declared.pieces.Piece.{Piece}
@@ -82,34 +83,34 @@ same_rest [] b c e = e
 same_rest (x ∷ a) b c e = same_rest a b c (cc)
 
 -- the pieces of a text were given, and their lines are in `out`
-pub record HasShown (pieces : Pieces) (t out : Text) : Type 0 where
+pub record HasShown (model : Model) (pieces : Pieces) (t out : Text) : Type 0 where
   pub read : Text
   pub items : List Item
   pub shown : List Shown
   pub parts : List Text
   pub given : HasGiven pieces t read items
   pub cut : length t ≤ MAX_TEXT_LEN → IsCutBefore pieces.rest.now read shown
-  pub each : AllZip IsLineOf shown parts
+  pub each : AllZip (IsLineOf model) shown parts
   pub whole : out ≡ concat parts
 
-pub none_shown : (pieces items : Pieces) (t out : Text) → pieces ≡ items → out ≡ [] → HasGiven items t [] [] → HasShown pieces t out
-none_shown pieces items t out e none given =
+pub none_shown : (model : Model) (pieces items : Pieces) (t out : Text) → pieces ≡ items → out ≡ [] → HasGiven items t [] [] → HasShown model pieces t out
+none_shown model pieces items t out e none given =
     record { read = []; items = []; shown = []; parts = []; given = subst (λ p. HasGiven p t [] []) (sym e) given; cut = λ few. refl; each = tt; whole = none }
 
 -- a line was pushed
-pub pushed : {E : Type 0} (pieces : Pieces) (t out new : Text) (piece : Piece) (r : Result (Unit {0}) E) → false ≡ is_err r
-    → IfOk r (λ x. (part : Text) × IsLineOf (shown_of piece) part × (new ≡ out ++ part))
-    → ((part : Text) → IsLineOf (shown_of piece) part → HasShown pieces t (out ++ part)) → HasShown pieces t new
-pushed pieces t out new piece (Ok done) e h more = subst (HasShown pieces t) (sym h.2) (more h.0 h.1)
-pushed pieces t out new piece (Err x) e h more = cc
+pub pushed : (model : Model) {E : Type 0} (pieces : Pieces) (t out new : Text) (piece : Piece) (r : Result (Unit {0}) E) → false ≡ is_err r
+    → IfOk r (λ x. (part : Text) × IsLineOf model (shown_of piece) part × (new ≡ out ++ part))
+    → ((part : Text) → IsLineOf model (shown_of piece) part → HasShown model pieces t (out ++ part)) → HasShown model pieces t new
+pushed model pieces t out new piece (Ok done) e h more = subst (HasShown model pieces t) (sym h.2) (more h.0 h.1)
+pushed model pieces t out new piece (Err x) e h more = cc
 
-module _ (old new : Pieces) (t out : Text) (h : HasShown old t out) where
+module _ (model : Model) (old new : Pieces) (t out : Text) (h : HasShown model old t out) where
   module _ (next : Result Piece Refusal) (steps : Gives old (Some next) new) where
     pub refused : (refusal : Refusal) → next ≡ Err refusal → GivesRefusal t h.items refusal
     refused refusal e = subst (λ r. GivesNext (Some r) new t h.read h.items) e (steps.next t h.read h.items h.given)
 
     -- the line of one more piece
-    pub more_shown : (piece : Piece) (part : Text) → next ≡ Ok piece → IsLineOf (shown_of piece) part → HasShown new t (out ++ part)
+    pub more_shown : (piece : Piece) (part : Text) → next ≡ Ok piece → IsLineOf model (shown_of piece) part → HasShown model new t (out ++ part)
     more_shown piece part e is =
         let g : GivesPiece new t h.read h.items piece = subst (λ r. GivesNext (Some r) new t h.read h.items) e (steps.next t h.read h.items h.given) in
         let text = text_of_piece old new t h.read h.items piece h.given g in
@@ -122,12 +123,12 @@ module _ (old new : Pieces) (t out : Text) (h : HasShown old t out) where
           given = g.given;
           cut = λ few. cut_more h.shown (shown_of piece) h.read g.more new.rest.now (subst (λ u. IsCutBefore u h.read h.shown) left (h.cut few))
               (piece_cut piece h.read g.more new.rest.now text g.whole (subst (λ u. length u ≤ MAX_TEXT_LEN) g.given.split few));
-          each = all_zipped_more IsLineOf h.shown h.parts (shown_of piece) part h.each is;
+          each = all_zipped_more (IsLineOf model) h.shown h.parts (shown_of piece) part h.each is;
           whole = ap (λ u. u ++ part) h.whole ∙ sym (concat-append h.parts (part ∷ []) ∙ ap (λ u. concat h.parts ++ u) (append-nil part));
         }
 
   -- the lines of all
-  pub all_shown : Gives old None new → HasShownLines t out
+  pub all_shown : Gives old None new → HasShownLines model t out
   all_shown steps =
       let end = steps.next t h.read h.items h.given in
       let none = same_whole h.items h.read t old.rest.now h.given.reads end.reads h.given.split in

@@ -1,13 +1,15 @@
 -- The word by which an argument is told is read as that argument.
-use Rattle.std.proofs.Common.{ℕ, ◌<◌, ◌≤◌, ◌^◌, ℤ, pos, negsuc, neg_ℤ, ◌≤ℤ◌, ◌<ℤ◌, true, false, [], ◌∷◌, length, refl, ap, arith, zero, suc}
+use Rattle.std.proofs.Common.{ℕ, ◌<◌, ◌≤◌, ◌^◌, ℤ, pos, negsuc, neg_ℤ, ◌≤ℤ◌, ◌<ℤ◌, Bool, true, false, [], ◌∷◌, length, refl, ap, arith, zero, suc}
 use Rattle.std.specs.Fmt.{decimal, digit_glyph}
 use Rattle.std.specs.Int.Digits.{digits_of}
 use Rattle.std.proofs.lemmas.Fmt.{decimal_digit, decimal_nonempty}
 use Rattle.std.proofs.lemmas.Int.Digits.{all_below_base_digits_of, length-digits_of-le}
 use Rattle.std.proofs.lemmas.Int.{ints}
 use Rattle.std.proofs.lemmas.List.{length-map}
+use Rattle.pf_values.specs.declared.models.Model.{Model}
 use Rattle.pf_values.specs.declared.types.ArgType.TheVariants.{Int, UInt, Long, ULong, LongLong, ULongLong, Str}
 use Rattle.pf_values.specs.Arguments.{Number, String}
+use Rattle.pf_values.specs.DataModel.{B8, B16, B32, B64, Bits, FitsIn, bit_count, type_bits}
 use Rattle.pf_values.proofs.Numerals.{place_sum-digits_of}
 use Rattle.pf_render.proofs.DigitLemmas.{decimal_glyphs}
 use Rattle.fmtcanon.specs.ArgumentWords.{SpellsArgument, SpellsMagnitude}
@@ -62,7 +64,7 @@ number_spells (negsuc n) h = (
   refl,
 )
 
--- a number of any type is that short
+-- a number of any bits is that short
 short_signed : (n : ℤ) (k : ℕ) → k ≤ 2 ^ 63 → (neg_ℤ (pos k) ≤ℤ n) × (n <ℤ pos k) → IsShort n
 short_signed (pos n) k b h = omega (arith, ints, h.0, h.1)
 short_signed (negsuc n) k b h = omega (arith, ints, h.0, h.1)
@@ -71,18 +73,28 @@ short_unsigned : (n : ℤ) (k : ℕ) → k ≤ 2 ^ 64 → (pos 0 ≤ℤ n) × (n
 short_unsigned (pos n) k b h = omega (arith, ints, h.0, h.1)
 short_unsigned (negsuc n) k b h = absurd (omega (arith, ints, h.0))
 
-pub told_is_read : ToldIsRead
-told_is_read (Number n) Int h = number_spells n (short_signed n (2 ^ 31) (omega arith) h)
-told_is_read (Number n) UInt h = number_spells n (short_unsigned n (2 ^ 32) (omega arith) h)
-told_is_read (Number n) Long h = number_spells n (short_signed n (2 ^ 63) (omega arith) h)
-told_is_read (Number n) ULong h = number_spells n (short_unsigned n (2 ^ 64) (omega arith) h)
-told_is_read (Number n) LongLong h = number_spells n (short_signed n (2 ^ 63) (omega arith) h)
-told_is_read (Number n) ULongLong h = number_spells n (short_unsigned n (2 ^ 64) (omega arith) h)
-told_is_read (Number n) Str h = absurd h
-told_is_read (String bytes) Str h = (h, refl)
-told_is_read (String bytes) Int h = absurd h
-told_is_read (String bytes) UInt h = absurd h
-told_is_read (String bytes) Long h = absurd h
-told_is_read (String bytes) ULong h = absurd h
-told_is_read (String bytes) LongLong h = absurd h
-told_is_read (String bytes) ULongLong h = absurd h
+short_of : (sign : Bool) (bits : Bits) (n : ℤ) → FitsIn sign (bit_count bits) n → IsShort n
+short_of true B8 n h = short_signed n (2 ^ 7) (omega arith) h
+short_of true B16 n h = short_signed n (2 ^ 15) (omega arith) h
+short_of true B32 n h = short_signed n (2 ^ 31) (omega arith) h
+short_of true B64 n h = short_signed n (2 ^ 63) (omega arith) h
+short_of false B8 n h = short_unsigned n (2 ^ 8) (omega arith) h
+short_of false B16 n h = short_unsigned n (2 ^ 16) (omega arith) h
+short_of false B32 n h = short_unsigned n (2 ^ 32) (omega arith) h
+short_of false B64 n h = short_unsigned n (2 ^ 64) (omega arith) h
+
+pub told_is_read : (model : Model) → ToldIsRead model
+told_is_read model (Number n) Int h = number_spells n (short_of true (type_bits model Int) n h)
+told_is_read model (Number n) UInt h = number_spells n (short_of false (type_bits model UInt) n h)
+told_is_read model (Number n) Long h = number_spells n (short_of true (type_bits model Long) n h)
+told_is_read model (Number n) ULong h = number_spells n (short_of false (type_bits model ULong) n h)
+told_is_read model (Number n) LongLong h = number_spells n (short_of true (type_bits model LongLong) n h)
+told_is_read model (Number n) ULongLong h = number_spells n (short_of false (type_bits model ULongLong) n h)
+told_is_read model (Number n) Str h = absurd h
+told_is_read model (String bytes) Str h = (h, refl)
+told_is_read model (String bytes) Int h = absurd h
+told_is_read model (String bytes) UInt h = absurd h
+told_is_read model (String bytes) Long h = absurd h
+told_is_read model (String bytes) ULong h = absurd h
+told_is_read model (String bytes) LongLong h = absurd h
+told_is_read model (String bytes) ULongLong h = absurd h

@@ -1,5 +1,6 @@
 -- What a question is answered with, and why it is not. This project's own.
 use Rattle.std.specs.Prelude.{◌≡◌, None, Some, map, ⊤}
+use Rattle.pf_values.specs.declared.models.Model.{Model}
 use Rattle.pf_values.specs.Items.{IsAccepted}
 use Rattle.pf_values.specs.Refusals.{IsRefusedAt}
 use Rattle.pf_values.specs.Text.{Text}
@@ -18,18 +19,22 @@ use Rattle.fmtcanon.specs.Shows.{HasShownLines}
 use Rattle.fmtcanon.specs.TypeLines.{HasTypeLines}
 
 -- the canonical string of an accepted format, and a newline
-abbrev pub HasCanonicalLine : Text → Text → Type 0
-HasCanonicalLine format out =
-    (canonical : Text) × IsCanonicalFor format canonical × (out ≡ line canonical)
+abbrev pub HasCanonicalLine : Model → Text → Text → Type 0
+HasCanonicalLine model format out =
+    (canonical : Text) × IsCanonicalFor model format canonical × (out ≡ line canonical)
 
 -- These bytes answer a question, and a run that writes them all ends so.
-abbrev pub IsAnswer : Question → Text → Ending → Type 0
-IsAnswer (Types format) out ending = HasTypeLines format.now out × (ending ≡ endings.Done)
-IsAnswer (Canon format) out ending = HasCanonicalLine format.now out × (ending ≡ endings.Done)
-IsAnswer (Show format) out ending = HasShownLines format.now out × (ending ≡ endings.Done)
-IsAnswer (Format format words) out ending =
-    IsPrinted format.now (map (λ s. s.now) words.items) out × (ending ≡ endings.Done)
-IsAnswer (Same first second) out ending = IsComparisonAnswer first.now second.now out ending
+abbrev pub IsAnswer : Model → Question → Text → Ending → Type 0
+IsAnswer model (Types format) out ending =
+    HasTypeLines model format.now out × (ending ≡ endings.Done)
+IsAnswer model (Canon format) out ending =
+    HasCanonicalLine model format.now out × (ending ≡ endings.Done)
+IsAnswer model (Show format) out ending =
+    HasShownLines model format.now out × (ending ≡ endings.Done)
+IsAnswer model (Format format words) out ending =
+    IsPrinted model format.now (map (λ s. s.now) words.items) out × (ending ≡ endings.Done)
+IsAnswer model (Same first second) out ending =
+    IsComparisonAnswer model first.now second.now out ending
 
 -- why a format has no answer: its refusal, or want of memory
 abbrev pub HindersFormat : Text → Fault → Type 0
@@ -53,10 +58,10 @@ HindersFormats first second (WrongType index) = ⊥
 HindersFormats first second Memory = ⊤
 
 -- why a question has none
-abbrev pub IsHindered : Question → Fault → Type 0
-IsHindered (Types format) fault = HindersFormat format.now fault
-IsHindered (Canon format) fault = HindersFormat format.now fault
-IsHindered (Show format) fault = HindersFormat format.now fault
-IsHindered (Format format words) fault =
-    HindersArguments format.now (map (λ s. s.now) words.items) fault
-IsHindered (Same first second) fault = HindersFormats first.now second.now fault
+abbrev pub IsHindered : Model → Question → Fault → Type 0
+IsHindered model (Types format) fault = HindersFormat format.now fault
+IsHindered model (Canon format) fault = HindersFormat format.now fault
+IsHindered model (Show format) fault = HindersFormat format.now fault
+IsHindered model (Format format words) fault =
+    HindersArguments model format.now (map (λ s. s.now) words.items) fault
+IsHindered model (Same first second) fault = HindersFormats first.now second.now fault

@@ -1,6 +1,7 @@
 -- How a comparison is told. This project's own.
 use Rattle.std.specs.Prelude.{◌≡◌, ◌++◌, codes, decimal, flat_map}
 use Rattle.std.specs.Fmt.{signed_decimal}
+use Rattle.pf_values.specs.declared.models.Model.{Model}
 use Rattle.pf_values.specs.declared.types.ArgType.{ArgType}
 use Rattle.pf_values.specs.Arguments.{Argument, HasType, Number, String}
 use Rattle.pf_values.specs.Text.{Text}
@@ -21,9 +22,9 @@ argument_word (Number n) = codes "n:" ++ signed_decimal n
 argument_word (String bytes) = codes "s:" ++ bytes
 
 -- it is read as that argument
-abbrev pub ToldIsRead : Type 0
-ToldIsRead =
-    (argument : Argument) (type : ArgType) → HasType argument type
+abbrev pub ToldIsRead : Model → Type 0
+ToldIsRead model =
+    (argument : Argument) (type : ArgType) → HasType model argument type
     → SpellsArgument (argument_word argument) argument
 
 -- the line of an argument
@@ -43,8 +44,9 @@ ending_of (Types index) = endings.Different
 ending_of (Args args) = endings.Different
 
 -- the verdict on two accepted formats, told in lines
-pub record IsComparisonAnswer (first second out : Text) (ending : Ending) : Type 0 where
+pub record IsComparisonAnswer (model : Model) (first second out : Text)
+    (ending : Ending) : Type 0 where
   pub comparison : Comparison
-  pub is : IsComparisonOf first second comparison
+  pub is : IsComparisonOf model first second comparison
   pub lines : out ≡ verdict_lines comparison.verdict
   pub ends : ending ≡ ending_of comparison.verdict

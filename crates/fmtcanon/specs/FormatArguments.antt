@@ -3,6 +3,7 @@
 use Rattle.std.specs.Prelude.{◌≡◌, ◌≢◌, ℕ, List, length, map, take, None, Some, slice_get, ⊤}
 use Rattle.std.specs.List.{AllByRecursion, AllZip}
 use Rattle.pf_values.specs.declared.arguments.Arg.{Arg}
+use Rattle.pf_values.specs.declared.models.Model.{Model}
 use Rattle.pf_values.specs.declared.types.ArgType.{ArgType}
 use Rattle.pf_values.specs.Arg.{argument_of, type_of}
 use Rattle.pf_values.specs.Arguments.{Argument, HasType, HasTypes}
@@ -30,14 +31,14 @@ pub record IsFirstBadWord (words : List Text) (index : ℕ) : Type 0 where
   pub good_before : AllByRecursion GivesArgument (take index words)
 
 -- the argument with this index is not of its type, and each before it is
-pub record IsFirstWrongType (arguments : List Argument) (wanted : List ArgType)
+pub record IsFirstWrongType (model : Model) (arguments : List Argument) (wanted : List ArgType)
     (index : ℕ) : Type 0 where
   pub argument : Argument
   pub type : ArgType
   pub here : slice_get arguments index ≡ Some argument
   pub type_here : slice_get wanted index ≡ Some type
-  pub wrong : ¬ HasType argument type
-  pub right_before : HasTypes (take index arguments) (take index wanted)
+  pub wrong : ¬ HasType model argument type
+  pub right_before : HasTypes model (take index arguments) (take index wanted)
 
 -- what stops the reading of words
 abbrev pub IsBadWord : List Text → Fault → Type 0
@@ -46,10 +47,10 @@ IsBadWord words Memory = ⊤
 IsBadWord words _ = ⊥
 
 -- what stops the pairing of arguments with types
-abbrev pub IsWrongType : List Argument → List ArgType → Fault → Type 0
-IsWrongType arguments wanted (WrongType index) = IsFirstWrongType arguments wanted index
-IsWrongType arguments wanted Memory = ⊤
-IsWrongType arguments wanted _ = ⊥
+abbrev pub IsWrongType : Model → List Argument → List ArgType → Fault → Type 0
+IsWrongType model arguments wanted (WrongType index) = IsFirstWrongType model arguments wanted index
+IsWrongType model arguments wanted Memory = ⊤
+IsWrongType model arguments wanted _ = ⊥
 
 -- the items of an accepted format, and the arguments that words give
 pub record IsGiven (format : Text) (words : List Text) (items : List Item)
@@ -58,30 +59,33 @@ pub record IsGiven (format : Text) (words : List Text) (items : List Item)
   pub spelled : SpellArguments words arguments
 
 -- the words give these arguments for a format, each of its type
-pub record AreArgumentsFor (format : Text) (words : List Text) (args : List Arg) : Type 0 where
+pub record AreArgumentsFor (model : Model) (format : Text) (words : List Text)
+    (args : List Arg) : Type 0 where
   pub items : List Item
   pub given : IsGiven format words items (map argument_of args)
-  pub typed : HasTypes (map argument_of args) (types items)
-  pub types_are : map type_of args ≡ types items
+  pub typed : HasTypes model (map argument_of args) (types model items)
+  pub types_are : map type_of args ≡ types model items
 
 -- Why there are no arguments: the first that holds, in this order.
-abbrev pub HindersArguments : Text → List Text → Fault → Type 0
-HindersArguments format words (Refused (Some side) refusal) = ⊥
-HindersArguments format words (Refused None refusal) = IsRefusedAt format refusal.kind refusal.at
-HindersArguments format words (BadWord index) = IsAccepted format × IsFirstBadWord words index
-HindersArguments format words (WrongCount wanted given) =
+abbrev pub HindersArguments : Model → Text → List Text → Fault → Type 0
+HindersArguments model format words (Refused (Some side) refusal) = ⊥
+HindersArguments model format words (Refused None refusal) =
+    IsRefusedAt format refusal.kind refusal.at
+HindersArguments model format words (BadWord index) = IsAccepted format × IsFirstBadWord words index
+HindersArguments model format words (WrongCount wanted given) =
     (items : List Item) × (arguments : List Argument) × IsGiven format words items arguments
-    × (wanted ≡ length (types items)) × (given ≡ length words) × (wanted ≢ given)
-HindersArguments format words (WrongType index) =
+    × (wanted ≡ length (types model items)) × (given ≡ length words) × (wanted ≢ given)
+HindersArguments model format words (WrongType index) =
     (items : List Item) × (arguments : List Argument) × IsGiven format words items arguments
-    × (length arguments ≡ length (types items)) × IsFirstWrongType arguments (types items) index
-HindersArguments format words Memory = ⊤
+    × (length arguments ≡ length (types model items))
+    × IsFirstWrongType model arguments (types model items) index
+HindersArguments model format words Memory = ⊤
 
 -- what a format prints for the arguments that words give, and nothing else (C11 7.21.6.1 p2, p3)
-pub record IsPrinted (format : Text) (words : List Text) (out : Text) : Type 0 where
+pub record IsPrinted (model : Model) (format : Text) (words : List Text) (out : Text) : Type 0 where
   pub items : List Item
   pub arguments : List Argument
   pub given : IsGiven format words items arguments
-  pub typed : HasTypes arguments (types items)
-  pub prints : PrintsAll items arguments out
-  pub only : (other : Text) → PrintsAll items arguments other → other ≡ out
+  pub typed : HasTypes model arguments (types model items)
+  pub prints : PrintsAll model items arguments out
+  pub only : (other : Text) → PrintsAll model items arguments other → other ≡ out

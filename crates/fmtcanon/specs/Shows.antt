@@ -1,6 +1,7 @@
 -- What a format is made of, as lines. This project's own.
 use Rattle.std.specs.Prelude.{◌≡◌, ◌≢◌, List, [], ◌∷◌, ◌++◌, codes, decimal, length, ⊤}
 use Rattle.std.specs.List.{AllByRecursion, AllZip, concat}
+use Rattle.pf_values.specs.declared.models.Model.{Model}
 use Rattle.pf_reduce.specs.declared.results.Reduced.{Reduced}
 use Rattle.pf_reduce.specs.Reducing.{IsReducedTo, core_of}
 use Rattle.pf_text.specs.declared.pieces.Piece.{Piece}
@@ -43,25 +44,26 @@ reduced_text r =
     ++ codes " " ++ decimal r.trail
 
 -- the line of a reduction
-abbrev pub reduced_line : Specification → Reduced → Text
-reduced_line s r = line (codes "directive " ++ spelling_of s ++ codes ": "
-    ++ type_name (arg_type s) ++ codes ": " ++ reduced_text r)
+abbrev pub reduced_line : Model → Specification → Reduced → Text
+reduced_line model s r = line (codes "directive " ++ spelling_of s ++ codes ": "
+    ++ type_name (arg_type model s) ++ codes ": " ++ reduced_text r)
 
 -- A directive has one reduction, and its line tells that.
-abbrev pub IsLineOf : Shown → Text → Type 0
-IsLineOf (Run bytes) out = out ≡ line (codes "text " ++ decimal (length bytes))
-IsLineOf Percent out = out ≡ line (codes "percent")
-IsLineOf (Specified s) out =
-    (r : Reduced) × IsReducedTo s r × ((other : Reduced) → IsReducedTo s other → other ≡ r)
-    × (out ≡ reduced_line s r)
+abbrev pub IsLineOf : Model → Shown → Text → Type 0
+IsLineOf model (Run bytes) out = out ≡ line (codes "text " ++ decimal (length bytes))
+IsLineOf model Percent out = out ≡ line (codes "percent")
+IsLineOf model (Specified s) out =
+    (r : Reduced) × IsReducedTo model s r
+    × ((other : Reduced) → IsReducedTo model s other → other ≡ r)
+    × (out ≡ reduced_line model s r)
 
 -- a line for each part of an accepted format, in order
-pub record HasShownLines (format lines : Text) : Type 0 where
+pub record HasShownLines (model : Model) (format lines : Text) : Type 0 where
   pub accepted : IsAccepted format
   pub shown : List Shown
   pub parts : List Text
   pub cut : IsCut format shown
-  pub each : AllZip IsLineOf shown parts
+  pub each : AllZip (IsLineOf model) shown parts
   pub whole : lines ≡ concat parts
 
 -- what a piece is shown as

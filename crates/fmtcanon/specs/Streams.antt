@@ -1,6 +1,7 @@
 -- What a run leaves that copies the canonical string of its reader. This project's own.
 use Rattle.std.specs.Prelude.{◌≡◌, ℕ, None, Some, true, ◌⊎◌}
 use Rattle.pf_values.specs.declared.counting.Counted.{Counted}
+use Rattle.pf_values.specs.declared.models.Model.{Model}
 use Rattle.pf_values.specs.Counting.{HasFailed, Known, device_of, failures_of, is_flushed}
 use Rattle.pf_canon.specs.Copying.{CopiesAll, CopyStops}
 use Rattle.pf_canon.specs.declared.faults.CopyFault.{CopyFault}
@@ -8,22 +9,22 @@ use Rattle.pf_canon.specs.declared.faults.CopyFault.TheVariants as faults
 use Rattle.fmtcanon.specs.declared.outcome.Outcome.{Outcome}
 use Rattle.fmtcanon.specs.declared.outcome.Outcome.TheVariants.{Done, Same, Different, Refused, BadWord, WrongCount, WrongType, Usage, Read, Write, Memory}
 
-module _ {R W : Type 0} (remaining : R → Known) (contents : W → Known) (reader left : Counted R)
-    (old new : Counted W) where
+module _ (model : Model) {R W : Type 0} (remaining : R → Known) (contents : W → Known)
+    (reader left : Counted R) (old new : Counted W) where
   -- the whole canonical string of what was taken up to the end went out
   abbrev pub AllCopied : ℕ → Type 0
-  AllCopied count = CopiesAll
+  AllCopied count = CopiesAll model
       (remaining (device_of reader)) (remaining (device_of left))
       (contents (device_of old)) (contents (device_of new)) count
 
   -- this much of it went out before a fault
   abbrev pub CopyStopped : CopyFault → Type 0
-  CopyStopped fault = CopyStops
+  CopyStopped fault = CopyStops model
       (remaining (device_of reader)) (remaining (device_of left))
       (contents (device_of old)) (contents (device_of new)) fault
 
-  -- At Write the bytes are fewer than all, but where the flush failed after all went out. At Refused
-  -- and Read the flush may have failed, too.
+  -- At Write the bytes are fewer than all, but where the flush failed after all went out. At
+  -- Refused and Read the flush may have failed, too.
   abbrev pub LeavesCopy : Outcome → Type 0
   LeavesCopy Done =
       ((count : ℕ) × AllCopied count) × (failures_of new ≡ failures_of old)

@@ -1,5 +1,6 @@
 -- The types of a format's arguments, as lines. This project's own.
 use Rattle.std.specs.Prelude.{◌≡◌, List, codes, flat_map}
+use Rattle.pf_values.specs.declared.models.Model.{Model}
 use Rattle.pf_values.specs.declared.types.ArgType.{ArgType}
 use Rattle.pf_values.specs.declared.types.ArgType.TheVariants.{Int, UInt, Long, ULong, LongLong, ULongLong, Str}
 use Rattle.pf_values.specs.Items.{HasItems, Item, types}
@@ -21,6 +22,6 @@ abbrev pub type_line : ArgType → Text
 type_line type = line (type_name type)
 
 -- a line for each argument of an accepted format, in order
-abbrev pub HasTypeLines : Text → Text → Type 0
-HasTypeLines format lines =
-    (items : List Item) × HasItems format items × (lines ≡ flat_map type_line (types items))
+abbrev pub HasTypeLines : Model → Text → Text → Type 0
+HasTypeLines model format lines =
+    (items : List Item) × HasItems format items × (lines ≡ flat_map type_line (types model items))

@@ -1,5 +1,6 @@
 //! The answer to a question.
 ghost use Rattle.std.specs.Prelude.{◌≡◌, Err, IfOk, MatchResult, Ok};
+ghost use Rattle.pf_values.specs.declared.models.Model.TheVariants.{Lp64};
 ghost use Rattle.fmtcanon.specs.Answers.{HasCanonicalLine, HindersFormat, IsAnswer, IsHindered};
 ghost use Rattle.fmtcanon.specs.Lines.{line};
 ghost use Rattle.fmtcanon.specs.declared.answer.Ending.TheVariants.{Done};
@@ -35,8 +36,9 @@ pub struct Answer {
 
 /// The answer to a question, or why there is none.
 pub fn answer_to(alloc: Global, question: &Question<'_>) -> Result<Answer, Fault>
-    ensures { MatchResult result (λ answer. IsAnswer question.now answer.bytes.items answer.ending)
-        (IsHindered question.now) }
+    ensures { MatchResult result
+        (λ answer. IsAnswer Lp64 question.now answer.bytes.items answer.ending)
+        (IsHindered Lp64 question.now) }
 {
     match question {
         Question::Types(format) => done(type_lines(alloc, format.as_bytes())),
@@ -62,7 +64,7 @@ fn done(bytes: Result<Vec<u8>, Fault>) -> Result<Answer, Fault>
 
 // The canonical string of a format and a newline.
 fn canonical_line(alloc: Global, format: &[u8]) -> Result<Vec<u8>, Fault>
-    ensures { MatchResult result (λ out. HasCanonicalLine format.now out.items)
+    ensures { MatchResult result (λ out. HasCanonicalLine Lp64 format.now out.items)
         (HindersFormat format.now) }
 {
     let canonical = canonical(alloc, format)?;

@@ -3,6 +3,7 @@ ghost use Rattle.std.specs.Fmt.{signed_decimal};
 ghost use Rattle.std.specs.Prelude.{◌≡◌, ◌<◌, ◌++◌, ◌^◌, IfOk, MatchResult, codes, decimal, flat_map};
 ghost use Rattle.pf_values.specs.Arg.{argument_of};
 ghost use Rattle.fmtcanon.specs.Answers.{HindersFormats};
+ghost use Rattle.pf_values.specs.declared.models.Model.TheVariants.{Lp64};
 ghost use Rattle.fmtcanon.specs.Comparisons.{IsComparisonAnswer, argument_line, argument_word, ending_of, verdict_lines};
 ghost use Rattle.fmtcanon.specs.Lines.{line};
 
@@ -17,7 +18,7 @@ use std::alloc::{AllocError, Global};
 /// print different bytes, each as the word that gives it.
 pub fn comparison_answer(alloc: Global, first: &[u8], second: &[u8]) -> Result<Answer, Fault>
     ensures { MatchResult result
-        (λ answer. IsComparisonAnswer first.now second.now answer.bytes.items answer.ending)
+        (λ answer. IsComparisonAnswer Lp64 first.now second.now answer.bytes.items answer.ending)
         (HindersFormats first.now second.now) }
 {
     let comparison = compare(alloc, first, second)?;

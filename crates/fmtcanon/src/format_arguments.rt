@@ -1,6 +1,7 @@
 //! The arguments that words give for a format.
 ghost use Rattle.std.specs.Prelude.{◌≡◌, IfErr, IfOk, length, map};
 ghost use Rattle.pf_values.specs.Arg.{argument_of, type_of};
+ghost use Rattle.pf_values.specs.declared.models.Model.TheVariants.{Lp64};
 ghost use Rattle.pf_values.specs.Arguments.{HasTypes};
 ghost use Rattle.fmtcanon.specs.FormatArguments.{AreArgumentsFor, HindersArguments, IsBadWord, IsWrongType, SpellArguments};
 ghost use Rattle.fmtcanon.specs.UntypedArgs.{argument_given};
@@ -19,8 +20,8 @@ pub fn arguments_for<'a>(
     words: &[&'a str],
 ) -> Result<Vec<Arg<'a>>, Fault>
     ensures ok { IfOk result
-        (λ args. AreArgumentsFor format.now (map (λ s. s.now) words.now) args.items) }
-    ensures err { IfErr result (HindersArguments format.now (map (λ s. s.now) words.now)) }
+        (λ args. AreArgumentsFor Lp64 format.now (map (λ s. s.now) words.now) args.items) }
+    ensures err { IfErr result (HindersArguments Lp64 format.now (map (λ s. s.now) words.now)) }
 {
     let wanted = signature(alloc, format)?;
     let given = read_words(alloc, words)?;
@@ -62,10 +63,10 @@ fn at_types<'a>(
     requires { length given.now ≡ length wanted.now }
     ensures ok { IfOk result (λ args.
         (map argument_of args.items ≡ map argument_given given.now)
-        × HasTypes (map argument_of args.items) wanted.now
+        × HasTypes Lp64 (map argument_of args.items) wanted.now
         × (map type_of args.items ≡ wanted.now)) }
     ensures err { IfErr result
-        (λ fault. IsWrongType (map argument_given given.now) wanted.now fault) }
+        (λ fault. IsWrongType Lp64 (map argument_given given.now) wanted.now fault) }
 {
     let mut args = Vec::new(alloc);
     for (argument, arg_type) in given.iter().zip(wanted) {

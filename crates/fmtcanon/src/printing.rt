@@ -1,5 +1,6 @@
 //! What a format prints for the arguments that words give.
 ghost use Rattle.std.specs.Prelude.{IfErr, IfOk, map};
+ghost use Rattle.pf_values.specs.declared.models.Model.TheVariants.{Lp64};
 ghost use Rattle.fmtcanon.specs.FormatArguments.{HindersArguments, IsPrinted};
 
 use crate::fault::Fault;
@@ -9,8 +10,9 @@ use std::alloc::Global;
 
 /// What a format prints for the arguments that words give.
 pub fn print_format(alloc: Global, format: &[u8], words: &[&str]) -> Result<Vec<u8>, Fault>
-    ensures ok { IfOk result (λ out. IsPrinted format.now (map (λ s. s.now) words.now) out.items) }
-    ensures err { IfErr result (HindersArguments format.now (map (λ s. s.now) words.now)) }
+    ensures ok { IfOk result
+        (λ out. IsPrinted Lp64 format.now (map (λ s. s.now) words.now) out.items) }
+    ensures err { IfErr result (HindersArguments Lp64 format.now (map (λ s. s.now) words.now)) }
 {
     let args = arguments_for(alloc, format, words)?;
     match render_vec(alloc, format, &args) {

@@ -1,6 +1,7 @@
 //! A run of the program.
 ghost use Rattle.std.specs.Prelude.{◌≡◌, map};
 ghost use Rattle.fmtcanon.specs.Outcomes.{outcome_of};
+ghost use Rattle.pf_values.specs.declared.models.Model.TheVariants.{Lp64};
 ghost use Rattle.fmtcanon.specs.Runs.{Leaves, LeavesAnswer, LeavesBytes};
 
 use crate::answer::{Answer, answer_to};
@@ -12,7 +13,7 @@ use std::alloc::Global;
 use std::io::{Read, Write};
 
 /// Runs the command that the words name; the program's name isn't among them. What a command reads
-/// comes from `reader`, and what it writes goes to `writer`, whose last call is a flush before `Done`,
+/// comes from `reader`, and what it writes goes to `writer`. Its last call is a flush before `Done`,
 /// `Same` and `Different`, and by `stream` also before `Refused` and `Read`. Any other refusal, and
 /// wrong words, come before the first call of the writer.
 pub fn run<R: Read, W: Write>(
@@ -21,7 +22,7 @@ pub fn run<R: Read, W: Write>(
     reader: &mut Counted<R>,
     writer: &mut Counted<W>,
 ) -> Outcome
-    ensures { Leaves R.remaining W.contents reader.old reader.new writer.old writer.new
+    ensures { Leaves Lp64 R.remaining W.contents reader.old reader.new writer.old writer.new
         (map (λ s. s.now) words.now) result }
 {
     match task_of(alloc, words) {
@@ -34,7 +35,7 @@ pub fn run<R: Read, W: Write>(
 
 // Answers a question. All growths come before the first byte goes out.
 fn answer<W: Write>(alloc: Global, question: &Question<'_>, writer: &mut Counted<W>) -> Outcome
-    ensures { LeavesAnswer W.contents writer.old writer.new question.now result }
+    ensures { LeavesAnswer Lp64 W.contents writer.old writer.new question.now result }
 {
     match answer_to(alloc, question) {
         Ok(answer) => write_answer(&answer, writer),

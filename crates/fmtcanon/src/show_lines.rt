@@ -1,5 +1,6 @@
 //! The parts of a format, a line for each.
 ghost use Rattle.std.specs.Prelude.{◌≡◌, ◌++◌, IfOk, MatchResult, codes, decimal};
+ghost use Rattle.pf_values.specs.declared.models.Model.TheVariants.{Lp64};
 ghost use Rattle.pf_reduce.specs.Reducing.{IsReducedTo, core_of};
 ghost use Rattle.pf_reduce.specs.declared.results.Reduced.{Reduced};
 ghost use Rattle.pf_values.specs.DataModel.{arg_type};
@@ -20,7 +21,7 @@ use std::alloc::{AllocError, Global};
 
 /// A line for each run of literal bytes, each `%%` and each directive of a format, or its refusal.
 pub fn show_lines(alloc: Global, format: &[u8]) -> Result<Vec<u8>, Fault>
-    ensures { MatchResult result (λ out. HasShownLines format.now out.items)
+    ensures { MatchResult result (λ out. HasShownLines Lp64 format.now out.items)
         (HindersFormat format.now) }
 {
     let mut out = Vec::new(alloc);
@@ -41,7 +42,7 @@ pub fn show_lines(alloc: Global, format: &[u8]) -> Result<Vec<u8>, Fault>
 
 fn push_piece(out: &mut Vec<u8>, piece: Piece<'_>) -> Result<(), AllocError>
     ensures { IfOk result (λ _.
-        (part : Text) × IsLineOf (shown_of piece.entry) part
+        (part : Text) × IsLineOf Lp64 (shown_of piece.entry) part
         × (out.new.items ≡ out.old.items ++ part)) }
 {
     match piece {
@@ -64,8 +65,8 @@ fn push_run(out: &mut Vec<u8>, len: usize) -> Result<(), AllocError>
 
 fn push_directive(out: &mut Vec<u8>, directive: &Directive) -> Result<(), AllocError>
     ensures { IfOk result (λ _.
-        (r : Reduced) × IsReducedTo directive.now r
-        × (out.new.items ≡ out.old.items ++ reduced_line directive.now r)) }
+        (r : Reduced) × IsReducedTo Lp64 directive.now r
+        × (out.new.items ≡ out.old.items ++ reduced_line Lp64 directive.now r)) }
 {
     push_front(out, directive)?;
     push_reduced(out, reduce(directive))?;
@@ -76,8 +77,8 @@ fn push_directive(out: &mut Vec<u8>, directive: &Directive) -> Result<(), AllocE
 // The spelling of a directive, and its type.
 fn push_front(out: &mut Vec<u8>, directive: &Directive) -> Result<(), AllocError>
     ensures { IfOk result (λ _.
-        out.new.items ≡ out.old.items ++ codes "directive " ++ spelling_of directive.now ++ codes ": "
-        ++ type_name (arg_type directive.now) ++ codes ": ") }
+        out.new.items ≡ out.old.items ++ codes "directive " ++ spelling_of directive.now
+        ++ codes ": " ++ type_name (arg_type Lp64 directive.now) ++ codes ": ") }
 {
     out.extend_from_slice(b"directive ")?;
     out.extend_from_slice(&spell(directive))?;

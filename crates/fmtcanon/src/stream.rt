@@ -1,5 +1,6 @@
 //! The canonical string of what a reader hands out.
 ghost use Rattle.pf_values.specs.Counting.{device_of};
+ghost use Rattle.pf_values.specs.declared.models.Model.TheVariants.{Lp64};
 ghost use Rattle.fmtcanon.specs.Streams.{LeavesCopy};
 
 use crate::outcome::Outcome;
@@ -10,7 +11,8 @@ use std::io::{Read, Write};
 /// Copies the canonical string of what the reader hands out. What was written is flushed at the
 /// end, at a refusal and where a read fails; these two are told even where that flush fails.
 pub fn copy<R: Read, W: Write>(reader: &mut Counted<R>, writer: &mut Counted<W>) -> Outcome
-    ensures { LeavesCopy R.remaining W.contents reader.old reader.new writer.old writer.new result }
+    ensures { LeavesCopy Lp64 R.remaining W.contents reader.old reader.new writer.old writer.new
+        result }
 {
     match copy_canonical(reader, writer) {
         Ok(count) => match writer.flush() {

@@ -1,6 +1,7 @@
 //! Arguments that have no type yet.
 ghost use Rattle.std.specs.Prelude.{◌≡◌, ◌↔◌, IfSome, IsSome};
 ghost use Rattle.pf_values.specs.Arg.{argument_of, type_of};
+ghost use Rattle.pf_values.specs.declared.models.Model.TheVariants.{Lp64};
 ghost use Rattle.pf_values.specs.Arguments.{HasType, Number};
 ghost use Rattle.pf_values.specs.DataModel.{IsInRange};
 ghost use Rattle.fmtcanon.specs.UntypedArgs.{argument_given};
@@ -22,7 +23,7 @@ pub enum UntypedArg<'a> {
 impl<'a> UntypedArg<'a> {
     /// The argument at a type, or `None` where it is none of the type's.
     pub fn as_type(self, arg_type: ArgType) -> Option<Arg<'a>>
-        ensures typed { IsSome result ↔ HasType (argument_given self.entry) arg_type }
+        ensures typed { IsSome result ↔ HasType Lp64 (argument_given self.entry) arg_type }
         ensures some { IfSome result
             (λ arg. (type_of arg ≡ arg_type) × (argument_of arg ≡ argument_given self.entry)) }
     {
@@ -36,7 +37,7 @@ impl<'a> UntypedArg<'a> {
 
 // The number at a type of numbers.
 fn number_as(number: i128, arg_type: ArgType) -> Option<Arg<'static>>
-    ensures typed { IsSome result ↔ IsInRange arg_type number }
+    ensures typed { IsSome result ↔ IsInRange Lp64 arg_type number }
     ensures some { IfSome result
         (λ arg. (type_of arg ≡ arg_type) × (argument_of arg ≡ Number number)) }
 {

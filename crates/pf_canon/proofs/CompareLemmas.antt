@@ -3,6 +3,7 @@ use Rattle.std.proofs.Common.{◌≡◌, ◌≢◌, ℕ, ◌<◌, Bool, true, fa
 use Rattle.std.specs.Prelude.{MatchBool}
 use Rattle.std.specs.Io.KnownBytes.{Consumes}
 use Rattle.std.proofs.lemmas.List.{append-nil, append_assoc, append_cancel_left, length-append}
+use Rattle.pf_values.specs.declared.models.Model.{Model}
 use Rattle.pf_values.specs.Canonical.{IsCanonicalOf}
 use Rattle.pf_values.specs.Counting.{Known}
 use Rattle.pf_values.specs.Items.{IsAccepted}
@@ -33,30 +34,33 @@ fault_later kept failed also later faults.Read old mid new h g = later old mid n
 fault_later kept failed also later (faults.Refused refusal) old mid new h g = also old mid new h g
 
 -- what a source gave first, and whatever came later
-abbrev pub GoesOn : Option ℕ → Source → Known → Known → Text → Text → Type 0
-GoesOn None s start left taken given = IsEnding [] start left taken given × IsOver s
-GoesOn (Some byte) s start left taken given = (more : Text) × History s start left taken (given ++ byte ∷ more)
+abbrev pub GoesOn : Model → Option ℕ → Source → Known → Known → Text → Text → Type 0
+GoesOn model None s start left taken given = IsEnding model [] start left taken given × IsOver s
+GoesOn model (Some byte) s start left taken given = (more : Text) × History model s start left taken (given ++ byte ∷ more)
 
-pub gave_first : (x : Option ℕ) (s : Source) (start left : Known) (taken given : Text) → Gave x s start left taken given → GoesOn x s start left taken given
-gave_first None s start left taken given h = h
-gave_first (Some byte) s start left taken given h = ([], h)
+pub gave_first : (model : Model) (x : Option ℕ) (s : Source) (start left : Known) (taken given : Text) → Gave model x s start left taken given → GoesOn model x s start left taken given
+gave_first model None s start left taken given h = h
+gave_first model (Some byte) s start left taken given h = ([], h)
 
-module _ {B : Type 0} (left : B → Known) (kept failed : B → B → Type 0) (old new : Source) (from to : B) (start : Known) (given : Text) where
+longer : (given : Text) (byte : ℕ) (more : Text) → length given < length (given ++ byte ∷ more)
+longer given byte more = omega (arith, length-append given (byte ∷ more))
+
+module _ (model : Model) {B : Type 0} (left : B → Known) (kept failed : B → B → Type 0) (old new : Source) (from to : B) (start : Known) (given : Text) where
   -- one byte more was given
-  pub more_given : (x : Option ℕ) (taken : Text) (y : ℕ) → StepsBy left kept failed old from (Some (Ok y)) new to → GoesOn x old start (left from) taken given → (now : Text) × GoesOn x new start (left to) now given
+  pub more_given : (x : Option ℕ) (taken : Text) (y : ℕ) → StepsBy model left kept failed old from (Some (Ok y)) new to → GoesOn model x old start (left from) taken given → (now : Text) × GoesOn model x new start (left to) now given
   more_given None taken y s h = absurd (let none : Some (Ok y) ≡ None = (s.over h.1).0 in cc)
   more_given (Some byte) taken y s h =
       let next = s.next start taken (given ++ byte ∷ h.0) h.1 in (
         taken ++ next.0,
-        (h.0 ++ y ∷ [], subst (History new start (left to) (taken ++ next.0)) (append_assoc given (byte ∷ h.0) (y ∷ [])) next.1.0),
+        (h.0 ++ y ∷ [], subst (History model new start (left to) (taken ++ next.0)) (append_assoc given (byte ∷ h.0) (y ∷ [])) next.1.0),
       )
 
   -- the end was reached
-  pub drained : (x : Option ℕ) (taken : Text) → StepsBy left kept failed old from None new to → GoesOn x old start (left from) taken given → Drained x start (left to) given
+  pub drained : (x : Option ℕ) (taken : Text) → StepsBy model left kept failed old from None new to → GoesOn model x old start (left from) taken given → Drained model x start (left to) given
   drained None taken s h =
       let same : to ≡ from = (s.over h.1).2 in
       let e = h.0 in
-      subst (λ b. Drained None start (left b) given) (sym same) (record { text = taken; rest = []; whole = record { reader = e.reader; end = e.end; accepted = e.accepted; canonical = (_, e.canonical) }; canonical = e.canonical; begins = refl })
+      subst (λ b. Drained model None start (left b) given) (sym same) (record { text = taken; rest = []; whole = record { reader = e.reader; end = e.end; accepted = e.accepted; canonical = (_, e.canonical) }; canonical = e.canonical; begins = refl })
   drained (Some byte) taken s h =
       let next = s.next start taken (given ++ byte ∷ h.0) h.1 in
       let e = next.1.0 in
@@ -64,84 +68,81 @@ module _ {B : Type 0} (left : B → Known) (kept failed : B → B → Type 0) (o
         text = taken ++ next.0;
         rest = byte ∷ h.0;
         whole = record { reader = e.reader; end = e.end; accepted = e.accepted; canonical = (_, e.canonical) };
-        canonical = subst (IsCanonicalOf (taken ++ next.0)) (append-nil (given ++ byte ∷ h.0)) e.canonical;
+        canonical = subst (IsCanonicalOf model (taken ++ next.0)) (append-nil (given ++ byte ∷ h.0)) e.canonical;
         begins = (h.0, refl);
       }
 
-  longer : (byte : ℕ) (more : Text) → length given < length (given ++ byte ∷ more)
-  longer byte more = omega (arith, length-append given (byte ∷ more))
-
   -- the text stopped
-  pub stopped : (x : Option ℕ) (taken : Text) (fault : StreamFault) → StepsBy left kept failed old from (Some (Err fault)) new to → GoesOn x old start (left from) taken given → DrainsTo x start (left to) given (Err fault)
+  pub stopped : (x : Option ℕ) (taken : Text) (fault : StreamFault) → StepsBy model left kept failed old from (Some (Err fault)) new to → GoesOn model x old start (left from) taken given → DrainsTo model x start (left to) given (Err fault)
   stopped None taken fault s h = absurd (let none : Some (Err fault) ≡ None = (s.over h.1).0 in cc)
   stopped (Some byte) taken faults.Read s h =
       let next = s.next start taken (given ++ byte ∷ h.0) h.1 in
-      (taken ++ next.0, given ++ byte ∷ h.0, (next.1.0, next.1.1), longer byte h.0)
+      (taken ++ next.0, given ++ byte ∷ h.0, (next.1.0, next.1.1), longer given byte h.0)
   stopped (Some byte) taken (faults.Refused refusal) s h =
       let next = s.next start taken (given ++ byte ∷ h.0) h.1 in
-      (taken ++ next.0, given ++ byte ∷ h.0, (next.1.0, next.1.1), longer byte h.0)
+      (taken ++ next.0, given ++ byte ∷ h.0, (next.1.0, next.1.1), longer given byte h.0)
 
 -- a longer text is settled on the other side
-pub paced_by : (taken given settled : Text) → IsReadFor taken given → length given < length settled → IsPaced taken settled
-paced_by taken given settled (inl none) more = inl none
-paced_by taken given settled (inr h) more = let few = h.5 in inr (h.0, h.1, h.2, h.3, h.4, omega (arith, few, more))
+pub paced_by : (model : Model) (taken given settled : Text) → IsReadFor model taken given → length given < length settled → IsPaced model taken settled
+paced_by model taken given settled (inl none) more = inl none
+paced_by model taken given settled (inr h) more = let few = h.5 in inr (h.0, h.1, h.2, h.3, h.4, omega (arith, few, more))
 
-pub paced_more : (taken given : Text) (byte : ℕ) → IsReadFor taken given → IsPaced taken (given ++ byte ∷ [])
-paced_more taken given byte h = paced_by taken given (given ++ byte ∷ []) h (omega (arith, length-append given (byte ∷ [])))
+pub paced_more : (model : Model) (taken given : Text) (byte : ℕ) → IsReadFor model taken given → IsPaced model taken (given ++ byte ∷ [])
+paced_more model taken given byte h = paced_by model taken given (given ++ byte ∷ []) h (omega (arith, length-append given (byte ∷ [])))
 
-reader_in : (s : Source) (start left : Known) (taken given : Text) → History s start left taken given → Consumes start left taken
-reader_in s start left taken given h = go s.is_open h
+reader_in : (model : Model) (s : Source) (start left : Known) (taken given : Text) → History model s start left taken given → Consumes start left taken
+reader_in model s start left taken given h = go s.is_open h
   where
-    go : (b : Bool) → MatchBool b (IsReading s.transducer (due_text s.due) start left taken given) (IsEnding (due_text s.due) start left taken given) → Consumes start left taken
+    go : (b : Bool) → MatchBool b (IsReading model s.transducer (due_text s.due) start left taken given) (IsEnding model (due_text s.due) start left taken given) → Consumes start left taken
     go true h = h.reader
     go false h = h.reader
 
-gave_reader : (y : Option ℕ) (s : Source) (start left : Known) (taken given : Text) → Gave y s start left taken given → Consumes start left taken
-gave_reader None s start left taken given h = h.0.reader
-gave_reader (Some byte) s start left taken given h = reader_in s start left taken (given ++ byte ∷ []) h
+gave_reader : (model : Model) (y : Option ℕ) (s : Source) (start left : Known) (taken given : Text) → Gave model y s start left taken given → Consumes start left taken
+gave_reader model None s start left taken given h = h.0.reader
+gave_reader model (Some byte) s start left taken given h = reader_in model s start left taken (given ++ byte ∷ []) h
 
 -- what was read of a text that stopped
-stopped_pace : (fault : StreamFault) (s : Source) (start left : Known) (taken given settled : Text) → Leaves (Some (Err fault)) s start left taken given → length given < length settled → (other : Text) × Consumes start left other × IsPaced other settled
-stopped_pace faults.Read s start left taken given settled h more = (taken, h.0, paced_by taken given settled h.2 more)
-stopped_pace (faults.Refused refusal) s start left taken given settled h more = elim h.0.cause [
-  | inl end ↦ (taken, end.1, paced_by taken given settled h.2 more)
+stopped_pace : (model : Model) (fault : StreamFault) (s : Source) (start left : Known) (taken given settled : Text) → Leaves model (Some (Err fault)) s start left taken given → length given < length settled → (other : Text) × Consumes start left other × IsPaced model other settled
+stopped_pace model faults.Read s start left taken given settled h more = (taken, h.0, paced_by model taken given settled h.2 more)
+stopped_pace model (faults.Refused refusal) s start left taken given settled h more = elim h.0.cause [
+  | inl end ↦ (taken, end.1, paced_by model taken given settled h.2 more)
   | inr byte ↦ (taken ++ byte.0 ∷ [], byte.2, inr (taken, byte.0, given, refl, h.1, more))
 ]
 
-stops_by : (fault : StreamFault) (s : Source) (start left : Known) (taken given : Text) → Leaves (Some (Err fault)) s start left taken given → StopsBy fault start left taken given
-stops_by faults.Read s start left taken given h = (h.0, h.1)
-stops_by (faults.Refused refusal) s start left taken given h = (h.0, h.1)
+stops_by : (model : Model) (fault : StreamFault) (s : Source) (start left : Known) (taken given : Text) → Leaves model (Some (Err fault)) s start left taken given → StopsBy model fault start left taken given
+stops_by model faults.Read s start left taken given h = (h.0, h.1)
+stops_by model (faults.Refused refusal) s start left taken given h = (h.0, h.1)
 
-module _ (f f_left g g_left : Known) where
+begins_one : (x y : Option ℕ) (rest : Text) → BeginsWith x rest → BeginsWith y rest → x ≡ y
+begins_one None None rest h k = refl
+begins_one None (Some b) rest h k = absurd (let both : [] ≡ b ∷ k.0 = sym h ∙ k.1 in cc)
+begins_one (Some a) None rest h k = absurd (let both : [] ≡ a ∷ h.0 = sym k ∙ h.1 in cc)
+begins_one (Some a) (Some b) rest h k = let both : a ∷ h.0 ≡ b ∷ k.0 = sym h.1 ∙ k.1 in cc
+
+module _ (model : Model) (f f_left g g_left : Known) where
   -- the first text stopped in step
-  pub first_stops : (fault : StreamFault) (one two : Source) (t u given : Text) → Leaves (Some (Err fault)) one f f_left t given → History two g g_left u given → IsPaced u given → StopsOn First fault f f_left g g_left
-  first_stops fault one two t u given h k paced = (t, given, u, stops_by fault one f f_left t given h, reader_in two g g_left u given k, paced)
+  pub first_stops : (fault : StreamFault) (one two : Source) (t u given : Text) → Leaves model (Some (Err fault)) one f f_left t given → History model two g g_left u given → IsPaced model u given → StopsOn model First fault f f_left g g_left
+  first_stops fault one two t u given h k paced = (t, given, u, stops_by model fault one f f_left t given h, reader_in model two g g_left u given k, paced)
 
   -- the second stopped, and then the first
-  pub both_stop : (x : Option ℕ) (fault behind : StreamFault) (two : Source) (u given : Text) → DrainsTo x f f_left given (Err behind) → Leaves (Some (Err fault)) two g g_left u given → StopsOn First behind f f_left g g_left
+  pub both_stop : (x : Option ℕ) (fault behind : StreamFault) (two : Source) (u given : Text) → DrainsTo model x f f_left given (Err behind) → Leaves model (Some (Err fault)) two g g_left u given → StopsOn model First behind f f_left g g_left
   both_stop x fault behind two u given d h =
-      let other = stopped_pace fault two g g_left u given d.1 h d.3 in
+      let other = stopped_pace model fault two g g_left u given d.1 h d.3 in
       (d.0, d.1, other.0, d.2, other.1, other.2)
 
   -- the first was read whole, and the second stopped
-  pub second_stops : (x : Option ℕ) (fault : StreamFault) (two : Source) (u given : Text) → Drained x f f_left given → Leaves (Some (Err fault)) two g g_left u given → StopsOn Second fault f f_left g g_left
-  second_stops x fault two u given d h = (d.text, u, given, d.whole, stops_by fault two g g_left u given h)
+  pub second_stops : (x : Option ℕ) (fault : StreamFault) (two : Source) (u given : Text) → Drained model x f f_left given → Leaves model (Some (Err fault)) two g g_left u given → StopsOn model Second fault f f_left g g_left
+  second_stops x fault two u given d h = (d.text, u, given, d.whole, stops_by model fault two g g_left u given h)
 
   -- they differ, and the first stopped
-  pub apart_first : (x y : Option ℕ) (fault : StreamFault) (two : Source) (u given : Text) → DrainsTo x f f_left given (Err fault) → Gave y two g g_left u given → IsReadFor u given → StopsOn First fault f f_left g g_left
-  apart_first x y fault two u given d h read = (d.0, d.1, u, d.2, gave_reader y two g g_left u given h, paced_by u given d.1 read d.3)
+  pub apart_first : (x y : Option ℕ) (fault : StreamFault) (two : Source) (u given : Text) → DrainsTo model x f f_left given (Err fault) → Gave model y two g g_left u given → IsReadFor model u given → StopsOn model First fault f f_left g g_left
+  apart_first x y fault two u given d h read = (d.0, d.1, u, d.2, gave_reader model y two g g_left u given h, paced_by model u given d.1 read d.3)
 
-  pub apart_second : (x y : Option ℕ) (fault : StreamFault) (given : Text) → Drained x f f_left given → DrainsTo y g g_left given (Err fault) → StopsOn Second fault f f_left g g_left
+  pub apart_second : (x y : Option ℕ) (fault : StreamFault) (given : Text) → Drained model x f f_left given → DrainsTo model y g g_left given (Err fault) → StopsOn model Second fault f f_left g g_left
   apart_second x y fault given d h = (d.text, h.0, h.1, d.whole, h.2)
 
-  begins_one : (x y : Option ℕ) (rest : Text) → BeginsWith x rest → BeginsWith y rest → x ≡ y
-  begins_one None None rest h k = refl
-  begins_one None (Some b) rest h k = absurd (let both : [] ≡ b ∷ k.0 = sym h ∙ k.1 in cc)
-  begins_one (Some a) None rest h k = absurd (let both : [] ≡ a ∷ h.0 = sym k ∙ h.1 in cc)
-  begins_one (Some a) (Some b) rest h k = let both : a ∷ h.0 ≡ b ∷ k.0 = sym h.1 ∙ k.1 in cc
-
   -- both were read whole, and their canonical texts differ
-  pub apart_ends : (x y : Option ℕ) (given : Text) → x ≢ y → Drained x f f_left given → Drained y g g_left given → EndsBoth f f_left g g_left false
+  pub apart_ends : (x y : Option ℕ) (given : Text) → x ≢ y → Drained model x f f_left given → Drained model y g g_left given → EndsBoth model f f_left g g_left false
   apart_ends x y given differ d h =
       let c = d.canonical in
       let k = h.canonical in
@@ -153,13 +154,13 @@ module _ (f f_left g g_left : Known) where
         same = (
           λ is. absurd (cc),
           λ e.
-              let one = append_cancel_left given d.rest h.rest (equivalent_formats_one d.text h.text (given ++ d.rest) (given ++ h.rest) e c k) in
+              let one = append_cancel_left given d.rest h.rest (equivalent_formats_one model d.text h.text (given ++ d.rest) (given ++ h.rest) e c k) in
               absurd (differ (begins_one x y d.rest d.begins (subst (BeginsWith y) (sym one) h.begins))),
         );
       }
 
   -- both ended at once
-  pub same_ends : (one two : Source) (t u given : Text) → Gave None one f f_left t given → Gave None two g g_left u given → EndsBoth f f_left g g_left true
+  pub same_ends : (one two : Source) (t u given : Text) → Gave model None one f f_left t given → Gave model None two g g_left u given → EndsBoth model f f_left g g_left true
   same_ends one two t u given h k =
       let a = h.0 in
       let b = k.0 in
@@ -170,21 +171,21 @@ module _ (f f_left g g_left : Known) where
         u = u;
         first = record { reader = a.reader; end = a.end; accepted = a.accepted; canonical = (_, c) };
         second = record { reader = b.reader; end = b.end; accepted = b.accepted; canonical = (_, d) };
-        same = (λ _. equivalent_by t u (given ++ []) c.equivalent d.equivalent, λ _. refl);
+        same = (λ _. equivalent_by model t u (given ++ []) c.equivalent d.equivalent, λ _. refl);
       }
 
 -- a byte or an end of each
-pub paces : (x y : Option ℕ) (p : Pace) (one two : Source) (f a g b : Known) (t u given : Text) → HasPace x y p → Gave x one f a t given → Gave y two g b u given → IsReadFor u given → PacesTo one a two b f g (Ok p)
-paces x y On one two f a g b t u given h k l read = record {
+pub paces : (model : Model) (x y : Option ℕ) (p : Pace) (one two : Source) (f a g b : Known) (t u given : Text) → HasPace x y p → Gave model x one f a t given → Gave model y two g b u given → IsReadFor model u given → PacesTo model one a two b f g (Ok p)
+paces model x y On one two f a g b t u given h k l read = record {
   t = t;
   u = u;
   given = given ++ h.0 ∷ [];
-  one = subst (λ x. Gave x one f a t given) h.1 k;
-  two = subst (λ y. Gave y two g b u given) h.2 l;
-  paced = paced_more u given h.0 read;
+  one = subst (λ x. Gave model x one f a t given) h.1 k;
+  two = subst (λ y. Gave model y two g b u given) h.2 l;
+  paced = paced_more model u given h.0 read;
 }
-paces x y Same one two f a g b t u given h k l read = same_ends f a g b one two t u given (subst (λ x. Gave x one f a t given) h.0 k) (subst (λ y. Gave y two g b u given) h.1 l)
-paces x y Differ one two f a g b t u given h k l read = record { x = x; y = y; t = t; u = u; given = given; differ = h; one = k; two = l; read = read }
+paces model x y Same one two f a g b t u given h k l read = same_ends model f a g b one two t u given (subst (λ x. Gave model x one f a t given) h.0 k) (subst (λ y. Gave model y two g b u given) h.1 l)
+paces model x y Differ one two f a g b t u given h k l read = record { x = x; y = y; t = t; u = u; given = given; differ = h; one = k; two = l; read = read }
 
 module _ {A B : Type 0} (kept_a failed_a : A → A → Type 0) (kept_b failed_b : B → B → Type 0) where
   stop_later : ((a b c : A) → kept_a a b → kept_a b c → kept_a a c) → ((a b c : A) → kept_a a b → failed_a b c → failed_a a c) → ((a b c : B) → kept_b a b → kept_b b c → kept_b a c) → ((a b c : B) → kept_b a b → failed_b b c → failed_b a c)
@@ -199,11 +200,11 @@ module _ {A B : Type 0} (kept_a failed_a : A → A → Type 0) (kept_b failed_b 
   sides_later also_a later_a also_b later_b T (Err stop) a a_mid a_new b b_mid b_new h k s = stop_later also_a later_a also_b later_b stop.side stop.fault a a_mid a_new b b_mid b_new h k s
 
 -- texts in memory
-read_whole : (f rest t : Text) → IsReadWhole (Some f) (Some rest) t → f ≡ t
-read_whole f rest t h = h.reader ∙ ap (λ r. t ++ r) h.end ∙ append-nil t
+read_whole : (model : Model) (f rest t : Text) → IsReadWhole model (Some f) (Some rest) t → f ≡ t
+read_whole model f rest t h = h.reader ∙ ap (λ r. t ++ r) h.end ∙ append-nil t
 
-whole_accepted : (f rest t : Text) → IsReadWhole (Some f) (Some rest) t → IsAccepted f
-whole_accepted f rest t h = subst IsAccepted (sym (read_whole f rest t h)) h.accepted
+whole_accepted : (model : Model) (f rest t : Text) → IsReadWhole model (Some f) (Some rest) t → IsAccepted f
+whole_accepted model f rest t h = subst IsAccepted (sym (read_whole model f rest t h)) h.accepted
 
 refused_text : (f rest taken : Text) (refusal : Refusal) → IsRefusedBehind (Some f) (Some rest) taken refusal → IsRefusedAt f refusal.kind refusal.at
 refused_text f rest taken refusal h = elim h.cause [
@@ -211,7 +212,7 @@ refused_text f rest taken refusal h = elim h.cause [
   | inr byte ↦ subst (λ t. IsRefusedAt t refusal.kind refusal.at) (sym (byte.2 ∙ append_assoc taken (byte.0 ∷ []) rest)) (byte.3 rest)
 ]
 
-module _ (f f_rest g g_rest : Text) where
-  pub text_stops : (side : Side) (fault : StreamFault) (refusal : Refusal) → fault ≡ faults.Refused refusal → StopsOn side fault (Some f) (Some f_rest) (Some g) (Some g_rest) → TextStopsOn side f g refusal
-  text_stops First fault refusal e h = refused_text f f_rest h.0 refusal (subst (λ x. StopsBy x (Some f) (Some f_rest) h.0 h.1) e h.3).0
-  text_stops Second fault refusal e h = (whole_accepted f f_rest h.0 h.3, refused_text g g_rest h.1 refusal (subst (λ x. StopsBy x (Some g) (Some g_rest) h.1 h.2) e h.4).0)
+module _ (model : Model) (f f_rest g g_rest : Text) where
+  pub text_stops : (side : Side) (fault : StreamFault) (refusal : Refusal) → fault ≡ faults.Refused refusal → StopsOn model side fault (Some f) (Some f_rest) (Some g) (Some g_rest) → TextStopsOn side f g refusal
+  text_stops First fault refusal e h = refused_text f f_rest h.0 refusal (subst (λ x. StopsBy model x (Some f) (Some f_rest) h.0 h.1) e h.3).0
+  text_stops Second fault refusal e h = (whole_accepted model f f_rest h.0 h.3, refused_text g g_rest h.1 refusal (subst (λ x. StopsBy model x (Some g) (Some g_rest) h.1 h.2) e h.4).0)

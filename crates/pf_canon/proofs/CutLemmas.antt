@@ -3,6 +3,7 @@ use Rattle.std.proofs.Common.{◌≡◌, ◌≢◌, ℕ, ◌-◌, ◌<◌, ◌�
 use Rattle.std.specs.Prelude.{flat_map, IsTrue, List, MatchOption, ◌↔◌}
 use Rattle.std.specs.Borrow.{Bor}
 use Rattle.std.proofs.lemmas.List.{append-nil, append_assoc, append_cancel_left, take_all}
+use Rattle.pf_values.specs.declared.models.Model.{Model}
 use Rattle.pf_values.specs.Canonical.{IsCanonicalText, item_spelling}
 use Rattle.pf_values.specs.Items.{IsAccepted, Item}
 use Rattle.pf_values.specs.Text.{Text}
@@ -53,16 +54,16 @@ same_used_up : (t c : Text) (left : Option (Bor Text)) → IsBehind t c left →
 same_used_up t c (Some left) h e = append_cancel_left c left.now [] (sym h ∙ sym e ∙ sym (append-nil c))
 same_used_up t c None h e = h [] (sym e ∙ sym (append-nil c))
 
-pub cut_to_end : (t out : Text) (r : Transducer) (items : List Item) (at : ℕ) (parts : Parts) (left : Option (Bor Text)) (is : Bool) → length t ≤ at → IsThrough r (take at t) items out → Ends (take at t) items out (Ok parts) → IsBehind t (out ++ parts_text parts) left
-    → IsTrue is ↔ IsUsedUp left → IsAccepted t × (IsTrue is ↔ IsCanonicalText t)
-cut_to_end t out r items at parts left is whole h ends behind e =
+pub cut_to_end : (model : Model) (t out : Text) (r : Transducer) (items : List Item) (at : ℕ) (parts : Parts) (left : Option (Bor Text)) (is : Bool) → length t ≤ at → IsThrough model r (take at t) items out → Ends model (take at t) items out (Ok parts) → IsBehind t (out ++ parts_text parts) left
+    → IsTrue is ↔ IsUsedUp left → IsAccepted t × (IsTrue is ↔ IsCanonicalText model t)
+cut_to_end model t out r items at parts left is whole h ends behind e =
     let all = take_all at t whole in
     let c = out ++ parts_text parts in
     let reads = rw all at ends.0 in
     let canonical = ends.1 in (
       (items, record { reads = reads; limit = rw all at h.after.limit }),
       (
-        λ yes. subst IsCanonicalText (sym (used_up_canonical t c left behind (e.0 yes))) canonical.canonical,
-        λ is_text. e.1 (same_used_up t c left behind (ends.2 (subst IsCanonicalText (sym all) is_text) ∙ all)),
+        λ yes. subst (IsCanonicalText model) (sym (used_up_canonical t c left behind (e.0 yes))) canonical.canonical,
+        λ is_text. e.1 (same_used_up t c left behind (ends.2 (subst (IsCanonicalText model) (sym all) is_text) ∙ all)),
       ),
     )

@@ -2,6 +2,7 @@
 use Rattle.std.proofs.Common.{◌≡◌, ℕ, zero, suc, ◌<◌, ◌+◌, ◌-◌, ◌*◌, ◌^◌, ◌≤◌, List, [], ◌∷◌, ◌++◌, length, map, take, drop, refl, sym, ap, ◌∙◌, subst, arith, Err, inl, inr}
 use Rattle.std.proofs.Math.Seq.{take-add}
 use Rattle.std.proofs.lemmas.List.{append-nil, append_assoc, length-append, length-take-le, take_all, take-append-drop}
+use Rattle.pf_values.specs.declared.models.Model.{Model}
 use Rattle.pf_values.specs.Items.{Item, Byte, Reads}
 use Rattle.pf_values.specs.Refusals.{IsRefusedAt}
 use Rattle.pf_values.specs.Text.{Text}
@@ -23,15 +24,15 @@ use Rattle.pf_canon.proofs.MakingLemmas.{made_more, made_settled, made_silents}
 use Rattle.pf_canon.proofs.RefusedLemmas.{not_truncated}
 use Rattle.pf_canon.proofs.ThroughLemmas.{grown, passed, passed_plain, through_few}
 
-pub through_settles : (r : Transducer) (t out : Text) (items : List Item) → IsThrough r t items out → SettlesTo t out
-through_settles r t out items h =
+pub through_settles : (model : Model) (r : Transducer) (t out : Text) (items : List Item) → IsThrough model r t items out → SettlesTo model t out
+through_settles model r t out items h =
     let good = h.after.good in
     let splits = good.splits in
-    record { items = items; part = h.after.part; good = good; settled = made_settled splits.whole out r.waiting items splits.reads h.made }
+    record { items = items; part = h.after.part; good = good; settled = made_settled model splits.whole out r.waiting items splits.reads h.made }
 
 -- inside an item nothing is settled
-pub inside : (old new : Transducer) (t out : Text) (items : List Item) (byte : ℕ) → IsThrough old t items out → new.waiting ≡ old.waiting → scanned.Takes t items byte steps.More new.scanner → IsThrough new (t ++ byte ∷ []) items out
-inside old new t out items byte h e takes =
+pub inside : (model : Model) (old new : Transducer) (t out : Text) (items : List Item) (byte : ℕ) → IsThrough model old t items out → new.waiting ≡ old.waiting → scanned.Takes t items byte steps.More new.scanner → IsThrough model new (t ++ byte ∷ []) items out
+inside model old new t out items byte h e takes =
     let few = h.few in
     record { after = takes.after; made = rw e h.made; few = omega (arith, few, e, length-append t (byte ∷ [])); short = rw e h.short }
 
@@ -40,13 +41,13 @@ pub one_more : (t text : Text) (at byte : ℕ) → drop at text ≡ byte ∷ dro
 one_more t text at byte first = append_assoc t (take at text) (byte ∷ []) ∙ ap (λ u. t ++ u) (ap (λ u. take at text ++ take 1 u) (sym first) ∙ sym (take-add at 1 text))
 
 -- nothing more was settled in the whole text
-pub all_inside : (new : Transducer) (t out text : Text) (items : List Item) (run at : ℕ) → IsThrough new (t ++ take at text) items (out ++ take run text) → GrowsBy t out text (record { run = run; start = at; len = at; made = mades.Nothing }) new
-all_inside new t out text items run at h = record { items = items; through = subst (λ u. IsThrough new (t ++ take at text) items (out ++ u)) (sym (append-nil (take run text))) h }
+pub all_inside : (model : Model) (new : Transducer) (t out text : Text) (items : List Item) (run at : ℕ) → IsThrough model new (t ++ take at text) items (out ++ take run text) → GrowsBy model t out text (record { run = run; start = at; len = at; made = mades.Nothing }) new
+all_inside model new t out text items run at h = record { items = items; through = subst (λ u. IsThrough model new (t ++ take at text) items (out ++ u)) (sym (append-nil (take run text))) h }
 
 -- a byte is refused behind what settles nothing more
-pub refused_in : (old new : Transducer) (t out text : Text) (items : List Item) (run at byte : ℕ) (refusal : Refusal) → drop at text ≡ byte ∷ drop (at + 1) text → IsThrough old (t ++ take at text) items (out ++ take run text)
-    → scanned.Feeds (t ++ take at text) items byte (Err refusal) new.scanner → RefusesIn t out text (record { run = run; refusal = refusal })
-refused_in old new t out text items run at byte refusal first h f =
+pub refused_in : (model : Model) (old new : Transducer) (t out text : Text) (items : List Item) (run at byte : ℕ) (refusal : Refusal) → drop at text ≡ byte ∷ drop (at + 1) text → IsThrough model old (t ++ take at text) items (out ++ take run text)
+    → scanned.Feeds (t ++ take at text) items byte (Err refusal) new.scanner → RefusesIn model t out text (record { run = run; refusal = refusal })
+refused_in model old new t out text items run at byte refusal first h f =
     let fed = t ++ take at text in
     record {
       fed = take at text;
@@ -56,8 +57,8 @@ refused_in old new t out text items run at byte refusal first h f =
       kind = not_truncated fed byte [] refusal.kind refusal.at f.0 (f.1 []);
       place = f.0;
       refused = subst (λ u. IsRefusedAt (fed ++ u) refusal.kind refusal.at) (sym first) (f.1 (drop (at + 1) text));
-      settles = through_settles old fed (out ++ take run text) items h;
-      few = let few = through_few old fed (out ++ take run text) items h in omega (arith, few);
+      settles = through_settles model old fed (out ++ take run text) items h;
+      few = let few = through_few model old fed (out ++ take run text) items h in omega (arith, few);
     }
 
 -- the byte at a place, alone
@@ -65,19 +66,19 @@ first_alone : (text : Text) (at byte : ℕ) → drop at text ≡ byte ∷ drop (
 first_alone text at byte first = let one : at + 1 - at ≡ 1 = omega arith in ap (λ n. take n (drop at text)) one ∙ ap (take 1) first
 
 -- a byte has settled what its step says
-pub fed_made : (r new : Transducer) (t out text : Text) (items : List Item) (run at : ℕ) (step : Step) (made : Made) (f : IsFed r t items (out ++ take run text) text at step) → new.scanner ≡ r.scanner
-    → ((byte : ℕ) (out : Text) (items : List Item) → Settles step byte items out r.waiting made new.waiting) → new.waiting ≤ r.waiting + 1 → ((byte : ℕ) → length (made_text made byte) + 4 * new.waiting ≤ 4 * r.waiting + most_len (more_of step))
-    → GrowsBy t out text (record { run = run; start = at; len = at + 1; made = made }) new
-fed_made r new t out text items run at step made f scanner settles one short =
+pub fed_made : (model : Model) (r new : Transducer) (t out text : Text) (items : List Item) (run at : ℕ) (step : Step) (made : Made) (f : IsFed model r t items (out ++ take run text) text at step) → new.scanner ≡ r.scanner
+    → ((byte : ℕ) (out : Text) (items : List Item) → Settles model step byte items out r.waiting made new.waiting) → new.waiting ≤ r.waiting + 1 → ((byte : ℕ) → length (made_text made byte) + 4 * new.waiting ≤ 4 * r.waiting + most_len (more_of step))
+    → GrowsBy model t out text (record { run = run; start = at; len = at + 1; made = made }) new
+fed_made model r new t out text items run at step made f scanner settles one short =
     let w = f.waiting in
     let o = out ++ take run text in
-    let g = grown f.before new (t ++ take at text) o items f.byte step made f.through (rw scanner f.takes) (rw w at settles f.byte o items) (omega (arith, one, w)) (rw w at short f.byte) in
+    let g = grown model f.before new (t ++ take at text) o items f.byte step made f.through (rw scanner f.takes) (rw w at settles f.byte o items) (omega (arith, one, w)) (rw w at short f.byte) in
     let last = run_text made (take (at + 1 - at) (drop at text)) in
     record {
       items = items ++ g.more;
-      through = subst (IsThrough new (t ++ take (at + 1) text) (items ++ g.more)) (append_assoc out (take run text) last)
-          (subst (λ u. IsThrough new u (items ++ g.more) (o ++ last)) (one_more t text at f.byte f.first)
-          (subst (λ u. IsThrough new ((t ++ take at text) ++ f.byte ∷ []) (items ++ g.more) (o ++ run_text made u)) (sym (first_alone text at f.byte f.first)) g.through));
+      through = subst (IsThrough model new (t ++ take (at + 1) text) (items ++ g.more)) (append_assoc out (take run text) last)
+          (subst (λ u. IsThrough model new u (items ++ g.more) (o ++ last)) (one_more t text at f.byte f.first)
+          (subst (λ u. IsThrough model new ((t ++ take at text) ++ f.byte ∷ []) (items ++ g.more) (o ++ run_text made u)) (sym (first_alone text at f.byte f.first)) g.through));
     }
 
 most_silents : (count : ℕ) → most_len (silents count) ≡ 4120 * count
@@ -85,69 +86,69 @@ most_silents zero = omega arith
 most_silents (suc count) = omega (arith, most_silents count)
 
 -- silent directives wait
-waits : (old new : Transducer) (t out text : Text) (items : List Item) (count : ℕ) → IsThrough old t items out → 4 * count ≤ length text → PassesSilents t items text count new.scanner → new.waiting ≡ old.waiting + count
-    → IsThrough new (t ++ take (4 * count) text) (items ++ silents count) out
-waits old new t out text items count h within p e =
+waits : (model : Model) (old new : Transducer) (t out text : Text) (items : List Item) (count : ℕ) → IsThrough model old t items out → 4 * count ≤ length text → PassesSilents t items text count new.scanner → new.waiting ≡ old.waiting + count
+    → IsThrough model new (t ++ take (4 * count) text) (items ++ silents count) out
+waits model old new t out text items count h within p e =
     let few = h.few in
     let short = h.short in
     record {
       after = p.after;
-      made = rw e (made_silents count out old.waiting (items ++ silents count) [] (subst (IsMaking out old.waiting (items ++ silents count)) (sym (append-nil (silents count))) (made_more out old.waiting items [] (silents count) h.made)));
+      made = rw e (made_silents model count out old.waiting (items ++ silents count) [] (subst (IsMaking model out old.waiting (items ++ silents count)) (sym (append-nil (silents count))) (made_more model out old.waiting items [] (silents count) h.made)));
       few = omega (arith, few, e, within, length-append t (take (4 * count) text), length-take-le (4 * count) text within);
       short = omega (arith, short, e, most_len-append items (silents count), most_silents count);
     }
 
 -- and so they do after a run
-pub silents_kept : (old new : Transducer) (t out text : Text) (items : List Item) (run count : ℕ) → IsThrough old (t ++ take run text) items out → 4 * count ≤ length (drop run text)
+pub silents_kept : (model : Model) (old new : Transducer) (t out text : Text) (items : List Item) (run count : ℕ) → IsThrough model old (t ++ take run text) items out → 4 * count ≤ length (drop run text)
     → (0 < count → Reads (t ++ take run text) items) → (count ≡ 0 → new.scanner ≡ old.scanner) → (Reads (t ++ take run text) items → PassesSilents (t ++ take run text) items (drop run text) count new.scanner)
-    → (count ≤ 2 ^ 62 → new.waiting ≡ old.waiting + count) → (now : List Item) × IsThrough new (t ++ take (run + 4 * count) text) now out
-silents_kept old new t out text items run zero h within between idle passes counts =
+    → (count ≤ 2 ^ 62 → new.waiting ≡ old.waiting + count) → (now : List Item) × IsThrough model new (t ++ take (run + 4 * count) text) now out
+silents_kept model old new t out text items run zero h within between idle passes counts =
     let same = idle refl in
     let place : run + 4 * zero ≡ run = omega arith in
     let e : new.waiting ≡ old.waiting = omega (arith, counts (omega arith)) in
     (items, rw place (record { after = rw same h.after; made = rw e h.made; few = rw e h.few; short = rw e h.short }))
-silents_kept old new t out text items run (suc count) h within between idle passes counts =
+silents_kept model old new t out text items run (suc count) h within between idle passes counts =
     let n = suc count in
     let front = t ++ take run text in
     let p = passes (between (omega arith)) in
     let limit = p.after.limit in
     let few : n ≤ 2 ^ 62 = omega (arith, limit, within, length-append front (take (4 * n) (drop run text)), length-take-le (4 * n) (drop run text) within) in (
       items ++ silents n,
-      subst (λ u. IsThrough new u (items ++ silents n) out) (append_assoc t (take run text) (take (4 * n) (drop run text)) ∙ ap (λ u. t ++ u) (sym (take-add run (4 * n) text)))
-          (waits old new front out (drop run text) items n h within p (counts few)),
+      subst (λ u. IsThrough model new u (items ++ silents n) out) (append_assoc t (take run text) (take (4 * n) (drop run text)) ∙ ap (λ u. t ++ u) (sym (take-add run (4 * n) text)))
+          (waits model old new front out (drop run text) items n h within p (counts few)),
     )
 
 -- what takes some bytes only between items settles itself, where it takes some
-kept : (old new : Transducer) (t out text : Text) (items : List Item) (len : ℕ) → IsThrough old t items out → new.waiting ≡ old.waiting
-    → (0 < len → Reads t items) → (len ≡ 0 → new.scanner ≡ old.scanner) → (Reads t items → Keeps t out text len new) → Keeps t out text len new
-kept old new t out text items zero h e between idle taken =
+kept : (model : Model) (old new : Transducer) (t out text : Text) (items : List Item) (len : ℕ) → IsThrough model old t items out → new.waiting ≡ old.waiting
+    → (0 < len → Reads t items) → (len ≡ 0 → new.scanner ≡ old.scanner) → (Reads t items → Keeps model t out text len new) → Keeps model t out text len new
+kept model old new t out text items zero h e between idle taken =
     let same = idle refl in
     record { items = items; through = rw (append-nil t, append-nil out) (record { after = rw same h.after; made = rw e h.made; few = rw e h.few; short = rw e h.short }) }
-kept old new t out text items (suc len) h e between idle taken = taken (between (omega arith))
+kept model old new t out text items (suc len) h e between idle taken = taken (between (omega arith))
 
 -- a run of literal bytes settles itself
-pub kept_literals : (old new : Transducer) (t out text : Text) (items : List Item) (len : ℕ) → IsThrough old t items out → new.waiting ≡ old.waiting
-    → (0 < len → Reads t items) → (len ≡ 0 → new.scanner ≡ old.scanner) → (Reads t items → scanned.Passes t items text len new.scanner) → Keeps t out text len new
-kept_literals old new t out text items len h e between idle passes =
-    kept old new t out text items len h e between idle (λ reads. record { items = items ++ map Byte (take len text); through = passed old new t out text items len h (passes reads) e })
+pub kept_literals : (model : Model) (old new : Transducer) (t out text : Text) (items : List Item) (len : ℕ) → IsThrough model old t items out → new.waiting ≡ old.waiting
+    → (0 < len → Reads t items) → (len ≡ 0 → new.scanner ≡ old.scanner) → (Reads t items → scanned.Passes t items text len new.scanner) → Keeps model t out text len new
+kept_literals model old new t out text items len h e between idle passes =
+    kept model old new t out text items len h e between idle (λ reads. record { items = items ++ map Byte (take len text); through = passed model old new t out text items len h (passes reads) e })
 
 -- and so does a run of items that stand as in a canonical text, where no silent directive waits
-pub kept_plain : (old new : Transducer) (t out text : Text) (items : List Item) (len : ℕ) → IsThrough old t items out → new.waiting ≡ old.waiting
-    → (0 < len → Reads t items) → (len ≡ 0 → new.scanner ≡ old.scanner) → (Reads t items → PassesPlain t items text len new.scanner) → old.waiting ≡ 0 → Keeps t out text len new
-kept_plain old new t out text items len h e between idle passes none =
-    kept old new t out text items len h e between idle (λ reads. let p = passes reads in record { items = items ++ p.more; through = passed_plain old new t out text items len h p none e })
+pub kept_plain : (model : Model) (old new : Transducer) (t out text : Text) (items : List Item) (len : ℕ) → IsThrough model old t items out → new.waiting ≡ old.waiting
+    → (0 < len → Reads t items) → (len ≡ 0 → new.scanner ≡ old.scanner) → (Reads t items → PassesPlain model t items text len new.scanner) → old.waiting ≡ 0 → Keeps model t out text len new
+kept_plain model old new t out text items len h e between idle passes none =
+    kept model old new t out text items len h e between idle (λ reads. let p = passes reads in record { items = items ++ p.more; through = passed_plain model old new t out text items len h p none e })
 
 -- a text was passed up to some place
-module _ (t out more text : Text) (at : ℕ) where
-  pub passed_more : (front : Front) (new : Transducer) → GrowsBy (t ++ take at text) (out ++ more) (drop at text) front new → (all : Text) × (items : List Item) × IsThrough new (t ++ take (at + front.len) text) items (out ++ all)
+module _ (model : Model) (t out more text : Text) (at : ℕ) where
+  pub passed_more : (front : Front) (new : Transducer) → GrowsBy model (t ++ take at text) (out ++ more) (drop at text) front new → (all : Text) × (items : List Item) × IsThrough model new (t ++ take (at + front.len) text) items (out ++ all)
   passed_more front new g = (
     more ++ front_text front (drop at text),
     g.items,
-    subst (λ u. IsThrough new u g.items (out ++ (more ++ front_text front (drop at text)))) (append_assoc t (take at text) (take front.len (drop at text)) ∙ ap (λ u. t ++ u) (sym (take-add at front.len text)))
-        (subst (IsThrough new ((t ++ take at text) ++ take front.len (drop at text)) g.items) (append_assoc out more (front_text front (drop at text))) g.through),
+    subst (λ u. IsThrough model new u g.items (out ++ (more ++ front_text front (drop at text)))) (append_assoc t (take at text) (take front.len (drop at text)) ∙ ap (λ u. t ++ u) (sym (take-add at front.len text)))
+        (subst (IsThrough model new ((t ++ take at text) ++ take front.len (drop at text)) g.items) (append_assoc out more (front_text front (drop at text))) g.through),
   )
 
-  pub passed_to_refused : (stop : Stop) → RefusesIn (t ++ take at text) (out ++ more) (drop at text) stop → (all : Text) × SettlesWhole (t ++ text) (out ++ all)
+  pub passed_to_refused : (stop : Stop) → RefusesIn model (t ++ take at text) (out ++ more) (drop at text) stop → (all : Text) × SettlesWhole model (t ++ text) (out ++ all)
   passed_to_refused stop h =
       let front = (t ++ take at text) ++ h.fed in
       let whole : front ++ h.rest ≡ t ++ text =
@@ -157,19 +158,19 @@ module _ (t out more text : Text) (at : ℕ) where
           front = front;
           rest = h.rest;
           split = sym whole;
-          settles = subst (SettlesTo front) (append_assoc out more (take stop.run (drop at text))) h.settles;
+          settles = subst (SettlesTo model front) (append_assoc out more (take stop.run (drop at text))) h.settles;
           longest = inr (h.some, stop.refusal.kind, subst (λ u. IsRefusedAt u stop.refusal.kind (length front)) whole (subst (IsRefusedAt (front ++ h.rest) stop.refusal.kind) h.place h.refused));
         },
       )
 
-  pub all_passed : (new : Transducer) (items : List Item) → length text ≤ at → IsThrough new (t ++ take at text) items (out ++ more) → (all : Text) × SettlesWhole (t ++ text) (out ++ all)
+  pub all_passed : (new : Transducer) (items : List Item) → length text ≤ at → IsThrough model new (t ++ take at text) items (out ++ more) → (all : Text) × SettlesWhole model (t ++ text) (out ++ all)
   all_passed new items end h = (
     more,
     record {
       front = t ++ text;
       rest = [];
       split = sym (append-nil (t ++ text));
-      settles = subst (λ u. SettlesTo (t ++ u) (out ++ more)) (take_all at text end) (through_settles new (t ++ take at text) (out ++ more) items h);
+      settles = subst (λ u. SettlesTo model (t ++ u) (out ++ more)) (take_all at text end) (through_settles model new (t ++ take at text) (out ++ more) items h);
       longest = inl refl;
     },
   )

@@ -1,6 +1,7 @@
 -- What two texts that are compared in step have come to. This project's own.
 use Rattle.std.specs.Prelude.{◌≡◌, ◌≢◌, ℕ, ◌<◌, Bool, true, [], ◌∷◌, ◌++◌, length, Option, Some, None, Result, Ok, Err, ◌⊎◌, ◌↔◌, IsTrue, ⊤}
 use Rattle.std.specs.Io.KnownBytes.{Consumes, IsAtEnd}
+use Rattle.pf_values.specs.declared.models.Model.{Model}
 use Rattle.pf_values.specs.Canonical.{IsCanonicalOf}
 use Rattle.pf_values.specs.Counting.{Known}
 use Rattle.pf_values.specs.Items.{IsAccepted}
@@ -20,48 +21,51 @@ use Rattle.pf_canon.specs.Sources.{History, IsEnding, IsOver, IsReadFor, IsRefus
 use Rattle.pf_canon.specs.Through.{SettlesTo}
 
 -- a text has a canonical text
-abbrev pub HasCanonical : Text → Type 0
-HasCanonical t = (c : Text) × IsCanonicalOf t c
+abbrev pub HasCanonical : Model → Text → Type 0
+HasCanonical model t = (c : Text) × IsCanonicalOf model t c
 
 -- a text was read to its end, and is accepted
-pub record IsReadWhole (start left : Known) (t : Text) : Type 0 where
+pub record IsReadWhole (model : Model) (start left : Known) (t : Text) : Type 0 where
   pub reader : Consumes start left t
   pub end : IsAtEnd left
   pub accepted : IsAccepted t
-  pub canonical : HasCanonical t
+  pub canonical : HasCanonical model t
 
 -- both texts were, and this tells whether they are equivalent
-pub record EndsBoth (f f_left g g_left : Known) (is : Bool) : Type 0 where
+pub record EndsBoth (model : Model) (f f_left g g_left : Known) (is : Bool) : Type 0 where
   pub t : Text
   pub u : Text
-  pub first : IsReadWhole f f_left t
-  pub second : IsReadWhole g g_left u
-  pub same : IsTrue is ↔ AreEquivalent t u
+  pub first : IsReadWhole model f f_left t
+  pub second : IsReadWhole model g g_left u
+  pub same : IsTrue is ↔ AreEquivalent model t u
 
 -- a text stopped behind `taken`, whose whole items settle this
-abbrev pub StopsBy : StreamFault → Known → Known → Text → Text → Type 0
-StopsBy (faults.Refused refusal) start left taken settled =
-    IsRefusedBehind start left taken refusal × SettlesTo taken settled
-StopsBy faults.Read start left taken settled = Consumes start left taken × SettlesTo taken settled
+abbrev pub StopsBy : Model → StreamFault → Known → Known → Text → Text → Type 0
+StopsBy model (faults.Refused refusal) start left taken settled =
+    IsRefusedBehind start left taken refusal × SettlesTo model taken settled
+StopsBy model faults.Read start left taken settled =
+    Consumes start left taken × SettlesTo model taken settled
 
 -- before its last byte was taken, fewer bytes were settled than these
-abbrev pub IsPaced : Text → Text → Type 0
-IsPaced taken settled = (taken ≡ []) ⊎ (
+abbrev pub IsPaced : Model → Text → Text → Type 0
+IsPaced model taken settled = (taken ≡ []) ⊎ (
     (before : Text) × (last : ℕ) × (s : Text) × (taken ≡ before ++ last ∷ [])
-    × SettlesTo before s × (length s < length settled))
+    × SettlesTo model before s × (length s < length settled))
 
 -- The first text stopped, and of the second no more was read than to give as many bytes. Or the
 -- first was read whole, and the second stopped.
-abbrev pub StopsOn : Side → StreamFault → Known → Known → Known → Known → Type 0
-StopsOn First fault f f_left g g_left =
-    (taken settled other : Text) × StopsBy fault f f_left taken settled × Consumes g g_left other
-    × IsPaced other settled
-StopsOn Second fault f f_left g g_left =
-    (t taken settled : Text) × IsReadWhole f f_left t × StopsBy fault g g_left taken settled
+abbrev pub StopsOn : Model → Side → StreamFault → Known → Known → Known → Known → Type 0
+StopsOn model First fault f f_left g g_left =
+    (taken settled other : Text) × StopsBy model fault f f_left taken settled
+    × Consumes g g_left other
+    × IsPaced model other settled
+StopsOn model Second fault f f_left g g_left =
+    (t taken settled : Text) × IsReadWhole model f f_left t
+    × StopsBy model fault g g_left taken settled
 
 -- the side that stopped, and how
-abbrev pub StopsSide : Known → Known → Known → Known → SideFault → Type 0
-StopsSide f f_left g g_left stop = StopsOn stop.side stop.fault f f_left g g_left
+abbrev pub StopsSide : Model → Known → Known → Known → Known → SideFault → Type 0
+StopsSide model f f_left g g_left stop = StopsOn model stop.side stop.fault f f_left g g_left
 
 -- what a fault says of the failures of a reader
 abbrev pub FaultCounts : {B : Type 0} → (B → B → Type 0) → (B → B → Type 0) → StreamFault → B
@@ -95,12 +99,12 @@ CountsBehind kept failed fault Second told old new = kept old new × (told ≡ f
 
 -- two texts in memory are accepted, have canonical texts, and this tells whether they are
 -- equivalent
-pub record AreTextsSame (f g : Text) (is : Bool) : Type 0 where
+pub record AreTextsSame (model : Model) (f g : Text) (is : Bool) : Type 0 where
   pub first : IsAccepted f
   pub second : IsAccepted g
-  pub first_canonical : HasCanonical f
-  pub second_canonical : HasCanonical g
-  pub same : IsTrue is ↔ AreEquivalent f g
+  pub first_canonical : HasCanonical model f
+  pub second_canonical : HasCanonical model g
+  pub same : IsTrue is ↔ AreEquivalent model f g
 
 -- the first is refused, or the first is accepted and the second refused
 abbrev pub TextStopsOn : Side → Text → Text → Refusal → Type 0
@@ -118,9 +122,10 @@ HasPace x y Same = (x ≡ None) × (y ≡ None)
 HasPace x y Differ = x ≢ y
 
 -- a source gave this byte, or ended
-abbrev pub Gave : Option ℕ → Source → Known → Known → Text → Text → Type 0
-Gave None s start left taken given = IsEnding [] start left taken given × IsOver s
-Gave (Some byte) s start left taken given = History s start left taken (given ++ byte ∷ [])
+abbrev pub Gave : Model → Option ℕ → Source → Known → Known → Text → Text → Type 0
+Gave model None s start left taken given = IsEnding model [] start left taken given × IsOver s
+Gave model (Some byte) s start left taken given =
+    History model s start left taken (given ++ byte ∷ [])
 
 -- what a text that begins so goes on with
 abbrev pub BeginsWith : Option ℕ → Text → Type 0
@@ -128,48 +133,51 @@ BeginsWith None rest = rest ≡ []
 BeginsWith (Some byte) rest = (more : Text) × (rest ≡ byte ∷ more)
 
 -- a text was read whole, and this begins what was still to be given of its canonical text
-pub record Drained (x : Option ℕ) (start left : Known) (given : Text) : Type 0 where
+pub record Drained (model : Model) (x : Option ℕ) (start left : Known) (given : Text) : Type 0 where
   pub text : Text
   pub rest : Text
-  pub whole : IsReadWhole start left text
-  pub canonical : IsCanonicalOf text (given ++ rest)
+  pub whole : IsReadWhole model start left text
+  pub canonical : IsCanonicalOf model text (given ++ rest)
   pub begins : BeginsWith x rest
 
 -- the rest was read, or the text stopped on the way, having settled more than was given
-abbrev pub DrainsTo : Option ℕ → Known → Known → Text → Result (Unit {0}) StreamFault → Type 0
-DrainsTo x start left given (Ok done) = Drained x start left given
-DrainsTo x start left given (Err fault) =
-    (taken settled : Text) × StopsBy fault start left taken settled
+abbrev pub DrainsTo : Model → Option ℕ → Known → Known → Text → Result (Unit {0}) StreamFault
+    → Type 0
+DrainsTo model x start left given (Ok done) = Drained model x start left given
+DrainsTo model x start left given (Err fault) =
+    (taken settled : Text) × StopsBy model fault start left taken settled
     × (length given < length settled)
 
 -- both gave the same bytes
-pub record IsInStep (first : Source) (a : Known) (second : Source) (b f g : Known) : Type 0 where
+pub record IsInStep (model : Model) (first : Source) (a : Known) (second : Source)
+    (b f g : Known) : Type 0 where
   pub t : Text
   pub u : Text
   pub given : Text
-  pub one : History first f a t given
-  pub two : History second g b u given
-  pub paced : IsPaced u given
+  pub one : History model first f a t given
+  pub two : History model second g b u given
+  pub paced : IsPaced model u given
 
 -- and now something else
-pub record IsApart (first : Source) (a : Known) (second : Source) (b f g : Known) : Type 0 where
+pub record IsApart (model : Model) (first : Source) (a : Known) (second : Source)
+    (b f g : Known) : Type 0 where
   pub x : Option ℕ
   pub y : Option ℕ
   pub t : Text
   pub u : Text
   pub given : Text
   pub differ : x ≢ y
-  pub one : Gave x first f a t given
-  pub two : Gave y second g b u given
-  pub read : IsReadFor u given
+  pub one : Gave model x first f a t given
+  pub two : Gave model y second g b u given
+  pub read : IsReadFor model u given
 
 -- what one step of both sources leaves
-abbrev pub PacesTo : Source → Known → Source → Known → Known → Known → Result Pace SideFault
+abbrev pub PacesTo : Model → Source → Known → Source → Known → Known → Known → Result Pace SideFault
     → Type 0
-PacesTo first a second b f g (Ok On) = IsInStep first a second b f g
-PacesTo first a second b f g (Ok Same) = EndsBoth f a g b true
-PacesTo first a second b f g (Ok Differ) = IsApart first a second b f g
-PacesTo first a second b f g (Err stop) = StopsSide f a g b stop
+PacesTo model first a second b f g (Ok On) = IsInStep model first a second b f g
+PacesTo model first a second b f g (Ok Same) = EndsBoth model f a g b true
+PacesTo model first a second b f g (Ok Differ) = IsApart model first a second b f g
+PacesTo model first a second b f g (Err stop) = StopsSide model f a g b stop
 
 -- both go on only where there is a byte
 abbrev pub GoesOnlyWith : Option ℕ → Result Pace SideFault → Type 0

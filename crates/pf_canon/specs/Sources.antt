@@ -2,6 +2,7 @@
 use Rattle.std.specs.Prelude.{◌≡◌, ◌≢◌, ℕ, ◌+◌, ◌-◌, ◌*◌, ◌≤◌, ◌<◌, true, false, List, [], ◌∷◌, ◌++◌, length, Option, Some, None, Result, Ok, Err, ◌⊎◌, MatchBool, if◌then◌else◌, ⊤}
 use Rattle.std.specs.Io.KnownBytes.{Consumes, IsAtEnd}
 use Rattle.pf_values.specs.declared.limits.TheConstants.{MAX_TEXT_LEN}
+use Rattle.pf_values.specs.declared.models.Model.{Model}
 use Rattle.pf_values.specs.declared.refusals.RefusalKind.TheVariants.{Truncated}
 use Rattle.pf_values.specs.Canonical.{IsCanonicalOf}
 use Rattle.pf_values.specs.Counting.{Known}
@@ -21,41 +22,42 @@ use Rattle.pf_canon.specs.Due.{due_text}
 use Rattle.pf_canon.specs.Through.{IsThrough, SettlesTo, scanner_of, waiting_of}
 
 -- all that was settled before the last byte taken was given
-abbrev pub IsLean : Text → Text → Type 0
-IsLean taken given =
+abbrev pub IsLean : Model → Text → Text → Type 0
+IsLean model taken given =
     (before : Text) × (last : ℕ) × (settled : Text) × (taken ≡ before ++ last ∷ [])
-    × SettlesTo before settled × (length settled ≤ length given)
+    × SettlesTo model before settled × (length settled ≤ length given)
 
 -- no byte was taken but to give one more
-abbrev pub IsReadFor : Text → Text → Type 0
-IsReadFor taken given = (taken ≡ []) ⊎ IsLean taken given
+abbrev pub IsReadFor : Model → Text → Text → Type 0
+IsReadFor model taken given = (taken ≡ []) ⊎ IsLean model taken given
 
 -- Of a text that is not at its end `taken` was taken, and what it settles was given but for `due`.
-pub record IsReading (r : Transducer) (due : Text) (start left : Known)
+pub record IsReading (model : Model) (r : Transducer) (due : Text) (start left : Known)
     (taken given : Text) : Type 0 where
   pub reader : Consumes start left taken
   pub items : List Item
   pub out : Text
-  pub through : IsThrough r taken items out
+  pub through : IsThrough model r taken items out
   pub whole : out ≡ given ++ due
-  pub lean : due ≢ [] → IsLean taken given
-  pub read : IsReadFor taken given
+  pub lean : due ≢ [] → IsLean model taken given
+  pub read : IsReadFor model taken given
 
 -- All was taken, and the canonical text was given but for `due`.
-pub record IsEnding (due : Text) (start left : Known) (taken given : Text) : Type 0 where
+pub record IsEnding (model : Model) (due : Text) (start left : Known)
+    (taken given : Text) : Type 0 where
   pub reader : Consumes start left taken
   pub end : IsAtEnd left
   pub accepted : IsAccepted taken
-  pub canonical : IsCanonicalOf taken (given ++ due)
-  pub read : IsReadFor taken given
+  pub canonical : IsCanonicalOf model taken (given ++ due)
+  pub read : IsReadFor model taken given
 
 -- the byte is given as soon as it is settled
-pub record IsInTime (taken given : Text) (byte : ℕ) : Type 0 where
+pub record IsInTime (model : Model) (taken given : Text) (byte : ℕ) : Type 0 where
   pub settled : Text
   pub rest : Text
-  pub settles : SettlesTo taken settled
+  pub settles : SettlesTo model taken settled
   pub begins : settled ≡ (given ++ byte ∷ []) ++ rest
-  pub lean : IsLean taken given
+  pub lean : IsLean model taken given
 
 -- behind `taken` the text ends, or goes on with a byte that is refused however it goes on
 pub record IsRefusedBehind (start left : Known) (taken : Text) (refusal : Refusal) : Type 0 where
@@ -71,27 +73,30 @@ abbrev pub IsOver : Source → Type 0
 IsOver s = (s.is_open ≡ false) × (due_text s.due ≡ [])
 
 -- of a text that had `start`, and has `left`, `taken` was taken, and `given` was given
-abbrev pub History : Source → Known → Known → Text → Text → Type 0
-History s start left taken given = MatchBool s.is_open
-    (IsReading s.transducer (due_text s.due) start left taken given)
-    (IsEnding (due_text s.due) start left taken given)
+abbrev pub History : Model → Source → Known → Known → Text → Text → Type 0
+History model s start left taken given = MatchBool s.is_open
+    (IsReading model s.transducer (due_text s.due) start left taken given)
+    (IsEnding model (due_text s.due) start left taken given)
 
 -- What an answer leaves, where `taken` was taken by then and `given` was given before.
-abbrev pub Leaves : Option (Result ℕ StreamFault) → Source → Known → Known → Text → Text → Type 0
-Leaves None new start left taken given = IsEnding [] start left taken given × IsOver new
-Leaves (Some (Ok byte)) new start left taken given =
-    History new start left taken (given ++ byte ∷ []) × IsReadFor taken given
-    × (new.is_open ≡ true → IsInTime taken given byte)
-Leaves (Some (Err faults.Read)) new start left taken given =
-    Consumes start left taken × SettlesTo taken given × IsReadFor taken given × IsOver new
-Leaves (Some (Err (faults.Refused refusal))) new start left taken given =
-    IsRefusedBehind start left taken refusal × SettlesTo taken given × IsReadFor taken given
+abbrev pub Leaves : Model → Option (Result ℕ StreamFault) → Source → Known → Known → Text → Text
+    → Type 0
+Leaves model None new start left taken given = IsEnding model [] start left taken given × IsOver new
+Leaves model (Some (Ok byte)) new start left taken given =
+    History model new start left taken (given ++ byte ∷ []) × IsReadFor model taken given
+    × (new.is_open ≡ true → IsInTime model taken given byte)
+Leaves model (Some (Err faults.Read)) new start left taken given =
+    Consumes start left taken × SettlesTo model taken given × IsReadFor model taken given
+    × IsOver new
+Leaves model (Some (Err (faults.Refused refusal))) new start left taken given =
+    IsRefusedBehind start left taken refusal × SettlesTo model taken given
+    × IsReadFor model taken given
     × IsOver new
 
 -- what one turn leaves
-abbrev pub Turns : Turn → Source → Known → Known → Text → Text → Type 0
-Turns Again new start left taken given = History new start left taken given
-Turns (Done r) new start left taken given = Leaves r new start left taken given
+abbrev pub Turns : Model → Turn → Source → Known → Known → Text → Text → Type 0
+Turns model Again new start left taken given = History model new start left taken given
+Turns model (Done r) new start left taken given = Leaves model r new start left taken given
 
 -- no fault of the reader
 abbrev pub IsTold : Turn → Type 0
@@ -110,10 +115,11 @@ module _ {B : Type 0} (kept failed : B → B → Type 0) where
   CountsTurn (Done r) old new = CountsFault r old new
 
 -- what a call of `next` answers and leaves
-pub record StepsBy {B : Type 0} (left : B → Known) (kept failed : B → B → Type 0) (old : Source)
+pub record StepsBy (model : Model) {B : Type 0} (left : B → Known) (kept failed : B → B → Type 0)
+    (old : Source)
     (from : B) (r : Option (Result ℕ StreamFault)) (new : Source) (to : B) : Type 0 where
-  pub next : (start : Known) (taken given : Text) → History old start (left from) taken given
-      → (more : Text) × Leaves r new start (left to) (taken ++ more) given
+  pub next : (start : Known) (taken given : Text) → History model old start (left from) taken given
+      → (more : Text) × Leaves model r new start (left to) (taken ++ more) given
   pub over : IsOver old → (r ≡ None) × IsOver new × (to ≡ from)
   pub counts : CountsFault kept failed r from to
 

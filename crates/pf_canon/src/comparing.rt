@@ -2,6 +2,7 @@
 ghost use Rattle.std.specs.Prelude.{◌≡◌, ℕ, Option, Some, None, Err, IfOk, MatchResult};
 ghost use Rattle.pf_values.specs.Counting.{HasFailed, Known, device_of, failures_of};
 ghost use Rattle.pf_values.specs.Text.{Text};
+ghost use Rattle.pf_values.specs.declared.models.Model.TheVariants.{Lp64};
 ghost use Rattle.pf_canon.specs.Comparing.{AreTextsSame, CountsBehind, CountsDrain, CountsSides, DrainsTo, EndsBoth, Gave, GoesOnlyWith, HasPace, IsApart, IsInStep, Lowers, PacesTo, StopsSide, TextStops};
 ghost use Rattle.pf_canon.specs.Sources.{History, Leaves};
 
@@ -22,9 +23,9 @@ pub fn same_stream<R: Read, S: Read>(
     s: &mut Counted<S>,
 ) -> Result<bool, SideFault>
     ensures compared { MatchResult result
-        (EndsBoth (R.remaining (device_of r.old)) (R.remaining (device_of r.new))
+        (EndsBoth Lp64 (R.remaining (device_of r.old)) (R.remaining (device_of r.new))
         (S.remaining (device_of s.old)) (S.remaining (device_of s.new)))
-        (StopsSide (R.remaining (device_of r.old)) (R.remaining (device_of r.new))
+        (StopsSide Lp64 (R.remaining (device_of r.old)) (R.remaining (device_of r.new))
         (S.remaining (device_of s.old)) (S.remaining (device_of s.new))) }
     ensures counts { CountsSides (λ old new. failures_of new ≡ failures_of old) HasFailed
         (λ old new. failures_of new ≡ failures_of old) HasFailed result r.old r.new s.old s.new }
@@ -35,7 +36,7 @@ pub fn same_stream<R: Read, S: Read>(
 /// Whether two formats have equal types, and print equal bytes for all arguments. Where a text is
 /// refused, the first text's refusal is answered if it has one. It takes no memory.
 pub fn same_text(f: &[u8], g: &[u8]) -> Result<bool, (Side, Refusal)>
-    ensures { MatchResult result (AreTextsSame f.now g.now) (TextStops f.now g.now) }
+    ensures { MatchResult result (AreTextsSame Lp64 f.now g.now) (TextStops f.now g.now) }
 {
     match same_bytes(&mut Slice { rest: f }, &mut Slice { rest: g }) {
         Ok(same) => Ok(same),
@@ -112,8 +113,8 @@ fn pace_of_bytes(first: u8, second: u8) -> Pace
 
 fn same_bytes<A: Bytes, B: Bytes>(a: &mut A, b: &mut B) -> Result<bool, SideFault>
     ensures compared { MatchResult result
-        (EndsBoth (A.left a.old) (A.left a.new) (B.left b.old) (B.left b.new))
-        (StopsSide (A.left a.old) (A.left a.new) (B.left b.old) (B.left b.new)) }
+        (EndsBoth Lp64 (A.left a.old) (A.left a.new) (B.left b.old) (B.left b.new))
+        (StopsSide Lp64 (A.left a.old) (A.left a.new) (B.left b.old) (B.left b.new)) }
     ensures counts { CountsSides A.kept A.failed B.kept B.failed result a.old a.new b.old b.new }
 {
     let mut first = Source::new();
@@ -135,8 +136,9 @@ fn pace_both<A: Bytes, B: Bytes>(
     second: &mut Source,
     b: &mut B,
 ) -> Result<Pace, SideFault>
-    ensures paced { (f g : Known) → IsInStep first.old (A.left a.old) second.old (B.left b.old) f g
-        → PacesTo first.new (A.left a.new) second.new (B.left b.new) f g result }
+    ensures paced { (f g : Known)
+        → IsInStep Lp64 first.old (A.left a.old) second.old (B.left b.old) f g
+        → PacesTo Lp64 first.new (A.left a.new) second.new (B.left b.new) f g result }
     ensures counts { CountsSides A.kept A.failed B.kept B.failed result a.old a.new b.old b.new }
     ensures lower { Lowers first.old first.new result }
 {
@@ -158,9 +160,10 @@ fn pace_second<A: Bytes, B: Bytes>(
     second: &mut Source,
     b: &mut B,
 ) -> Result<Pace, SideFault>
-    ensures paced { (f g : Known) (t u given : Text) → Gave x first.old f (A.left a.old) t given
-        → History second.old g (B.left b.old) u given
-        → PacesTo first.new (A.left a.new) second.new (B.left b.new) f g result }
+    ensures paced { (f g : Known) (t u given : Text)
+        → Gave Lp64 x first.old f (A.left a.old) t given
+        → History Lp64 second.old g (B.left b.old) u given
+        → PacesTo Lp64 first.new (A.left a.new) second.new (B.left b.new) f g result }
     ensures counts { CountsSides A.kept A.failed B.kept B.failed result a.old a.new b.old b.new }
     ensures first { IfOk result (λ _. first.new ≡ first.old) }
     ensures going { GoesOnlyWith x result }
@@ -175,8 +178,9 @@ fn pace_second<A: Bytes, B: Bytes>(
 // The second text stopped. The first text's fault comes before.
 fn behind_second<A: Bytes>(first: &mut Source, a: &mut A, fault: StreamFault) -> SideFault
     ensures stopped { (x : Option ℕ) (second : Source) (f g b : Known) (t u given : Text)
-        → Gave x first.old f (A.left a.old) t given → Leaves (Some (Err fault)) second g b u given
-        → StopsSide f (A.left a.new) g b result }
+        → Gave Lp64 x first.old f (A.left a.old) t given
+        → Leaves Lp64 (Some (Err fault)) second g b u given
+        → StopsSide Lp64 f (A.left a.new) g b result }
     ensures counts { CountsBehind A.kept A.failed fault result.side result.fault a.old a.new }
 {
     match drain(first, a) {
@@ -199,9 +203,9 @@ fn drain_both<A: Bytes, B: Bytes>(
     b: &mut B,
 ) -> Result<bool, SideFault>
     ensures compared { (f g : Known)
-        → IsApart first.old (A.left a.old) second.old (B.left b.old) f g
-        → MatchResult result (EndsBoth f (A.left a.new) g (B.left b.new))
-        (StopsSide f (A.left a.new) g (B.left b.new)) }
+        → IsApart Lp64 first.old (A.left a.old) second.old (B.left b.old) f g
+        → MatchResult result (EndsBoth Lp64 f (A.left a.new) g (B.left b.new))
+        (StopsSide Lp64 f (A.left a.new) g (B.left b.new)) }
     ensures counts { CountsSides A.kept A.failed B.kept B.failed result a.old a.new b.old b.new }
 {
     match drain(first, a) {
@@ -222,8 +226,8 @@ fn drain_both<A: Bytes, B: Bytes>(
 // Takes the rest, and gives none of it.
 fn drain<B: Bytes>(source: &mut Source, bytes: &mut B) -> Result<(), StreamFault>
     ensures drained { (x : Option ℕ) (start : Known) (taken given : Text)
-        → Gave x source.old start (B.left bytes.old) taken given
-        → DrainsTo x start (B.left bytes.new) given result }
+        → Gave Lp64 x source.old start (B.left bytes.old) taken given
+        → DrainsTo Lp64 x start (B.left bytes.new) given result }
     ensures counts { CountsDrain B.kept B.failed result bytes.old bytes.new }
 {
     loop {

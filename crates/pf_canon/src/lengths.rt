@@ -2,6 +2,7 @@
 ghost use Rattle.std.specs.Prelude.{◌≡◌, ◌+◌, ◌*◌, ◌^◌, ◌<◌, length, MatchResult};
 ghost use Rattle.pf_values.specs.Refusals.{IsRefusedAt};
 ghost use Rattle.pf_values.specs.Text.{Text};
+ghost use Rattle.pf_values.specs.declared.models.Model.TheVariants.{Lp64};
 ghost use Rattle.pf_canon.specs.Answers.{IsCanonicalFor};
 ghost use Rattle.pf_canon.specs.Parts.{parts_text};
 ghost use Rattle.pf_canon.specs.Through.{IsFrontWithin, IsUpTo, front_text, item_text};
@@ -12,7 +13,8 @@ use pf_text::Refusal;
 
 /// How many bytes the canonical text of a format has, or the format's refusal. It takes no memory.
 pub fn canonical_len(text: &[u8]) -> Result<u128, Refusal>
-    ensures { MatchResult result (λ len. (c : Text) × IsCanonicalFor text.now c × (len ≡ length c))
+    ensures { MatchResult result
+        (λ len. (c : Text) × IsCanonicalFor Lp64 text.now c × (len ≡ length c))
         (λ refusal. IsRefusedAt text.now refusal.kind refusal.at) }
 {
     len_from(Transducer::new(), text, 0, 0)
@@ -25,8 +27,9 @@ pub(crate) fn len_from(
     at: usize,
     len: u128,
 ) -> Result<u128, Refusal>
-    requires { (out : Text) × IsUpTo transducer text.now at out × (len ≡ length out) }
-    ensures { MatchResult result (λ len. (c : Text) × IsCanonicalFor text.now c × (len ≡ length c))
+    requires { (out : Text) × IsUpTo Lp64 transducer text.now at out × (len ≡ length out) }
+    ensures { MatchResult result
+        (λ len. (c : Text) × IsCanonicalFor Lp64 text.now c × (len ≡ length c))
         (λ refusal. IsRefusedAt text.now refusal.kind refusal.at) }
 {
     let mut at = at;

@@ -5,6 +5,7 @@ ghost use Rattle.pf_values.specs.Counting.{Known};
 ghost use Rattle.pf_values.specs.Items.{Item};
 ghost use Rattle.pf_values.specs.Text.{Text};
 ghost use Rattle.pf_canon.specs.Due.{due_text};
+ghost use Rattle.pf_values.specs.declared.models.Model.TheVariants.{Lp64};
 ghost use Rattle.pf_canon.specs.Sources.{CountsTurn, History, IsOver, IsReadFor, IsTold, LowersUnits, LowersAnswer, StepsBy, Turns};
 ghost use Rattle.pf_canon.specs.Through.{IsThrough};
 ghost use Rattle.pf_canon.specs.declared.sources.Turn.TheVariants.{Done};
@@ -33,7 +34,7 @@ pub(crate) enum Turn {
 impl Source {
     /// Nothing was taken.
     pub(crate) fn new() -> Source
-        ensures { (start : Known) → History result start start [] [] }
+        ensures { (start : Known) → History Lp64 result start start [] [] }
     {
         Source {
             transducer: Transducer::new(),
@@ -44,7 +45,7 @@ impl Source {
 
     /// The next byte of the canonical text, or why there is none. After a fault nothing comes.
     pub(crate) fn next<B: Bytes>(&mut self, bytes: &mut B) -> Option<Result<u8, StreamFault>>
-        ensures steps { StepsBy B.left B.kept B.failed self.old bytes.old
+        ensures steps { StepsBy Lp64 B.left B.kept B.failed self.old bytes.old
             result self.new bytes.new }
         ensures lower { LowersAnswer result self.old self.new }
     {
@@ -59,8 +60,9 @@ impl Source {
     // Gives a byte that waits, or takes one.
     fn turn<B: Bytes>(&mut self, bytes: &mut B) -> Turn
         ensures next { (start : Known) (taken given : Text)
-            → History self.old start (B.left bytes.old) taken given
-            → (more : Text) × Turns result self.new start (B.left bytes.new) (taken ++ more) given }
+            → History Lp64 self.old start (B.left bytes.old) taken given
+            → (more : Text)
+            × Turns Lp64 result self.new start (B.left bytes.new) (taken ++ more) given }
         ensures over { IsOver self.old → (result ≡ Done None) × IsOver self.new
             × (bytes.new ≡ bytes.old) }
         ensures counts { CountsTurn B.kept B.failed result bytes.old bytes.new }
@@ -87,9 +89,9 @@ impl Source {
         requires open { self.old.is_open ≡ true }
         requires none_due { due_text self.old.due ≡ [] }
         ensures next { (start left : Known) (taken given : Text) (items : List Item)
-            → Consumes start left (taken ++ byte ∷ []) → IsReadFor taken given
-            → IsThrough self.old.transducer taken items given
-            → (more : Text) × Turns result self.new start left (taken ++ more) given }
+            → Consumes start left (taken ++ byte ∷ []) → IsReadFor Lp64 taken given
+            → IsThrough Lp64 self.old.transducer taken items given
+            → (more : Text) × Turns Lp64 result self.new start left (taken ++ more) given }
         ensures told { IsTold result }
         ensures lower { LowersUnits result self.old self.new }
     {
@@ -112,9 +114,9 @@ impl Source {
         requires open { self.old.is_open ≡ true }
         requires none_due { due_text self.old.due ≡ [] }
         ensures next { (start left : Known) (taken given : Text) (items : List Item)
-            → Consumes start left taken → IsAtEnd left → IsReadFor taken given
-            → IsThrough self.old.transducer taken items given
-            → (more : Text) × Turns result self.new start left (taken ++ more) given }
+            → Consumes start left taken → IsAtEnd left → IsReadFor Lp64 taken given
+            → IsThrough Lp64 self.old.transducer taken items given
+            → (more : Text) × Turns Lp64 result self.new start left (taken ++ more) given }
         ensures told { IsTold result }
         ensures lower { LowersUnits result self.old self.new }
     {

@@ -2,6 +2,7 @@
 use Rattle.std.proofs.Common.{◌≡◌, ◌≢◌, ℕ, zero, suc, ◌+◌, ◌<◌, List, [], ◌∷◌, ◌++◌, length, get_or, refl, sym, ap, ◌∙◌, subst, arith, Some, None, Ok, Err, Result, Option}
 use Rattle.std.specs.Prelude.{slice_get, MatchOption}
 use Rattle.std.proofs.lemmas.List.{append-nil, append_assoc, length-map, length_push}
+use Rattle.pf_values.specs.declared.models.Model.{Model}
 use Rattle.pf_values.specs.declared.refusals.RefusalKind.{RefusalKind}
 use Rattle.pf_values.specs.declared.types.ArgType.{ArgType}
 use Rattle.pf_values.specs.DataModel.{arg_type}
@@ -57,41 +58,41 @@ front_items t read rest items xs e h g =
     (sym (ap (λ p. run p rest) (run-reads items read [] h)) ∙ sym (run-append start read rest) ∙ sym (ap (run start) e) ∙ run-reads xs t [] g)
 
 -- what is taken comes first
-taken_first : (pieces : Pieces) (t : Text) (done : List ArgType) (xs : List Item) → HasTaken pieces t done → Reads t xs → (rest : List ArgType) × (types xs ≡ done ++ rest)
-taken_first pieces t done xs h g =
+taken_first : (model : Model) (pieces : Pieces) (t : Text) (done : List ArgType) (xs : List Item) → HasTaken model pieces t done → Reads t xs → (rest : List ArgType) × (types model xs ≡ done ++ rest)
+taken_first model pieces t done xs h g =
     let more = front_items t h.read pieces.rest.now h.items xs h.given.split h.given.reads g in
-    (types more.0, ap types more.1 ∙ types-append h.items more.0 ∙ ap (λ ts. ts ++ types more.0) (sym h.types_are))
+    (types model more.0, ap (types model) more.1 ∙ types-append model h.items more.0 ∙ ap (λ ts. ts ++ types model more.0) (sym h.types_are))
 
-pub types_of_all : (t : Text) (wanted : List ArgType) (xs : List Item) → TakesTypes t wanted → Reads t xs → types xs ≡ wanted
-types_of_all t wanted xs h g = ap types (Reads-unique t xs h.items g h.accepted.reads)
+pub types_of_all : (model : Model) (t : Text) (wanted : List ArgType) (xs : List Item) → TakesTypes model t wanted → Reads t xs → types model xs ≡ wanted
+types_of_all model t wanted xs h g = ap (types model) (Reads-unique t xs h.items g h.accepted.reads)
     ∙ sym h.types_are
 
-taken_as : (pieces : Pieces) (t : Text) (done : List ArgType) → HasFound pieces t done → HasTaken pieces t done
-taken_as pieces t done h = record { read = h.read; items = h.items; given = h.given; types_are = h.types_are }
+taken_as : (model : Model) (pieces : Pieces) (t : Text) (done : List ArgType) → HasFound model pieces t done → HasTaken model pieces t done
+taken_as model pieces t done h = record { read = h.read; items = h.items; given = h.given; types_are = h.types_are }
 
-found_as : (pieces : Pieces) (t : Text) (done : List ArgType) → HasTaken pieces t done → HasFound pieces t done
-found_as pieces t done h = record { read = h.read; items = h.items; given = h.given; types_are = h.types_are }
+found_as : (model : Model) (pieces : Pieces) (t : Text) (done : List ArgType) → HasTaken model pieces t done → HasFound model pieces t done
+found_as model pieces t done h = record { read = h.read; items = h.items; given = h.given; types_are = h.types_are }
 
 -- one piece more
-module _ (old new : Pieces) (t : Text) (done : List ArgType) (h : HasTaken old t done) where
+module _ (model : Model) (old new : Pieces) (t : Text) (done : List ArgType) (h : HasTaken model old t done) where
   module _ (given : Result Piece Refusal) (steps : Gives old (Some given) new) where
-    pub taken_more : (piece : Piece) (more : List ArgType) → given ≡ Ok piece → more ≡ types (items_of piece) → HasTaken new t (done ++ more)
-    taken_more piece more e same = taken_as new t (done ++ more) (more_found old new t done (found_as old t done h) given steps piece more e same)
+    pub taken_more : (piece : Piece) (more : List ArgType) → given ≡ Ok piece → more ≡ types model (items_of piece) → HasTaken model new t (done ++ more)
+    taken_more piece more e same = taken_as model new t (done ++ more) (more_found model old new t done (found_as model old t done h) given steps piece more e same)
 
-    pub taken_same : (piece : Piece) → given ≡ Ok piece → [] ≡ types (items_of piece) → HasTaken new t done
-    taken_same piece e same = subst (HasTaken new t) (append-nil done) (taken_more piece [] e same)
+    pub taken_same : (piece : Piece) → given ≡ Ok piece → [] ≡ types model (items_of piece) → HasTaken model new t done
+    taken_same piece e same = subst (HasTaken model new t) (append-nil done) (taken_more piece [] e same)
 
     pub not_refused : IsAccepted t → (refusal : Refusal) → given ≡ Err refusal → ⊥
-    not_refused accepted refusal e = (refused old new t done (found_as old t done h) given steps refusal e).refused.not_accepted accepted
+    not_refused accepted refusal e = (refused model old new t done (found_as model old t done h) given steps refusal e).refused.not_accepted accepted
 
-  pub taken_all : Gives old None new → TakesTypes t done
-  taken_all steps = all_found old new t done (found_as old t done h) steps
+  pub taken_all : Gives old None new → TakesTypes model t done
+  taken_all steps = all_found model old new t done (found_as model old t done h) steps
 
 -- both have taken the same types so far
-pub record AreInStep (first second : Pieces) (f g : Text) (index : ℕ) : Type 0 where
+pub record AreInStep (model : Model) (first second : Pieces) (f g : Text) (index : ℕ) : Type 0 where
   pub done : List ArgType
-  pub first_taken : HasTaken first f done
-  pub second_taken : HasTaken second g done
+  pub first_taken : HasTaken model first f done
+  pub second_taken : HasTaken model second g done
   pub count : index ≡ length done
 
 get_after : (xs ys : List ArgType) → slice_get (xs ++ ys) (length xs) ≡ slice_get ys 0
@@ -111,62 +112,62 @@ differ_after_front done xs ys us vs index e f at h =
 none_there : (done xs : List ArgType) → xs ≡ done → xs ≡ done ++ []
 none_there done xs e = e ∙ sym (append-nil done)
 
-some_there : (pieces : Pieces) (t : Text) (done : List ArgType) (type : ArgType) (xs : List Item) → HasTaken pieces t (done ++ type ∷ []) → Reads t xs → (rest : List ArgType) × (types xs ≡ done ++ type ∷ rest)
-some_there pieces t done type xs h g = let more = taken_first pieces t (done ++ type ∷ []) xs h g in (more.0, more.1 ∙ append_assoc done (type ∷ []) more.0)
+some_there : (model : Model) (pieces : Pieces) (t : Text) (done : List ArgType) (type : ArgType) (xs : List Item) → HasTaken model pieces t (done ++ type ∷ []) → Reads t xs → (rest : List ArgType) × (types model xs ≡ done ++ type ∷ rest)
+some_there model pieces t done type xs h g = let more = taken_first model pieces t (done ++ type ∷ []) xs h g in (more.0, more.1 ∙ append_assoc done (type ∷ []) more.0)
 
 -- Another type comes in the second list, or none.
-pub differ_here : (first second : Pieces) (f g : Text) (done : List ArgType) (index : ℕ) (wanted : ArgType) (given : Option ArgType) (xs ys : List Item) → index ≡ length done
-    → HasTaken first f (done ++ wanted ∷ []) → MatchOption given (TakesTypes g done) (λ type. HasTaken second g (done ++ type ∷ [])) → given ≢ Some wanted → Reads f xs → Reads g ys → DifferFirstAt (types xs) (types ys) index
-differ_here first second f g done index wanted None xs ys at h k other a b =
-    let one = some_there first f done wanted xs h a in
-    differ_after_front done (types xs) (types ys) (wanted ∷ one.0) [] index one.1 (none_there done (types ys) (types_of_all g done ys k b)) at (λ e. cc)
-differ_here first second f g done index wanted (Some type) xs ys at h k other a b =
-    let one = some_there first f done wanted xs h a in
-    let two = some_there second g done type ys k b in
-    differ_after_front done (types xs) (types ys) (wanted ∷ one.0) (type ∷ two.0) index one.1 two.1 at (λ e. other (sym e))
+pub differ_here : (model : Model) (first second : Pieces) (f g : Text) (done : List ArgType) (index : ℕ) (wanted : ArgType) (given : Option ArgType) (xs ys : List Item) → index ≡ length done
+    → HasTaken model first f (done ++ wanted ∷ []) → MatchOption given (TakesTypes model g done) (λ type. HasTaken model second g (done ++ type ∷ [])) → given ≢ Some wanted → Reads f xs → Reads g ys → DifferFirstAt (types model xs) (types model ys) index
+differ_here model first second f g done index wanted None xs ys at h k other a b =
+    let one = some_there model first f done wanted xs h a in
+    differ_after_front done (types model xs) (types model ys) (wanted ∷ one.0) [] index one.1 (none_there done (types model ys) (types_of_all model g done ys k b)) at (λ e. cc)
+differ_here model first second f g done index wanted (Some type) xs ys at h k other a b =
+    let one = some_there model first f done wanted xs h a in
+    let two = some_there model second g done type ys k b in
+    differ_after_front done (types model xs) (types model ys) (wanted ∷ one.0) (type ∷ two.0) index one.1 two.1 at (λ e. other (sym e))
 
 -- The same type comes in both.
-pub stepped : (first second : Pieces) (f g : Text) (done : List ArgType) (index : ℕ) (wanted : ArgType) (given : Option ArgType) → index ≡ length done
-    → HasTaken first f (done ++ wanted ∷ []) → MatchOption given (TakesTypes g done) (λ type. HasTaken second g (done ++ type ∷ [])) → given ≡ Some wanted → AreInStep first second f g (index + 1)
-stepped first second f g done index wanted None at h k same = absurd (cc)
-stepped first second f g done index wanted (Some type) at h k same =
+pub stepped : (model : Model) (first second : Pieces) (f g : Text) (done : List ArgType) (index : ℕ) (wanted : ArgType) (given : Option ArgType) → index ≡ length done
+    → HasTaken model first f (done ++ wanted ∷ []) → MatchOption given (TakesTypes model g done) (λ type. HasTaken model second g (done ++ type ∷ [])) → given ≡ Some wanted → AreInStep model first second f g (index + 1)
+stepped model first second f g done index wanted None at h k same = absurd (cc)
+stepped model first second f g done index wanted (Some type) at h k same =
     let is : type ≡ wanted = cc in
     record {
       done = done ++ wanted ∷ [];
       first_taken = h;
-      second_taken = subst (λ (t : ArgType). HasTaken second g (done ++ t ∷ [])) is k;
+      second_taken = subst (λ (t : ArgType). HasTaken model second g (done ++ t ∷ [])) is k;
       count = omega (arith, at, length_push done wanted);
     }
 
 -- The second list is longer.
-pub differ_after : (second : Pieces) (f g : Text) (done : List ArgType) (index : ℕ) (type : ArgType) (xs ys : List Item) → index ≡ length done
-    → TakesTypes f done → HasTaken second g (done ++ type ∷ []) → Reads f xs → Reads g ys → DifferFirstAt (types xs) (types ys) index
-differ_after second f g done index type xs ys at h k a b =
-    let two = some_there second g done type ys k b in
-    differ_after_front done (types xs) (types ys) [] (type ∷ two.0) index (none_there done (types xs) (types_of_all f done xs h a)) two.1 at (λ e. cc)
+pub differ_after : (model : Model) (second : Pieces) (f g : Text) (done : List ArgType) (index : ℕ) (type : ArgType) (xs ys : List Item) → index ≡ length done
+    → TakesTypes model f done → HasTaken model second g (done ++ type ∷ []) → Reads f xs → Reads g ys → DifferFirstAt (types model xs) (types model ys) index
+differ_after model second f g done index type xs ys at h k a b =
+    let two = some_there model second g done type ys k b in
+    differ_after_front done (types model xs) (types model ys) [] (type ∷ two.0) index (none_there done (types model xs) (types_of_all model f done xs h a)) two.1 at (λ e. cc)
 
-pub same_lists_of : (f g : Text) (done : List ArgType) (xs ys : List Item) → TakesTypes f done → TakesTypes g done → Reads f xs → Reads g ys → types xs ≡ types ys
-same_lists_of f g done xs ys h k a b = types_of_all f done xs h a ∙ sym (types_of_all g done ys k b)
+pub same_lists_of : (model : Model) (f g : Text) (done : List ArgType) (xs ys : List Item) → TakesTypes model f done → TakesTypes model g done → Reads f xs → Reads g ys → types model xs ≡ types model ys
+same_lists_of model f g done xs ys h k a b = types_of_all model f done xs h a ∙ sym (types_of_all model g done ys k b)
 
-pub same_types_of : (f g : Text) (a : IsAccepted f) (b : IsAccepted g) → ((xs ys : List Item) → Reads f xs → Reads g ys → types xs ≡ types ys) → HaveSameTypes f g
-same_types_of f g a b same =
+pub same_types_of : (model : Model) (f g : Text) (a : IsAccepted f) (b : IsAccepted g) → ((xs ys : List Item) → Reads f xs → Reads g ys → types model xs ≡ types model ys) → HaveSameTypes model f g
+same_types_of model f g a b same =
     record {
-      types = types a.0;
+      types = types model a.0;
       first = record { items = a.0; accepted = a.1; types_are = refl };
       second = record { items = b.0; accepted = b.1; types_are = same a.0 b.0 a.1.reads b.1.reads };
     }
 
 -- The types of holes are those of the items.
-pub length-hole_types : (holes : List Hole) → length (hole_types holes) ≡ length holes
-length-hole_types holes = length-map holes (λ hole. arg_type hole.directive)
+pub length-hole_types : (model : Model) (holes : List Hole) → length (hole_types model holes) ≡ length holes
+length-hole_types model holes = length-map holes (λ hole. arg_type model hole.directive)
 
-pub hole_type_at : (holes : List Hole) (i : ℕ) (d : Hole) → i < length holes → slice_get (hole_types holes) i ≡ Some (arg_type (get_or holes i d).directive)
-hole_type_at holes i d h = get_map (λ hole. arg_type hole.directive) holes i d h
+pub hole_type_at : (model : Model) (holes : List Hole) (i : ℕ) (d : Hole) → i < length holes → slice_get (hole_types model holes) i ≡ Some (arg_type model (get_or holes i d).directive)
+hole_type_at model holes i d h = get_map (λ hole. arg_type model hole.directive) holes i d h
 
-hole_type_got : (holes : List Hole) (i : ℕ) (hole : Hole) → slice_get holes i ≡ Some hole → slice_get (hole_types holes) i ≡ Some (arg_type hole.directive)
-hole_type_got [] i hole e = absurd (cc)
-hole_type_got (h ∷ holes) zero hole e = let is : h ≡ hole = cc in ap (λ (o : Hole). Some (arg_type o.directive)) is
-hole_type_got (h ∷ holes) (suc i) hole e = hole_type_got holes i hole e
+hole_type_got : (model : Model) (holes : List Hole) (i : ℕ) (hole : Hole) → slice_get holes i ≡ Some hole → slice_get (hole_types model holes) i ≡ Some (arg_type model hole.directive)
+hole_type_got model [] i hole e = absurd (cc)
+hole_type_got model (h ∷ holes) zero hole e = let is : h ≡ hole = cc in ap (λ (o : Hole). Some (arg_type model o.directive)) is
+hole_type_got model (h ∷ holes) (suc i) hole e = hole_type_got model holes i hole e
 
 same_lists : (xs ys : List ArgType) → length xs ≡ length ys → ((i : ℕ) (x : ArgType) → slice_get xs i ≡ Some x → slice_get ys i ≡ Some x) → xs ≡ ys
 same_lists [] [] e h = refl
@@ -178,9 +179,9 @@ same_lists (x ∷ xs) (y ∷ ys) e h =
     let same : y ≡ x = cc in
     cc
 
-pub hole_types_are : (items : List Item) (layout : Layout) → IsLayoutOf items layout → hole_types layout.holes.items ≡ types items
-hole_types_are items layout h = same_lists (hole_types layout.holes.items) (types items) (length-hole_types layout.holes.items ∙ h.count) (λ i x e.
-    let less = get_within (hole_types layout.holes.items) i x e in
-    let hole = get_some layout.holes.items i (omega (arith, less, length-hole_types layout.holes.items)) in
+pub hole_types_are : (model : Model) (items : List Item) (layout : Layout) → IsLayoutOf model items layout → hole_types model layout.holes.items ≡ types model items
+hole_types_are model items layout h = same_lists (hole_types model layout.holes.items) (types model items) (length-hole_types model layout.holes.items ∙ h.count) (λ i x e.
+    let less = get_within (hole_types model layout.holes.items) i x e in
+    let hole = get_some layout.holes.items i (omega (arith, less, length-hole_types model layout.holes.items)) in
     let is = h.holes i hole.0 hole.1 in
-    is.type_is ∙ sym (hole_type_got layout.holes.items i hole.0 hole.1) ∙ e)
+    is.type_is ∙ sym (hole_type_got model layout.holes.items i hole.0 hole.1) ∙ e)

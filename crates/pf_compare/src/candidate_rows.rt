@@ -1,6 +1,7 @@
 //! The candidates of a type as arguments.
 ghost use Rattle.std.specs.Prelude.{◌≡◌, IfOk, map};
 ghost use Rattle.pf_values.specs.Arg.{argument_of};
+ghost use Rattle.pf_values.specs.declared.models.Model.TheVariants.{Lp64};
 ghost use Rattle.pf_values.specs.Candidates as spec;
 ghost use Rattle.pf_compare.specs.Owned.{argument_of_owned};
 
@@ -11,7 +12,7 @@ use std::alloc::{AllocError, Global};
 
 /// The candidates of a type, which hold their own bytes.
 pub(crate) fn owned_row(alloc: Global, arg_type: ArgType) -> Result<Vec<OwnedArg>, AllocError>
-    ensures { IfOk result (λ row. map argument_of_owned row.items ≡ spec.candidates arg_type) }
+    ensures { IfOk result (λ row. map argument_of_owned row.items ≡ spec.candidates Lp64 arg_type) }
 {
     let mut row = Vec::new(alloc);
     for candidate in candidates(arg_type).as_slice() {

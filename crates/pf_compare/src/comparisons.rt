@@ -1,5 +1,6 @@
 //! Comparing two formats.
 ghost use Rattle.std.specs.Prelude.{IfOk, MatchResult, false};
+ghost use Rattle.pf_values.specs.declared.models.Model.TheVariants.{Lp64};
 ghost use Rattle.pf_canon.specs.Comparing.{AreTextsSame};
 ghost use Rattle.pf_compare.specs.Answers.{HaveSameTypes, HindersComparison, IsComparisonOf};
 
@@ -16,7 +17,8 @@ use std::alloc::{AllocError, Global};
 /// the first before the second. Memory is taken only for arguments: where both are accepted, have
 /// the same types, and are not equivalent.
 pub fn compare(alloc: Global, f: &[u8], g: &[u8]) -> Result<Comparison, CompareFault>
-    ensures { MatchResult result (IsComparisonOf f.now g.now) (HindersComparison f.now g.now) }
+    ensures { MatchResult result (IsComparisonOf Lp64 f.now g.now)
+        (HindersComparison Lp64 f.now g.now) }
 {
     let same = match same_text(f, g) {
         Ok(same) => same,
@@ -39,9 +41,9 @@ pub fn compare(alloc: Global, f: &[u8], g: &[u8]) -> Result<Comparison, CompareF
 
 // The same of two formats with the same types, which differ in what they print.
 fn compare_bytes(alloc: Global, f: &[u8], g: &[u8]) -> Result<Comparison, AllocError>
-    requires apart { AreTextsSame f.now g.now false }
-    requires types { HaveSameTypes f.now g.now }
-    ensures { IfOk result (IsComparisonOf f.now g.now) }
+    requires apart { AreTextsSame Lp64 f.now g.now false }
+    requires types { HaveSameTypes Lp64 f.now g.now }
+    ensures { IfOk result (IsComparisonOf Lp64 f.now g.now) }
 {
     let first = lay_out(alloc, f)?;
     let second = lay_out(alloc, g)?;

@@ -1,6 +1,7 @@
 //! The first argument that tells two formats apart, where they print the same for neutral ones.
 ghost use Rattle.std.specs.Prelude.{◌≡◌, ◌≢◌, ◌≤◌, ◌+◌, ◌-◌, ◌++◌, IfOk, IsTrue, List, MatchBool, drop, length, map, take};
 ghost use Rattle.pf_values.specs.Arg.{argument_of};
+ghost use Rattle.pf_values.specs.declared.models.Model.TheVariants.{Lp64};
 ghost use Rattle.pf_values.specs.Arguments.{HasType};
 ghost use Rattle.pf_values.specs.Candidates as spec;
 ghost use Rattle.pf_values.specs.DataModel.{arg_type};
@@ -30,10 +31,10 @@ pub(crate) fn first_probe(
     first: &Layout,
     second: &Layout,
 ) -> Result<Option<Probe>, AllocError>
-    requires { AreLevel first.now second.now }
+    requires { AreLevel Lp64 first.now second.now }
     ensures { IfOk result (λ found.
-        (xs ys : List Item) → IsLayoutOf xs first.now → IsLayoutOf ys second.now
-        → types xs ≡ types ys → FindsProbe xs ys found) }
+        (xs ys : List Item) → IsLayoutOf Lp64 xs first.now → IsLayoutOf Lp64 ys second.now
+        → types Lp64 xs ≡ types Lp64 ys → FindsProbe Lp64 xs ys found) }
 {
     let owned = owned_row(alloc, ArgType::Str)?;
     let strings = row_of(alloc, &owned)?;
@@ -47,11 +48,11 @@ fn first_among(
     second: &Layout,
     strings: &[Arg<'_>],
 ) -> Result<Option<Probe>, AllocError>
-    requires level { AreLevel first.now second.now }
-    requires strings { map argument_of strings.now ≡ spec.candidates Str }
+    requires level { AreLevel Lp64 first.now second.now }
+    requires strings { map argument_of strings.now ≡ spec.candidates Lp64 Str }
     ensures { IfOk result (λ found.
-        (xs ys : List Item) → IsLayoutOf xs first.now → IsLayoutOf ys second.now
-        → types xs ≡ types ys → FindsProbe xs ys found) }
+        (xs ys : List Item) → IsLayoutOf Lp64 xs first.now → IsLayoutOf Lp64 ys second.now
+        → types Lp64 xs ≡ types Lp64 ys → FindsProbe Lp64 xs ys found) }
 {
     let mut index = 0;
     while index < first.holes.len() {
@@ -79,12 +80,12 @@ fn first_candidate(
     second: &Hole,
     strings: &[Arg<'_>],
 ) -> Result<Option<usize>, AllocError>
-    requires one_type { arg_type first.now.directive ≡ arg_type second.now.directive }
+    requires one_type { arg_type Lp64 first.now.directive ≡ arg_type Lp64 second.now.directive }
     requires first { IsInside whole.now first.now }
     requires second { IsInside whole.now second.now }
-    requires strings { map argument_of strings.now ≡ spec.candidates Str }
+    requires strings { map argument_of strings.now ≡ spec.candidates Lp64 Str }
     ensures { IfOk result
-        (FindsUnlike whole.now first.now second.now (arg_type first.now.directive)) }
+        (FindsUnlike Lp64 whole.now first.now second.now (arg_type Lp64 first.now.directive)) }
 {
     if are_one(first, second) {
         return Ok(None);
@@ -120,12 +121,12 @@ fn first_of(
     wanted: ArgType,
     row: &[Arg<'_>],
 ) -> Result<Option<usize>, AllocError>
-    requires row { map argument_of row.now ≡ spec.candidates wanted }
-    requires first_type { arg_type first.now.directive ≡ wanted }
-    requires second_type { arg_type second.now.directive ≡ wanted }
+    requires row { map argument_of row.now ≡ spec.candidates Lp64 wanted }
+    requires first_type { arg_type Lp64 first.now.directive ≡ wanted }
+    requires second_type { arg_type Lp64 second.now.directive ≡ wanted }
     requires first { IsInside whole.now first.now }
     requires second { IsInside whole.now second.now }
-    ensures { IfOk result (FindsUnlike whole.now first.now second.now wanted) }
+    ensures { IfOk result (FindsUnlike Lp64 whole.now first.now second.now wanted) }
 {
     let mut place = 0;
     while place < row.len() {
@@ -146,13 +147,14 @@ fn tell_apart(
     second: &Hole,
     argument: Arg<'_>,
 ) -> Result<bool, AllocError>
-    requires typed_first { HasType (argument_of argument) (arg_type first.now.directive) }
-    requires typed_second { HasType (argument_of argument) (arg_type second.now.directive) }
+    requires typed_first { HasType Lp64 (argument_of argument) (arg_type Lp64 first.now.directive) }
+    requires typed_second { HasType Lp64 (argument_of argument)
+        (arg_type Lp64 second.now.directive) }
     requires first { IsInside whole.now first.now }
     requires second { IsInside whole.now second.now }
     ensures { IfOk result (λ told. MatchBool told
-        (FillUnlike whole.now first.now second.now (argument_of argument.entry))
-        (FillAlike whole.now first.now second.now (argument_of argument.entry))) }
+        (FillUnlike Lp64 whole.now first.now second.now (argument_of argument.entry))
+        (FillAlike Lp64 whole.now first.now second.now (argument_of argument.entry))) }
 {
     let x = print(alloc, &first.directive, argument)?;
     let y = print(alloc, &second.directive, argument)?;

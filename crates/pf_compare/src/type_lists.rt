@@ -2,6 +2,7 @@
 ghost use Rattle.std.specs.Prelude.{◌≡◌, ◌≢◌, ◌++◌, ◌∷◌, [], IsFalse, IsTrue, List, MatchOption, Some};
 ghost use Rattle.std.specs.Option.{option_to_list};
 ghost use Rattle.pf_values.specs.declared.types.ArgType.{ArgType};
+ghost use Rattle.pf_values.specs.declared.models.Model.TheVariants.{Lp64};
 ghost use Rattle.pf_values.specs.Items.{IsAccepted, Item, Reads, types};
 ghost use Rattle.pf_values.specs.Text.{Text};
 ghost use Rattle.pf_text.specs.PieceHistory.{items_of};
@@ -18,7 +19,8 @@ pub(crate) fn first_other_type(f: &[u8], g: &[u8]) -> Option<u64>
     requires first { IsAccepted f.now }
     requires second { IsAccepted g.now }
     ensures { (xs ys : List Item) → Reads f.now xs → Reads g.now ys
-        → MatchOption result (types xs ≡ types ys) (DifferFirstAt (types xs) (types ys)) }
+        → MatchOption result (types Lp64 xs ≡ types Lp64 ys)
+        (DifferFirstAt (types Lp64 xs) (types Lp64 ys)) }
 {
     let mut index = 0;
     let mut others = Pieces::new(g);
@@ -43,9 +45,9 @@ pub(crate) fn first_other_type(f: &[u8], g: &[u8]) -> Option<u64>
 
 // The type of the next argument of an accepted format, if one comes.
 fn next_type(pieces: &mut Pieces<'_>) -> Option<ArgType>
-    ensures { (t : Text) (done : List ArgType) → IsAccepted t → HasTaken pieces.old t done
-        → MatchOption result (TakesTypes t done)
-        (λ next. HasTaken pieces.new t (done ++ next ∷ [])) }
+    ensures { (t : Text) (done : List ArgType) → IsAccepted t → HasTaken Lp64 pieces.old t done
+        → MatchOption result (TakesTypes Lp64 t done)
+        (λ next. HasTaken Lp64 pieces.new t (done ++ next ∷ [])) }
 {
     while let Some(piece) = pieces.next() {
         if let Ok(piece) = piece {
@@ -69,7 +71,7 @@ fn is_type(given: Option<ArgType>, wanted: ArgType) -> bool
 
 // The type of the argument that a piece takes, if it takes one.
 fn arg_type(piece: &Piece<'_>) -> Option<ArgType>
-    ensures { option_to_list result ≡ types (items_of piece.now) }
+    ensures { option_to_list result ≡ types Lp64 (items_of piece.now) }
 {
     match piece {
         Piece::Directive(directive) => Some(directive.arg_type()),

@@ -1,5 +1,6 @@
 //! Arguments for which two formats print different bytes.
 ghost use Rattle.std.specs.Prelude.{◌≡◌, IfOk, List};
+ghost use Rattle.pf_values.specs.declared.models.Model.TheVariants.{Lp64};
 ghost use Rattle.pf_values.specs.Items.{Item, types};
 ghost use Rattle.pf_compare.specs.Layouts.{HaveOneTypes, IsLayoutOf, hole_types};
 ghost use Rattle.pf_compare.specs.Witnesses.{AreNeutral, FindsWitness, HasCandidate, IsWitnessAt};
@@ -23,10 +24,10 @@ pub(crate) fn first_witness(
     first: &Layout,
     second: &Layout,
 ) -> Result<Option<Witness>, AllocError>
-    requires { HaveOneTypes first.now second.now }
+    requires { HaveOneTypes Lp64 first.now second.now }
     ensures { IfOk result (λ found.
-        (xs ys : List Item) → IsLayoutOf xs first.now → IsLayoutOf ys second.now
-        → types xs ≡ types ys → FindsWitness xs ys found) }
+        (xs ys : List Item) → IsLayoutOf Lp64 xs first.now → IsLayoutOf Lp64 ys second.now
+        → types Lp64 xs ≡ types Lp64 ys → FindsWitness Lp64 xs ys found) }
 {
     if are_unlike(&first.bytes, &second.bytes) {
         let args = neutrals(alloc, &first.holes)?;
@@ -46,7 +47,7 @@ pub(crate) fn first_witness(
 }
 
 fn neutrals(alloc: Global, holes: &[Hole]) -> Result<Vec<OwnedArg>, AllocError>
-    ensures { IfOk result (λ args. AreNeutral (hole_types holes.now) args.items) }
+    ensures { IfOk result (λ args. AreNeutral (hole_types Lp64 holes.now) args.items) }
 {
     let mut args = Vec::new(alloc);
     for hole in holes {
@@ -56,8 +57,8 @@ fn neutrals(alloc: Global, holes: &[Hole]) -> Result<Vec<OwnedArg>, AllocError>
 }
 
 fn witness_of(alloc: Global, holes: &[Hole], probe: Probe) -> Result<Witness, AllocError>
-    requires { HasCandidate (hole_types holes.now) probe }
-    ensures { IfOk result (IsWitnessAt (hole_types holes.now) probe) }
+    requires { HasCandidate Lp64 (hole_types Lp64 holes.now) probe }
+    ensures { IfOk result (IsWitnessAt Lp64 (hole_types Lp64 holes.now) probe) }
 {
     let mut args = neutrals(alloc, holes)?;
     let arg_type = holes[probe.index].directive.arg_type();

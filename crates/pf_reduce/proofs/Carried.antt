@@ -1,6 +1,7 @@
 -- What a core prints, carried over to the directive that is reduced to it.
 use Rattle.std.proofs.Common.{◌≡◌, sym, ap, ◌∙◌, subst, arith}
 use Rattle.std.proofs.lemmas.List.{append-nil}
+use Rattle.pf_values.specs.declared.models.Model.{Model}
 use Rattle.pf_values.specs.Arguments.{Argument, HasType}
 use Rattle.pf_values.specs.DataModel.{arg_type}
 use Rattle.pf_values.specs.Normal.{IsNormal}
@@ -13,27 +14,27 @@ use Rattle.pf_reduce.specs.declared.results.Reduced.{Reduced}
 use Rattle.pf_reduce.specs.Reducing.{IsReducedTo, PrintsReduced, around, core_of}
 
 -- one direction is enough, since each prints one text
-abbrev pub Carries : Specification → Reduced → Type 0
-Carries s r = (argument : Argument) (inner : Text) → HasType argument (arg_type s) → Prints (core_of r.core) argument inner → Prints s argument (around r inner)
+abbrev pub Carries : Model → Specification → Reduced → Type 0
+Carries model s r = (argument : Argument) (inner : Text) → HasType model argument (arg_type model s) → Prints model (core_of r.core) argument inner → Prints model s argument (around r inner)
 
-pub prints_reduced : (s : Specification) (r : Reduced) → arg_type (core_of r.core) ≡ arg_type s → Carries s r → PrintsReduced s r
-prints_reduced s r e h argument out typed =
-    let typed_core : HasType argument (arg_type (core_of r.core)) = subst (HasType argument) (sym e) typed in
-    let inner = printed_text (core_of r.core) argument in
-    let inner_is = printed-is (core_of r.core) argument typed_core in
-    let same = Prints-unique s argument (around r inner) typed (h argument inner typed inner_is) in (
-      λ p. (inner, inner_is, Prints-unique s argument out typed p ∙ sym same),
-      λ p. subst (Prints s argument) (sym p.2) (h argument p.0 typed p.1),
+pub prints_reduced : (model : Model) (s : Specification) (r : Reduced) → arg_type model (core_of r.core) ≡ arg_type model s → Carries model s r → PrintsReduced model s r
+prints_reduced model s r e h argument out typed =
+    let typed_core : HasType model argument (arg_type model (core_of r.core)) = subst (HasType model argument) (sym e) typed in
+    let inner = printed_text model (core_of r.core) argument in
+    let inner_is = printed-is model (core_of r.core) argument typed_core in
+    let same = Prints-unique model s argument (around r inner) typed (h argument inner typed inner_is) in (
+      λ p. (inner, inner_is, Prints-unique model s argument out typed p ∙ sym same),
+      λ p. subst (Prints model s argument) (sym p.2) (h argument p.0 typed p.1),
     )
 
-pub reduced_to_itself : (s t : Specification) → t ≡ s → IsNormal s → IsReducedTo s (record { spaces = 0; zeros = 0; core = Normal t; trail = 0 })
-reduced_to_itself s t e normal =
+pub reduced_to_itself : (model : Model) (s t : Specification) → t ≡ s → IsNormal model s → IsReducedTo model s (record { spaces = 0; zeros = 0; core = Normal t; trail = 0 })
+reduced_to_itself model s t e normal =
     let r : Reduced = record { spaces = 0; zeros = 0; core = Normal t; trail = 0 } in
-    let carries : Carries s r = λ argument inner typed p. subst (Prints s argument) (sym (append-nil inner)) (subst (λ u. Prints u argument inner) e p) in
+    let carries : Carries model s r = λ argument inner typed p. subst (Prints model s argument) (sym (append-nil inner)) (subst (λ u. Prints model u argument inner) e p) in
     record {
-      normal = subst IsNormal (sym e) normal;
-      same_type = ap arg_type e;
-      prints = prints_reduced s r (ap arg_type e) carries;
+      normal = subst (IsNormal model) (sym e) normal;
+      same_type = ap (arg_type model) e;
+      prints = prints_reduced model s r (ap (arg_type model) e) carries;
       silent = λ x. cc;
       few = omega arith;
     }

@@ -11,6 +11,8 @@ use Rattle.pf_values.specs.declared.flags.FlagSet.{FlagSet}
 use Rattle.pf_values.specs.declared.lengths.Length.{Length}
 use Rattle.pf_values.specs.declared.lengths.Length.TheVariants as lengths
 use Rattle.pf_values.specs.declared.limits.TheConstants.{MAX_NUMBER}
+use Rattle.pf_values.specs.declared.models.Model.{Model}
+use Rattle.pf_values.specs.declared.models.Model.TheVariants.{Lp64, Ilp32}
 use Rattle.pf_values.specs.Arguments.{Number, String, IsConverted}
 use Rattle.pf_values.specs.Conversions.{
   is_signed,
@@ -42,79 +44,74 @@ use Rattle.pf_reduce.specs.Padded.{constants, with_padding, padding_of}
 use Rattle.pf_reduce.specs.Reducing.{IsNormalCore, IsReducedTo, around, core_of}
 use Rattle.pf_reduce.proofs.Carried.{Carries, prints_reduced}
 
-under_number : (k : Kind) → prints_text k ≡ false → (s : Specification) (n : ℤ) (body : Text)
-    → PrintsKind k s (Number n) body → PrintsNumber s n body
-under_number kinds.Signed e s n body h = h
-under_number (kinds.Unsigned base capitals) e s n body h = h
-under_number kinds.Char e s n body h = cc
-under_number kinds.String e s n body h = cc
+under_number : (model : Model) (k : Kind) → prints_text k ≡ false → (s : Specification) (n : ℤ) (body : Text)
+    → PrintsKind model k s (Number n) body → PrintsNumber model s n body
+under_number model kinds.Signed e s n body h = h
+under_number model (kinds.Unsigned base capitals) e s n body h = h
+under_number model kinds.Char e s n body h = cc
+under_number model kinds.String e s n body h = cc
 
-number_under : (k : Kind) → prints_text k ≡ false → (s : Specification) (n : ℤ) (body : Text)
-    → PrintsNumber s n body → PrintsKind k s (Number n) body
-number_under kinds.Signed e s n body h = h
-number_under (kinds.Unsigned base capitals) e s n body h = h
-number_under kinds.Char e s n body h = cc
-number_under kinds.String e s n body h = cc
+number_under : (model : Model) (k : Kind) → prints_text k ≡ false → (s : Specification) (n : ℤ) (body : Text)
+    → PrintsNumber model s n body → PrintsKind model k s (Number n) body
+number_under model kinds.Signed e s n body h = h
+number_under model (kinds.Unsigned base capitals) e s n body h = h
+number_under model kinds.Char e s n body h = cc
+number_under model kinds.String e s n body h = cc
 
-no_string_under : (k : Kind) → prints_text k ≡ false → (s : Specification) (t body : Text)
-    → PrintsKind k s (String t) body → ⊥
-no_string_under kinds.Signed e s t body h = h
-no_string_under (kinds.Unsigned base capitals) e s t body h = h
-no_string_under kinds.Char e s t body h = cc
-no_string_under kinds.String e s t body h = cc
+no_string_under : (model : Model) (k : Kind) → prints_text k ≡ false → (s : Specification) (t body : Text)
+    → PrintsKind model k s (String t) body → ⊥
+no_string_under model kinds.Signed e s t body h = h
+no_string_under model (kinds.Unsigned base capitals) e s t body h = h
+no_string_under model kinds.Char e s t body h = cc
+no_string_under model kinds.String e s t body h = cc
 
 -- a value that a directive may print
-abbrev pub IsValueOf : Specification → ℤ → Type 0
-IsValueOf s v = FitsIn (is_signed s.conv) (bit_count (bits_under s.length)) v
+abbrev pub IsValueOf : Model → Specification → ℤ → Type 0
+IsValueOf model s v = FitsIn (is_signed s.conv) (bit_count (bits_under model s.length)) v
 
-carries : (s : Specification) (r : Reduced) → is_text s.conv ≡ false → is_text (core_of r.core).conv ≡ false → is_signed (core_of r.core).conv ≡ is_signed s.conv → bits_under (core_of r.core).length ≡ bits_under s.length
-    → ((v : ℤ) → IsValueOf s v → field s (value_text s v) ≡ around r (field (core_of r.core) (value_text (core_of r.core) v)))
-    → Carries s r
-carries s r e f sign bits same (String t) inner typed p = absurd (no_string_under (kind_of (core_of r.core).conv) f (core_of r.core) t p.0 p.1)
-carries s r e f sign bits same (Number n) inner typed p =
-    let h = under_number (kind_of (core_of r.core).conv) f (core_of r.core) n p.0 p.1 in
-    let value : IsConverted (is_signed s.conv) (bit_count (bits_under s.length)) n h.value = rw (← sign, ← bits) h.value_is in
-    let body = PrintsNumber-is (core_of r.core) n p.0 h in (
+carries : (model : Model) (s : Specification) (r : Reduced) → is_text s.conv ≡ false → is_text (core_of r.core).conv ≡ false → is_signed (core_of r.core).conv ≡ is_signed s.conv → bits_under model (core_of r.core).length ≡ bits_under model s.length
+    → ((v : ℤ) → IsValueOf model s v → field s (value_text s v) ≡ around r (field (core_of r.core) (value_text (core_of r.core) v)))
+    → Carries model s r
+carries model s r e f sign bits same (String t) inner typed p = absurd (no_string_under model (kind_of (core_of r.core).conv) f (core_of r.core) t p.0 p.1)
+carries model s r e f sign bits same (Number n) inner typed p =
+    let h = under_number model (kind_of (core_of r.core).conv) f (core_of r.core) n p.0 p.1 in
+    let value : IsConverted (is_signed s.conv) (bit_count (bits_under model s.length)) n h.value = rw (← sign, ← bits) h.value_is in
+    let body = PrintsNumber-is model (core_of r.core) n p.0 h in (
       value_text s h.value,
-      number_under (kind_of s.conv) e s n _ (PrintsNumber-value s n h.value value),
+      number_under model (kind_of s.conv) e s n _ (PrintsNumber-value model s n h.value value),
       ap (around r) (p.2 ∙ ap (field (core_of r.core)) body) ∙ sym (same h.value value.fits),
     )
 
 -- The names that a normal directive doesn't have are other names for the same.
-record IsSameRow (first second : Length) : Type 0 where
-  signed : signed_type first ≡ signed_type second
-  unsigned : unsigned_type first ≡ unsigned_type second
-  bits : bits_under first ≡ bits_under second
+record IsSameRow (model : Model) (first second : Length) : Type 0 where
+  signed : signed_type model first ≡ signed_type model second
+  unsigned : unsigned_type model first ≡ unsigned_type model second
+  bits : bits_under model first ≡ bits_under model second
 
-kept_row : (length : Length) → IsSameRow (kept_length length) length
-kept_row lengths.None = record { signed = refl; unsigned = refl; bits = refl }
-kept_row lengths.Hh = record { signed = refl; unsigned = refl; bits = refl }
-kept_row lengths.H = record { signed = refl; unsigned = refl; bits = refl }
-kept_row lengths.L = record { signed = refl; unsigned = refl; bits = refl }
-kept_row lengths.Ll = record { signed = refl; unsigned = refl; bits = refl }
-kept_row lengths.J = record { signed = refl; unsigned = refl; bits = refl }
-kept_row lengths.Z = record { signed = refl; unsigned = refl; bits = refl }
-kept_row lengths.T = record { signed = refl; unsigned = refl; bits = refl }
+kept_row : (model : Model) (length : Length) → IsSameRow model (kept_length model length) length
+kept_row model lengths.None = record { signed = refl; unsigned = refl; bits = refl }
+kept_row Lp64 _ = record { signed = refl; unsigned = refl; bits = refl }
+kept_row Ilp32 _ = record { signed = refl; unsigned = refl; bits = refl }
 
 pub kept_kind : (conv : Conv) → kind_of (kept_conv conv) ≡ kind_of conv
 kept_kind I = refl
 kept_kind _ = refl
 
-kept_type_of : (k : Kind) (length : Length)
-    → type_of_kind k (kept_length length) ≡ type_of_kind k length
-kept_type_of kinds.Signed length = (kept_row length).signed
-kept_type_of (kinds.Unsigned base capitals) length = (kept_row length).unsigned
-kept_type_of kinds.Char length = refl
-kept_type_of kinds.String length = refl
+kept_type_of : (model : Model) (k : Kind) (length : Length)
+    → type_of_kind model k (kept_length model length) ≡ type_of_kind model k length
+kept_type_of model kinds.Signed length = (kept_row model length).signed
+kept_type_of model (kinds.Unsigned base capitals) length = (kept_row model length).unsigned
+kept_type_of model kinds.Char length = refl
+kept_type_of model kinds.String length = refl
 
-kept_type : (conv : Conv) (length : Length)
-    → type_under (kept_conv conv) (kept_length length) ≡ type_under conv length
-kept_type conv length =
-    ap (λ k. type_of_kind k (kept_length length)) (kept_kind conv)
-    ∙ kept_type_of (kind_of conv) length
+kept_type : (model : Model) (conv : Conv) (length : Length)
+    → type_under model (kept_conv conv) (kept_length model length) ≡ type_under model conv length
+kept_type model conv length =
+    ap (λ k. type_of_kind model k (kept_length model length)) (kept_kind conv)
+    ∙ kept_type_of model (kind_of conv) length
 
-pub kept_bits : (length : Length) → bits_under (kept_length length) ≡ bits_under length
-kept_bits length = (kept_row length).bits
+pub kept_bits : (model : Model) (length : Length) → bits_under model (kept_length model length) ≡ bits_under model length
+kept_bits model length = (kept_row model length).bits
 
 kept_text : (conv : Conv) → is_text (kept_conv conv) ≡ is_text conv
 kept_text conv = ap prints_text (kept_kind conv)
@@ -134,21 +131,21 @@ minus_is false flags h = h
 pub field-padded : (s : Specification) (body : Text) → field s body ≡ with_padding (padding_of s) body
 field-padded s body = sym (append-nil (field s body))
 
-pub padded-made : (s : Specification) (p : Padding) (flags : FlagSet) (precision : Option ℕ) (body : Text) → has flags Minus ≡ false → with_padding p body ≡ around (result_within s p flags precision) (field (core_within s p flags precision) body)
-padded-made s p flags precision body right = rw (minus_is p.left flags right, width_is p.width) refl
+pub padded-made : (model : Model) (s : Specification) (p : Padding) (flags : FlagSet) (precision : Option ℕ) (body : Text) → has flags Minus ≡ false → with_padding p body ≡ around (result_within model s p flags precision) (field (core_within model s p flags precision) body)
+padded-made model s p flags precision body right = rw (minus_is p.left flags right, width_is p.width) refl
 
 -- A core made of parts prints the same values, within its padding.
-pub integer_reduced : (s : Specification) (p : Padding) (flags : FlagSet) (precision : Option ℕ) → is_text s.conv ≡ false → has flags Minus ≡ false → IsNormalCore (result_within s p flags precision).core → constants p ≤ MAX_NUMBER
-    → ((v : ℤ) → IsValueOf s v → with_padding (padding_of s) (value_text s v) ≡ with_padding p (value_text (core_within s p flags precision) v))
-    → IsReducedTo s (result_within s p flags precision)
-integer_reduced s p flags precision text right normal few same =
-    let r : Reduced = result_within s p flags precision in
-    let agree : (v : ℤ) → IsValueOf s v → field s (value_text s v) ≡ around r (field (core_of r.core) (value_text (core_of r.core) v)) =
-    λ v fits. field-padded s _ ∙ same v fits ∙ padded-made s p flags precision _ right in
+pub integer_reduced : (model : Model) (s : Specification) (p : Padding) (flags : FlagSet) (precision : Option ℕ) → is_text s.conv ≡ false → has flags Minus ≡ false → IsNormalCore model (result_within model s p flags precision).core → constants p ≤ MAX_NUMBER
+    → ((v : ℤ) → IsValueOf model s v → with_padding (padding_of s) (value_text s v) ≡ with_padding p (value_text (core_within model s p flags precision) v))
+    → IsReducedTo model s (result_within model s p flags precision)
+integer_reduced model s p flags precision text right normal few same =
+    let r : Reduced = result_within model s p flags precision in
+    let agree : (v : ℤ) → IsValueOf model s v → field s (value_text s v) ≡ around r (field (core_of r.core) (value_text (core_of r.core) v)) =
+    λ v fits. field-padded s _ ∙ same v fits ∙ padded-made model s p flags precision _ right in
     record {
       normal = normal;
-      same_type = kept_type s.conv s.length;
-      prints = prints_reduced s r (kept_type s.conv s.length) (carries s r text (kept_text s.conv ∙ text) (kept_sign s.conv) (kept_bits s.length) agree);
+      same_type = kept_type model s.conv s.length;
+      prints = prints_reduced model s r (kept_type model s.conv s.length) (carries model s r text (kept_text s.conv ∙ text) (kept_sign s.conv) (kept_bits model s.length) agree);
       silent = λ x. cc;
       few = few;
     }

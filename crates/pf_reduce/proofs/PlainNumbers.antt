@@ -14,6 +14,7 @@ use Rattle.pf_values.specs.declared.conversions.Kind.{Kind}
 use Rattle.pf_values.specs.declared.conversions.Kind.TheVariants as kinds
 use Rattle.pf_values.specs.declared.flags.Flag.TheVariants.{Alt}
 use Rattle.pf_values.specs.declared.limits.TheConstants.{MAX_NUMBER}
+use Rattle.pf_values.specs.declared.models.Model.{Model}
 use Rattle.pf_values.specs.Bases.{alternative_of, number_of}
 use Rattle.pf_values.specs.Conversions.{
   base_of,
@@ -97,17 +98,17 @@ no_alt true = refl
 no_alt false = refl
 
 -- Digits alone are left.
-pub digits_reduced : (s : Specification) (p : Padding) (precision : ℕ) → is_text s.conv ≡ false → is_signed s.conv ≡ false → IsNormalCore (result_within s p no_flags (kept_precision precision)).core → constants p ≤ MAX_NUMBER
-    → ((v : ℤ) → count_of (base_of s.conv) (nat_abs v) ≤ digits_at_most s → with_padding (padding_of s) (value_text s v) ≡ with_padding p (digits_text s.conv precision (nat_abs v)))
-    → IsReducedTo s (result_within s p no_flags (kept_precision precision))
-digits_reduced s p precision text sign normal few same =
-    let t : Specification = core_within s p no_flags (kept_precision precision) in
+pub digits_reduced : (model : Model) (s : Specification) (p : Padding) (precision : ℕ) → is_text s.conv ≡ false → is_signed s.conv ≡ false → IsNormalCore model (result_within model s p no_flags (kept_precision precision)).core → constants p ≤ MAX_NUMBER
+    → ((v : ℤ) → count_of (base_of s.conv) (nat_abs v) ≤ digits_at_most model s → with_padding (padding_of s) (value_text s v) ≡ with_padding p (digits_text s.conv precision (nat_abs v)))
+    → IsReducedTo model s (result_within model s p no_flags (kept_precision precision))
+digits_reduced model s p precision text sign normal few same =
+    let t : Specification = core_within model s p no_flags (kept_precision precision) in
     let kept = kept_kind s.conv in
-    integer_reduced s p no_flags (kept_precision precision) text refl normal few (λ v fits.
+    integer_reduced model s p no_flags (kept_precision precision) text refl normal few (λ v fits.
     let core : value_text t v ≡ digits_text s.conv precision (nat_abs v) =
-    core_text s p no_flags precision v refl ∙ number_text-plain t precision v (kept_sign s.conv ∙ sign) (no_alt p.left)
+    core_text model s p no_flags precision v refl ∙ number_text-plain t precision v (kept_sign s.conv ∙ sign) (no_alt p.left)
     ∙ same_digits t.conv s.conv precision (nat_abs v) kept in
-    same v (count-le s.conv (bits_under s.length) text v fits) ∙ ap (with_padding p) (sym core))
+    same v (count-le s.conv (bits_under model s.length) text v fits) ∙ ap (with_padding p) (sym core))
 
 -- what `u`, and `o x X` without `#`, print
 pub plain_value : (s : Specification) (v : ℤ) → is_signed s.conv ≡ false → has s.flags Alt ≡ false → value_text s v ≡ digits_text s.conv (effective_precision s 0) (nat_abs v)
@@ -170,19 +171,19 @@ octal_split conv e precision most z n some z_is few =
     split_zeros O precision z n _ (octal_beyond precision most z (count_of 8 n) some z_is few)
     ∙ ap (λ t. replicate z zero_digit ++ t) (same_digits O conv (precision - z) n (sym e))
 
-pub octal_count : (s : Specification) → IsOctal s.conv → (n : ℕ)
-    → count_of (base_of s.conv) n ≤ digits_at_most s → count_of 8 n ≤ digits_at_most s
-octal_count s e n h = subst (λ k. count_of (number_of (base_under k)) n ≤ digits_at_most s) e h
+pub octal_count : (model : Model) (s : Specification) → IsOctal s.conv → (n : ℕ)
+    → count_of (base_of s.conv) n ≤ digits_at_most model s → count_of 8 n ≤ digits_at_most model s
+octal_count model s e n h = subst (λ k. count_of (number_of (base_under k)) n ≤ digits_at_most model s) e h
 
 -- the flag `#` stays
-pub octal_reduced : (s : Specification) (p : Padding) (precision : ℕ) → IsOctal s.conv → has s.flags Alt ≡ true → IsNormalCore (result_within s p (with_flag no_flags Alt) (kept_precision precision)).core → constants p ≤ MAX_NUMBER
-    → ((v : ℤ) → count_of 8 (nat_abs v) ≤ digits_at_most s → with_padding (padding_of s) (value_text s v) ≡ with_padding p (octal_text precision (nat_abs v)))
-    → IsReducedTo s (result_within s p (with_flag no_flags Alt) (kept_precision precision))
-octal_reduced s p precision e alt normal few same =
+pub octal_reduced : (model : Model) (s : Specification) (p : Padding) (precision : ℕ) → IsOctal s.conv → has s.flags Alt ≡ true → IsNormalCore model (result_within model s p (with_flag no_flags Alt) (kept_precision precision)).core → constants p ≤ MAX_NUMBER
+    → ((v : ℤ) → count_of 8 (nat_abs v) ≤ digits_at_most model s → with_padding (padding_of s) (value_text s v) ≡ with_padding p (octal_text precision (nat_abs v)))
+    → IsReducedTo model s (result_within model s p (with_flag no_flags Alt) (kept_precision precision))
+octal_reduced model s p precision e alt normal few same =
     let flags = with_flag no_flags Alt in
-    let t : Specification = core_within s p flags (kept_precision precision) in
+    let t : Specification = core_within model s p flags (kept_precision precision) in
     let text : is_text s.conv ≡ false = ap prints_text e in
-    integer_reduced s p flags (kept_precision precision) text refl normal few (λ v fits.
+    integer_reduced model s p flags (kept_precision precision) text refl normal few (λ v fits.
     let core : value_text t v ≡ octal_text precision (nat_abs v) =
-    core_text s p flags precision v refl ∙ number_text-octal t precision v (kept_kind s.conv ∙ e) (alt_kept p.left) in
-    same v (octal_count s e (nat_abs v) (count-le s.conv (bits_under s.length) text v fits)) ∙ ap (with_padding p) (sym core))
+    core_text model s p flags precision v refl ∙ number_text-octal t precision v (kept_kind s.conv ∙ e) (alt_kept p.left) in
+    same v (octal_count model s e (nat_abs v) (count-le s.conv (bits_under model s.length) text v fits)) ∙ ap (with_padding p) (sym core))

@@ -4,6 +4,7 @@ use Rattle.std.specs.Prelude.{nat_abs, not, ◌&&◌, ◌⊎◌, if◌then◌els
 use Rattle.std.proofs.lemmas.Bool.Decides.{nat_tests}
 use Rattle.pf_values.specs.declared.flags.Flag.TheVariants.{Alt, Minus, Zero}
 use Rattle.pf_values.specs.declared.flags.FlagSet.{FlagSet}
+use Rattle.pf_values.specs.declared.models.Model.{Model}
 use Rattle.pf_values.specs.Conversions.{base_of, is_upper}
 use Rattle.pf_values.specs.Flags.{has, no_flags, with_flag}
 use Rattle.pf_values.specs.Normal.{effective_precision, precision_of}
@@ -38,9 +39,9 @@ unfilled : (left : Bool) (flags : FlagSet) (b : Bool) → has flags Zero ≡ fal
 unfilled true flags b h = rw h refl
 unfilled false flags b h = rw h refl
 
-pub core_text : (s : Specification) (p : Padding) (flags : FlagSet) (precision : ℕ) (v : ℤ) → has flags Zero ≡ false → let t : Specification = core_within s p flags (kept_precision precision) in value_text t v ≡ number_text t precision v
-core_text s p flags precision v h =
-    let t : Specification = core_within s p flags (kept_precision precision) in
+pub core_text : (model : Model) (s : Specification) (p : Padding) (flags : FlagSet) (precision : ℕ) (v : ℤ) → has flags Zero ≡ false → let t : Specification = core_within model s p flags (kept_precision precision) in value_text t v ≡ number_text t precision v
+core_text model s p flags precision v h =
+    let t : Specification = core_within model s p flags (kept_precision precision) in
     value_text-unfilled t v (unfilled p.left flags _ h) ∙ ap (λ k. number_text t k v) (written_is precision)
 
 -- one base, and one sign or prefix

@@ -8,6 +8,7 @@ use Rattle.pf_values.specs.declared.conversions.Kind.TheVariants as kinds
 use Rattle.pf_values.specs.declared.flags.Flag.TheVariants.{Alt, Minus, Plus, Space, Zero}
 use Rattle.pf_values.specs.declared.flags.FlagSet.{FlagSet}
 use Rattle.pf_values.specs.declared.limits.TheConstants.{MAX_NUMBER}
+use Rattle.pf_values.specs.declared.models.Model.{Model}
 use Rattle.pf_values.specs.Bases.{number_of, raises_precision}
 use Rattle.pf_values.specs.Conversions.{
   alternative_under,
@@ -132,33 +133,33 @@ no_sign signs.None h = refl
 no_sign signs.Plus h = absurd (omega arith)
 no_sign signs.Space h = absurd (omega arith)
 
-module _ (s : Specification) (signed : is_signed s.conv ≡ true) where
+module _ (model : Model) (s : Specification) (signed : is_signed s.conv ≡ true) where
   pub signed_reduced : (p : Padding) (sign : Sign) (precision : ℕ) → (is_zero_filled s ≡ true → (1 ≤ sign_length (sign_of s.flags)) ⊎ (width_of s ≤ 1)) → precision ≡ effective_precision s (sign_length (sign_of s.flags))
-      → IsNormalCore (result_within s p (sign_flags sign) (kept_precision precision)).core → constants p ≤ MAX_NUMBER
-      → ((v : ℤ) → count_of 10 (nat_abs v) ≤ digits_at_most s → with_padding (padding_of s) (signed_text (sign_of s.flags) precision v) ≡ with_padding p (signed_text sign precision v))
-      → IsReducedTo s (result_within s p (sign_flags sign) (kept_precision precision))
+      → IsNormalCore model (result_within model s p (sign_flags sign) (kept_precision precision)).core → constants p ≤ MAX_NUMBER
+      → ((v : ℤ) → count_of 10 (nat_abs v) ≤ digits_at_most model s → with_padding (padding_of s) (signed_text (sign_of s.flags) precision v) ≡ with_padding p (signed_text sign precision v))
+      → IsReducedTo model s (result_within model s p (sign_flags sign) (kept_precision precision))
   signed_reduced p sign precision narrow p_is normal few same =
-      let t : Specification = core_within s p (sign_flags sign) (kept_precision precision) in
+      let t : Specification = core_within model s p (sign_flags sign) (kept_precision precision) in
       let k = signed_kind (kind_of s.conv) signed in
       let text : is_text s.conv ≡ false = ap prints_text k in
       let flags = no_other_flag sign in
-      integer_reduced s p (sign_flags sign) (kept_precision precision) text flags.1 normal few (λ v fits.
+      integer_reduced model s p (sign_flags sign) (kept_precision precision) text flags.1 normal few (λ v fits.
       let core : value_text t v ≡ signed_text sign precision v =
-      core_text s p (sign_flags sign) precision v flags.0 ∙ number_text-signed t precision v (kept_sign s.conv ∙ signed) ∙ ap (λ u. signed_text u precision v) (sign_kept p.left sign) in
-      let count : count_of 10 (nat_abs v) ≤ digits_at_most s =
-      subst (λ k. count_of (number_of (base_under k)) (nat_abs v) ≤ digits_at_most s) k (count-le s.conv (bits_under s.length) text v fits) in
+      core_text model s p (sign_flags sign) precision v flags.0 ∙ number_text-signed t precision v (kept_sign s.conv ∙ signed) ∙ ap (λ u. signed_text u precision v) (sign_kept p.left sign) in
+      let count : count_of 10 (nat_abs v) ≤ digits_at_most model s =
+      subst (λ k. count_of (number_of (base_under k)) (nat_abs v) ≤ digits_at_most model s) k (count-le s.conv (bits_under model s.length) text v fits) in
       ap (with_padding (padding_of s)) (signed_value s v signed narrow ∙ ap (λ k. signed_text (sign_of s.flags) k v) (sym p_is)) ∙ same v count ∙ ap (with_padding p) (sym core))
 
   -- zeros up to the width, which stay
-  pub signed_filled : is_zero_filled s ≡ true → sign_length (sign_of s.flags) ≡ 0 → (let flags = with_flag no_flags Zero in IsNormalCore (result_within s (padding_of s) flags None).core → IsReducedTo s (result_within s (padding_of s) flags None))
+  pub signed_filled : is_zero_filled s ≡ true → sign_length (sign_of s.flags) ≡ 0 → (let flags = with_flag no_flags Zero in IsNormalCore model (result_within model s (padding_of s) flags None).core → IsReducedTo model s (result_within model s (padding_of s) flags None))
   signed_filled all none normal =
       let flags : FlagSet = with_flag no_flags Zero in
-      let t : Specification = core_within s (padding_of s) flags None in
+      let t : Specification = core_within model s (padding_of s) flags None in
       let right = filled_right s all in
       let text : is_text s.conv ≡ false = ap prints_text (signed_kind (kind_of s.conv) signed) in
       let same = kept_kind s.conv in
       let signed_core : is_signed t.conv ≡ true = kept_sign s.conv ∙ signed in
-      integer_reduced s (padding_of s) flags None text refl normal (omega arith) (λ v fits.
+      integer_reduced model s (padding_of s) flags None text refl normal (omega arith) (λ v fits.
       let front : sign_or_prefix t v ≡ sign_or_prefix s v =
       front-is t v signed_core ∙ ap (λ u. sign_text u (is_negative v)) (rw right refl ∙ sym (no_sign (sign_of s.flags) none)) ∙ sym (front-is s v signed) in
       let base : base_of t.conv ≡ base_of s.conv = ap (λ k. number_of (base_under k)) same in

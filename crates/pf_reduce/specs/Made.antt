@@ -2,6 +2,7 @@
 use Rattle.std.specs.Prelude.{if◌then◌else◌, Bool, ℕ, zero, suc, Option, Some, None}
 use Rattle.pf_values.specs.declared.flags.Flag.TheVariants.{Minus}
 use Rattle.pf_values.specs.declared.flags.FlagSet.{FlagSet}
+use Rattle.pf_values.specs.declared.models.Model.{Model}
 use Rattle.pf_values.specs.Conversions.{kept_conv}
 use Rattle.pf_values.specs.DataModel.{kept_length}
 use Rattle.pf_values.specs.Flags.{with_flag}
@@ -21,15 +22,16 @@ with_side left flags = if left then with_flag flags Minus else flags
 
 -- a directive with another width, other flags and another precision, and its letters as they are
 -- kept
-abbrev pub core_within : Specification → Padding → FlagSet → Option ℕ → Specification
-core_within s p flags precision =
-    specification_of (with_side p.left flags) (Some p.width) precision (kept_length s.length) (kept_conv s.conv)
+abbrev pub core_within : Model → Specification → Padding → FlagSet → Option ℕ → Specification
+core_within model s p flags precision =
+    specification_of (with_side p.left flags) (Some p.width) precision (kept_length model s.length)
+    (kept_conv s.conv)
 
 -- such a directive as a core, within the padding that is constant
-abbrev pub result_within : Specification → Padding → FlagSet → Option ℕ → Reduced
-result_within s p flags precision = record {
+abbrev pub result_within : Model → Specification → Padding → FlagSet → Option ℕ → Reduced
+result_within model s p flags precision = record {
   spaces = p.spaces;
   zeros = p.zeros;
-  core = Normal (core_within s p flags precision);
+  core = Normal (core_within model s p flags precision);
   trail = p.trail;
 }

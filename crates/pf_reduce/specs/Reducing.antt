@@ -2,6 +2,7 @@
 use Rattle.std.specs.Prelude.{◌≡◌, ◌≤◌, ◌+◌, ◌++◌, replicate, ◌↔◌, ⊤}
 use Rattle.pf_values.specs.declared.conversions.Conv.TheVariants.{S}
 use Rattle.pf_values.specs.declared.limits.TheConstants.{MAX_NUMBER}
+use Rattle.pf_values.specs.declared.models.Model.{Model}
 use Rattle.pf_values.specs.Arguments.{Argument, HasType}
 use Rattle.pf_values.specs.DataModel.{arg_type}
 use Rattle.pf_values.specs.Normal.{IsNormal, silent}
@@ -18,9 +19,9 @@ core_of (Normal s) = s
 core_of Silent = silent
 
 -- the core is normal, or `%.0s`
-abbrev pub IsNormalCore : Core → Type 0
-IsNormalCore (Normal s) = IsNormal s
-IsNormalCore Silent = ⊤
+abbrev pub IsNormalCore : Model → Core → Type 0
+IsNormalCore model (Normal s) = IsNormal model s
+IsNormalCore model Silent = ⊤
 
 -- a text within spaces, after zeros
 abbrev pub around : Reduced → Text → Text
@@ -28,17 +29,17 @@ around r inner =
     replicate r.spaces space ++ (replicate r.zeros zero_digit ++ (inner ++ replicate r.trail space))
 
 -- for every argument the directive prints the spaces, the zeros, what the core prints, the spaces
-abbrev pub PrintsReduced : Specification → Reduced → Type 0
-PrintsReduced s r =
-    (argument : Argument) (out : Text) → HasType argument (arg_type s)
-    → (Prints s argument out ↔ (
-    (inner : Text) × Prints (core_of r.core) argument inner × (out ≡ around r inner)))
+abbrev pub PrintsReduced : Model → Specification → Reduced → Type 0
+PrintsReduced model s r =
+    (argument : Argument) (out : Text) → HasType model argument (arg_type model s)
+    → (Prints model s argument out ↔ (
+    (inner : Text) × Prints model (core_of r.core) argument inner × (out ≡ around r inner)))
 
 -- the core is normal or `%.0s`, of the same type, and with its padding prints what the directive
 -- does
-pub record IsReducedTo (s : Specification) (r : Reduced) : Type 0 where
-  pub normal : IsNormalCore r.core
-  pub same_type : arg_type (core_of r.core) ≡ arg_type s
-  pub prints : PrintsReduced s r
+pub record IsReducedTo (model : Model) (s : Specification) (r : Reduced) : Type 0 where
+  pub normal : IsNormalCore model r.core
+  pub same_type : arg_type model (core_of r.core) ≡ arg_type model s
+  pub prints : PrintsReduced model s r
   pub silent : r.core ≡ Silent → (s.conv ≡ S) × (r.zeros ≡ 0) × (r.trail ≡ 0)
   pub few : r.spaces + (r.zeros + r.trail) ≤ MAX_NUMBER

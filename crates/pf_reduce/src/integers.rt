@@ -11,6 +11,7 @@ ghost use Rattle.pf_values.specs.Conversions.{
   kind_of,
 };
 ghost use Rattle.pf_values.specs.Flags.{has, no_flags, with_flag};
+ghost use Rattle.pf_values.specs.declared.models.Model.TheVariants.{Lp64};
 ghost use Rattle.pf_values.specs.Normal.{digits_at_most};
 ghost use Rattle.pf_values.specs.Printing.{is_zero_filled};
 ghost use Rattle.pf_values.specs.Specification.{width_of};
@@ -21,7 +22,7 @@ ghost use Rattle.pf_reduce.specs.Padded.{with_padding};
 ghost use Rattle.pf_reduce.specs.Reducing.{IsNormalCore, IsReducedTo};
 ghost use Rattle.pf_reduce.specs.Signs.{sign_flags, sign_length, sign_text};
 
-use crate::normal_directives::{within, kept_precision};
+use crate::normal_directives::{kept_precision, within};
 use crate::numbers::{max_digits, width};
 use crate::padding::Padding;
 use crate::results::Reduced;
@@ -33,7 +34,7 @@ pub(crate) fn reduce_unsigned(directive: &Directive, alternative: Alternative) -
     requires text { is_text directive.now.conv ≡ false }
     requires sign { is_signed directive.now.conv ≡ false }
     requires alternative { alternative ≡ alternative_under (kind_of directive.now.conv) }
-    ensures { IsReducedTo directive.now result }
+    ensures { IsReducedTo Lp64 directive.now result }
 {
     let alt = directive.flags().has(Flag::Alt);
     match alternative {
@@ -50,7 +51,7 @@ fn reduce_plain(directive: &Directive) -> Reduced
     requires text { is_text directive.now.conv ≡ false }
     requires sign { is_signed directive.now.conv ≡ false }
     requires alt { has directive.now.flags Alt ≡ false }
-    ensures { IsReducedTo directive.now result }
+    ensures { IsReducedTo Lp64 directive.now result }
 {
     let digits = max_digits(directive);
     let precision = directive.effective_precision(0);
@@ -67,7 +68,7 @@ fn reduce_plain(directive: &Directive) -> Reduced
 fn reduce_octal(directive: &Directive) -> Reduced
     requires octal { is_octal directive.now.conv ≡ true }
     requires alt { has directive.now.flags Alt ≡ true }
-    ensures { IsReducedTo directive.now result }
+    ensures { IsReducedTo Lp64 directive.now result }
 {
     let digits = max_digits(directive);
     let precision = directive.effective_precision(0).max(1);
@@ -88,7 +89,7 @@ fn reduce_octal(directive: &Directive) -> Reduced
 fn reduce_prefixed(directive: &Directive) -> Reduced
     requires prefixed { is_prefixed directive.now.conv ≡ true }
     requires alt { has directive.now.flags Alt ≡ true }
-    ensures { IsReducedTo directive.now result }
+    ensures { IsReducedTo Lp64 directive.now result }
 {
     if keeps_zeros(directive, 0) {
         let flags = FlagSet::empty().with(Flag::Alt).with(Flag::Zero);
@@ -105,7 +106,7 @@ fn reduce_prefixed(directive: &Directive) -> Reduced
 /// `d i`: digits after a sign.
 pub(crate) fn reduce_signed(directive: &Directive) -> Reduced
     requires { is_signed directive.now.conv ≡ true }
-    ensures { IsReducedTo directive.now result }
+    ensures { IsReducedTo Lp64 directive.now result }
 {
     let sign = Sign::of(directive.flags());
     if keeps_zeros(directive, sign.len()) {
@@ -128,14 +129,20 @@ pub(crate) fn reduce_signed(directive: &Directive) -> Reduced
 fn plain_core(padding: Padding, directive: &Directive, precision: u16) -> Reduced
     requires text { is_text directive.now.conv ≡ false }
     requires sign { is_signed directive.now.conv ≡ false }
-    requires few { precision ≤ digits_at_most directive.now }
+    requires few { precision ≤ digits_at_most Lp64 directive.now }
     requires room { 0 < padding.width
-        → (precision < padding.width) × (padding.width ≤ digits_at_most directive.now) }
+        → (precision < padding.width) × (padding.width ≤ digits_at_most Lp64 directive.now) }
     requires wide { IsTrue padding.left → 1 < padding.width }
-    ensures value { result ≡ result_within directive.now padding no_flags (kept_precision precision) }
-    ensures normal { IsNormalCore result.core }
+    ensures value { result
+        ≡ result_within Lp64 directive.now padding no_flags (kept_precision precision) }
+    ensures normal { IsNormalCore Lp64 result.core }
 {
-    within(padding, directive, FlagSet::empty(), kept_precision(precision))
+    within(
+        padding,
+        directive,
+        FlagSet::empty(),
+        kept_precision(precision),
+    )
 }
 
 // Digits after a prefix, not filled with zeros.
@@ -143,12 +150,13 @@ fn prefixed_core(padding: Padding, directive: &Directive, precision: u16) -> Red
     requires prefixed { is_prefixed directive.now.conv ≡ true }
     requires limit { (padding.width ≤ MAX_NUMBER) × (precision ≤ MAX_NUMBER) }
     requires least { 0 < padding.width → precision < padding.width }
-    requires most { padding.width ≤ 2 + max precision (digits_at_most directive.now) }
+    requires most { padding.width ≤ 2 + max precision (digits_at_most Lp64 directive.now) }
     requires left { padding.left ≡ true
         → (0 < padding.width) × (precision ≡ 0 → 3 < padding.width) }
     ensures value { result
-        ≡ result_within directive.now padding (with_flag no_flags Alt) (kept_precision precision) }
-    ensures normal { IsNormalCore result.core }
+        ≡ result_within Lp64 directive.now padding (with_flag no_flags Alt)
+        (kept_precision precision) }
+    ensures normal { IsNormalCore Lp64 result.core }
 {
     let alt = FlagSet::empty().with(Flag::Alt);
     within(padding, directive, alt, kept_precision(precision))
@@ -159,16 +167,17 @@ fn signed_core(padding: Padding, directive: &Directive, sign: Sign, precision: u
     requires signed { is_signed directive.now.conv ≡ true }
     requires limit { (padding.width ≤ MAX_NUMBER) × (precision ≤ MAX_NUMBER) }
     requires least { 0 < padding.width → sign_length sign + precision < padding.width }
-    requires most { padding.width ≤ 1 + max precision (digits_at_most directive.now) }
+    requires most { padding.width ≤ 1 + max precision (digits_at_most Lp64 directive.now) }
     requires space { padding.left ≡ false → sign ≡ signs.Space
-        → padding.width ≢ 1 + max precision (digits_at_most directive.now) }
+        → padding.width ≢ 1 + max precision (digits_at_most Lp64 directive.now) }
     requires none { padding.left ≡ false → sign ≡ signs.None
-        → digits_at_most directive.now ≤ precision
-        → padding.width ≢ 1 + max precision (digits_at_most directive.now) }
+        → digits_at_most Lp64 directive.now ≤ precision
+        → padding.width ≢ 1 + max precision (digits_at_most Lp64 directive.now) }
     requires left { padding.left ≡ true → (0 < padding.width)
         × (sign ≢ signs.Plus → precision ≡ 0 → sign_length sign + 1 < padding.width) }
-    ensures value { result ≡ result_within directive.now padding (sign_flags sign) (kept_precision precision) }
-    ensures normal { IsNormalCore result.core }
+    ensures value { result
+        ≡ result_within Lp64 directive.now padding (sign_flags sign) (kept_precision precision) }
+    ensures normal { IsNormalCore Lp64 result.core }
 {
     within(padding, directive, sign.flags(), kept_precision(precision))
 }

@@ -1,6 +1,7 @@
 //! Normal directives made of their parts.
 ghost use Rattle.std.specs.Prelude.{◌≡◌};
 ghost use Rattle.pf_values.specs.Defined.{IsDefined};
+ghost use Rattle.pf_values.specs.declared.models.Model.TheVariants.{Lp64};
 ghost use Rattle.pf_values.specs.Normal.{IsNormal};
 ghost use Rattle.pf_values.specs.Specification.{specification_of};
 ghost use Rattle.pf_reduce.specs.Made.{result_within, core_within, kept_precision};
@@ -33,9 +34,9 @@ pub(crate) fn within(
     flags: FlagSet,
     precision: Option<u16>,
 ) -> Reduced
-    requires { IsNormal (core_within directive.now padding flags precision) }
-    ensures value { result ≡ result_within directive.now padding flags precision }
-    ensures normal { IsNormalCore result.core }
+    requires { IsNormal Lp64 (core_within Lp64 directive.now padding flags precision) }
+    ensures value { result ≡ result_within Lp64 directive.now padding flags precision }
+    ensures normal { IsNormalCore Lp64 result.core }
 {
     let flags = if padding.left {
         flags.with(Flag::Minus)

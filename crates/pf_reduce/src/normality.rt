@@ -1,6 +1,7 @@
 //! Which directives are normal.
 ghost use Rattle.std.specs.Prelude.{◌≡◌, ◌↔◌, IsTrue};
 ghost use Rattle.pf_values.specs.Defined.{IsDefined};
+ghost use Rattle.pf_values.specs.declared.models.Model.TheVariants.{Lp64};
 ghost use Rattle.pf_values.specs.Normal.{
   IsNormal,
   IsNormalString,
@@ -22,13 +23,13 @@ use pf_values::{Alternative, Directive, Flag, FlagSet, Kind};
 
 /// Whether a directive is normal. `reduce` leaves a normal directive as it is.
 pub fn is_normal(directive: &Directive) -> bool
-    ensures { IsTrue result ↔ IsNormal directive.now }
+    ensures { IsTrue result ↔ IsNormal Lp64 directive.now }
 {
     has_normal_parts(directive) && has_normal_form(directive)
 }
 
 fn has_normal_parts(directive: &Directive) -> bool
-    ensures parts { IsTrue result ↔ HasNormalParts directive.now }
+    ensures parts { IsTrue result ↔ HasNormalParts Lp64 directive.now }
     ensures defined { IsDefined directive.now }
 {
     let flags = directive.flags();
@@ -48,7 +49,7 @@ fn has_normal_parts(directive: &Directive) -> bool
 }
 
 fn has_normal_form(directive: &Directive) -> bool
-    ensures { IsTrue result ↔ HasNormalForm (kind_of directive.now.conv) directive.now }
+    ensures { IsTrue result ↔ HasNormalForm Lp64 (kind_of directive.now.conv) directive.now }
 {
     match directive.conv().kind() {
         Kind::Signed => has_signed_form(directive),
@@ -59,7 +60,7 @@ fn has_normal_form(directive: &Directive) -> bool
 }
 
 fn has_signed_form(directive: &Directive) -> bool
-    ensures { IsTrue result ↔ HasSignedForm directive.now }
+    ensures { IsTrue result ↔ HasSignedForm Lp64 directive.now }
 {
     if directive.flags().has(Flag::Zero) {
         return is_normal_filled(directive) && sign_len(directive) == 0;
@@ -68,7 +69,7 @@ fn has_signed_form(directive: &Directive) -> bool
 }
 
 fn has_unsigned_form(directive: &Directive, alternative: Alternative) -> bool
-    ensures { IsTrue result ↔ HasUnsignedForm alternative directive.now }
+    ensures { IsTrue result ↔ HasUnsignedForm Lp64 alternative directive.now }
 {
     let alt = directive.flags().has(Flag::Alt);
     let zero = directive.flags().has(Flag::Zero);
@@ -106,7 +107,7 @@ fn is_normal_string(directive: &Directive) -> bool
 }
 
 fn is_normal_plain(directive: &Directive) -> bool
-    ensures { IsTrue result ↔ IsNormalPlain directive.now }
+    ensures { IsTrue result ↔ IsNormalPlain Lp64 directive.now }
 {
     let width = width(directive);
     let precision = precision(directive);
@@ -124,7 +125,7 @@ fn is_normal_plain(directive: &Directive) -> bool
 }
 
 fn is_normal_octal(directive: &Directive) -> bool
-    ensures { IsTrue result ↔ IsNormalOctal directive.now }
+    ensures { IsTrue result ↔ IsNormalOctal Lp64 directive.now }
 {
     let width = width(directive);
     let precision = precision(directive);
@@ -142,7 +143,7 @@ fn is_normal_filled(directive: &Directive) -> bool
 }
 
 fn is_normal_prefixed(directive: &Directive) -> bool
-    ensures { IsTrue result ↔ IsNormalPrefixed directive.now }
+    ensures { IsTrue result ↔ IsNormalPrefixed Lp64 directive.now }
 {
     let width = width(directive);
     let precision = precision(directive);
@@ -156,7 +157,7 @@ fn is_normal_prefixed(directive: &Directive) -> bool
 }
 
 fn is_normal_signed(directive: &Directive) -> bool
-    ensures { IsTrue result ↔ IsNormalSigned directive.now }
+    ensures { IsTrue result ↔ IsNormalSigned Lp64 directive.now }
 {
     let plus = directive.flags().has(Flag::Plus);
     let space = directive.flags().has(Flag::Space);

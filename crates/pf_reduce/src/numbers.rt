@@ -1,6 +1,7 @@
 //! The numbers of a directive that reduction rests on.
 ghost use Rattle.std.specs.Prelude.{◌≡◌, ◌≤◌};
 ghost use Rattle.pf_values.specs.declared.limits.TheConstants.{MAX_NUMBER};
+ghost use Rattle.pf_values.specs.declared.models.Model.TheVariants.{Lp64};
 ghost use Rattle.pf_values.specs.Normal.{digits_at_most, longest, precision_of, sign_len};
 ghost use Rattle.pf_values.specs.Specification.{width_of};
 
@@ -25,7 +26,7 @@ pub(crate) fn precision(directive: &Directive) -> u16
 
 /// The most digits that the value has.
 pub(crate) fn max_digits(directive: &Directive) -> u16
-    ensures value { result ≡ digits_at_most directive.now }
+    ensures value { result ≡ digits_at_most Lp64 directive.now }
     ensures limit { result ≤ 255 }
 {
     u16::from(directive.max_digits())
@@ -33,7 +34,7 @@ pub(crate) fn max_digits(directive: &Directive) -> u16
 
 /// The most digits that are printed.
 pub(crate) fn longest(directive: &Directive) -> u16
-    ensures value { result ≡ longest directive.now }
+    ensures value { result ≡ longest Lp64 directive.now }
     ensures limit { result ≤ MAX_NUMBER }
 {
     precision(directive).max(max_digits(directive))

@@ -38,7 +38,8 @@ impl Padding {
     /// Where at most so many bytes are printed, the spaces beyond them are constant.
     pub(crate) fn cut(self, most: u16) -> Padding
         requires { (self.spaces ≡ 0) × (self.zeros ≡ 0) × (self.trail ≡ 0) }
-        ensures same { (body : Text) → length body ≤ most → with_padding self body ≡ with_padding result body }
+        ensures same { (body : Text) → length body ≤ most
+            → with_padding self body ≡ with_padding result body }
         ensures constant { constants result ≡ self.width - most }
         ensures left { result.left ≡ self.left }
         ensures width { result.width ≡ min self.width most }
@@ -62,7 +63,8 @@ impl Padding {
 
     /// Where at least so many bytes are printed, a width of no more is none.
     pub(crate) fn without_idle_width(self, least: u16) -> Padding
-        ensures same { (body : Text) → least ≤ length body → with_padding self body ≡ with_padding result body }
+        ensures same { (body : Text) → least ≤ length body
+            → with_padding self body ≡ with_padding result body }
         ensures constant { constants result ≡ constants self }
         ensures left { result.left ≡ self.left }
         ensures idle { self.width ≤ least → result.width ≡ 0 }

@@ -1,5 +1,6 @@
 //! Reduction of a directive.
 ghost use Rattle.std.specs.Prelude.{◌≡◌};
+ghost use Rattle.pf_values.specs.declared.models.Model.TheVariants.{Lp64};
 ghost use Rattle.pf_values.specs.Normal.{IsNormal, silent};
 ghost use Rattle.pf_reduce.specs.Reducing.{IsReducedTo};
 
@@ -13,8 +14,8 @@ use pf_values::{Directive, Kind};
 /// to 8), for each argument of its type. A normal directive is its own core, and `%.0s` is
 /// `Silent`.
 pub fn reduce(directive: &Directive) -> Reduced
-    ensures same { IsReducedTo directive.now result }
-    ensures kept { IsNormal directive.now
+    ensures same { IsReducedTo Lp64 directive.now result }
+    ensures kept { IsNormal Lp64 directive.now
         → result ≡ record { spaces = 0; zeros = 0; core = Core.Normal directive.now; trail = 0 } }
     ensures silent { directive.now ≡ silent
         → result ≡ record { spaces = 0; zeros = 0; core = Core.Silent; trail = 0 } }

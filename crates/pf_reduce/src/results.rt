@@ -11,13 +11,14 @@ pub struct Normal {
 
 impl Model for Normal {
     ghost use Rattle.pf_values.specs.Specification.{Specification};
+    ghost use Rattle.pf_values.specs.declared.models.Model.TheVariants.{Lp64};
     ghost use Rattle.pf_values.specs.Normal.{IsNormal};
 
     ghost Value = { Specification };
 
     ghost view = { λ n. n.directive };
 
-    ghost invariant = { λ n. IsNormal n.directive };
+    ghost invariant = { λ n. IsNormal Lp64 n.directive };
 
     ghost inverse = { λ n. record { directive = n } };
 }
@@ -47,18 +48,19 @@ pub struct Reduced {
 
 impl Normal {
     ghost use Rattle.std.specs.Prelude.{◌≡◌};
+    ghost use Rattle.pf_values.specs.declared.models.Model.TheVariants.{Lp64};
     ghost use Rattle.pf_values.specs.Normal.{IsNormal};
 
     /// The directive.
     pub fn directive(&self) -> Directive
         ensures value { result ≡ self.now }
-        ensures normal { IsNormal self.now }
+        ensures normal { IsNormal Lp64 self.now }
     {
         self.directive
     }
 
     pub(crate) fn new(directive: Directive) -> Normal
-        requires { IsNormal directive }
+        requires { IsNormal Lp64 directive }
         ensures { result ≡ directive }
     {
         Normal { directive }

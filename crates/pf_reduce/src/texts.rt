@@ -5,6 +5,7 @@ ghost use Rattle.pf_values.specs.Printing.{printed_front};
 ghost use Rattle.pf_values.specs.Specification.{width_of};
 ghost use Rattle.pf_values.specs.Text.{Text};
 ghost use Rattle.pf_reduce.specs.Padded.{constants, with_padding};
+ghost use Rattle.pf_values.specs.declared.models.Model.TheVariants.{Lp64};
 ghost use Rattle.pf_reduce.specs.Reducing.{IsReducedTo};
 
 use crate::normal_directives::within;
@@ -16,7 +17,7 @@ use pf_values::{Directive, FlagSet};
 /// `c`: one byte.
 pub(crate) fn reduce_char(directive: &Directive) -> Reduced
     requires { directive.now.conv ≡ C }
-    ensures { IsReducedTo directive.now result }
+    ensures { IsReducedTo Lp64 directive.now result }
 {
     let padding = Padding::of(directive)
         .cut(1)
@@ -28,7 +29,7 @@ pub(crate) fn reduce_char(directive: &Directive) -> Reduced
 /// `s`: bytes, no more than the precision says.
 pub(crate) fn reduce_string(directive: &Directive) -> Reduced
     requires { directive.now.conv ≡ S }
-    ensures same { IsReducedTo directive.now result }
+    ensures same { IsReducedTo Lp64 directive.now result }
     ensures silent { directive.now.precision ≡ Some 0
         → result ≡ record {
           spaces = width_of directive.now;
@@ -54,7 +55,8 @@ pub(crate) fn reduce_string(directive: &Directive) -> Reduced
 fn cut_string(padding: Padding, precision: Option<u16>) -> Padding
     requires { (padding.spaces ≡ 0) × (padding.zeros ≡ 0) × (padding.trail ≡ 0) }
     ensures same { (bytes : Text)
-        → with_padding padding (printed_front precision bytes) ≡ with_padding result (printed_front precision bytes) }
+        → with_padding padding (printed_front precision bytes)
+        ≡ with_padding result (printed_front precision bytes) }
     ensures constant { constants result ≤ padding.width }
     ensures narrower { result.width ≤ padding.width }
     ensures width { IfSome precision (λ most. result.width ≤ most) }

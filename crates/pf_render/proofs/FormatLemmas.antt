@@ -3,6 +3,7 @@ use Rattle.std.proofs.Common.{◌≡◌, ℕ, suc, ◌+◌, ◌*◌, ◌^◌, �
 use Rattle.std.proofs.lemmas.List.{append-nil, append_assoc, append_cancel_left, length-append}
 use Rattle.pf_values.specs.declared.arguments.Arg.{Arg}
 use Rattle.pf_values.specs.declared.counting.Counted.{Counted}
+use Rattle.pf_values.specs.declared.models.Model.{Model}
 use Rattle.pf_values.specs.Arguments.{HasTypes}
 use Rattle.pf_values.specs.Counting.{Known, WritesAll}
 use Rattle.pf_values.specs.Items.{Item, Byte, Reads, types}
@@ -26,34 +27,34 @@ use Rattle.pf_render.proofs.PrintingLemmas.{PrintsAll-exists, PrintsAll-unique}
 use Rattle.pf_render.proofs.ProgressLemmas.{IsPrinting, all_written, arguments, nothing_yet, wrote_on}
 
 -- an accepted text takes these arguments
-module _ (t : Text) (args : List Arg) (h : TakesArguments t args) where
+module _ (model : Model) (t : Text) (args : List Arg) (h : TakesArguments model t args) where
   module _ (items : List Item) (reads : Reads t items) where
     same_items : items ≡ h.takes.items
     same_items = Reads-unique t items h.takes.items reads h.takes.accepted.reads
 
-    pub typed_items : HasTypes (arguments args) (types items)
-    typed_items = subst (HasTypes (arguments args)) (h.takes.types_are ∙ ap types (sym same_items)) h.typed
+    pub typed_items : HasTypes model (arguments args) (types model items)
+    typed_items = subst (HasTypes model (arguments args)) (h.takes.types_are ∙ ap (types model) (sym same_items)) h.typed
 
-    pub renders_items : (out : Text) → PrintsAll items (arguments args) out → Renders t args out
+    pub renders_items : (out : Text) → PrintsAll model items (arguments args) out → Renders model t args out
     renders_items out prints =
-        let here = subst (λ i. PrintsAll i (arguments args) out) same_items prints in
-        let typed = subst (λ i. HasTypes (arguments args) (types i)) same_items typed_items in
-        record { takes = h.takes; prints = here; only = λ other g. PrintsAll-unique h.takes.items (arguments args) out other typed here g }
+        let here = subst (λ i. PrintsAll model i (arguments args) out) same_items prints in
+        let typed = subst (λ i. HasTypes model (arguments args) (types model i)) same_items typed_items in
+        record { takes = h.takes; prints = here; only = λ other g. PrintsAll-unique model h.takes.items (arguments args) out other typed here g }
 
   -- it prints something
-  pub renders : (out : Text) × Renders t args out
+  pub renders : (out : Text) × Renders model t args out
   renders =
-      let out = PrintsAll-exists h.takes.items (arguments args)
+      let out = PrintsAll-exists model h.takes.items (arguments args)
       (typed_items h.takes.items h.takes.accepted.reads) in
       (out.0, renders_items h.takes.items h.takes.accepted.reads out.0 out.1)
 
   -- all its parts are kept
   module _ (kept : Kept) (k : KeepsAll kept t) (whole : kept.is_whole ≡ true) where
-    pub typed_parts : HasTypes (arguments args) (types (items_of_parts kept.parts.items))
-    typed_parts = subst (λ i. HasTypes (arguments args) (types i)) (sym (k.2.same whole)) (typed_items k.0 k.1)
+    pub typed_parts : HasTypes model (arguments args) (types model (items_of_parts kept.parts.items))
+    typed_parts = subst (λ i. HasTypes model (arguments args) (types model i)) (sym (k.2.same whole)) (typed_items k.0 k.1)
 
-    pub renders_parts : (out : Text) → PrintsAll (items_of_parts kept.parts.items) (arguments args) out → Renders t args out
-    renders_parts out prints = renders_items k.0 k.1 out (subst (λ i. PrintsAll i (arguments args) out) (k.2.same whole) prints)
+    pub renders_parts : (out : Text) → PrintsAll model (items_of_parts kept.parts.items) (arguments args) out → Renders model t args out
+    renders_parts out prints = renders_items k.0 k.1 out (subst (λ i. PrintsAll model i (arguments args) out) (k.2.same whole) prints)
 
 -- the part that comes next, and those behind it
 pub next_part : (parts : List Part) (n : ℕ) (part : Part) → n < length parts → part ≡ get_or parts n part → items_of_parts (drop n parts) ≡ items_of_part part ++ items_of_parts (drop (n + 1) parts)
@@ -69,23 +70,23 @@ some_items (pieces.Literal run) read rest h = go run.now h.some where
 some_items pieces.Percent read rest h = omega arith
 some_items (pieces.Directive d) read rest h = omega arith
 
-module _ {W : Type 0} (contents : W → Known) (old : Counted W) (t : Text) (args : List Arg) where
+module _ (model : Model) {W : Type 0} (contents : W → Known) (old : Counted W) (t : Text) (args : List Arg) where
   -- The pieces so far were written, for the first arguments. What is printed is that, and what the others print.
   pub record IsUnderWay (now : Counted W) (pieces : Pieces) (progress : Progress) : Type 0 where
     pub out : Text
-    pub renders : Renders t args out
+    pub renders : Renders model t args out
     pub read : Text
     pub items : List Item
     pub others : List Item
     pub given : HasGiven pieces t read items
     pub whole : renders.takes.items ≡ items ++ others
     pub few : progress.written ≤ length items * 2 ^ 64
-    pub printing : IsPrinting contents old args out now progress others
+    pub printing : IsPrinting model contents old args out now progress others
 
-module _ {W : Type 0} {contents : W → Known} {old : Counted W} {t : Text} {args : List Arg} where
-  pub under_way : (pieces : Pieces) (progress : Progress) → TakesArguments t args → HasGiven pieces t [] [] → (progress.taken ≡ 0) × (progress.written ≡ 0) → IsUnderWay contents old t args old pieces progress
+module _ (model : Model) {W : Type 0} {contents : W → Known} {old : Counted W} {t : Text} {args : List Arg} where
+  pub under_way : (pieces : Pieces) (progress : Progress) → TakesArguments model t args → HasGiven pieces t [] [] → (progress.taken ≡ 0) × (progress.written ≡ 0) → IsUnderWay model contents old t args old pieces progress
   under_way pieces progress h g none =
-      let r = renders t args h in
+      let r = renders model t args h in
       record {
         out = r.0;
         renders = r.1;
@@ -95,23 +96,23 @@ module _ {W : Type 0} {contents : W → Known} {old : Counted W} {t : Text} {arg
         given = g;
         whole = refl;
         few = omega (arith, none.1);
-        printing = nothing_yet progress r.1.takes.items none
-            (typed_items t args h r.1.takes.items r.1.takes.accepted.reads) r.1.prints;
+        printing = nothing_yet model progress r.1.takes.items none
+            (typed_items model t args h r.1.takes.items r.1.takes.accepted.reads) r.1.prints;
       }
 
-  module _ {now : Counted W} {before : Pieces} {progress : Progress} (h : IsUnderWay contents old t args now before progress) where
+  module _ {now : Counted W} {before : Pieces} {progress : Progress} (h : IsUnderWay model contents old t args now before progress) where
     -- so many bytes are few enough to be counted
     pub counts : progress.written + 2 ^ 64 ≤ 2 ^ 128
     counts = omega (arith, h.few, length_items h.read h.items h.given.reads, h.given.scanned.limit)
 
     -- what a format prints has been written
-    pub text_written : {new : Pieces} → Gives before None new → RendersTo t args (λ out. WritesAll contents old now out)
+    pub text_written : {new : Pieces} → Gives before None new → RendersTo model t args (λ out. WritesAll contents old now out)
     text_written steps =
         let end = steps.next t h.read h.items h.given in
         let same : h.items ++ h.others ≡ h.items ++ [] = sym h.whole
         ∙ Reads-unique t h.renders.takes.items h.items h.renders.takes.accepted.reads end.reads
         ∙ sym (append-nil h.items) in
-        (h.out, h.renders, all_written h.printing (append_cancel_left h.items h.others [] same))
+        (h.out, h.renders, all_written model h.printing (append_cancel_left h.items h.others [] same))
 
     module _ {new : Pieces} {r : Result Piece Refusal} (steps : Gives before (Some r) new) where
       -- an accepted text isn't refused
@@ -137,8 +138,8 @@ module _ {W : Type 0} {contents : W → Known} {old : Counted W} {t : Text} {arg
         pub others_are : h.others ≡ items_of_part part ++ later
         others_are = append_cancel_left h.items h.others (items_of piece ++ later) (sym h.whole ∙ all_items.1 ∙ append_assoc h.items (items_of piece) later) ∙ ap (λ i. i ++ later) (sym same)
 
-        pub piece_written : (after : Progress) (writer : Counted W) (text : Text) → PrintsAll (items_of_part part) (next_arguments progress part args) text → WritesOn contents now writer progress after text (arity part)
-            → IsUnderWay contents old t args writer new after
+        pub piece_written : (after : Progress) (writer : Counted W) (text : Text) → PrintsAll model (items_of_part part) (next_arguments model progress part args) text → WritesOn contents now writer progress after text (arity model part)
+            → IsUnderWay model contents old t args writer new after
         piece_written after writer text prints w =
             record {
               out = h.out;
@@ -149,5 +150,5 @@ module _ {W : Type 0} {contents : W → Known} {old : Counted W} {t : Text} {arg
               given = piece_given.given;
               whole = all_items.1;
               few = omega (arith, h.few, w.small, w.written, length-append h.items (items_of piece), some_items piece _ _ piece_given.whole);
-              printing = wrote_on h.printing part later others_are writer after text prints w;
+              printing = wrote_on model h.printing part later others_are writer after text prints w;
             }

@@ -10,6 +10,7 @@ use Rattle.pf_values.specs.declared.conversions.Conv.TheVariants.{O}
 use Rattle.pf_values.specs.declared.conversions.Kind.{Kind}
 use Rattle.pf_values.specs.declared.conversions.Kind.TheVariants as kinds
 use Rattle.pf_values.specs.declared.flags.Flag.TheVariants.{Alt}
+use Rattle.pf_values.specs.declared.models.Model.{Model}
 use Rattle.pf_values.specs.Arguments.{Number, IsValue}
 use Rattle.pf_values.specs.Bases.{number_of}
 use Rattle.pf_values.specs.Conversions.{
@@ -81,14 +82,14 @@ written s v = sign_or_prefix s v ++ (replicate (zeros_for s (length (sign_or_pre
 written_is : (s : Specification) (v : ℤ) → written s v ≡ value_text s v
 written_is s v = ap (λ t. sign_or_prefix s v ++ t) (ap (λ k. replicate k zero_digit ++ glyphs s (nat_abs v)) (zeros_is s v) ∙ sym (printed_digits-is s (printed_precision s v) (nat_abs v)))
 
-under_number : (k : Kind) (s : Specification) (a : ℤ) (body : Text) → IsFalse (prints_text k)
-    → PrintsNumber s a body → PrintsKind k s (Number a) body
-under_number kinds.Signed s a body e h = h
-under_number (kinds.Unsigned base capitals) s a body e h = h
-under_number kinds.Char s a body e h = cc
-under_number kinds.String s a body e h = cc
+under_number : (model : Model) (k : Kind) (s : Specification) (a : ℤ) (body : Text) → IsFalse (prints_text k)
+    → PrintsNumber model s a body → PrintsKind model k s (Number a) body
+under_number model kinds.Signed s a body e h = h
+under_number model (kinds.Unsigned base capitals) s a body e h = h
+under_number model kinds.Char s a body e h = cc
+under_number model kinds.String s a body e h = cc
 
 -- the sign or prefix, the zeros and the digits, in the field
-pub Prints-written : (s : Specification) (a v : ℤ) (sign zeros digits : Text) → IsFalse (is_text s.conv) → IsValue s a v → sign ≡ sign_or_prefix s v → digits ≡ glyphs s (nat_abs v) → zeros ≡ replicate (zeros_for s (length sign) (length digits)) zero_digit
-    → Prints s (Number a) (field s (sign ++ (zeros ++ digits)))
-Prints-written s a v sign zeros digits e h f g k = (sign ++ (zeros ++ digits), under_number (kind_of s.conv) s a _ e (rw (k, f, g, written_is) (PrintsNumber-value s a v h)), refl)
+pub Prints-written : (model : Model) (s : Specification) (a v : ℤ) (sign zeros digits : Text) → IsFalse (is_text s.conv) → IsValue model s a v → sign ≡ sign_or_prefix s v → digits ≡ glyphs s (nat_abs v) → zeros ≡ replicate (zeros_for s (length sign) (length digits)) zero_digit
+    → Prints model s (Number a) (field s (sign ++ (zeros ++ digits)))
+Prints-written model s a v sign zeros digits e h f g k = (sign ++ (zeros ++ digits), under_number model (kind_of s.conv) s a _ e (rw (k, f, g, written_is) (PrintsNumber-value model s a v h)), refl)

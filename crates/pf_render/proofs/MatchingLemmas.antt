@@ -6,6 +6,7 @@ use Rattle.std.proofs.lemmas.Bool.{cases_lt}
 use Rattle.std.proofs.lemmas.List.{append-nil, length_push, take_all, take-map, take-append-le}
 use Rattle.pf_values.specs.declared.arguments.Arg.{Arg}
 use Rattle.pf_values.specs.declared.limits.TheConstants.{MAX_TEXT_LEN}
+use Rattle.pf_values.specs.declared.models.Model.{Model}
 use Rattle.pf_values.specs.declared.types.ArgType.{ArgType}
 use Rattle.pf_values.specs.Arg.{argument_of, type_of}
 use Rattle.pf_values.specs.Arguments.{HasTypes}
@@ -28,28 +29,28 @@ use Rattle.pf_render.specs.Matching.{IsOfType, IsOfTypeAt, TakesArguments, Talli
 use Rattle.pf_render.specs.Rendering.{HasWrongType}
 use Rattle.pf_render.proofs.ItemLemmas.{length_items}
 
-abbrev pub Match : List Arg → List ArgType → Type 0
-Match args types = AllZip IsOfType args types
+abbrev pub Match : Model → List Arg → List ArgType → Type 0
+Match model args types = AllZip (IsOfType model) args types
 
-types_matched : (args : List Arg) (types : List ArgType) → Match args types → map type_of args ≡ types
-types_matched [] [] h = refl
-types_matched [] (type ∷ types) h = absurd h
-types_matched (a ∷ args) [] h = absurd h
-types_matched (a ∷ args) (type ∷ types) h = let first = h.0.same in let rest = types_matched args types h.1 in cc
+types_matched : (model : Model) (args : List Arg) (types : List ArgType) → Match model args types → map type_of args ≡ types
+types_matched model [] [] h = refl
+types_matched model [] (type ∷ types) h = absurd h
+types_matched model (a ∷ args) [] h = absurd h
+types_matched model (a ∷ args) (type ∷ types) h = let first = h.0.same in let rest = types_matched model args types h.1 in cc
 
-typed_matched : (args : List Arg) (types : List ArgType) → Match args types → HasTypes (map argument_of args) types
-typed_matched [] [] h = tt
-typed_matched [] (type ∷ types) h = absurd h
-typed_matched (a ∷ args) [] h = absurd h
-typed_matched (a ∷ args) (type ∷ types) h = (h.0.typed, typed_matched args types h.1)
+typed_matched : (model : Model) (args : List Arg) (types : List ArgType) → Match model args types → HasTypes model (map argument_of args) types
+typed_matched model [] [] h = tt
+typed_matched model [] (type ∷ types) h = absurd h
+typed_matched model (a ∷ args) [] h = absurd h
+typed_matched model (a ∷ args) (type ∷ types) h = (h.0.typed, typed_matched model args types h.1)
 
 -- one more argument is of the type that comes next
-match_more : (args : List Arg) (types : List ArgType) (type : ArgType) (arg : Arg) → Match (take (length types) args) types → slice_get args (length types) ≡ Some arg → IsOfType arg type
-    → Match (take (length (types ++ type ∷ [])) args) (types ++ type ∷ [])
-match_more [] [] type arg h e g = cc
-match_more (a ∷ args) [] type arg h e g = let same : arg ≡ a = cc in (subst (λ x. IsOfType x type) same g, tt)
-match_more [] (t ∷ types) type arg h e g = absurd h
-match_more (a ∷ args) (t ∷ types) type arg h e g = (h.0, match_more args types type arg h.1 e g)
+match_more : (model : Model) (args : List Arg) (types : List ArgType) (type : ArgType) (arg : Arg) → Match model (take (length types) args) types → slice_get args (length types) ≡ Some arg → IsOfType model arg type
+    → Match model (take (length (types ++ type ∷ [])) args) (types ++ type ∷ [])
+match_more model [] [] type arg h e g = cc
+match_more model (a ∷ args) [] type arg h e g = let same : arg ≡ a = cc in (subst (λ x. IsOfType model x type) same g, tt)
+match_more model [] (t ∷ types) type arg h e g = absurd h
+match_more model (a ∷ args) (t ∷ types) type arg h e g = (h.0, match_more model args types type arg h.1 e g)
 
 get_push : (types : List ArgType) (type : ArgType) → slice_get (types ++ type ∷ []) (length types) ≡ Some type
 get_push [] type = refl
@@ -67,76 +68,76 @@ wrong_still args types type matched wanted h e within other = elim (cases_lt mat
   | inr most ↦ λ same. let here : matched ≡ length types = omega arith in other (here ∙ sym e) (same ∙ ap (slice_get (types ++ type ∷ [])) here ∙ get_push types type)
 ]
 
-no_types : (piece : Piece) → ((d : Specification) → piece ≡ pieces.Directive d → ⊥) → types (items_of piece) ≡ []
-no_types (pieces.Literal run) other = types-bytes run.now
-no_types pieces.Percent other = refl
-no_types (pieces.Directive d) other = absurd (other d refl)
+no_types : (model : Model) (piece : Piece) → ((d : Specification) → piece ≡ pieces.Directive d → ⊥) → types model (items_of piece) ≡ []
+no_types model (pieces.Literal run) other = types-bytes model run.now
+no_types model pieces.Percent other = refl
+no_types model (pieces.Directive d) other = absurd (other d refl)
 
-module _ (args : List Arg) (types : List ArgType) (type : ArgType) (matched : ℕ) where
+module _ (model : Model) (args : List Arg) (types : List ArgType) (type : ArgType) (matched : ℕ) where
   -- the argument that comes next is of the type that comes next
-  pub tallies_matched : (wanted : ℕ) → Tallies (record { wanted = wanted; matched = matched }) args types → matched ≡ wanted → IsOfTypeAt args matched type
-      → Tallies (record { wanted = wanted + 1; matched = wanted + 1 }) args (types ++ type ∷ [])
+  pub tallies_matched : (wanted : ℕ) → Tallies model (record { wanted = wanted; matched = matched }) args types → matched ≡ wanted → IsOfTypeAt model args matched type
+      → Tallies model (record { wanted = wanted + 1; matched = wanted + 1 }) args (types ++ type ∷ [])
   tallies_matched wanted h e g =
       let all : matched ≡ length types = e ∙ h.wanted_is in
       let count : wanted + 1 ≡ length (types ++ type ∷ []) = omega (arith, h.wanted_is, length_push types type) in
-      let front : Match (take (length types) args) types = subst (λ ts. Match (take (length types) args) ts) (take_all (length types) types (omega arith)) (subst (λ n. Match (take n args) (take n types)) all h.matching) in
-      let more = match_more args types type g.0 front (subst (λ n. slice_get args n ≡ Some g.0) all g.1) g.2 in
+      let front : Match model (take (length types) args) types = subst (λ ts. Match model (take (length types) args) ts) (take_all (length types) types (omega arith)) (subst (λ n. Match model (take n args) (take n types)) all h.matching) in
+      let more = match_more model args types type g.0 front (subst (λ n. slice_get args n ≡ Some g.0) all g.1) g.2 in
       record {
         wanted_is = count;
         within = omega arith;
-        matching = subst (λ n. Match (take n args) (take n (types ++ type ∷ []))) (sym count) (subst (λ ts. Match (take (length (types ++ type ∷ [])) args) ts) (sym (take_all (length (types ++ type ∷ [])) (types ++ type ∷ []) (omega arith))) more);
+        matching = subst (λ n. Match model (take n args) (take n (types ++ type ∷ []))) (sym count) (subst (λ ts. Match model (take (length (types ++ type ∷ [])) args) ts) (sym (take_all (length (types ++ type ∷ [])) (types ++ type ∷ []) (omega arith))) more);
         wrong = λ few. absurd (omega arith);
       }
 
   -- it is not, or one before it was not
-  pub tallies_unmatched : (wanted : ℕ) → Tallies (record { wanted = wanted; matched = matched }) args types → (matched ≡ wanted → slice_get (map type_of args) matched ≢ Some type)
-      → Tallies (record { wanted = wanted + 1; matched = matched }) args (types ++ type ∷ [])
+  pub tallies_unmatched : (wanted : ℕ) → Tallies model (record { wanted = wanted; matched = matched }) args types → (matched ≡ wanted → slice_get (map type_of args) matched ≢ Some type)
+      → Tallies model (record { wanted = wanted + 1; matched = matched }) args (types ++ type ∷ [])
   tallies_unmatched wanted h other =
       record {
         wanted_is = omega (arith, h.wanted_is, length_push types type);
         within = omega (arith, h.within, length_push types type);
-        matching = subst (λ ts. Match (take matched args) ts) (sym (take-append-le matched types (type ∷ []) h.within)) h.matching;
+        matching = subst (λ ts. Match model (take matched args) ts) (sym (take-append-le matched types (type ∷ []) h.within)) h.matching;
         wrong = λ few. wrong_still args types type matched wanted h.wrong h.wanted_is h.within other;
       }
 
 -- what so many arguments are, where the tally is of all types
-module _ (tally : Tally) (t : Text) (args : List Arg) (types : List ArgType) (h : Tallies tally args types) (takes : signatures.TakesTypes t types) (same : tally.wanted ≡ length args) where
-  pub wrong_type : (tally.matched ≡ tally.wanted → ⊥) → HasWrongType t args tally.matched
+module _ (model : Model) (tally : Tally) (t : Text) (args : List Arg) (types : List ArgType) (h : Tallies model tally args types) (takes : signatures.TakesTypes model t types) (same : tally.wanted ≡ length args) where
+  pub wrong_type : (tally.matched ≡ tally.wanted → ⊥) → HasWrongType model t args tally.matched
   wrong_type less =
       let before : tally.matched < length types = omega (arith, h.within, h.wanted_is) in
       record {
         types = types;
         takes = takes;
         same_count = sym same ∙ h.wanted_is;
-        first = record { same = take-map type_of tally.matched args ∙ types_matched (take tally.matched args) (take tally.matched types) h.matching; differ = h.wrong before };
+        first = record { same = take-map type_of tally.matched args ∙ types_matched model (take tally.matched args) (take tally.matched types) h.matching; differ = h.wrong before };
       }
 
-  pub all_matched : tally.matched ≡ tally.wanted → TakesArguments t args
+  pub all_matched : tally.matched ≡ tally.wanted → TakesArguments model t args
   all_matched e =
       let given = take_all tally.matched args (omega arith) in
       let wanted = take_all tally.matched types (omega (arith, h.wanted_is)) in
-      let all : Match args types = subst (λ ts. Match args ts) wanted (subst (λ xs. Match xs (take tally.matched types)) given h.matching) in
-      let types_are = types_matched args types all in
+      let all : Match model args types = subst (λ ts. Match model args ts) wanted (subst (λ xs. Match model xs (take tally.matched types)) given h.matching) in
+      let types_are = types_matched model args types all in
       record {
-        takes = subst (signatures.TakesTypes t) (sym types_are) takes;
-        typed = subst (HasTypes (map argument_of args)) (sym types_are) (typed_matched args types all);
+        takes = subst (signatures.TakesTypes model t) (sym types_are) takes;
+        typed = subst (HasTypes model (map argument_of args)) (sym types_are) (typed_matched model args types all);
       }
 
-length_types : (items : List Item) → length (types items) ≤ length items
-length_types [] = omega arith
-length_types (Byte byte ∷ items) = omega (arith, length_types items)
-length_types (Directive s ∷ items) = omega (arith, length_types items)
+length_types : (model : Model) (items : List Item) → length (types model items) ≤ length items
+length_types model [] = omega arith
+length_types model (Byte byte ∷ items) = omega (arith, length_types model items)
+length_types model (Directive s ∷ items) = omega (arith, length_types model items)
 
 -- The pieces so far were given, the arguments are held to the types that they take, and their parts are kept.
-pub record IsChecked (pieces : Pieces) (t : Text) (args : List Arg) (tally : Tally) (kept : Kept) : Type 0 where
+pub record IsChecked (model : Model) (pieces : Pieces) (t : Text) (args : List Arg) (tally : Tally) (kept : Kept) : Type 0 where
   pub types : List ArgType
-  pub found : HasFound pieces t types
-  pub tallies : Tallies tally args types
+  pub found : HasFound model pieces t types
+  pub tallies : Tallies model tally args types
   pub keeps : Keeps kept found.items
 
 -- no piece was given yet
-pub none_checked : (pieces : Pieces) (t : Text) (args : List Arg) (kept : Kept) → HasGiven pieces t [] [] → Keeps kept [] → IsChecked pieces t args (record { wanted = 0; matched = 0 }) kept
-none_checked pieces t args kept given keeps =
+pub none_checked : (model : Model) (pieces : Pieces) (t : Text) (args : List Arg) (kept : Kept) → HasGiven pieces t [] [] → Keeps kept [] → IsChecked model pieces t args (record { wanted = 0; matched = 0 }) kept
+none_checked model pieces t args kept given keeps =
     record {
       types = [];
       found = record { read = []; items = []; given = given; types_are = refl };
@@ -144,38 +145,38 @@ none_checked pieces t args kept given keeps =
       keeps = keeps;
     }
 
-module _ {before : Pieces} {t : Text} {args : List Arg} {tally : Tally} {kept : Kept} (h : IsChecked before t args tally kept) where
+module _ (model : Model) {before : Pieces} {t : Text} {args : List Arg} {tally : Tally} {kept : Kept} (h : IsChecked model before t args tally kept) where
   -- a text has few directives
   pub few_found : length h.types ≤ MAX_TEXT_LEN
-  few_found = let found = h.found in omega (arith, ap length found.types_are, length_types found.items, length_items found.read found.items found.given.reads, found.given.scanned.limit)
+  few_found = let found = h.found in omega (arith, ap length found.types_are, length_types model found.items, length_items found.read found.items found.given.reads, found.given.scanned.limit)
 
-  pub all_checked : {new : Pieces} → Gives before None new → signatures.TakesTypes t h.types × KeepsAll kept t
+  pub all_checked : {new : Pieces} → Gives before None new → signatures.TakesTypes model t h.types × KeepsAll kept t
   all_checked {new} steps =
       let end = steps.next t h.found.read h.found.items h.found.given in
-      (all_found before new t h.types h.found steps, (h.found.items, end.reads, h.keeps))
+      (all_found model before new t h.types h.found steps, (h.found.items, end.reads, h.keeps))
 
   module _ {new : Pieces} {r : Result Piece Refusal} (steps : Gives before (Some r) new) {piece : Piece} (is : r ≡ Ok piece) (after : Tally) (more : Kept) (keeps : Keeps more (h.found.items ++ items_of piece)) where
-    piece_checked : (wanted : List ArgType) → wanted ≡ types (items_of piece) → Tallies after args (h.types ++ wanted) → IsChecked new t args after more
+    piece_checked : (wanted : List ArgType) → wanted ≡ types model (items_of piece) → Tallies model after args (h.types ++ wanted) → IsChecked model new t args after more
     piece_checked wanted same tallies =
         let found = h.found in
-        let g = more_given before new t h.types found r steps piece is in
+        let g = more_given model before new t h.types found r steps piece is in
         record {
           types = h.types ++ wanted;
           found = record {
             read = found.read ++ g.more;
             items = found.items ++ items_of piece;
             given = g.given;
-            types_are = ap (λ f. f ++ wanted) found.types_are ∙ ap (λ m. types found.items ++ m) same ∙ sym (types-append found.items (items_of piece));
+            types_are = ap (λ f. f ++ wanted) found.types_are ∙ ap (λ m. types model found.items ++ m) same ∙ sym (types-append model found.items (items_of piece));
           };
           tallies = tallies;
           keeps = keeps;
         }
 
-    pub directive_checked : (d : Specification) (type : ArgType) → piece ≡ pieces.Directive d → type ≡ arg_type d → Tallies after args (h.types ++ type ∷ []) → IsChecked new t args after more
-    directive_checked d type e same tallies = piece_checked (type ∷ []) (ap (λ x. x ∷ []) same ∙ sym (ap (λ p. types (items_of p)) e)) tallies
+    pub directive_checked : (d : Specification) (type : ArgType) → piece ≡ pieces.Directive d → type ≡ arg_type model d → Tallies model after args (h.types ++ type ∷ []) → IsChecked model new t args after more
+    directive_checked d type e same tallies = piece_checked (type ∷ []) (ap (λ x. x ∷ []) same ∙ sym (ap (λ p. types model (items_of p)) e)) tallies
 
-    pub other_checked : ((d : Specification) → piece ≡ pieces.Directive d → ⊥) → Tallies after args h.types → IsChecked new t args after more
-    other_checked other tallies = piece_checked [] (sym (no_types piece other)) (subst (Tallies after args) (sym (append-nil h.types)) tallies)
+    pub other_checked : ((d : Specification) → piece ≡ pieces.Directive d → ⊥) → Tallies model after args h.types → IsChecked model new t args after more
+    other_checked other tallies = piece_checked [] (sym (no_types model piece other)) (subst (Tallies model after args) (sym (append-nil h.types)) tallies)
 
 pub on_ok : {T E P : Type 0} (r : Result T E) → P → OnOk r P
 on_ok (Ok x) p = p

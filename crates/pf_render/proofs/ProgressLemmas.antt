@@ -4,6 +4,7 @@ use Rattle.std.proofs.lemmas.List.{append-nil, length-append, length-drop, lengt
 use Rattle.std.proofs.KnownBytes.{Appends-nil, Appends-trans}
 use Rattle.pf_values.specs.declared.arguments.Arg.{Arg}
 use Rattle.pf_values.specs.declared.counting.Counted.{Counted}
+use Rattle.pf_values.specs.declared.models.Model.{Model}
 use Rattle.pf_values.specs.Arg.{argument_of}
 use Rattle.pf_values.specs.Arguments.{Argument, HasTypes}
 use Rattle.pf_values.specs.Counting.{Known, WritesAll, WritesFirst, device_of}
@@ -23,89 +24,89 @@ use Rattle.pf_render.proofs.PrintingLemmas.{HasTypes-split, PrintsAll-bytes, Pri
 abbrev pub arguments : List Arg → List Argument
 arguments args = map argument_of args
 
-one_printed : (s : Specification) (args : List Arg) (first : Arg) (out : Text) → first ≡ get_or args 0 first → HasTypes (arguments args) (types (Directive s ∷ [])) → Prints s (argument_of first) out
-    → PrintsAll (Directive s ∷ []) (arguments args) out
-one_printed s [] first out e h g = absurd h
-one_printed s (a ∷ []) first out e h g = (out, [], subst (λ x. Prints s (argument_of x) out) e g, refl, sym (append-nil out))
-one_printed s (a ∷ (b ∷ args)) first out e h g = absurd h.1
+one_printed : (model : Model) (s : Specification) (args : List Arg) (first : Arg) (out : Text) → first ≡ get_or args 0 first → HasTypes model (arguments args) (types model (Directive s ∷ [])) → Prints model s (argument_of first) out
+    → PrintsAll model (Directive s ∷ []) (arguments args) out
+one_printed model s [] first out e h g = absurd h
+one_printed model s (a ∷ []) first out e h g = (out, [], subst (λ x. Prints model s (argument_of x) out) e g, refl, sym (append-nil out))
+one_printed model s (a ∷ (b ∷ args)) first out e h g = absurd h.1
 
 -- what one part prints
-module _ (part : Part) (own : List Arg) (typed : HasTypes (arguments own) (types (items_of_part part))) where
-  pub bytes_printed : part.directive ≡ None → PrintsAll (items_of_part part) (arguments own) part.run.now
+module _ (model : Model) (part : Part) (own : List Arg) (typed : HasTypes model (arguments own) (types model (items_of_part part))) where
+  pub bytes_printed : part.directive ≡ None → PrintsAll model (items_of_part part) (arguments own) part.run.now
   bytes_printed e =
-      subst (λ d. HasTypes (arguments own) (types (directive_or_bytes d part.run.now)) → PrintsAll (directive_or_bytes d part.run.now) (arguments own) part.run.now) (sym e) (PrintsAll-bytes part.run.now (arguments own)) typed
+      subst (λ d. HasTypes model (arguments own) (types model (directive_or_bytes d part.run.now)) → PrintsAll model (directive_or_bytes d part.run.now) (arguments own) part.run.now) (sym e) (PrintsAll-bytes model part.run.now (arguments own)) typed
 
-  pub directive_printed : (s : Specification) (first : Arg) (out : Text) → part.directive ≡ Some s → first ≡ get_or own 0 first → Prints s (argument_of first) out → PrintsAll (items_of_part part) (arguments own) out
+  pub directive_printed : (s : Specification) (first : Arg) (out : Text) → part.directive ≡ Some s → first ≡ get_or own 0 first → Prints model s (argument_of first) out → PrintsAll model (items_of_part part) (arguments own) out
   directive_printed s first out e same h =
-      subst (λ d. HasTypes (arguments own) (types (directive_or_bytes d part.run.now)) → PrintsAll (directive_or_bytes d part.run.now) (arguments own) out) (sym e) (λ t. one_printed s own first out same t h) typed
+      subst (λ d. HasTypes model (arguments own) (types model (directive_or_bytes d part.run.now)) → PrintsAll model (directive_or_bytes d part.run.now) (arguments own) out) (sym e) (λ t. one_printed model s own first out same t h) typed
 
 -- The first items were written, for the first arguments. What all of them print is that, and what the others print.
-module _ {W : Type 0} (contents : W → Known) (old : Counted W) (args : List Arg) (out : Text) where
+module _ (model : Model) {W : Type 0} (contents : W → Known) (old : Counted W) (args : List Arg) (out : Text) where
   pub record IsPrinting (now : Counted W) (progress : Progress) (others : List Item) : Type 0 where
-    pub typed : HasTypes (drop progress.taken (arguments args)) (types others)
+    pub typed : HasTypes model (drop progress.taken (arguments args)) (types model others)
     pub within : progress.taken ≤ length args
     pub front : Text
     pub back : Text
-    pub prints : PrintsAll others (drop progress.taken (arguments args)) back
+    pub prints : PrintsAll model others (drop progress.taken (arguments args)) back
     pub split : out ≡ front ++ back
     pub written : progress.written ≡ length front
     pub wrote : WritesAll contents old now front
 
-module _ {W : Type 0} {contents : W → Known} {old : Counted W} {args : List Arg} {out : Text} where
-  pub nothing_yet : (progress : Progress) (items : List Item) → (progress.taken ≡ 0) × (progress.written ≡ 0) → HasTypes (arguments args) (types items) → PrintsAll items (arguments args) out
-      → IsPrinting contents old args out old progress items
+module _ (model : Model) {W : Type 0} {contents : W → Known} {old : Counted W} {args : List Arg} {out : Text} where
+  pub nothing_yet : (progress : Progress) (items : List Item) → (progress.taken ≡ 0) × (progress.written ≡ 0) → HasTypes model (arguments args) (types model items) → PrintsAll model items (arguments args) out
+      → IsPrinting model contents old args out old progress items
   nothing_yet progress items e typed prints =
       record {
-        typed = subst (λ n. HasTypes (drop n (arguments args)) (types items)) (sym e.0) typed;
+        typed = subst (λ n. HasTypes model (drop n (arguments args)) (types model items)) (sym e.0) typed;
         within = omega (arith, e.0);
         front = [];
         back = out;
-        prints = subst (λ n. PrintsAll items (drop n (arguments args)) out) (sym e.0) prints;
+        prints = subst (λ n. PrintsAll model items (drop n (arguments args)) out) (sym e.0) prints;
         split = refl;
         written = e.1;
         wrote = record { appended = Appends-nil (contents (device_of old)); none_failed = refl };
       }
 
-  module _ {now : Counted W} {progress : Progress} {others : List Item} (h : IsPrinting contents old args out now progress others) where
+  module _ {now : Counted W} {progress : Progress} {others : List Item} (h : IsPrinting model contents old args out now progress others) where
     abbrev left : List Argument
     left = drop progress.taken (arguments args)
 
     pub all_written : others ≡ [] → WritesAll contents old now out
     all_written none =
-        let back : h.back ≡ [] = PrintsAll-none others left h.back none h.prints in
+        let back : h.back ≡ [] = PrintsAll-none model others left h.back none h.prints in
         subst (WritesAll contents old now) (sym (h.split ∙ ap (λ b. h.front ++ b) back ∙ append-nil h.front)) h.wrote
 
     -- one more part is to be written
     module _ (part : Part) (later : List Item) (others_are : others ≡ items_of_part part ++ later) where
-      types_split : HasTypes (take (arity part) left) (types (items_of_part part)) × HasTypes (drop (arity part) left) (types later) × (arity part ≤ length left)
-      types_split = HasTypes-split (types (items_of_part part)) (types later) left (subst (HasTypes left) (ap types others_are ∙ types-append (items_of_part part) later) h.typed)
+      types_split : HasTypes model (take (arity model part) left) (types model (items_of_part part)) × HasTypes model (drop (arity model part) left) (types model later) × (arity model part ≤ length left)
+      types_split = HasTypes-split model (types model (items_of_part part)) (types model later) left (subst (HasTypes model left) (ap (types model) others_are ∙ types-append model (items_of_part part) later) h.typed)
 
-      pub next_within : progress.taken + arity part ≤ length args
+      pub next_within : progress.taken + arity model part ≤ length args
       next_within = omega (arith, types_split.2, length-drop progress.taken (arguments args), length-map args argument_of, h.within)
 
-      own_are : next_arguments progress part args ≡ take (arity part) left
-      own_are = sym (take-map argument_of (arity part) (drop progress.taken args)) ∙ ap (take (arity part)) (sym (drop-map argument_of progress.taken args))
+      own_are : next_arguments model progress part args ≡ take (arity model part) left
+      own_are = sym (take-map argument_of (arity model part) (drop progress.taken args)) ∙ ap (take (arity model part)) (sym (drop-map argument_of progress.taken args))
 
-      pub next_typed : HasTypes (next_arguments progress part args) (types (items_of_part part))
-      next_typed = subst (λ a. HasTypes a (types (items_of_part part))) (sym own_are) types_split.0
+      pub next_typed : HasTypes model (next_arguments model progress part args) (types model (items_of_part part))
+      next_typed = subst (λ a. HasTypes model a (types model (items_of_part part))) (sym own_are) types_split.0
 
       -- what it prints
-      module _ (new : Counted W) (after : Progress) (text : Text) (prints : PrintsAll (items_of_part part) (next_arguments progress part args) text) where
-        prints_split : (rest : Text) × PrintsAll later (drop (arity part) left) rest × (h.back ≡ text ++ rest)
+      module _ (new : Counted W) (after : Progress) (text : Text) (prints : PrintsAll model (items_of_part part) (next_arguments model progress part args) text) where
+        prints_split : (rest : Text) × PrintsAll model later (drop (arity model part) left) rest × (h.back ≡ text ++ rest)
         prints_split =
-            let parts = PrintsAll-split (items_of_part part) later left h.back (subst (λ i. PrintsAll i left h.back) others_are h.prints) in
-            let same : parts.0 ≡ text = PrintsAll-unique (items_of_part part) (next_arguments progress part args) text parts.0 next_typed prints (subst (λ a. PrintsAll (items_of_part part) a parts.0) (sym own_are) parts.2) in
+            let parts = PrintsAll-split model (items_of_part part) later left h.back (subst (λ i. PrintsAll model i left h.back) others_are h.prints) in
+            let same : parts.0 ≡ text = PrintsAll-unique model (items_of_part part) (next_arguments model progress part args) text parts.0 next_typed prints (subst (λ a. PrintsAll model (items_of_part part) a parts.0) (sym own_are) parts.2) in
             (parts.1, parts.3, parts.4 ∙ ap (λ u. u ++ parts.1) same)
 
-        pub wrote_on : WritesOn contents now new progress after text (arity part) → IsPrinting contents old args out new after later
+        pub wrote_on : WritesOn contents now new progress after text (arity model part) → IsPrinting model contents old args out new after later
         wrote_on w =
-            let behind : drop (arity part) left ≡ drop after.taken (arguments args) = drop-drop (arity part) progress.taken (arguments args) ∙ ap (λ n. drop n (arguments args)) (sym w.taken) in
+            let behind : drop (arity model part) left ≡ drop after.taken (arguments args) = drop-drop (arity model part) progress.taken (arguments args) ∙ ap (λ n. drop n (arguments args)) (sym w.taken) in
             record {
-              typed = subst (λ a. HasTypes a (types later)) behind types_split.1;
+              typed = subst (λ a. HasTypes model a (types model later)) behind types_split.1;
               within = omega (arith, next_within, w.taken);
               front = h.front ++ text;
               back = prints_split.0;
-              prints = subst (λ a. PrintsAll later a prints_split.0) behind prints_split.1;
+              prints = subst (λ a. PrintsAll model later a prints_split.0) behind prints_split.1;
               split = h.split ∙ ap (λ b. h.front ++ b) prints_split.2 ∙ sym (append_assoc h.front text prints_split.0);
               written = omega (arith, h.written, w.written, length-append h.front text);
               wrote = record {

@@ -4,6 +4,7 @@ use Rattle.pf_values.specs.declared.arguments.Arg.{Arg}
 use Rattle.pf_values.specs.declared.arguments.Arg.TheVariants as variants
 use Rattle.pf_values.specs.declared.arguments.CBytes.{CBytes}
 use Rattle.pf_values.specs.declared.conversions.Kind.TheVariants as kinds
+use Rattle.pf_values.specs.declared.models.Model.{Model}
 use Rattle.pf_values.specs.Arg.{argument_of}
 use Rattle.pf_values.specs.Arguments.{Number, String, IsConverted}
 use Rattle.pf_values.specs.Conversions.{kind_of}
@@ -12,16 +13,16 @@ use Rattle.pf_values.specs.Printing.{Prints, PrintsKind, field, printed_front}
 use Rattle.pf_values.specs.Specification.{Specification}
 use Rattle.pf_values.specs.Text.{Text}
 
-pub Prints-char : (s : Specification) (n : ℤ) (byte : ℕ) → kind_of s.conv ≡ kinds.Char
-    → IsConverted false (bit_count B8) n (pos byte) → Prints s (Number n) (field s (byte ∷ []))
-Prints-char s n byte e h =
-    let prints = subst (λ k. PrintsKind k s (Number n) (byte ∷ [])) (sym e) (byte, h, refl) in
+pub Prints-char : (model : Model) (s : Specification) (n : ℤ) (byte : ℕ) → kind_of s.conv ≡ kinds.Char
+    → IsConverted false (bit_count B8) n (pos byte) → Prints model s (Number n) (field s (byte ∷ []))
+Prints-char model s n byte e h =
+    let prints = subst (λ k. PrintsKind model k s (Number n) (byte ∷ [])) (sym e) (byte, h, refl) in
     (byte ∷ [], prints, refl)
 
-pub Prints-string : (s : Specification) (bytes text : Text) → kind_of s.conv ≡ kinds.String
-    → text ≡ printed_front s.precision bytes → Prints s (String bytes) (field s text)
-Prints-string s bytes text e h =
-    (text, subst (λ k. PrintsKind k s (String bytes) text) (sym e) h, refl)
+pub Prints-string : (model : Model) (s : Specification) (bytes text : Text) → kind_of s.conv ≡ kinds.String
+    → text ≡ printed_front s.precision bytes → Prints model s (String bytes) (field s text)
+Prints-string model s bytes text e h =
+    (text, subst (λ k. PrintsKind model k s (String bytes) text) (sym e) h, refl)
 
 -- an argument that is no number is a string
 pub is_string : (arg : Arg) → ((n : ℤ) → argument_of arg ≡ Number n → ⊥) → ((x : CBytes) → arg ≡ variants.Str x → ⊥) → ⊥

@@ -2,6 +2,7 @@
 use Rattle.std.specs.Prelude.{◌≡◌, ◌≢◌, ℕ, ◌<◌, ◌≤◌, List, length, map, take, slice_get, Some}
 use Rattle.std.specs.List.{AllZip}
 use Rattle.pf_values.specs.declared.arguments.Arg.{Arg}
+use Rattle.pf_values.specs.declared.models.Model.{Model}
 use Rattle.pf_values.specs.declared.types.ArgType.{ArgType}
 use Rattle.pf_values.specs.Arg.{argument_of, type_of}
 use Rattle.pf_values.specs.Arguments.{HasType, HasTypes}
@@ -10,24 +11,26 @@ use Rattle.pf_text.specs.Signatures as signatures
 use Rattle.pf_render.specs.declared.argument_lists.Tally.{Tally}
 
 -- an argument is of a type; any other than that of its directive is undefined (C11 7.21.6.1 p9)
-pub record IsOfType (arg : Arg) (type : ArgType) : Type 0 where
+pub record IsOfType (model : Model) (arg : Arg) (type : ArgType) : Type 0 where
   pub same : type_of arg ≡ type
-  pub typed : HasType (argument_of arg) type
+  pub typed : HasType model (argument_of arg) type
 
 -- there is an argument with this number, and it is of a type
-abbrev pub IsOfTypeAt : List Arg → ℕ → ArgType → Type 0
-IsOfTypeAt args index type = (arg : Arg) × (slice_get args index ≡ Some arg) × IsOfType arg type
+abbrev pub IsOfTypeAt : Model → List Arg → ℕ → ArgType → Type 0
+IsOfTypeAt model args index type =
+    (arg : Arg) × (slice_get args index ≡ Some arg) × IsOfType model arg type
 
 -- So many types are wanted. The first arguments are of them, and the next one is not, unless those
 -- are all. This project's own.
-pub record Tallies (tally : Tally) (args : List Arg) (types : List ArgType) : Type 0 where
+pub record Tallies (model : Model) (tally : Tally) (args : List Arg)
+    (types : List ArgType) : Type 0 where
   pub wanted_is : tally.wanted ≡ length types
   pub within : tally.matched ≤ length types
-  pub matching : AllZip IsOfType (take tally.matched args) (take tally.matched types)
+  pub matching : AllZip (IsOfType model) (take tally.matched args) (take tally.matched types)
   pub wrong : tally.matched < length types
       → slice_get (map type_of args) tally.matched ≢ slice_get types tally.matched
 
 -- an accepted text takes just these arguments (C11 7.21.6.1 p2, p9)
-pub record TakesArguments (t : Text) (args : List Arg) : Type 0 where
-  pub takes : signatures.TakesTypes t (map type_of args)
-  pub typed : HasTypes (map argument_of args) (map type_of args)
+pub record TakesArguments (model : Model) (t : Text) (args : List Arg) : Type 0 where
+  pub takes : signatures.TakesTypes model t (map type_of args)
+  pub typed : HasTypes model (map argument_of args) (map type_of args)

@@ -2,6 +2,7 @@
 use Rattle.std.specs.Prelude.{◌≡◌, ℕ, ◌+◌, ◌^◌, ◌<◌, List, length, map, take, drop, Result, Ok, Err}
 use Rattle.pf_values.specs.declared.arguments.Arg.{Arg}
 use Rattle.pf_values.specs.declared.counting.Counted.{Counted}
+use Rattle.pf_values.specs.declared.models.Model.{Model}
 use Rattle.pf_values.specs.Arg.{argument_of}
 use Rattle.pf_values.specs.Arguments.{Argument}
 use Rattle.pf_values.specs.Counting.{Known, WritesAll, WritesFirst}
@@ -14,12 +15,13 @@ use Rattle.pf_render.specs.declared.progress.Progress.{Progress}
 use Rattle.pf_render.specs.Keeping.{items_of_part}
 
 -- how many arguments a part takes
-abbrev pub arity : Part → ℕ
-arity part = length (types (items_of_part part))
+abbrev pub arity : Model → Part → ℕ
+arity model part = length (types model (items_of_part part))
 
 -- the arguments that a part takes, behind those that were taken before
-abbrev pub next_arguments : Progress → Part → List Arg → List Argument
-next_arguments progress part args = map argument_of (take (arity part) (drop progress.taken args))
+abbrev pub next_arguments : Model → Progress → Part → List Arg → List Argument
+next_arguments model progress part args =
+    map argument_of (take (arity model part) (drop progress.taken args))
 
 module _ {W : Type 0} (contents : W → Known) (old new : Counted W) (before after : Progress) where
   -- all of it went out
@@ -41,8 +43,11 @@ module _ {W : Type 0} (contents : W → Known) (old new : Counted W) (before aft
   WritesOnOrPart out count (Ok done) = WritesOn out count
   WritesOnOrPart out count (Err fault) = WritesPart out fault
 
+module _ (model : Model) {W : Type 0} (contents : W → Known) (old new : Counted W)
+    (before after : Progress) where
   -- what the part prints goes out, all of it or its first bytes
   abbrev pub WritesNext : Part → List Arg → Result (Unit {0}) WriteFault → Type 0
   WritesNext part args result =
-      (out : Text) × PrintsAll (items_of_part part) (next_arguments before part args) out
-      × WritesOnOrPart out (arity part) result
+      (out : Text)
+      × PrintsAll model (items_of_part part) (next_arguments model before part args) out
+      × WritesOnOrPart contents old new before after out (arity model part) result

@@ -2,6 +2,7 @@
 use Rattle.std.specs.Prelude.{◌≡◌, ◌≢◌, ℕ, ◌<◌, List, [], length, map, take, slice_get, Result, Ok, Err}
 use Rattle.pf_values.specs.declared.arguments.Arg.{Arg}
 use Rattle.pf_values.specs.declared.counting.Counted.{Counted}
+use Rattle.pf_values.specs.declared.models.Model.{Model}
 use Rattle.pf_values.specs.declared.types.ArgType.{ArgType}
 use Rattle.pf_values.specs.Arg.{argument_of, type_of}
 use Rattle.pf_values.specs.Counting.{Known, WritesAll, WritesFirst}
@@ -15,20 +16,21 @@ use Rattle.pf_render.specs.declared.faults.RenderVecFault.{RenderVecFault}
 use Rattle.pf_render.specs.declared.faults.RenderVecFault.TheVariants as vec_faults
 
 -- an accepted text prints this for arguments of its types, and nothing else (C11 7.21.6.1 p2, p3)
-pub record Renders (t : Text) (args : List Arg) (out : Text) : Type 0 where
-  pub takes : TakesTypes t (map type_of args)
-  pub prints : PrintsAll takes.items (map argument_of args) out
-  pub only : (other : Text) → PrintsAll takes.items (map argument_of args) other → other ≡ out
+pub record Renders (model : Model) (t : Text) (args : List Arg) (out : Text) : Type 0 where
+  pub takes : TakesTypes model t (map type_of args)
+  pub prints : PrintsAll model takes.items (map argument_of args) out
+  pub only : (other : Text) → PrintsAll model takes.items (map argument_of args) other → other ≡ out
 
 -- the same, and of what is printed this holds
-abbrev pub RendersTo : Text → List Arg → (Text → Type 0) → Type 0
-RendersTo t args IsLeft = (out : Text) × Renders t args out × IsLeft out
+abbrev pub RendersTo : Model → Text → List Arg → (Text → Type 0) → Type 0
+RendersTo model t args IsLeft = (out : Text) × Renders model t args out × IsLeft out
 
 -- an accepted text takes another number of arguments; too few are undefined (C11 7.21.6.1 p2), and
 -- too many are wrong in this project alone
-pub record HasWrongCount (t : Text) (args : List Arg) (wanted given : ℕ) : Type 0 where
+pub record HasWrongCount (model : Model) (t : Text) (args : List Arg)
+    (wanted given : ℕ) : Type 0 where
   pub types : List ArgType
-  pub takes : TakesTypes t types
+  pub takes : TakesTypes model t types
   pub wanted_is : wanted ≡ length types
   pub given_is : given ≡ length args
   pub differ : wanted ≢ given
@@ -40,41 +42,45 @@ pub record DifferFirstAt {A : Type 0} (xs ys : List A) (place : ℕ) : Type 0 wh
 
 -- an accepted text takes as many arguments, and this is the first one of another type
 -- (C11 7.21.6.1 p9)
-pub record HasWrongType (t : Text) (args : List Arg) (index : ℕ) : Type 0 where
+pub record HasWrongType (model : Model) (t : Text) (args : List Arg) (index : ℕ) : Type 0 where
   pub types : List ArgType
-  pub takes : TakesTypes t types
+  pub takes : TakesTypes model t types
   pub same_count : length args ≡ length types
   pub first : DifferFirstAt (map type_of args) types index
 
 -- why nothing is written
-abbrev pub HindersRender : Text → List Arg → RenderFault → Type 0
-HindersRender t args (faults.Refused refusal) = IsRefusedAt t refusal.kind refusal.at
-HindersRender t args (faults.WrongCount wanted given) = HasWrongCount t args wanted given
-HindersRender t args (faults.WrongType index) = HasWrongType t args index
-HindersRender t args (faults.Write written) = ⊥
+abbrev pub HindersRender : Model → Text → List Arg → RenderFault → Type 0
+HindersRender model t args (faults.Refused refusal) = IsRefusedAt t refusal.kind refusal.at
+HindersRender model t args (faults.WrongCount wanted given) =
+    HasWrongCount model t args wanted given
+HindersRender model t args (faults.WrongType index) = HasWrongType model t args index
+HindersRender model t args (faults.Write written) = ⊥
 
 -- what a call leaves in a writer, and answers: all that is printed, nothing, or exactly the first
 -- bytes
-module _ {W : Type 0} (contents : W → Known) (old new : Counted W) (t : Text)
+module _ (model : Model) {W : Type 0} (contents : W → Known) (old new : Counted W) (t : Text)
     (args : List Arg) where
   -- what a fault leaves: nothing went out, or where a write failed, exactly the first bytes
   abbrev pub StopsWith : RenderFault → Type 0
   StopsWith (faults.Write written) =
-      RendersTo t args (λ out. WritesFirst contents old new out written × (written < length out))
-  StopsWith fault = HindersRender t args fault × (new ≡ old)
+      RendersTo model t args (λ out. WritesFirst contents old new out written
+      × (written < length out))
+  StopsWith fault = HindersRender model t args fault × (new ≡ old)
 
   -- what a call leaves and answers: all that is printed went out, or there is a fault
   abbrev pub RendersInto : Result (Unit {0}) RenderFault → Type 0
-  RendersInto (Ok done) = RendersTo t args (λ out. WritesAll contents old new out)
+  RendersInto (Ok done) = RendersTo model t args (λ out. WritesAll contents old new out)
   RendersInto (Err fault) = StopsWith fault
 
 -- the same of a call that gives what is printed; where that is nothing, it takes no memory
-abbrev pub HindersVec : Text → List Arg → RenderVecFault → Type 0
-HindersVec t args (vec_faults.Refused refusal) = HindersRender t args (faults.Refused refusal)
-HindersVec t args (vec_faults.WrongCount wanted given) =
-    HindersRender t args (faults.WrongCount wanted given)
-HindersVec t args (vec_faults.WrongType index) = HindersRender t args (faults.WrongType index)
-HindersVec t args vec_faults.Memory = RendersTo t args (λ out. out ≢ [])
+abbrev pub HindersVec : Model → Text → List Arg → RenderVecFault → Type 0
+HindersVec model t args (vec_faults.Refused refusal) =
+    HindersRender model t args (faults.Refused refusal)
+HindersVec model t args (vec_faults.WrongCount wanted given) =
+    HindersRender model t args (faults.WrongCount wanted given)
+HindersVec model t args (vec_faults.WrongType index) =
+    HindersRender model t args (faults.WrongType index)
+HindersVec model t args vec_faults.Memory = RendersTo model t args (λ out. out ≢ [])
 
 -- the fault of a call that renders into memory: there a write fails only where a growth is refused
 abbrev pub in_memory : RenderFault → RenderVecFault

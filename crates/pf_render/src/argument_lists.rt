@@ -4,6 +4,7 @@ ghost use Rattle.pf_values.specs.declared.limits.TheConstants.{MAX_TEXT_LEN};
 ghost use Rattle.pf_values.specs.declared.types.ArgType.{ArgType};
 ghost use Rattle.pf_values.specs.Arg.{type_of};
 ghost use Rattle.pf_values.specs.Text.{Text};
+ghost use Rattle.pf_values.specs.declared.models.Model.TheVariants.{Lp64};
 ghost use Rattle.pf_text.specs.Signatures.{TakesTypes};
 ghost use Rattle.pf_render.specs.Keeping.{Keeps, KeepsAll};
 ghost use Rattle.pf_render.specs.Matching.{IsOfTypeAt, TakesArguments, Tallies};
@@ -23,8 +24,8 @@ pub(crate) fn check_arguments<'a>(
     kept: &mut Kept<'a>,
 ) -> Result<(), RenderFault>
     requires { Keeps kept.old [] }
-    ensures matched { MatchResult result (λ _. TakesArguments text.now args.now)
-        (HindersRender text.now args.now) }
+    ensures matched { MatchResult result (λ _. TakesArguments Lp64 text.now args.now)
+        (HindersRender Lp64 text.now args.now) }
     ensures kept { OnOk result (KeepsAll kept.new text.now) }
 {
     let mut tally = Tally {
@@ -56,8 +57,8 @@ impl Tally {
     // The tally with one more directive, which takes an argument of this type.
     fn with(self, wanted: ArgType, args: &[Arg<'_>]) -> Tally
         requires few { self.wanted ≤ MAX_TEXT_LEN }
-        ensures { (types : List ArgType) → Tallies self args.now types
-            → Tallies result args.now (types ++ wanted ∷ []) }
+        ensures { (types : List ArgType) → Tallies Lp64 self args.now types
+            → Tallies Lp64 result args.now (types ++ wanted ∷ []) }
     {
         let count = self.wanted + 1;
         if self.goes_on(wanted, args) {
@@ -75,7 +76,7 @@ impl Tally {
     // Whether the arguments so far all have their types, and the next one has this type.
     fn goes_on(self, wanted: ArgType, args: &[Arg<'_>]) -> bool
         ensures yes { IsTrue result
-            → (self.matched ≡ self.wanted) × IsOfTypeAt args.now self.matched wanted }
+            → (self.matched ≡ self.wanted) × IsOfTypeAt Lp64 args.now self.matched wanted }
         ensures other { IsFalse result → self.matched ≡ self.wanted
             → slice_get (map type_of args.now) self.matched ≢ Some wanted }
     {
@@ -85,8 +86,8 @@ impl Tally {
     // What is wrong with so many arguments.
     fn judge(self, given: usize) -> Result<(), RenderFault>
         ensures { (t : Text) (args : List Arg) (types : List ArgType) → given ≡ length args
-            → TakesTypes t types → Tallies self args types
-            → MatchResult result (λ _. TakesArguments t args) (HindersRender t args) }
+            → TakesTypes Lp64 t types → Tallies Lp64 self args types
+            → MatchResult result (λ _. TakesArguments Lp64 t args) (HindersRender Lp64 t args) }
     {
         if self.wanted != given {
             return Err(RenderFault::WrongCount {
@@ -103,7 +104,7 @@ impl Tally {
 
 // Whether there is an argument with this number, and of this type.
 fn is_of_type(args: &[Arg<'_>], index: usize, wanted: ArgType) -> bool
-    ensures yes { IsTrue result → IsOfTypeAt args.now index wanted }
+    ensures yes { IsTrue result → IsOfTypeAt Lp64 args.now index wanted }
     ensures other { IsFalse result → slice_get (map type_of args.now) index ≢ Some wanted }
 {
     match args.get(index) {

@@ -1,6 +1,7 @@
 //! What a directive prints for an argument.
 ghost use Rattle.std.specs.Prelude.{◌≡◌, ◌≢◌, ℤ};
 ghost use Rattle.pf_values.specs.Arg.{argument_of};
+ghost use Rattle.pf_values.specs.declared.models.Model.TheVariants.{Lp64};
 ghost use Rattle.pf_values.specs.Arguments.{HasType, Number, String};
 ghost use Rattle.pf_values.specs.Counting.{WritesUpTo};
 ghost use Rattle.pf_values.specs.DataModel.{arg_type};
@@ -22,8 +23,8 @@ pub fn render_one<W: Write>(
     argument: Arg<'_>,
     writer: &mut Counted<W>,
 ) -> Result<(), WriteFault>
-    requires typed { HasType (argument_of argument) (arg_type directive.now) }
-    ensures { (out : Text) × PrintsOnly directive.now (argument_of argument.entry) out
+    requires typed { HasType Lp64 (argument_of argument) (arg_type Lp64 directive.now) }
+    ensures { (out : Text) × PrintsOnly Lp64 directive.now (argument_of argument.entry) out
         × WritesUpTo W.contents writer.old writer.new out (λ fault. fault.written) result }
 {
     write_argument(directive, argument, writer)?;
@@ -36,8 +37,8 @@ pub(crate) fn write_argument<W: Write>(
     argument: Arg<'_>,
     writer: &mut Counted<W>,
 ) -> Result<usize, ShortWrite>
-    requires typed { HasType (argument_of argument) (arg_type directive.now) }
-    ensures { (out : Text) × PrintsOnly directive.now (argument_of argument.entry) out
+    requires typed { HasType Lp64 (argument_of argument) (arg_type Lp64 directive.now) }
+    ensures { (out : Text) × PrintsOnly Lp64 directive.now (argument_of argument.entry) out
         × WritesCounted W.contents writer.old writer.new out result }
 {
     match directive.conv().kind() {

@@ -1,6 +1,7 @@
 //! What a format prints for arguments.
 ghost use Rattle.std.specs.Prelude.{◌≤◌, length, map};
 ghost use Rattle.pf_values.specs.Arg.{argument_of, type_of};
+ghost use Rattle.pf_values.specs.declared.models.Model.TheVariants.{Lp64};
 ghost use Rattle.pf_values.specs.Arguments.{HasTypes};
 ghost use Rattle.pf_values.specs.Counting.{WritesUpTo};
 ghost use Rattle.pf_values.specs.Items.{types};
@@ -27,7 +28,7 @@ pub fn render<W: Write>(
     args: &[Arg<'_>],
     writer: &mut Counted<W>,
 ) -> Result<(), RenderFault>
-    ensures { RendersInto W.contents writer.old writer.new text.now args.now result }
+    ensures { RendersInto Lp64 W.contents writer.old writer.new text.now args.now result }
 {
     let mut kept = Kept::new();
     check_arguments(text, args, &mut kept)?;
@@ -42,9 +43,9 @@ fn write_checked<W: Write>(
     args: &[Arg<'_>],
     writer: &mut Counted<W>,
 ) -> Result<(), WriteFault>
-    requires takes { TakesArguments text.now args.now }
+    requires takes { TakesArguments Lp64 text.now args.now }
     requires kept { KeepsAll kept.now text.now }
-    ensures { RendersTo text.now args.now
+    ensures { RendersTo Lp64 text.now args.now
         (λ out. WritesUpTo W.contents writer.old writer.new out (λ fault. fault.written) result) }
 {
     if kept.is_whole {
@@ -62,8 +63,10 @@ fn write_kept<W: Write>(
     writer: &mut Counted<W>,
 ) -> Result<(), WriteFault>
     requires few { length parts.now ≤ most_parts }
-    requires typed { HasTypes (map argument_of args.now) (types (items_of_parts parts.now)) }
-    ensures { (out : Text) × PrintsAll (items_of_parts parts.now) (map argument_of args.now) out
+    requires typed { HasTypes Lp64 (map argument_of args.now)
+        (types Lp64 (items_of_parts parts.now)) }
+    ensures { (out : Text)
+        × PrintsAll Lp64 (items_of_parts parts.now) (map argument_of args.now) out
         × WritesUpTo W.contents writer.old writer.new out (λ fault. fault.written) result }
 {
     let mut progress = Progress::new();
@@ -80,8 +83,8 @@ fn write_pieces<W: Write>(
     args: &[Arg<'_>],
     writer: &mut Counted<W>,
 ) -> Result<(), WriteFault>
-    requires { TakesArguments text.now args.now }
-    ensures { RendersTo text.now args.now
+    requires { TakesArguments Lp64 text.now args.now }
+    ensures { RendersTo Lp64 text.now args.now
         (λ out. WritesUpTo W.contents writer.old writer.new out (λ fault. fault.written) result) }
 {
     let mut progress = Progress::new();

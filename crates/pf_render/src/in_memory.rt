@@ -1,5 +1,6 @@
 //! What a format prints, in memory.
 ghost use Rattle.std.specs.Prelude.{◌≡◌, MatchResult};
+ghost use Rattle.pf_values.specs.declared.models.Model.TheVariants.{Lp64};
 ghost use Rattle.pf_render.specs.Rendering.{HindersVec, Renders, in_memory};
 
 use crate::faults::{RenderFault, RenderVecFault};
@@ -12,8 +13,8 @@ mod tests;
 
 /// What a format prints for arguments of its types (C11 7.21.6.1).
 pub fn render_vec(alloc: Global, text: &[u8], args: &[Arg<'_>]) -> Result<Vec<u8>, RenderVecFault>
-    ensures { MatchResult result (λ bytes. Renders text.now args.now bytes.items)
-        (HindersVec text.now args.now) }
+    ensures { MatchResult result (λ bytes. Renders Lp64 text.now args.now bytes.items)
+        (HindersVec Lp64 text.now args.now) }
 {
     render_vec_in(alloc, text, args)
 }
@@ -23,8 +24,8 @@ fn render_vec_in<A: Allocator>(
     text: &[u8],
     args: &[Arg<'_>],
 ) -> Result<Vec<u8, A>, RenderVecFault>
-    ensures { MatchResult result (λ bytes. Renders text.now args.now bytes.items)
-        (HindersVec text.now args.now) }
+    ensures { MatchResult result (λ bytes. Renders Lp64 text.now args.now bytes.items)
+        (HindersVec Lp64 text.now args.now) }
 {
     let mut writer = Counted::new(Vec::new(alloc));
     match render(text, args, &mut writer) {

@@ -4,6 +4,7 @@ ghost use Rattle.pf_values.specs.declared.limits.TheConstants.{MAX_NUMBER};
 ghost use Rattle.pf_values.specs.Arguments.{Number};
 ghost use Rattle.pf_values.specs.Bases.{alternative_of};
 ghost use Rattle.pf_values.specs.Conversions.{is_text};
+ghost use Rattle.pf_values.specs.declared.models.Model.TheVariants.{Lp64};
 ghost use Rattle.pf_values.specs.Printing.{Prints, prefix_under, sign, sign_or_prefix};
 ghost use Rattle.pf_values.specs.Text.{Text};
 ghost use Rattle.pf_render.specs.Counts.{WritesCounted};
@@ -23,7 +24,7 @@ pub(crate) fn write_integer<W: Write>(
     writer: &mut Counted<W>,
 ) -> Result<usize, ShortWrite>
     requires integer { IsFalse (is_text directive.now.conv) }
-    ensures { (out : Text) × Prints directive.now (Number number) out
+    ensures { (out : Text) × Prints Lp64 directive.now (Number number) out
         × WritesCounted W.contents writer.old writer.new out result }
 {
     let value = Value::of(directive, number);

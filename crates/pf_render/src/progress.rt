@@ -1,6 +1,7 @@
 //! How far the writing of a format has come.
 ghost use Rattle.std.specs.Prelude.{◌≡◌, ◌+◌, ◌≤◌, ◌^◌, length, map};
 ghost use Rattle.pf_values.specs.Arg.{argument_of};
+ghost use Rattle.pf_values.specs.declared.models.Model.TheVariants.{Lp64};
 ghost use Rattle.pf_values.specs.Arguments.{HasTypes};
 ghost use Rattle.pf_values.specs.Items.{types};
 ghost use Rattle.pf_values.specs.Printing.{PrintsAll};
@@ -44,11 +45,12 @@ impl Progress {
         writer: &mut Counted<W>,
     ) -> Result<(), WriteFault>
         requires few { self.old.written + 2 ^ 64 ≤ 2 ^ 128 }
-        requires within { self.old.taken + length (types (items_of_part part.now)) ≤ length
+        requires within { self.old.taken + length (types Lp64 (items_of_part part.now)) ≤ length
             args.now }
-        requires typed { HasTypes (next_arguments self.old part.now args.now)
-            (types (items_of_part part.now)) }
-        ensures { WritesNext W.contents writer.old writer.new self.old self.new part.now args.now
+        requires typed { HasTypes Lp64 (next_arguments Lp64 self.old part.now args.now)
+            (types Lp64 (items_of_part part.now)) }
+        ensures { WritesNext Lp64 W.contents writer.old writer.new self.old self.new part.now
+            args.now
             result }
     {
         let end = self.taken + part.argument_count();
@@ -71,8 +73,8 @@ fn write_part<W: Write>(
     own: &[Arg<'_>],
     writer: &mut Counted<W>,
 ) -> Result<usize, ShortWrite>
-    requires typed { HasTypes (map argument_of own.now) (types (items_of_part part.now)) }
-    ensures { (out : Text) × PrintsAll (items_of_part part.now) (map argument_of own.now) out
+    requires typed { HasTypes Lp64 (map argument_of own.now) (types Lp64 (items_of_part part.now)) }
+    ensures { (out : Text) × PrintsAll Lp64 (items_of_part part.now) (map argument_of own.now) out
         × WritesCounted W.contents writer.old writer.new out result }
 {
     match part.directive {

@@ -1,5 +1,6 @@
 //! The values that directives print for numbers.
 ghost use Rattle.std.specs.Prelude.{◌≡◌, IsFalse, true, false, ℕ, nat_abs};
+ghost use Rattle.pf_values.specs.declared.models.Model.TheVariants.{Lp64};
 ghost use Rattle.pf_values.specs.Arguments.{IsConverted, IsValue};
 ghost use Rattle.pf_values.specs.Conversions.{is_text};
 ghost use Rattle.pf_values.specs.DataModel.{Bits, bit_count};
@@ -30,7 +31,7 @@ impl Value {
     /// The value of the number in the range that the length modifier and the conversion name.
     pub(crate) fn of(directive: &Directive, number: i128) -> Value
         requires integer { IsFalse (is_text directive.now.conv) }
-        ensures { IsValue directive.now number result }
+        ensures { IsValue Lp64 directive.now number result }
     {
         match directive.conv().kind() {
             Kind::Signed => Value::of_signed(directive.bits(), number),

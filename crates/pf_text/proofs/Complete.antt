@@ -9,7 +9,7 @@ use Rattle.std.proofs.lemmas.Bool.Decides.{nat_tests}
 use Rattle.std.proofs.lemmas.Int.Digits.{number_after_ge}
 use Rattle.pf_values.specs.declared.limits.TheConstants.{MAX_NUMBER}
 use Rattle.pf_values.specs.declared.conversions.Conv.{Conv}
-use Rattle.pf_values.specs.declared.conversions.Conv.TheVariants.{D, I, U, O, X, UpperX, C, S}
+use Rattle.pf_values.specs.declared.conversions.Conv.TheVariants.{D}
 use Rattle.pf_values.specs.declared.flags.Flag.{Flag}
 use Rattle.pf_values.specs.declared.flags.Flag.TheVariants.{Minus, Plus, Space, Alt, Zero, Group}
 use Rattle.pf_values.specs.declared.flags.FlagSet.{FlagSet}
@@ -198,13 +198,7 @@ record LetterTests (conv : Conv) : Type 0 where
 
 letter_tests : (conv : Conv) → LetterTests conv
 letter_tests D = record { modifier = refl; no_float = refl; no_h = refl; no_l = refl; high = omega arith; conv_is = refl }
-letter_tests I = record { modifier = refl; no_float = refl; no_h = refl; no_l = refl; high = omega arith; conv_is = refl }
-letter_tests U = record { modifier = refl; no_float = refl; no_h = refl; no_l = refl; high = omega arith; conv_is = refl }
-letter_tests O = record { modifier = refl; no_float = refl; no_h = refl; no_l = refl; high = omega arith; conv_is = refl }
-letter_tests X = record { modifier = refl; no_float = refl; no_h = refl; no_l = refl; high = omega arith; conv_is = refl }
-letter_tests UpperX = record { modifier = refl; no_float = refl; no_h = refl; no_l = refl; high = omega arith; conv_is = refl }
-letter_tests C = record { modifier = refl; no_float = refl; no_h = refl; no_l = refl; high = omega arith; conv_is = refl }
-letter_tests S = record { modifier = refl; no_float = refl; no_h = refl; no_l = refl; high = omega arith; conv_is = refl }
+letter_tests _ = record { modifier = refl; no_float = refl; no_h = refl; no_l = refl; high = omega arith; conv_is = refl }
 
 ending_at_conv : (set : FlagSet) (width precision : Option ℕ) (length : Length) (conv : Conv) → end_at set width precision length (conv_letter conv) ≡ judged_as set width precision length conv
 ending_at_conv set width precision length conv = let tests = letter_tests conv in rw tests.conv_is refl

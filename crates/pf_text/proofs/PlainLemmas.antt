@@ -9,9 +9,10 @@ use Rattle.std.proofs.lemmas.Bool.{cases_lt}
 use Rattle.std.proofs.lemmas.Bool.Decides.{nat_tests}
 use Rattle.std.proofs.lemmas.Grind.{flat_map-append}
 use Rattle.std.proofs.lemmas.List.{append_assoc, drop-take, length-drop, length-take, get_or-drop, get_or-take, length-append, length-take-le, replicate-append-replicate, take-append-drop, take-append-le}
+use Rattle.pf_values.specs.declared.models.Model.{Model}
 use Rattle.memchr.specs.Find.{is_byte2}
 use Rattle.pf_values.specs.declared.conversions.Conv.{Conv}
-use Rattle.pf_values.specs.declared.conversions.Conv.TheVariants.{D, I, U, O, X, UpperX, C, S}
+use Rattle.pf_values.specs.declared.conversions.Conv.TheVariants.{D, I, C, S}
 use Rattle.pf_values.specs.declared.lengths.Length.TheVariants as lengths
 use Rattle.pf_values.specs.declared.limits.TheConstants.{MAX_TEXT_LEN}
 use Rattle.pf_values.specs.Canonical.{item_spelling}
@@ -40,12 +41,12 @@ pub literal_written : (bytes : Text) → AllByRecursion IsLiteral bytes → flat
 literal_written [] h = refl
 literal_written (byte ∷ bytes) h = ap (λ t. t ++ flat_map item_spelling (map Byte bytes)) (plain_written byte h.0) ∙ ap (λ t. byte ∷ t) (literal_written bytes h.1)
 
-literals_some : (bytes : Text) → AllByRecursion IsLiteral bytes → AllByRecursion IsPlain (map Byte bytes)
-literals_some [] h = tt
-literals_some (byte ∷ bytes) h = (h.0.1, literals_some bytes h.1)
+literals_some : (model : Model) (bytes : Text) → AllByRecursion IsLiteral bytes → AllByRecursion (IsPlain model) (map Byte bytes)
+literals_some model [] h = tt
+literals_some model (byte ∷ bytes) h = (h.0.1, literals_some model bytes h.1)
 
-pub literals_plain : (bytes : Text) → AllByRecursion IsLiteral bytes → IsPlainText bytes (map Byte bytes)
-literals_plain bytes h = record { plain = literals_some bytes h; whole = sym (literal_written bytes h) }
+pub literals_plain : (model : Model) (bytes : Text) → AllByRecursion IsLiteral bytes → IsPlainText model bytes (map Byte bytes)
+literals_plain model bytes h = record { plain = literals_some model bytes h; whole = sym (literal_written bytes h) }
 
 -- a directive of two bytes
 abbrev pub bare : Conv → Specification
@@ -53,19 +54,13 @@ bare conv = record { flags = no_flags; width = None; precision = None; length = 
 
 bare_allowed : (conv : Conv) → refused_as (bare conv) ≡ None
 bare_allowed D = refl
-bare_allowed I = refl
-bare_allowed U = refl
-bare_allowed O = refl
-bare_allowed X = refl
-bare_allowed UpperX = refl
-bare_allowed C = refl
-bare_allowed S = refl
+bare_allowed _ = refl
 
 pub bare_defined : (conv : Conv) → IsDefined (bare conv)
 bare_defined conv = record { width = λ e. cc; allowed = bare_allowed conv }
 
-signed_normal : IsNormalSigned (bare D)
-signed_normal = record {
+signed_normal : (model : Model) → IsNormalSigned model (bare D)
+signed_normal model = record {
   one_sign = λ e. absurd (cc);
   least = λ some. omega (arith, some);
   most = omega arith;
@@ -74,28 +69,25 @@ signed_normal = record {
   left = λ e. absurd (cc);
 }
 
-plain_normal : (conv : Conv) → 1 ≤ digits_at_most (bare conv) → IsNormalPlain (bare conv)
-plain_normal conv some = record { not_filled = refl; precision = some; least = λ some. omega (arith, some); most = omega arith; left = λ e. absurd (cc) }
+plain_normal : (model : Model) (conv : Conv) → 1 ≤ digits_at_most model (bare conv) → IsNormalPlain model (bare conv)
+plain_normal model conv some = record { not_filled = refl; precision = some; least = λ some. omega (arith, some); most = omega arith; left = λ e. absurd (cc) }
 
 string_normal : IsNormalString (bare S)
 string_normal = record { shows_some = λ e. cc; width = tt; left = λ e. absurd (cc) }
 
-bare_form : (conv : Conv) → conv ≢ I → HasNormalForm (kind_of conv) (bare conv)
-bare_form D other = signed_normal
-bare_form I other = absurd (other refl)
-bare_form U other = plain_normal U (omega arith)
-bare_form O other = plain_normal O (omega arith)
-bare_form X other = plain_normal X (omega arith)
-bare_form UpperX other = plain_normal UpperX (omega arith)
-bare_form C other = (refl, refl, refl)
-bare_form S other = string_normal
+bare_form : (model : Model) (conv : Conv) → conv ≢ I → HasNormalForm model (kind_of conv) (bare conv)
+bare_form model D other = signed_normal model
+bare_form model I other = absurd (other refl)
+bare_form model C other = (refl, refl, refl)
+bare_form model S other = string_normal
+bare_form model _ other = plain_normal model _ (omega arith)
 
 bare_kept : (conv : Conv) → conv ≢ I → kept_conv conv ≡ conv
 bare_kept I other = absurd (other refl)
 bare_kept _ other = refl
 
-bare_normal : (conv : Conv) → conv ≢ I → IsNormal (bare conv)
-bare_normal conv other =
+bare_normal : (model : Model) (conv : Conv) → conv ≢ I → IsNormal model (bare conv)
+bare_normal model conv other =
     record {
       defined = bare_defined conv;
       no_group = refl;
@@ -104,28 +96,28 @@ bare_normal conv other =
       no_plus = λ e. absurd (cc);
       no_space = λ e. absurd (cc);
       precision = λ e. absurd (cc);
-      form = bare_form conv other;
+      form = bare_form model conv other;
     }
 
-pub percent_plain : (letter : ℕ) → letter ≡ percent → (item : Item) × IsPlainText (percent ∷ letter ∷ []) (item ∷ [])
-percent_plain letter e = (Byte percent, record { plain = ((λ z. cc), tt); whole = ap (λ b. percent ∷ b ∷ []) e })
+pub percent_plain : (model : Model) (letter : ℕ) → letter ≡ percent → (item : Item) × IsPlainText model (percent ∷ letter ∷ []) (item ∷ [])
+percent_plain model letter e = (Byte percent, record { plain = ((λ z. cc), tt); whole = ap (λ b. percent ∷ b ∷ []) e })
 
-pub bare_plain : (letter : ℕ) (o : Option Conv) → conv_of letter ≡ o → letter ≢ 105 → is_some o ≡ true → (item : Item) × IsPlainText (percent ∷ letter ∷ []) (item ∷ [])
-bare_plain letter None e other some = absurd (cc)
-bare_plain letter (Some conv) e other some =
+pub bare_plain : (model : Model) (letter : ℕ) (o : Option Conv) → conv_of letter ≡ o → letter ≢ 105 → is_some o ≡ true → (item : Item) × IsPlainText model (percent ∷ letter ∷ []) (item ∷ [])
+bare_plain model letter None e other some = absurd (cc)
+bare_plain model letter (Some conv) e other some =
     let byte = byte_of_conv letter conv e in
-    (Directive (bare conv), record { plain = (bare_normal conv (λ i. other (byte ∙ ap conv_letter i)), tt); whole = ap (λ b. percent ∷ b ∷ []) byte })
+    (Directive (bare conv), record { plain = (bare_normal model conv (λ i. other (byte ∙ ap conv_letter i)), tt); whole = ap (λ b. percent ∷ b ∷ []) byte })
 
-all_append : (a b : List Item) → AllByRecursion IsPlain a → AllByRecursion IsPlain b → AllByRecursion IsPlain (a ++ b)
-all_append [] b h g = g
-all_append (item ∷ a) b h g = (h.0, all_append a b h.1 g)
+all_append : (model : Model) (a b : List Item) → AllByRecursion (IsPlain model) a → AllByRecursion (IsPlain model) b → AllByRecursion (IsPlain model) (a ++ b)
+all_append model [] b h g = g
+all_append model (item ∷ a) b h g = (h.0, all_append model a b h.1 g)
 
-pub plain_append : (t u : Text) (a b : List Item) → IsPlainText t a → IsPlainText u b → IsPlainText (t ++ u) (a ++ b)
-plain_append t u a b h g = record { plain = all_append a b h.plain g.plain; whole = ap₂ (λ (x y : Text). x ++ y) h.whole g.whole ∙ sym (flat_map-append item_spelling a b) }
+pub plain_append : (model : Model) (t u : Text) (a b : List Item) → IsPlainText model t a → IsPlainText model u b → IsPlainText model (t ++ u) (a ++ b)
+plain_append model t u a b h g = record { plain = all_append model a b h.plain g.plain; whole = ap₂ (λ (x y : Text). x ++ y) h.whole g.whole ∙ sym (flat_map-append item_spelling a b) }
 
 -- more bytes of a text are such items
-pub plain_more : (text : Text) (at more : ℕ) (a b : List Item) → IsPlainText (take at text) a → IsPlainText (take more (drop at text)) b → IsPlainText (take (at + more) text) (a ++ b)
-plain_more text at more a b h g = subst (λ u. IsPlainText u (a ++ b)) (sym (take-add at more text)) (plain_append (take at text) (take more (drop at text)) a b h g)
+pub plain_more : (model : Model) (text : Text) (at more : ℕ) (a b : List Item) → IsPlainText model (take at text) a → IsPlainText model (take more (drop at text)) b → IsPlainText model (take (at + more) text) (a ++ b)
+plain_more model text at more a b h g = subst (λ u. IsPlainText model u (a ++ b)) (sym (take-add at more text)) (plain_append model (take at text) (take more (drop at text)) a b h g)
 
 is_read_byte : (byte : ℕ) (b : Bool) → byte ≢ 0 → MatchBool b ((if b then percent ∷ percent ∷ [] else byte ∷ []) ≡ percent ∷ percent ∷ []) ((byte ≢ 0) × ((if b then percent ∷ percent ∷ [] else byte ∷ []) ≡ byte ∷ []))
 is_read_byte byte true some = refl
@@ -134,21 +126,21 @@ is_read_byte byte false some = (some, refl)
 pub byte_read : (byte : ℕ) → byte ≢ 0 → IsReadAs (item_spelling (Byte byte)) (Byte byte)
 byte_read byte some = is_read_byte byte (byte == percent) some
 
-read_plain : (item : Item) → IsPlain item → IsReadAs (item_spelling item) item
-read_plain (Byte byte) h = byte_read byte h
-read_plain (Directive s) h = (spelled_read s h.defined, h.defined)
+read_plain : (model : Model) (item : Item) → IsPlain model item → IsReadAs (item_spelling item) item
+read_plain model (Byte byte) h = byte_read byte h
+read_plain model (Directive s) h = (spelled_read s h.defined, h.defined)
 
-all_read : (items : List Item) → AllByRecursion IsPlain items → Reads (flat_map item_spelling items) items
-all_read [] h = refl
-all_read (item ∷ items) h = (item_spelling item, flat_map item_spelling items, read_plain item h.0, all_read items h.1, refl)
+all_read : (model : Model) (items : List Item) → AllByRecursion (IsPlain model) items → Reads (flat_map item_spelling items) items
+all_read model [] h = refl
+all_read model (item ∷ items) h = (item_spelling item, flat_map item_spelling items, read_plain model item h.0, all_read model items h.1, refl)
 
 -- a text of items behind another
 pub Reads-append : (t u : Text) (a b : List Item) → Reads t a → Reads u b → Reads (t ++ u) (a ++ b)
 Reads-append t u [] b h g = rw h g
 Reads-append t u (item ∷ a) b h g = (h.0, h.1 ++ u, h.2, Reads-append h.1 u a b h.3 g, ap (λ x. x ++ u) h.4 ∙ append_assoc h.0 h.1 u)
 
-Reads-plain : (t u : Text) (items more : List Item) → Reads t items → IsPlainText u more → Reads (t ++ u) (items ++ more)
-Reads-plain t u items more h g = Reads-append t u items more h (subst (λ v. Reads v more) (sym g.whole) (all_read more g.plain))
+Reads-plain : (model : Model) (t u : Text) (items more : List Item) → Reads t items → IsPlainText model u more → Reads (t ++ u) (items ++ more)
+Reads-plain model t u items more h g = Reads-append t u items more h (subst (λ v. Reads v more) (sym g.whole) (all_read model more g.plain))
 
 -- no literal byte follows such items
 ends_here : (t rest : Text) → (length t ≡ MAX_TEXT_LEN) ⊎ (0 < length rest → is_byte2 percent 0 (get_or rest 0 0) ≡ true) → EndsRun t rest
@@ -196,10 +188,10 @@ module _ (scanner : Scanner) (t text : Text) (items : List Item) (n most room : 
         subst (λ k. IsAfter (record scanner { offset = scanner.offset + k }) (t ++ take n text) (items ++ more)) long
         (after_read scanner t (take n text) items more h reads now (omega (arith, length-append t (take n text), long, h.offset, h.limit, least, full, within, front_len)))
 
-    pub plain_passed : (more : List Item) → IsPlainText (take n (take most text)) more → (n < length (take most text) → is_byte2 percent 0 (get_or (take most text) n 0) ≡ true) → PassesPlain t items text n (record scanner { offset = scanner.offset + n })
-    plain_passed more plain ends =
-        let p = subst (λ u. IsPlainText u more) taken plain in
-        let now = Reads-plain t (take n text) items more reads p in
+    pub plain_passed : {model : Model} (more : List Item) → IsPlainText model (take n (take most text)) more → (n < length (take most text) → is_byte2 percent 0 (get_or (take most text) n 0) ≡ true) → PassesPlain model t items text n (record scanner { offset = scanner.offset + n })
+    plain_passed {model} more plain ends =
+        let p = subst (λ u. IsPlainText model u more) taken plain in
+        let now = Reads-plain model t (take n text) items more reads p in
         record { more = more; plain = p; after = read_passed more now; reads = now; longest = plain_ends ends }
 
     -- where `%.0s` follows, though it doesn't in what the limit leaves, it passes the limit

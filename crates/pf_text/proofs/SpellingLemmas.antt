@@ -8,15 +8,18 @@ use Rattle.std.proofs.lemmas.Int.Digits.{digits_of_step}
 use Rattle.std.proofs.lemmas.List.{append_assoc, length-append, length-map, length_push, map-append, map_push, take_more}
 use Rattle.std.proofs.lemmas.List.Elements.{filter-append}
 use Rattle.std.proofs.lemmas.List.Sums.{count_by-le-length, length-filter}
-use Rattle.pf_values.specs.declared.conversions.Conv.{Conv}
-use Rattle.pf_values.specs.declared.conversions.Conv.TheVariants.{D, I, U, O, X, UpperX, C, S}
+use Rattle.pf_values.specs.declared.bases.Base.{Base}
+use Rattle.pf_values.specs.declared.bases.Base.TheVariants.{Octal, Decimal, Hexadecimal}
+use Rattle.pf_values.specs.declared.conversions.Kind.{Kind}
+use Rattle.pf_values.specs.declared.conversions.Kind.TheVariants as kinds
 use Rattle.pf_values.specs.declared.flags.Flag.{Flag}
 use Rattle.pf_values.specs.declared.flags.FlagSet.{FlagSet}
 use Rattle.pf_values.specs.declared.lengths.Length.{Length}
 use Rattle.pf_values.specs.declared.lengths.Length.TheVariants as lengths
 use Rattle.pf_values.specs.declared.refusals.RefusalKind.{RefusalKind}
 use Rattle.pf_values.specs.declared.refusals.RefusalKind.TheVariants.{WidthTooLarge, PrecisionTooLarge}
-use Rattle.pf_values.specs.Conversions.{has_alternative_form, is_decimal}
+use Rattle.pf_values.specs.Bases.{alternative_of, is_defined, is_grouped}
+use Rattle.pf_values.specs.Conversions.{alternative_under, kind_of, prints_grouped}
 use Rattle.pf_values.specs.Defined.{IsDefined, breaks, first_broken, is_above_limit, undefined_kinds}
 use Rattle.pf_values.specs.Flags.{all_flags, flag_byte, has}
 use Rattle.pf_values.specs.Lengths.{length_letters}
@@ -82,16 +85,22 @@ not_broken : (kinds : List RefusalKind) (s : Specification) → first_broken kin
 not_broken [] s e = tt
 not_broken (kind ∷ kinds) s e = let here = none_first (breaks s kind) kind (first_broken kinds s) e in (here.0, not_broken kinds s here.1)
 
--- no conversion is given both `#` and `'`
-one_missing : (conv : Conv) (alt group : Bool) → (not (has_alternative_form conv) && alt) ≡ false → (not (is_decimal conv) && group) ≡ false → (alt ≡ false) ⊎ (group ≡ false)
-one_missing D alt group h g = inl h
-one_missing I alt group h g = inl h
-one_missing U alt group h g = inl h
-one_missing O alt group h g = inr g
-one_missing X alt group h g = inr g
-one_missing UpperX alt group h g = inr g
-one_missing C alt group h g = inl h
-one_missing S alt group h g = inl h
+-- no base is given both `#` and `'`
+one_missing_in : (base : Base) (alt group : Bool)
+    → (not (is_defined (alternative_of base)) && alt) ≡ false
+    → (not (is_grouped base) && group) ≡ false → (alt ≡ false) ⊎ (group ≡ false)
+one_missing_in Octal alt group h g = inr g
+one_missing_in Decimal alt group h g = inl h
+one_missing_in Hexadecimal alt group h g = inr g
+
+-- and no conversion
+one_missing : (k : Kind) (alt group : Bool)
+    → (not (is_defined (alternative_under k)) && alt) ≡ false
+    → (not (prints_grouped k) && group) ≡ false → (alt ≡ false) ⊎ (group ≡ false)
+one_missing kinds.Signed alt group h g = inl h
+one_missing (kinds.Unsigned base capitals) alt group h g = one_missing_in base alt group h g
+one_missing kinds.Char alt group h g = inl h
+one_missing kinds.String alt group h g = inl h
 
 counts_one : (b : Bool) → cond b 1 0 ≤ 1
 counts_one true = omega arith
@@ -118,7 +127,7 @@ length-flags_spelled set missing =
 pub length-spelled : (s : Specification) → IsDefined s → length (spelling_of s) ≤ 18
 length-spelled s defined =
     let none = not_broken (WidthTooLarge ∷ PrecisionTooLarge ∷ undefined_kinds) s defined.allowed in
-    let flags = length-flags_spelled s.flags (one_missing s.conv s.flags.alt s.flags.group none.1.1.1.0 none.1.1.1.1.1.0) in
+    let flags = length-flags_spelled s.flags (one_missing (kind_of s.conv) s.flags.alt s.flags.group none.1.1.1.0 none.1.1.1.1.1.0) in
     let width = length-width_spelled s.width none.0 in
     let precision = length-precision_spelled s.precision none.1.0 in
     let letters = length-length_letters s.length in

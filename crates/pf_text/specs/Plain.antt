@@ -2,6 +2,7 @@
 use Rattle.std.specs.Prelude.{◌≡◌, ◌≢◌, ℕ, ◌+◌, ◌<◌, ◌≤◌, List, ◌++◌, ◌*◌, length, take, drop, replicate, flat_map}
 use Rattle.std.specs.List.{AllByRecursion}
 use Rattle.pf_values.specs.declared.limits.TheConstants.{MAX_TEXT_LEN}
+use Rattle.pf_values.specs.declared.models.Model.{Model}
 use Rattle.pf_values.specs.Canonical.{item_spelling}
 use Rattle.pf_values.specs.Items.{Item, Byte, Directive, Reads}
 use Rattle.pf_values.specs.Normal.{IsNormal, silent}
@@ -15,21 +16,21 @@ abbrev pub silents : ℕ → List Item
 silents count = replicate count (Directive silent)
 
 -- a byte, or a normal directive
-abbrev pub IsPlain : Item → Type 0
-IsPlain (Byte byte) = byte ≢ 0
-IsPlain (Directive s) = IsNormal s
+abbrev pub IsPlain : Model → Item → Type 0
+IsPlain model (Byte byte) = byte ≢ 0
+IsPlain model (Directive s) = IsNormal model s
 
 -- such items, each written in the one way
-pub record IsPlainText (t : Text) (items : List Item) : Type 0 where
-  pub plain : AllByRecursion IsPlain items
+pub record IsPlainText (model : Model) (t : Text) (items : List Item) : Type 0 where
+  pub plain : AllByRecursion (IsPlain model) items
   pub whole : t ≡ flat_map item_spelling items
 
 -- after a text that is read, such items at the front of what follows were taken, and no literal
 -- byte follows
-pub record PassesPlain (t : Text) (items : List Item) (following : Text) (len : ℕ)
+pub record PassesPlain (model : Model) (t : Text) (items : List Item) (following : Text) (len : ℕ)
     (new : Scanner) : Type 0 where
   pub more : List Item
-  pub plain : IsPlainText (take len following) more
+  pub plain : IsPlainText model (take len following) more
   pub after : IsAfter new (t ++ take len following) (items ++ more)
   pub reads : Reads (t ++ take len following) (items ++ more)
   pub longest : EndsRun (t ++ take len following) (drop len following)

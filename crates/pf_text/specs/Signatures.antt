@@ -1,5 +1,6 @@
 -- The argument types of a text.
 use Rattle.std.specs.Prelude.{◌≡◌, ◌<◌, List, ◌++◌, length}
+use Rattle.pf_values.specs.declared.models.Model.{Model}
 use Rattle.pf_values.specs.declared.types.ArgType.{ArgType}
 use Rattle.pf_values.specs.Items.{HasItems, Item, Reads, types}
 use Rattle.pf_values.specs.Refusals.{IsRefusedAt}
@@ -13,22 +14,22 @@ abbrev pub types_of : Signature → List ArgType
 types_of signature = signature.types.items
 
 -- a text is accepted, and its directives take arguments of these types (C11 7.21.6.1 p3)
-pub record TakesTypes (t : Text) (wanted : List ArgType) : Type 0 where
+pub record TakesTypes (model : Model) (t : Text) (wanted : List ArgType) : Type 0 where
   pub items : List Item
   pub accepted : HasItems t items
-  pub types_are : wanted ≡ types items
+  pub types_are : wanted ≡ types model items
 
 -- a text begins with items that take more than eight arguments; this and what follows is this
 -- project's own
-pub record TakesManyArguments (t : Text) : Type 0 where
+pub record TakesManyArguments (model : Model) (t : Text) : Type 0 where
   pub front : Text
   pub rest : Text
   pub items : List Item
   pub split : t ≡ front ++ rest
   pub reads : Reads front items
-  pub many : 8 < length (types items)
+  pub many : 8 < length (types model items)
 
 -- why a text has no signature
-abbrev pub HindersSignature : Text → TextFault → Type 0
-HindersSignature t (Refused refusal) = IsRefusedAt t refusal.kind refusal.at
-HindersSignature t Memory = TakesManyArguments t
+abbrev pub HindersSignature : Model → Text → TextFault → Type 0
+HindersSignature model t (Refused refusal) = IsRefusedAt t refusal.kind refusal.at
+HindersSignature model t Memory = TakesManyArguments model t

@@ -53,13 +53,15 @@ end_at flags width precision length byte = end_by flags width precision length b
 
 -- a modifier begins (C11 7.21.6.1 p7), or the conversion comes
 abbrev pub modifier_or_end : FlagSet → Option ℕ → Option ℕ → ℕ → Option Length → Next
-modifier_or_end flags width precision byte (Some length) = inside (Modifier flags width precision length)
+modifier_or_end flags width precision byte (Some length) =
+    inside (Modifier flags width precision length)
 modifier_or_end flags width precision byte None =
     if byte == 76 then Err Float else end_at flags width precision lengths.None byte
 
 -- the same of a byte
 abbrev pub after_number : FlagSet → Option ℕ → Option ℕ → ℕ → Next
-after_number flags width precision byte = modifier_or_end flags width precision byte (modifier_of byte)
+after_number flags width precision byte =
+    modifier_or_end flags width precision byte (modifier_of byte)
 
 -- one more digit of a width (C11 7.21.6.1 p4)
 abbrev pub width_with : FlagSet → ℕ → ℕ → Next

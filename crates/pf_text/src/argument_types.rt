@@ -1,6 +1,7 @@
 //! Reading the argument types of a format.
 ghost use Rattle.std.specs.Prelude.{◌≡◌, ◌≤◌, [], MatchResult};
 ghost use Rattle.std.specs.Option.{option_to_list};
+ghost use Rattle.pf_values.specs.declared.models.Model.TheVariants.{Lp64};
 ghost use Rattle.pf_values.specs.Items.{types};
 ghost use Rattle.pf_text.specs.PieceHistory.{items_of};
 ghost use Rattle.pf_text.specs.Signatures.{TakesTypes, HindersSignature, types_of};
@@ -18,8 +19,8 @@ mod tests;
 /// The types of the arguments that a format takes. Memory can be refused for more than eight of
 /// them only.
 pub fn signature(alloc: Global, text: &[u8]) -> Result<Signature, TextFault>
-    ensures { MatchResult result (λ signature. TakesTypes text.now (types_of signature))
-        (HindersSignature text.now) }
+    ensures { MatchResult result (λ signature. TakesTypes Lp64 text.now (types_of signature))
+        (HindersSignature Lp64 text.now) }
 {
     let mut found = SmallVec::new(alloc);
     match push_types(&mut found, text) {
@@ -35,7 +36,7 @@ fn push_types<A: Allocator + Copy>(
     requires none { found.old.items ≡ [] }
     requires room { 8 ≤ found.old.capacity }
     ensures { MatchResult result
-        (λ _. TakesTypes text.now found.new.items) (HindersSignature text.now) }
+        (λ _. TakesTypes Lp64 text.now found.new.items) (HindersSignature Lp64 text.now) }
 {
     for piece in Pieces::new(text) {
         let piece = match piece {
@@ -53,7 +54,7 @@ fn push_types<A: Allocator + Copy>(
 
 // The type of the argument that a piece takes, if it takes one.
 fn arg_type(piece: Piece<'_>) -> Option<ArgType>
-    ensures { option_to_list result ≡ types (items_of piece.entry) }
+    ensures { option_to_list result ≡ types Lp64 (items_of piece.entry) }
 {
     match piece {
         Piece::Directive(directive) => Some(directive.arg_type()),

@@ -2,6 +2,7 @@
 ghost use Rattle.std.specs.Prelude.{◌≡◌, ◌<◌, ◌≤◌, [], ◌∷◌, ◌*◌, List, drop, length, take, IsTrue, ◌↔◌};
 ghost use Rattle.memchr.specs.Find.{Passes, is_byte2};
 ghost use Rattle.pf_values.specs.Items.{Item, Reads};
+ghost use Rattle.pf_values.specs.declared.models.Model.TheVariants.{Lp64};
 ghost use Rattle.pf_text.specs.Plain.{BeginsSilent, IsPlainText, silents};
 
 use crate::letters::conv_of;
@@ -13,7 +14,7 @@ use crate::search::first_other;
 #[inline(never)]
 pub(crate) fn plain_len(text: &[u8]) -> usize
     ensures within { result ≤ length text.now }
-    ensures plain { (items : List Item) × IsPlainText (take result text.now) items }
+    ensures plain { (items : List Item) × IsPlainText Lp64 (take result text.now) items }
     ensures ended { result < length text.now → Passes (is_byte2 37 0) text.now result }
 {
     let mut at = 0;
@@ -32,7 +33,7 @@ pub(crate) fn plain_len(text: &[u8]) -> usize
 fn plain_front(text: &[u8]) -> usize
     requires { 0 < length text.now }
     ensures within { result ≤ length text.now }
-    ensures plain { (items : List Item) × IsPlainText (take result text.now) items }
+    ensures plain { (items : List Item) × IsPlainText Lp64 (take result text.now) items }
     ensures ended { result ≡ 0 → Passes (is_byte2 37 0) text.now 0 }
 {
     if text[0] != b'%' {
@@ -51,7 +52,7 @@ fn plain_front(text: &[u8]) -> usize
 // normal one.
 #[inline(always)]
 fn ends_plain(letter: u8) -> bool
-    ensures { IsTrue result → (item : Item) × IsPlainText (37 ∷ letter ∷ []) (item ∷ []) }
+    ensures { IsTrue result → (item : Item) × IsPlainText Lp64 (37 ∷ letter ∷ []) (item ∷ []) }
 {
     if letter == b'%' {
         return true;

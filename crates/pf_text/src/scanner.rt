@@ -4,6 +4,7 @@ ghost use Rattle.pf_values.specs.declared.limits.TheConstants.{MAX_TEXT_LEN};
 ghost use Rattle.pf_values.specs.Conversions.{conv_letter};
 ghost use Rattle.pf_values.specs.Items.{Item, Reads};
 ghost use Rattle.pf_values.specs.Text.{Text};
+ghost use Rattle.pf_values.specs.declared.models.Model.TheVariants.{Lp64};
 ghost use Rattle.pf_text.specs.Plain.{PassesPlain, PassesSilents};
 ghost use Rattle.pf_text.specs.Stages.{state_of};
 ghost use Rattle.pf_text.specs.States.{next};
@@ -176,7 +177,7 @@ impl Scanner {
     pub fn pass_plain(&mut self, text: &[u8]) -> usize
         ensures within { result ≤ length text.now }
         ensures passed { (t : Text) (items : List Item) → IsAfter self.old t items → Reads t items
-            → PassesPlain t items text.now result self.new }
+            → PassesPlain Lp64 t items text.now result self.new }
         ensures between { (t : Text) (items : List Item) → IsAfter self.old t items → 0 < result
             → Reads t items }
         ensures idle { result ≡ 0 → self.new ≡ self.old }

@@ -8,6 +8,7 @@ use Rattle.pf_values.specs.declared.flags.Flag.TheVariants.{Minus, Plus, Space, 
 use Rattle.pf_values.specs.declared.lengths.Length.{Length}
 use Rattle.pf_values.specs.declared.lengths.Length.TheVariants as lengths
 use Rattle.pf_values.specs.declared.limits.TheConstants.{MAX_NUMBER, MAX_TEXT_LEN}
+use Rattle.pf_values.specs.declared.models.Model.{Model}
 use Rattle.pf_values.specs.declared.refusals.RefusalKind.TheVariants.{WidthTooLarge, Wide, AltUndefined, ZeroUndefined, GroupUndefined, PrecisionUndefined, LengthUndefined}
 use Rattle.pf_values.specs.Arguments.{Number, String}
 use Rattle.pf_values.specs.Defined.{refused_as}
@@ -27,47 +28,47 @@ max_text_len : MAX_TEXT_LEN ≡ 2 ^ 62
 max_text_len = refl
 
 -- `%05d` prints -42 as `-0042`
-zeros_behind_the_sign : printed_text (spec (Zero ∷ []) (Some 5) None lengths.None D) (Number (negsuc 41)) ≡ codes "-0042"
-zeros_behind_the_sign = refl
+zeros_behind_the_sign : (model : Model) → printed_text model (spec (Zero ∷ []) (Some 5) None lengths.None D) (Number (negsuc 41)) ≡ codes "-0042"
+zeros_behind_the_sign model = refl
 
 -- `%#o` prints 0 as `0`, and 8 as `010`
-octal_zero : printed_text (spec (Alt ∷ []) None None lengths.None O) (Number (pos 0)) ≡ codes "0"
-octal_zero = refl
+octal_zero : (model : Model) → printed_text model (spec (Alt ∷ []) None None lengths.None O) (Number (pos 0)) ≡ codes "0"
+octal_zero model = refl
 
-octal_eight : printed_text (spec (Alt ∷ []) None None lengths.None O) (Number (pos 8)) ≡ codes "010"
-octal_eight = refl
+octal_eight : (model : Model) → printed_text model (spec (Alt ∷ []) None None lengths.None O) (Number (pos 8)) ≡ codes "010"
+octal_eight model = refl
 
 -- `%+.0d` prints 0 as `+`
-sign_without_digits : printed_text (spec (Plus ∷ []) None (Some 0) lengths.None D) (Number (pos 0)) ≡ codes "+"
-sign_without_digits = refl
+sign_without_digits : (model : Model) → printed_text model (spec (Plus ∷ []) None (Some 0) lengths.None D) (Number (pos 0)) ≡ codes "+"
+sign_without_digits model = refl
 
 -- `%#06x` prints 255 as `0x00ff`, and 0 without a prefix
-zeros_behind_the_prefix : printed_text (spec (Alt ∷ Zero ∷ []) (Some 6) None lengths.None X) (Number (pos 255)) ≡ codes "0x00ff"
-zeros_behind_the_prefix = refl
+zeros_behind_the_prefix : (model : Model) → printed_text model (spec (Alt ∷ Zero ∷ []) (Some 6) None lengths.None X) (Number (pos 255)) ≡ codes "0x00ff"
+zeros_behind_the_prefix model = refl
 
-no_prefix_at_zero : printed_text (spec (Alt ∷ Zero ∷ []) (Some 6) None lengths.None X) (Number (pos 0)) ≡ codes "000000"
-no_prefix_at_zero = refl
+no_prefix_at_zero : (model : Model) → printed_text model (spec (Alt ∷ Zero ∷ []) (Some 6) None lengths.None X) (Number (pos 0)) ≡ codes "000000"
+no_prefix_at_zero model = refl
 
 -- `%hhd` prints 300 as `44`, and 128 as `-128`
-value_in_range : printed_text (spec [] None None lengths.Hh D) (Number (pos 300)) ≡ codes "44"
-value_in_range = refl
+value_in_range : (model : Model) → printed_text model (spec [] None None lengths.Hh D) (Number (pos 300)) ≡ codes "44"
+value_in_range model = refl
 
-value_wrapped : printed_text (spec [] None None lengths.Hh D) (Number (pos 128)) ≡ codes "-128"
-value_wrapped = refl
+value_wrapped : (model : Model) → printed_text model (spec [] None None lengths.Hh D) (Number (pos 128)) ≡ codes "-128"
+value_wrapped model = refl
 
 -- `%-5c` prints 65 as `A` and four spaces, `%3c` two spaces and `A`
-char_on_the_left : printed_text (spec (Minus ∷ []) (Some 5) None lengths.None C) (Number (pos 65)) ≡ codes "A    "
-char_on_the_left = refl
+char_on_the_left : (model : Model) → printed_text model (spec (Minus ∷ []) (Some 5) None lengths.None C) (Number (pos 65)) ≡ codes "A    "
+char_on_the_left model = refl
 
-char_on_the_right : printed_text (spec [] (Some 3) None lengths.None C) (Number (pos 321)) ≡ codes "  A"
-char_on_the_right = refl
+char_on_the_right : (model : Model) → printed_text model (spec [] (Some 3) None lengths.None C) (Number (pos 321)) ≡ codes "  A"
+char_on_the_right model = refl
 
 -- `%.3s` prints `abcdef` as `abc`, and `%5.2s` as `   ab`
-string_cut : printed_text (spec [] None (Some 3) lengths.None S) (String (codes "abcdef")) ≡ codes "abc"
-string_cut = refl
+string_cut : (model : Model) → printed_text model (spec [] None (Some 3) lengths.None S) (String (codes "abcdef")) ≡ codes "abc"
+string_cut model = refl
 
-string_in_a_field : printed_text (spec [] (Some 5) (Some 2) lengths.None S) (String (codes "abcdef")) ≡ codes "   ab"
-string_in_a_field = refl
+string_in_a_field : (model : Model) → printed_text model (spec [] (Some 5) (Some 2) lengths.None S) (String (codes "abcdef")) ≡ codes "   ab"
+string_in_a_field model = refl
 
 -- a longest spelling of a directive has 18 bytes
 abbrev longest_defined : Specification

@@ -4,7 +4,7 @@ use Rattle.std.specs.Prelude.{MatchBool, ◌&&◌, nat_abs, unwrap_or, nat_lt, i
 use Rattle.pf_values.specs.declared.bases.Base.{Base}
 use Rattle.pf_values.specs.declared.bases.Base.TheVariants.{Octal, Decimal, Hexadecimal}
 use Rattle.pf_values.specs.declared.conversions.Conv.{Conv}
-use Rattle.pf_values.specs.declared.conversions.Conv.TheVariants.{O, X, UpperX}
+use Rattle.pf_values.specs.declared.conversions.Conv.TheVariants.{O}
 use Rattle.std.specs.Fmt.{digit_glyph}
 use Rattle.std.specs.Int.Digits.{digits_of}
 use Rattle.std.proofs.lemmas.Bool.{cases_lt}
@@ -207,17 +207,26 @@ map_zeros upper (suc k) ds = ap (λ t. 48 ∷ t) (map_zeros upper k ds)
 abbrev pub zero_digits : ℕ → Bool → ℕ → ℕ → Text
 zero_digits base upper zeros n = replicate zeros 48 ++ map (digit_glyph upper) (digits_of base n)
 
-filled_octal : (conv : Conv) (alt : Bool) (precision n : ℕ) → digits_under (is_octal conv && alt) (base_of conv) (is_upper conv) precision n
-    ≡ zero_digits (base_of conv) (is_upper conv) (max precision (natural_len (is_octal conv && alt) (base_of conv) n) - count_of (base_of conv) n) n
-filled_octal O true precision n = map_zeros false _ (digits_of 8 n)
-filled_octal O false precision n = map_zeros false _ (digits_of 8 n) ∙ ap (λ k. zero_digits 8 false k n) (omega arith)
-filled_octal X alt precision n = map_zeros false _ (digits_of 16 n) ∙ ap (λ k. zero_digits 16 false k n) (omega arith)
-filled_octal UpperX alt precision n = map_zeros true _ (digits_of 16 n) ∙ ap (λ k. zero_digits 16 true k n) (omega arith)
-filled_octal _ alt precision n = map_zeros false _ (digits_of 10 n) ∙ ap (λ k. zero_digits 10 false k n) (omega arith)
+-- the digits of a number are zeros and its digits, where they begin with 0 in base eight alone
+filled_under : (raised : Bool) (base : ℕ) (upper : Bool) (precision n : ℕ)
+    → (raised ≡ true → (base ≡ 8) × (upper ≡ false))
+    → digits_under raised base upper precision n
+    ≡ zero_digits base upper (max precision (natural_len raised base n) - count_of base n) n
+filled_under true base upper precision n eight =
+    let e = eight refl in rw (e.0, e.1) (map_zeros false _ (digits_of 8 n))
+filled_under false base upper precision n eight =
+    map_zeros upper _ (digits_of base n) ∙ ap (λ k. zero_digits base upper k n) (omega arith)
+
+raised_is : (conv : Conv) (alt : Bool) → (is_octal conv && alt) ≡ true
+    → (base_of conv ≡ 8) × (is_upper conv ≡ false)
+raised_is O alt e = (refl, refl)
+raised_is _ alt e = absurd (cc)
 
 -- how many zeros stand in front of the digits
 abbrev pub zeros_of : Specification → ℕ → ℕ → ℕ
 zeros_of s precision n = max precision (natural_of s n) - count_of (base_of s.conv) n
 
 pub printed_digits-is : (s : Specification) (precision n : ℕ) → printed_digits s precision n ≡ zero_digits (base_of s.conv) (is_upper s.conv) (zeros_of s precision n) n
-printed_digits-is s precision n = filled_octal s.conv (has s.flags Alt) precision n
+printed_digits-is s precision n =
+    let raised = raised_is s.conv (has s.flags Alt) in
+    filled_under (from_zero s) (base_of s.conv) (is_upper s.conv) precision n raised

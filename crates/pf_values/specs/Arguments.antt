@@ -1,6 +1,7 @@
 -- Arguments, their types, and the value that a directive makes of a number.
 use Rattle.std.specs.Prelude.{◌≡◌, ℕ, ◌<◌, ◌^◌, ◌*ℤ◌, ◌+ℤ◌, ℤ, pos, Bool, List}
 use Rattle.std.specs.List.{AllByRecursion, AllZip}
+use Rattle.pf_values.specs.declared.models.Model.{Model}
 use Rattle.pf_values.specs.declared.types.ArgType.{ArgType}
 use Rattle.pf_values.specs.declared.types.ArgType.TheVariants.{Str}
 use Rattle.pf_values.specs.Conversions.{is_signed}
@@ -18,15 +19,15 @@ abbrev pub IsString : Text → Type 0
 IsString bytes = AllByRecursion (λ byte. (0 < byte) × (byte < 256)) bytes
 
 -- an argument is of the type that a directive wants; any other is undefined (C11 7.21.6.1 p9)
-abbrev pub HasType : Argument → ArgType → Type 0
-HasType (Number n) type = IsInRange type n
-HasType (String bytes) Str = IsString bytes
-HasType (String bytes) _ = ⊥
+abbrev pub HasType : Model → Argument → ArgType → Type 0
+HasType model (Number n) type = IsInRange model type n
+HasType model (String bytes) Str = IsString bytes
+HasType model (String bytes) _ = ⊥
 
 -- one argument for each type, in order: too few are undefined (C11 7.21.6.1 p2), and too many are
 -- wrong in this project alone
-abbrev pub HasTypes : List Argument → List ArgType → Type 0
-HasTypes args types = AllZip HasType args types
+abbrev pub HasTypes : Model → List Argument → List ArgType → Type 0
+HasTypes model args types = AllZip (HasType model) args types
 
 -- The number in the range that differs from another by a multiple of 2 ^ bits (C11 6.3.1.3 p1, p2).
 -- For signed types p3 leaves it to the implementation: this project takes two's complement.
@@ -37,6 +38,6 @@ pub record IsConverted (signed : Bool) (bits : ℕ) (from to : ℤ) : Type 0 whe
 
 -- the value that a directive prints for a number: the argument, converted to the type that the
 -- length modifier names (C11 7.21.6.1 p7)
-abbrev pub IsValue : Specification → ℤ → ℤ → Type 0
-IsValue s argument value =
-    IsConverted (is_signed s.conv) (bit_count (bits_under s.length)) argument value
+abbrev pub IsValue : Model → Specification → ℤ → ℤ → Type 0
+IsValue model s argument value =
+    IsConverted (is_signed s.conv) (bit_count (bits_under model s.length)) argument value

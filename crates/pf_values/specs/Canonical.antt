@@ -1,5 +1,6 @@
 -- Canonical texts. This project's own: the standard has no canonical form.
 use Rattle.std.specs.Prelude.{◌≡◌, ◌≢◌, ℕ, List, [], ◌∷◌, ◌++◌, replicate, ◌==◌, if◌then◌else◌, ◌⊎◌, flat_map, ⊤}
+use Rattle.pf_values.specs.declared.models.Model.{Model}
 use Rattle.pf_values.specs.Items.{Item, Byte, Directive, Reads}
 use Rattle.pf_values.specs.Normal.{IsNormal, silent}
 use Rattle.pf_values.specs.Printing.{AreEquivalent}
@@ -18,37 +19,37 @@ BeginsWithNoByte (Byte byte ∷ items) = ⊥
 BeginsWithNoByte (Directive s ∷ items) = ⊤
 
 -- each directive is normal, or silent and with no byte after it
-abbrev pub AreCanonical : List Item → Type 0
-AreCanonical [] = ⊤
-AreCanonical (Byte byte ∷ items) = AreCanonical items
-AreCanonical (Directive s ∷ items) =
-    (IsNormal s ⊎ ((s ≡ silent) × BeginsWithNoByte items)) × AreCanonical items
+abbrev pub AreCanonical : Model → List Item → Type 0
+AreCanonical model [] = ⊤
+AreCanonical model (Byte byte ∷ items) = AreCanonical model items
+AreCanonical model (Directive s ∷ items) =
+    (IsNormal model s ⊎ ((s ≡ silent) × BeginsWithNoByte items)) × AreCanonical model items
 
 -- a text of canonical items, each written in the one way
-pub record ReadsCanonically (t : Text) (items : List Item) : Type 0 where
+pub record ReadsCanonically (model : Model) (t : Text) (items : List Item) : Type 0 where
   pub reads : Reads t items
-  pub canonical : AreCanonical items
+  pub canonical : AreCanonical model items
   pub whole : t ≡ flat_map item_spelling items
 
 -- a text that reads so as some items
-abbrev pub IsCanonicalText : Text → Type 0
-IsCanonicalText t = (items : List Item) × ReadsCanonically t items
+abbrev pub IsCanonicalText : Model → Text → Type 0
+IsCanonicalText model t = (items : List Item) × ReadsCanonically model t items
 
 -- c is the canonical text of t
-pub record IsCanonicalOf (t c : Text) : Type 0 where
-  pub canonical : IsCanonicalText c
-  pub equivalent : AreEquivalent t c
+pub record IsCanonicalOf (model : Model) (t c : Text) : Type 0 where
+  pub canonical : IsCanonicalText model c
+  pub equivalent : AreEquivalent model t c
 
 -- the last item, if there is one, is no silent directive
 abbrev pub EndsInNoSilent : List Item → Type 0
 EndsInNoSilent items = (before : List Item) → items ≢ before ++ Directive silent ∷ []
 
 -- the canonical text of t, without the silent directives that end its items
-pub record IsSettled (t settled : Text) : Type 0 where
+pub record IsSettled (model : Model) (t settled : Text) : Type 0 where
   pub canonical : Text
   pub items : List Item
   pub waiting : ℕ
-  pub canonical_is : IsCanonicalOf t canonical
+  pub canonical_is : IsCanonicalOf model t canonical
   pub reads : Reads canonical (items ++ replicate waiting (Directive silent))
   pub no_more : EndsInNoSilent items
   pub whole : settled ≡ flat_map item_spelling items

@@ -1,10 +1,13 @@
--- The data model: types, bits and ranges. It is LP64, and stands in the rows of this file alone.
+-- The data models LP64 and ILP32: types, bits and ranges. They stand in the rows of this file
+-- alone. That the types of `j`, `z` and `t` are so in ILP32 is this project's own.
 use Rattle.std.specs.Prelude.{ℕ, ◌-◌, ◌^◌, ◌≤ℤ◌, ◌<ℤ◌, neg_ℤ, ℤ, pos, Bool, true, false, if◌then◌else◌}
 use Rattle.pf_values.specs.declared.conversions.Conv.{Conv}
 use Rattle.pf_values.specs.declared.conversions.Kind.{Kind}
 use Rattle.pf_values.specs.declared.conversions.Kind.TheVariants as kinds
 use Rattle.pf_values.specs.declared.lengths.Length.{Length}
 use Rattle.pf_values.specs.declared.lengths.Length.TheVariants as lengths
+use Rattle.pf_values.specs.declared.models.Model.{Model}
+use Rattle.pf_values.specs.declared.models.Model.TheVariants.{Lp64, Ilp32}
 use Rattle.pf_values.specs.declared.types.ArgType.{ArgType}
 use Rattle.pf_values.specs.declared.types.ArgType.TheVariants.{
   Int,
@@ -35,56 +38,71 @@ abbrev pub row : Length → Bits → ArgType → ArgType → Row
 row kept bits signed unsigned =
     record { kept = kept; bits = bits; signed = signed; unsigned = unsigned }
 
-abbrev pub row_of : Length → Row
-row_of lengths.Hh = row lengths.Hh B8 Int Int
-row_of lengths.H = row lengths.H B16 Int Int
-row_of lengths.None = row lengths.None B32 Int UInt
-row_of lengths.L = row lengths.L B64 Long ULong
-row_of lengths.Ll = row lengths.Ll B64 LongLong ULongLong
-row_of lengths.J = row lengths.L B64 Long ULong
-row_of lengths.Z = row lengths.L B64 Long ULong
-row_of lengths.T = row lengths.L B64 Long ULong
+-- the bits of a long
+abbrev pub long_bits : Model → Bits
+long_bits Lp64 = B64
+long_bits Ilp32 = B32
+
+-- `size_t` with its signed type, and `ptrdiff_t` with its unsigned one
+abbrev pub size_row : Model → Row
+size_row Lp64 = row lengths.L B64 Long ULong
+size_row Ilp32 = row lengths.None B32 Int UInt
+
+-- `intmax_t` and `uintmax_t`
+abbrev pub greatest_row : Model → Row
+greatest_row Lp64 = row lengths.L B64 Long ULong
+greatest_row Ilp32 = row lengths.Ll B64 LongLong ULongLong
+
+abbrev pub row_of : Model → Length → Row
+row_of model lengths.Hh = row lengths.Hh B8 Int Int
+row_of model lengths.H = row lengths.H B16 Int Int
+row_of model lengths.None = row lengths.None B32 Int UInt
+row_of model lengths.L = row lengths.L (long_bits model) Long ULong
+row_of model lengths.Ll = row lengths.Ll B64 LongLong ULongLong
+row_of model lengths.J = greatest_row model
+row_of model lengths.Z = size_row model
+row_of model lengths.T = size_row model
 
 -- The bits of an integer type (C11 6.2.5). A string has none, and nothing reads its row.
-abbrev pub type_bits : ArgType → Bits
-type_bits Int = B32
-type_bits UInt = B32
-type_bits Long = B64
-type_bits ULong = B64
-type_bits LongLong = B64
-type_bits ULongLong = B64
-type_bits Str = B64
+abbrev pub type_bits : Model → ArgType → Bits
+type_bits model Int = B32
+type_bits model UInt = B32
+type_bits model Long = long_bits model
+type_bits model ULong = long_bits model
+type_bits model LongLong = B64
+type_bits model ULongLong = B64
+type_bits model Str = B64
 
-abbrev pub kept_length : Length → Length
-kept_length length = (row_of length).kept
+abbrev pub kept_length : Model → Length → Length
+kept_length model length = (row_of model length).kept
 
 -- the bits of the value that is printed under a length modifier
-abbrev pub bits_under : Length → Bits
-bits_under length = (row_of length).bits
+abbrev pub bits_under : Model → Length → Bits
+bits_under model length = (row_of model length).bits
 
 -- the argument types of `d i` and of `u o x X` under a length modifier
-abbrev pub signed_type : Length → ArgType
-signed_type length = (row_of length).signed
+abbrev pub signed_type : Model → Length → ArgType
+signed_type model length = (row_of model length).signed
 
-abbrev pub unsigned_type : Length → ArgType
-unsigned_type length = (row_of length).unsigned
+abbrev pub unsigned_type : Model → Length → ArgType
+unsigned_type model length = (row_of model length).unsigned
 
 -- the bits of the value that a directive prints, of which a byte and a string have none
-abbrev pub value_bits : Specification → ℕ
-value_bits s = if is_text s.conv then 0 else bit_count (bits_under s.length)
+abbrev pub value_bits : Model → Specification → ℕ
+value_bits model s = if is_text s.conv then 0 else bit_count (bits_under model s.length)
 
 -- the argument type (C11 7.21.6.1 p7, p8)
-abbrev pub type_of_kind : Kind → Length → ArgType
-type_of_kind kinds.Signed length = signed_type length
-type_of_kind (kinds.Unsigned base capitals) length = unsigned_type length
-type_of_kind kinds.Char length = Int
-type_of_kind kinds.String length = Str
+abbrev pub type_of_kind : Model → Kind → Length → ArgType
+type_of_kind model kinds.Signed length = signed_type model length
+type_of_kind model (kinds.Unsigned base capitals) length = unsigned_type model length
+type_of_kind model kinds.Char length = Int
+type_of_kind model kinds.String length = Str
 
-abbrev pub type_under : Conv → Length → ArgType
-type_under conv length = type_of_kind (kind_of conv) length
+abbrev pub type_under : Model → Conv → Length → ArgType
+type_under model conv length = type_of_kind model (kind_of conv) length
 
-abbrev pub arg_type : Specification → ArgType
-arg_type s = type_under s.conv s.length
+abbrev pub arg_type : Model → Specification → ArgType
+arg_type model s = type_under model s.conv s.length
 
 -- a number fits so many bits, signed or not (C11 6.2.6.2)
 abbrev pub FitsIn : Bool → ℕ → ℤ → Type 0
@@ -92,14 +110,14 @@ FitsIn true bits n = (neg_ℤ (pos (2 ^ (bits - 1))) ≤ℤ n) × (n <ℤ pos (2
 FitsIn false bits n = (pos 0 ≤ℤ n) × (n <ℤ pos (2 ^ bits))
 
 -- a number is in the range of a type, of which a string has none
-abbrev pub IsInRange : ArgType → ℤ → Type 0
-IsInRange Int n = FitsIn true (bit_count (type_bits Int)) n
-IsInRange UInt n = FitsIn false (bit_count (type_bits UInt)) n
-IsInRange Long n = FitsIn true (bit_count (type_bits Long)) n
-IsInRange ULong n = FitsIn false (bit_count (type_bits ULong)) n
-IsInRange LongLong n = FitsIn true (bit_count (type_bits LongLong)) n
-IsInRange ULongLong n = FitsIn false (bit_count (type_bits ULongLong)) n
-IsInRange Str n = ⊥
+abbrev pub IsInRange : Model → ArgType → ℤ → Type 0
+IsInRange model Int n = FitsIn true (bit_count (type_bits model Int)) n
+IsInRange model UInt n = FitsIn false (bit_count (type_bits model UInt)) n
+IsInRange model Long n = FitsIn true (bit_count (type_bits model Long)) n
+IsInRange model ULong n = FitsIn false (bit_count (type_bits model ULong)) n
+IsInRange model LongLong n = FitsIn true (bit_count (type_bits model LongLong)) n
+IsInRange model ULongLong n = FitsIn false (bit_count (type_bits model ULongLong)) n
+IsInRange model Str n = ⊥
 
 -- the most digits that a value of so many bits has, its sign not counted
 abbrev pub most_digits_of : Kind → Bits → ℕ

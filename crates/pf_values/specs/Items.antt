@@ -1,6 +1,7 @@
 -- The items of a text, and the types of their arguments.
 use Rattle.std.specs.Prelude.{◌≡◌, ◌≢◌, ℕ, ◌≤◌, List, [], ◌∷◌, ◌++◌, length, MatchBool, ◌==◌}
 use Rattle.pf_values.specs.declared.limits.TheConstants.{MAX_TEXT_LEN}
+use Rattle.pf_values.specs.declared.models.Model.{Model}
 use Rattle.pf_values.specs.declared.types.ArgType.{ArgType}
 use Rattle.pf_values.specs.DataModel.{arg_type}
 use Rattle.pf_values.specs.Defined.{IsDefined}
@@ -36,7 +37,7 @@ abbrev pub IsAccepted : Text → Type 0
 IsAccepted t = (items : List Item) × HasItems t items
 
 -- the types of the arguments that the directives fetch, in order (C11 7.21.6.1 p3)
-abbrev pub types : List Item → List ArgType
-types [] = []
-types (Byte byte ∷ items) = types items
-types (Directive s ∷ items) = arg_type s ∷ types items
+abbrev pub types : Model → List Item → List ArgType
+types model [] = []
+types model (Byte byte ∷ items) = types model items
+types model (Directive s ∷ items) = arg_type model s ∷ types model items

@@ -7,6 +7,7 @@ use Rattle.pf_values.specs.declared.conversions.Kind.{Kind}
 use Rattle.pf_values.specs.declared.conversions.Kind.TheVariants as kinds
 use Rattle.pf_values.specs.declared.flags.Flag.TheVariants.{Minus, Plus, Space, Alt, Zero, Group}
 use Rattle.pf_values.specs.declared.lengths.Length.TheVariants as lengths
+use Rattle.pf_values.specs.declared.models.Model.{Model}
 use Rattle.pf_values.specs.Bases.{alternative_of}
 use Rattle.pf_values.specs.Conversions.{is_signed, is_string, kept_conv, kind_of}
 use Rattle.pf_values.specs.DataModel.{bits_under, kept_length, most_digits}
@@ -26,12 +27,12 @@ effective_precision s front =
     if is_zero_filled s then max (width_of s - front) 1 else precision_of s
 
 -- the most digits that its value has
-abbrev pub digits_at_most : Specification → ℕ
-digits_at_most s = most_digits s.conv (bits_under s.length)
+abbrev pub digits_at_most : Model → Specification → ℕ
+digits_at_most model s = most_digits s.conv (bits_under model s.length)
 
 -- the most digits that are printed
-abbrev pub longest : Specification → ℕ
-longest s = max (precision_of s) (digits_at_most s)
+abbrev pub longest : Model → Specification → ℕ
+longest model s = max (precision_of s) (digits_at_most model s)
 
 -- 1 with a sign flag, else 0
 abbrev pub sign_len : Specification → ℕ
@@ -43,21 +44,21 @@ pub record IsNormalString (s : Specification) : Type 0 where
   pub left : IsTrue (has s.flags Minus) → 1 < width_of s
 
 -- `u o x X` without `#`
-pub record IsNormalPlain (s : Specification) : Type 0 where
+pub record IsNormalPlain (model : Model) (s : Specification) : Type 0 where
   pub not_filled : IsFalse (has s.flags Zero)
-  pub precision : precision_of s ≤ digits_at_most s
+  pub precision : precision_of s ≤ digits_at_most model s
   pub least : 0 < width_of s → precision_of s < width_of s
-  pub most : width_of s ≤ digits_at_most s
+  pub most : width_of s ≤ digits_at_most model s
   pub left : IsTrue (has s.flags Minus) → (0 < width_of s) × (precision_of s ≡ 0 → 1 < width_of s)
 
 -- `o` with `#`
-pub record IsNormalOctal (s : Specification) : Type 0 where
+pub record IsNormalOctal (model : Model) (s : Specification) : Type 0 where
   pub right : IsFalse (has s.flags Minus)
   pub not_filled : IsFalse (has s.flags Zero)
   pub some_digit : 1 ≤ precision_of s
-  pub precision : precision_of s ≤ digits_at_most s
+  pub precision : precision_of s ≤ digits_at_most model s
   pub least : precision_of s < width_of s
-  pub most : width_of s ≤ digits_at_most s + 1
+  pub most : width_of s ≤ digits_at_most model s + 1
 
 -- filled with zeros up to the width
 pub record IsNormalFilled (s : Specification) : Type 0 where
@@ -66,55 +67,57 @@ pub record IsNormalFilled (s : Specification) : Type 0 where
   pub width : 2 ≤ width_of s
 
 -- `x X` with `#`, not filled
-pub record IsNormalPrefixed (s : Specification) : Type 0 where
+pub record IsNormalPrefixed (model : Model) (s : Specification) : Type 0 where
   pub least : 0 < width_of s → precision_of s < width_of s
-  pub most : width_of s ≤ 2 + longest s
+  pub most : width_of s ≤ 2 + longest model s
   pub left : IsTrue (has s.flags Minus) → (0 < width_of s) × (precision_of s ≡ 0 → 3 < width_of s)
 
 -- `d`, not filled
-pub record IsNormalSigned (s : Specification) : Type 0 where
+pub record IsNormalSigned (model : Model) (s : Specification) : Type 0 where
   pub one_sign : IsTrue (has s.flags Plus) → IsFalse (has s.flags Space)
   pub least : 0 < width_of s → sign_len s + precision_of s < width_of s
-  pub most : width_of s ≤ 1 + longest s
+  pub most : width_of s ≤ 1 + longest model s
   pub right_space : IsFalse (has s.flags Minus) → IsTrue (has s.flags Space)
-      → width_of s ≢ 1 + longest s
-  pub right_bare : IsFalse (has s.flags Minus) → sign_len s ≡ 0 → digits_at_most s ≤ precision_of s
-      → width_of s ≢ 1 + longest s
+      → width_of s ≢ 1 + longest model s
+  pub right_bare : IsFalse (has s.flags Minus) → sign_len s ≡ 0
+      → digits_at_most model s ≤ precision_of s
+      → width_of s ≢ 1 + longest model s
   pub left : IsTrue (has s.flags Minus) → (0 < width_of s)
       × (IsFalse (has s.flags Plus) → precision_of s ≡ 0 → sign_len s + 1 < width_of s)
 
 -- `x X`, with or without `#` and with or without `0`
-abbrev pub IsNormalHexadecimal : Bool → Bool → Specification → Type 0
-IsNormalHexadecimal true true s = IsNormalFilled s
-IsNormalHexadecimal true false s = IsNormalPrefixed s
-IsNormalHexadecimal false _ s = IsNormalPlain s
+abbrev pub IsNormalHexadecimal : Model → Bool → Bool → Specification → Type 0
+IsNormalHexadecimal model true true s = IsNormalFilled s
+IsNormalHexadecimal model true false s = IsNormalPrefixed model s
+IsNormalHexadecimal model false _ s = IsNormalPlain model s
 
 -- `u o x X`, by what `#` does
-abbrev pub HasUnsignedForm : Alternative → Specification → Type 0
-HasUnsignedForm Undefined s = IsNormalPlain s
-HasUnsignedForm Raised s = MatchBool (has s.flags Alt) (IsNormalOctal s) (IsNormalPlain s)
-HasUnsignedForm Prefixed s = IsNormalHexadecimal (has s.flags Alt) (has s.flags Zero) s
+abbrev pub HasUnsignedForm : Model → Alternative → Specification → Type 0
+HasUnsignedForm model Undefined s = IsNormalPlain model s
+HasUnsignedForm model Raised s =
+    MatchBool (has s.flags Alt) (IsNormalOctal model s) (IsNormalPlain model s)
+HasUnsignedForm model Prefixed s = IsNormalHexadecimal model (has s.flags Alt) (has s.flags Zero) s
 
 -- `d`
-abbrev pub HasSignedForm : Specification → Type 0
-HasSignedForm s =
-    MatchBool (has s.flags Zero) (IsNormalFilled s × (sign_len s ≡ 0)) (IsNormalSigned s)
+abbrev pub HasSignedForm : Model → Specification → Type 0
+HasSignedForm model s =
+    MatchBool (has s.flags Zero) (IsNormalFilled s × (sign_len s ≡ 0)) (IsNormalSigned model s)
 
-abbrev pub HasNormalForm : Kind → Specification → Type 0
-HasNormalForm kinds.Signed s = HasSignedForm s
-HasNormalForm (kinds.Unsigned base capitals) s = HasUnsignedForm (alternative_of base) s
-HasNormalForm kinds.Char s = (s.flags ≡ no_flags) × (s.width ≡ None) × (s.precision ≡ None)
-HasNormalForm kinds.String s = IsNormalString s
+abbrev pub HasNormalForm : Model → Kind → Specification → Type 0
+HasNormalForm model kinds.Signed s = HasSignedForm model s
+HasNormalForm model (kinds.Unsigned base capitals) s = HasUnsignedForm model (alternative_of base) s
+HasNormalForm model kinds.Char s = (s.flags ≡ no_flags) × (s.width ≡ None) × (s.precision ≡ None)
+HasNormalForm model kinds.String s = IsNormalString s
 
-pub record IsNormal (s : Specification) : Type 0 where
+pub record IsNormal (model : Model) (s : Specification) : Type 0 where
   pub defined : IsDefined s
   pub no_group : IsFalse (has s.flags Group)
-  pub length : kept_length s.length ≡ s.length
+  pub length : kept_length model s.length ≡ s.length
   pub conv : kept_conv s.conv ≡ s.conv
   pub no_plus : IsTrue (has s.flags Plus) → IsTrue (is_signed s.conv)
   pub no_space : IsTrue (has s.flags Space) → IsTrue (is_signed s.conv)
   pub precision : s.precision ≡ Some 1 → IsTrue (is_string s.conv)
-  pub form : HasNormalForm (kind_of s.conv) s
+  pub form : HasNormalForm model (kind_of s.conv) s
 
 -- `%.0s`, which takes a string and prints nothing
 abbrev pub silent : Specification

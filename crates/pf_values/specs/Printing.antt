@@ -8,6 +8,7 @@ use Rattle.pf_values.specs.declared.conversions.Conv.{Conv}
 use Rattle.pf_values.specs.declared.conversions.Kind.{Kind}
 use Rattle.pf_values.specs.declared.conversions.Kind.TheVariants as kinds
 use Rattle.pf_values.specs.declared.flags.Flag.TheVariants.{Minus, Plus, Space, Alt, Zero}
+use Rattle.pf_values.specs.declared.models.Model.{Model}
 use Rattle.pf_values.specs.Arguments.{Argument, Number, String, HasType, HasTypes, IsConverted, IsValue}
 use Rattle.pf_values.specs.Bases.{alternative_of, number_of, prefix_of}
 use Rattle.pf_values.specs.Conversions.{base_of, is_octal, is_upper, kind_of}
@@ -88,11 +89,12 @@ IsPrecision s value precision = MatchBool (is_zero_filled s)
     (precision ≡ unwrap_or s.precision 1)
 
 -- a number, without padding
-pub record PrintsNumber (s : Specification) (argument : ℤ) (body : Text) : Type 0 where
+pub record PrintsNumber (model : Model) (s : Specification) (argument : ℤ)
+    (body : Text) : Type 0 where
   pub value : ℤ
   pub precision : ℕ
   pub digits : Text
-  pub value_is : IsValue s argument value
+  pub value_is : IsValue model s argument value
   pub precision_is : IsPrecision s value precision
   pub digits_are : AreDigitsOf s precision (nat_abs value) digits
   pub whole : body ≡ sign_or_prefix s value ++ digits
@@ -107,18 +109,18 @@ abbrev pub printed_front : Option ℕ → Text → Text
 printed_front None bytes = bytes
 printed_front (Some most) bytes = take most bytes
 
-abbrev pub PrintsKind : Kind → Specification → Argument → Text → Type 0
-PrintsKind kinds.Signed s (Number n) body = PrintsNumber s n body
-PrintsKind kinds.Signed s (String bytes) body = ⊥
-PrintsKind (kinds.Unsigned base capitals) s (Number n) body = PrintsNumber s n body
-PrintsKind (kinds.Unsigned base capitals) s (String bytes) body = ⊥
-PrintsKind kinds.Char s (Number n) body = PrintsChar n body
-PrintsKind kinds.Char s (String bytes) body = ⊥
-PrintsKind kinds.String s (Number n) body = ⊥
-PrintsKind kinds.String s (String bytes) body = body ≡ printed_front s.precision bytes
+abbrev pub PrintsKind : Model → Kind → Specification → Argument → Text → Type 0
+PrintsKind model kinds.Signed s (Number n) body = PrintsNumber model s n body
+PrintsKind model kinds.Signed s (String bytes) body = ⊥
+PrintsKind model (kinds.Unsigned base capitals) s (Number n) body = PrintsNumber model s n body
+PrintsKind model (kinds.Unsigned base capitals) s (String bytes) body = ⊥
+PrintsKind model kinds.Char s (Number n) body = PrintsChar n body
+PrintsKind model kinds.Char s (String bytes) body = ⊥
+PrintsKind model kinds.String s (Number n) body = ⊥
+PrintsKind model kinds.String s (String bytes) body = body ≡ printed_front s.precision bytes
 
-abbrev pub PrintsUnder : Conv → Specification → Argument → Text → Type 0
-PrintsUnder conv s argument body = PrintsKind (kind_of conv) s argument body
+abbrev pub PrintsUnder : Model → Conv → Specification → Argument → Text → Type 0
+PrintsUnder model conv s argument body = PrintsKind model (kind_of conv) s argument body
 
 -- the fewest spaces with which a text has this many bytes
 abbrev pub padding : ℕ → Text → Text
@@ -132,40 +134,42 @@ abbrev pub field : Specification → Text → Text
 field s body = field_of (has s.flags Minus) (width_of s) body
 
 -- what a directive prints for an argument
-abbrev pub Prints : Specification → Argument → Text → Type 0
-Prints s argument out = (body : Text) × PrintsUnder s.conv s argument body × (out ≡ field s body)
+abbrev pub Prints : Model → Specification → Argument → Text → Type 0
+Prints model s argument out =
+    (body : Text) × PrintsUnder model s.conv s argument body × (out ≡ field s body)
 
 -- a byte prints itself, and each directive takes the next argument
-abbrev pub PrintsAll : List Item → List Argument → Text → Type 0
-PrintsAll [] [] out = out ≡ []
-PrintsAll [] (argument ∷ args) out = ⊥
-PrintsAll (Byte byte ∷ items) args out = (rest : Text) × PrintsAll items args rest
+abbrev pub PrintsAll : Model → List Item → List Argument → Text → Type 0
+PrintsAll model [] [] out = out ≡ []
+PrintsAll model [] (argument ∷ args) out = ⊥
+PrintsAll model (Byte byte ∷ items) args out = (rest : Text) × PrintsAll model items args rest
     × (out ≡ byte ∷ rest)
-PrintsAll (Directive s ∷ items) [] out = ⊥
-PrintsAll (Directive s ∷ items) (argument ∷ args) out = (first rest : Text)
-    × Prints s argument first × PrintsAll items args rest × (out ≡ first ++ rest)
+PrintsAll model (Directive s ∷ items) [] out = ⊥
+PrintsAll model (Directive s ∷ items) (argument ∷ args) out = (first rest : Text)
+    × Prints model s argument first × PrintsAll model items args rest × (out ≡ first ++ rest)
 
 -- Items that fetch arguments of the same types, and print the same bytes for all of them
 -- (C11 7.21.6.1 p2, p3).
-pub record PrintAlike (a b : List Item) : Type 0 where
-  pub same_types : types a ≡ types b
-  pub same_bytes : (args : List Argument) (out : Text) → HasTypes args (types a)
-      → (PrintsAll a args out ↔ PrintsAll b args out)
+pub record PrintAlike (model : Model) (a b : List Item) : Type 0 where
+  pub same_types : types model a ≡ types model b
+  pub same_bytes : (args : List Argument) (out : Text) → HasTypes model args (types model a)
+      → (PrintsAll model a args out ↔ PrintsAll model b args out)
 
 -- one text may stand for the other: their items print alike
-pub record AreEquivalent (t u : Text) : Type 0 where
+pub record AreEquivalent (model : Model) (t u : Text) : Type 0 where
   pub first : List Item
   pub second : List Item
   pub reads_first : Reads t first
   pub reads_second : Reads u second
-  pub alike : PrintAlike first second
+  pub alike : PrintAlike model first second
 
 -- a directive prints this text for an argument, and no other
-abbrev pub PrintsOnly : Specification → Argument → Text → Type 0
-PrintsOnly s argument out = Prints s argument out
-    × ((other : Text) → Prints s argument other → other ≡ out)
+abbrev pub PrintsOnly : Model → Specification → Argument → Text → Type 0
+PrintsOnly model s argument out = Prints model s argument out
+    × ((other : Text) → Prints model s argument other → other ≡ out)
 
 -- a directive and an argument of its type print one text
-abbrev pub PrintsOnce : Type 0
-PrintsOnce = (s : Specification) (argument : Argument) → HasType argument (arg_type s)
-    → (out : Text) × PrintsOnly s argument out
+abbrev pub PrintsOnce : Model → Type 0
+PrintsOnce model =
+    (s : Specification) (argument : Argument) → HasType model argument (arg_type model s)
+    → (out : Text) × PrintsOnly model s argument out

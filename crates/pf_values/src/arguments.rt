@@ -53,13 +53,14 @@ pub enum Arg<'a> {
 
 impl<'a> Arg<'a> {
     ghost use Rattle.pf_values.specs.Arg.{argument_of, type_of};
+    ghost use Rattle.pf_values.specs.declared.models.Model.TheVariants.{Lp64};
     ghost use Rattle.pf_values.specs.Arguments.{HasType, Number, String};
     ghost use Rattle.pf_values.specs.Text.{Text};
 
     /// The type of the argument.
     pub fn arg_type(self) -> ArgType
         ensures value { result ≡ type_of self.entry }
-        ensures typed { HasType (argument_of self.entry) result }
+        ensures typed { HasType Lp64 (argument_of self.entry) result }
     {
         match self {
             Arg::Int(_) => ArgType::Int,

@@ -1,16 +1,20 @@
-//! The data model LP64: what a length modifier says, and how many bits a type has.
+//! The data models: what a length modifier says, and how many bits a type has.
 ghost use Rattle.std.specs.Prelude.{◌≡◌, ◌↔◌, IsTrue, false, true};
 ghost use Rattle.pf_values.specs.Bits.{Bits, bit_count};
 ghost use Rattle.pf_values.specs.DataModel.{
   FitsIn,
   bits_under,
+  greatest_row,
   kept_length,
+  long_bits,
   signed_type,
+  size_row,
   type_bits,
   unsigned_type,
 };
 
 use crate::lengths::Length;
+use crate::models::Model;
 use crate::types::ArgType;
 
 /// What a length modifier says (C11 7.21.6.1, paragraph 7).
@@ -27,20 +31,56 @@ pub(crate) struct Row {
 }
 
 /// The row of a length modifier.
-pub(crate) fn row_of(length: Length) -> Row
-    ensures kept { result.kept ≡ kept_length length }
-    ensures bits { result.bits ≡ bit_count (bits_under length) }
-    ensures signed { result.signed ≡ signed_type length }
-    ensures unsigned { result.unsigned ≡ unsigned_type length }
+pub(crate) fn row_of(model: Model, length: Length) -> Row
+    ensures kept { result.kept ≡ kept_length model length }
+    ensures bits { result.bits ≡ bit_count (bits_under model length) }
+    ensures signed { result.signed ≡ signed_type model length }
+    ensures unsigned { result.unsigned ≡ unsigned_type model length }
 {
     match length {
         Length::Hh => columns(Length::Hh, 8, ArgType::Int, ArgType::Int),
         Length::H => columns(Length::H, 16, ArgType::Int, ArgType::Int),
         Length::None => columns(Length::None, 32, ArgType::Int, ArgType::UInt),
+        Length::L => columns(Length::L, long_bits(model), ArgType::Long, ArgType::ULong),
         Length::Ll => columns(Length::Ll, 64, ArgType::LongLong, ArgType::ULongLong),
-        Length::L | Length::J | Length::Z | Length::T => {
-            columns(Length::L, 64, ArgType::Long, ArgType::ULong)
-        }
+        Length::J => greatest_row(model),
+        Length::Z | Length::T => size_row(model),
+    }
+}
+
+// `intmax_t` and `uintmax_t`.
+fn greatest_row(model: Model) -> Row
+    ensures kept { result.kept ≡ (greatest_row model).kept }
+    ensures bits { result.bits ≡ bit_count (greatest_row model).bits }
+    ensures signed { result.signed ≡ (greatest_row model).signed }
+    ensures unsigned { result.unsigned ≡ (greatest_row model).unsigned }
+{
+    match model {
+        Model::Lp64 => columns(Length::L, 64, ArgType::Long, ArgType::ULong),
+        Model::Ilp32 => columns(Length::Ll, 64, ArgType::LongLong, ArgType::ULongLong),
+    }
+}
+
+// `size_t` with its signed type, and `ptrdiff_t` with its unsigned one.
+fn size_row(model: Model) -> Row
+    ensures kept { result.kept ≡ (size_row model).kept }
+    ensures bits { result.bits ≡ bit_count (size_row model).bits }
+    ensures signed { result.signed ≡ (size_row model).signed }
+    ensures unsigned { result.unsigned ≡ (size_row model).unsigned }
+{
+    match model {
+        Model::Lp64 => columns(Length::L, 64, ArgType::Long, ArgType::ULong),
+        Model::Ilp32 => columns(Length::None, 32, ArgType::Int, ArgType::UInt),
+    }
+}
+
+// The bits of a long.
+fn long_bits(model: Model) -> u8
+    ensures { result ≡ bit_count (long_bits model) }
+{
+    match model {
+        Model::Lp64 => 64,
+        Model::Ilp32 => 32,
     }
 }
 
@@ -56,14 +96,14 @@ fn columns(kept: Length, bits: u8, signed: ArgType, unsigned: ArgType) -> Row
 }
 
 /// The bits of an integer type (C11 6.2.5). A string has none, and nothing reads its row.
-pub(crate) fn type_bits(arg_type: ArgType) -> u8
-    ensures { result ≡ bit_count (type_bits arg_type) }
+pub(crate) fn type_bits(model: Model, arg_type: ArgType) -> u8
+    ensures { result ≡ bit_count (type_bits model arg_type) }
 {
     match arg_type {
         ArgType::Int => 32,
         ArgType::UInt => 32,
-        ArgType::Long => 64,
-        ArgType::ULong => 64,
+        ArgType::Long => long_bits(model),
+        ArgType::ULong => long_bits(model),
         ArgType::LongLong => 64,
         ArgType::ULongLong => 64,
         ArgType::Str => 64,

@@ -3,6 +3,7 @@ ghost use Rattle.std.specs.Prelude.{◌≡◌, ◌≤◌, MatchResult};
 ghost use Rattle.pf_values.specs.declared.limits.TheConstants.{MAX_NUMBER};
 ghost use Rattle.pf_values.specs.Defined.{IsDefined, first_broken, refused_as, undefined_kinds};
 ghost use Rattle.pf_values.specs.Specification.{specification_of};
+ghost use Rattle.pf_values.specs.declared.models.Model.TheVariants.{Lp64};
 ghost use Rattle.pf_values.specs.DataModel.{arg_type, value_bits};
 ghost use Rattle.pf_values.specs.Normal.{digits_at_most, effective_precision};
 ghost use Rattle.pf_values.specs.Printing.{is_zero_filled};
@@ -13,6 +14,7 @@ use crate::data_model::row_of;
 use crate::flags::{Flag, FlagSet};
 use crate::lengths::Length;
 use crate::limits::MAX_NUMBER;
+use crate::models;
 use crate::refusals::RefusalKind;
 use crate::types::ArgType;
 use std::marker::Model;
@@ -158,11 +160,11 @@ impl Directive {
 
     /// The type of the argument that it takes.
     pub fn arg_type(&self) -> ArgType
-        ensures { result ≡ arg_type self.now }
+        ensures { result ≡ arg_type Lp64 self.now }
     {
         match self.conv.kind() {
-            Kind::Signed => row_of(self.length).signed,
-            Kind::Unsigned(_, _) => row_of(self.length).unsigned,
+            Kind::Signed => row_of(models::Model::Lp64, self.length).signed,
+            Kind::Unsigned(_, _) => row_of(models::Model::Lp64, self.length).unsigned,
             Kind::Char => ArgType::Int,
             Kind::String => ArgType::Str,
         }
@@ -170,19 +172,19 @@ impl Directive {
 
     /// The bits of the value that it prints; 0 for `c` and `s`.
     pub fn bits(&self) -> u8
-        ensures { result ≡ value_bits self.now }
+        ensures { result ≡ value_bits Lp64 self.now }
     {
         if self.conv.kind().is_text() {
             return 0;
         }
-        row_of(self.length).bits
+        row_of(models::Model::Lp64, self.length).bits
     }
 
     /// The most digits that its value has, the sign not counted; 0 for `c` and `s`.
     pub fn max_digits(&self) -> u8
-        ensures { result ≡ digits_at_most self.now }
+        ensures { result ≡ digits_at_most Lp64 self.now }
     {
-        let bits = row_of(self.length).bits;
+        let bits = row_of(models::Model::Lp64, self.length).bits;
         match self.conv.kind() {
             Kind::Signed => by_bits(bits, 3, 5, 10, 19),
             Kind::Unsigned(base, _) => base.max_digits(bits),
@@ -198,7 +200,8 @@ fn first_undefined(
     length: Length,
     conv: Conv,
 ) -> Option<RefusalKind>
-    ensures { result ≡ first_broken undefined_kinds (specification_of flags None precision length conv) }
+    ensures { result
+        ≡ first_broken undefined_kinds (specification_of flags None precision length conv) }
 {
     let kind = conv.kind();
     if length.is_long() && kind.is_text() {

@@ -1,9 +1,11 @@
 //! Length modifiers.
 ghost use Rattle.std.specs.Prelude.{◌≡◌};
+ghost use Rattle.pf_values.specs.declared.models.Model.TheVariants.{Lp64};
 ghost use Rattle.pf_values.specs.DataModel.{kept_length};
 ghost use Rattle.pf_values.specs.Lengths.{is_long, is_plain};
 
 use crate::data_model::row_of;
+use crate::models::Model;
 
 /// A length modifier (C11 7.21.6.1, paragraph 7).
 #[derive(Clone, Copy, Debug, PartialEq, Eq)]
@@ -42,9 +44,9 @@ impl Length {
     /// The length modifier that a normal directive has for it: one that names the same types
     /// (C11 7.21.6.1, paragraph 7).
     pub fn representative(self) -> Length
-        ensures { result ≡ kept_length self }
+        ensures { result ≡ kept_length Lp64 self }
     {
-        row_of(self).kept
+        row_of(Model::Lp64, self).kept
     }
 
     pub(crate) fn is_plain(self) -> bool

@@ -14,6 +14,7 @@ mod flags;
 pub mod laws;
 mod lengths;
 pub mod limits;
+mod models;
 mod refusals;
 #[cfg(test)]
 mod tests;
@@ -28,6 +29,7 @@ pub use counting::Counted;
 pub use directives::Directive;
 pub use flags::{Flag, FlagSet};
 pub use lengths::Length;
+pub use models::Model;
 pub use refusals::RefusalKind;
 pub use types::ArgType;
 pub use value_kinds::ValueKind;

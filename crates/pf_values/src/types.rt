@@ -1,10 +1,12 @@
 //! Argument types.
 ghost use Rattle.std.specs.Prelude.{◌↔◌, IsTrue};
+ghost use Rattle.pf_values.specs.declared.models.Model.TheVariants.{Lp64};
 ghost use Rattle.pf_values.specs.DataModel.{IsInRange};
 
 use crate::data_model::{fits_signed, fits_unsigned, type_bits};
+use crate::models::Model;
 
-/// The type of an argument, in the data model LP64.
+/// The type of an argument.
 #[derive(Clone, Copy, Debug, Default, PartialEq, Eq)]
 pub enum ArgType {
     /// `int`
@@ -27,9 +29,9 @@ pub enum ArgType {
 impl ArgType {
     /// Whether the number is in the range of the type (C11 6.2.5). A string has none.
     pub fn contains(self, number: i128) -> bool
-        ensures { IsTrue result ↔ IsInRange self number }
+        ensures { IsTrue result ↔ IsInRange Lp64 self number }
     {
-        let bits = type_bits(self);
+        let bits = type_bits(Model::Lp64, self);
         match self {
             ArgType::Int | ArgType::Long | ArgType::LongLong => fits_signed(number, bits),
             ArgType::UInt | ArgType::ULong | ArgType::ULongLong => fits_unsigned(number, bits),

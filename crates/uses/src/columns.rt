@@ -11,7 +11,8 @@ use pf_values::{Conv, Directive, Flag, FlagSet, Length};
 /// The directive of a column that holds strings, as `%-20s`; none for a width above the limit.
 pub fn column(width: u16) -> Option<Directive>
     ensures { IfSome result (λ d.
-        d ≡ specification_of (with_flag no_flags flags.Minus) (Some width) None lengths.None conversions.S) }
+        d ≡ specification_of (with_flag no_flags flags.Minus) (Some width) None lengths.None
+        conversions.S) }
 {
     let flags = FlagSet::empty().with(Flag::Minus);
     match Directive::new(flags, Some(width), None, Length::None, Conv::S) {

@@ -1,6 +1,7 @@
 //! Whether two formats print alike for a number.
 ghost use Rattle.std.specs.Prelude.{IsTrue, [], ◌∷◌};
 ghost use Rattle.pf_values.specs.declared.arguments.Arg.TheVariants as args;
+ghost use Rattle.pf_values.specs.declared.models.Model.TheVariants.{Lp64};
 ghost use Rattle.pf_compare.specs.Answers.{TellApart};
 
 use pf_compare::confirms;
@@ -10,7 +11,7 @@ use std::alloc::Global;
 /// Whether a number shows that two formats differ: both take an int and nothing else, and print
 /// different bytes for this one.
 pub fn shows_difference(alloc: Global, old: &[u8], new: &[u8], number: i32) -> bool
-    ensures { IsTrue result → TellApart old.now new.now (args.Int number ∷ []) }
+    ensures { IsTrue result → TellApart Lp64 old.now new.now (args.Int number ∷ []) }
 {
     match confirms(alloc, old, new, &[Arg::Int(number)]) {
         Ok(told) => told,

@@ -1,5 +1,6 @@
 //! Whether one format may be put in the place of another.
 ghost use Rattle.std.specs.Prelude.{IsTrue};
+ghost use Rattle.pf_values.specs.declared.models.Model.TheVariants.{Lp64};
 ghost use Rattle.pf_values.specs.Printing.{AreEquivalent};
 
 use pf_canon::canonical;
@@ -10,7 +11,7 @@ use std::alloc::Global;
 /// take the same types and print the same bytes for all arguments; so not for a refused format, nor
 /// for want of memory.
 pub fn may_replace(alloc: Global, old: &[u8], new: &[u8]) -> bool
-    ensures { IsTrue result → AreEquivalent old.now new.now }
+    ensures { IsTrue result → AreEquivalent Lp64 old.now new.now }
 {
     one_canonical_text_means_the_same();
     let Ok(of_old) = canonical(alloc, old) else {

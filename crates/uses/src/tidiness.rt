@@ -1,5 +1,6 @@
 //! Whether a format is written in the canonical way.
 ghost use Rattle.std.specs.Prelude.{IsTrue};
+ghost use Rattle.pf_values.specs.declared.models.Model.TheVariants.{Lp64};
 ghost use Rattle.pf_values.specs.Canonical.{IsCanonicalText};
 ghost use Rattle.pf_values.specs.Items.{IsAccepted};
 
@@ -8,7 +9,7 @@ use pf_canon::is_canonical;
 /// Whether a format is accepted, and is its own canonical string.
 pub fn is_tidy(format: &[u8]) -> bool
     ensures accepted { IsTrue result → IsAccepted format.now }
-    ensures canonical { IsTrue result → IsCanonicalText format.now }
+    ensures canonical { IsTrue result → IsCanonicalText Lp64 format.now }
 {
     match is_canonical(format) {
         Ok(is) => is,

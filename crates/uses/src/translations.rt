@@ -1,5 +1,6 @@
 //! Whether a translated format takes the arguments of its source.
 ghost use Rattle.std.specs.Prelude.{IfSome, List};
+ghost use Rattle.pf_values.specs.declared.models.Model.TheVariants.{Lp64};
 ghost use Rattle.pf_values.specs.Items.{HasItems, Item, types};
 ghost use Rattle.pf_render.specs.Rendering.{DifferFirstAt};
 
@@ -11,7 +12,7 @@ use std::alloc::Global;
 pub fn other_type_at(alloc: Global, source: &[u8], translation: &[u8]) -> Option<u64>
     ensures { IfSome result (λ at.
         (first second : List Item) × HasItems source.now first × HasItems translation.now second
-        × DifferFirstAt (types first) (types second) at) }
+        × DifferFirstAt (types Lp64 first) (types Lp64 second) at) }
 {
     let Ok(comparison) = compare(alloc, source, translation) else {
         return None;

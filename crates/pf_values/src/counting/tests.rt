@@ -24,7 +24,7 @@ impl Device {
 
 impl Read for Device {
     fn read(&mut self, buf: &mut [u8]) -> io::Result<usize> {
-        match self.called() {
+        match self.call() {
             Answer::Takes(n) => Ok(n.min(buf.len())),
             Answer::Fails(kind) => Err(Error::from(kind)),
         }
@@ -33,14 +33,14 @@ impl Read for Device {
 
 impl Write for Device {
     fn write(&mut self, buf: &[u8]) -> io::Result<usize> {
-        match self.called() {
+        match self.call() {
             Answer::Takes(n) => Ok(n.min(buf.len())),
             Answer::Fails(kind) => Err(Error::from(kind)),
         }
     }
 
     fn flush(&mut self) -> io::Result<()> {
-        match self.called() {
+        match self.call() {
             Answer::Takes(_) => Ok(()),
             Answer::Fails(kind) => Err(Error::from(kind)),
         }

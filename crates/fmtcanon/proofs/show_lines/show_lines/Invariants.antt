@@ -1,3 +1,4 @@
+use Rattle.pf_values.specs.declared.models.Model.TheVariants.{Lp64}
 use Rattle.fmtcanon.proofs.ShowLemmas.{HasShown}
 use Rattle.fmtcanon.proofs.show_lines.show_lines.Given as goal
 
@@ -5,5 +6,5 @@ abbrev pub invariant-loop-piece : goal.invariant-loop-piece
 invariant-loop-piece l = record {
   can : (goal.iterator-loop-piece).can_next l.piece-iterator;
   finite : (goal.iterator-loop-piece).is_finite l.piece-iterator;
-  shown : HasShown l.piece-iterator l.format l.out.items;
+  shown : HasShown Lp64 l.piece-iterator l.format l.out.items;
 }

@@ -1,6 +1,7 @@
 use Rattle.std.proofs.Common.{arith, [], ◌++◌, take, sym, ap, ◌∙◌, subst}
 use Rattle.std.proofs.lemmas.List.{length-take-le}
 use Rattle.std.proofs.lemmas.Result.{err_from_is_err_and}
+use Rattle.pf_values.specs.declared.models.Model.TheVariants.{Lp64}
 use Rattle.pf_canon.specs.Through.{IsThrough}
 use Rattle.pf_canon.proofs.BuildingLemmas.{hindered}
 use Rattle.pf_canon.proofs.canonical_texts.in_one_growth.Goals as goal
@@ -18,10 +19,10 @@ append_from-requires g c =
     let front = take run.result c.args.text.now in
     let k = run.ensures.kept [] [] [] c.new-transducer.ensures in
     let whole = c.in_ok-append.ensures ∙ ap (λ t. t ++ front) c.in_ok-out.ensures.items in
-    (run.ensures.within, k.items, subst (IsThrough run.new.self front k.items) (sym whole) k.through)
+    (run.ensures.within, k.items, subst (IsThrough Lp64 run.new.self front k.items) (sym whole) k.through)
 
 pub returns-in_err-append_from : goal.returns-in_err-append_from
 returns-in_err-append_from g c =
     let p = err_from_is_err_and c.from_residual-in_err-append_from.result c.from_residual-in_err-append_from.ensures.1 in
     let n = c.in-Ok.ensures in
-    rw (p.1, p.2) (hindered c.args.text.now n.0 _ n.1 (omega (arith, n.2, c.if-len-eq0.false)) c.in_err-append_from.ensures)
+    rw (p.1, p.2) (hindered Lp64 c.args.text.now n.0 _ n.1 (omega (arith, n.2, c.if-len-eq0.false)) c.in_err-append_from.ensures)

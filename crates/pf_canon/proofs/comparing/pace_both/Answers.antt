@@ -1,3 +1,4 @@
+use Rattle.pf_values.specs.declared.models.Model.TheVariants.{Lp64}
 use Rattle.pf_canon.proofs.CompareLemmas.{first_stops}
 use Rattle.pf_canon.proofs.comparing.pace_both.Goals as goal
 
@@ -10,4 +11,4 @@ pub returns-in-Some-Err-clause-paced : goal.returns-in-Some-Err-clause-paced
 returns-in-Some-Err-clause-paced g c f h k =
     let s = rw c.in-Some-Err.field-0-is at c.in-Some-Err.ensures.steps in
     let next = s.next f k.t k.given k.one in
-    first_stops f _ h _ c.in-Some-Err.fault c.next.new.self c.args.second.now _ k.u k.given next.1 k.two k.paced
+    first_stops Lp64 f _ h _ c.in-Some-Err.fault c.next.new.self c.args.second.now _ k.u k.given next.1 k.two k.paced

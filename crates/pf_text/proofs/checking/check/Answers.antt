@@ -1,4 +1,5 @@
 use Rattle.std.proofs.Common.{◌++◌, [], refl, subst, sym}
+use Rattle.pf_values.specs.declared.models.Model.TheVariants.{Lp64}
 use Rattle.pf_values.specs.Items.{types}
 use Rattle.pf_text.specs.PieceHistory.{HasGiven, items_of}
 use Rattle.pf_text.proofs.SignatureLemmas.{HasFound, all_found, more_found, refused}
@@ -7,26 +8,26 @@ use Rattle.pf_text.proofs.checking.check.Goals as goal
 pub loop-piece-init : goal.loop-piece-init
 loop-piece-init c =
     let given : HasGiven c.into_iter-piece-iterator.result c.args.text.now [] [] = subst (λ p. HasGiven p c.args.text.now [] []) (sym c.into_iter-piece-iterator.ensures.into_iter_gives) c.new-piece-items.ensures in
-    let found : HasFound c.into_iter-piece-iterator.result c.args.text.now [] = record { read = []; items = []; given = given; types_are = refl } in
+    let found : HasFound Lp64 c.into_iter-piece-iterator.result c.args.text.now [] = record { read = []; items = []; given = given; types_are = refl } in
     record { can = tt; finite = tt; found = ([], found) }
 
 pub loop-piece-preserved : goal.loop-piece-preserved
 loop-piece-preserved c =
     let found = c.loop-piece.invariant.found in
-    let more = types (items_of c.in-Ok.field-0) in
+    let more = types Lp64 (items_of c.in-Ok.field-0) in
     record {
       can = tt;
       finite = tt;
-      found = (found.0 ++ more, more_found c.loop-piece.piece-iterator c.next.new.self c.args.text.now found.0 found.1 c.in-Some.piece c.in-Some.ensures.steps c.in-Ok.field-0 more c.in-Ok.is refl);
+      found = (found.0 ++ more, more_found Lp64 c.loop-piece.piece-iterator c.next.new.self c.args.text.now found.0 found.1 c.in-Some.piece c.in-Some.ensures.steps c.in-Ok.field-0 more c.in-Ok.is refl);
     }
 
 pub returns-in-Err : goal.returns-in-Err
 returns-in-Err c =
     let found = c.loop-piece.invariant.found in
-    (refused c.loop-piece.piece-iterator c.next.new.self c.args.text.now found.0 found.1 c.in-Some.piece c.in-Some.ensures.steps c.in-Err.refusal c.in-Err.is).refused
+    (refused Lp64 c.loop-piece.piece-iterator c.next.new.self c.args.text.now found.0 found.1 c.in-Some.piece c.in-Some.ensures.steps c.in-Err.refusal c.in-Err.is).refused
 
 pub returns : goal.returns
 returns c =
     let found = c.loop-piece.invariant.found in
-    let all = all_found c.loop-piece.piece-iterator c.next.new.self c.args.text.now found.0 found.1 c.in-None.ensures.steps in
+    let all = all_found Lp64 c.loop-piece.piece-iterator c.next.new.self c.args.text.now found.0 found.1 c.in-None.ensures.steps in
     (all.items, all.accepted)

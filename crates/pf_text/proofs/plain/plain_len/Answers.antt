@@ -1,5 +1,6 @@
 use Rattle.std.proofs.Common.{◌≤◌, ◌++◌, arith, drop, length}
 use Rattle.std.proofs.lemmas.List.{length-drop, take_rest}
+use Rattle.pf_values.specs.declared.models.Model.TheVariants.{Lp64}
 use Rattle.pf_text.proofs.PlainLemmas.{plain_more}
 use Rattle.pf_text.proofs.plain.plain_len.Goals as goal
 
@@ -13,5 +14,5 @@ loop-at-preserved c =
     let more = rw take_rest at c.plain_front-more.ensures.plain in
     record {
       within = omega (arith, len, length-drop at text, few);
-      plain = (i.plain.0 ++ more.0, plain_more text at c.plain_front-more.result i.plain.0 more.0 i.plain.1 more.1);
+      plain = (i.plain.0 ++ more.0, plain_more Lp64 text at c.plain_front-more.result i.plain.0 more.0 i.plain.1 more.1);
     }

@@ -1,5 +1,6 @@
 use Rattle.std.proofs.Common.{arith, get_or, refl, ◌++◌, take, subst}
 use Rattle.std.proofs.lemmas.List.{drop_more}
+use Rattle.pf_values.specs.declared.models.Model.TheVariants.{Lp64}
 use Rattle.pf_canon.specs.Through.{IsFed, IsThrough}
 use Rattle.pf_canon.proofs.FrontLemmas.{all_inside, inside, one_more, refused_in}
 use Rattle.pf_canon.proofs.transducing.Transducer.feed_front.Goals as goal
@@ -25,7 +26,7 @@ loop-at-preserved c =
           let now = i.through t out items h in
           let takes = rw c.in-Ok-More.field-0-is at c.in-Ok-More.ensures.fed (t ++ take at text) now.0 now.1.after in
           let o = out ++ take c.pass_run-run.result text in
-          (now.0, subst (λ u. IsThrough new u now.0 o) (one_more t text at _ (drop_more text at 0 c.loop-at-test.true)) (inside c.loop-at.self new (t ++ take at text) o now.0 _ now.1 refl takes));
+          (now.0, subst (λ u. IsThrough Lp64 new u now.0 o) (one_more t text at _ (drop_more text at 0 c.loop-at-test.true)) (inside Lp64 c.loop-at.self new (t ++ take at text) o now.0 _ now.1 refl takes));
     }
 
 pub returns-in-Ok : goal.returns-in-Ok
@@ -36,7 +37,7 @@ returns-in-Ok c =
     record {
       fed = λ t out items h.
           let now = i.through t out items h in
-          let fed : IsFed (record c.loop-at.self { scanner = c.feed.new.self }) t now.0 (out ++ take c.pass_run-run.result text) text at c.in-Ok.step =
+          let fed : IsFed Lp64 (record c.loop-at.self { scanner = c.feed.new.self }) t now.0 (out ++ take c.pass_run-run.result text) text at c.in-Ok.step =
           record { before = c.loop-at.self; byte = get_or text at 0; first = drop_more text at 0 c.loop-at-test.true; through = now.1; waiting = refl; takes = c.in-Ok.ensures.fed (t ++ take at text) now.0 now.1.after } in
           c.end_front.ensures.fed t out now.0 fed;
       within = c.end_front.ensures.within;
@@ -49,7 +50,7 @@ returns-in-Err c =
     record {
       fed = λ t out items h.
           let before = c.loop-at.invariant.through t out items h in
-          refused_in c.loop-at.self (record c.loop-at.self { scanner = c.feed.new.self }) t out text before.0 c.pass_run-run.result at _ c.in-Err.refusal (drop_more text at 0 c.loop-at-test.true) before.1 (c.in-Err.ensures.fed (t ++ take at text) before.0 before.1.after);
+          refused_in Lp64 c.loop-at.self (record c.loop-at.self { scanner = c.feed.new.self }) t out text before.0 c.pass_run-run.result at _ c.in-Err.refusal (drop_more text at 0 c.loop-at-test.true) before.1 (c.in-Err.ensures.fed (t ++ take at text) before.0 before.1.after);
       within = (let run = c.loop-at.invariant.run in omega (arith, run, c.loop-at-test.true));
     }
 
@@ -58,6 +59,6 @@ returns c =
     let i = c.loop-at.invariant in
     let run = i.run in
     record {
-      fed = λ t out items h. let now = i.through t out items h in all_inside c.loop-at.self t out c.args.text.now now.0 c.pass_run-run.result c.loop-at.at now.1;
+      fed = λ t out items h. let now = i.through t out items h in all_inside Lp64 c.loop-at.self t out c.args.text.now now.0 c.pass_run-run.result c.loop-at.at now.1;
       within = record { some = omega (arith, c.requires, c.loop-at-test.false); run = run; start = omega arith; len = i.within };
     }

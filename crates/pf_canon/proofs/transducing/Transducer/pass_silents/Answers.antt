@@ -1,5 +1,6 @@
 use Rattle.std.proofs.Common.{arith}
 use Rattle.std.proofs.lemmas.List.{take_rest}
+use Rattle.pf_values.specs.declared.models.Model.TheVariants.{Lp64}
 use Rattle.pf_canon.proofs.FrontLemmas.{silents_kept}
 use Rattle.pf_canon.proofs.transducing.Transducer.pass_silents.Goals as goal
 
@@ -8,5 +9,5 @@ returns-clause-kept c t out items h =
     let run = c.pass_silents-count in
     let few = h.few in
     let limit = h.after.limit in
-    silents_kept c.args.self.now _ t out c.args.text.now items c.args.run run.result h (rw take_rest at run.ensures.within) (run.ensures.between _ items h.after) run.ensures.idle
+    silents_kept Lp64 c.args.self.now _ t out c.args.text.now items c.args.run run.result h (rw take_rest at run.ensures.within) (run.ensures.between _ items h.after) run.ensures.idle
     (rw take_rest at run.ensures.passed _ items h.after) (λ room. omega (arith, c.saturating_add-self.ensures, room, few, limit))
