@@ -101,106 +101,107 @@ fn canon_writes_the_canonical_string(rt: HostRuntime) {
     assert_eq!(rt; first_unwritten(rt.alloc(), &MORE_CANON), None);
 }
 
+// A format, and what a command writes or reports of it.
+type Line = (&'static str, &'static str);
+
+// The first row that a command doesn't answer so.
+fn first_unanswered(alloc: Global, command: &str, rows: &[(&str, &str)]) -> Option<usize> {
+    for (at, (format, want)) in rows.iter().enumerate() {
+        let words = [command, *format];
+        if !answers(alloc, words.as_slice(), want) {
+            return Some(at);
+        }
+    }
+    None
+}
+
+// Whether a run ends well and writes this.
+fn is_done(alloc: Global, words: &[&str], want: &str) -> bool {
+    let (outcome, written) = ran(alloc, words);
+    matches!(outcome, Outcome::Done) && written.as_slice() == want.as_bytes()
+}
+
+// The first row with which a command doesn't end well.
+fn first_undone(alloc: Global, command: &str, rows: &[(&str, &str)]) -> Option<usize> {
+    for (at, (format, want)) in rows.iter().enumerate() {
+        let words = [command, *format];
+        if !is_done(alloc, words.as_slice(), want) {
+            return Some(at);
+        }
+    }
+    None
+}
+
+#[rattlefmt::skip]
+static TYPES_REFUSED: [Line; 3] = [
+    ("%*d", "refused 5 Star at byte 1\n"),
+    ("%d%y", "refused 3 Unexpected at byte 3\n"),
+    ("a\0%d", "refused 1 NulByte at byte 1\n"),
+];
+
 #[test]
 fn types_writes_a_line_for_each_argument(rt: HostRuntime) {
     assert_eq!(rt; first_unwritten(rt.alloc(), &TYPE_LINES), None);
-    let rows = [
-        ("%*d", "refused 5 Star at byte 1\n"),
-        ("%d%y", "refused 3 Unexpected at byte 3\n"),
-        ("a\0%d", "refused 1 NulByte at byte 1\n"),
-    ];
-    for (format, want) in rows {
-        assert!(rt;
-            answers(rt.alloc(), ["types", format].as_slice(), want),
-            "{format}"
-        );
-    }
+    assert_eq!(rt; first_unanswered(rt.alloc(), "types", &TYPES_REFUSED), None);
 }
 
 #[test]
 fn types_answers_as_the_model(rt: HostRuntime) {
-    for (format, want) in types::TYPES {
-        let (outcome, written) = ran(rt.alloc(), ["types", format].as_slice());
-        assert!(rt; matches!(outcome, Outcome::Done), "{format}");
-        assert!(rt; written.as_slice() == want.as_bytes(), "{format}");
-    }
-    for (format, want) in types::REFUSED {
-        assert!(rt;
-            answers(rt.alloc(), ["types", format].as_slice(), want),
-            "{format}"
-        );
-    }
+    assert_eq!(rt; first_undone(rt.alloc(), "types", &types::TYPES), None);
+    assert_eq!(rt;
+        first_unanswered(rt.alloc(), "types", &types::REFUSED),
+        None
+    );
 }
+
+#[rattlefmt::skip]
+static SHOW_REFUSED: [Line; 3] = [
+    ("100%", "refused 2 Truncated at byte 4\n"),
+    ("%d%y", "refused 3 Unexpected at byte 3\n"),
+    ("a\0%d", "refused 1 NulByte at byte 1\n"),
+];
 
 #[test]
 fn show_writes_a_line_for_each_part(rt: HostRuntime) {
     assert_eq!(rt; first_unwritten(rt.alloc(), &SHOW_LINES), None);
     assert_eq!(rt; first_unwritten(rt.alloc(), &MORE_SHOW_LINES), None);
-    let rows = [
-        ("100%", "refused 2 Truncated at byte 4\n"),
-        ("%d%y", "refused 3 Unexpected at byte 3\n"),
-        ("a\0%d", "refused 1 NulByte at byte 1\n"),
-    ];
-    for (format, want) in rows {
-        assert!(rt;
-            answers(rt.alloc(), ["show", format].as_slice(), want),
-            "{format}"
-        );
-    }
+    assert_eq!(rt; first_unanswered(rt.alloc(), "show", &SHOW_REFUSED), None);
 }
 
 #[test]
 fn show_answers_as_the_model(rt: HostRuntime) {
-    for (format, want) in shows::SHOWS {
-        let (outcome, written) = ran(rt.alloc(), ["show", format].as_slice());
-        assert!(rt; matches!(outcome, Outcome::Done), "{format}");
-        assert!(rt; written.as_slice() == want.as_bytes(), "{format}");
-    }
-    for (format, want) in shows::REFUSED {
-        assert!(rt;
-            answers(rt.alloc(), ["show", format].as_slice(), want),
-            "{format}"
-        );
-    }
+    assert_eq!(rt; first_undone(rt.alloc(), "show", &shows::SHOWS), None);
+    assert_eq!(rt; first_unanswered(rt.alloc(), "show", &shows::REFUSED), None);
 }
 
 #[test]
 fn canon_answers_as_the_model(rt: HostRuntime) {
-    for (format, want) in &canonicals::CANONICALS {
-        assert!(rt;
-            answers(rt.alloc(), ["canon", format].as_slice(), want),
-            "{format}"
-        );
-    }
-    for (format, want) in &canonicals::MORE_CANONICALS {
-        assert!(rt;
-            answers(rt.alloc(), ["canon", format].as_slice(), want),
-            "{format}"
-        );
-    }
-    for (format, want) in &canonicals::REFUSED {
-        assert!(rt;
-            answers(rt.alloc(), ["canon", format].as_slice(), want),
-            "{format}"
-        );
-    }
+    assert_eq!(rt;
+        first_unanswered(rt.alloc(), "canon", &canonicals::CANONICALS),
+        None
+    );
+    assert_eq!(rt;
+        first_unanswered(rt.alloc(), "canon", &canonicals::MORE_CANONICALS),
+        None
+    );
+    assert_eq!(rt;
+        first_unanswered(rt.alloc(), "canon", &canonicals::REFUSED),
+        None
+    );
 }
+
+#[rattlefmt::skip]
+static SAME_REFUSED: [(&str, &str, &str); 3] = [
+    ("%y", "%z", "first: refused 3 Unexpected at byte 1\n"),
+    ("%d", "%l", "second: refused 2 Truncated at byte 2\n"),
+    ("%y", "%d", "first: refused 3 Unexpected at byte 1\n"),
+];
 
 #[test]
 fn same_tells_whether_one_may_stand_for_the_other(rt: HostRuntime) {
     assert_eq!(rt; first_unwritten(rt.alloc(), &SAME_LINES), None);
     assert_eq!(rt; first_unwritten(rt.alloc(), &MORE_SAME_LINES), None);
-    let rows = [
-        ("%y", "%z", "first: refused 3 Unexpected at byte 1\n"),
-        ("%d", "%l", "second: refused 2 Truncated at byte 2\n"),
-        ("%y", "%d", "first: refused 3 Unexpected at byte 1\n"),
-    ];
-    for (first, second, want) in rows {
-        assert!(rt;
-            answers(rt.alloc(), ["same", first, second].as_slice(), want),
-            "{first} {second}"
-        );
-    }
+    assert!(rt; all_answer(rt.alloc(), &SAME_REFUSED));
 }
 
 #[test]
@@ -230,51 +231,42 @@ fn same_tells_a_string_past_all_precisions(rt: HostRuntime) -> Result<(), AllocE
     Ok(())
 }
 
+#[rattlefmt::skip]
+static TOLD: [formats::Printed; 6] = [
+    (&["format", "%05d", "n:-1"], b"-0001"),
+    (&["format", "%.5d", "n:-1"], b"-00001"),
+    (&["format", "%hhx", "n:257"], b"1"),
+    (&["format", "%hx", "n:257"], b"101"),
+    (&["format", "% 10d", "n:2147483647"], b" 2147483647"),
+    (&["format", "%10d", "n:2147483647"], b"2147483647"),
+];
+
 // What `same` tells is what `format` takes, and there the two formats differ.
 #[test]
 fn the_words_of_same_are_arguments(rt: HostRuntime) {
-    let alloc = rt.alloc();
-    assert!(rt; answers(alloc, ["format", "%05d", "n:-1"].as_slice(), "-0001"));
-    assert!(rt; answers(alloc, ["format", "%.5d", "n:-1"].as_slice(), "-00001"));
-    assert!(rt; answers(alloc, ["format", "%hhx", "n:257"].as_slice(), "1"));
-    assert!(rt; answers(alloc, ["format", "%hx", "n:257"].as_slice(), "101"));
-    assert!(rt;
-        answers(
-            alloc,
-            ["format", "% 10d", "n:2147483647"].as_slice(),
-            " 2147483647"
-        )
-    );
-    assert!(rt;
-        answers(
-            alloc,
-            ["format", "%10d", "n:2147483647"].as_slice(),
-            "2147483647"
-        )
-    );
+    for row in &TOLD {
+        assert!(rt; formats::prints(rt.alloc(), row), "{:?}", row.0);
+    }
 }
+
+#[rattlefmt::skip]
+static CANON_REFUSED: [Line; 11] = [
+    ("100%", "refused 2 Truncated at byte 4\n"),
+    ("%", "refused 2 Truncated at byte 1\n"),
+    ("%%%", "refused 2 Truncated at byte 3\n"),
+    ("%y", "refused 3 Unexpected at byte 1\n"),
+    ("%5%", "refused 4 BadPercent at byte 2\n"),
+    ("%4096d", "refused 7 WidthTooLarge at byte 4\n"),
+    ("%#d", "refused 13 AltUndefined at byte 2\n"),
+    ("%lc", "refused 12 Wide at byte 2\n"),
+    ("\0", "refused 1 NulByte at byte 0\n"),
+    ("ab\0", "refused 1 NulByte at byte 2\n"),
+    ("ab%\0y", "refused 1 NulByte at byte 3\n"),
+];
 
 #[test]
 fn a_refused_format_writes_nothing(rt: HostRuntime) {
-    let rows = [
-        ("100%", "refused 2 Truncated at byte 4\n"),
-        ("%", "refused 2 Truncated at byte 1\n"),
-        ("%%%", "refused 2 Truncated at byte 3\n"),
-        ("%y", "refused 3 Unexpected at byte 1\n"),
-        ("%5%", "refused 4 BadPercent at byte 2\n"),
-        ("%4096d", "refused 7 WidthTooLarge at byte 4\n"),
-        ("%#d", "refused 13 AltUndefined at byte 2\n"),
-        ("%lc", "refused 12 Wide at byte 2\n"),
-        ("\0", "refused 1 NulByte at byte 0\n"),
-        ("ab\0", "refused 1 NulByte at byte 2\n"),
-        ("ab%\0y", "refused 1 NulByte at byte 3\n"),
-    ];
-    for (format, want) in rows {
-        assert!(rt;
-            answers(rt.alloc(), ["canon", format].as_slice(), want),
-            "{want}"
-        );
-    }
+    assert_eq!(rt; first_unanswered(rt.alloc(), "canon", &CANON_REFUSED), None);
 }
 
 #[test]
@@ -298,126 +290,106 @@ fn is_usage(rt: &HostRuntime, words: &[&str], begins: &str) -> bool {
         && told.as_slice().starts_with(begins.as_bytes())
 }
 
-#[test]
-fn other_words_are_usage(rt: HostRuntime) {
-    assert!(rt; is_usage(&rt, [].as_slice(), "error: "));
-    assert!(rt; is_usage(&rt, [""].as_slice(), "error: "));
-    assert!(rt; is_usage(&rt, ["nothing"].as_slice(), "error: "));
-    assert!(rt; is_usage(&rt, ["types"].as_slice(), "error: "));
-    assert!(rt; is_usage(&rt, ["types", "%d", "%d"].as_slice(), "error: "));
-    assert!(rt; is_usage(&rt, ["show"].as_slice(), "error: "));
-    assert!(rt; is_usage(&rt, ["show", "%d", "%d"].as_slice(), "error: "));
-    assert!(rt; is_usage(&rt, ["stream", "%d"].as_slice(), "error: "));
-    assert!(rt; is_usage(&rt, ["canon"].as_slice(), "error: "));
-    assert!(rt; is_usage(&rt, ["canon", "a", "b"].as_slice(), "error: "));
-    assert!(rt; is_usage(&rt, ["canon", "-%i"].as_slice(), "error: "));
-    assert!(rt; is_usage(&rt, ["same"].as_slice(), "error: "));
-    assert!(rt; is_usage(&rt, ["same", "%d"].as_slice(), "error: "));
-    assert!(rt; is_usage(&rt, ["same", "a", "b", "c"].as_slice(), "error: "));
-    assert!(rt; is_usage(&rt, ["canon", "--version"].as_slice(), "error: "));
-    assert!(rt; is_usage(&rt, ["--version"].as_slice(), "fmtcanon 0.1.0\n"));
-    assert!(rt; is_usage(&rt, ["--help"].as_slice(), "Reads printf formats"));
-    assert!(rt; is_usage(&rt, ["canon", "--help"].as_slice(), "Writes the canonical"));
-}
+#[rattlefmt::skip]
+static USAGES: [(&[&str], &str); 18] = [
+    (&[], "error: "),
+    (&[""], "error: "),
+    (&["nothing"], "error: "),
+    (&["types"], "error: "),
+    (&["types", "%d", "%d"], "error: "),
+    (&["show"], "error: "),
+    (&["show", "%d", "%d"], "error: "),
+    (&["stream", "%d"], "error: "),
+    (&["canon"], "error: "),
+    (&["canon", "a", "b"], "error: "),
+    (&["canon", "-%i"], "error: "),
+    (&["same"], "error: "),
+    (&["same", "%d"], "error: "),
+    (&["same", "a", "b", "c"], "error: "),
+    (&["canon", "--version"], "error: "),
+    (&["--version"], "fmtcanon 0.1.0\n"),
+    (&["--help"], "Reads printf formats"),
+    (&["canon", "--help"], "Writes the canonical"),
+];
 
 #[test]
-fn each_outcome_has_its_status_and_line(rt: HostRuntime) -> Result<(), AllocError> {
+fn other_words_are_usage(rt: HostRuntime) {
+    for (words, begins) in &USAGES {
+        assert!(rt; is_usage(&rt, words, begins), "{words:?}");
+    }
+}
+
+// Whether an outcome has this status, and this is reported of it.
+fn is_reported(alloc: Global, outcome: Outcome, status: u8, line: &str) -> bool {
+    outcome.status() == status && report_of(alloc, &outcome).as_slice() == line.as_bytes()
+}
+
+// Whether a refusal on this side is reported so.
+fn is_refusal(alloc: Global, side: Option<Side>, line: &str) -> bool {
     let refusal = Refusal {
         kind: RefusalKind::TooLong,
         at: 1 << 62,
     };
-    let usage = Outcome::Usage(String::from_str(rt.alloc(), "as it is")?);
-    let rows = [
-        (Outcome::Done, 0, ""),
-        (Outcome::Same, 0, ""),
-        (Outcome::Different, 1, ""),
-        (
-            Outcome::Refused {
-                side: None,
-                refusal,
-            },
-            2,
-            "refused 18 TooLong at byte 4611686018427387904\n",
-        ),
-        (
-            Outcome::Refused {
-                side: Some(Side::First),
-                refusal,
-            },
-            2,
-            "first: refused 18 TooLong at byte 4611686018427387904\n",
-        ),
-        (
-            Outcome::Refused {
-                side: Some(Side::Second),
-                refusal,
-            },
-            2,
-            "second: refused 18 TooLong at byte 4611686018427387904\n",
-        ),
-        (Outcome::BadWord(0), 3, "argument 0: not an argument\n"),
-        (
-            Outcome::WrongCount {
-                wanted: 2,
-                given: 10,
-            },
-            3,
-            "argument count: wanted 2, given 10\n",
-        ),
-        (Outcome::WrongType(12), 3, "argument 12: wrong type\n"),
-        (usage, 3, "as it is"),
-        (Outcome::Read, 4, "read failed\n"),
-        (Outcome::Write(7), 4, "write failed\n"),
-        (Outcome::Memory, 4, "out of memory\n"),
-    ];
-    for (outcome, status, line) in &rows {
-        assert_eq!(rt; outcome.status(), *status);
-        assert!(rt;
-            report_of(rt.alloc(), outcome).as_slice() == line.as_bytes(),
-            "{line}"
-        );
-    }
-    Ok(())
+    is_reported(alloc, Outcome::Refused { side, refusal }, 2, line)
+}
+
+// Whether an outcome of two counts is reported so.
+fn is_count(alloc: Global, wanted: u64, given: u64, line: &str) -> bool {
+    is_reported(alloc, Outcome::WrongCount { wanted, given }, 3, line)
 }
 
 #[test]
+fn each_outcome_has_its_status_and_line(rt: HostRuntime) -> Result<(), AllocError> {
+    let alloc = rt.alloc();
+    let usage = Outcome::Usage(String::from_str(alloc, "as it is")?);
+    assert!(rt; is_reported(alloc, usage, 3, "as it is"));
+    assert!(rt; is_reported(alloc, Outcome::Done, 0, ""));
+    assert!(rt; is_reported(alloc, Outcome::Same, 0, ""));
+    assert!(rt; is_reported(alloc, Outcome::Different, 1, ""));
+    let line = "refused 18 TooLong at byte 4611686018427387904\n";
+    assert!(rt; is_refusal(alloc, None, line));
+    let line = "first: refused 18 TooLong at byte 4611686018427387904\n";
+    assert!(rt; is_refusal(alloc, Some(Side::First), line));
+    let line = "second: refused 18 TooLong at byte 4611686018427387904\n";
+    assert!(rt; is_refusal(alloc, Some(Side::Second), line));
+    assert!(rt;
+        is_reported(
+            alloc,
+            Outcome::BadWord(0),
+            3,
+            "argument 0: not an argument\n"
+        )
+    );
+    assert!(rt; is_count(alloc, 2, 10, "argument count: wanted 2, given 10\n"));
+    assert!(rt;
+        is_reported(
+            alloc,
+            Outcome::WrongType(12),
+            3,
+            "argument 12: wrong type\n"
+        )
+    );
+    assert!(rt; is_reported(alloc, Outcome::Read, 4, "read failed\n"));
+    assert!(rt; is_reported(alloc, Outcome::Write(7), 4, "write failed\n"));
+    assert!(rt; is_reported(alloc, Outcome::Memory, 4, "out of memory\n"));
+    Ok(())
+}
+
+#[rattlefmt::skip]
+static CUT: [formats::Printed; 6] = [
+    (&["canon", "%i of %u%%"], b"%d of %u%%\n"),
+    (&["types", "%i of %u%%"], b"int\nunsigned int\n"),
+    (&["show", "x%%%20d"], b"text 1\npercent\ndirective %20d: int: 9 0 %11d 0\n"),
+    (&["format", "%5d|%s", "n:42", "s:abc"], b"   42|abc"),
+    (&["same", "%zd", "%ld"], b"same\n"),
+    (&["same", "%05d%s", "%.5d%s"], b"different\nn:-1\ns:\n"),
+];
+
+#[test]
 fn what_fits_is_written(rt: HostRuntime) {
-    assert!(rt;
-        is_cut(
-            rt.alloc(),
-            ["canon", "%i of %u%%"].as_slice(),
-            b"%d of %u%%\n"
-        )
-    );
-    assert!(rt;
-        is_cut(
-            rt.alloc(),
-            ["types", "%i of %u%%"].as_slice(),
-            b"int\nunsigned int\n"
-        )
-    );
-    assert!(rt;
-        is_cut(
-            rt.alloc(),
-            ["show", "x%%%20d"].as_slice(),
-            b"text 1\npercent\ndirective %20d: int: 9 0 %11d 0\n"
-        )
-    );
-    assert!(rt;
-        is_cut(
-            rt.alloc(),
-            ["format", "%5d|%s", "n:42", "s:abc"].as_slice(),
-            b"   42|abc"
-        )
-    );
-    assert!(rt; is_cut(rt.alloc(), ["same", "%zd", "%ld"].as_slice(), b"same\n"));
-    assert!(rt;
-        is_cut(
-            rt.alloc(),
-            ["same", "%05d%s", "%.5d%s"].as_slice(),
-            b"different\nn:-1\ns:\n"
-        )
-    );
+    for (words, want) in &CUT {
+        assert!(rt; is_cut(rt.alloc(), words, want), "{words:?}");
+    }
 }
 
 // Whether a run of this answer writes just what fits, at each room that is too small.

@@ -106,7 +106,11 @@ fn arguments(
 }
 
 // What a format prints into a writer and into memory, where that is the same.
-fn rendering_of(alloc: Global, format: &[u8], args: &[Arg<'_>]) -> Result<Option<Vec<u8>>, AllocError> {
+fn rendering_of(
+    alloc: Global,
+    format: &[u8],
+    args: &[Arg<'_>],
+) -> Result<Option<Vec<u8>>, AllocError> {
     let mut out = Vec::new(alloc);
     out.reserve(1 << 20)?;
     let mut writer = Counted::new(out);
@@ -120,6 +124,17 @@ fn rendering_of(alloc: Global, format: &[u8], args: &[Arg<'_>]) -> Result<Option
     }
 }
 
+// Whether a format prints this for these arguments.
+fn is_rendering(
+    alloc: Global,
+    format: &[u8],
+    args: &[Arg<'_>],
+    text: &[u8],
+) -> Result<bool, AllocError> {
+    let out = rendering_of(alloc, format, args)?;
+    Ok(out.as_deref() == Some(text))
+}
+
 // Whether a format prints this for the arguments that the words stand for.
 fn renders(
     alloc: Global,
@@ -130,6 +145,5 @@ fn renders(
     let Some(args) = arguments(alloc, format.as_bytes(), words)? else {
         return Ok(false);
     };
-    let out = rendering_of(alloc, format.as_bytes(), args.as_slice())?;
-    Ok(out.as_deref() == Some(text.as_bytes()))
+    is_rendering(alloc, format.as_bytes(), args.as_slice(), text.as_bytes())
 }

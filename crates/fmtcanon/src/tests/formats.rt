@@ -9,7 +9,8 @@ pub(super) type Printed = (&'static [&'static str], &'static [u8]);
 // Words, and the status and the line of a run that writes nothing.
 type Stopped = (&'static [&'static str], u8, &'static str);
 
-fn prints(alloc: Global, row: &Printed) -> bool {
+/// Whether a run prints a row, and reports nothing.
+pub(super) fn prints(alloc: Global, row: &Printed) -> bool {
     let (outcome, written) = ran(alloc, row.0);
     let is_done = matches!(outcome, Outcome::Done);
     is_done && report_of(alloc, &outcome).is_empty() && written.as_slice() == row.1

@@ -1,7 +1,7 @@
 //! What `show` writes, and what it reports of a refused format: rows of a model of the program that is not ours.
 
 #[rattlefmt::skip]
-pub(super) const SHOWS: [(&str, &str); 28] = [
+pub(super) static SHOWS: [(&str, &str); 28] = [
     ("% d", "directive % d: int: 0 0 % d 0\n"),
     ("%0'5.3i", "directive %0'5.3i: int: 0 0 %5.3d 0\n"),
     ("%u", "directive %u: unsigned int: 0 0 %u 0\n"),
@@ -33,7 +33,7 @@ pub(super) const SHOWS: [(&str, &str); 28] = [
 ];
 
 #[rattlefmt::skip]
-pub(super) const REFUSED: [(&str, &str); 15] = [
+pub(super) static REFUSED: [(&str, &str); 15] = [
     ("%#c", "refused 13 AltUndefined at byte 2\n"),
     ("%0s", "refused 14 ZeroUndefined at byte 2\n"),
     ("%hhhd", "refused 3 Unexpected at byte 3\n"),

@@ -87,7 +87,8 @@ fn takes_directives(alloc: Global, count: usize) -> Result<bool, AllocError> {
             && answers(alloc, ["types", &format].as_slice(), &types)
             && answers(alloc, ["show", &canonical].as_slice(), &shown)
             && answers(alloc, ["same", &format, &canonical].as_slice(), "same\n")
-            && stream_over(alloc, &format).is_some_and(|out| out.as_slice() == canonical.as_bytes()),
+            && stream_over(alloc, &format).is_some_and(|out| out.as_slice()
+                == canonical.as_bytes()),
     )
 }
 

@@ -1,9 +1,9 @@
 //! The command `stream`: its rows, in cuts of some lengths, over readers and writers that fail.
 use super::devices::Watched;
+use super::report_of;
 use super::stream_rows::{DONE, REFUSED};
 use super::written_rows::{STREAMED, UNFINISHED};
 use crate::outcome::Outcome;
-use crate::report::report;
 use crate::run::run;
 use pf_values::Counted;
 use pf_values::devices::Feed;
@@ -16,7 +16,12 @@ fn feed(bytes: &[u8], step: usize, fail_at: Option<u64>) -> Feed<'_> {
 }
 
 // How a run of `stream` ended over these bytes, in such cuts, and what it wrote.
-fn stream_over(alloc: Global, bytes: &[u8], step: usize, fail_at: Option<u64>) -> (Outcome, Vec<u8>) {
+fn stream_over(
+    alloc: Global,
+    bytes: &[u8],
+    step: usize,
+    fail_at: Option<u64>,
+) -> (Outcome, Vec<u8>) {
     let mut reader = Counted::new(feed(bytes, step, fail_at));
     let mut writer = Counted::new(Vec::new(alloc));
     let outcome = run(alloc, ["stream"].as_slice(), &mut reader, &mut writer);
@@ -25,40 +30,58 @@ fn stream_over(alloc: Global, bytes: &[u8], step: usize, fail_at: Option<u64>) -
 
 const STEPS: [usize; 5] = [1, 2, 3, 7, 4096];
 
-#[test]
-fn stream_answers_as_the_model(rt: HostRuntime) {
-    for (bytes, want) in &DONE {
-        for step in STEPS {
-            let (outcome, written) = stream_over(rt.alloc(), bytes, step, None);
-            assert!(rt; matches!(outcome, Outcome::Done));
-            assert!(rt; written.as_slice() == *want);
+// Whether a text is read to its end in cuts of each length, and this is written.
+fn is_done(alloc: Global, bytes: &[u8], want: &[u8]) -> bool {
+    for step in STEPS {
+        let (outcome, written) = stream_over(alloc, bytes, step, None);
+        if !matches!(outcome, Outcome::Done) || written.as_slice() != want {
+            return false;
         }
     }
-    for (bytes, want, line) in &REFUSED {
-        for step in STEPS {
-            let (outcome, written) = stream_over(rt.alloc(), bytes, step, None);
-            let mut errors = Counted::new(Vec::new(rt.alloc()));
-            report(&outcome, &mut errors);
-            assert_eq!(rt; outcome.status(), 2);
-            assert!(rt; written.as_slice() == *want, "{line}");
-            assert!(rt; errors.into_inner().as_slice() == line.as_bytes(), "{line}");
+    true
+}
+
+// Whether a text is refused in cuts of each length, and this is written and reported.
+fn is_refused(alloc: Global, bytes: &[u8], want: &[u8], line: &str) -> bool {
+    for step in STEPS {
+        let (outcome, written) = stream_over(alloc, bytes, step, None);
+        let told = report_of(alloc, &outcome);
+        let is_told = outcome.status() == 2 && told.as_slice() == line.as_bytes();
+        if !is_told || written.as_slice() != want {
+            return false;
         }
+    }
+    true
+}
+
+// Whether a text is refused at this byte in cuts of each length, and this is written.
+fn is_refused_at(alloc: Global, bytes: &[u8], want: &[u8], at: u64) -> bool {
+    for step in STEPS {
+        let (outcome, written) = stream_over(alloc, bytes, step, None);
+        if refused_at(&outcome) != Some(at) || written.as_slice() != want {
+            return false;
+        }
+    }
+    true
+}
+
+#[test]
+fn stream_answers_as_the_model(rt: HostRuntime) {
+    for (at, (bytes, want)) in DONE.iter().enumerate() {
+        assert!(rt; is_done(rt.alloc(), bytes, want), "{at}");
+    }
+    for (bytes, want, line) in &REFUSED {
+        assert!(rt; is_refused(rt.alloc(), bytes, want, line), "{line}");
     }
 }
 
 #[test]
 fn stream_writes_what_is_settled(rt: HostRuntime) {
-    for step in STEPS {
-        for (at, (_, bytes, want)) in STREAMED.iter().enumerate() {
-            let (outcome, written) = stream_over(rt.alloc(), bytes, step, None);
-            assert!(rt; matches!(outcome, Outcome::Done), "{at}");
-            assert!(rt; written.as_slice() == *want, "{at}");
-        }
-        for (bytes, want, at) in UNFINISHED {
-            let (outcome, written) = stream_over(rt.alloc(), bytes, step, None);
-            assert_eq!(rt; refused_at(&outcome), Some(at));
-            assert!(rt; written.as_slice() == want, "{at}");
-        }
+    for (at, (_, bytes, want)) in STREAMED.iter().enumerate() {
+        assert!(rt; is_done(rt.alloc(), bytes, want), "{at}");
+    }
+    for (bytes, want, at) in &UNFINISHED {
+        assert!(rt; is_refused_at(rt.alloc(), bytes, want, *at), "{at}");
     }
 }
 
@@ -89,24 +112,49 @@ fn stream_keeps_no_padding(rt: HostRuntime) {
     assert!(rt; written.as_slice().ends_with(b"%.0s%.0s%c"));
 }
 
-#[test]
-fn a_read_that_fails_is_told_after_what_is_settled(rt: HostRuntime) {
-    let text = b"a%.0sb%5d";
+// Whether a read that fails here is told, and this was written, in cuts of each length.
+fn is_read_fault(alloc: Global, bytes: &[u8], fail_at: u64, want: &[u8]) -> bool {
     for step in STEPS {
-        for (fail_at, want) in [
-            (0, "".as_bytes()),
-            (1, b"a"),
-            (5, b"a"),
-            (6, b"ab"),
-            (8, b"ab"),
-            (9, b"ab%.0s%5d"),
-        ] {
-            let (outcome, written) = stream_over(rt.alloc(), text, step, Some(fail_at));
-            assert!(rt; matches!(outcome, Outcome::Read), "{fail_at}");
-            assert_eq!(rt; outcome.status(), 4);
-            assert!(rt; written.as_slice() == want, "{fail_at}");
+        let (outcome, written) = stream_over(alloc, bytes, step, Some(fail_at));
+        let is_told = matches!(outcome, Outcome::Read) && outcome.status() == 4;
+        if !is_told || written.as_slice() != want {
+            return false;
         }
     }
+    true
+}
+
+#[rattlefmt::skip]
+static SETTLED: [(u64, &[u8]); 6] = [
+    (0, b""),
+    (1, b"a"),
+    (5, b"a"),
+    (6, b"ab"),
+    (8, b"ab"),
+    (9, b"ab%.0s%5d"),
+];
+
+#[test]
+fn a_read_that_fails_is_told_after_what_is_settled(rt: HostRuntime) {
+    for (fail_at, want) in &SETTLED {
+        assert!(rt;
+            is_read_fault(rt.alloc(), b"a%.0sb%5d", *fail_at, want),
+            "{fail_at}"
+        );
+    }
+}
+
+// Whether just the front of what is wanted goes out and is told, in so much room.
+fn is_cut(alloc: Global, want: &[u8], step: usize, room: usize) -> bool {
+    let mut place = [0u8; 16];
+    let (Some(part), Some(front)) = (place.get_mut(..room), want.get(..room)) else {
+        return false;
+    };
+    let mut reader = Counted::new(feed(b"a%.0sb%5d", step, None));
+    let mut writer = Counted::new(part);
+    let outcome = run(alloc, ["stream"].as_slice(), &mut reader, &mut writer);
+    let is_told = matches!(outcome, Outcome::Write(n) if n == room as u128);
+    is_told && writer.failures() == 1 && place.get(..room) == Some(front)
 }
 
 #[test]
@@ -114,23 +162,13 @@ fn a_write_that_fails_is_told_with_what_went_out(rt: HostRuntime) {
     let want = b"ab%.0s%5d";
     for step in STEPS {
         for room in 0..want.len() {
-            let mut place = [0u8; 16];
-            let mut reader = Counted::new(feed(b"a%.0sb%5d", step, None));
-            let mut writer = Counted::new(&mut place[..room]);
-            let outcome = run(rt.alloc(), ["stream"].as_slice(), &mut reader, &mut writer);
-            let failures = writer.failures();
-            assert!(rt;
-                matches!(outcome, Outcome::Write(n) if n == room as u128),
-                "{room}"
-            );
-            assert_eq!(rt; failures, 1, "{room}");
-            assert!(rt; place[..room] == want[..room], "{room}");
+            assert!(rt; is_cut(rt.alloc(), want, step, room), "{step} {room}");
         }
     }
 }
 
 // How `stream` ended over a text, and its writer.
-fn stream_over(
+fn watch_stream(
     alloc: Global,
     bytes: &[u8],
     fail_at: Option<u64>,
@@ -147,22 +185,33 @@ fn calls_of(writer: &Watched) -> (usize, u32, usize) {
     (writer.taken, writer.flushes, writer.taken_at_flush)
 }
 
+// Whether a text's end is told so, and its bytes went out before one flush.
+fn is_done_once(alloc: Global, fails: bool) -> bool {
+    let (outcome, writer) = watch_stream(alloc, b"ab%5d", None, fails);
+    let is_told = if fails {
+        matches!(outcome, Outcome::Write(5))
+    } else {
+        matches!(outcome, Outcome::Done)
+    };
+    is_told && calls_of(&writer) == (5, 1, 5)
+}
+
+// A refusal and a read that fails are told even where the flush fails.
+fn is_refused_once(alloc: Global, fails: bool) -> bool {
+    let (outcome, writer) = watch_stream(alloc, b"ab%y", None, fails);
+    matches!(outcome, Outcome::Refused { .. }) && calls_of(&writer) == (2, 1, 2)
+}
+
+fn is_unread_once(alloc: Global, fails: bool) -> bool {
+    let (outcome, writer) = watch_stream(alloc, b"ab%5d", Some(2), fails);
+    matches!(outcome, Outcome::Read) && calls_of(&writer) == (2, 1, 2)
+}
+
 #[test]
 fn stream_flushes_once_after_what_it_wrote(rt: HostRuntime) {
     for fails in [false, true] {
-        let (outcome, writer) = stream_over(rt.alloc(), b"ab%5d", None, fails);
-        if fails {
-            assert!(rt; matches!(outcome, Outcome::Write(5)));
-        } else {
-            assert!(rt; matches!(outcome, Outcome::Done));
-        }
-        assert_eq!(rt; calls_of(&writer), (5, 1, 5));
-        // A refusal and a read that fails are told even where the flush fails.
-        let (outcome, writer) = stream_over(rt.alloc(), b"ab%y", None, fails);
-        assert!(rt; matches!(outcome, Outcome::Refused { .. }));
-        assert_eq!(rt; calls_of(&writer), (2, 1, 2));
-        let (outcome, writer) = stream_over(rt.alloc(), b"ab%5d", Some(2), fails);
-        assert!(rt; matches!(outcome, Outcome::Read));
-        assert_eq!(rt; calls_of(&writer), (2, 1, 2));
+        assert!(rt; is_done_once(rt.alloc(), fails), "{fails}");
+        assert!(rt; is_refused_once(rt.alloc(), fails), "{fails}");
+        assert!(rt; is_unread_once(rt.alloc(), fails), "{fails}");
     }
 }

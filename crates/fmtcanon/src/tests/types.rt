@@ -1,7 +1,7 @@
 //! What `types` writes, and what it reports of a refused format: rows of a model of the program that is not ours.
 
 #[rattlefmt::skip]
-pub(super) const TYPES: [(&str, &str); 26] = [
+pub(super) static TYPES: [(&str, &str); 26] = [
     ("%+5hu", "int\n"),
     ("%+5to", "unsigned long\n"),
     ("%1.5hhd", "int\n"),
@@ -31,7 +31,7 @@ pub(super) const TYPES: [(&str, &str); 26] = [
 ];
 
 #[rattlefmt::skip]
-pub(super) const REFUSED: [(&str, &str); 9] = [
+pub(super) static REFUSED: [(&str, &str); 9] = [
     ("%#05ji", "refused 13 AltUndefined at byte 5\n"),
     ("%#qi", "refused 3 Unexpected at byte 2\n"),
     ("%Lu", "refused 9 Float at byte 1\n"),

@@ -1,5 +1,5 @@
 //! Bytes that are no ASCII characters, and zero bytes.
-use super::{directive_of, rendering_of};
+use super::{directive_of, is_rendering};
 use crate::render_one;
 use pf_values::{Arg, CBytes, Counted};
 use std::test::Fail;
@@ -22,8 +22,7 @@ fn plain_bytes() -> [u8; 254] {
 fn bytes_print_themselves(rt: HostRuntime) -> Result<(), Fail> {
     let bytes = plain_bytes();
     assert_eq!(rt; bytes.last(), Some(&255));
-    let out = rendering_of(rt.alloc(), &bytes, &[])?;
-    assert!(rt; out.as_deref() == Some(bytes.as_slice()));
+    assert!(rt; is_rendering(rt.alloc(), &bytes, &[], &bytes)?);
     Ok(())
 }
 
@@ -33,17 +32,17 @@ fn strings_of_bytes(rt: HostRuntime) -> Result<(), Fail> {
     let Some(string) = CBytes::new(&bytes) else {
         panic!(rt; "a zero byte is found");
     };
-    let out = rendering_of(rt.alloc(), b"%s", &[Arg::Str(string)])?;
-    assert!(rt; out.as_deref() == Some(bytes.as_slice()));
+    assert!(rt; is_rendering(rt.alloc(), b"%s", &[Arg::Str(string)], &bytes)?);
     let Some(string) = CBytes::new(b"\xc3\xa9\x80\xff") else {
         panic!(rt; "a zero byte is found");
     };
-    let out = rendering_of(
+    let is_right = is_rendering(
         rt.alloc(),
         b"\xff%.1s|%3.1s|%-4.2s\x80",
         &[Arg::Str(string); 3],
+        b"\xff\xc3|  \xc3|\xc3\xa9  \x80",
     )?;
-    assert!(rt; out.as_deref() == Some(b"\xff\xc3|  \xc3|\xc3\xa9  \x80".as_slice()));
+    assert!(rt; is_right);
     Ok(())
 }
 
@@ -69,12 +68,16 @@ static CHARS: [(i32, u8); 14] = [
 #[test]
 fn chars(rt: HostRuntime) -> Result<(), Fail> {
     for (number, byte) in &CHARS {
-        let arg = Arg::Int(*number);
-        let out = rendering_of(rt.alloc(), b"%c", &[arg])?;
-        assert!(rt; out.as_deref() == Some([*byte].as_slice()), "{number}");
-        let out = rendering_of(rt.alloc(), b"%3c%-2c%1c", &[arg, arg, arg])?;
+        let args = [Arg::Int(*number); 3];
+        assert!(rt;
+            is_rendering(rt.alloc(), b"%c", &args[..1], &[*byte])?,
+            "{number}"
+        );
         let wanted = [b' ', b' ', *byte, *byte, b' ', *byte];
-        assert!(rt; out.as_deref() == Some(wanted.as_slice()), "{number}");
+        assert!(rt;
+            is_rendering(rt.alloc(), b"%3c%-2c%1c", &args, &wanted)?,
+            "{number}"
+        );
     }
     Ok(())
 }
