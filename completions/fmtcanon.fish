@@ -1,0 +1,13 @@
+# Completion of fmtcanon for fish.
+
+set -l commands types canon show format same stream
+complete -c fmtcanon -f
+complete -c fmtcanon -s h -l help -d 'Print help'
+complete -c fmtcanon -n "not __fish_seen_subcommand_from $commands" -s V -l version -d 'Print version'
+complete -c fmtcanon -n "not __fish_seen_subcommand_from $commands" -a types -d 'Writes the types of the arguments of a format, a line each'
+complete -c fmtcanon -n "not __fish_seen_subcommand_from $commands" -a canon -d 'Writes the canonical string of a format, which all formats of its meaning share'
+complete -c fmtcanon -n "not __fish_seen_subcommand_from $commands" -a show -d 'Writes the parts of a format, and what its directives are reduced to, a line each'
+complete -c fmtcanon -n "not __fish_seen_subcommand_from $commands" -a format -d 'Writes what a format prints for arguments, and nothing else'
+complete -c fmtcanon -n "not __fish_seen_subcommand_from $commands" -a same -d 'Tells whether one format may stand for another; if not, in what they differ'
+complete -c fmtcanon -n "not __fish_seen_subcommand_from $commands" -a stream -d 'Writes the canonical string of standard input'
+complete -c fmtcanon -n '__fish_seen_subcommand_from format' -a 'n: s:' -d 'An argument: `n:` and a decimal number, or `s:` and a string'

@@ -1,0 +1,88 @@
+-- What a comparison that was made or hindered gives the caller.
+use Rattle.std.proofs.Common.{◌⊎◌, ℤ, inl, inr, refl, subst}
+use Rattle.pf_values.specs.declared.models.Model.{Model}
+use Rattle.pf_values.specs.Items.{types}
+use Rattle.pf_values.specs.Text.{Text}
+use Rattle.pf_canon.specs.declared.sides.Side.TheVariants as sides
+use Rattle.pf_compare.specs.Answers.{HaveSameTypes, HindersComparison, IsComparisonOf, IsVerdict}
+use Rattle.pf_compare.specs.declared.faults.CompareFault.{CompareFault}
+use Rattle.pf_compare.specs.declared.faults.CompareFault.TheVariants.{Refused, Memory}
+use Rattle.pf_compare.specs.declared.verdicts.Comparison.{Comparison}
+use Rattle.pf_compare.specs.declared.verdicts.Verdict.{Verdict}
+use Rattle.pf_compare.specs.declared.verdicts.Verdict.TheVariants.{Same, Types, Args}
+use Rattle.fmtcanon_c.specs.declared.errors.CError.{CError}
+use Rattle.fmtcanon_c.specs.declared.comparing.CComparison.{CComparison}
+use Rattle.fmtcanon_c.specs.Calls.{Compares, ComparesNot, Gives, GivesArguments, IsFaultTold}
+
+module _ (model : Model) (f g : Text) (c : Comparison) (is : IsComparisonOf model f g c) where
+  types_by : (v : Verdict) → IsVerdict model f g is.first is.second v c.renderings → GivesArguments v
+      → HaveSameTypes model f g
+  types_by Same h gives = absurd gives
+  types_by (Types index) h gives = absurd gives
+  types_by (Args args) h gives = record {
+    types = types model is.first;
+    first = record { items = is.first; accepted = is.accepted_first; types_are = refl };
+    second = record { items = is.second; accepted = is.accepted_second; types_are = h.0 };
+  }
+
+  -- two formats for which arguments are given have the same types, and aren't equivalent
+  pub may_want_memory : GivesArguments c.verdict → HindersComparison model f g Memory
+  may_want_memory gives =
+      (types_by c.verdict is.verdict gives, λ e. subst GivesArguments (is.same.1 e) gives)
+
+-- a comparison that was made is told, unless there is no memory for the words
+pub made : (model : Model) (f g out : Text) (told : CComparison) (error : CError) (code : ℤ) (out_now : Text)
+    (told_now : CComparison) (c : Comparison) → IsComparisonOf model f g c
+    → Gives c out told code out_now told_now
+    → Compares model f g out error code out_now told_now error
+    ⊎ ComparesNot model f g out told error code out_now told_now error
+made model f g out told error code out_now told_now c is gives = elim gives [
+  | inl told_all ↦ inl (record {
+    comparison = c;
+    is = is;
+    told_is = told_all.0;
+    code_is = told_all.1;
+    out_is = told_all.2;
+    error_is = refl;
+  })
+  | inr no_memory ↦ inr (record {
+    out_is = no_memory.1;
+    told_is = no_memory.2;
+    why = inr (may_want_memory model f g c is no_memory.0, no_memory.3, refl);
+  })
+]
+
+-- a comparison that was hindered leaves all but the error as it is
+pub hindered : (model : Model) (f g out : Text) (told : CComparison) (error error_now : CError) (code : ℤ)
+    (fault : CompareFault) → HindersComparison model f g fault → IsFaultTold fault error code error_now
+    → ComparesNot model f g out told error code out told error_now
+hindered model f g out told error error_now code (Refused sides.First refusal) h t = record {
+  out_is = refl;
+  told_is = refl;
+  why = inl (inl (record {
+    kind = refusal.kind;
+    refused = rw t.at_is h;
+    code_is = t.code_is;
+    kind_is = t.kind_is;
+    side_is = t.side_is;
+  }));
+}
+hindered model f g out told error error_now code (Refused sides.Second refusal) h t = record {
+  out_is = refl;
+  told_is = refl;
+  why = inl (inr (
+    h.0,
+    record {
+      kind = refusal.kind;
+      refused = rw t.at_is h.1;
+      code_is = t.code_is;
+      kind_is = t.kind_is;
+      side_is = t.side_is;
+    },
+  ));
+}
+hindered model f g out told error error_now code Memory h t = record {
+  out_is = refl;
+  told_is = refl;
+  why = inr (h, t.0, t.1);
+}

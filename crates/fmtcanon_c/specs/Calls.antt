@@ -1,0 +1,159 @@
+-- What the calls answer. This project's own.
+use Rattle.std.specs.Prelude.{◌≡◌, ◌≤◌, ◌<◌, ◌^◌, ◌⊎◌, ⊤, ℕ, ℤ, pos, List, [], ◌∷◌, ◌++◌, length, map}
+use Rattle.pf_values.specs.declared.models.Model.{Model}
+use Rattle.pf_values.specs.declared.refusals.RefusalKind.{RefusalKind}
+use Rattle.pf_values.specs.declared.types.ArgType.{ArgType}
+use Rattle.pf_values.specs.Canonical.{IsCanonicalText}
+use Rattle.pf_values.specs.Items.{IsAccepted}
+use Rattle.pf_values.specs.Printing.{AreEquivalent}
+use Rattle.pf_values.specs.RefusalKinds.{name, number}
+use Rattle.pf_values.specs.Text.{Text}
+use Rattle.pf_text.specs.Signatures.{TakesManyArguments, TakesTypes}
+use Rattle.pf_canon.specs.Answers.{HindersCanonical, IsCanonicalFor}
+use Rattle.pf_canon.specs.declared.faults.CanonFault.TheVariants as canon_faults
+use Rattle.pf_canon.specs.declared.sides.Side.TheVariants.{First, Second}
+use Rattle.pf_compare.specs.Answers.{HindersComparison, IsComparisonOf}
+use Rattle.pf_compare.specs.declared.faults.CompareFault.{CompareFault}
+use Rattle.pf_compare.specs.declared.faults.CompareFault.TheVariants as compare_faults
+use Rattle.pf_compare.specs.declared.verdicts.Comparison.{Comparison}
+use Rattle.pf_compare.specs.declared.verdicts.Verdict.{Verdict}
+use Rattle.pf_compare.specs.declared.verdicts.Verdict.TheVariants.{Same, Types, Args}
+use Rattle.fmtcanon_c.specs.declared.errors.CError.{CError}
+use Rattle.fmtcanon_c.specs.declared.errors.TheConstants.{NO_MEMORY}
+use Rattle.fmtcanon_c.specs.declared.comparing.CComparison.{CComparison}
+use Rattle.fmtcanon_c.specs.Buffers.{put, type_code}
+use Rattle.fmtcanon_c.specs.Errors.{IsRefusalTold, IsRefusedBy}
+use Rattle.fmtcanon_c.specs.Words.{ended_words}
+
+-- accepted, with the error untouched, or refused
+abbrev pub Checks : Text → CError → ℤ → CError → Type 0
+Checks t error code error_now =
+    (IsAccepted t × (code ≡ pos 0) × (error_now ≡ error)) ⊎ IsRefusedBy First t code error_now
+
+-- memory is out for this reason, and the error is untouched
+abbrev pub IsOut : Type 0 → ℤ → CError → CError → Type 0
+IsOut Why code error error_now = Why × (code ≡ NO_MEMORY) × (error_now ≡ error)
+
+-- 1 where it is so, 0 where it isn't
+abbrev pub Tells : Type 0 → ℤ → Type 0
+Tells Is code = (Is × (code ≡ pos 1)) ⊎ ((¬ Is) × (code ≡ pos 0))
+
+-- 1 where an accepted text is canonical, 0 where it isn't, with the error untouched; or refused
+abbrev pub TellsCanonical : Model → Text → CError → ℤ → CError → Type 0
+TellsCanonical model t error code error_now =
+    (IsAccepted t × Tells (IsCanonicalText model t) code × (error_now ≡ error))
+    ⊎ IsRefusedBy First t code error_now
+
+-- the first text is refused, or it is accepted and the second refused
+abbrev pub IsOneRefusedBy : Text → Text → ℤ → CError → Type 0
+IsOneRefusedBy f g code error =
+    IsRefusedBy First f code error ⊎ (IsAccepted f × IsRefusedBy Second g code error)
+
+-- 1 where two accepted texts mean the same, 0 where they don't, with the error untouched; or one is
+-- refused
+abbrev pub TellsSame : Model → Text → Text → CError → ℤ → CError → Type 0
+TellsSame model f g error code error_now =
+    (IsAccepted f × IsAccepted g × Tells (AreEquivalent model f g) code × (error_now ≡ error))
+    ⊎ IsOneRefusedBy f g code error_now
+
+-- nothing was put: the text is refused, or memory is out
+abbrev pub PutsNothing : Text → Type 0 → Text → CError → ℤ → Text → CError → Type 0
+PutsNothing t Why out error code out_now error_now =
+    (out_now ≡ out) × (IsRefusedBy First t code error_now ⊎ IsOut Why code error error_now)
+
+-- the canonical text and a zero are put, where the buffer has room for them, and its length is
+-- answered
+abbrev pub PutsCanonical : Model → Text → Text → CError → ℤ → Text → CError → Type 0
+PutsCanonical model t out error code out_now error_now =
+    ((c : Text) × IsCanonicalFor model t c × (code ≡ pos (length c))
+    × (out_now ≡ put (c ++ 0 ∷ []) out) × (error_now ≡ error))
+    ⊎ PutsNothing t (HindersCanonical model t canon_faults.Memory) out error code out_now error_now
+
+-- a length as an answer; no memory holds a text with 2^63 bytes
+abbrev pub IsLengthCode : ℕ → ℤ → Type 0
+IsLengthCode len code =
+    ((len < 2 ^ 63) × (code ≡ pos len)) ⊎ ((2 ^ 63 ≤ len) × (code ≡ NO_MEMORY))
+
+-- the length of the canonical text is answered, with the error untouched; or it is refused
+abbrev pub TellsLength : Model → Text → CError → ℤ → CError → Type 0
+TellsLength model t error code error_now =
+    ((c : Text) × IsCanonicalFor model t c × IsLengthCode (length c) code × (error_now ≡ error))
+    ⊎ IsRefusedBy First t code error_now
+
+-- the codes of the types are put, where the buffer has room for them, and their number is answered
+abbrev pub PutsTypes : Model → Text → Text → CError → ℤ → Text → CError → Type 0
+PutsTypes model t out error code out_now error_now =
+    ((types : List ArgType) × TakesTypes model t types × (code ≡ pos (length types))
+    × (out_now ≡ put (map type_code types) out) × (error_now ≡ error))
+    ⊎ PutsNothing t (TakesManyArguments model t) out error code out_now error_now
+
+-- the words of the arguments that a verdict gives
+abbrev pub words_of : Verdict → Text
+words_of Same = []
+words_of (Types index) = []
+words_of (Args args) = ended_words args.items
+
+-- a verdict that gives arguments
+abbrev pub GivesArguments : Verdict → Type 0
+GivesArguments Same = ⊥
+GivesArguments (Types index) = ⊥
+GivesArguments (Args args) = ⊤
+
+-- the code of a verdict
+abbrev pub verdict_code : Verdict → ℕ
+verdict_code Same = 1
+verdict_code (Types index) = 2
+verdict_code (Args args) = 3
+
+-- the argument at which types differ, or how many arguments are given
+abbrev pub verdict_number : Verdict → ℕ
+verdict_number Same = 0
+verdict_number (Types index) = index
+verdict_number (Args args) = length args.items
+
+-- what is told of a comparison
+pub record IsTold (comparison : Comparison) (told : CComparison) : Type 0 where
+  pub verdict : told.verdict ≡ verdict_code comparison.verdict
+  pub number : told.number ≡ verdict_number comparison.verdict
+  pub renderings : told.renderings ≡ comparison.renderings
+
+-- two texts are compared, the words of the arguments are put where the buffer has room for them,
+-- and how many bytes they are is answered
+pub record Compares (model : Model) (f g out : Text) (error : CError) (code : ℤ) (out_now : Text)
+    (told_now : CComparison) (error_now : CError) : Type 0 where
+  pub comparison : Comparison
+  pub is : IsComparisonOf model f g comparison
+  pub told_is : IsTold comparison told_now
+  pub code_is : code ≡ pos (length (words_of comparison.verdict))
+  pub out_is : out_now ≡ put (words_of comparison.verdict) out
+  pub error_is : error_now ≡ error
+
+-- nothing was put or told: one text is refused, or memory is out
+pub record ComparesNot (model : Model) (f g out : Text) (told : CComparison) (error : CError) (code : ℤ)
+    (out_now : Text) (told_now : CComparison) (error_now : CError) : Type 0 where
+  pub out_is : out_now ≡ out
+  pub told_is : told_now ≡ told
+  pub why : IsOneRefusedBy f g code error_now
+      ⊎ IsOut (HindersComparison model f g compare_faults.Memory) code error error_now
+
+-- what is told of a comparison that was made
+abbrev pub Gives : Comparison → Text → CComparison → ℤ → Text → CComparison → Type 0
+Gives comparison out told code out_now told_now =
+    (IsTold comparison told_now × (code ≡ pos (length (words_of comparison.verdict)))
+    × (out_now ≡ put (words_of comparison.verdict) out))
+    ⊎ (GivesArguments comparison.verdict × (out_now ≡ out) × (told_now ≡ told)
+    × (code ≡ NO_MEMORY))
+
+-- what is told of one that wasn't
+abbrev pub IsFaultTold : CompareFault → CError → ℤ → CError → Type 0
+IsFaultTold (compare_faults.Refused side refusal) error code error_now =
+    IsRefusalTold side refusal code error_now
+IsFaultTold compare_faults.Memory error code error_now = (code ≡ NO_MEMORY) × (error_now ≡ error)
+
+-- the name of a kind and a zero are put, where the buffer has room for them, and its length is
+-- answered
+abbrev pub PutsName : ℕ → Text → ℕ → Text → Type 0
+PutsName n out len out_now =
+    ((kind : RefusalKind) × (n ≡ number kind) × (len ≡ length (name kind))
+    × (out_now ≡ put (name kind ++ 0 ∷ []) out))
+    ⊎ (((kind : RefusalKind) → n ≡ number kind → ⊥) × (len ≡ 0) × (out_now ≡ out))

@@ -1,0 +1,4 @@
+pub mod Buffers
+pub mod Errors
+pub mod Words
+pub mod Calls

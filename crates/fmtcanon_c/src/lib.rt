@@ -1,0 +1,16 @@
+//! The calls of the C library `libfmtcanon`. `include/fmtcanon.h` declares them.
+#![tactic(auto)]
+
+mod buffers;
+mod canonical;
+mod canonicity;
+mod checking;
+mod comparing;
+mod errors;
+mod refusal_names;
+mod sameness;
+#[cfg(test)]
+mod tests;
+mod types;
+mod version;
+mod words;

@@ -1,0 +1,146 @@
+/* fmtcanon: canonical texts of printf formats, and whether one may stand for another.
+ *
+ * A format is `len` bytes at `text`, and no byte behind them is read: it needs no zero at its end,
+ * and a zero byte inside it is refused. What a call answers is proved of the code that makes it; the
+ * source's docs/C.md says what that means, and has examples.
+ *
+ * Results. Below zero is an error: -1 to -18 where a format is refused, and then `*error` says
+ * why, where, and which format; or FMTCANON_ERROR_NOMEMORY. Anything else is the answer. Only a
+ * refusal changes `*error`.
+ *
+ * Buffers. `out` is written only where all of the answer has room in its `cap` bytes; else it is
+ * left as it was, and so is every byte behind the answer. The result is the same either way. So a
+ * call with `cap` 0 asks how much room is wanted, and the next one, with that room, fills it.
+ *
+ * What the caller owes. `error` and `comparison` aren't NULL and are aligned. `text` and `out` may
+ * be NULL where their length is 0; else they point to so many bytes, fewer than 2^63. What is
+ * written (`out`, `comparison`, `error`) overlaps nothing else that the call is given. No other
+ * thread writes the texts during the call, nor touches what is written.
+ *
+ * Threads and memory. No call has state, keeps a pointer, prints, or ends the process: calls may be
+ * made from any number of threads. `malloc`, `realloc` and `free` are called where a comment says
+ * that memory is taken, and all of it is given back before the call returns.
+ */
+#ifndef FMTCANON_H
+#define FMTCANON_H
+
+#include <stddef.h>
+#include <stdint.h>
+
+#ifdef __cplusplus
+extern "C" {
+#endif
+
+/* The version of this header; fmtcanon_version() tells that of the library. */
+#define FMTCANON_VERSION_MAJOR 0
+#define FMTCANON_VERSION_MINOR 1
+#define FMTCANON_VERSION_PATCH 0
+
+/* Memory was refused, or no memory could hold the answer. */
+#define FMTCANON_ERROR_NOMEMORY (-100)
+
+/* Why a format is refused. The result is the number of the kind below zero. fmtcanon_kind_name()
+ * gives the names that the command `fmtcanon` writes. */
+enum fmtcanon_kind {
+    FMTCANON_NUL_BYTE = 1,             /* a zero byte, which a C string can't hold */
+    FMTCANON_TRUNCATED = 2,            /* the text ends inside a conversion specification */
+    FMTCANON_UNEXPECTED = 3,           /* a byte that can't stand here, for no other reason */
+    FMTCANON_BAD_PERCENT = 4,          /* `%` inside a specification */
+    FMTCANON_STAR = 5,                 /* `*` for a width or a precision */
+    FMTCANON_NUMBERED = 6,             /* a numbered argument, `%1$d` */
+    FMTCANON_WIDTH_TOO_LARGE = 7,      /* a width above 4095 */
+    FMTCANON_PRECISION_TOO_LARGE = 8,  /* a precision above 4095 */
+    FMTCANON_FLOAT = 9,                /* a floating conversion, or `L` */
+    FMTCANON_POINTER = 10,             /* `%p` */
+    FMTCANON_COUNT = 11,               /* `%n` */
+    FMTCANON_WIDE = 12,                /* `%C`, `%S`, `%lc`, `%ls` */
+    FMTCANON_ALT_UNDEFINED = 13,       /* `#` with one of `d i u c s` */
+    FMTCANON_ZERO_UNDEFINED = 14,      /* `0` with one of `c s` */
+    FMTCANON_GROUP_UNDEFINED = 15,     /* `'` with one of `o x X c s` */
+    FMTCANON_PRECISION_UNDEFINED = 16, /* a precision with `c` */
+    FMTCANON_LENGTH_UNDEFINED = 17,    /* a length modifier other than `l`, with `c s` */
+    FMTCANON_TOO_LONG = 18             /* more than 2^62 bytes */
+};
+
+/* The type of an argument after the default promotions, in the data model LP64. */
+enum fmtcanon_type {
+    FMTCANON_INT = 1,
+    FMTCANON_UINT = 2,
+    FMTCANON_LONG = 3,
+    FMTCANON_ULONG = 4,
+    FMTCANON_LONG_LONG = 5,
+    FMTCANON_ULONG_LONG = 6,
+    FMTCANON_STRING = 7
+};
+
+/* What two formats are to each other. */
+enum fmtcanon_verdict {
+    FMTCANON_SAME = 1,     /* equal types, and equal bytes for all arguments */
+    FMTCANON_TYPES = 2,    /* the types of their arguments differ */
+    FMTCANON_DIFFERENT = 3 /* equal types, and arguments are given that they print differently */
+};
+
+/* Why and where a format is refused. */
+typedef struct fmtcanon_error {
+    uint64_t at;   /* the byte, counted from 0; the length of a text that ends too early */
+    uint32_t kind; /* an enum fmtcanon_kind */
+    uint32_t side; /* which format: 0 for the first or only one, 1 for the second */
+} fmtcanon_error;
+
+/* What fmtcanon_compare() tells beside the words of the arguments. */
+typedef struct fmtcanon_comparison {
+    uint64_t number;     /* TYPES: the argument, counted from 0, at which the types differ; the
+                            number of arguments of the format that has fewer, where they differ in
+                            nothing else. DIFFERENT: how many words are given. SAME: 0. */
+    uint32_t verdict;    /* an enum fmtcanon_verdict */
+    uint32_t renderings; /* DIFFERENT: the place of the one argument that isn't neutral among those
+                            that are tried for its type, from 1 to 16; else 0. */
+} fmtcanon_comparison;
+
+/* 0 where the format is accepted. Takes no memory. */
+int64_t fmtcanon_check(const char *text, size_t len, fmtcanon_error *error);
+
+/* 1 where the format is its own canonical text, 0 where it isn't. Takes no memory. */
+int64_t fmtcanon_is_canonical(const char *text, size_t len, fmtcanon_error *error);
+
+/* The length of the canonical text, without a zero behind it. Takes no memory; it is the way to ask
+ * how much room fmtcanon_canonical() wants: one byte more. FMTCANON_ERROR_NOMEMORY for a length
+ * of 2^63 or more. */
+int64_t fmtcanon_canonical_length(const char *text, size_t len, fmtcanon_error *error);
+
+/* The length of the canonical text, which is put into `out` with a zero behind it. There is room
+ * where the length is below `cap`. Takes memory of that length. */
+int64_t fmtcanon_canonical(const char *text, size_t len, char *out, size_t cap,
+                           fmtcanon_error *error);
+
+/* How many arguments the format takes. The type of each, an enum fmtcanon_type in one byte, is put
+ * into `out`. Takes memory only for more than eight. */
+int64_t fmtcanon_types(const char *text, size_t len, unsigned char *out, size_t cap,
+                       fmtcanon_error *error);
+
+/* 1 where both formats take arguments of the same types and print the same bytes for all of them, 0
+ * where they don't: then, and only then, have they one canonical text. Takes no memory. */
+int64_t fmtcanon_same(const char *first, size_t first_len, const char *second, size_t second_len,
+                      fmtcanon_error *error);
+
+/* Compares two formats, and tells `*comparison` what they are to each other. For
+ * FMTCANON_DIFFERENT the words of arguments for which they print different bytes are put into
+ * `out`, each with a zero behind it: `n:` and a decimal number, or `s:` and the bytes of a string.
+ * These are the words that the commands `fmtcanon same` and `fmtcanon format` use. The result is
+ * how many bytes the words and the zeros are, 0 where none are given. Where it is an error,
+ * `*comparison` is left as it was. Takes memory only for FMTCANON_DIFFERENT. */
+int64_t fmtcanon_compare(const char *first, size_t first_len, const char *second,
+                         size_t second_len, char *out, size_t cap,
+                         fmtcanon_comparison *comparison, fmtcanon_error *error);
+
+/* The length of the name of a kind, as `Star`, which is put into `out` with a zero behind it; 0 for
+ * a number that is no kind's. No name is longer than 18 bytes. Takes no memory. */
+uint64_t fmtcanon_kind_name(uint32_t kind, char *out, size_t cap);
+
+/* The version of the library: 65536 times the major one, 256 times the minor one, and the patch. */
+uint32_t fmtcanon_version(void);
+
+#ifdef __cplusplus
+}
+#endif
+#endif

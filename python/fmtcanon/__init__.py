@@ -1,0 +1,274 @@
+"""Canonical texts of printf formats, and whether one may stand for another.
+
+A binding of the C library `libfmtcanon` by ctypes, with no code of its own but the conversions.
+
+A format is a `str` or bytes. A `str` is handed over in UTF-8, and all places are counted in bytes.
+Give bytes where a format isn't UTF-8. Each call raises `Refused` for a format that the library
+doesn't accept, `MemoryError` where memory is out, and `TypeError` for what is no format.
+
+The library is looked up as `libfmtcanon.so.0`, or as the environment's FMTCANON_LIBRARY says.
+
+    >>> import fmtcanon
+    >>> fmtcanon.canonical("Total: %i of %u%%")
+    'Total: %d of %u%%'
+    >>> fmtcanon.same("%5c", "    %c")
+    True
+    >>> fmtcanon.compare("%05d", "%.5d").arguments
+    (-1,)
+"""
+
+from __future__ import annotations
+
+import ctypes
+import enum
+import os
+from typing import Any, Callable, List, NamedTuple, Optional, Tuple, TypeVar, Union
+
+__all__ = [
+    "Comparison",
+    "Kind",
+    "Refused",
+    "Type",
+    "Verdict",
+    "canonical",
+    "check",
+    "compare",
+    "is_canonical",
+    "same",
+    "types",
+    "version",
+]
+
+Format = Union[str, bytes, bytearray, memoryview]
+_Text = TypeVar("_Text", str, bytes)
+
+# The versions of the library that the module is for: any patch of this one.
+_VERSION = (0, 1)
+_NO_MEMORY = -100
+_LONGEST_NAME = 18
+
+
+class Kind(enum.IntEnum):
+    """Why a format is refused."""
+
+    NUL_BYTE = 1
+    TRUNCATED = 2
+    UNEXPECTED = 3
+    BAD_PERCENT = 4
+    STAR = 5
+    NUMBERED = 6
+    WIDTH_TOO_LARGE = 7
+    PRECISION_TOO_LARGE = 8
+    FLOAT = 9
+    POINTER = 10
+    COUNT = 11
+    WIDE = 12
+    ALT_UNDEFINED = 13
+    ZERO_UNDEFINED = 14
+    GROUP_UNDEFINED = 15
+    PRECISION_UNDEFINED = 16
+    LENGTH_UNDEFINED = 17
+    TOO_LONG = 18
+
+
+class Type(enum.IntEnum):
+    """The type of an argument, in the data model LP64."""
+
+    INT = 1
+    UINT = 2
+    LONG = 3
+    ULONG = 4
+    LONG_LONG = 5
+    ULONG_LONG = 6
+    STRING = 7
+
+
+class Verdict(enum.IntEnum):
+    """What two formats are to each other."""
+
+    SAME = 1
+    TYPES = 2
+    DIFFERENT = 3
+
+
+class Refused(ValueError):
+    """A format is refused.
+
+    `kind` says why, `name` is the name of the kind as the program writes it, `byte` is the place,
+    counted from 0, and `side` is 1 where it is the second of two formats, else 0.
+    """
+
+    def __init__(self, kind: Kind, name: str, byte: int, side: int = 0) -> None:
+        super().__init__(kind, name, byte, side)
+        self.kind = kind
+        self.name = name
+        self.byte = byte
+        self.side = side
+
+    def __str__(self) -> str:
+        return f"refused {int(self.kind)} {self.name} at byte {self.byte}"
+
+
+class Comparison(NamedTuple):
+    """What two formats are to each other.
+
+    `types_differ_at` is the index of the first argument of which the types differ, under
+    Verdict.TYPES. `arguments` are arguments that the two print differently, numbers and bytes,
+    under Verdict.DIFFERENT. Else they are None.
+    """
+
+    verdict: Verdict
+    types_differ_at: Optional[int] = None
+    arguments: Optional[Tuple[Union[int, bytes], ...]] = None
+
+
+class _Error(ctypes.Structure):
+    _fields_ = [("at", ctypes.c_uint64), ("kind", ctypes.c_uint32), ("side", ctypes.c_uint32)]
+
+
+class _Comparison(ctypes.Structure):
+    _fields_ = [
+        ("number", ctypes.c_uint64),
+        ("verdict", ctypes.c_uint32),
+        ("renderings", ctypes.c_uint32),
+    ]
+
+
+_TEXT = (ctypes.c_char_p, ctypes.c_size_t)
+_ERROR = (ctypes.POINTER(_Error),)
+_CALLS = {
+    "check": ((*_TEXT, *_ERROR), ctypes.c_int64),
+    "is_canonical": ((*_TEXT, *_ERROR), ctypes.c_int64),
+    "canonical_length": ((*_TEXT, *_ERROR), ctypes.c_int64),
+    "canonical": ((*_TEXT, *_TEXT, *_ERROR), ctypes.c_int64),
+    "types": ((*_TEXT, *_TEXT, *_ERROR), ctypes.c_int64),
+    "same": ((*_TEXT, *_TEXT, *_ERROR), ctypes.c_int64),
+    "compare": (
+        (*_TEXT, *_TEXT, *_TEXT, ctypes.POINTER(_Comparison), *_ERROR),
+        ctypes.c_int64,
+    ),
+    "kind_name": ((ctypes.c_uint32, *_TEXT), ctypes.c_uint64),
+    "version": ((), ctypes.c_uint32),
+}
+
+
+def _load() -> ctypes.CDLL:
+    name = os.environ.get("FMTCANON_LIBRARY", "libfmtcanon.so.0")
+    try:
+        library = ctypes.CDLL(name)
+    except OSError as error:
+        hint = "install it, or name its file by FMTCANON_LIBRARY"
+        raise ImportError(f"the library of fmtcanon isn't there: {error}; {hint}") from error
+    for call, (arguments, result) in _CALLS.items():
+        function = getattr(library, f"fmtcanon_{call}", None)
+        if function is None:
+            raise ImportError(f"{name} is another library or version: it has no fmtcanon_{call}")
+        function.argtypes, function.restype = arguments, result
+    found = _parts(library.fmtcanon_version())
+    if found[:2] != _VERSION:
+        raise ImportError(f"{name} has the version {'.'.join(map(str, found))}, which isn't known")
+    return library
+
+
+def _parts(version: int) -> Tuple[int, int, int]:
+    return version >> 16, version >> 8 & 255, version & 255
+
+
+_library = _load()
+
+
+def _bytes(format: Format) -> bytes:
+    if isinstance(format, str):
+        return format.encode()
+    if isinstance(format, (bytes, bytearray, memoryview)):
+        return bytes(format)
+    raise TypeError(f"a format is a str or bytes, not {type(format).__name__}")
+
+
+def _name(kind: int) -> str:
+    out = ctypes.create_string_buffer(_LONGEST_NAME + 1)
+    _library.fmtcanon_kind_name(kind, out, len(out))
+    return out.value.decode()
+
+
+def _answer(result: int, error: _Error) -> int:
+    if result >= 0:
+        return result
+    if result == _NO_MEMORY:
+        raise MemoryError("fmtcanon is out of memory")
+    raise Refused(Kind(error.kind), _name(error.kind), error.at, error.side)
+
+
+def _filled(call: Callable[..., int], room: int, *arguments: Any) -> bytes:
+    """What a call puts into a buffer, which is made larger where it has too little room."""
+    while True:
+        error, out = _Error(), ctypes.create_string_buffer(room)
+        size = _answer(call(*arguments, out, room, error), error)
+        if size <= room:
+            return out.raw[:size]
+        room = size
+
+
+def check(format: Format) -> None:
+    """Returns where the format is accepted, and raises Refused where it isn't."""
+    text, error = _bytes(format), _Error()
+    _answer(_library.fmtcanon_check(text, len(text), error), error)
+
+
+def is_canonical(format: Format) -> bool:
+    """Whether the format is its own canonical text."""
+    text, error = _bytes(format), _Error()
+    return _answer(_library.fmtcanon_is_canonical(text, len(text), error), error) == 1
+
+
+def canonical(format: _Text) -> _Text:
+    """The canonical text, a `str` where the format is one, else bytes.
+
+    Two formats have one canonical text exactly if they take arguments of the same types and print
+    the same bytes for all of them.
+    """
+    text, error = _bytes(format), _Error()
+    size = _answer(_library.fmtcanon_canonical_length(text, len(text), error), error)
+    out = ctypes.create_string_buffer(size + 1)
+    _answer(_library.fmtcanon_canonical(text, len(text), out, len(out), error), error)
+    # Bytes that print themselves stay as they are, so UTF-8 stays UTF-8.
+    return out.raw[:size].decode() if isinstance(format, str) else out.raw[:size]
+
+
+def types(format: Format) -> List[Type]:
+    """The types of the arguments, in order."""
+    text = _bytes(format)
+    room = text.count(b"%") + 1
+    return [Type(code) for code in _filled(_library.fmtcanon_types, room, text, len(text))]
+
+
+def same(first: Format, second: Format) -> bool:
+    """Whether two formats take the same types and print the same bytes for all arguments."""
+    f, g, error = _bytes(first), _bytes(second), _Error()
+    return _answer(_library.fmtcanon_same(f, len(f), g, len(g), error), error) == 1
+
+
+def _argument(word: bytes) -> Union[int, bytes]:
+    return int(word[2:]) if word.startswith(b"n:") else word[2:]
+
+
+def compare(first: Format, second: Format) -> Comparison:
+    """What two formats are to each other, with arguments that they print differently."""
+    f, g, told = _bytes(first), _bytes(second), _Comparison()
+
+    def call(*arguments: Any) -> int:
+        *texts, out, room, error = arguments
+        return _library.fmtcanon_compare(*texts, out, room, told, error)
+
+    words = _filled(call, 4096, f, len(f), g, len(g))
+    verdict = Verdict(told.verdict)
+    if verdict is Verdict.TYPES:
+        return Comparison(verdict, types_differ_at=told.number)
+    if verdict is Verdict.DIFFERENT:
+        return Comparison(verdict, arguments=tuple(map(_argument, words.split(b"\0")[:-1])))
+    return Comparison(verdict)
+
+
+def version() -> Tuple[int, int, int]:
+    """The version of the library: major, minor and patch."""
+    return _parts(_library.fmtcanon_version())

@@ -1,0 +1,129 @@
+"""Tests of the module: python3 -m unittest, in the folder above."""
+
+import doctest
+import os
+import subprocess
+import sys
+import threading
+import unittest
+
+import fmtcanon
+from fmtcanon import Kind, Refused, Type, Verdict
+
+
+class Calls(unittest.TestCase):
+    def test_canonical(self):
+        self.assertEqual(fmtcanon.canonical("Total: %i of %u%%"), "Total: %d of %u%%")
+        self.assertEqual(fmtcanon.canonical(b"%5c"), b"    %c")
+        self.assertEqual(fmtcanon.canonical("é%i"), "é%d")
+        self.assertEqual(fmtcanon.canonical(b"\xff%i"), b"\xff%d")
+        self.assertEqual(fmtcanon.canonical(bytearray(b"%i")), b"%d")
+        self.assertEqual(fmtcanon.canonical(memoryview(b"%i")), b"%d")
+        self.assertEqual(fmtcanon.canonical(""), "")
+        self.assertEqual(len(fmtcanon.canonical("%4095d" * 10)), 10 * (4084 + 4))
+
+    def test_is_canonical(self):
+        self.assertTrue(fmtcanon.is_canonical("%d"))
+        self.assertFalse(fmtcanon.is_canonical("%i"))
+
+    def test_types(self):
+        wanted = [Type.INT, Type.UINT, Type.LONG, Type.ULONG]
+        wanted += [Type.LONG_LONG, Type.ULONG_LONG, Type.STRING]
+        self.assertEqual(fmtcanon.types("%d%u%ld%lu%lld%llu%s%%"), wanted)
+        self.assertEqual(fmtcanon.types(b""), [])
+        self.assertEqual(fmtcanon.types("%d" * 5000), [Type.INT] * 5000)
+
+    def test_same(self):
+        self.assertTrue(fmtcanon.same("%5c", b"    %c"))
+        self.assertFalse(fmtcanon.same("%05d", "%.5d"))
+
+    def test_compare(self):
+        self.assertEqual(fmtcanon.compare("%i", "%d"), (Verdict.SAME, None, None))
+        self.assertEqual(fmtcanon.compare("%d%s", "%d"), (Verdict.TYPES, 1, None))
+        self.assertEqual(fmtcanon.compare("%05d%s", "%.5d%s").arguments, (-1, b""))
+        self.assertEqual(fmtcanon.compare("a", "b"), (Verdict.DIFFERENT, None, ()))
+        # The words are longer than the first buffer.
+        self.assertEqual(fmtcanon.compare("%s", "%.4095s").arguments, (b"A" * 4096,))
+        many = fmtcanon.compare("%d" * 3000 + "a", "%d" * 3000 + "b")
+        self.assertEqual(many.arguments, (0,) * 3000)
+
+    def test_version(self):
+        self.assertEqual(fmtcanon.version()[:2], (0, 1))
+
+    def test_examples(self):
+        self.assertEqual(doctest.testmod(fmtcanon).failed, 0)
+
+
+class Refusals(unittest.TestCase):
+    def refused(self, call, *formats):
+        with self.assertRaises(Refused) as caught:
+            call(*formats)
+        return caught.exception
+
+    def test_each_call(self):
+        one = [fmtcanon.check, fmtcanon.canonical, fmtcanon.is_canonical, fmtcanon.types]
+        for call in one:
+            refusal = self.refused(call, "%d and %*d")
+            self.assertEqual((refusal.kind, refusal.name), (Kind.STAR, "Star"))
+            self.assertEqual((refusal.byte, refusal.side), (8, 0))
+            self.assertEqual(str(refusal), "refused 5 Star at byte 8")
+        for call in [fmtcanon.same, fmtcanon.compare]:
+            self.assertEqual(self.refused(call, "%d", "%y").side, 1)
+            self.assertEqual(self.refused(call, "%f", "%y").side, 0)
+
+    def test_bytes_are_counted(self):
+        self.assertEqual(self.refused(fmtcanon.check, "é%y").byte, 3)
+
+    def test_zero_byte(self):
+        self.assertEqual(self.refused(fmtcanon.check, "a\0b").kind, Kind.NUL_BYTE)
+        self.assertEqual(self.refused(fmtcanon.check, b"\0").byte, 0)
+
+    def test_no_format(self):
+        for wrong in [5, None, ["%d"], 1.5]:
+            with self.assertRaises(TypeError):
+                fmtcanon.check(wrong)
+        with self.assertRaises(UnicodeEncodeError):
+            fmtcanon.check("\ud800")
+
+    def test_refusal_is_a_value_error(self):
+        self.assertIsInstance(self.refused(fmtcanon.check, "%"), ValueError)
+
+
+class Loading(unittest.TestCase):
+    def import_with(self, library):
+        environment = {**os.environ, "FMTCANON_LIBRARY": library}
+        words = [sys.executable, "-c", "import fmtcanon"]
+        done = subprocess.run(words, env=environment, stderr=subprocess.PIPE, check=False)
+        return done.returncode, done.stderr.decode().splitlines()[-1]
+
+    def test_no_library(self):
+        status, line = self.import_with("/nothing/libfmtcanon.so.0")
+        self.assertEqual(status, 1)
+        self.assertIn("ImportError: the library of fmtcanon isn't there", line)
+        self.assertIn("FMTCANON_LIBRARY", line)
+
+    def test_another_library(self):
+        status, line = self.import_with("libc.so.6")
+        self.assertEqual(status, 1)
+        self.assertIn("ImportError: libc.so.6 is another library", line)
+
+
+class Threads(unittest.TestCase):
+    def test_calls_from_threads(self):
+        formats = [f"%0{width}i|%{width}c" for width in range(1, 60)]
+        wanted = [fmtcanon.canonical(one) for one in formats]
+        found = []
+
+        def work():
+            found.append([fmtcanon.canonical(one) for one in formats] == wanted)
+
+        threads = [threading.Thread(target=work) for _ in range(4)]
+        for thread in threads:
+            thread.start()
+        for thread in threads:
+            thread.join()
+        self.assertEqual(found, [True] * 4)
+
+
+if __name__ == "__main__":
+    sys.exit(unittest.main())

@@ -1,0 +1,244 @@
+/* The edges of what the header says: its numbers and its layout, texts and buffers that end at a
+ * page that can't be touched, NULL, each growth refused in turn, and a small stack. It is linked
+ * with malloc and realloc wrapped. */
+#define _GNU_SOURCE
+#include "fmtcanon.h"
+#include <pthread.h>
+#include <stdio.h>
+#include <stdlib.h>
+#include <string.h>
+#include <sys/mman.h>
+
+#define WANT(holds) ((holds) ? (void)0 : failed(#holds, __LINE__))
+#define COUNT(rows) (sizeof(rows) / sizeof *(rows))
+
+static void failed(const char *what, int line)
+{
+    fprintf(stderr, "edges.c:%d: not so: %s\n", line, what);
+    exit(1);
+}
+
+static int fails_at = -1, growths;
+void *__real_malloc(size_t n);
+void *__real_realloc(void *p, size_t n);
+void *__wrap_malloc(size_t n) { return growths++ == fails_at ? NULL : __real_malloc(n); }
+void *__wrap_realloc(void *p, size_t n)
+{
+    return growths++ == fails_at ? NULL : __real_realloc(p, n);
+}
+
+static void layout(void)
+{
+    WANT(sizeof(fmtcanon_error) == 16);
+    WANT(offsetof(fmtcanon_error, at) == 0 && offsetof(fmtcanon_error, kind) == 8);
+    WANT(offsetof(fmtcanon_error, side) == 12);
+    WANT(sizeof(fmtcanon_comparison) == 16);
+    WANT(offsetof(fmtcanon_comparison, number) == 0);
+    WANT(offsetof(fmtcanon_comparison, verdict) == 8);
+    WANT(offsetof(fmtcanon_comparison, renderings) == 12);
+}
+
+/* Each kind but the last with a text that is refused for it. */
+static const struct {
+    int kind;
+    const char *name, *text;
+    size_t len;
+} KINDS[] = {
+    {FMTCANON_NUL_BYTE, "NulByte", "a\0b", 3},
+    {FMTCANON_TRUNCATED, "Truncated", "%", 1},
+    {FMTCANON_UNEXPECTED, "Unexpected", "%y", 2},
+    {FMTCANON_BAD_PERCENT, "BadPercent", "%5%", 3},
+    {FMTCANON_STAR, "Star", "%*d", 3},
+    {FMTCANON_NUMBERED, "Numbered", "%1$d", 4},
+    {FMTCANON_WIDTH_TOO_LARGE, "WidthTooLarge", "%4096d", 6},
+    {FMTCANON_PRECISION_TOO_LARGE, "PrecisionTooLarge", "%.4096d", 7},
+    {FMTCANON_FLOAT, "Float", "%f", 2},
+    {FMTCANON_POINTER, "Pointer", "%p", 2},
+    {FMTCANON_COUNT, "Count", "%n", 2},
+    {FMTCANON_WIDE, "Wide", "%ls", 3},
+    {FMTCANON_ALT_UNDEFINED, "AltUndefined", "%#d", 3},
+    {FMTCANON_ZERO_UNDEFINED, "ZeroUndefined", "%0s", 3},
+    {FMTCANON_GROUP_UNDEFINED, "GroupUndefined", "%'x", 3},
+    {FMTCANON_PRECISION_UNDEFINED, "PrecisionUndefined", "%.3c", 4},
+    {FMTCANON_LENGTH_UNDEFINED, "LengthUndefined", "%hs", 3},
+};
+
+static void numbers(void)
+{
+    static const unsigned char types[] = {FMTCANON_INT,       FMTCANON_UINT,
+                                          FMTCANON_LONG,      FMTCANON_ULONG,
+                                          FMTCANON_LONG_LONG, FMTCANON_ULONG_LONG,
+                                          FMTCANON_STRING};
+    fmtcanon_error e;
+    unsigned char found[8];
+    char name[32];
+    size_t i;
+    for (i = 0; i < COUNT(KINDS); i++) {
+        WANT(fmtcanon_check(KINDS[i].text, KINDS[i].len, &e) == -KINDS[i].kind);
+        WANT(e.kind == (uint32_t)KINDS[i].kind && e.kind == i + 1 && e.side == 0);
+        WANT(fmtcanon_kind_name(e.kind, name, sizeof name) == strlen(KINDS[i].name));
+        WANT(!strcmp(name, KINDS[i].name) && strlen(name) <= 18);
+    }
+    WANT(fmtcanon_kind_name(FMTCANON_TOO_LONG, name, sizeof name) && !strcmp(name, "TooLong"));
+    WANT(fmtcanon_kind_name(0, name, 1) == 0 && fmtcanon_kind_name(19, NULL, 0) == 0);
+    WANT(fmtcanon_kind_name(0xffffffff, NULL, 0) == 0);
+    WANT(fmtcanon_types("%d%u%ld%lu%lld%llu%s", 20, found, sizeof found, &e) == 7);
+    WANT(!memcmp(found, types, sizeof types));
+    WANT(fmtcanon_version() == (FMTCANON_VERSION_MAJOR << 16 | FMTCANON_VERSION_MINOR << 8
+                                | FMTCANON_VERSION_PATCH));
+}
+
+static void two_texts(void)
+{
+    fmtcanon_error e;
+    fmtcanon_comparison told;
+    char out[32];
+    WANT(fmtcanon_same("%d", 2, "%y", 2, &e) == -FMTCANON_UNEXPECTED && e.side == 1 && e.at == 1);
+    WANT(fmtcanon_same("%*d", 3, "%y", 2, &e) == -FMTCANON_STAR && e.side == 0);
+    WANT(fmtcanon_compare("%i", 2, "%d", 2, out, sizeof out, &told, &e) == 0);
+    WANT(told.verdict == FMTCANON_SAME && told.number == 0 && told.renderings == 0);
+    WANT(fmtcanon_compare("%d%s", 4, "%d", 2, out, sizeof out, &told, &e) == 0);
+    WANT(told.verdict == FMTCANON_TYPES && told.number == 1 && told.renderings == 0);
+    WANT(fmtcanon_compare("a", 1, "b", 1, NULL, 0, &told, &e) == 0);
+    WANT(told.verdict == FMTCANON_DIFFERENT && told.number == 0 && told.renderings == 1);
+    WANT(fmtcanon_compare("%05d%s", 6, "%.5d%s", 6, out, sizeof out, &told, &e) == 8);
+    WANT(told.verdict == FMTCANON_DIFFERENT && told.number == 2);
+    WANT(!memcmp(out, "n:-1\0s:\0", 8));
+}
+
+/* So many bytes just before a page that can't be touched. */
+static char *at_end(size_t len)
+{
+    char *p = mmap(NULL, 8192, PROT_READ | PROT_WRITE, MAP_PRIVATE | MAP_ANONYMOUS, -1, 0);
+    WANT(p != MAP_FAILED && !mprotect(p + 4096, 4096, PROT_NONE));
+    return p + 4096 - len;
+}
+
+static void pages(void)
+{
+    static const char *const formats[] = {
+        "%5d",   "abcdefghijklmnopqrstuvwxyz%s", "no percent, and longer than 32 bytes, plain text",
+        "%",     "%%",                           "%05u|%-20d|%#o",
+        "%.0sx", "",                             "%'5",
+    };
+    fmtcanon_error e;
+    fmtcanon_comparison told;
+    size_t i, cap;
+    for (i = 0; i < COUNT(formats); i++) {
+        size_t len = strlen(formats[i]);
+        char *text = at_end(len);
+        int64_t n, m, w;
+        memcpy(text, formats[i], len);
+        n = fmtcanon_canonical_length(text, len, &e);
+        WANT(fmtcanon_canonical(text, len, NULL, 0, &e) == n);
+        WANT(fmtcanon_same(text, len, text, len, &e) == (n < 0 ? n : 1));
+        if (n < 0) continue;
+        for (cap = 0; cap < (size_t)n + 3; cap++)
+            WANT(fmtcanon_canonical(text, len, at_end(cap), cap, &e) == n);
+        m = fmtcanon_types(text, len, NULL, 0, &e);
+        for (cap = 0; cap < (size_t)m + 3; cap++)
+            WANT(fmtcanon_types(text, len, (unsigned char *)at_end(cap), cap, &e) == m);
+        w = fmtcanon_compare(text, len, "%.1d", 4, NULL, 0, &told, &e);
+        for (cap = 0; cap < (size_t)w + 3; cap++)
+            WANT(fmtcanon_compare(text, len, "%.1d", 4, at_end(cap), cap, &told, &e) == w);
+    }
+}
+
+static void nothing(void)
+{
+    fmtcanon_error e;
+    fmtcanon_comparison told;
+    char one[1] = {'Z'};
+    char small[8];
+    WANT(fmtcanon_check(NULL, 0, &e) == 0 && fmtcanon_is_canonical(NULL, 0, &e) == 1);
+    WANT(fmtcanon_canonical_length(NULL, 0, &e) == 0);
+    WANT(fmtcanon_canonical(NULL, 0, NULL, 0, &e) == 0);
+    WANT(fmtcanon_canonical(NULL, 0, one, 1, &e) == 0 && one[0] == 0);
+    WANT(fmtcanon_types(NULL, 0, NULL, 0, &e) == 0 && fmtcanon_types("%d", 2, NULL, 0, &e) == 1);
+    WANT(fmtcanon_same(NULL, 0, NULL, 0, &e) == 1 && fmtcanon_same(NULL, 0, "", 0, &e) == 1);
+    WANT(fmtcanon_compare(NULL, 0, NULL, 0, NULL, 0, &told, &e) == 0);
+    WANT(fmtcanon_check("%d junk %", 2, &e) == 0);
+    WANT(fmtcanon_canonical("%d", 2, small, (size_t)-1 >> 1, &e) == 2 && !strcmp(small, "%d"));
+}
+
+/* One of the calls that take memory. */
+static int64_t growing(int call, char *out, size_t cap, fmtcanon_comparison *told,
+                       fmtcanon_error *e)
+{
+    static const char many[] = "%d%d%d%d%d%d%d%d%d%d%4095d%4095d";
+    if (call == 0) return fmtcanon_canonical(many, sizeof many - 1, out, cap, e);
+    if (call == 1) return fmtcanon_types(many, sizeof many - 1, (unsigned char *)out, cap, e);
+    return fmtcanon_compare("%d%s", 4, "%d%.4095s", 9, out, cap, told, e);
+}
+
+static void refusals_of_memory(void)
+{
+    static char out[16384];
+    int call, n;
+    for (call = 0; call < 3; call++) {
+        for (n = 0;; n++) {
+            fmtcanon_error e = {77, 78, 79};
+            fmtcanon_comparison told = {77, 78, 79};
+            int64_t result;
+            out[0] = 'Z';
+            growths = 0;
+            fails_at = n;
+            result = growing(call, out, sizeof out, &told, &e);
+            fails_at = -1;
+            if (growths <= n) {
+                WANT(result > 0);
+                break;
+            }
+            WANT(result == FMTCANON_ERROR_NOMEMORY && out[0] == 'Z');
+            WANT(e.at == 77 && e.kind == 78 && e.side == 79);
+            WANT(told.number == 77 && told.verdict == 78 && told.renderings == 79);
+        }
+        WANT(n > 0);
+    }
+}
+
+static void without_memory(void)
+{
+    fmtcanon_error e;
+    fmtcanon_comparison told;
+    unsigned char out[8];
+    growths = 0;
+    fmtcanon_check("%d", 2, &e);
+    fmtcanon_is_canonical("%4095d", 6, &e);
+    fmtcanon_canonical_length("%4095d", 6, &e);
+    fmtcanon_same("%4095d%5c", 9, "%4095d    %c", 12, &e);
+    fmtcanon_types("%d%d%d%d%d%d%d%d", 16, out, 8, &e);
+    fmtcanon_compare("%i", 2, "%d", 2, NULL, 0, &told, &e);
+    fmtcanon_compare("%i", 2, "%s", 2, NULL, 0, &told, &e);
+    fmtcanon_canonical("%y", 2, NULL, 0, &e);
+    WANT(growths == 0);
+}
+
+static void *in_small_stack(void *p)
+{
+    static char out[8192];
+    fmtcanon_error e;
+    fmtcanon_comparison told;
+    (void)p;
+    fmtcanon_canonical("%4095d%.4095s%#o%zd", 19, out, sizeof out, &e);
+    fmtcanon_compare("%4095d%s", 8, "%4095d%.4095s", 13, out, sizeof out, &told, &e);
+    return NULL;
+}
+
+int main(void)
+{
+    pthread_attr_t attr;
+    pthread_t thread;
+    layout();
+    numbers();
+    two_texts();
+    pages();
+    nothing();
+    refusals_of_memory();
+    without_memory();
+    WANT(!pthread_attr_init(&attr) && !pthread_attr_setstacksize(&attr, 24 * 1024));
+    WANT(!pthread_create(&thread, &attr, in_small_stack, NULL));
+    WANT(!pthread_join(thread, NULL));
+    puts("the edges are as the header says");
+    return 0;
+}
