@@ -168,7 +168,8 @@ def try_page(program, trials):
     trials.expect("the synopsis", synopsis, usages)
     wanted = {re.sub(r"\W", "", name): text for one in helps.values() for name, text in one["Arguments"]}
     trials.expect("arguments of the manual page", dict(page_section(page, "ARGUMENTS")), wanted)
-    trials.expect("options of the manual page", list(page_section(page, "OPTIONS")), top["Options"])
+    model = [(re.sub("[<>]", "", name), text) for name, text in helps["same"]["Options"] if "--model" in name]
+    trials.expect("options of the manual page", list(page_section(page, "OPTIONS")), model + top["Options"])
     trials.expect("statuses of the manual page", list(page_section(page, "EXIT STATUS")), top["Exit status"])
     examples = {example for one in [top, *helps.values()] for example in one["Example"]}
     trials.expect("examples of the manual page", {line for line in plain_lines(page, "EXAMPLES") if line}, examples)
@@ -193,7 +194,10 @@ def try_completions(program, trials):
     trials.expect("bash: s", completed(["s"]), [name for name in commands if name.startswith("s")])
     trials.expect("bash: --", completed(["--"]), [option for option in options if option.startswith("--")])
     for name in commands:
-        one = [option for names, _ in help_of(program, [name])["Options"] for option in names.split(", ")]
+        told = dict(help_of(program, [name])["Options"])
+        one = [option.split()[0] for names in told for option in names.split(", ")]
+        models = re.search(r"possible values: (.*)\]", told["--model <MODEL>"]).group(1).split(", ")
+        trials.expect(f"bash: {name} --model", completed([name, "--model", ""]), models)
         trials.expect(f"bash: {name} -", completed([name, "-"]), one)
         trials.expect(f"bash: {name} and a format", completed([name, ""]), [])
         trials.expect(f"bash: {name} and what follows", completed([name, "%d", ""]), ["n:", "s:"] if name == "format" else [])

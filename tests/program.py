@@ -122,7 +122,7 @@ def try_usage(program, trials):
     for words, text in usage_texts():
         found += 1
         trials.expect(f"usage of {words}", run(program, words), (3, b"", text.encode()))
-    trials.expect("texts of usage", found, 15)
+    trials.expect("texts of usage", found, 19)
     told = re.search(r"^## (\S+),", (TOP / "CHANGELOG.md").read_text(encoding="utf-8"), flags=re.MULTILINE)
     trials.expect("the version at the top of CHANGELOG.md", run(program, ["--version"])[2].decode(), f"fmtcanon {told and told.group(1)}\n")
 

@@ -1,7 +1,6 @@
 -- What a run leaves whose question has no answer.
 use Rattle.std.proofs.Common.{◌≡◌}
 use Rattle.pf_values.specs.declared.counting.Counted.{Counted}
-use Rattle.pf_values.specs.declared.models.Model.{Model}
 use Rattle.pf_values.specs.Counting.{Known}
 use Rattle.fmtcanon.specs.Answers.{IsHindered}
 use Rattle.fmtcanon.specs.Outcomes.{outcome_of_fault}
@@ -10,8 +9,8 @@ use Rattle.fmtcanon.specs.declared.fault.Fault.{Fault}
 use Rattle.fmtcanon.specs.declared.fault.Fault.TheVariants.{Refused, BadWord, WrongCount, WrongType, Memory}
 use Rattle.fmtcanon.specs.declared.task.Question.{Question}
 
-module _ (model : Model) {W : Type 0} (contents : W → Known) (old new : Counted W) (question : Question) (same : new ≡ old) where
-  pub leaves_nothing : (fault : Fault) → IsHindered model question fault → LeavesAnswer model contents old new question (outcome_of_fault fault)
+module _ {W : Type 0} (contents : W → Known) (old new : Counted W) (question : Question) (same : new ≡ old) where
+  pub leaves_nothing : (fault : Fault) → IsHindered question fault → LeavesAnswer contents old new question (outcome_of_fault fault)
   leaves_nothing (Refused side refusal) h = (h, same)
   leaves_nothing (BadWord index) h = (h, same)
   leaves_nothing (WrongCount wanted given) h = (h, same)

@@ -1,2 +1,3 @@
 pub mod PresenceLemmas
 pub mod WordLemmas
+pub mod ModelLemmas

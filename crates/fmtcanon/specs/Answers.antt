@@ -12,7 +12,7 @@ use Rattle.fmtcanon.specs.declared.fault.Fault.{Fault}
 use Rattle.fmtcanon.specs.declared.fault.Fault.TheVariants.{Refused, BadWord, WrongCount, WrongType, Memory}
 use Rattle.fmtcanon.specs.declared.task.Question.{Question}
 use Rattle.fmtcanon.specs.declared.task.Question.TheVariants.{Types, Canon, Show, Format, Same}
-use Rattle.fmtcanon.specs.Comparisons.{IsComparisonAnswer}
+use Rattle.fmtcanon.specs.Comparisons.{IsComparisonIn}
 use Rattle.fmtcanon.specs.FormatArguments.{HindersArguments, IsPrinted}
 use Rattle.fmtcanon.specs.Lines.{line}
 use Rattle.fmtcanon.specs.Shows.{HasShownLines}
@@ -24,17 +24,17 @@ HasCanonicalLine model format out =
     (canonical : Text) × IsCanonicalFor model format canonical × (out ≡ line canonical)
 
 -- These bytes answer a question, and a run that writes them all ends so.
-abbrev pub IsAnswer : Model → Question → Text → Ending → Type 0
-IsAnswer model (Types format) out ending =
+abbrev pub IsAnswer : Question → Text → Ending → Type 0
+IsAnswer (Types model format) out ending =
     HasTypeLines model format.now out × (ending ≡ endings.Done)
-IsAnswer model (Canon format) out ending =
+IsAnswer (Canon model format) out ending =
     HasCanonicalLine model format.now out × (ending ≡ endings.Done)
-IsAnswer model (Show format) out ending =
+IsAnswer (Show model format) out ending =
     HasShownLines model format.now out × (ending ≡ endings.Done)
-IsAnswer model (Format format words) out ending =
+IsAnswer (Format model format words) out ending =
     IsPrinted model format.now (map (λ s. s.now) words.items) out × (ending ≡ endings.Done)
-IsAnswer model (Same first second) out ending =
-    IsComparisonAnswer model first.now second.now out ending
+IsAnswer (Same models first second) out ending =
+    IsComparisonIn models first.now second.now out ending
 
 -- why a format has no answer: its refusal, or want of memory
 abbrev pub HindersFormat : Text → Fault → Type 0
@@ -58,10 +58,10 @@ HindersFormats first second (WrongType index) = ⊥
 HindersFormats first second Memory = ⊤
 
 -- why a question has none
-abbrev pub IsHindered : Model → Question → Fault → Type 0
-IsHindered model (Types format) fault = HindersFormat format.now fault
-IsHindered model (Canon format) fault = HindersFormat format.now fault
-IsHindered model (Show format) fault = HindersFormat format.now fault
-IsHindered model (Format format words) fault =
+abbrev pub IsHindered : Question → Fault → Type 0
+IsHindered (Types model format) fault = HindersFormat format.now fault
+IsHindered (Canon model format) fault = HindersFormat format.now fault
+IsHindered (Show model format) fault = HindersFormat format.now fault
+IsHindered (Format model format words) fault =
     HindersArguments model format.now (map (λ s. s.now) words.items) fault
-IsHindered model (Same first second) fault = HindersFormats first.now second.now fault
+IsHindered (Same models first second) fault = HindersFormats first.now second.now fault

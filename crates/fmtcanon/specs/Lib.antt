@@ -1,4 +1,5 @@
 pub mod Lines
+pub mod Models
 pub mod Words
 pub mod Tasks
 pub mod Faults

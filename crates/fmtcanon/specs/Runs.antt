@@ -1,7 +1,6 @@
 -- What a run leaves, by its outcome. This project's own.
 use Rattle.std.specs.Prelude.{◌≡◌, ℕ, List, true}
 use Rattle.pf_values.specs.declared.counting.Counted.{Counted}
-use Rattle.pf_values.specs.declared.models.Model.{Model}
 use Rattle.pf_values.specs.Counting.{Known, WritesAll, WritesFirst, is_flushed}
 use Rattle.pf_values.specs.Text.{Text}
 use Rattle.fmtcanon.specs.Answers.{IsAnswer, IsHindered}
@@ -26,11 +25,11 @@ module _ {W : Type 0} (contents : W → Known) (old new : Counted W) where
   LeavesBytes bytes end outcome =
       (outcome ≡ end) × WritesAll contents old new bytes × (is_flushed new ≡ true)
 
-module _ (model : Model) {W : Type 0} (contents : W → Known) (old new : Counted W) where
+module _ {W : Type 0} (contents : W → Known) (old new : Counted W) where
   -- All of an answer went out, and then it was flushed.
   pub record AnswersAll (question : Question) (ending : Ending) : Type 0 where
     pub out : Text
-    pub answer : IsAnswer model question out ending
+    pub answer : IsAnswer question out ending
     pub writes : WritesAll contents old new out
     pub flushed : is_flushed new ≡ true
 
@@ -38,12 +37,12 @@ module _ (model : Model) {W : Type 0} (contents : W → Known) (old new : Counte
   pub record AnswersFirst (question : Question) (count : ℕ) : Type 0 where
     pub out : Text
     pub ending : Ending
-    pub answer : IsAnswer model question out ending
+    pub answer : IsAnswer question out ending
     pub writes : WritesFirst contents old new out count
 
   -- There is no answer, and the writer was not called.
   abbrev pub AnswersNothing : Question → Fault → Type 0
-  AnswersNothing question fault = IsHindered model question fault × (new ≡ old)
+  AnswersNothing question fault = IsHindered question fault × (new ≡ old)
 
   -- what the run of a question leaves
   abbrev pub LeavesAnswer : Question → Outcome → Type 0
@@ -65,13 +64,14 @@ module _ (model : Model) {W : Type 0} (contents : W → Known) (old new : Counte
 abbrev pub LeavesNothing : {R W : Type 0} → Counted R → Counted R → Counted W → Counted W → Type 0
 LeavesNothing reader left old new = (new ≡ old) × (left ≡ reader)
 
-module _ (model : Model) {R W : Type 0} (remaining : R → Known) (contents : W → Known)
+module _ {R W : Type 0} (remaining : R → Known) (contents : W → Known)
     (reader left : Counted R) (old new : Counted W) where
   -- what the run of a task leaves; a question leaves the reader as it was
   abbrev pub LeavesTask : Task → Outcome → Type 0
   LeavesTask (Answer question) outcome =
-      LeavesAnswer model contents old new question outcome × (left ≡ reader)
-  LeavesTask Stream outcome = LeavesCopy model remaining contents reader left old new outcome
+      LeavesAnswer contents old new question outcome × (left ≡ reader)
+  LeavesTask (Stream model) outcome =
+      LeavesCopy model remaining contents reader left old new outcome
 
   -- Usage is answered for a fault that clap finds in the words, never for want of memory or for
   -- words that it takes. For want of memory nothing goes out.

@@ -1,22 +1,39 @@
 -- What the words of a call mean, by clap's definition of the command. This project's own.
-use Rattle.std.specs.Prelude.{◌≡◌, true, List, Some, codes}
+use Rattle.std.specs.Prelude.{◌≡◌, true, List, [], ◌∷◌, Some, codes}
+use Rattle.std.specs.Borrow.{Bor}
 use Rattle.clap.specs.Lexer.{usize_max}
 use Rattle.clap.specs.Simple.{App, new_app, new_rule, on_top, with_rule, with_subcommand}
 use Rattle.clap.specs.Takes.{takes}
-use Rattle.clap.specs.Walk.{Rule}
+use Rattle.clap.specs.Walk.{Rule, texts}
+use Rattle.clap.specs.declared.builder.value_parser.ValueParser.{ValueParser}
+use Rattle.clap.specs.declared.builder.value_parser.ValueParser.TheVariants.{Names}
 use Rattle.pf_values.specs.Text.{Text}
+use Rattle.fmtcanon.specs.Models.{model_names, model_names_or_both}
 
 -- an argument that is wanted
 abbrev pub wanted : Text → Rule
 wanted id = record (new_rule id) { required = true }
 
+-- the option `--model`, whose value clap tests so, and which is `lp64` where it is left out
+abbrev pub model_option : ValueParser → Rule
+model_option models = record (new_rule (codes "model")) {
+  long = Some (codes "model");
+  value_names = 1;
+  defaults = codes "lp64" ∷ [];
+  parser = Some models;
+}
+
+-- a subcommand with the option alone
+abbrev pub on_nothing : Text → ValueParser → App
+on_nothing name models = with_rule (new_app name) (model_option models)
+
 -- a subcommand with the argument F
-abbrev pub on_format : Text → App
-on_format name = with_rule (new_app name) (wanted (codes "F"))
+abbrev pub on_format : Text → ValueParser → App
+on_format name models = with_rule (on_nothing name models) (wanted (codes "F"))
 
 -- a subcommand with the arguments F and G
-abbrev pub on_formats : Text → App
-on_formats name = with_rule (on_format name) (wanted (codes "G"))
+abbrev pub on_formats : Text → ValueParser → App
+on_formats name models = with_rule (on_format name models) (wanted (codes "G"))
 
 -- any number of arguments
 abbrev pub any_arguments : Rule
@@ -25,8 +42,8 @@ any_arguments = record (new_rule (codes "ARG")) {
 }
 
 -- a subcommand with the argument F and any number of ARGs
-abbrev pub on_arguments : Text → App
-on_arguments name = with_rule (on_format name) any_arguments
+abbrev pub on_arguments : Text → ValueParser → App
+on_arguments name models = with_rule (on_format name models) any_arguments
 
 -- The words come without the program's name, a subcommand is wanted, and `--version` is answered
 -- beside `--help`.
@@ -38,16 +55,24 @@ top_app = on_top (λ s. record s {
   disable_help_subcommand = true;
 }) (new_app (codes "fmtcanon"))
 
--- the command
-unfoldable pub the_command : App
-the_command =
-    let with_types = with_subcommand top_app (on_format (codes "types")).top in
-    let with_canon = with_subcommand with_types (on_format (codes "canon")).top in
-    let with_show = with_subcommand with_canon (on_format (codes "show")).top in
-    let with_format = with_subcommand with_show (on_arguments (codes "format")).top in
-    let with_same = with_subcommand with_format (on_formats (codes "same")).top in
-    with_subcommand with_same (new_app (codes "stream")).top
+-- the command, with how clap tests the name of one data model, and that of one or both
+unfoldable pub the_command : ValueParser → ValueParser → App
+the_command one both =
+    let with_types = with_subcommand top_app (on_format (codes "types") one).top in
+    let with_canon = with_subcommand with_types (on_format (codes "canon") one).top in
+    let with_show = with_subcommand with_canon (on_format (codes "show") one).top in
+    let with_format = with_subcommand with_show (on_arguments (codes "format") one).top in
+    let with_same = with_subcommand with_format (on_formats (codes "same") both).top in
+    with_subcommand with_same (on_nothing (codes "stream") one).top
+
+-- clap's definition of the command, wherever in memory the names of the data models lie
+pub record IsCommand (app : App) : Type 0 where
+  pub one : Bor (List (Bor Text))
+  pub both : Bor (List (Bor Text))
+  pub one_names : texts one.now ≡ model_names
+  pub both_names : texts both.now ≡ model_names_or_both
+  pub is : app ≡ the_command (Names one) (Names both)
 
 -- clap's definition of the command takes the words
 abbrev pub IsTaken : List Text → Type 0
-IsTaken words = takes the_command words ≡ true
+IsTaken words = (app : App) → IsCommand app → takes app words ≡ true

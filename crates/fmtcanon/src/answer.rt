@@ -1,6 +1,5 @@
 //! The answer to a question.
 ghost use Rattle.std.specs.Prelude.{◌≡◌, Err, IfOk, MatchResult, Ok};
-ghost use Rattle.pf_values.specs.declared.models.Model.TheVariants.{Lp64};
 ghost use Rattle.fmtcanon.specs.Answers.{HasCanonicalLine, HindersFormat, IsAnswer, IsHindered};
 ghost use Rattle.fmtcanon.specs.Lines.{line};
 ghost use Rattle.fmtcanon.specs.declared.answer.Ending.TheVariants.{Done};
@@ -12,6 +11,7 @@ use crate::show_lines::show_lines;
 use crate::task::Question;
 use crate::type_lines::type_lines;
 use pf_canon::canonical;
+use pf_values::Model;
 use std::alloc::{AllocError, Global};
 
 /// How a run ends that writes all of an answer.
@@ -37,17 +37,23 @@ pub struct Answer {
 /// The answer to a question, or why there is none.
 pub fn answer_to(alloc: Global, question: &Question<'_>) -> Result<Answer, Fault>
     ensures { MatchResult result
-        (λ answer. IsAnswer Lp64 question.now answer.bytes.items answer.ending)
-        (IsHindered Lp64 question.now) }
+        (λ answer. IsAnswer question.now answer.bytes.items answer.ending)
+        (IsHindered question.now) }
 {
     match question {
-        Question::Types(format) => done(type_lines(alloc, format.as_bytes())),
-        Question::Canon(format) => done(canonical_line(alloc, format.as_bytes())),
-        Question::Show(format) => done(show_lines(alloc, format.as_bytes())),
-        Question::Format { format, words } => done(print_format(alloc, format.as_bytes(), words)),
-        Question::Same { first, second } => {
-            comparison_answer(alloc, first.as_bytes(), second.as_bytes())
-        }
+        Question::Types(model, format) => done(type_lines(alloc, *model, format.as_bytes())),
+        Question::Canon(model, format) => done(canonical_line(alloc, *model, format.as_bytes())),
+        Question::Show(model, format) => done(show_lines(alloc, *model, format.as_bytes())),
+        Question::Format {
+            model,
+            format,
+            words,
+        } => done(print_format(alloc, *model, format.as_bytes(), words)),
+        Question::Same {
+            models,
+            first,
+            second,
+        } => comparison_answer(alloc, *models, first.as_bytes(), second.as_bytes()),
     }
 }
 
@@ -63,11 +69,11 @@ fn done(bytes: Result<Vec<u8>, Fault>) -> Result<Answer, Fault>
 }
 
 // The canonical string of a format and a newline.
-fn canonical_line(alloc: Global, format: &[u8]) -> Result<Vec<u8>, Fault>
-    ensures { MatchResult result (λ out. HasCanonicalLine Lp64 format.now out.items)
+fn canonical_line(alloc: Global, model: Model, format: &[u8]) -> Result<Vec<u8>, Fault>
+    ensures { MatchResult result (λ out. HasCanonicalLine model format.now out.items)
         (HindersFormat format.now) }
 {
-    let canonical = canonical(alloc, format)?;
+    let canonical = canonical(alloc, model, format)?;
     Ok(with_newline(canonical)?)
 }
 

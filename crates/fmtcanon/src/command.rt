@@ -1,17 +1,31 @@
 //! The definition of the command for `clap`.
 ghost use Rattle.std.specs.Prelude.{◌≡◌, IfOk, codes, false};
-ghost use Rattle.clap.specs.Simple.{new_app, with_rule, with_subcommand};
+ghost use Rattle.clap.specs.Simple.{with_rule, with_subcommand};
 ghost use Rattle.clap.specs.Words.{app_of};
 ghost use Rattle.clap.specs.declared.builder.command.Command.TheViews.{out-Command as fields_of};
-ghost use Rattle.fmtcanon.specs.Words.{any_arguments, on_format, the_command, top_app, wanted};
+ghost use Rattle.clap.specs.declared.builder.value_parser.ValueParser.TheVariants.{Names};
+ghost use Rattle.fmtcanon.specs.Words.{IsCommand, any_arguments, on_format, on_nothing, the_command, top_app, wanted};
 
 use crate::command_texts as texts;
+use crate::models::{NAMES, NAMES_OR_BOTH};
 use clap::{Arg, Command};
 use std::alloc::{AllocError, Global};
 
 /// The command, as `clap` sees it.
 pub fn definition<'a>(alloc: Global) -> Result<Command<'a>, AllocError>
-    ensures { IfOk result (λ command. app_of command ≡ the_command) }
+    ensures { IfOk result (λ command. IsCommand (app_of command)) }
+{
+    definition_with(alloc, NAMES, NAMES_OR_BOTH)
+}
+
+// The same with the names of the data models: of one, and of one or both.
+fn definition_with<'a>(
+    alloc: Global,
+    one: &'a [&'a str],
+    both: &'a [&'a str],
+) -> Result<Command<'a>, AllocError>
+    ensures { IfOk result
+        (λ command. app_of command ≡ the_command (Names one.entry) (Names both.entry)) }
 {
     let types = "Writes the types of the arguments of a format, a line each";
     let canon = "Writes the canonical string of a format, which all formats of its meaning share";
@@ -19,16 +33,28 @@ pub fn definition<'a>(alloc: Global) -> Result<Command<'a>, AllocError>
     let format = "Writes what a format prints for arguments, and nothing else";
     let same = "Tells whether one format may stand for another; if not, in what they differ";
     let stream = "Writes the canonical string of standard input";
-    let with_types = with_subcommand(top(alloc)?, on_format(alloc, "types", types, texts::TYPES)?)?;
-    let with_canon = with_subcommand(with_types, on_format(alloc, "canon", canon, texts::CANON)?)?;
-    let with_show = with_subcommand(with_canon, on_format(alloc, "show", show, texts::SHOW)?)?;
-    let on_arguments = taking_arguments(alloc, on_format(alloc, "format", format, texts::FORMAT)?)?;
+    let with_types = with_subcommand(
+        top(alloc)?,
+        on_format(alloc, "types", types, texts::TYPES, one)?,
+    )?;
+    let with_canon = with_subcommand(
+        with_types,
+        on_format(alloc, "canon", canon, texts::CANON, one)?,
+    )?;
+    let with_show = with_subcommand(
+        with_canon,
+        on_format(alloc, "show", show, texts::SHOW, one)?,
+    )?;
+    let on_arguments = taking_arguments(
+        alloc,
+        on_format(alloc, "format", format, texts::FORMAT, one)?,
+    )?;
     let with_format = with_subcommand(with_show, on_arguments)?;
-    let on_formats = taking_second(alloc, on_format(alloc, "same", same, texts::SAME)?)?;
+    let on_formats = taking_second(alloc, on_format(alloc, "same", same, texts::SAME, both)?)?;
     let with_same = with_subcommand(with_format, on_formats)?;
     with_subcommand(
         with_same,
-        on_nothing(alloc, "stream", stream, texts::STREAM)?,
+        on_nothing(alloc, "stream", stream, texts::STREAM, one)?,
     )
 }
 
@@ -46,34 +72,42 @@ fn top<'a>(alloc: Global) -> Result<Command<'a>, AllocError>
         .bin_name("fmtcanon")
 }
 
-// A subcommand without arguments.
+// A subcommand with the option `--model`, which takes these names.
 fn on_nothing<'a>(
     alloc: Global,
     name: &'a str,
     about: &'a str,
     below: &'a str,
+    models: &'a [&'a str],
 ) -> Result<Command<'a>, AllocError>
-    ensures { IfOk result (λ command.
-        (app_of command ≡ new_app name.now) × ((fields_of command).has_globals ≡ false)) }
+    ensures { IfOk result (λ command. (app_of command ≡ on_nothing name.now (Names models.entry))
+        × ((fields_of command).has_globals ≡ false)) }
 {
-    Ok(Command::new(alloc, name).about(about).after_help(below))
+    let option = Arg::new(alloc, "model")
+        .long("model")
+        .value_name("MODEL")
+        .default_value("lp64")
+        .value_parser(models)
+        .help("The data model");
+    Command::new(alloc, name)
+        .about(about)
+        .after_help(below)
+        .arg(option)
 }
 
-// A subcommand with a format.
+// The same with a format.
 fn on_format<'a>(
     alloc: Global,
     name: &'a str,
     about: &'a str,
     below: &'a str,
+    models: &'a [&'a str],
 ) -> Result<Command<'a>, AllocError>
-    ensures { IfOk result (λ command.
-        (app_of command ≡ on_format name.now) × ((fields_of command).has_globals ≡ false)) }
+    ensures { IfOk result (λ command. (app_of command ≡ on_format name.now (Names models.entry))
+        × ((fields_of command).has_globals ≡ false)) }
 {
     let format = Arg::new(alloc, "F").required(true).help("A printf format");
-    Command::new(alloc, name)
-        .about(about)
-        .after_help(below)
-        .arg(format)
+    on_nothing(alloc, name, about, below, models)?.arg(format)
 }
 
 // The subcommand with a second format besides.

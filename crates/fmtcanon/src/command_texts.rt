@@ -62,6 +62,7 @@ Refusals: docs/REFUSALS.md of the source says what each means, and what to write
 pub const SAME: &str = "\
 Example:
   fmtcanon same '%05d' '%.5d'
+  fmtcanon same --model both '%zu' '%lu'
 
 A format that begins with - stands after --, as in: fmtcanon same -- '-%i' '-%d'
 Where that is forgotten, the tip may name a part of the format. Give the whole of it after --.

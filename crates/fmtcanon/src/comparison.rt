@@ -3,25 +3,81 @@ ghost use Rattle.std.specs.Fmt.{signed_decimal};
 ghost use Rattle.std.specs.Prelude.{◌≡◌, ◌<◌, ◌++◌, ◌^◌, IfOk, MatchResult, codes, decimal, flat_map};
 ghost use Rattle.pf_values.specs.Arg.{argument_of};
 ghost use Rattle.fmtcanon.specs.Answers.{HindersFormats};
-ghost use Rattle.pf_values.specs.declared.models.Model.TheVariants.{Lp64};
-ghost use Rattle.fmtcanon.specs.Comparisons.{IsComparisonAnswer, argument_line, argument_word, ending_of, verdict_lines};
+ghost use Rattle.pf_values.specs.declared.models.Model.TheVariants.{Lp64, Ilp32};
+ghost use Rattle.fmtcanon.specs.Comparisons.{IsComparisonAnswer, IsComparisonIn, IsComparisonInBoth, argument_line, argument_word, ending_of, ending_of_both, verdict_lines};
 ghost use Rattle.fmtcanon.specs.Lines.{line};
+ghost use Rattle.fmtcanon.specs.Models.{model_name};
 
 use crate::answer::{Answer, Ending};
 use crate::fault::Fault;
+use crate::models::Models;
 use itoa::Buffer;
 use pf_compare::{OwnedArg, Verdict, compare};
-use pf_values::Arg;
+use pf_values::{Arg, Model};
 use std::alloc::{AllocError, Global};
 
-/// Whether two formats mean the same; else where their types differ, or arguments for which they
-/// print different bytes, each as the word that gives it.
-pub fn comparison_answer(alloc: Global, first: &[u8], second: &[u8]) -> Result<Answer, Fault>
+/// Whether two formats mean the same in a data model; else where their types differ, or arguments
+/// for which they print different bytes, each as the word that gives it. In both models, each
+/// verdict stands below the name of its model.
+pub fn comparison_answer(
+    alloc: Global,
+    models: Models,
+    first: &[u8],
+    second: &[u8],
+) -> Result<Answer, Fault>
     ensures { MatchResult result
-        (λ answer. IsComparisonAnswer Lp64 first.now second.now answer.bytes.items answer.ending)
+        (λ answer. IsComparisonIn models first.now second.now answer.bytes.items answer.ending)
         (HindersFormats first.now second.now) }
 {
-    let comparison = compare(alloc, first, second)?;
+    match models {
+        Models::One(model) => answer_in(alloc, model, first, second),
+        Models::Both => answer_in_both(alloc, first, second),
+    }
+}
+
+fn answer_in_both(alloc: Global, first: &[u8], second: &[u8]) -> Result<Answer, Fault>
+    ensures { MatchResult result
+        (λ answer. IsComparisonInBoth first.now second.now answer.bytes.items answer.ending)
+        (HindersFormats first.now second.now) }
+{
+    let lp64 = answer_in(alloc, Model::Lp64, first, second)?;
+    let ilp32 = answer_in(alloc, Model::Ilp32, first, second)?;
+    let bytes = lines_of_both(alloc, &lp64.bytes, &ilp32.bytes)?;
+    Ok(Answer {
+        bytes,
+        ending: ending_of_both(lp64.ending, ilp32.ending),
+    })
+}
+
+// The lines of each data model below its name.
+fn lines_of_both(alloc: Global, lp64: &[u8], ilp32: &[u8]) -> Result<Vec<u8>, AllocError>
+    ensures { IfOk result (λ out. out.items
+        ≡ line (model_name Lp64) ++ lp64.now ++ line (model_name Ilp32) ++ ilp32.now) }
+{
+    let mut out = Vec::from_slice(alloc, b"lp64\n")?;
+    out.extend_from_slice(lp64)?;
+    out.extend_from_slice(b"ilp32\n")?;
+    out.extend_from_slice(ilp32)?;
+    Ok(out)
+}
+
+// They mean the same where they do in each data model.
+fn ending_of_both(lp64: Ending, ilp32: Ending) -> Ending
+    ensures { result ≡ ending_of_both lp64 ilp32 }
+{
+    match lp64 {
+        Ending::Same => ilp32,
+        Ending::Done => Ending::Different,
+        Ending::Different => Ending::Different,
+    }
+}
+
+fn answer_in(alloc: Global, model: Model, first: &[u8], second: &[u8]) -> Result<Answer, Fault>
+    ensures { MatchResult result
+        (λ answer. IsComparisonAnswer model first.now second.now answer.bytes.items answer.ending)
+        (HindersFormats first.now second.now) }
+{
+    let comparison = compare(alloc, model, first, second)?;
     let bytes = verdict_lines(alloc, &comparison.verdict)?;
     Ok(Answer {
         bytes,

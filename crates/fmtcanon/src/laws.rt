@@ -1,6 +1,6 @@
 //! Laws over the definitions alone. Each is the contract of a function that does nothing.
 ghost use Rattle.fmtcanon.specs.ArgumentWords.{SpellsOneArgument};
-ghost use Rattle.pf_values.specs.declared.models.Model.TheVariants.{Lp64};
+ghost use Rattle.pf_values.specs.declared.models.Model.{Model};
 ghost use Rattle.fmtcanon.specs.Comparisons.{ToldIsRead};
 ghost use Rattle.pf_reduce.specs.Reducing.{IsReducedTo};
 ghost use Rattle.pf_reduce.specs.declared.results.Reduced.{Reduced};
@@ -14,11 +14,11 @@ pub fn spells_one_argument()
 
 /// The word by which an argument is told is read as that argument.
 pub fn told_argument_is_read()
-    ensures { ToldIsRead Lp64 }
+    ensures { (model : Model) → ToldIsRead model }
 {}
 
-/// A directive has one reduction.
+/// A directive has one reduction in each data model.
 pub fn one_reduction()
-    ensures { (s : Specification) (r q : Reduced) → IsReducedTo Lp64 s r → IsReducedTo Lp64 s q
-        → r ≡ q }
+    ensures { (model : Model) (s : Specification) (r q : Reduced) → IsReducedTo model s r
+        → IsReducedTo model s q → r ≡ q }
 {}

@@ -9,6 +9,7 @@ mod comparison;
 mod fault;
 mod format_arguments;
 mod laws;
+mod models;
 mod outcome;
 mod printing;
 mod report;

@@ -1,7 +1,6 @@
 //! A run of the program.
 ghost use Rattle.std.specs.Prelude.{◌≡◌, map};
 ghost use Rattle.fmtcanon.specs.Outcomes.{outcome_of};
-ghost use Rattle.pf_values.specs.declared.models.Model.TheVariants.{Lp64};
 ghost use Rattle.fmtcanon.specs.Runs.{Leaves, LeavesAnswer, LeavesBytes};
 
 use crate::answer::{Answer, answer_to};
@@ -22,12 +21,12 @@ pub fn run<R: Read, W: Write>(
     reader: &mut Counted<R>,
     writer: &mut Counted<W>,
 ) -> Outcome
-    ensures { Leaves Lp64 R.remaining W.contents reader.old reader.new writer.old writer.new
+    ensures { Leaves R.remaining W.contents reader.old reader.new writer.old writer.new
         (map (λ s. s.now) words.now) result }
 {
     match task_of(alloc, words) {
         Ok(Task::Answer(question)) => answer(alloc, &question, writer),
-        Ok(Task::Stream) => copy(reader, writer),
+        Ok(Task::Stream(model)) => copy(model, reader, writer),
         Err(NoTask::Usage(text)) => Outcome::Usage(text),
         Err(NoTask::Memory) => Outcome::Memory,
     }
@@ -35,7 +34,7 @@ pub fn run<R: Read, W: Write>(
 
 // Answers a question. All growths come before the first byte goes out.
 fn answer<W: Write>(alloc: Global, question: &Question<'_>, writer: &mut Counted<W>) -> Outcome
-    ensures { LeavesAnswer Lp64 W.contents writer.old writer.new question.now result }
+    ensures { LeavesAnswer W.contents writer.old writer.new question.now result }
 {
     match answer_to(alloc, question) {
         Ok(answer) => write_answer(&answer, writer),

@@ -1,6 +1,5 @@
 //! The parts of a format, a line for each.
 ghost use Rattle.std.specs.Prelude.{◌≡◌, ◌++◌, IfOk, MatchResult, codes, decimal};
-ghost use Rattle.pf_values.specs.declared.models.Model.TheVariants.{Lp64};
 ghost use Rattle.pf_reduce.specs.Reducing.{IsReducedTo, core_of};
 ghost use Rattle.pf_reduce.specs.declared.results.Reduced.{Reduced};
 ghost use Rattle.pf_values.specs.DataModel.{arg_type};
@@ -16,12 +15,13 @@ use crate::type_lines::type_name;
 use itoa::Buffer;
 use pf_reduce::{Core, Reduced, reduce};
 use pf_text::{Piece, Pieces, spell};
-use pf_values::Directive;
+use pf_values::{Directive, Model};
 use std::alloc::{AllocError, Global};
 
-/// A line for each run of literal bytes, each `%%` and each directive of a format, or its refusal.
-pub fn show_lines(alloc: Global, format: &[u8]) -> Result<Vec<u8>, Fault>
-    ensures { MatchResult result (λ out. HasShownLines Lp64 format.now out.items)
+/// A line for each run of literal bytes, each `%%` and each directive of a format in a data model,
+/// or its refusal.
+pub fn show_lines(alloc: Global, model: Model, format: &[u8]) -> Result<Vec<u8>, Fault>
+    ensures { MatchResult result (λ out. HasShownLines model format.now out.items)
         (HindersFormat format.now) }
 {
     let mut out = Vec::new(alloc);
@@ -33,22 +33,22 @@ pub fn show_lines(alloc: Global, format: &[u8]) -> Result<Vec<u8>, Fault>
                 refusal,
             }),
         };
-        if push_piece(&mut out, piece).is_err() {
+        if push_piece(&mut out, model, piece).is_err() {
             return Err(Fault::Memory);
         }
     }
     Ok(out)
 }
 
-fn push_piece(out: &mut Vec<u8>, piece: Piece<'_>) -> Result<(), AllocError>
+fn push_piece(out: &mut Vec<u8>, model: Model, piece: Piece<'_>) -> Result<(), AllocError>
     ensures { IfOk result (λ _.
-        (part : Text) × IsLineOf Lp64 (shown_of piece.entry) part
+        (part : Text) × IsLineOf model (shown_of piece.entry) part
         × (out.new.items ≡ out.old.items ++ part)) }
 {
     match piece {
         Piece::Literal(run) => push_run(out, run.len()),
         Piece::Percent => out.extend_from_slice(b"percent\n"),
-        Piece::Directive(directive) => push_directive(out, &directive),
+        Piece::Directive(directive) => push_directive(out, model, &directive),
     }
 }
 
@@ -63,27 +63,27 @@ fn push_run(out: &mut Vec<u8>, len: usize) -> Result<(), AllocError>
     Ok(())
 }
 
-fn push_directive(out: &mut Vec<u8>, directive: &Directive) -> Result<(), AllocError>
+fn push_directive(out: &mut Vec<u8>, model: Model, directive: &Directive) -> Result<(), AllocError>
     ensures { IfOk result (λ _.
-        (r : Reduced) × IsReducedTo Lp64 directive.now r
-        × (out.new.items ≡ out.old.items ++ reduced_line Lp64 directive.now r)) }
+        (r : Reduced) × IsReducedTo model directive.now r
+        × (out.new.items ≡ out.old.items ++ reduced_line model directive.now r)) }
 {
-    push_front(out, directive)?;
-    push_reduced(out, reduce(directive))?;
+    push_front(out, model, directive)?;
+    push_reduced(out, reduce(model, directive))?;
     out.push(b'\n')?;
     Ok(())
 }
 
 // The spelling of a directive, and its type.
-fn push_front(out: &mut Vec<u8>, directive: &Directive) -> Result<(), AllocError>
+fn push_front(out: &mut Vec<u8>, model: Model, directive: &Directive) -> Result<(), AllocError>
     ensures { IfOk result (λ _.
         out.new.items ≡ out.old.items ++ codes "directive " ++ spelling_of directive.now
-        ++ codes ": " ++ type_name (arg_type Lp64 directive.now) ++ codes ": ") }
+        ++ codes ": " ++ type_name (arg_type model directive.now) ++ codes ": ") }
 {
     out.extend_from_slice(b"directive ")?;
     out.extend_from_slice(&spell(directive))?;
     out.extend_from_slice(b": ")?;
-    out.extend_from_slice(type_name(directive.arg_type()).as_bytes())?;
+    out.extend_from_slice(type_name(directive.arg_type(model)).as_bytes())?;
     out.extend_from_slice(b": ")
 }
 

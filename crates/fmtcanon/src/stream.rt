@@ -1,20 +1,23 @@
 //! The canonical string of what a reader hands out.
 ghost use Rattle.pf_values.specs.Counting.{device_of};
-ghost use Rattle.pf_values.specs.declared.models.Model.TheVariants.{Lp64};
 ghost use Rattle.fmtcanon.specs.Streams.{LeavesCopy};
 
 use crate::outcome::Outcome;
 use pf_canon::{CopyFault, copy_canonical};
-use pf_values::Counted;
+use pf_values::{Counted, Model};
 use std::io::{Read, Write};
 
-/// Copies the canonical string of what the reader hands out. What was written is flushed at the
+/// Copies the canonical string of what the reader hands out in a data model. What was written is flushed at the
 /// end, at a refusal and where a read fails; these two are told even where that flush fails.
-pub fn copy<R: Read, W: Write>(reader: &mut Counted<R>, writer: &mut Counted<W>) -> Outcome
-    ensures { LeavesCopy Lp64 R.remaining W.contents reader.old reader.new writer.old writer.new
+pub fn copy<R: Read, W: Write>(
+    model: Model,
+    reader: &mut Counted<R>,
+    writer: &mut Counted<W>,
+) -> Outcome
+    ensures { LeavesCopy model R.remaining W.contents reader.old reader.new writer.old writer.new
         result }
 {
-    match copy_canonical(reader, writer) {
+    match copy_canonical(model, reader, writer) {
         Ok(count) => match writer.flush() {
             Ok(()) => Outcome::Done,
             Err(_) => Outcome::Write(count),

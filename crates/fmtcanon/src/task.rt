@@ -6,8 +6,10 @@ ghost use Rattle.pf_values.specs.Text.{Text};
 ghost use Rattle.fmtcanon.specs.Tasks.{Asks, HasValue, IsAnsweredBy, IsNoTaskOf, Names, rows_in};
 
 use crate::command::definition;
+use crate::models::{Models, model_of, models_of};
 use clap::error::ErrorKind;
 use clap::{ArgMatches, Error};
+use pf_values::Model;
 use std::alloc::{AllocError, Global};
 
 /// What a command does.
@@ -15,21 +17,23 @@ use std::alloc::{AllocError, Global};
 pub enum Task<'a> {
     /// It answers a question about formats that stand in the words.
     Answer(Question<'a>),
-    /// It copies the canonical string of what the reader hands out.
-    Stream,
+    /// It copies the canonical string of what the reader hands out, in this data model.
+    Stream(Model),
 }
 
-/// A question about formats.
+/// A question about formats in a data model.
 #[derive(Debug, Drop)]
 pub enum Question<'a> {
     /// The types of the arguments of a format.
-    Types(&'a str),
+    Types(Model, &'a str),
     /// The canonical string of a format.
-    Canon(&'a str),
+    Canon(Model, &'a str),
     /// What a format is made of.
-    Show(&'a str),
+    Show(Model, &'a str),
     /// What a format prints for arguments.
     Format {
+        /// The data model.
+        model: Model,
         /// The format.
         format: &'a str,
         /// The words of the arguments.
@@ -37,6 +41,8 @@ pub enum Question<'a> {
     },
     /// Whether one format may stand for another.
     Same {
+        /// The data models.
+        models: Models,
         /// The one.
         first: &'a str,
         /// The other.
@@ -81,21 +87,23 @@ fn named_task<'a>(alloc: Global, name: &str, inner: &ArgMatches<'a>) -> Result<T
         (λ task. (words : List Text) → Names words name.now (rows_in inner.now) → Asks words task) }
 {
     match name {
-        "types" => Ok(Task::Answer(Question::Types(value_of(inner, "F")))),
-        "canon" => Ok(Task::Answer(Question::Canon(value_of(inner, "F")))),
-        "show" => Ok(Task::Answer(Question::Show(value_of(inner, "F")))),
+        "types" => Ok(Task::Answer(Question::Types(model_of(inner), value_of(inner, "F")))),
+        "canon" => Ok(Task::Answer(Question::Canon(model_of(inner), value_of(inner, "F")))),
+        "show" => Ok(Task::Answer(Question::Show(model_of(inner), value_of(inner, "F")))),
         "format" => {
             let words = given_words(alloc, inner)?;
             Ok(Task::Answer(Question::Format {
+                model: model_of(inner),
                 format: value_of(inner, "F"),
                 words,
             }))
         }
         "same" => Ok(Task::Answer(Question::Same {
+            models: models_of(inner),
             first: value_of(inner, "F"),
             second: value_of(inner, "G"),
         })),
-        "stream" => Ok(Task::Stream),
+        "stream" => Ok(Task::Stream(model_of(inner))),
         _ => unreachable!(),
     }
 }

@@ -1,20 +1,19 @@
 //! The types of a format's arguments, a line for each.
 ghost use Rattle.std.specs.Prelude.{◌≡◌, IfOk, MatchResult, flat_map};
 ghost use Rattle.fmtcanon.specs.Answers.{HindersFormat};
-ghost use Rattle.pf_values.specs.declared.models.Model.TheVariants.{Lp64};
 ghost use Rattle.fmtcanon.specs.TypeLines.{HasTypeLines, type_line, type_name};
 
 use crate::fault::Fault;
 use pf_text::signature;
-use pf_values::ArgType;
+use pf_values::{ArgType, Model};
 use std::alloc::{AllocError, Global};
 
-/// A line for each argument of a format, or its refusal.
-pub fn type_lines(alloc: Global, format: &[u8]) -> Result<Vec<u8>, Fault>
-    ensures { MatchResult result (λ out. HasTypeLines Lp64 format.now out.items)
+/// A line for each argument of a format in a data model, or its refusal.
+pub fn type_lines(alloc: Global, model: Model, format: &[u8]) -> Result<Vec<u8>, Fault>
+    ensures { MatchResult result (λ out. HasTypeLines model format.now out.items)
         (HindersFormat format.now) }
 {
-    let types = signature(alloc, format)?;
+    let types = signature(alloc, model, format)?;
     Ok(lines_of(alloc, types.as_slice())?)
 }
 

@@ -1,12 +1,11 @@
 //! Arguments that have no type yet.
 ghost use Rattle.std.specs.Prelude.{◌≡◌, ◌↔◌, IfSome, IsSome};
 ghost use Rattle.pf_values.specs.Arg.{argument_of, type_of};
-ghost use Rattle.pf_values.specs.declared.models.Model.TheVariants.{Lp64};
 ghost use Rattle.pf_values.specs.Arguments.{HasType, Number};
 ghost use Rattle.pf_values.specs.DataModel.{IsInRange};
 ghost use Rattle.fmtcanon.specs.UntypedArgs.{argument_given};
 
-use pf_values::{Arg, ArgType, CBytes};
+use pf_values::{Arg, ArgType, CBytes, Model};
 
 #[cfg(test)]
 mod tests;
@@ -21,14 +20,14 @@ pub enum UntypedArg<'a> {
 }
 
 impl<'a> UntypedArg<'a> {
-    /// The argument at a type, or `None` where it is none of the type's.
-    pub fn as_type(self, arg_type: ArgType) -> Option<Arg<'a>>
-        ensures typed { IsSome result ↔ HasType Lp64 (argument_given self.entry) arg_type }
+    /// The argument at a type, or `None` where it is none of the type's in this data model.
+    pub fn as_type(self, model: Model, arg_type: ArgType) -> Option<Arg<'a>>
+        ensures typed { IsSome result ↔ HasType model (argument_given self.entry) arg_type }
         ensures some { IfSome result
             (λ arg. (type_of arg ≡ arg_type) × (argument_of arg ≡ argument_given self.entry)) }
     {
         match self {
-            UntypedArg::Number(number) => number_as(number, arg_type),
+            UntypedArg::Number(number) => number_as(model, number, arg_type),
             UntypedArg::String(bytes) if arg_type == ArgType::Str => Some(Arg::Str(bytes)),
             UntypedArg::String(_) => None,
         }
@@ -36,12 +35,12 @@ impl<'a> UntypedArg<'a> {
 }
 
 // The number at a type of numbers.
-fn number_as(number: i128, arg_type: ArgType) -> Option<Arg<'static>>
-    ensures typed { IsSome result ↔ IsInRange Lp64 arg_type number }
+fn number_as(model: Model, number: i128, arg_type: ArgType) -> Option<Arg<'static>>
+    ensures typed { IsSome result ↔ IsInRange model arg_type number }
     ensures some { IfSome result
         (λ arg. (type_of arg ≡ arg_type) × (argument_of arg ≡ Number number)) }
 {
-    if !arg_type.contains(number) {
+    if !arg_type.contains(model, number) {
         return None;
     }
     match arg_type {

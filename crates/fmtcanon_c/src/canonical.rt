@@ -5,6 +5,7 @@ ghost use Rattle.fmtcanon_c.specs.Calls.{IsLengthCode, PutsCanonical, TellsLengt
 use crate::buffers::put_string;
 use crate::errors::{CError, NO_MEMORY, put_refusal};
 use pf_canon::{CanonFault, Side, canonical, canonical_len};
+use pf_values::Model;
 use std::alloc::Global;
 
 /// Puts the canonical text and a zero into a buffer that has room for them. The length of the
@@ -18,7 +19,7 @@ pub extern "C" fn fmtcanon_canonical(
 ) -> i64
     ensures { PutsCanonical Lp64 text.now out.old error.old result out.new error.new }
 {
-    match canonical(alloc, text) {
+    match canonical(alloc, Model::Lp64, text) {
         Ok(canonical) => {
             put_string(out, &canonical);
             canonical.len() as i64
@@ -34,7 +35,7 @@ pub extern "C" fn fmtcanon_canonical(
 pub extern "C" fn fmtcanon_canonical_length(text: &[u8], error: &mut CError) -> i64
     ensures { TellsLength Lp64 text.now error.old result error.new }
 {
-    match canonical_len(text) {
+    match canonical_len(Model::Lp64, text) {
         Ok(len) => length_code(len),
         Err(refusal) => put_refusal(error, Side::First, refusal),
     }

@@ -7,6 +7,7 @@ use crate::buffers::put_bytes;
 use crate::errors::{CError, NO_MEMORY, put_refusal};
 use crate::words::words_of;
 use pf_compare::{CompareFault, Comparison, Verdict, compare};
+use pf_values::Model;
 use std::alloc::Global;
 
 /// `fmtcanon_comparison`: what two formats are to each other.
@@ -38,7 +39,7 @@ pub extern "C" fn fmtcanon_compare(
         ⊎ ComparesNot Lp64 first.now second.now out.old comparison.old error.old result
         out.new comparison.new error.new }
 {
-    match compare(alloc, first, second) {
+    match compare(alloc, Model::Lp64, first, second) {
         Ok(found) => give(alloc, &found, out, comparison),
         Err(fault) => fault_code(error, fault),
     }

@@ -7,7 +7,7 @@ ghost use Rattle.fmtcanon_c.specs.Calls.{PutsTypes};
 use crate::errors::{CError, NO_MEMORY, put_refusal};
 use pf_canon::Side;
 use pf_text::{TextFault, signature};
-use pf_values::ArgType;
+use pf_values::{ArgType, Model};
 use std::alloc::Global;
 
 /// Puts the codes of the types into a buffer that has room for them. The number of arguments, or
@@ -21,7 +21,7 @@ pub extern "C" fn fmtcanon_types(
 ) -> i64
     ensures { PutsTypes Lp64 text.now out.old error.old result out.new error.new }
 {
-    match signature(alloc, text) {
+    match signature(alloc, Model::Lp64, text) {
         Ok(signature) => {
             let types = signature.as_slice();
             if types.len() <= out.len() {

@@ -47,22 +47,22 @@ longer given byte more = omega (arith, length-append given (byte ∷ more))
 
 module _ (model : Model) {B : Type 0} (left : B → Known) (kept failed : B → B → Type 0) (old new : Source) (from to : B) (start : Known) (given : Text) where
   -- one byte more was given
-  pub more_given : (x : Option ℕ) (taken : Text) (y : ℕ) → StepsBy model left kept failed old from (Some (Ok y)) new to → GoesOn model x old start (left from) taken given → (now : Text) × GoesOn model x new start (left to) now given
+  pub more_given : (x : Option ℕ) (taken : Text) (y : ℕ) → StepsBy left kept failed old from (Some (Ok y)) new to → GoesOn model x old start (left from) taken given → (now : Text) × GoesOn model x new start (left to) now given
   more_given None taken y s h = absurd (let none : Some (Ok y) ≡ None = (s.over h.1).0 in cc)
   more_given (Some byte) taken y s h =
-      let next = s.next start taken (given ++ byte ∷ h.0) h.1 in (
+      let next = s.next model start taken (given ++ byte ∷ h.0) h.1 in (
         taken ++ next.0,
         (h.0 ++ y ∷ [], subst (History model new start (left to) (taken ++ next.0)) (append_assoc given (byte ∷ h.0) (y ∷ [])) next.1.0),
       )
 
   -- the end was reached
-  pub drained : (x : Option ℕ) (taken : Text) → StepsBy model left kept failed old from None new to → GoesOn model x old start (left from) taken given → Drained model x start (left to) given
+  pub drained : (x : Option ℕ) (taken : Text) → StepsBy left kept failed old from None new to → GoesOn model x old start (left from) taken given → Drained model x start (left to) given
   drained None taken s h =
       let same : to ≡ from = (s.over h.1).2 in
       let e = h.0 in
       subst (λ b. Drained model None start (left b) given) (sym same) (record { text = taken; rest = []; whole = record { reader = e.reader; end = e.end; accepted = e.accepted; canonical = (_, e.canonical) }; canonical = e.canonical; begins = refl })
   drained (Some byte) taken s h =
-      let next = s.next start taken (given ++ byte ∷ h.0) h.1 in
+      let next = s.next model start taken (given ++ byte ∷ h.0) h.1 in
       let e = next.1.0 in
       record {
         text = taken ++ next.0;
@@ -73,13 +73,13 @@ module _ (model : Model) {B : Type 0} (left : B → Known) (kept failed : B → 
       }
 
   -- the text stopped
-  pub stopped : (x : Option ℕ) (taken : Text) (fault : StreamFault) → StepsBy model left kept failed old from (Some (Err fault)) new to → GoesOn model x old start (left from) taken given → DrainsTo model x start (left to) given (Err fault)
+  pub stopped : (x : Option ℕ) (taken : Text) (fault : StreamFault) → StepsBy left kept failed old from (Some (Err fault)) new to → GoesOn model x old start (left from) taken given → DrainsTo model x start (left to) given (Err fault)
   stopped None taken fault s h = absurd (let none : Some (Err fault) ≡ None = (s.over h.1).0 in cc)
   stopped (Some byte) taken faults.Read s h =
-      let next = s.next start taken (given ++ byte ∷ h.0) h.1 in
+      let next = s.next model start taken (given ++ byte ∷ h.0) h.1 in
       (taken ++ next.0, given ++ byte ∷ h.0, (next.1.0, next.1.1), longer given byte h.0)
   stopped (Some byte) taken (faults.Refused refusal) s h =
-      let next = s.next start taken (given ++ byte ∷ h.0) h.1 in
+      let next = s.next model start taken (given ++ byte ∷ h.0) h.1 in
       (taken ++ next.0, given ++ byte ∷ h.0, (next.1.0, next.1.1), longer given byte h.0)
 
 -- a longer text is settled on the other side

@@ -31,10 +31,10 @@ through_settles model r t out items h =
     record { items = items; part = h.after.part; good = good; settled = made_settled model splits.whole out r.waiting items splits.reads h.made }
 
 -- inside an item nothing is settled
-pub inside : (model : Model) (old new : Transducer) (t out : Text) (items : List Item) (byte : ℕ) → IsThrough model old t items out → new.waiting ≡ old.waiting → scanned.Takes t items byte steps.More new.scanner → IsThrough model new (t ++ byte ∷ []) items out
-inside model old new t out items byte h e takes =
+pub inside : (model : Model) (old new : Transducer) (t out : Text) (items : List Item) (byte : ℕ) → IsThrough model old t items out → new.model ≡ old.model → new.waiting ≡ old.waiting → scanned.Takes t items byte steps.More new.scanner → IsThrough model new (t ++ byte ∷ []) items out
+inside model old new t out items byte h same e takes =
     let few = h.few in
-    record { after = takes.after; made = rw e h.made; few = omega (arith, few, e, length-append t (byte ∷ [])); short = rw e h.short }
+    record { model_is = same ∙ h.model_is; after = takes.after; made = rw e h.made; few = omega (arith, few, e, length-append t (byte ∷ [])); short = rw e h.short }
 
 -- one byte more of a text
 pub one_more : (t text : Text) (at byte : ℕ) → drop at text ≡ byte ∷ drop (at + 1) text → (t ++ take at text) ++ byte ∷ [] ≡ t ++ take (at + 1) text
@@ -66,13 +66,13 @@ first_alone : (text : Text) (at byte : ℕ) → drop at text ≡ byte ∷ drop (
 first_alone text at byte first = let one : at + 1 - at ≡ 1 = omega arith in ap (λ n. take n (drop at text)) one ∙ ap (take 1) first
 
 -- a byte has settled what its step says
-pub fed_made : (model : Model) (r new : Transducer) (t out text : Text) (items : List Item) (run at : ℕ) (step : Step) (made : Made) (f : IsFed model r t items (out ++ take run text) text at step) → new.scanner ≡ r.scanner
-    → ((byte : ℕ) (out : Text) (items : List Item) → Settles model step byte items out r.waiting made new.waiting) → new.waiting ≤ r.waiting + 1 → ((byte : ℕ) → length (made_text made byte) + 4 * new.waiting ≤ 4 * r.waiting + most_len (more_of step))
+pub fed_made : (model : Model) (r new : Transducer) (t out text : Text) (items : List Item) (run at : ℕ) (step : Step) (made : Made) (f : IsFed model r t items (out ++ take run text) text at step) → new.model ≡ r.model → new.scanner ≡ r.scanner
+    → ((byte : ℕ) (out : Text) (items : List Item) → Settles r.model step byte items out r.waiting made new.waiting) → new.waiting ≤ r.waiting + 1 → ((byte : ℕ) → length (made_text made byte) + 4 * new.waiting ≤ 4 * r.waiting + most_len (more_of step))
     → GrowsBy model t out text (record { run = run; start = at; len = at + 1; made = made }) new
-fed_made model r new t out text items run at step made f scanner settles one short =
+fed_made model r new t out text items run at step made f same scanner settles one short =
     let w = f.waiting in
     let o = out ++ take run text in
-    let g = grown model f.before new (t ++ take at text) o items f.byte step made f.through (rw scanner f.takes) (rw w at settles f.byte o items) (omega (arith, one, w)) (rw w at short f.byte) in
+    let g = grown model f.before new (t ++ take at text) o items f.byte step made f.through (same ∙ f.model_is) (rw scanner f.takes) (rw (f.model_is, w) at settles f.byte o items) (omega (arith, one, w)) (rw w at short f.byte) in
     let last = run_text made (take (at + 1 - at) (drop at text)) in
     record {
       items = items ++ g.more;
@@ -86,12 +86,13 @@ most_silents zero = omega arith
 most_silents (suc count) = omega (arith, most_silents count)
 
 -- silent directives wait
-waits : (model : Model) (old new : Transducer) (t out text : Text) (items : List Item) (count : ℕ) → IsThrough model old t items out → 4 * count ≤ length text → PassesSilents t items text count new.scanner → new.waiting ≡ old.waiting + count
+waits : (model : Model) (old new : Transducer) (t out text : Text) (items : List Item) (count : ℕ) → IsThrough model old t items out → 4 * count ≤ length text → PassesSilents t items text count new.scanner → new.model ≡ old.model → new.waiting ≡ old.waiting + count
     → IsThrough model new (t ++ take (4 * count) text) (items ++ silents count) out
-waits model old new t out text items count h within p e =
+waits model old new t out text items count h within p same e =
     let few = h.few in
     let short = h.short in
     record {
+      model_is = same ∙ h.model_is;
       after = p.after;
       made = rw e (made_silents model count out old.waiting (items ++ silents count) [] (subst (IsMaking model out old.waiting (items ++ silents count)) (sym (append-nil (silents count))) (made_more model out old.waiting items [] (silents count) h.made)));
       few = omega (arith, few, e, within, length-append t (take (4 * count) text), length-take-le (4 * count) text within);
@@ -99,15 +100,15 @@ waits model old new t out text items count h within p e =
     }
 
 -- and so they do after a run
-pub silents_kept : (model : Model) (old new : Transducer) (t out text : Text) (items : List Item) (run count : ℕ) → IsThrough model old (t ++ take run text) items out → 4 * count ≤ length (drop run text)
+pub silents_kept : (model : Model) (old new : Transducer) (t out text : Text) (items : List Item) (run count : ℕ) → IsThrough model old (t ++ take run text) items out → new.model ≡ old.model → 4 * count ≤ length (drop run text)
     → (0 < count → Reads (t ++ take run text) items) → (count ≡ 0 → new.scanner ≡ old.scanner) → (Reads (t ++ take run text) items → PassesSilents (t ++ take run text) items (drop run text) count new.scanner)
     → (count ≤ 2 ^ 62 → new.waiting ≡ old.waiting + count) → (now : List Item) × IsThrough model new (t ++ take (run + 4 * count) text) now out
-silents_kept model old new t out text items run zero h within between idle passes counts =
+silents_kept model old new t out text items run zero h same_model within between idle passes counts =
     let same = idle refl in
     let place : run + 4 * zero ≡ run = omega arith in
     let e : new.waiting ≡ old.waiting = omega (arith, counts (omega arith)) in
-    (items, rw place (record { after = rw same h.after; made = rw e h.made; few = rw e h.few; short = rw e h.short }))
-silents_kept model old new t out text items run (suc count) h within between idle passes counts =
+    (items, rw place (record { model_is = same_model ∙ h.model_is; after = rw same h.after; made = rw e h.made; few = rw e h.few; short = rw e h.short }))
+silents_kept model old new t out text items run (suc count) h same_model within between idle passes counts =
     let n = suc count in
     let front = t ++ take run text in
     let p = passes (between (omega arith)) in
@@ -115,28 +116,28 @@ silents_kept model old new t out text items run (suc count) h within between idl
     let few : n ≤ 2 ^ 62 = omega (arith, limit, within, length-append front (take (4 * n) (drop run text)), length-take-le (4 * n) (drop run text) within) in (
       items ++ silents n,
       subst (λ u. IsThrough model new u (items ++ silents n) out) (append_assoc t (take run text) (take (4 * n) (drop run text)) ∙ ap (λ u. t ++ u) (sym (take-add run (4 * n) text)))
-          (waits model old new front out (drop run text) items n h within p (counts few)),
+          (waits model old new front out (drop run text) items n h within p same_model (counts few)),
     )
 
 -- what takes some bytes only between items settles itself, where it takes some
-kept : (model : Model) (old new : Transducer) (t out text : Text) (items : List Item) (len : ℕ) → IsThrough model old t items out → new.waiting ≡ old.waiting
+kept : (model : Model) (old new : Transducer) (t out text : Text) (items : List Item) (len : ℕ) → IsThrough model old t items out → new.model ≡ old.model → new.waiting ≡ old.waiting
     → (0 < len → Reads t items) → (len ≡ 0 → new.scanner ≡ old.scanner) → (Reads t items → Keeps model t out text len new) → Keeps model t out text len new
-kept model old new t out text items zero h e between idle taken =
+kept model old new t out text items zero h same_model e between idle taken =
     let same = idle refl in
-    record { items = items; through = rw (append-nil t, append-nil out) (record { after = rw same h.after; made = rw e h.made; few = rw e h.few; short = rw e h.short }) }
-kept model old new t out text items (suc len) h e between idle taken = taken (between (omega arith))
+    record { items = items; through = rw (append-nil t, append-nil out) (record { model_is = same_model ∙ h.model_is; after = rw same h.after; made = rw e h.made; few = rw e h.few; short = rw e h.short }) }
+kept model old new t out text items (suc len) h same_model e between idle taken = taken (between (omega arith))
 
 -- a run of literal bytes settles itself
-pub kept_literals : (model : Model) (old new : Transducer) (t out text : Text) (items : List Item) (len : ℕ) → IsThrough model old t items out → new.waiting ≡ old.waiting
+pub kept_literals : (model : Model) (old new : Transducer) (t out text : Text) (items : List Item) (len : ℕ) → IsThrough model old t items out → new.model ≡ old.model → new.waiting ≡ old.waiting
     → (0 < len → Reads t items) → (len ≡ 0 → new.scanner ≡ old.scanner) → (Reads t items → scanned.Passes t items text len new.scanner) → Keeps model t out text len new
-kept_literals model old new t out text items len h e between idle passes =
-    kept model old new t out text items len h e between idle (λ reads. record { items = items ++ map Byte (take len text); through = passed model old new t out text items len h (passes reads) e })
+kept_literals model old new t out text items len h same e between idle passes =
+    kept model old new t out text items len h same e between idle (λ reads. record { items = items ++ map Byte (take len text); through = passed model old new t out text items len h (passes reads) same e })
 
 -- and so does a run of items that stand as in a canonical text, where no silent directive waits
-pub kept_plain : (model : Model) (old new : Transducer) (t out text : Text) (items : List Item) (len : ℕ) → IsThrough model old t items out → new.waiting ≡ old.waiting
+pub kept_plain : (model : Model) (old new : Transducer) (t out text : Text) (items : List Item) (len : ℕ) → IsThrough model old t items out → new.model ≡ old.model → new.waiting ≡ old.waiting
     → (0 < len → Reads t items) → (len ≡ 0 → new.scanner ≡ old.scanner) → (Reads t items → PassesPlain model t items text len new.scanner) → old.waiting ≡ 0 → Keeps model t out text len new
-kept_plain model old new t out text items len h e between idle passes none =
-    kept model old new t out text items len h e between idle (λ reads. let p = passes reads in record { items = items ++ p.more; through = passed_plain model old new t out text items len h p none e })
+kept_plain model old new t out text items len h same e between idle passes none =
+    kept model old new t out text items len h same e between idle (λ reads. let p = passes reads in record { items = items ++ p.more; through = passed_plain model old new t out text items len h p none same e })
 
 -- a text was passed up to some place
 module _ (model : Model) (t out more text : Text) (at : ℕ) where

@@ -10,23 +10,23 @@ use Rattle.pf_canon.specs.declared.sources.Turn.TheVariants.{Again, Done}
 use Rattle.pf_canon.specs.Sources.{CountsTurn, History, IsOver, Leaves, LowersAnswer, LowersUnits, StepsBy, Turns, units}
 use Rattle.pf_canon.proofs.SourceLemmas.{answer_lower, counts_later, more_later, none_more}
 
-module _ (model : Model) {B : Type 0} (left : B → Known) (kept failed : B → B → Type 0) where
+module _ {B : Type 0} (left : B → Known) (kept failed : B → B → Type 0) where
   pub record Runs (old : Source) (from : B) (now : Source) (to : B) : Type 0 where
-    pub next : (start : Known) (taken given : Text) → History model old start (left from) taken given → (more : Text) × History model now start (left to) (taken ++ more) given
+    pub next : (model : Model) (start : Known) (taken given : Text) → History model old start (left from) taken given → (more : Text) × History model now start (left to) (taken ++ more) given
     pub over : IsOver old → IsOver now × (to ≡ from)
     pub counts : kept from to
     pub units : units now ≤ units old
 
   -- what a turn says
   pub record Turning (old : Source) (from : B) (turn : Turn) (new : Source) (to : B) : Type 0 where
-    pub next : (start : Known) (taken given : Text) → History model old start (left from) taken given → (more : Text) × Turns model turn new start (left to) (taken ++ more) given
+    pub next : (model : Model) (start : Known) (taken given : Text) → History model old start (left from) taken given → (more : Text) × Turns model turn new start (left to) (taken ++ more) given
     pub over : IsOver old → (turn ≡ Done None) × IsOver new × (to ≡ from)
     pub counts : CountsTurn kept failed turn from to
     pub lower : LowersUnits turn old new
 
   pub starts : ((b : B) → kept b b) → (old : Source) (from : B) → Runs old from old from
   starts itself old from = record {
-    next = λ start taken given h. none_more (λ t. History model old start (left from) t given) taken h;
+    next = λ model start taken given h. none_more (λ t. History model old start (left from) t given) taken h;
     over = λ o. (o, refl);
     counts = itself from;
     units = omega arith;
@@ -38,20 +38,20 @@ module _ (model : Model) {B : Type 0} (left : B → Known) (kept failed : B → 
         let lower = t.lower in
         let few = h.units in
         record {
-          next = λ start taken given is.
-              let before = h.next start taken given is in
-              more_later (λ t. History model new start (left to) t given) taken before.0 (t.next start (taken ++ before.0) given before.1);
+          next = λ model start taken given is.
+              let before = h.next model start taken given is in
+              more_later (λ t. History model new start (left to) t given) taken before.0 (t.next model start (taken ++ before.0) given before.1);
           over = λ o. absurd (let e : Again ≡ Done None = (t.over (h.over o).0).0 in cc);
           counts = also from mid to h.counts t.counts;
           units = omega (arith, lower, few);
         }
 
-    pub answers : ((a b c : B) → kept a b → failed b c → failed a c) → (r : Option (Result ℕ StreamFault)) → Turning now mid (Done r) new to → StepsBy model left kept failed old from r new to × LowersAnswer r old new
+    pub answers : ((a b c : B) → kept a b → failed b c → failed a c) → (r : Option (Result ℕ StreamFault)) → Turning now mid (Done r) new to → StepsBy left kept failed old from r new to × LowersAnswer r old new
     answers later r t = (
       record {
-        next = λ start taken given is.
-            let before = h.next start taken given is in
-            more_later (λ t. Leaves model r new start (left to) t given) taken before.0 (t.next start (taken ++ before.0) given before.1);
+        next = λ model start taken given is.
+            let before = h.next model start taken given is in
+            more_later (λ t. Leaves model r new start (left to) t given) taken before.0 (t.next model start (taken ++ before.0) given before.1);
         over = λ o.
             let mid = h.over o in
             let last = t.over mid.0 in

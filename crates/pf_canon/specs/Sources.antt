@@ -114,11 +114,11 @@ module _ {B : Type 0} (kept failed : B → B → Type 0) where
   CountsTurn Again old new = kept old new
   CountsTurn (Done r) old new = CountsFault r old new
 
--- what a call of `next` answers and leaves
-pub record StepsBy (model : Model) {B : Type 0} (left : B → Known) (kept failed : B → B → Type 0)
-    (old : Source)
+-- what a call of `next` answers and leaves, in the data model of what went before
+pub record StepsBy {B : Type 0} (left : B → Known) (kept failed : B → B → Type 0) (old : Source)
     (from : B) (r : Option (Result ℕ StreamFault)) (new : Source) (to : B) : Type 0 where
-  pub next : (start : Known) (taken given : Text) → History model old start (left from) taken given
+  pub next : (model : Model) (start : Known) (taken given : Text)
+      → History model old start (left from) taken given
       → (more : Text) × Leaves model r new start (left to) (taken ++ more) given
   pub over : IsOver old → (r ≡ None) × IsOver new × (to ≡ from)
   pub counts : CountsFault kept failed r from to

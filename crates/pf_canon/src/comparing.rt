@@ -2,7 +2,6 @@
 ghost use Rattle.std.specs.Prelude.{◌≡◌, ℕ, Option, Some, None, Err, IfOk, MatchResult};
 ghost use Rattle.pf_values.specs.Counting.{HasFailed, Known, device_of, failures_of};
 ghost use Rattle.pf_values.specs.Text.{Text};
-ghost use Rattle.pf_values.specs.declared.models.Model.TheVariants.{Lp64};
 ghost use Rattle.pf_canon.specs.Comparing.{AreTextsSame, CountsBehind, CountsDrain, CountsSides, DrainsTo, EndsBoth, Gave, GoesOnlyWith, HasPace, IsApart, IsInStep, Lowers, PacesTo, StopsSide, TextStops};
 ghost use Rattle.pf_canon.specs.Sources.{History, Leaves};
 
@@ -11,34 +10,36 @@ use crate::reading::{Bytes, Taken};
 use crate::sides::Side;
 use crate::sources::Source;
 use pf_text::Refusal;
-use pf_values::Counted;
+use pf_values::{Counted, Model};
 use std::io::Read;
 
-/// Whether the formats that two readers hand out up to their ends have equal types, and print equal
-/// bytes for all arguments. A difference doesn't stop the reading. Where a text is refused or its
-/// reader fails, the first text's fault is answered if it has one, and then the second text is not
-/// read further. It takes no memory.
+/// Whether the formats that two readers hand out up to their ends have equal types in this data
+/// model, and print equal bytes for all arguments. A difference doesn't stop the reading. Where a
+/// text is refused or its reader fails, the first text's fault is answered if it has one, and then
+/// the second text is not read further. It takes no memory.
 pub fn same_stream<R: Read, S: Read>(
+    model: Model,
     r: &mut Counted<R>,
     s: &mut Counted<S>,
 ) -> Result<bool, SideFault>
     ensures compared { MatchResult result
-        (EndsBoth Lp64 (R.remaining (device_of r.old)) (R.remaining (device_of r.new))
+        (EndsBoth model (R.remaining (device_of r.old)) (R.remaining (device_of r.new))
         (S.remaining (device_of s.old)) (S.remaining (device_of s.new)))
-        (StopsSide Lp64 (R.remaining (device_of r.old)) (R.remaining (device_of r.new))
+        (StopsSide model (R.remaining (device_of r.old)) (R.remaining (device_of r.new))
         (S.remaining (device_of s.old)) (S.remaining (device_of s.new))) }
     ensures counts { CountsSides (λ old new. failures_of new ≡ failures_of old) HasFailed
         (λ old new. failures_of new ≡ failures_of old) HasFailed result r.old r.new s.old s.new }
 {
-    same_bytes(r, s)
+    same_bytes(model, r, s)
 }
 
-/// Whether two formats have equal types, and print equal bytes for all arguments. Where a text is
-/// refused, the first text's refusal is answered if it has one. It takes no memory.
-pub fn same_text(f: &[u8], g: &[u8]) -> Result<bool, (Side, Refusal)>
-    ensures { MatchResult result (AreTextsSame Lp64 f.now g.now) (TextStops f.now g.now) }
+/// Whether two formats have equal types in this data model, and print equal bytes for all
+/// arguments. Where a text is refused, the first text's refusal is answered if it has one. It takes
+/// no memory.
+pub fn same_text(model: Model, f: &[u8], g: &[u8]) -> Result<bool, (Side, Refusal)>
+    ensures { MatchResult result (AreTextsSame model f.now g.now) (TextStops f.now g.now) }
 {
-    match same_bytes(&mut Slice { rest: f }, &mut Slice { rest: g }) {
+    match same_bytes(model, &mut Slice { rest: f }, &mut Slice { rest: g }) {
         Ok(same) => Ok(same),
         Err(stop) => match stop.fault {
             StreamFault::Refused(refusal) => Err((stop.side, refusal)),
@@ -111,14 +112,14 @@ fn pace_of_bytes(first: u8, second: u8) -> Pace
     Pace::Differ
 }
 
-fn same_bytes<A: Bytes, B: Bytes>(a: &mut A, b: &mut B) -> Result<bool, SideFault>
+fn same_bytes<A: Bytes, B: Bytes>(model: Model, a: &mut A, b: &mut B) -> Result<bool, SideFault>
     ensures compared { MatchResult result
-        (EndsBoth Lp64 (A.left a.old) (A.left a.new) (B.left b.old) (B.left b.new))
-        (StopsSide Lp64 (A.left a.old) (A.left a.new) (B.left b.old) (B.left b.new)) }
+        (EndsBoth model (A.left a.old) (A.left a.new) (B.left b.old) (B.left b.new))
+        (StopsSide model (A.left a.old) (A.left a.new) (B.left b.old) (B.left b.new)) }
     ensures counts { CountsSides A.kept A.failed B.kept B.failed result a.old a.new b.old b.new }
 {
-    let mut first = Source::new();
-    let mut second = Source::new();
+    let mut first = Source::new(model);
+    let mut second = Source::new(model);
     loop {
         match pace_both(&mut first, a, &mut second, b) {
             Ok(Pace::On) => {}
@@ -136,9 +137,9 @@ fn pace_both<A: Bytes, B: Bytes>(
     second: &mut Source,
     b: &mut B,
 ) -> Result<Pace, SideFault>
-    ensures paced { (f g : Known)
-        → IsInStep Lp64 first.old (A.left a.old) second.old (B.left b.old) f g
-        → PacesTo Lp64 first.new (A.left a.new) second.new (B.left b.new) f g result }
+    ensures paced { (model : Model) (f g : Known)
+        → IsInStep model first.old (A.left a.old) second.old (B.left b.old) f g
+        → PacesTo model first.new (A.left a.new) second.new (B.left b.new) f g result }
     ensures counts { CountsSides A.kept A.failed B.kept B.failed result a.old a.new b.old b.new }
     ensures lower { Lowers first.old first.new result }
 {
@@ -160,10 +161,10 @@ fn pace_second<A: Bytes, B: Bytes>(
     second: &mut Source,
     b: &mut B,
 ) -> Result<Pace, SideFault>
-    ensures paced { (f g : Known) (t u given : Text)
-        → Gave Lp64 x first.old f (A.left a.old) t given
-        → History Lp64 second.old g (B.left b.old) u given
-        → PacesTo Lp64 first.new (A.left a.new) second.new (B.left b.new) f g result }
+    ensures paced { (model : Model) (f g : Known) (t u given : Text)
+        → Gave model x first.old f (A.left a.old) t given
+        → History model second.old g (B.left b.old) u given
+        → PacesTo model first.new (A.left a.new) second.new (B.left b.new) f g result }
     ensures counts { CountsSides A.kept A.failed B.kept B.failed result a.old a.new b.old b.new }
     ensures first { IfOk result (λ _. first.new ≡ first.old) }
     ensures going { GoesOnlyWith x result }
@@ -177,10 +178,11 @@ fn pace_second<A: Bytes, B: Bytes>(
 
 // The second text stopped. The first text's fault comes before.
 fn behind_second<A: Bytes>(first: &mut Source, a: &mut A, fault: StreamFault) -> SideFault
-    ensures stopped { (x : Option ℕ) (second : Source) (f g b : Known) (t u given : Text)
-        → Gave Lp64 x first.old f (A.left a.old) t given
-        → Leaves Lp64 (Some (Err fault)) second g b u given
-        → StopsSide Lp64 f (A.left a.new) g b result }
+    ensures stopped { (model : Model) (x : Option ℕ) (second : Source) (f g b : Known)
+        (t u given : Text)
+        → Gave model x first.old f (A.left a.old) t given
+        → Leaves model (Some (Err fault)) second g b u given
+        → StopsSide model f (A.left a.new) g b result }
     ensures counts { CountsBehind A.kept A.failed fault result.side result.fault a.old a.new }
 {
     match drain(first, a) {
@@ -202,10 +204,10 @@ fn drain_both<A: Bytes, B: Bytes>(
     second: &mut Source,
     b: &mut B,
 ) -> Result<bool, SideFault>
-    ensures compared { (f g : Known)
-        → IsApart Lp64 first.old (A.left a.old) second.old (B.left b.old) f g
-        → MatchResult result (EndsBoth Lp64 f (A.left a.new) g (B.left b.new))
-        (StopsSide Lp64 f (A.left a.new) g (B.left b.new)) }
+    ensures compared { (model : Model) (f g : Known)
+        → IsApart model first.old (A.left a.old) second.old (B.left b.old) f g
+        → MatchResult result (EndsBoth model f (A.left a.new) g (B.left b.new))
+        (StopsSide model f (A.left a.new) g (B.left b.new)) }
     ensures counts { CountsSides A.kept A.failed B.kept B.failed result a.old a.new b.old b.new }
 {
     match drain(first, a) {
@@ -225,9 +227,9 @@ fn drain_both<A: Bytes, B: Bytes>(
 
 // Takes the rest, and gives none of it.
 fn drain<B: Bytes>(source: &mut Source, bytes: &mut B) -> Result<(), StreamFault>
-    ensures drained { (x : Option ℕ) (start : Known) (taken given : Text)
-        → Gave Lp64 x source.old start (B.left bytes.old) taken given
-        → DrainsTo Lp64 x start (B.left bytes.new) given result }
+    ensures drained { (model : Model) (x : Option ℕ) (start : Known) (taken given : Text)
+        → Gave model x source.old start (B.left bytes.old) taken given
+        → DrainsTo model x start (B.left bytes.new) given result }
     ensures counts { CountsDrain B.kept B.failed result bytes.old bytes.new }
 {
     loop {

@@ -2,22 +2,23 @@
 ghost use Rattle.std.specs.Prelude.{◌≡◌, ◌+◌, ◌*◌, ◌^◌, ◌<◌, length, MatchResult};
 ghost use Rattle.pf_values.specs.Refusals.{IsRefusedAt};
 ghost use Rattle.pf_values.specs.Text.{Text};
-ghost use Rattle.pf_values.specs.declared.models.Model.TheVariants.{Lp64};
 ghost use Rattle.pf_canon.specs.Answers.{IsCanonicalFor};
 ghost use Rattle.pf_canon.specs.Parts.{parts_text};
-ghost use Rattle.pf_canon.specs.Through.{IsFrontWithin, IsUpTo, front_text, item_text};
+ghost use Rattle.pf_canon.specs.Through.{IsFrontWithin, IsUpTo, front_text, item_text, model_of};
 
 use crate::parts::Parts;
 use crate::transducing::{Front, Made, Transducer};
 use pf_text::Refusal;
+use pf_values::Model;
 
-/// How many bytes the canonical text of a format has, or the format's refusal. It takes no memory.
-pub fn canonical_len(text: &[u8]) -> Result<u128, Refusal>
+/// How many bytes the canonical text of a format has in this data model, or the format's refusal.
+/// It takes no memory.
+pub fn canonical_len(model: Model, text: &[u8]) -> Result<u128, Refusal>
     ensures { MatchResult result
-        (λ len. (c : Text) × IsCanonicalFor Lp64 text.now c × (len ≡ length c))
+        (λ len. (c : Text) × IsCanonicalFor model text.now c × (len ≡ length c))
         (λ refusal. IsRefusedAt text.now refusal.kind refusal.at) }
 {
-    len_from(Transducer::new(), text, 0, 0)
+    len_from(Transducer::new(model), text, 0, 0)
 }
 
 /// The same, where the first `at` bytes were taken and settle `len` bytes.
@@ -27,9 +28,9 @@ pub(crate) fn len_from(
     at: usize,
     len: u128,
 ) -> Result<u128, Refusal>
-    requires { (out : Text) × IsUpTo Lp64 transducer text.now at out × (len ≡ length out) }
+    requires { (out : Text) × IsUpTo transducer text.now at out × (len ≡ length out) }
     ensures { MatchResult result
-        (λ len. (c : Text) × IsCanonicalFor Lp64 text.now c × (len ≡ length c))
+        (λ len. (c : Text) × IsCanonicalFor (model_of transducer) text.now c × (len ≡ length c))
         (λ refusal. IsRefusedAt text.now refusal.kind refusal.at) }
 {
     let mut at = at;

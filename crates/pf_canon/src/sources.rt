@@ -5,7 +5,6 @@ ghost use Rattle.pf_values.specs.Counting.{Known};
 ghost use Rattle.pf_values.specs.Items.{Item};
 ghost use Rattle.pf_values.specs.Text.{Text};
 ghost use Rattle.pf_canon.specs.Due.{due_text};
-ghost use Rattle.pf_values.specs.declared.models.Model.TheVariants.{Lp64};
 ghost use Rattle.pf_canon.specs.Sources.{CountsTurn, History, IsOver, IsReadFor, IsTold, LowersUnits, LowersAnswer, StepsBy, Turns};
 ghost use Rattle.pf_canon.specs.Through.{IsThrough};
 ghost use Rattle.pf_canon.specs.declared.sources.Turn.TheVariants.{Done};
@@ -14,6 +13,7 @@ use crate::due::Due;
 use crate::faults::StreamFault;
 use crate::reading::{Bytes, Taken};
 use crate::transducing::{Made, Transducer};
+use pf_values::Model;
 
 /// A transducer, what it has settled and waits to be given, and whether the text may go on.
 #[derive(Drop)]
@@ -33,11 +33,11 @@ pub(crate) enum Turn {
 
 impl Source {
     /// Nothing was taken.
-    pub(crate) fn new() -> Source
-        ensures { (start : Known) → History Lp64 result start start [] [] }
+    pub(crate) fn new(model: Model) -> Source
+        ensures { (start : Known) → History model result start start [] [] }
     {
         Source {
-            transducer: Transducer::new(),
+            transducer: Transducer::new(model),
             due: Due::new(),
             is_open: true,
         }
@@ -45,7 +45,7 @@ impl Source {
 
     /// The next byte of the canonical text, or why there is none. After a fault nothing comes.
     pub(crate) fn next<B: Bytes>(&mut self, bytes: &mut B) -> Option<Result<u8, StreamFault>>
-        ensures steps { StepsBy Lp64 B.left B.kept B.failed self.old bytes.old
+        ensures steps { StepsBy B.left B.kept B.failed self.old bytes.old
             result self.new bytes.new }
         ensures lower { LowersAnswer result self.old self.new }
     {
@@ -59,10 +59,10 @@ impl Source {
 
     // Gives a byte that waits, or takes one.
     fn turn<B: Bytes>(&mut self, bytes: &mut B) -> Turn
-        ensures next { (start : Known) (taken given : Text)
-            → History Lp64 self.old start (B.left bytes.old) taken given
+        ensures next { (model : Model) (start : Known) (taken given : Text)
+            → History model self.old start (B.left bytes.old) taken given
             → (more : Text)
-            × Turns Lp64 result self.new start (B.left bytes.new) (taken ++ more) given }
+            × Turns model result self.new start (B.left bytes.new) (taken ++ more) given }
         ensures over { IsOver self.old → (result ≡ Done None) × IsOver self.new
             × (bytes.new ≡ bytes.old) }
         ensures counts { CountsTurn B.kept B.failed result bytes.old bytes.new }
@@ -88,10 +88,10 @@ impl Source {
     fn take(&mut self, byte: u8) -> Turn
         requires open { self.old.is_open ≡ true }
         requires none_due { due_text self.old.due ≡ [] }
-        ensures next { (start left : Known) (taken given : Text) (items : List Item)
-            → Consumes start left (taken ++ byte ∷ []) → IsReadFor Lp64 taken given
-            → IsThrough Lp64 self.old.transducer taken items given
-            → (more : Text) × Turns Lp64 result self.new start left (taken ++ more) given }
+        ensures next { (model : Model) (start left : Known) (taken given : Text) (items : List Item)
+            → Consumes start left (taken ++ byte ∷ []) → IsReadFor model taken given
+            → IsThrough model self.old.transducer taken items given
+            → (more : Text) × Turns model result self.new start left (taken ++ more) given }
         ensures told { IsTold result }
         ensures lower { LowersUnits result self.old self.new }
     {
@@ -113,10 +113,10 @@ impl Source {
     fn end(&mut self) -> Turn
         requires open { self.old.is_open ≡ true }
         requires none_due { due_text self.old.due ≡ [] }
-        ensures next { (start left : Known) (taken given : Text) (items : List Item)
-            → Consumes start left taken → IsAtEnd left → IsReadFor Lp64 taken given
-            → IsThrough Lp64 self.old.transducer taken items given
-            → (more : Text) × Turns Lp64 result self.new start left (taken ++ more) given }
+        ensures next { (model : Model) (start left : Known) (taken given : Text) (items : List Item)
+            → Consumes start left taken → IsAtEnd left → IsReadFor model taken given
+            → IsThrough model self.old.transducer taken items given
+            → (more : Text) × Turns model result self.new start left (taken ++ more) given }
         ensures told { IsTold result }
         ensures lower { LowersUnits result self.old self.new }
     {

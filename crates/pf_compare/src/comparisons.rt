@@ -1,6 +1,5 @@
 //! Comparing two formats.
 ghost use Rattle.std.specs.Prelude.{IfOk, MatchResult, false};
-ghost use Rattle.pf_values.specs.declared.models.Model.TheVariants.{Lp64};
 ghost use Rattle.pf_canon.specs.Comparing.{AreTextsSame};
 ghost use Rattle.pf_compare.specs.Answers.{HaveSameTypes, HindersComparison, IsComparisonOf};
 
@@ -10,17 +9,23 @@ use crate::type_lists::first_other_type;
 use crate::verdicts::{Comparison, Verdict};
 use crate::witnesses::{Witness, first_witness};
 use pf_canon::same_text;
+use pf_values::Model;
 use std::alloc::{AllocError, Global};
 
-/// Compares two formats. Equivalent ones are `Same`. Else they differ in their types, or the first
+/// Compares two formats in a data model. Equivalent ones are `Same`. Else they differ in their types, or the first
 /// probe is given for which they print different bytes. A refused text is answered by its refusal,
 /// the first before the second. Memory is taken only for arguments: where both are accepted, have
 /// the same types, and are not equivalent.
-pub fn compare(alloc: Global, f: &[u8], g: &[u8]) -> Result<Comparison, CompareFault>
-    ensures { MatchResult result (IsComparisonOf Lp64 f.now g.now)
-        (HindersComparison Lp64 f.now g.now) }
+pub fn compare(
+    alloc: Global,
+    model: Model,
+    f: &[u8],
+    g: &[u8],
+) -> Result<Comparison, CompareFault>
+    ensures { MatchResult result (IsComparisonOf model f.now g.now)
+        (HindersComparison model f.now g.now) }
 {
-    let same = match same_text(f, g) {
+    let same = match same_text(model, f, g) {
         Ok(same) => same,
         Err((side, refusal)) => return Err(CompareFault::Refused(side, refusal)),
     };
@@ -30,24 +35,29 @@ pub fn compare(alloc: Global, f: &[u8], g: &[u8]) -> Result<Comparison, CompareF
             renderings: 0,
         });
     }
-    if let Some(index) = first_other_type(f, g) {
+    if let Some(index) = first_other_type(model, f, g) {
         return Ok(Comparison {
             verdict: Verdict::Types(index),
             renderings: 0,
         });
     }
-    Ok(compare_bytes(alloc, f, g)?)
+    Ok(compare_bytes(alloc, model, f, g)?)
 }
 
 // The same of two formats with the same types, which differ in what they print.
-fn compare_bytes(alloc: Global, f: &[u8], g: &[u8]) -> Result<Comparison, AllocError>
-    requires apart { AreTextsSame Lp64 f.now g.now false }
-    requires types { HaveSameTypes Lp64 f.now g.now }
-    ensures { IfOk result (IsComparisonOf Lp64 f.now g.now) }
+fn compare_bytes(
+    alloc: Global,
+    model: Model,
+    f: &[u8],
+    g: &[u8],
+) -> Result<Comparison, AllocError>
+    requires apart { AreTextsSame model f.now g.now false }
+    requires types { HaveSameTypes model f.now g.now }
+    ensures { IfOk result (IsComparisonOf model f.now g.now) }
 {
-    let first = lay_out(alloc, f)?;
-    let second = lay_out(alloc, g)?;
-    match first_witness(alloc, &first, &second)? {
+    let first = lay_out(alloc, model, f)?;
+    let second = lay_out(alloc, model, g)?;
+    match first_witness(alloc, model, &first, &second)? {
         Some(Witness { args, renderings }) => Ok(Comparison {
             verdict: Verdict::Args(args),
             renderings,

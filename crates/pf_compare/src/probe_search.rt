@@ -1,7 +1,6 @@
 //! The first argument that tells two formats apart, where they print the same for neutral ones.
 ghost use Rattle.std.specs.Prelude.{◌≡◌, ◌≢◌, ◌≤◌, ◌+◌, ◌-◌, ◌++◌, IfOk, IsTrue, List, MatchBool, drop, length, map, take};
 ghost use Rattle.pf_values.specs.Arg.{argument_of};
-ghost use Rattle.pf_values.specs.declared.models.Model.TheVariants.{Lp64};
 ghost use Rattle.pf_values.specs.Arguments.{HasType};
 ghost use Rattle.pf_values.specs.Candidates as spec;
 ghost use Rattle.pf_values.specs.DataModel.{arg_type};
@@ -13,7 +12,7 @@ ghost use Rattle.pf_compare.specs.Layouts.{AreLevel, FillAlike, FillUnlike, Find
 use crate::candidate_rows::{owned_row, row_of};
 use crate::equality::are_equal;
 use crate::layouts::{Hole, Layout, print};
-use pf_values::{Arg, ArgType};
+use pf_values::{Arg, ArgType, Model};
 use std::alloc::{AllocError, Global};
 
 /// All arguments are neutral, but the one with this index is the candidate of its type with this
@@ -28,36 +27,39 @@ pub(crate) struct Probe {
 /// arguments, so what they print for a probe differs from that in one hole alone.
 pub(crate) fn first_probe(
     alloc: Global,
+    model: Model,
     first: &Layout,
     second: &Layout,
 ) -> Result<Option<Probe>, AllocError>
-    requires { AreLevel Lp64 first.now second.now }
+    requires { AreLevel model first.now second.now }
     ensures { IfOk result (λ found.
-        (xs ys : List Item) → IsLayoutOf Lp64 xs first.now → IsLayoutOf Lp64 ys second.now
-        → types Lp64 xs ≡ types Lp64 ys → FindsProbe Lp64 xs ys found) }
+        (xs ys : List Item) → IsLayoutOf model xs first.now → IsLayoutOf model ys second.now
+        → types model xs ≡ types model ys → FindsProbe model xs ys found) }
 {
-    let owned = owned_row(alloc, ArgType::Str)?;
+    let owned = owned_row(alloc, model, ArgType::Str)?;
     let strings = row_of(alloc, &owned)?;
-    first_among(alloc, first, second, &strings)
+    first_among(alloc, model, first, second, &strings)
 }
 
 // The same, with the strings among the candidates, which are long, so that they are built once.
 fn first_among(
     alloc: Global,
+    model: Model,
     first: &Layout,
     second: &Layout,
     strings: &[Arg<'_>],
 ) -> Result<Option<Probe>, AllocError>
-    requires level { AreLevel Lp64 first.now second.now }
-    requires strings { map argument_of strings.now ≡ spec.candidates Lp64 Str }
+    requires level { AreLevel model first.now second.now }
+    requires strings { map argument_of strings.now ≡ spec.candidates model Str }
     ensures { IfOk result (λ found.
-        (xs ys : List Item) → IsLayoutOf Lp64 xs first.now → IsLayoutOf Lp64 ys second.now
-        → types Lp64 xs ≡ types Lp64 ys → FindsProbe Lp64 xs ys found) }
+        (xs ys : List Item) → IsLayoutOf model xs first.now → IsLayoutOf model ys second.now
+        → types model xs ≡ types model ys → FindsProbe model xs ys found) }
 {
     let mut index = 0;
     while index < first.holes.len() {
         let found = first_candidate(
             alloc,
+            model,
             &first.bytes,
             &first.holes[index],
             &second.holes[index],
@@ -75,28 +77,29 @@ fn first_among(
 // one hole prints one text for every argument.
 fn first_candidate(
     alloc: Global,
+    model: Model,
     whole: &[u8],
     first: &Hole,
     second: &Hole,
     strings: &[Arg<'_>],
 ) -> Result<Option<usize>, AllocError>
-    requires one_type { arg_type Lp64 first.now.directive ≡ arg_type Lp64 second.now.directive }
+    requires one_type { arg_type model first.now.directive ≡ arg_type model second.now.directive }
     requires first { IsInside whole.now first.now }
     requires second { IsInside whole.now second.now }
-    requires strings { map argument_of strings.now ≡ spec.candidates Lp64 Str }
+    requires strings { map argument_of strings.now ≡ spec.candidates model Str }
     ensures { IfOk result
-        (FindsUnlike Lp64 whole.now first.now second.now (arg_type Lp64 first.now.directive)) }
+        (FindsUnlike model whole.now first.now second.now (arg_type model first.now.directive)) }
 {
     if are_one(first, second) {
         return Ok(None);
     }
-    let wanted = first.directive.arg_type();
+    let wanted = first.directive.arg_type(model);
     if wanted == ArgType::Str {
-        return first_of(alloc, whole, first, second, wanted, strings);
+        return first_of(alloc, model, whole, first, second, wanted, strings);
     }
-    let owned = owned_row(alloc, wanted)?;
+    let owned = owned_row(alloc, model, wanted)?;
     let numbers = row_of(alloc, &owned)?;
-    first_of(alloc, whole, first, second, wanted, &numbers)
+    first_of(alloc, model, whole, first, second, wanted, &numbers)
 }
 
 fn are_one(first: &Hole, second: &Hole) -> bool
@@ -115,22 +118,23 @@ fn have_one_place(first: &Hole, second: &Hole) -> bool
 // The place of the first argument of a row that does.
 fn first_of(
     alloc: Global,
+    model: Model,
     whole: &[u8],
     first: &Hole,
     second: &Hole,
     wanted: ArgType,
     row: &[Arg<'_>],
 ) -> Result<Option<usize>, AllocError>
-    requires row { map argument_of row.now ≡ spec.candidates Lp64 wanted }
-    requires first_type { arg_type Lp64 first.now.directive ≡ wanted }
-    requires second_type { arg_type Lp64 second.now.directive ≡ wanted }
+    requires row { map argument_of row.now ≡ spec.candidates model wanted }
+    requires first_type { arg_type model first.now.directive ≡ wanted }
+    requires second_type { arg_type model second.now.directive ≡ wanted }
     requires first { IsInside whole.now first.now }
     requires second { IsInside whole.now second.now }
-    ensures { IfOk result (FindsUnlike Lp64 whole.now first.now second.now wanted) }
+    ensures { IfOk result (FindsUnlike model whole.now first.now second.now wanted) }
 {
     let mut place = 0;
     while place < row.len() {
-        if tell_apart(alloc, whole, first, second, row[place])? {
+        if tell_apart(alloc, model, whole, first, second, row[place])? {
             return Ok(Some(place));
         }
         place += 1;
@@ -142,22 +146,23 @@ fn first_of(
 // is compared, and nothing where both print what they print for a neutral argument.
 fn tell_apart(
     alloc: Global,
+    model: Model,
     whole: &[u8],
     first: &Hole,
     second: &Hole,
     argument: Arg<'_>,
 ) -> Result<bool, AllocError>
-    requires typed_first { HasType Lp64 (argument_of argument) (arg_type Lp64 first.now.directive) }
-    requires typed_second { HasType Lp64 (argument_of argument)
-        (arg_type Lp64 second.now.directive) }
+    requires typed_first { HasType model (argument_of argument) (arg_type model first.now.directive) }
+    requires typed_second { HasType model (argument_of argument)
+        (arg_type model second.now.directive) }
     requires first { IsInside whole.now first.now }
     requires second { IsInside whole.now second.now }
     ensures { IfOk result (λ told. MatchBool told
-        (FillUnlike Lp64 whole.now first.now second.now (argument_of argument.entry))
-        (FillAlike Lp64 whole.now first.now second.now (argument_of argument.entry))) }
+        (FillUnlike model whole.now first.now second.now (argument_of argument.entry))
+        (FillAlike model whole.now first.now second.now (argument_of argument.entry))) }
 {
-    let x = print(alloc, &first.directive, argument)?;
-    let y = print(alloc, &second.directive, argument)?;
+    let x = print(alloc, model, &first.directive, argument)?;
+    let y = print(alloc, model, &second.directive, argument)?;
     if have_one_place(first, second) {
         return Ok(are_unlike(&x, &y));
     }

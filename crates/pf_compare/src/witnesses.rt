@@ -1,6 +1,5 @@
 //! Arguments for which two formats print different bytes.
 ghost use Rattle.std.specs.Prelude.{◌≡◌, IfOk, List};
-ghost use Rattle.pf_values.specs.declared.models.Model.TheVariants.{Lp64};
 ghost use Rattle.pf_values.specs.Items.{Item, types};
 ghost use Rattle.pf_compare.specs.Layouts.{HaveOneTypes, IsLayoutOf, hole_types};
 ghost use Rattle.pf_compare.specs.Witnesses.{AreNeutral, FindsWitness, HasCandidate, IsWitnessAt};
@@ -9,6 +8,7 @@ use crate::layouts::{Hole, Layout};
 use crate::owned_args::OwnedArg;
 use crate::probe_search::{Probe, are_unlike, first_probe};
 use pf_probes::candidates;
+use pf_values::Model;
 use std::alloc::{AllocError, Global};
 
 /// Arguments for which two formats print different bytes, and their place among the candidates.
@@ -21,48 +21,54 @@ pub(crate) struct Witness {
 /// The first probe for which two formats of equal types print different bytes.
 pub(crate) fn first_witness(
     alloc: Global,
+    model: Model,
     first: &Layout,
     second: &Layout,
 ) -> Result<Option<Witness>, AllocError>
-    requires { HaveOneTypes Lp64 first.now second.now }
+    requires { HaveOneTypes model first.now second.now }
     ensures { IfOk result (λ found.
-        (xs ys : List Item) → IsLayoutOf Lp64 xs first.now → IsLayoutOf Lp64 ys second.now
-        → types Lp64 xs ≡ types Lp64 ys → FindsWitness Lp64 xs ys found) }
+        (xs ys : List Item) → IsLayoutOf model xs first.now → IsLayoutOf model ys second.now
+        → types model xs ≡ types model ys → FindsWitness model xs ys found) }
 {
     if are_unlike(&first.bytes, &second.bytes) {
-        let args = neutrals(alloc, &first.holes)?;
+        let args = neutrals(alloc, model, &first.holes)?;
         return Ok(Some(Witness {
             args,
             renderings: 1,
         }));
     }
-    let found = first_probe(alloc, first, second)?;
+    let found = first_probe(alloc, model, first, second)?;
     match found {
         Some(probe) => {
-            let witness = witness_of(alloc, &first.holes, probe)?;
+            let witness = witness_of(alloc, model, &first.holes, probe)?;
             Ok(Some(witness))
         }
         None => Ok(None),
     }
 }
 
-fn neutrals(alloc: Global, holes: &[Hole]) -> Result<Vec<OwnedArg>, AllocError>
-    ensures { IfOk result (λ args. AreNeutral (hole_types Lp64 holes.now) args.items) }
+fn neutrals(alloc: Global, model: Model, holes: &[Hole]) -> Result<Vec<OwnedArg>, AllocError>
+    ensures { IfOk result (λ args. AreNeutral (hole_types model holes.now) args.items) }
 {
     let mut args = Vec::new(alloc);
     for hole in holes {
-        args.push(OwnedArg::neutral(alloc, hole.directive.arg_type()))?;
+        args.push(OwnedArg::neutral(alloc, hole.directive.arg_type(model)))?;
     }
     Ok(args)
 }
 
-fn witness_of(alloc: Global, holes: &[Hole], probe: Probe) -> Result<Witness, AllocError>
-    requires { HasCandidate Lp64 (hole_types Lp64 holes.now) probe }
-    ensures { IfOk result (IsWitnessAt Lp64 (hole_types Lp64 holes.now) probe) }
+fn witness_of(
+    alloc: Global,
+    model: Model,
+    holes: &[Hole],
+    probe: Probe,
+) -> Result<Witness, AllocError>
+    requires { HasCandidate model (hole_types model holes.now) probe }
+    ensures { IfOk result (IsWitnessAt model (hole_types model holes.now) probe) }
 {
-    let mut args = neutrals(alloc, holes)?;
-    let arg_type = holes[probe.index].directive.arg_type();
-    args[probe.index] = OwnedArg::of(alloc, arg_type, candidates(arg_type)[probe.place])?;
+    let mut args = neutrals(alloc, model, holes)?;
+    let arg_type = holes[probe.index].directive.arg_type(model);
+    args[probe.index] = OwnedArg::of(alloc, arg_type, candidates(model, arg_type)[probe.place])?;
     Ok(Witness {
         args,
         renderings: probe.place as u8 + 1,

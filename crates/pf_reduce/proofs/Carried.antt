@@ -11,6 +11,7 @@ use Rattle.pf_values.specs.Text.{Text}
 use Rattle.pf_values.proofs.PrintsOnce.{Prints-unique, printed_text, printed-is}
 use Rattle.pf_reduce.specs.declared.results.Core.TheVariants.{Normal}
 use Rattle.pf_reduce.specs.declared.results.Reduced.{Reduced}
+use Rattle.pf_reduce.specs.NormalValues.{NormalDirective}
 use Rattle.pf_reduce.specs.Reducing.{IsReducedTo, PrintsReduced, around, core_of}
 
 -- one direction is enough, since each prints one text
@@ -27,12 +28,15 @@ prints_reduced model s r e h argument out typed =
       λ p. subst (Prints model s argument) (sym p.2) (h argument p.0 typed p.1),
     )
 
-pub reduced_to_itself : (model : Model) (s t : Specification) → t ≡ s → IsNormal model s → IsReducedTo model s (record { spaces = 0; zeros = 0; core = Normal t; trail = 0 })
-reduced_to_itself model s t e normal =
-    let r : Reduced = record { spaces = 0; zeros = 0; core = Normal t; trail = 0 } in
+pub reduced_to_itself : (model : Model) (s : Specification) (n : NormalDirective)
+    → n ≡ record { model = model; specification = s } → IsNormal model s
+    → IsReducedTo model s (record { spaces = 0; zeros = 0; core = Normal n; trail = 0 })
+reduced_to_itself model s n made normal =
+    let e : n.specification ≡ s = ap (λ m. m.specification) made in
+    let r : Reduced = record { spaces = 0; zeros = 0; core = Normal n; trail = 0 } in
     let carries : Carries model s r = λ argument inner typed p. subst (Prints model s argument) (sym (append-nil inner)) (subst (λ u. Prints model u argument inner) e p) in
     record {
-      normal = subst (IsNormal model) (sym e) normal;
+      normal = (ap (λ m. m.model) made, subst (IsNormal model) (sym e) normal);
       same_type = ap (arg_type model) e;
       prints = prints_reduced model s r (ap (arg_type model) e) carries;
       silent = λ x. cc;

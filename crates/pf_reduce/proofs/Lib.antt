@@ -1,3 +1,4 @@
+mod NormalCores
 mod Paddings
 mod SignLemmas
 mod Carried

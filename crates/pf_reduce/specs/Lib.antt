@@ -1,3 +1,4 @@
+pub mod NormalValues
 pub mod Reducing
 pub mod NormalParts
 pub mod Padded

@@ -32,6 +32,9 @@ abbrev pub result_within : Model → Specification → Padding → FlagSet → O
 result_within model s p flags precision = record {
   spaces = p.spaces;
   zeros = p.zeros;
-  core = Normal (core_within model s p flags precision);
+  core = Normal (record {
+    model = model;
+    specification = core_within model s p flags precision;
+  });
   trail = p.trail;
 }

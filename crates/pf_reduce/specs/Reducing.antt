@@ -15,12 +15,12 @@ use Rattle.pf_reduce.specs.declared.results.Reduced.{Reduced}
 
 -- the directive of a core
 abbrev pub core_of : Core → Specification
-core_of (Normal s) = s
+core_of (Normal n) = n.specification
 core_of Silent = silent
 
--- the core is normal, or `%.0s`
+-- the core is normal in the data model that it names, or `%.0s`
 abbrev pub IsNormalCore : Model → Core → Type 0
-IsNormalCore model (Normal s) = IsNormal model s
+IsNormalCore model (Normal n) = (n.model ≡ model) × IsNormal model n.specification
 IsNormalCore model Silent = ⊤
 
 -- a text within spaces, after zeros

@@ -11,7 +11,6 @@ ghost use Rattle.pf_values.specs.Conversions.{
   kind_of,
 };
 ghost use Rattle.pf_values.specs.Flags.{has, no_flags, with_flag};
-ghost use Rattle.pf_values.specs.declared.models.Model.TheVariants.{Lp64};
 ghost use Rattle.pf_values.specs.Normal.{digits_at_most};
 ghost use Rattle.pf_values.specs.Printing.{is_zero_filled};
 ghost use Rattle.pf_values.specs.Specification.{width_of};
@@ -27,33 +26,37 @@ use crate::numbers::{max_digits, width};
 use crate::padding::Padding;
 use crate::results::Reduced;
 use crate::signs::Sign;
-use pf_values::{Alternative, Directive, Flag, FlagSet};
+use pf_values::{Alternative, Directive, Flag, FlagSet, Model};
 
 /// `u o x X`, by what the flag `#` does.
-pub(crate) fn reduce_unsigned(directive: &Directive, alternative: Alternative) -> Reduced
+pub(crate) fn reduce_unsigned(
+    model: Model,
+    directive: &Directive,
+    alternative: Alternative,
+) -> Reduced
     requires text { is_text directive.now.conv ≡ false }
     requires sign { is_signed directive.now.conv ≡ false }
     requires alternative { alternative ≡ alternative_under (kind_of directive.now.conv) }
-    ensures { IsReducedTo Lp64 directive.now result }
+    ensures { IsReducedTo model directive.now result }
 {
     let alt = directive.flags().has(Flag::Alt);
     match alternative {
-        Alternative::Raised if alt => reduce_octal(directive),
-        Alternative::Prefixed if alt => reduce_prefixed(directive),
+        Alternative::Raised if alt => reduce_octal(model, directive),
+        Alternative::Prefixed if alt => reduce_prefixed(model, directive),
         Alternative::Undefined | Alternative::Raised | Alternative::Prefixed => {
-            reduce_plain(directive)
+            reduce_plain(model, directive)
         }
     }
 }
 
 // `u`, and `o x X` without `#`: digits alone.
-fn reduce_plain(directive: &Directive) -> Reduced
+fn reduce_plain(model: Model, directive: &Directive) -> Reduced
     requires text { is_text directive.now.conv ≡ false }
     requires sign { is_signed directive.now.conv ≡ false }
     requires alt { has directive.now.flags Alt ≡ false }
-    ensures { IsReducedTo Lp64 directive.now result }
+    ensures { IsReducedTo model directive.now result }
 {
-    let digits = max_digits(directive);
+    let digits = max_digits(model, directive);
     let precision = directive.effective_precision(0);
     let zeros = precision.saturating_sub(digits);
     let padding = Padding::of(directive)
@@ -61,16 +64,16 @@ fn reduce_plain(directive: &Directive) -> Reduced
         .without_idle_width(precision)
         .past_zeros(zeros)
         .right_up_to(1);
-    plain_core(padding, directive, precision - zeros)
+    plain_core(model, padding, directive, precision - zeros)
 }
 
 // `o` with `#`: digits that begin with 0.
-fn reduce_octal(directive: &Directive) -> Reduced
+fn reduce_octal(model: Model, directive: &Directive) -> Reduced
     requires octal { is_octal directive.now.conv ≡ true }
     requires alt { has directive.now.flags Alt ≡ true }
-    ensures { IsReducedTo Lp64 directive.now result }
+    ensures { IsReducedTo model directive.now result }
 {
-    let digits = max_digits(directive);
+    let digits = max_digits(model, directive);
     let precision = directive.effective_precision(0).max(1);
     let padding = Padding::of(directive)
         .cut(precision.max(digits + 1))
@@ -78,42 +81,42 @@ fn reduce_octal(directive: &Directive) -> Reduced
     if padding.has_spaces_before() {
         // they come before the first 0, which the core has to print
         let alt = FlagSet::empty().with(Flag::Alt);
-        return within(padding, directive, alt, kept_precision(precision));
+        return within(model, padding, directive, alt, kept_precision(precision));
     }
     let zeros = 1 + (precision - 1).saturating_sub(digits);
     let padding = padding.past_zeros(zeros).right_up_to(1);
-    plain_core(padding, directive, precision - zeros)
+    plain_core(model, padding, directive, precision - zeros)
 }
 
 // `x X` with `#`: digits after a prefix of two letters.
-fn reduce_prefixed(directive: &Directive) -> Reduced
+fn reduce_prefixed(model: Model, directive: &Directive) -> Reduced
     requires prefixed { is_prefixed directive.now.conv ≡ true }
     requires alt { has directive.now.flags Alt ≡ true }
-    ensures { IsReducedTo Lp64 directive.now result }
+    ensures { IsReducedTo model directive.now result }
 {
     if keeps_zeros(directive, 0) {
         let flags = FlagSet::empty().with(Flag::Alt).with(Flag::Zero);
-        return within(Padding::of(directive), directive, flags, None);
+        return within(model, Padding::of(directive), directive, flags, None);
     }
     let precision = directive.effective_precision(0);
     let padding = Padding::of(directive)
-        .cut(2 + precision.max(max_digits(directive)))
+        .cut(2 + precision.max(max_digits(model, directive)))
         .without_idle_width(precision)
         .right_up_to(unseen_width(precision, 3));
-    prefixed_core(padding, directive, precision)
+    prefixed_core(model, padding, directive, precision)
 }
 
 /// `d i`: digits after a sign.
-pub(crate) fn reduce_signed(directive: &Directive) -> Reduced
+pub(crate) fn reduce_signed(model: Model, directive: &Directive) -> Reduced
     requires { is_signed directive.now.conv ≡ true }
-    ensures { IsReducedTo Lp64 directive.now result }
+    ensures { IsReducedTo model directive.now result }
 {
     let sign = Sign::of(directive.flags());
     if keeps_zeros(directive, sign.len()) {
         let flags = FlagSet::empty().with(Flag::Zero);
-        return within(Padding::of(directive), directive, flags, None);
+        return within(model, Padding::of(directive), directive, flags, None);
     }
-    let digits = max_digits(directive);
+    let digits = max_digits(model, directive);
     let precision = directive.effective_precision(sign.len());
     let padding = Padding::of(directive)
         .cut(1 + precision.max(digits))
@@ -122,22 +125,23 @@ pub(crate) fn reduce_signed(directive: &Directive) -> Reduced
     let padding = padding
         .without_idle_width(sign.len() + precision)
         .right_up_to(unseen_signed_width(precision, sign));
-    signed_core(padding, directive, sign, precision)
+    signed_core(model, padding, directive, sign, precision)
 }
 
 // Digits alone.
-fn plain_core(padding: Padding, directive: &Directive, precision: u16) -> Reduced
+fn plain_core(model: Model, padding: Padding, directive: &Directive, precision: u16) -> Reduced
     requires text { is_text directive.now.conv ≡ false }
     requires sign { is_signed directive.now.conv ≡ false }
-    requires few { precision ≤ digits_at_most Lp64 directive.now }
+    requires few { precision ≤ digits_at_most model directive.now }
     requires room { 0 < padding.width
-        → (precision < padding.width) × (padding.width ≤ digits_at_most Lp64 directive.now) }
+        → (precision < padding.width) × (padding.width ≤ digits_at_most model directive.now) }
     requires wide { IsTrue padding.left → 1 < padding.width }
     ensures value { result
-        ≡ result_within Lp64 directive.now padding no_flags (kept_precision precision) }
-    ensures normal { IsNormalCore Lp64 result.core }
+        ≡ result_within model directive.now padding no_flags (kept_precision precision) }
+    ensures normal { IsNormalCore model result.core }
 {
     within(
+        model,
         padding,
         directive,
         FlagSet::empty(),
@@ -146,40 +150,52 @@ fn plain_core(padding: Padding, directive: &Directive, precision: u16) -> Reduce
 }
 
 // Digits after a prefix, not filled with zeros.
-fn prefixed_core(padding: Padding, directive: &Directive, precision: u16) -> Reduced
+fn prefixed_core(model: Model, padding: Padding, directive: &Directive, precision: u16) -> Reduced
     requires prefixed { is_prefixed directive.now.conv ≡ true }
     requires limit { (padding.width ≤ MAX_NUMBER) × (precision ≤ MAX_NUMBER) }
     requires least { 0 < padding.width → precision < padding.width }
-    requires most { padding.width ≤ 2 + max precision (digits_at_most Lp64 directive.now) }
+    requires most { padding.width ≤ 2 + max precision (digits_at_most model directive.now) }
     requires left { padding.left ≡ true
         → (0 < padding.width) × (precision ≡ 0 → 3 < padding.width) }
     ensures value { result
-        ≡ result_within Lp64 directive.now padding (with_flag no_flags Alt)
+        ≡ result_within model directive.now padding (with_flag no_flags Alt)
         (kept_precision precision) }
-    ensures normal { IsNormalCore Lp64 result.core }
+    ensures normal { IsNormalCore model result.core }
 {
     let alt = FlagSet::empty().with(Flag::Alt);
-    within(padding, directive, alt, kept_precision(precision))
+    within(model, padding, directive, alt, kept_precision(precision))
 }
 
 // Digits after a sign, not filled with zeros.
-fn signed_core(padding: Padding, directive: &Directive, sign: Sign, precision: u16) -> Reduced
+fn signed_core(
+    model: Model,
+    padding: Padding,
+    directive: &Directive,
+    sign: Sign,
+    precision: u16,
+) -> Reduced
     requires signed { is_signed directive.now.conv ≡ true }
     requires limit { (padding.width ≤ MAX_NUMBER) × (precision ≤ MAX_NUMBER) }
     requires least { 0 < padding.width → sign_length sign + precision < padding.width }
-    requires most { padding.width ≤ 1 + max precision (digits_at_most Lp64 directive.now) }
+    requires most { padding.width ≤ 1 + max precision (digits_at_most model directive.now) }
     requires space { padding.left ≡ false → sign ≡ signs.Space
-        → padding.width ≢ 1 + max precision (digits_at_most Lp64 directive.now) }
+        → padding.width ≢ 1 + max precision (digits_at_most model directive.now) }
     requires none { padding.left ≡ false → sign ≡ signs.None
-        → digits_at_most Lp64 directive.now ≤ precision
-        → padding.width ≢ 1 + max precision (digits_at_most Lp64 directive.now) }
+        → digits_at_most model directive.now ≤ precision
+        → padding.width ≢ 1 + max precision (digits_at_most model directive.now) }
     requires left { padding.left ≡ true → (0 < padding.width)
         × (sign ≢ signs.Plus → precision ≡ 0 → sign_length sign + 1 < padding.width) }
     ensures value { result
-        ≡ result_within Lp64 directive.now padding (sign_flags sign) (kept_precision precision) }
-    ensures normal { IsNormalCore Lp64 result.core }
+        ≡ result_within model directive.now padding (sign_flags sign) (kept_precision precision) }
+    ensures normal { IsNormalCore model result.core }
 {
-    within(padding, directive, sign.flags(), kept_precision(precision))
+    within(
+        model,
+        padding,
+        directive,
+        sign.flags(),
+        kept_precision(precision),
+    )
 }
 
 // Whether the zeros up to the width stay a matter of the width. Beside a sign, which each number

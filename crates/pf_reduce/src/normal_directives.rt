@@ -1,7 +1,6 @@
 //! Normal directives made of their parts.
 ghost use Rattle.std.specs.Prelude.{◌≡◌};
 ghost use Rattle.pf_values.specs.Defined.{IsDefined};
-ghost use Rattle.pf_values.specs.declared.models.Model.TheVariants.{Lp64};
 ghost use Rattle.pf_values.specs.Normal.{IsNormal};
 ghost use Rattle.pf_values.specs.Specification.{specification_of};
 ghost use Rattle.pf_reduce.specs.Made.{result_within, core_within, kept_precision};
@@ -9,7 +8,7 @@ ghost use Rattle.pf_reduce.specs.Reducing.{IsNormalCore};
 
 use crate::padding::Padding;
 use crate::results::{Core, Normal, Reduced};
-use pf_values::{Conv, Directive, Flag, FlagSet, Length};
+use pf_values::{Conv, Directive, Flag, FlagSet, Length, Model};
 
 fn new_directive(
     flags: FlagSet,
@@ -29,27 +28,28 @@ fn new_directive(
 
 /// The directive with these flags and this precision, in this padding.
 pub(crate) fn within(
+    model: Model,
     padding: Padding,
     directive: &Directive,
     flags: FlagSet,
     precision: Option<u16>,
 ) -> Reduced
-    requires { IsNormal Lp64 (core_within Lp64 directive.now padding flags precision) }
-    ensures value { result ≡ result_within Lp64 directive.now padding flags precision }
-    ensures normal { IsNormalCore Lp64 result.core }
+    requires { IsNormal model (core_within model directive.now padding flags precision) }
+    ensures value { result ≡ result_within model directive.now padding flags precision }
+    ensures normal { IsNormalCore model result.core }
 {
     let flags = if padding.left {
         flags.with(Flag::Minus)
     } else {
         flags
     };
-    let length = directive.length().representative();
+    let length = directive.length().representative(model);
     let conv = directive.conv().representative();
     let core = new_directive(flags, padding.width, precision, length, conv);
     Reduced {
         spaces: padding.spaces,
         zeros: padding.zeros,
-        core: Core::Normal(Normal::new(core)),
+        core: Core::Normal(Normal::new(model, core)),
         trail: padding.trail,
     }
 }

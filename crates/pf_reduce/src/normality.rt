@@ -1,7 +1,6 @@
 //! Which directives are normal.
 ghost use Rattle.std.specs.Prelude.{◌≡◌, ◌↔◌, IsTrue};
 ghost use Rattle.pf_values.specs.Defined.{IsDefined};
-ghost use Rattle.pf_values.specs.declared.models.Model.TheVariants.{Lp64};
 ghost use Rattle.pf_values.specs.Normal.{
   IsNormal,
   IsNormalString,
@@ -19,24 +18,24 @@ ghost use Rattle.pf_values.specs.Conversions.{kind_of};
 ghost use Rattle.pf_values.specs.Flags.{no_flags};
 
 use crate::numbers::{longest, max_digits, precision, sign_len, width};
-use pf_values::{Alternative, Directive, Flag, FlagSet, Kind};
+use pf_values::{Alternative, Directive, Flag, FlagSet, Kind, Model};
 
-/// Whether a directive is normal. `reduce` leaves a normal directive as it is.
-pub fn is_normal(directive: &Directive) -> bool
-    ensures { IsTrue result ↔ IsNormal Lp64 directive.now }
+/// Whether a directive is normal in this data model. `reduce` leaves a normal directive as it is.
+pub fn is_normal(model: Model, directive: &Directive) -> bool
+    ensures { IsTrue result ↔ IsNormal model directive.now }
 {
-    has_normal_parts(directive) && has_normal_form(directive)
+    has_normal_parts(model, directive) && has_normal_form(model, directive)
 }
 
-fn has_normal_parts(directive: &Directive) -> bool
-    ensures parts { IsTrue result ↔ HasNormalParts Lp64 directive.now }
+fn has_normal_parts(model: Model, directive: &Directive) -> bool
+    ensures parts { IsTrue result ↔ HasNormalParts model directive.now }
     ensures defined { IsDefined directive.now }
 {
     let flags = directive.flags();
     let conv = directive.conv();
     let length = directive.length();
     if flags.has(Flag::Group)
-        || length.representative() != length
+        || length.representative(model) != length
         || conv.representative() != conv
     {
         return false;
@@ -48,37 +47,37 @@ fn has_normal_parts(directive: &Directive) -> bool
     directive.precision() != Some(1) || matches!(kind, Kind::String)
 }
 
-fn has_normal_form(directive: &Directive) -> bool
-    ensures { IsTrue result ↔ HasNormalForm Lp64 (kind_of directive.now.conv) directive.now }
+fn has_normal_form(model: Model, directive: &Directive) -> bool
+    ensures { IsTrue result ↔ HasNormalForm model (kind_of directive.now.conv) directive.now }
 {
     match directive.conv().kind() {
-        Kind::Signed => has_signed_form(directive),
-        Kind::Unsigned(base, _) => has_unsigned_form(directive, base.alternative()),
+        Kind::Signed => has_signed_form(model, directive),
+        Kind::Unsigned(base, _) => has_unsigned_form(model, directive, base.alternative()),
         Kind::Char => is_bare(directive),
         Kind::String => is_normal_string(directive),
     }
 }
 
-fn has_signed_form(directive: &Directive) -> bool
-    ensures { IsTrue result ↔ HasSignedForm Lp64 directive.now }
+fn has_signed_form(model: Model, directive: &Directive) -> bool
+    ensures { IsTrue result ↔ HasSignedForm model directive.now }
 {
     if directive.flags().has(Flag::Zero) {
         return is_normal_filled(directive) && sign_len(directive) == 0;
     }
-    is_normal_signed(directive)
+    is_normal_signed(model, directive)
 }
 
-fn has_unsigned_form(directive: &Directive, alternative: Alternative) -> bool
-    ensures { IsTrue result ↔ HasUnsignedForm Lp64 alternative directive.now }
+fn has_unsigned_form(model: Model, directive: &Directive, alternative: Alternative) -> bool
+    ensures { IsTrue result ↔ HasUnsignedForm model alternative directive.now }
 {
     let alt = directive.flags().has(Flag::Alt);
     let zero = directive.flags().has(Flag::Zero);
     match alternative {
-        Alternative::Raised if alt => is_normal_octal(directive),
+        Alternative::Raised if alt => is_normal_octal(model, directive),
         Alternative::Prefixed if alt && zero => is_normal_filled(directive),
-        Alternative::Prefixed if alt => is_normal_prefixed(directive),
+        Alternative::Prefixed if alt => is_normal_prefixed(model, directive),
         Alternative::Undefined | Alternative::Raised | Alternative::Prefixed => {
-            is_normal_plain(directive)
+            is_normal_plain(model, directive)
         }
     }
 }
@@ -106,12 +105,12 @@ fn is_normal_string(directive: &Directive) -> bool
     }
 }
 
-fn is_normal_plain(directive: &Directive) -> bool
-    ensures { IsTrue result ↔ IsNormalPlain Lp64 directive.now }
+fn is_normal_plain(model: Model, directive: &Directive) -> bool
+    ensures { IsTrue result ↔ IsNormalPlain model directive.now }
 {
     let width = width(directive);
     let precision = precision(directive);
-    let digits = max_digits(directive);
+    let digits = max_digits(model, directive);
     if directive.flags().has(Flag::Zero) || precision > digits {
         return false;
     }
@@ -124,12 +123,12 @@ fn is_normal_plain(directive: &Directive) -> bool
     !directive.flags().has(Flag::Minus) || precision != 0 || width != 1
 }
 
-fn is_normal_octal(directive: &Directive) -> bool
-    ensures { IsTrue result ↔ IsNormalOctal Lp64 directive.now }
+fn is_normal_octal(model: Model, directive: &Directive) -> bool
+    ensures { IsTrue result ↔ IsNormalOctal model directive.now }
 {
     let width = width(directive);
     let precision = precision(directive);
-    let digits = max_digits(directive);
+    let digits = max_digits(model, directive);
     if directive.flags().has(Flag::Minus) || directive.flags().has(Flag::Zero) {
         return false;
     }
@@ -142,22 +141,22 @@ fn is_normal_filled(directive: &Directive) -> bool
     !directive.flags().has(Flag::Minus) && directive.precision().is_none() && width(directive) >= 2
 }
 
-fn is_normal_prefixed(directive: &Directive) -> bool
-    ensures { IsTrue result ↔ IsNormalPrefixed Lp64 directive.now }
+fn is_normal_prefixed(model: Model, directive: &Directive) -> bool
+    ensures { IsTrue result ↔ IsNormalPrefixed model directive.now }
 {
     let width = width(directive);
     let precision = precision(directive);
     if width == 0 {
         return !directive.flags().has(Flag::Minus);
     }
-    if width <= precision || width > 2 + longest(directive) {
+    if width <= precision || width > 2 + longest(model, directive) {
         return false;
     }
     !directive.flags().has(Flag::Minus) || precision != 0 || width > 3
 }
 
-fn is_normal_signed(directive: &Directive) -> bool
-    ensures { IsTrue result ↔ IsNormalSigned Lp64 directive.now }
+fn is_normal_signed(model: Model, directive: &Directive) -> bool
+    ensures { IsTrue result ↔ IsNormalSigned model directive.now }
 {
     let plus = directive.flags().has(Flag::Plus);
     let space = directive.flags().has(Flag::Space);
@@ -165,7 +164,7 @@ fn is_normal_signed(directive: &Directive) -> bool
     let width = width(directive);
     let precision = precision(directive);
     let sign = sign_len(directive);
-    let full = 1 + longest(directive);
+    let full = 1 + longest(model, directive);
     if plus && space {
         return false;
     }
@@ -178,5 +177,5 @@ fn is_normal_signed(directive: &Directive) -> bool
     if left {
         return plus || precision != 0 || width > sign + 1;
     }
-    width != full || !(space || sign == 0 && precision >= max_digits(directive))
+    width != full || !(space || sign == 0 && precision >= max_digits(model, directive))
 }

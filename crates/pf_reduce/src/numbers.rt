@@ -1,12 +1,11 @@
 //! The numbers of a directive that reduction rests on.
 ghost use Rattle.std.specs.Prelude.{◌≡◌, ◌≤◌};
 ghost use Rattle.pf_values.specs.declared.limits.TheConstants.{MAX_NUMBER};
-ghost use Rattle.pf_values.specs.declared.models.Model.TheVariants.{Lp64};
 ghost use Rattle.pf_values.specs.Normal.{digits_at_most, longest, precision_of, sign_len};
 ghost use Rattle.pf_values.specs.Specification.{width_of};
 
 use crate::signs::Sign;
-use pf_values::Directive;
+use pf_values::{Directive, Model};
 
 /// The field width, 0 for none.
 pub(crate) fn width(directive: &Directive) -> u16
@@ -25,19 +24,19 @@ pub(crate) fn precision(directive: &Directive) -> u16
 }
 
 /// The most digits that the value has.
-pub(crate) fn max_digits(directive: &Directive) -> u16
-    ensures value { result ≡ digits_at_most Lp64 directive.now }
+pub(crate) fn max_digits(model: Model, directive: &Directive) -> u16
+    ensures value { result ≡ digits_at_most model directive.now }
     ensures limit { result ≤ 255 }
 {
-    u16::from(directive.max_digits())
+    u16::from(directive.max_digits(model))
 }
 
 /// The most digits that are printed.
-pub(crate) fn longest(directive: &Directive) -> u16
-    ensures value { result ≡ longest Lp64 directive.now }
+pub(crate) fn longest(model: Model, directive: &Directive) -> u16
+    ensures value { result ≡ longest model directive.now }
     ensures limit { result ≤ MAX_NUMBER }
 {
-    precision(directive).max(max_digits(directive))
+    precision(directive).max(max_digits(model, directive))
 }
 
 /// The length of the sign that the flags ask for.

@@ -1,6 +1,5 @@
 //! Reduction of a directive.
 ghost use Rattle.std.specs.Prelude.{◌≡◌};
-ghost use Rattle.pf_values.specs.declared.models.Model.TheVariants.{Lp64};
 ghost use Rattle.pf_values.specs.Normal.{IsNormal, silent};
 ghost use Rattle.pf_reduce.specs.Reducing.{IsReducedTo};
 
@@ -8,30 +7,35 @@ use crate::integers::{reduce_signed, reduce_unsigned};
 use crate::normality::is_normal;
 use crate::results::{Core, Normal, Reduced};
 use crate::texts::{reduce_char, reduce_string};
-use pf_values::{Directive, Kind};
+use pf_values::{Directive, Kind, Model};
 
 /// The padding and the normal core that print what the directive prints (C11 7.21.6.1, paragraphs 4
-/// to 8), for each argument of its type. A normal directive is its own core, and `%.0s` is
+/// to 8), for each argument of its type in this data model. A normal directive is its own core, and `%.0s` is
 /// `Silent`.
-pub fn reduce(directive: &Directive) -> Reduced
-    ensures same { IsReducedTo Lp64 directive.now result }
-    ensures kept { IsNormal Lp64 directive.now
-        → result ≡ record { spaces = 0; zeros = 0; core = Core.Normal directive.now; trail = 0 } }
+pub fn reduce(model: Model, directive: &Directive) -> Reduced
+    ensures same { IsReducedTo model directive.now result }
+    ensures kept { IsNormal model directive.now
+        → result ≡ record {
+          spaces = 0;
+          zeros = 0;
+          core = Core.Normal (record { model = model; specification = directive.now });
+          trail = 0;
+        } }
     ensures silent { directive.now ≡ silent
         → result ≡ record { spaces = 0; zeros = 0; core = Core.Silent; trail = 0 } }
 {
-    if is_normal(directive) {
+    if is_normal(model, directive) {
         return Reduced {
             spaces: 0,
             zeros: 0,
-            core: Core::Normal(Normal::new(*directive)),
+            core: Core::Normal(Normal::new(model, *directive)),
             trail: 0,
         };
     }
     match directive.conv().kind() {
-        Kind::Signed => reduce_signed(directive),
-        Kind::Unsigned(base, _) => reduce_unsigned(directive, base.alternative()),
-        Kind::Char => reduce_char(directive),
-        Kind::String => reduce_string(directive),
+        Kind::Signed => reduce_signed(model, directive),
+        Kind::Unsigned(base, _) => reduce_unsigned(model, directive, base.alternative()),
+        Kind::Char => reduce_char(model, directive),
+        Kind::String => reduce_string(model, directive),
     }
 }

@@ -2,25 +2,25 @@
 use pf_values::Directive;
 use std::marker::Model;
 
-/// A directive that is normal, as `IsNormal` of `pf_values` says. There is no way to make one that
-/// isn't.
+/// A directive that is normal in a data model, as `IsNormal` of `pf_values` says. There is no way to
+/// make one that isn't.
 #[derive(Clone, Copy, Debug, PartialEq, Eq)]
 pub struct Normal {
+    model: pf_values::Model,
     directive: Directive,
 }
 
 impl Model for Normal {
-    ghost use Rattle.pf_values.specs.Specification.{Specification};
-    ghost use Rattle.pf_values.specs.declared.models.Model.TheVariants.{Lp64};
     ghost use Rattle.pf_values.specs.Normal.{IsNormal};
+    ghost use Rattle.pf_reduce.specs.NormalValues.{NormalDirective};
 
-    ghost Value = { Specification };
+    ghost Value = { NormalDirective };
 
-    ghost view = { λ n. n.directive };
+    ghost view = { λ n. record { model = n.model; specification = n.directive } };
 
-    ghost invariant = { λ n. IsNormal Lp64 n.directive };
+    ghost invariant = { λ n. IsNormal n.model n.directive };
 
-    ghost inverse = { λ n. record { directive = n } };
+    ghost inverse = { λ n. record { model = n.model; directive = n.specification } };
 }
 
 /// What is left of a directive beside its constant padding.
@@ -48,21 +48,27 @@ pub struct Reduced {
 
 impl Normal {
     ghost use Rattle.std.specs.Prelude.{◌≡◌};
-    ghost use Rattle.pf_values.specs.declared.models.Model.TheVariants.{Lp64};
     ghost use Rattle.pf_values.specs.Normal.{IsNormal};
+
+    /// The data model in which it is normal.
+    pub fn model(&self) -> pf_values::Model
+        ensures { result ≡ self.now.model }
+    {
+        self.model
+    }
 
     /// The directive.
     pub fn directive(&self) -> Directive
-        ensures value { result ≡ self.now }
-        ensures normal { IsNormal Lp64 self.now }
+        ensures value { result ≡ self.now.specification }
+        ensures normal { IsNormal self.now.model self.now.specification }
     {
         self.directive
     }
 
-    pub(crate) fn new(directive: Directive) -> Normal
-        requires { IsNormal Lp64 directive }
-        ensures { result ≡ directive }
+    pub(crate) fn new(model: pf_values::Model, directive: Directive) -> Normal
+        requires { IsNormal model directive }
+        ensures { result ≡ record { model = model; specification = directive } }
     {
-        Normal { directive }
+        Normal { model, directive }
     }
 }

@@ -2,7 +2,7 @@
 mod grid;
 
 use crate::{Core, is_normal, reduce};
-use pf_values::{Conv, Directive, Flag, FlagSet, Length, RefusalKind};
+use pf_values::{Conv, Directive, Flag, FlagSet, Length, Model, RefusalKind};
 use std::process::Abort;
 
 fn with_digit(number: Option<u16>, digit: u8) -> Option<u16> {
@@ -136,7 +136,7 @@ fn directive_of(core: Core) -> Option<Directive> {
 
 fn check_row(rt: &impl Abort, row: Row) {
     let (given, spaces, zeros, core, trail) = row;
-    let reduced = reduce(&parse(rt, given));
+    let reduced = reduce(Model::Lp64, &parse(rt, given));
     assert_eq!(rt; reduced.spaces, spaces, "{given}");
     assert_eq!(rt; reduced.zeros, zeros, "{given}");
     let found = directive_of(reduced.core).unwrap_or(parse(rt, "%.0s"));
@@ -173,16 +173,19 @@ fn nothing_is_silent_but_a_string_of_no_bytes(rt: HostRuntime) {
         ("%.1s", false),
         ("%.0d", false),
     ] {
-        let reduced = reduce(&parse(&rt, text));
+        let reduced = reduce(Model::Lp64, &parse(&rt, text));
         assert_eq!(rt; directive_of(reduced.core).is_none(), silent, "{text}");
-        assert!(rt; !silent || !is_normal(&parse(&rt, text)), "{text}");
+        assert!(rt;
+            !silent || !is_normal(Model::Lp64, &parse(&rt, text)),
+            "{text}"
+        );
     }
 }
 
 // The caller in CALLING.md that `crates/uses` doesn't have. It calls `directive_of`.
 fn reduced_char(width: u16) -> Result<(u16, Option<Directive>), RefusalKind> {
     let directive = Directive::new(FlagSet::empty(), Some(width), None, Length::None, Conv::C)?;
-    let reduced = reduce(&directive);
+    let reduced = reduce(Model::Lp64, &directive);
     Ok((reduced.spaces, directive_of(reduced.core)))
 }
 

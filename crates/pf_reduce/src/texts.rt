@@ -5,31 +5,30 @@ ghost use Rattle.pf_values.specs.Printing.{printed_front};
 ghost use Rattle.pf_values.specs.Specification.{width_of};
 ghost use Rattle.pf_values.specs.Text.{Text};
 ghost use Rattle.pf_reduce.specs.Padded.{constants, with_padding};
-ghost use Rattle.pf_values.specs.declared.models.Model.TheVariants.{Lp64};
 ghost use Rattle.pf_reduce.specs.Reducing.{IsReducedTo};
 
 use crate::normal_directives::within;
 use crate::numbers::width;
 use crate::padding::Padding;
 use crate::results::{Core, Reduced};
-use pf_values::{Directive, FlagSet};
+use pf_values::{Directive, FlagSet, Model};
 
 /// `c`: one byte.
-pub(crate) fn reduce_char(directive: &Directive) -> Reduced
+pub(crate) fn reduce_char(model: Model, directive: &Directive) -> Reduced
     requires { directive.now.conv ≡ C }
-    ensures { IsReducedTo Lp64 directive.now result }
+    ensures { IsReducedTo model directive.now result }
 {
     let padding = Padding::of(directive)
         .cut(1)
         .without_idle_width(1)
         .right_up_to(0);
-    within(padding, directive, FlagSet::empty(), None)
+    within(model, padding, directive, FlagSet::empty(), None)
 }
 
 /// `s`: bytes, no more than the precision says.
-pub(crate) fn reduce_string(directive: &Directive) -> Reduced
+pub(crate) fn reduce_string(model: Model, directive: &Directive) -> Reduced
     requires { directive.now.conv ≡ S }
-    ensures same { IsReducedTo Lp64 directive.now result }
+    ensures same { IsReducedTo model directive.now result }
     ensures silent { directive.now.precision ≡ Some 0
         → result ≡ record {
           spaces = width_of directive.now;
@@ -48,7 +47,7 @@ pub(crate) fn reduce_string(directive: &Directive) -> Reduced
         };
     }
     let padding = cut_string(Padding::of(directive), precision).right_up_to(1);
-    within(padding, directive, FlagSet::empty(), precision)
+    within(model, padding, directive, FlagSet::empty(), precision)
 }
 
 // A width within the precision.

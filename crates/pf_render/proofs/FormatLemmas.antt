@@ -39,7 +39,7 @@ module _ (model : Model) (t : Text) (args : List Arg) (h : TakesArguments model 
     renders_items out prints =
         let here = subst (λ i. PrintsAll model i (arguments args) out) same_items prints in
         let typed = subst (λ i. HasTypes model (arguments args) (types model i)) same_items typed_items in
-        record { takes = h.takes; prints = here; only = λ other g. PrintsAll-unique model h.takes.items (arguments args) out other typed here g }
+        record { takes = h.takes; typed = h.typed; prints = here; only = λ other g. PrintsAll-unique model h.takes.items (arguments args) out other typed here g }
 
   -- it prints something
   pub renders : (out : Text) × Renders model t args out

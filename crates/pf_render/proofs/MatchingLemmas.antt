@@ -1,9 +1,9 @@
 -- How a tally goes on, and what it says at the end.
-use Rattle.std.proofs.Common.{◌≡◌, ◌≢◌, ℕ, zero, suc, ◌+◌, ◌<◌, ◌≤◌, List, [], ◌∷◌, ◌++◌, length, map, take, refl, sym, ap, ◌∙◌, subst, arith, inl, inr, Ok, Err, None, Result, Some}
+use Rattle.std.proofs.Common.{◌≡◌, ℕ, zero, suc, ◌+◌, ◌<◌, ◌≤◌, List, [], ◌∷◌, ◌++◌, length, map, take, refl, sym, ap, ◌∙◌, subst, arith, inl, inr, Ok, Err, None, Result, Some}
 use Rattle.std.specs.Prelude.{OnOk, slice_get}
 use Rattle.std.specs.List.{AllZip}
 use Rattle.std.proofs.lemmas.Bool.{cases_lt}
-use Rattle.std.proofs.lemmas.List.{append-nil, length_push, take_all, take-map, take-append-le}
+use Rattle.std.proofs.lemmas.List.{append-nil, length_push, take_all, take-append-le}
 use Rattle.pf_values.specs.declared.arguments.Arg.{Arg}
 use Rattle.pf_values.specs.declared.limits.TheConstants.{MAX_TEXT_LEN}
 use Rattle.pf_values.specs.declared.models.Model.{Model}
@@ -25,8 +25,8 @@ use Rattle.pf_text.specs.Signatures as signatures
 use Rattle.pf_render.specs.declared.kept.Kept.{Kept}
 use Rattle.pf_render.specs.declared.argument_lists.Tally.{Tally}
 use Rattle.pf_render.specs.Keeping.{Keeps, KeepsAll}
-use Rattle.pf_render.specs.Matching.{IsOfType, IsOfTypeAt, TakesArguments, Tallies}
-use Rattle.pf_render.specs.Rendering.{HasWrongType}
+use Rattle.pf_render.specs.Matching.{IsOfTypeAt, TakesArguments, Tallies}
+use Rattle.pf_render.specs.Rendering.{HasWrongType, IsOfType}
 use Rattle.pf_render.proofs.ItemLemmas.{length_items}
 
 abbrev pub Match : Model → List Arg → List ArgType → Type 0
@@ -61,12 +61,31 @@ get_before [] type i h = absurd (omega arith)
 get_before (t ∷ types) type zero h = refl
 get_before (t ∷ types) type (suc i) h = get_before types type i (omega arith)
 
-wrong_still : (args : List Arg) (types : List ArgType) (type : ArgType) (matched wanted : ℕ) → (matched < length types → slice_get (map type_of args) matched ≢ slice_get types matched) → wanted ≡ length types → matched ≤ length types
-    → (matched ≡ wanted → slice_get (map type_of args) matched ≢ Some type) → slice_get (map type_of args) matched ≢ slice_get (types ++ type ∷ []) matched
-wrong_still args types type matched wanted h e within other = elim (cases_lt matched (length types)) [
-  | inl less ↦ λ same. h less (same ∙ get_before types type matched less)
-  | inr most ↦ λ same. let here : matched ≡ length types = omega arith in other (here ∙ sym e) (same ∙ ap (slice_get (types ++ type ∷ [])) here ∙ get_push types type)
+-- the argument with this number, if there is one, is not of the type that is wanted there
+abbrev IsWrongAt : Model → List Arg → List ArgType → ℕ → Type 0
+IsWrongAt model args types index =
+    (type : ArgType) → slice_get types index ≡ Some type → IsOfTypeAt model args index type → ⊥
+
+wrong_still : (model : Model) (args : List Arg) (types : List ArgType) (wanted : ArgType) (matched count : ℕ) → IsWrongAt model args types matched → count ≡ length types → matched ≤ length types
+    → (matched ≡ count → IsOfTypeAt model args matched wanted → ⊥) → IsWrongAt model args (types ++ wanted ∷ []) matched
+wrong_still model args types wanted matched count h e within other = elim (cases_lt matched (length types)) [
+  | inl less ↦ λ type is. h type (sym (get_before types wanted matched less) ∙ is)
+  | inr most ↦ λ type is found.
+      let here : matched ≡ length types = omega arith in
+      let same : Some wanted ≡ Some type = sym (ap (slice_get (types ++ wanted ∷ [])) here ∙ get_push types wanted) ∙ is in
+      let last : wanted ≡ type = cc in
+      other (here ∙ sym e) (subst (IsOfTypeAt model args matched) (sym last) found)
 ]
+
+get_some : {A : Type 0} (xs : List A) (i : ℕ) → i < length xs → (x : A) × (slice_get xs i ≡ Some x)
+get_some [] i h = absurd (omega arith)
+get_some (x ∷ xs) zero h = (x, refl)
+get_some (x ∷ xs) (suc i) h = get_some xs i (omega arith)
+
+get_none : {A : Type 0} (xs : List A) (x : A) (i : ℕ) → length xs ≤ i → slice_get xs i ≡ Some x → ⊥
+get_none [] x i h e = cc
+get_none (y ∷ xs) x zero h e = omega arith
+get_none (y ∷ xs) x (suc i) h e = get_none xs x i (omega arith) e
 
 no_types : (model : Model) (piece : Piece) → ((d : Specification) → piece ≡ pieces.Directive d → ⊥) → types model (items_of piece) ≡ []
 no_types model (pieces.Literal run) other = types-bytes model run.now
@@ -86,30 +105,36 @@ module _ (model : Model) (args : List Arg) (types : List ArgType) (type : ArgTyp
         wanted_is = count;
         within = omega arith;
         matching = subst (λ n. Match model (take n args) (take n (types ++ type ∷ []))) (sym count) (subst (λ ts. Match model (take (length (types ++ type ∷ [])) args) ts) (sym (take_all (length (types ++ type ∷ [])) (types ++ type ∷ []) (omega arith))) more);
-        wrong = λ few. absurd (omega arith);
+        wrong = λ other is. absurd (get_none (types ++ type ∷ []) other (wanted + 1) (omega arith) is);
       }
 
   -- it is not, or one before it was not
-  pub tallies_unmatched : (wanted : ℕ) → Tallies model (record { wanted = wanted; matched = matched }) args types → (matched ≡ wanted → slice_get (map type_of args) matched ≢ Some type)
+  pub tallies_unmatched : (wanted : ℕ) → Tallies model (record { wanted = wanted; matched = matched }) args types → (matched ≡ wanted → IsOfTypeAt model args matched type → ⊥)
       → Tallies model (record { wanted = wanted + 1; matched = matched }) args (types ++ type ∷ [])
   tallies_unmatched wanted h other =
       record {
         wanted_is = omega (arith, h.wanted_is, length_push types type);
         within = omega (arith, h.within, length_push types type);
         matching = subst (λ ts. Match model (take matched args) ts) (sym (take-append-le matched types (type ∷ []) h.within)) h.matching;
-        wrong = λ few. wrong_still args types type matched wanted h.wrong h.wanted_is h.within other;
+        wrong = wrong_still model args types type matched wanted h.wrong h.wanted_is h.within other;
       }
 
 -- what so many arguments are, where the tally is of all types
 module _ (model : Model) (tally : Tally) (t : Text) (args : List Arg) (types : List ArgType) (h : Tallies model tally args types) (takes : signatures.TakesTypes model t types) (same : tally.wanted ≡ length args) where
   pub wrong_type : (tally.matched ≡ tally.wanted → ⊥) → HasWrongType model t args tally.matched
   wrong_type less =
-      let before : tally.matched < length types = omega (arith, h.within, h.wanted_is) in
+      let arg = get_some args tally.matched (omega (arith, h.within, h.wanted_is)) in
+      let wanted = get_some types tally.matched (omega (arith, h.within, h.wanted_is)) in
       record {
         types = types;
         takes = takes;
         same_count = sym same ∙ h.wanted_is;
-        first = record { same = take-map type_of tally.matched args ∙ types_matched model (take tally.matched args) (take tally.matched types) h.matching; differ = h.wrong before };
+        before = h.matching;
+        arg = arg.0;
+        wanted = wanted.0;
+        arg_is = arg.1;
+        wanted_is = wanted.1;
+        wrong = λ is. h.wrong wanted.0 wanted.1 (arg.0, arg.1, is);
       }
 
   pub all_matched : tally.matched ≡ tally.wanted → TakesArguments model t args
@@ -141,7 +166,7 @@ none_checked model pieces t args kept given keeps =
     record {
       types = [];
       found = record { read = []; items = []; given = given; types_are = refl };
-      tallies = record { wanted_is = refl; within = omega arith; matching = tt; wrong = λ less. absurd (omega arith) };
+      tallies = record { wanted_is = refl; within = omega arith; matching = tt; wrong = λ type is. cc };
       keeps = keeps;
     }
 

@@ -1,19 +1,15 @@
 -- How arguments match the types that are wanted.
-use Rattle.std.specs.Prelude.{◌≡◌, ◌≢◌, ℕ, ◌<◌, ◌≤◌, List, length, map, take, slice_get, Some}
+use Rattle.std.specs.Prelude.{◌≡◌, ℕ, ◌≤◌, List, length, map, take, slice_get, Some}
 use Rattle.std.specs.List.{AllZip}
 use Rattle.pf_values.specs.declared.arguments.Arg.{Arg}
 use Rattle.pf_values.specs.declared.models.Model.{Model}
 use Rattle.pf_values.specs.declared.types.ArgType.{ArgType}
 use Rattle.pf_values.specs.Arg.{argument_of, type_of}
-use Rattle.pf_values.specs.Arguments.{HasType, HasTypes}
+use Rattle.pf_values.specs.Arguments.{HasTypes}
 use Rattle.pf_values.specs.Text.{Text}
 use Rattle.pf_text.specs.Signatures as signatures
 use Rattle.pf_render.specs.declared.argument_lists.Tally.{Tally}
-
--- an argument is of a type; any other than that of its directive is undefined (C11 7.21.6.1 p9)
-pub record IsOfType (model : Model) (arg : Arg) (type : ArgType) : Type 0 where
-  pub same : type_of arg ≡ type
-  pub typed : HasType model (argument_of arg) type
+use Rattle.pf_render.specs.Rendering.{IsOfType}
 
 -- there is an argument with this number, and it is of a type
 abbrev pub IsOfTypeAt : Model → List Arg → ℕ → ArgType → Type 0
@@ -27,8 +23,8 @@ pub record Tallies (model : Model) (tally : Tally) (args : List Arg)
   pub wanted_is : tally.wanted ≡ length types
   pub within : tally.matched ≤ length types
   pub matching : AllZip (IsOfType model) (take tally.matched args) (take tally.matched types)
-  pub wrong : tally.matched < length types
-      → slice_get (map type_of args) tally.matched ≢ slice_get types tally.matched
+  pub wrong : (type : ArgType) → slice_get types tally.matched ≡ Some type
+      → IsOfTypeAt model args tally.matched type → ⊥
 
 -- an accepted text takes just these arguments (C11 7.21.6.1 p2, p9)
 pub record TakesArguments (model : Model) (t : Text) (args : List Arg) : Type 0 where

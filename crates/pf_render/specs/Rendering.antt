@@ -1,10 +1,12 @@
 -- What calls that render a format answer. The calls and their faults are this project's own.
-use Rattle.std.specs.Prelude.{◌≡◌, ◌≢◌, ℕ, ◌<◌, List, [], length, map, take, slice_get, Result, Ok, Err}
+use Rattle.std.specs.Prelude.{◌≡◌, ◌≢◌, ℕ, ◌<◌, List, [], length, map, take, slice_get, Some, Result, Ok, Err}
+use Rattle.std.specs.List.{AllZip}
 use Rattle.pf_values.specs.declared.arguments.Arg.{Arg}
 use Rattle.pf_values.specs.declared.counting.Counted.{Counted}
 use Rattle.pf_values.specs.declared.models.Model.{Model}
 use Rattle.pf_values.specs.declared.types.ArgType.{ArgType}
 use Rattle.pf_values.specs.Arg.{argument_of, type_of}
+use Rattle.pf_values.specs.Arguments.{HasType, HasTypes}
 use Rattle.pf_values.specs.Counting.{Known, WritesAll, WritesFirst}
 use Rattle.pf_values.specs.Printing.{PrintsAll}
 use Rattle.pf_values.specs.Refusals.{IsRefusedAt}
@@ -15,9 +17,15 @@ use Rattle.pf_render.specs.declared.faults.RenderFault.TheVariants as faults
 use Rattle.pf_render.specs.declared.faults.RenderVecFault.{RenderVecFault}
 use Rattle.pf_render.specs.declared.faults.RenderVecFault.TheVariants as vec_faults
 
+-- an argument is of a type; any other than that of its directive is undefined (C11 7.21.6.1 p9)
+pub record IsOfType (model : Model) (arg : Arg) (type : ArgType) : Type 0 where
+  pub same : type_of arg ≡ type
+  pub typed : HasType model (argument_of arg) type
+
 -- an accepted text prints this for arguments of its types, and nothing else (C11 7.21.6.1 p2, p3)
 pub record Renders (model : Model) (t : Text) (args : List Arg) (out : Text) : Type 0 where
   pub takes : TakesTypes model t (map type_of args)
+  pub typed : HasTypes model (map argument_of args) (map type_of args)
   pub prints : PrintsAll model takes.items (map argument_of args) out
   pub only : (other : Text) → PrintsAll model takes.items (map argument_of args) other → other ≡ out
 
@@ -40,13 +48,18 @@ pub record DifferFirstAt {A : Type 0} (xs ys : List A) (place : ℕ) : Type 0 wh
   pub same : take place xs ≡ take place ys
   pub differ : slice_get xs place ≢ slice_get ys place
 
--- an accepted text takes as many arguments, and this is the first one of another type
--- (C11 7.21.6.1 p9)
+-- an accepted text takes as many arguments, and this is the first one that is not of the type wanted
+-- there (C11 7.21.6.1 p9)
 pub record HasWrongType (model : Model) (t : Text) (args : List Arg) (index : ℕ) : Type 0 where
   pub types : List ArgType
   pub takes : TakesTypes model t types
   pub same_count : length args ≡ length types
-  pub first : DifferFirstAt (map type_of args) types index
+  pub before : AllZip (IsOfType model) (take index args) (take index types)
+  pub arg : Arg
+  pub wanted : ArgType
+  pub arg_is : slice_get args index ≡ Some arg
+  pub wanted_is : slice_get types index ≡ Some wanted
+  pub wrong : IsOfType model arg wanted → ⊥
 
 -- why nothing is written
 abbrev pub HindersRender : Model → Text → List Arg → RenderFault → Type 0

@@ -1,31 +1,31 @@
 //! Whether the arguments that are given are those that a format takes.
-ghost use Rattle.std.specs.Prelude.{◌≡◌, ◌≢◌, ◌≤◌, ◌++◌, ◌∷◌, [], List, length, map, IsTrue, IsFalse, slice_get, Some, OnOk, MatchResult};
+ghost use Rattle.std.specs.Prelude.{◌≡◌, ◌≤◌, ◌++◌, ◌∷◌, [], List, length, IsTrue, IsFalse, OnOk, MatchResult};
 ghost use Rattle.pf_values.specs.declared.limits.TheConstants.{MAX_TEXT_LEN};
+ghost use Rattle.pf_values.specs.declared.models.Model.{Model};
 ghost use Rattle.pf_values.specs.declared.types.ArgType.{ArgType};
-ghost use Rattle.pf_values.specs.Arg.{type_of};
 ghost use Rattle.pf_values.specs.Text.{Text};
-ghost use Rattle.pf_values.specs.declared.models.Model.TheVariants.{Lp64};
 ghost use Rattle.pf_text.specs.Signatures.{TakesTypes};
 ghost use Rattle.pf_render.specs.Keeping.{Keeps, KeepsAll};
 ghost use Rattle.pf_render.specs.Matching.{IsOfTypeAt, TakesArguments, Tallies};
-ghost use Rattle.pf_render.specs.Rendering.{HindersRender};
+ghost use Rattle.pf_render.specs.Rendering.{HindersRender, IsOfType};
 
 use crate::faults::RenderFault;
 use crate::kept::Kept;
 use pf_text::{Piece, Pieces};
-use pf_values::{Arg, ArgType};
+use pf_values::{Arg, ArgType, Model};
 
 /// Whether the text is a format that takes these arguments. Its pieces are kept, if they aren't too
 /// many.
 #[inline(never)]
 pub(crate) fn check_arguments<'a>(
+    model: Model,
     text: &'a [u8],
     args: &[Arg<'_>],
     kept: &mut Kept<'a>,
 ) -> Result<(), RenderFault>
     requires { Keeps kept.old [] }
-    ensures matched { MatchResult result (λ _. TakesArguments Lp64 text.now args.now)
-        (HindersRender Lp64 text.now args.now) }
+    ensures matched { MatchResult result (λ _. TakesArguments model text.now args.now)
+        (HindersRender model text.now args.now) }
     ensures kept { OnOk result (KeepsAll kept.new text.now) }
 {
     let mut tally = Tally {
@@ -39,7 +39,7 @@ pub(crate) fn check_arguments<'a>(
         };
         kept.push(&piece);
         if let Piece::Directive(directive) = piece {
-            tally = tally.with(directive.arg_type(), args);
+            tally = tally.with(model, directive.arg_type(model), args);
         }
     }
     tally.judge(args.len())
@@ -55,13 +55,13 @@ struct Tally {
 
 impl Tally {
     // The tally with one more directive, which takes an argument of this type.
-    fn with(self, wanted: ArgType, args: &[Arg<'_>]) -> Tally
+    fn with(self, model: Model, wanted: ArgType, args: &[Arg<'_>]) -> Tally
         requires few { self.wanted ≤ MAX_TEXT_LEN }
-        ensures { (types : List ArgType) → Tallies Lp64 self args.now types
-            → Tallies Lp64 result args.now (types ++ wanted ∷ []) }
+        ensures { (types : List ArgType) → Tallies model self args.now types
+            → Tallies model result args.now (types ++ wanted ∷ []) }
     {
         let count = self.wanted + 1;
-        if self.goes_on(wanted, args) {
+        if self.goes_on(model, wanted, args) {
             return Tally {
                 wanted: count,
                 matched: count,
@@ -74,20 +74,21 @@ impl Tally {
     }
 
     // Whether the arguments so far all have their types, and the next one has this type.
-    fn goes_on(self, wanted: ArgType, args: &[Arg<'_>]) -> bool
+    fn goes_on(self, model: Model, wanted: ArgType, args: &[Arg<'_>]) -> bool
         ensures yes { IsTrue result
-            → (self.matched ≡ self.wanted) × IsOfTypeAt Lp64 args.now self.matched wanted }
+            → (self.matched ≡ self.wanted) × IsOfTypeAt model args.now self.matched wanted }
         ensures other { IsFalse result → self.matched ≡ self.wanted
-            → slice_get (map type_of args.now) self.matched ≢ Some wanted }
+            → IsOfTypeAt model args.now self.matched wanted → ⊥ }
     {
-        self.matched == self.wanted && is_of_type(args, self.matched, wanted)
+        self.matched == self.wanted && is_of_type_at(model, args, self.matched, wanted)
     }
 
     // What is wrong with so many arguments.
     fn judge(self, given: usize) -> Result<(), RenderFault>
-        ensures { (t : Text) (args : List Arg) (types : List ArgType) → given ≡ length args
-            → TakesTypes Lp64 t types → Tallies Lp64 self args types
-            → MatchResult result (λ _. TakesArguments Lp64 t args) (HindersRender Lp64 t args) }
+        ensures { (model : Model) (t : Text) (args : List Arg) (types : List ArgType)
+            → given ≡ length args
+            → TakesTypes model t types → Tallies model self args types
+            → MatchResult result (λ _. TakesArguments model t args) (HindersRender model t args) }
     {
         if self.wanted != given {
             return Err(RenderFault::WrongCount {
@@ -103,12 +104,23 @@ impl Tally {
 }
 
 // Whether there is an argument with this number, and of this type.
-fn is_of_type(args: &[Arg<'_>], index: usize, wanted: ArgType) -> bool
-    ensures yes { IsTrue result → IsOfTypeAt Lp64 args.now index wanted }
-    ensures other { IsFalse result → slice_get (map type_of args.now) index ≢ Some wanted }
+fn is_of_type_at(model: Model, args: &[Arg<'_>], index: usize, wanted: ArgType) -> bool
+    ensures yes { IsTrue result → IsOfTypeAt model args.now index wanted }
+    ensures other { IsFalse result → IsOfTypeAt model args.now index wanted → ⊥ }
 {
     match args.get(index) {
-        Some(arg) => arg.arg_type() == wanted,
+        Some(arg) => is_of_type(model, *arg, wanted),
         None => false,
     }
+}
+
+// Whether an argument is of this type, and a number is in its range.
+fn is_of_type(model: Model, arg: Arg<'_>, wanted: ArgType) -> bool
+    ensures yes { IsTrue result → IsOfType model arg.entry wanted }
+    ensures other { IsFalse result → IsOfType model arg.entry wanted → ⊥ }
+{
+    if arg.arg_type() != wanted {
+        return false;
+    }
+    arg.fits(model)
 }

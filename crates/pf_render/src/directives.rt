@@ -1,7 +1,6 @@
 //! What a directive prints for an argument.
 ghost use Rattle.std.specs.Prelude.{◌≡◌, ◌≢◌, ℤ};
 ghost use Rattle.pf_values.specs.Arg.{argument_of};
-ghost use Rattle.pf_values.specs.declared.models.Model.TheVariants.{Lp64};
 ghost use Rattle.pf_values.specs.Arguments.{HasType, Number, String};
 ghost use Rattle.pf_values.specs.Counting.{WritesUpTo};
 ghost use Rattle.pf_values.specs.DataModel.{arg_type};
@@ -12,39 +11,41 @@ ghost use Rattle.pf_render.specs.Counts.{WritesCounted};
 use crate::faults::WriteFault;
 use crate::integers::write_integer;
 use crate::texts::{write_char, write_string};
-use pf_values::{Arg, Counted, Directive, Kind, ShortWrite};
+use pf_values::{Arg, Counted, Directive, Kind, Model, ShortWrite};
 use std::io::Write;
 
-/// Writes what the directive prints for an argument of its type (C11 7.21.6.1). Where the writer
-/// fails, or takes none of some bytes, exactly the first `written` bytes of it went out, fewer than
-/// all. It doesn't flush, and takes no memory.
+/// Writes what the directive prints for an argument of its type in this data model (C11 7.21.6.1).
+/// Where the writer fails, or takes none of some bytes, exactly the first `written` bytes of it went
+/// out, fewer than all. It doesn't flush, and takes no memory.
 pub fn render_one<W: Write>(
+    model: Model,
     directive: &Directive,
     argument: Arg<'_>,
     writer: &mut Counted<W>,
 ) -> Result<(), WriteFault>
-    requires typed { HasType Lp64 (argument_of argument) (arg_type Lp64 directive.now) }
-    ensures { (out : Text) × PrintsOnly Lp64 directive.now (argument_of argument.entry) out
+    requires typed { HasType model (argument_of argument) (arg_type model directive.now) }
+    ensures { (out : Text) × PrintsOnly model directive.now (argument_of argument.entry) out
         × WritesUpTo W.contents writer.old writer.new out (λ fault. fault.written) result }
 {
-    write_argument(directive, argument, writer)?;
+    write_argument(model, directive, argument, writer)?;
     Ok(())
 }
 
 /// The same, and tells how many bytes were written.
 pub(crate) fn write_argument<W: Write>(
+    model: Model,
     directive: &Directive,
     argument: Arg<'_>,
     writer: &mut Counted<W>,
 ) -> Result<usize, ShortWrite>
-    requires typed { HasType Lp64 (argument_of argument) (arg_type Lp64 directive.now) }
-    ensures { (out : Text) × PrintsOnly Lp64 directive.now (argument_of argument.entry) out
+    requires typed { HasType model (argument_of argument) (arg_type model directive.now) }
+    ensures { (out : Text) × PrintsOnly model directive.now (argument_of argument.entry) out
         × WritesCounted W.contents writer.old writer.new out result }
 {
     match directive.conv().kind() {
         Kind::String => write_string(directive, string_of(argument), writer),
         Kind::Char => write_char(directive, number_of(argument), writer),
-        _ => write_integer(directive, number_of(argument), writer),
+        _ => write_integer(model, directive, number_of(argument), writer),
     }
 }
 

@@ -38,7 +38,8 @@ pub enum RenderFault {
         /// How many were given.
         given: u64,
     },
-    /// The argument with this number, counted from 0, is the first one of another type.
+    /// The argument with this number, counted from 0, is the first one of another type, or out of
+    /// the range of its type.
     #[error("argument {0} has the wrong type")]
     WrongType(u64),
     /// The writer failed, or took none of some bytes, after so many bytes.
@@ -68,7 +69,8 @@ pub enum RenderVecFault {
         /// How many were given.
         given: u64,
     },
-    /// The argument with this number, counted from 0, is the first one of another type.
+    /// The argument with this number, counted from 0, is the first one of another type, or out of
+    /// the range of its type.
     #[error("argument {0} has the wrong type")]
     WrongType(u64),
     /// A growth was refused.

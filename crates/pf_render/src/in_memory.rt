@@ -1,34 +1,39 @@
 //! What a format prints, in memory.
 ghost use Rattle.std.specs.Prelude.{◌≡◌, MatchResult};
-ghost use Rattle.pf_values.specs.declared.models.Model.TheVariants.{Lp64};
 ghost use Rattle.pf_render.specs.Rendering.{HindersVec, Renders, in_memory};
 
 use crate::faults::{RenderFault, RenderVecFault};
 use crate::formats::render;
-use pf_values::{Arg, Counted};
+use pf_values::{Arg, Counted, Model};
 use std::alloc::{Allocator, Global};
 
 #[cfg(test)]
 mod tests;
 
-/// What a format prints for arguments of its types (C11 7.21.6.1).
-pub fn render_vec(alloc: Global, text: &[u8], args: &[Arg<'_>]) -> Result<Vec<u8>, RenderVecFault>
-    ensures { MatchResult result (λ bytes. Renders Lp64 text.now args.now bytes.items)
-        (HindersVec Lp64 text.now args.now) }
+/// What a format prints for arguments of its types in this data model (C11 7.21.6.1).
+pub fn render_vec(
+    alloc: Global,
+    model: Model,
+    text: &[u8],
+    args: &[Arg<'_>],
+) -> Result<Vec<u8>, RenderVecFault>
+    ensures { MatchResult result (λ bytes. Renders model text.now args.now bytes.items)
+        (HindersVec model text.now args.now) }
 {
-    render_vec_in(alloc, text, args)
+    render_vec_in(alloc, model, text, args)
 }
 
 fn render_vec_in<A: Allocator>(
     alloc: A,
+    model: Model,
     text: &[u8],
     args: &[Arg<'_>],
 ) -> Result<Vec<u8, A>, RenderVecFault>
-    ensures { MatchResult result (λ bytes. Renders Lp64 text.now args.now bytes.items)
-        (HindersVec Lp64 text.now args.now) }
+    ensures { MatchResult result (λ bytes. Renders model text.now args.now bytes.items)
+        (HindersVec model text.now args.now) }
 {
     let mut writer = Counted::new(Vec::new(alloc));
-    match render(text, args, &mut writer) {
+    match render(model, text, args, &mut writer) {
         Ok(()) => Ok(writer.into_inner()),
         Err(fault) => Err(in_memory(fault)),
     }

@@ -4,7 +4,6 @@ ghost use Rattle.pf_values.specs.declared.limits.TheConstants.{MAX_NUMBER};
 ghost use Rattle.pf_values.specs.Arguments.{Number};
 ghost use Rattle.pf_values.specs.Bases.{alternative_of};
 ghost use Rattle.pf_values.specs.Conversions.{is_text};
-ghost use Rattle.pf_values.specs.declared.models.Model.TheVariants.{Lp64};
 ghost use Rattle.pf_values.specs.Printing.{Prints, prefix_under, sign, sign_or_prefix};
 ghost use Rattle.pf_values.specs.Text.{Text};
 ghost use Rattle.pf_render.specs.Counts.{WritesCounted};
@@ -14,20 +13,21 @@ use crate::blocks;
 use crate::digits::{Digits, MAX_DIGITS};
 use crate::fields::write_field;
 use crate::values::Value;
-use pf_values::{Alternative, Base, Counted, Directive, Flag, Kind, ShortWrite};
+use pf_values::{Alternative, Base, Counted, Directive, Flag, Kind, Model, ShortWrite};
 use std::io::Write;
 
 /// Writes what the directive prints of a number (C11 7.21.6.1, paragraphs 4 to 8).
 pub(crate) fn write_integer<W: Write>(
+    model: Model,
     directive: &Directive,
     number: i128,
     writer: &mut Counted<W>,
 ) -> Result<usize, ShortWrite>
     requires integer { IsFalse (is_text directive.now.conv) }
-    ensures { (out : Text) × Prints Lp64 directive.now (Number number) out
+    ensures { (out : Text) × Prints model directive.now (Number number) out
         × WritesCounted W.contents writer.old writer.new out result }
 {
-    let value = Value::of(directive, number);
+    let value = Value::of(model, directive, number);
     let digits = Digits::of(value.size(), directive.conv().kind());
     let digits = digits.as_slice();
     let sign = sign_or_prefix(directive, &value);

@@ -1,6 +1,6 @@
 //! The pieces of a format, kept from when it is checked to when it is written.
 ghost use Rattle.std.specs.Prelude.{◌≡◌, ◌++◌, ◌≤◌, [], List, length};
-ghost use Rattle.pf_values.specs.declared.models.Model.TheVariants.{Lp64};
+ghost use Rattle.pf_values.specs.declared.models.Model.{Model};
 ghost use Rattle.pf_values.specs.Items.{Item, types};
 ghost use Rattle.pf_text.specs.PieceHistory.{items_of};
 ghost use Rattle.pf_render.specs.Keeping.{Keeps, items_of_part};
@@ -45,7 +45,7 @@ impl<'a> Part<'a> {
 
     /// How many arguments it takes.
     pub(crate) fn argument_count(&self) -> usize
-        ensures { result ≡ length (types Lp64 (items_of_part self.now)) }
+        ensures { (model : Model) → result ≡ length (types model (items_of_part self.now)) }
     {
         match self.directive {
             Some(_) => 1,

@@ -1,7 +1,6 @@
 //! How far the writing of a format has come.
 ghost use Rattle.std.specs.Prelude.{◌≡◌, ◌+◌, ◌≤◌, ◌^◌, length, map};
 ghost use Rattle.pf_values.specs.Arg.{argument_of};
-ghost use Rattle.pf_values.specs.declared.models.Model.TheVariants.{Lp64};
 ghost use Rattle.pf_values.specs.Arguments.{HasTypes};
 ghost use Rattle.pf_values.specs.Items.{types};
 ghost use Rattle.pf_values.specs.Printing.{PrintsAll};
@@ -13,7 +12,7 @@ ghost use Rattle.pf_render.specs.Progressing.{WritesNext, next_arguments};
 use crate::directives::write_argument;
 use crate::faults::WriteFault;
 use crate::kept::Part;
-use pf_values::{Arg, Counted, ShortWrite, write_bytes};
+use pf_values::{Arg, Counted, Model, ShortWrite, write_bytes};
 use std::io::Write;
 
 /// How far the writing of a format has come.
@@ -40,21 +39,22 @@ impl Progress {
     #[inline(always)]
     pub(crate) fn write<W: Write>(
         &mut self,
+        model: Model,
         part: &Part<'_>,
         args: &[Arg<'_>],
         writer: &mut Counted<W>,
     ) -> Result<(), WriteFault>
         requires few { self.old.written + 2 ^ 64 ≤ 2 ^ 128 }
-        requires within { self.old.taken + length (types Lp64 (items_of_part part.now)) ≤ length
+        requires within { self.old.taken + length (types model (items_of_part part.now)) ≤ length
             args.now }
-        requires typed { HasTypes Lp64 (next_arguments Lp64 self.old part.now args.now)
-            (types Lp64 (items_of_part part.now)) }
-        ensures { WritesNext Lp64 W.contents writer.old writer.new self.old self.new part.now
+        requires typed { HasTypes model (next_arguments model self.old part.now args.now)
+            (types model (items_of_part part.now)) }
+        ensures { WritesNext model W.contents writer.old writer.new self.old self.new part.now
             args.now
             result }
     {
         let end = self.taken + part.argument_count();
-        match write_part(part, &args[self.taken..end], writer) {
+        match write_part(model, part, &args[self.taken..end], writer) {
             Ok(count) => {
                 self.taken = end;
                 self.written += count as u128;
@@ -69,16 +69,17 @@ impl Progress {
 
 // Writes what a part prints for its own arguments, and tells how many bytes that were.
 fn write_part<W: Write>(
+    model: Model,
     part: &Part<'_>,
     own: &[Arg<'_>],
     writer: &mut Counted<W>,
 ) -> Result<usize, ShortWrite>
-    requires typed { HasTypes Lp64 (map argument_of own.now) (types Lp64 (items_of_part part.now)) }
-    ensures { (out : Text) × PrintsAll Lp64 (items_of_part part.now) (map argument_of own.now) out
+    requires typed { HasTypes model (map argument_of own.now) (types model (items_of_part part.now)) }
+    ensures { (out : Text) × PrintsAll model (items_of_part part.now) (map argument_of own.now) out
         × WritesCounted W.contents writer.old writer.new out result }
 {
     match part.directive {
-        Some(directive) => write_argument(&directive, own[0], writer),
+        Some(directive) => write_argument(model, &directive, own[0], writer),
         None => write_run(part.run, writer),
     }
 }

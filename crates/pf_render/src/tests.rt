@@ -3,7 +3,7 @@
 
 use crate::{WriteFault, render, render_one, render_vec};
 use pf_text::{Piece, Pieces, signature};
-use pf_values::{Arg, ArgType, CBytes, Conv, Counted, Directive};
+use pf_values::{Arg, ArgType, CBytes, Conv, Counted, Directive, Model};
 use std::alloc::{AllocError, Global};
 use std::io::Write;
 
@@ -50,13 +50,13 @@ fn write_number<W: Write>(
     writer: &mut Counted<W>,
 ) -> Option<Result<(), WriteFault>> {
     let directive = directive_of(format)?;
-    let argument = number_of(directive.arg_type(), number)?;
-    if argument.arg_type() != directive.arg_type() {
+    let argument = number_of(directive.arg_type(Model::Lp64), number)?;
+    if argument.arg_type() != directive.arg_type(Model::Lp64) {
         return None;
     }
     match directive.conv() {
         Conv::C | Conv::S => None,
-        _ => Some(render_one(&directive, argument, writer)),
+        _ => Some(render_one(Model::Lp64, &directive, argument, writer)),
     }
 }
 
@@ -93,7 +93,7 @@ fn arguments(
     words: &[&'static str],
 ) -> Result<Option<Vec<Arg<'static>>>, AllocError> {
     let mut args = Vec::new(alloc);
-    let Ok(types) = signature(alloc, format) else {
+    let Ok(types) = signature(alloc, Model::Lp64, format) else {
         return Ok(None);
     };
     for (word, arg_type) in words.iter().zip(types.as_slice()) {
@@ -114,11 +114,11 @@ fn rendering_of(
     let mut out = Vec::new(alloc);
     out.reserve(1 << 20)?;
     let mut writer = Counted::new(out);
-    if render(format, args, &mut writer).is_err() || writer.failures() != 0 {
+    if render(Model::Lp64, format, args, &mut writer).is_err() || writer.failures() != 0 {
         return Ok(None);
     }
     let out = writer.into_inner();
-    match render_vec(alloc, format, args) {
+    match render_vec(alloc, Model::Lp64, format, args) {
         Ok(bytes) if bytes.as_slice() == out.as_slice() => Ok(Some(bytes)),
         _ => Ok(None),
     }

@@ -3,7 +3,7 @@ ghost use Rattle.std.specs.Prelude.{◌≡◌};
 ghost use Rattle.pf_values.specs.declared.conversions.Kind.TheVariants as kinds;
 ghost use Rattle.pf_values.specs.Arguments.{Number, String};
 ghost use Rattle.pf_values.specs.Conversions.{kind_of};
-ghost use Rattle.pf_values.specs.declared.models.Model.TheVariants.{Lp64};
+ghost use Rattle.pf_values.specs.declared.models.Model.{Model};
 ghost use Rattle.pf_values.specs.Printing.{Prints, printed_front};
 ghost use Rattle.pf_values.specs.Text.{Text};
 ghost use Rattle.pf_render.specs.Counts.{WritesCounted};
@@ -19,7 +19,7 @@ pub(crate) fn write_char<W: Write>(
     writer: &mut Counted<W>,
 ) -> Result<usize, ShortWrite>
     requires char { kind_of directive.now.conv ≡ kinds.Char }
-    ensures { (out : Text) × Prints Lp64 directive.now (Number number) out
+    ensures { (model : Model) → (out : Text) × Prints model directive.now (Number number) out
         × WritesCounted W.contents writer.old writer.new out result }
 {
     let byte = [u8::of(number)];
@@ -33,7 +33,7 @@ pub(crate) fn write_string<W: Write>(
     writer: &mut Counted<W>,
 ) -> Result<usize, ShortWrite>
     requires string { kind_of directive.now.conv ≡ kinds.String }
-    ensures { (out : Text) × Prints Lp64 directive.now (String bytes.now) out
+    ensures { (model : Model) → (out : Text) × Prints model directive.now (String bytes.now) out
         × WritesCounted W.contents writer.old writer.new out result }
 {
     write_field(directive, b"", b"", printed_front(directive, bytes), writer)

@@ -1,6 +1,5 @@
 //! The values that directives print for numbers.
 ghost use Rattle.std.specs.Prelude.{◌≡◌, IsFalse, true, false, ℕ, nat_abs};
-ghost use Rattle.pf_values.specs.declared.models.Model.TheVariants.{Lp64};
 ghost use Rattle.pf_values.specs.Arguments.{IsConverted, IsValue};
 ghost use Rattle.pf_values.specs.Conversions.{is_text};
 ghost use Rattle.pf_values.specs.DataModel.{Bits, bit_count};
@@ -29,13 +28,13 @@ impl Model for Value {
 
 impl Value {
     /// The value of the number in the range that the length modifier and the conversion name.
-    pub(crate) fn of(directive: &Directive, number: i128) -> Value
+    pub(crate) fn of(model: pf_values::Model, directive: &Directive, number: i128) -> Value
         requires integer { IsFalse (is_text directive.now.conv) }
-        ensures { IsValue Lp64 directive.now number result }
+        ensures { IsValue model directive.now number result }
     {
         match directive.conv().kind() {
-            Kind::Signed => Value::of_signed(directive.bits(), number),
-            _ => Value::of_unsigned(directive.bits(), number),
+            Kind::Signed => Value::of_signed(directive.bits(model), number),
+            _ => Value::of_unsigned(directive.bits(model), number),
         }
     }
 

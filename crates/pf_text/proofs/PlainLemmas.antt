@@ -102,6 +102,12 @@ bare_normal model conv other =
 pub percent_plain : (model : Model) (letter : ℕ) → letter ≡ percent → (item : Item) × IsPlainText model (percent ∷ letter ∷ []) (item ∷ [])
 percent_plain model letter e = (Byte percent, record { plain = ((λ z. cc), tt); whole = ap (λ b. percent ∷ b ∷ []) e })
 
+-- two bytes that begin a text
+pub first_two : (text : Text) → 2 ≤ length text → take 2 text ≡ get_or text 0 0 ∷ get_or text 1 0 ∷ []
+first_two [] few = absurd (omega (arith, few))
+first_two (a ∷ []) few = absurd (omega (arith, few))
+first_two (a ∷ b ∷ text) few = refl
+
 pub bare_plain : (model : Model) (letter : ℕ) (o : Option Conv) → conv_of letter ≡ o → letter ≢ 105 → is_some o ≡ true → (item : Item) × IsPlainText model (percent ∷ letter ∷ []) (item ∷ [])
 bare_plain model letter None e other some = absurd (cc)
 bare_plain model letter (Some conv) e other some =

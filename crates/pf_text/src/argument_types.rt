@@ -1,7 +1,6 @@
 //! Reading the argument types of a format.
 ghost use Rattle.std.specs.Prelude.{◌≡◌, ◌≤◌, [], MatchResult};
 ghost use Rattle.std.specs.Option.{option_to_list};
-ghost use Rattle.pf_values.specs.declared.models.Model.TheVariants.{Lp64};
 ghost use Rattle.pf_values.specs.Items.{types};
 ghost use Rattle.pf_text.specs.PieceHistory.{items_of};
 ghost use Rattle.pf_text.specs.Signatures.{TakesTypes, HindersSignature, types_of};
@@ -9,21 +8,21 @@ ghost use Rattle.pf_text.specs.Signatures.{TakesTypes, HindersSignature, types_o
 use crate::faults::TextFault;
 use crate::pieces::{Piece, Pieces};
 use crate::signatures::Signature;
-use pf_values::ArgType;
+use pf_values::{ArgType, Model};
 use smallvec::SmallVec;
 use std::alloc::{Allocator, Global};
 
 #[cfg(test)]
 mod tests;
 
-/// The types of the arguments that a format takes. Memory can be refused for more than eight of
-/// them only.
-pub fn signature(alloc: Global, text: &[u8]) -> Result<Signature, TextFault>
-    ensures { MatchResult result (λ signature. TakesTypes Lp64 text.now (types_of signature))
-        (HindersSignature Lp64 text.now) }
+/// The types of the arguments that a format takes in this data model. Memory can be refused for
+/// more than eight of them only.
+pub fn signature(alloc: Global, model: Model, text: &[u8]) -> Result<Signature, TextFault>
+    ensures { MatchResult result (λ signature. TakesTypes model text.now (types_of signature))
+        (HindersSignature model text.now) }
 {
     let mut found = SmallVec::new(alloc);
-    match push_types(&mut found, text) {
+    match push_types(&mut found, model, text) {
         Ok(()) => Ok(Signature { types: found }),
         Err(fault) => Err(fault),
     }
@@ -31,19 +30,20 @@ pub fn signature(alloc: Global, text: &[u8]) -> Result<Signature, TextFault>
 
 fn push_types<A: Allocator + Copy>(
     found: &mut SmallVec<ArgType, 8, A>,
+    model: Model,
     text: &[u8],
 ) -> Result<(), TextFault>
     requires none { found.old.items ≡ [] }
     requires room { 8 ≤ found.old.capacity }
     ensures { MatchResult result
-        (λ _. TakesTypes Lp64 text.now found.new.items) (HindersSignature Lp64 text.now) }
+        (λ _. TakesTypes model text.now found.new.items) (HindersSignature model text.now) }
 {
     for piece in Pieces::new(text) {
         let piece = match piece {
             Ok(piece) => piece,
             Err(refusal) => return Err(TextFault::Refused(refusal)),
         };
-        if let Some(arg_type) = arg_type(piece) {
+        if let Some(arg_type) = arg_type(model, piece) {
             if found.push(arg_type).is_err() {
                 return Err(TextFault::Memory);
             }
@@ -53,11 +53,11 @@ fn push_types<A: Allocator + Copy>(
 }
 
 // The type of the argument that a piece takes, if it takes one.
-fn arg_type(piece: Piece<'_>) -> Option<ArgType>
-    ensures { option_to_list result ≡ types Lp64 (items_of piece.entry) }
+fn arg_type(model: Model, piece: Piece<'_>) -> Option<ArgType>
+    ensures { option_to_list result ≡ types model (items_of piece.entry) }
 {
     match piece {
-        Piece::Directive(directive) => Some(directive.arg_type()),
+        Piece::Directive(directive) => Some(directive.arg_type(model)),
         Piece::Percent => None,
         Piece::Literal(_) => None,
     }

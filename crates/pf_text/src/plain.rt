@@ -2,19 +2,20 @@
 ghost use Rattle.std.specs.Prelude.{◌≡◌, ◌<◌, ◌≤◌, [], ◌∷◌, ◌*◌, List, drop, length, take, IsTrue, ◌↔◌};
 ghost use Rattle.memchr.specs.Find.{Passes, is_byte2};
 ghost use Rattle.pf_values.specs.Items.{Item, Reads};
-ghost use Rattle.pf_values.specs.declared.models.Model.TheVariants.{Lp64};
+ghost use Rattle.pf_values.specs.declared.models.Model.{Model};
 ghost use Rattle.pf_text.specs.Plain.{BeginsSilent, IsPlainText, silents};
 
 use crate::letters::conv_of;
 use crate::search::first_other;
 
 /// How many bytes of the text are literal bytes, `%%`, and directives that are normal and spelled
-/// by their conversion alone, up to the first other item. It makes no directive, sees no scanner,
-/// and is never inlined, as `first_other`.
+/// by their conversion alone, up to the first other item. Those are normal in each data model. It
+/// makes no directive, sees no scanner, and is never inlined, as `first_other`.
 #[inline(never)]
 pub(crate) fn plain_len(text: &[u8]) -> usize
     ensures within { result ≤ length text.now }
-    ensures plain { (items : List Item) × IsPlainText Lp64 (take result text.now) items }
+    ensures plain { (model : Model)
+        → (items : List Item) × IsPlainText model (take result text.now) items }
     ensures ended { result < length text.now → Passes (is_byte2 37 0) text.now result }
 {
     let mut at = 0;
@@ -33,7 +34,8 @@ pub(crate) fn plain_len(text: &[u8]) -> usize
 fn plain_front(text: &[u8]) -> usize
     requires { 0 < length text.now }
     ensures within { result ≤ length text.now }
-    ensures plain { (items : List Item) × IsPlainText Lp64 (take result text.now) items }
+    ensures plain { (model : Model)
+        → (items : List Item) × IsPlainText model (take result text.now) items }
     ensures ended { result ≡ 0 → Passes (is_byte2 37 0) text.now 0 }
 {
     if text[0] != b'%' {
@@ -52,7 +54,8 @@ fn plain_front(text: &[u8]) -> usize
 // normal one.
 #[inline(always)]
 fn ends_plain(letter: u8) -> bool
-    ensures { IsTrue result → (item : Item) × IsPlainText Lp64 (37 ∷ letter ∷ []) (item ∷ []) }
+    ensures { (model : Model) → IsTrue result
+        → (item : Item) × IsPlainText model (37 ∷ letter ∷ []) (item ∷ []) }
 {
     if letter == b'%' {
         return true;

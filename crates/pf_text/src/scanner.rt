@@ -4,7 +4,7 @@ ghost use Rattle.pf_values.specs.declared.limits.TheConstants.{MAX_TEXT_LEN};
 ghost use Rattle.pf_values.specs.Conversions.{conv_letter};
 ghost use Rattle.pf_values.specs.Items.{Item, Reads};
 ghost use Rattle.pf_values.specs.Text.{Text};
-ghost use Rattle.pf_values.specs.declared.models.Model.TheVariants.{Lp64};
+ghost use Rattle.pf_values.specs.declared.models.Model.{Model};
 ghost use Rattle.pf_text.specs.Plain.{PassesPlain, PassesSilents};
 ghost use Rattle.pf_text.specs.Stages.{state_of};
 ghost use Rattle.pf_text.specs.States.{next};
@@ -169,15 +169,15 @@ impl Scanner {
         taken as usize
     }
 
-    /// Takes literal bytes, `%%`, and directives that are normal and spelled by their conversion
-    /// alone, as many as stand at the front of `text` before the first other item, and tells how
-    /// many bytes they have. One call of `feed` for each of them would do the same. Inside an item,
-    /// and after a refusal, it takes none.
+    /// Takes literal bytes, `%%`, and directives that are normal in each data model and spelled by
+    /// their conversion alone, as many as stand at the front of `text` before the first other item,
+    /// and tells how many bytes they have. One call of `feed` for each of them would do the same.
+    /// Inside an item, and after a refusal, it takes none.
     #[inline(always)]
     pub fn pass_plain(&mut self, text: &[u8]) -> usize
         ensures within { result ≤ length text.now }
-        ensures passed { (t : Text) (items : List Item) → IsAfter self.old t items → Reads t items
-            → PassesPlain Lp64 t items text.now result self.new }
+        ensures passed { (model : Model) (t : Text) (items : List Item) → IsAfter self.old t items
+            → Reads t items → PassesPlain model t items text.now result self.new }
         ensures between { (t : Text) (items : List Item) → IsAfter self.old t items → 0 < result
             → Reads t items }
         ensures idle { result ≡ 0 → self.new ≡ self.old }

@@ -1,6 +1,7 @@
 //! Arguments of directives.
-ghost use Rattle.std.specs.Prelude.{◌≡◌, ◌<◌, ◌↔◌, IfSome, IsNone, MatchOption, Contains, All};
+ghost use Rattle.std.specs.Prelude.{◌≡◌, ◌<◌, ◌↔◌, IfSome, IsNone, IsTrue, MatchOption, Contains, All};
 
+use crate::models;
 use crate::types::ArgType;
 
 /// Bytes without a zero byte: what `%s` sees of a string before its null.
@@ -70,6 +71,17 @@ impl<'a> Arg<'a> {
             Arg::LongLong(_) => ArgType::LongLong,
             Arg::ULongLong(_) => ArgType::ULongLong,
             Arg::Str(_) => ArgType::Str,
+        }
+    }
+
+    /// Whether the argument is in the range of its type in this data model (C11 6.2.5). In LP64
+    /// each one is, and a string is in any.
+    pub fn fits(self, model: models::Model) -> bool
+        ensures { IsTrue result ↔ HasType model (argument_of self.entry) (type_of self.entry) }
+    {
+        match self.number() {
+            Some(number) => self.arg_type().contains(model, number),
+            None => true,
         }
     }
 

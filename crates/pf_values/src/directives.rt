@@ -3,7 +3,6 @@ ghost use Rattle.std.specs.Prelude.{◌≡◌, ◌≤◌, MatchResult};
 ghost use Rattle.pf_values.specs.declared.limits.TheConstants.{MAX_NUMBER};
 ghost use Rattle.pf_values.specs.Defined.{IsDefined, first_broken, refused_as, undefined_kinds};
 ghost use Rattle.pf_values.specs.Specification.{specification_of};
-ghost use Rattle.pf_values.specs.declared.models.Model.TheVariants.{Lp64};
 ghost use Rattle.pf_values.specs.DataModel.{arg_type, value_bits};
 ghost use Rattle.pf_values.specs.Normal.{digits_at_most, effective_precision};
 ghost use Rattle.pf_values.specs.Printing.{is_zero_filled};
@@ -158,33 +157,33 @@ impl Directive {
         }
     }
 
-    /// The type of the argument that it takes.
-    pub fn arg_type(&self) -> ArgType
-        ensures { result ≡ arg_type Lp64 self.now }
+    /// The type of the argument that it takes in this data model (C11 7.21.6.1, paragraphs 7 and 8).
+    pub fn arg_type(&self, model: models::Model) -> ArgType
+        ensures { result ≡ arg_type model self.now }
     {
         match self.conv.kind() {
-            Kind::Signed => row_of(models::Model::Lp64, self.length).signed,
-            Kind::Unsigned(_, _) => row_of(models::Model::Lp64, self.length).unsigned,
+            Kind::Signed => row_of(model, self.length).signed,
+            Kind::Unsigned(_, _) => row_of(model, self.length).unsigned,
             Kind::Char => ArgType::Int,
             Kind::String => ArgType::Str,
         }
     }
 
     /// The bits of the value that it prints; 0 for `c` and `s`.
-    pub fn bits(&self) -> u8
-        ensures { result ≡ value_bits Lp64 self.now }
+    pub fn bits(&self, model: models::Model) -> u8
+        ensures { result ≡ value_bits model self.now }
     {
         if self.conv.kind().is_text() {
             return 0;
         }
-        row_of(models::Model::Lp64, self.length).bits
+        row_of(model, self.length).bits
     }
 
     /// The most digits that its value has, the sign not counted; 0 for `c` and `s`.
-    pub fn max_digits(&self) -> u8
-        ensures { result ≡ digits_at_most Lp64 self.now }
+    pub fn max_digits(&self, model: models::Model) -> u8
+        ensures { result ≡ digits_at_most model self.now }
     {
-        let bits = row_of(models::Model::Lp64, self.length).bits;
+        let bits = row_of(model, self.length).bits;
         match self.conv.kind() {
             Kind::Signed => by_bits(bits, 3, 5, 10, 19),
             Kind::Unsigned(base, _) => base.max_digits(bits),

@@ -1,8 +1,8 @@
 //! Laws over the definitions alone. Each is the contract of a function that does nothing.
-ghost use Rattle.pf_values.specs.declared.models.Model.TheVariants.{Lp64};
+ghost use Rattle.pf_values.specs.declared.models.Model.{Model};
 ghost use Rattle.pf_values.specs.Printing.{PrintsOnce};
 
-/// Each directive and argument of its type print exactly one text.
+/// Each directive and argument of its type print exactly one text, in each data model.
 pub fn prints_once()
-    ensures { PrintsOnce Lp64 }
+    ensures { (model : Model) → PrintsOnce model }
 {}

@@ -1,6 +1,5 @@
 //! Length modifiers.
 ghost use Rattle.std.specs.Prelude.{◌≡◌};
-ghost use Rattle.pf_values.specs.declared.models.Model.TheVariants.{Lp64};
 ghost use Rattle.pf_values.specs.DataModel.{kept_length};
 ghost use Rattle.pf_values.specs.Lengths.{is_long, is_plain};
 
@@ -41,12 +40,12 @@ impl Length {
         Length::T,
     ];
 
-    /// The length modifier that a normal directive has for it: one that names the same types
-    /// (C11 7.21.6.1, paragraph 7).
-    pub fn representative(self) -> Length
-        ensures { result ≡ kept_length Lp64 self }
+    /// The length modifier that a normal directive has for it: one that names the same types in
+    /// this data model (C11 7.21.6.1, paragraph 7).
+    pub fn representative(self, model: Model) -> Length
+        ensures { result ≡ kept_length model self }
     {
-        row_of(Model::Lp64, self).kept
+        row_of(model, self).kept
     }
 
     pub(crate) fn is_plain(self) -> bool

@@ -1,7 +1,7 @@
 //! The tables of the standard, and each public call once.
 use crate::laws::prints_once;
 use crate::{
-    Alternative, Arg, ArgType, Base, CBytes, Conv, Directive, Flag, FlagSet, Kind, Length,
+    Alternative, Arg, ArgType, Base, CBytes, Conv, Directive, Flag, FlagSet, Kind, Length, Model,
     RefusalKind, ValueKind,
 };
 use std::process::Abort;
@@ -142,60 +142,97 @@ fn a_width_of_0_is_none(rt: HostRuntime) {
     assert_eq!(rt; made.map(|d| d.width()), Ok(None));
 }
 
-// Without a modifier, and then `hh h l ll j z t`.
+// In each data model, without a modifier, and then `hh h l ll j z t`.
 #[rattlefmt::skip]
-const SIGNED_TYPES: [ArgType; 8] = [
-    ArgType::Int, ArgType::Int, ArgType::Int, ArgType::Long,
-    ArgType::LongLong, ArgType::Long, ArgType::Long, ArgType::Long,
+const SIGNED_TYPES: [[ArgType; 8]; 2] = [
+    [
+        ArgType::Int, ArgType::Int, ArgType::Int, ArgType::Long,
+        ArgType::LongLong, ArgType::Long, ArgType::Long, ArgType::Long,
+    ],
+    [
+        ArgType::Int, ArgType::Int, ArgType::Int, ArgType::Long,
+        ArgType::LongLong, ArgType::LongLong, ArgType::Int, ArgType::Int,
+    ],
 ];
 
 #[rattlefmt::skip]
-const UNSIGNED_TYPES: [ArgType; 8] = [
-    ArgType::UInt, ArgType::Int, ArgType::Int, ArgType::ULong,
-    ArgType::ULongLong, ArgType::ULong, ArgType::ULong, ArgType::ULong,
+const UNSIGNED_TYPES: [[ArgType; 8]; 2] = [
+    [
+        ArgType::UInt, ArgType::Int, ArgType::Int, ArgType::ULong,
+        ArgType::ULongLong, ArgType::ULong, ArgType::ULong, ArgType::ULong,
+    ],
+    [
+        ArgType::UInt, ArgType::Int, ArgType::Int, ArgType::ULong,
+        ArgType::ULongLong, ArgType::ULongLong, ArgType::UInt, ArgType::UInt,
+    ],
 ];
 
-fn type_of(length: Length, conv: Conv) -> Result<ArgType, RefusalKind> {
-    Directive::new(FlagSet::empty(), None, None, length, conv).map(|d| d.arg_type())
+fn type_of(model: Model, length: Length, conv: Conv) -> Result<ArgType, RefusalKind> {
+    Directive::new(FlagSet::empty(), None, None, length, conv).map(|d| d.arg_type(model))
 }
 
-fn check_types(rt: &impl Abort, conv: Conv, types: [ArgType; 8]) {
+fn check_types(rt: &impl Abort, model: Model, conv: Conv, types: [ArgType; 8]) {
     for (length, want) in Length::ALL.iter().zip(types.iter()) {
-        assert_eq!(rt; type_of(*length, conv), Ok(*want), "{conv:?} {length:?}");
+        let found = type_of(model, *length, conv);
+        assert_eq!(rt; found, Ok(*want), "{model:?} {conv:?} {length:?}");
     }
+}
+
+fn check_text_type(rt: &impl Abort, model: Model, conv: Conv, want: ArgType) {
+    assert_eq!(rt;
+        type_of(model, Length::None, conv),
+        Ok(want),
+        "{model:?} {conv:?}"
+    );
 }
 
 #[test]
 fn each_argument_has_its_type(rt: HostRuntime) {
-    for conv in Conv::ALL {
-        match conv.kind() {
-            Kind::Signed => check_types(&rt, conv, SIGNED_TYPES),
-            Kind::Unsigned(_, _) => check_types(&rt, conv, UNSIGNED_TYPES),
-            Kind::Char => assert_eq!(rt; type_of(Length::None, conv), Ok(ArgType::Int)),
-            Kind::String => assert_eq!(rt; type_of(Length::None, conv), Ok(ArgType::Str)),
+    for (i, model) in Model::ALL.iter().enumerate() {
+        for conv in Conv::ALL {
+            match conv.kind() {
+                Kind::Signed => check_types(&rt, *model, conv, SIGNED_TYPES[i]),
+                Kind::Unsigned(_, _) => check_types(&rt, *model, conv, UNSIGNED_TYPES[i]),
+                Kind::Char => check_text_type(&rt, *model, conv, ArgType::Int),
+                Kind::String => check_text_type(&rt, *model, conv, ArgType::Str),
+            }
         }
     }
 }
 
-// The bits of a value under each modifier of `Length::ALL`.
-const BITS: [u8; 8] = [32, 8, 16, 64, 64, 64, 64, 64];
+// In each data model, the bits of a value under each modifier of `Length::ALL`.
+const BITS: [[u8; 8]; 2] = [
+    [32, 8, 16, 64, 64, 64, 64, 64],
+    [32, 8, 16, 32, 64, 64, 32, 32],
+];
 
-fn bits_of(length: Length, conv: Conv) -> Result<u8, RefusalKind> {
-    Directive::new(FlagSet::empty(), None, None, length, conv).map(|d| d.bits())
+fn bits_of(model: Model, length: Length, conv: Conv) -> Result<u8, RefusalKind> {
+    Directive::new(FlagSet::empty(), None, None, length, conv).map(|d| d.bits(model))
 }
 
-fn check_bits(rt: &impl Abort, conv: Conv) {
-    for (length, want) in Length::ALL.iter().zip(BITS.iter()) {
-        assert_eq!(rt; bits_of(*length, conv), Ok(*want), "{conv:?} {length:?}");
+fn check_bits(rt: &impl Abort, model: Model, conv: Conv, bits: [u8; 8]) {
+    for (length, want) in Length::ALL.iter().zip(bits.iter()) {
+        let found = bits_of(model, *length, conv);
+        assert_eq!(rt; found, Ok(*want), "{model:?} {conv:?} {length:?}");
     }
+}
+
+fn check_no_bits(rt: &impl Abort, model: Model, conv: Conv) {
+    assert_eq!(rt;
+        bits_of(model, Length::None, conv),
+        Ok(0),
+        "{model:?} {conv:?}"
+    );
 }
 
 #[test]
 fn each_value_has_its_bits(rt: HostRuntime) {
-    for conv in Conv::ALL {
-        match conv.kind() {
-            Kind::Signed | Kind::Unsigned(_, _) => check_bits(&rt, conv),
-            Kind::Char | Kind::String => assert_eq!(rt; bits_of(Length::None, conv), Ok(0)),
+    for (i, model) in Model::ALL.iter().enumerate() {
+        for conv in Conv::ALL {
+            match conv.kind() {
+                Kind::Signed | Kind::Unsigned(_, _) => check_bits(&rt, *model, conv, BITS[i]),
+                Kind::Char | Kind::String => check_no_bits(&rt, *model, conv),
+            }
         }
     }
 }
@@ -227,11 +264,13 @@ fn each_conversion_has_its_kind(rt: HostRuntime) {
 #[test]
 fn each_modifier_has_its_representative(rt: HostRuntime) {
     for length in Length::ALL {
-        let want = match length {
-            Length::J | Length::Z | Length::T => Length::L,
-            other => other,
+        let (lp64, ilp32) = match length {
+            Length::J => (Length::L, Length::Ll),
+            Length::Z | Length::T => (Length::L, Length::None),
+            other => (other, other),
         };
-        assert_eq!(rt; length.representative(), want, "{length:?}");
+        assert_eq!(rt; length.representative(Model::Lp64), lp64, "{length:?}");
+        assert_eq!(rt; length.representative(Model::Ilp32), ilp32, "{length:?}");
     }
 }
 
@@ -285,23 +324,40 @@ static MAX_DIGITS: [[u8; 8]; 6] = [
     [8, 2, 4, 16, 16, 16, 16, 16],  // X
 ];
 
-fn max_digits_of(length: Length, conv: Conv) -> Result<u8, RefusalKind> {
-    Directive::new(FlagSet::empty(), None, None, length, conv).map(|d| d.max_digits())
+// The same, for the modifiers that name other types there.
+#[rattlefmt::skip]
+static MAX_DIGITS_IN_ILP32: [[u8; 8]; 6] = [
+    [10, 3, 5, 10, 19, 19, 10, 10], // d
+    [10, 3, 5, 10, 19, 19, 10, 10], // i
+    [10, 3, 5, 10, 20, 20, 10, 10], // u
+    [11, 3, 6, 11, 22, 22, 11, 11], // o
+    [8, 2, 4, 8, 16, 16, 8, 8],     // x
+    [8, 2, 4, 8, 16, 16, 8, 8],     // X
+];
+
+fn max_digits_of(model: Model, length: Length, conv: Conv) -> Result<u8, RefusalKind> {
+    Directive::new(FlagSet::empty(), None, None, length, conv).map(|d| d.max_digits(model))
+}
+
+fn check_max_digits(rt: &impl Abort, model: Model, conv: Conv, row: &[u8; 8]) {
+    for (length, want) in Length::ALL.iter().zip(row.iter()) {
+        let found = max_digits_of(model, *length, conv);
+        assert_eq!(rt; found, Ok(*want), "{model:?} {conv:?} {length:?}");
+    }
 }
 
 #[test]
 fn each_value_has_so_many_digits_at_most(rt: HostRuntime) {
     for (conv, row) in Conv::ALL.iter().zip(MAX_DIGITS.iter()) {
-        for (length, want) in Length::ALL.iter().zip(row.iter()) {
-            assert_eq!(rt;
-                max_digits_of(*length, *conv),
-                Ok(*want),
-                "{conv:?} {length:?}"
-            );
-        }
+        check_max_digits(&rt, Model::Lp64, *conv, row);
     }
-    assert_eq!(rt; max_digits_of(Length::None, Conv::C), Ok(0));
-    assert_eq!(rt; max_digits_of(Length::None, Conv::S), Ok(0));
+    for (conv, row) in Conv::ALL.iter().zip(MAX_DIGITS_IN_ILP32.iter()) {
+        check_max_digits(&rt, Model::Ilp32, *conv, row);
+    }
+    for model in Model::ALL {
+        assert_eq!(rt; max_digits_of(model, Length::None, Conv::C), Ok(0));
+        assert_eq!(rt; max_digits_of(model, Length::None, Conv::S), Ok(0));
+    }
 }
 
 #[rattlefmt::skip]
@@ -372,6 +428,43 @@ fn an_argument_has_its_type(rt: HostRuntime) {
     prints_once();
 }
 
+// Numbers at the ends of the range of a long in ILP32, and behind them.
+#[test]
+fn an_argument_fits_its_type_in_a_model(rt: HostRuntime) {
+    let rows = [
+        (Arg::Int(i32::MIN), true),
+        (Arg::UInt(u32::MAX), true),
+        (Arg::Long(-2_147_483_648), true),
+        (Arg::Long(2_147_483_647), true),
+        (Arg::Long(-2_147_483_649), false),
+        (Arg::Long(2_147_483_648), false),
+        (Arg::ULong(4_294_967_295), true),
+        (Arg::ULong(4_294_967_296), false),
+        (Arg::LongLong(i64::MIN), true),
+        (Arg::ULongLong(u64::MAX), true),
+    ];
+    for (i, (arg, want)) in rows.iter().enumerate() {
+        assert_eq!(rt; arg.fits(Model::Ilp32), *want, "row {i}");
+        assert!(rt; arg.fits(Model::Lp64), "row {i}");
+    }
+    let Some(text) = CBytes::new(b"a") else {
+        assert!(rt; false, "refused");
+        return;
+    };
+    assert!(rt; Arg::Str(text).fits(Model::Ilp32));
+}
+
+#[test]
+fn a_type_has_its_range_in_a_model(rt: HostRuntime) {
+    let most = 9_223_372_036_854_775_807;
+    assert!(rt; ArgType::Long.contains(Model::Lp64, most));
+    assert!(rt; !ArgType::Long.contains(Model::Lp64, most + 1));
+    assert!(rt; !ArgType::Long.contains(Model::Ilp32, most));
+    assert!(rt; ArgType::LongLong.contains(Model::Ilp32, most));
+    assert!(rt; !ArgType::ULong.contains(Model::Ilp32, -1));
+    assert!(rt; !ArgType::Str.contains(Model::Ilp32, 0));
+}
+
 #[test]
 fn an_integer_argument_has_its_number(rt: HostRuntime) {
     let rows = [
@@ -399,7 +492,7 @@ fn an_integer_argument_has_its_number(rt: HostRuntime) {
 fn type_of_a_padded_long(conv: Conv) -> Result<ArgType, RefusalKind> {
     let flags = FlagSet::empty().with(Flag::Minus);
     let directive = Directive::new(flags, Some(5), None, Length::L, conv)?;
-    Ok(directive.arg_type())
+    Ok(directive.arg_type(Model::Lp64))
 }
 
 #[test]

@@ -1,6 +1,5 @@
 //! Argument types.
 ghost use Rattle.std.specs.Prelude.{◌↔◌, IsTrue};
-ghost use Rattle.pf_values.specs.declared.models.Model.TheVariants.{Lp64};
 ghost use Rattle.pf_values.specs.DataModel.{IsInRange};
 
 use crate::data_model::{fits_signed, fits_unsigned, type_bits};
@@ -27,11 +26,12 @@ pub enum ArgType {
 }
 
 impl ArgType {
-    /// Whether the number is in the range of the type (C11 6.2.5). A string has none.
-    pub fn contains(self, number: i128) -> bool
-        ensures { IsTrue result ↔ IsInRange Lp64 self number }
+    /// Whether the number is in the range of the type in this data model (C11 6.2.5). A string has
+    /// none.
+    pub fn contains(self, model: Model, number: i128) -> bool
+        ensures { IsTrue result ↔ IsInRange model self number }
     {
-        let bits = type_bits(Model::Lp64, self);
+        let bits = type_bits(model, self);
         match self {
             ArgType::Int | ArgType::Long | ArgType::LongLong => fits_signed(number, bits),
             ArgType::UInt | ArgType::ULong | ArgType::ULongLong => fits_unsigned(number, bits),

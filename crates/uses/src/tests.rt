@@ -12,21 +12,21 @@ use crate::room::fits;
 use crate::tidiness::is_tidy;
 use crate::translations::other_type_at;
 use pf_render::RenderFault;
-use pf_values::{Conv, Counted, Directive, FlagSet, Length};
+use pf_values::{Conv, Counted, Directive, FlagSet, Length, Model};
 
 #[test]
 fn a_format_may_replace_another(rt: HostRuntime) {
     let alloc = rt.alloc();
-    assert!(rt; may_replace(alloc, b"%5c", b"    %c"));
-    assert!(rt; !may_replace(alloc, b"%05d", b"%.5d"));
-    assert!(rt; !may_replace(alloc, b"%f", b"%f"));
+    assert!(rt; may_replace(Model::Lp64, alloc, b"%5c", b"    %c"));
+    assert!(rt; !may_replace(Model::Lp64, alloc, b"%05d", b"%.5d"));
+    assert!(rt; !may_replace(Model::Lp64, alloc, b"%f", b"%f"));
 }
 
 #[test]
 fn two_formats_are_equivalent(rt: HostRuntime) {
-    assert!(rt; are_equivalent(b"%5c", b"    %c") == Some(true));
-    assert!(rt; are_equivalent(b"%05d", b"%.5d") == Some(false));
-    assert!(rt; are_equivalent(b"%d", b"%f") == None);
+    assert!(rt; are_equivalent(Model::Lp64, b"%5c", b"    %c") == Some(true));
+    assert!(rt; are_equivalent(Model::Lp64, b"%05d", b"%.5d") == Some(false));
+    assert!(rt; are_equivalent(Model::Lp64, b"%d", b"%f") == None);
 }
 
 #[test]
@@ -58,24 +58,24 @@ fn one_int_is_taken(rt: HostRuntime) {
 
 #[test]
 fn a_canonical_format_is_tidy(rt: HostRuntime) {
-    assert!(rt; is_tidy(b"%d%%"));
-    assert!(rt; !is_tidy(b"%i%%"));
-    assert!(rt; !is_tidy(b"%f"));
+    assert!(rt; is_tidy(Model::Lp64, b"%d%%"));
+    assert!(rt; !is_tidy(Model::Lp64, b"%i%%"));
+    assert!(rt; !is_tidy(Model::Lp64, b"%f"));
 }
 
 #[test]
 fn a_canonical_string_fits(rt: HostRuntime) {
-    assert!(rt; fits(b"%5c", 6));
-    assert!(rt; !fits(b"%5c", 5));
-    assert!(rt; !fits(b"%", 5));
+    assert!(rt; fits(Model::Lp64, b"%5c", 6));
+    assert!(rt; !fits(Model::Lp64, b"%5c", 5));
+    assert!(rt; !fits(Model::Lp64, b"%", 5));
 }
 
 #[test]
 fn a_number_shows_a_difference(rt: HostRuntime) {
     let alloc = rt.alloc();
-    assert!(rt; shows_difference(alloc, b"%05d", b"%.5d", -1));
-    assert!(rt; !shows_difference(alloc, b"%05d", b"%.5d", 1));
-    assert!(rt; !shows_difference(alloc, b"%ld", b"%d", -1));
+    assert!(rt; shows_difference(Model::Lp64, alloc, b"%05d", b"%.5d", -1));
+    assert!(rt; !shows_difference(Model::Lp64, alloc, b"%05d", b"%.5d", 1));
+    assert!(rt; !shows_difference(Model::Lp64, alloc, b"%ld", b"%d", -1));
 }
 
 #[test]
@@ -93,24 +93,24 @@ fn spaces_stand_in_front(rt: HostRuntime) {
         panic!(rt; "the directive is not defined");
     };
     // An int has a sign and at most ten digits.
-    assert!(rt; spaces_in_front(&field) == 9);
+    assert!(rt; spaces_in_front(Model::Lp64, &field) == 9);
 }
 
 #[test]
 fn a_format_is_copied(rt: HostRuntime) {
     let mut copy = [0u8; 8];
     let mut writer = Counted::new(copy.as_mut_slice());
-    assert!(rt; copies_tidily(&mut Counted::new(b"%5c%i".as_slice()), &mut writer));
+    assert!(rt; copies_tidily(Model::Lp64, &mut Counted::new(b"%5c%i".as_slice()), &mut writer));
     assert!(rt; copy.as_slice() == b"    %c%d".as_slice());
     let mut copy = [0u8; 8];
     let mut writer = Counted::new(copy.as_mut_slice());
-    assert!(rt; !copies_tidily(&mut Counted::new(b"%i%f".as_slice()), &mut writer));
+    assert!(rt; !copies_tidily(Model::Lp64, &mut Counted::new(b"%i%f".as_slice()), &mut writer));
 }
 
 #[test]
 fn a_translation_takes_another_type(rt: HostRuntime) {
     let alloc = rt.alloc();
-    assert!(rt; other_type_at(alloc, b"%s: %u files", b"%u Dateien: %s") == Some(0));
-    assert!(rt; other_type_at(alloc, b"%s: %u files", b"%s: Dateien") == Some(1));
-    assert!(rt; other_type_at(alloc, b"%s: %u files", b"%s: %u Dateien") == None);
+    assert!(rt; other_type_at(Model::Lp64, alloc, b"%s: %u files", b"%u Dateien: %s") == Some(0));
+    assert!(rt; other_type_at(Model::Lp64, alloc, b"%s: %u files", b"%s: Dateien") == Some(1));
+    assert!(rt; other_type_at(Model::Lp64, alloc, b"%s: %u files", b"%s: %u Dateien") == None);
 }

@@ -1,25 +1,36 @@
 -- What clap's definition of the command says of the words that it takes.
-use Rattle.std.proofs.Common.{◌≡◌, List, [], ◌∷◌, Bool, true, false, Option, Some, None, is_some, codes, refl, sym, ap, subst, find, cond, option_map, unwrap_or}
+use Rattle.std.proofs.Common.{◌≡◌, ◌∙◌, List, [], ◌∷◌, Bool, true, false, Option, Some, None, is_some, codes, refl, sym, ap, subst, find, cond, option_map, unwrap_or}
 use Rattle.std.specs.List.{AllByRecursion, list_all}
 use Rattle.clap.specs.Walk.{Row, Text, first_of, nothing_held, walk, answers_to}
-use Rattle.clap.specs.Simple.{Shape, built, entered, is_simple, label_of, names_of, rows_at, subcommand_of}
+use Rattle.clap.specs.Simple.{App, Shape, argument_words, built, entered, is_simple, label_of, names_of, rows_at, subcommand_of}
 use Rattle.clap.specs.Faults.{fault_of, is_simple_and_free}
+use Rattle.clap.specs.declared.builder.value_parser.ValueParser.{ValueParser}
 use Rattle.clap.proofs.OnLiterals.{clap_on_literals}
 use Rattle.fmtcanon.specs.Tasks.{Names}
-use Rattle.fmtcanon.specs.Words.{the_command}
+use Rattle.fmtcanon.specs.Words.{IsCommand, the_command}
 use Rattle.fmtcanon.proofs.command_line.PresenceLemmas.{required_has_value, required_is_named, requires_value}
 
-pub simple_command : is_simple the_command ≡ true
+simple_with : (one both : ValueParser) → is_simple (the_command one both) ≡ true
 unfolding the_command clap_on_literals
-simple_command = refl
+simple_with one both = refl
 
-pub free_command : is_simple_and_free the_command ≡ true
+free_with : (one both : ValueParser) → is_simple_and_free (the_command one both) ≡ true
 unfolding the_command clap_on_literals
-free_command = refl
+free_with one both = refl
+
+asks_with : (one both : ValueParser) → (built (the_command one both)).top.subcommand_required ≡ true
+unfolding the_command
+asks_with one both = refl
+
+pub simple_command : (app : App) → IsCommand app → is_simple app ≡ true
+simple_command app h = ap is_simple h.is ∙ simple_with _ _
+
+pub free_command : (app : App) → IsCommand app → is_simple_and_free app ≡ true
+free_command app h = ap is_simple_and_free h.is ∙ free_with _ _
 
 -- this holds of the name of each subcommand
-abbrev pub AtEach : (Text → Type 0) → Type 0
-AtEach P = AllByRecursion (λ s. P s.name) (built the_command).subs
+abbrev pub AtEach : ValueParser → ValueParser → (Text → Type 0) → Type 0
+AtEach one both P = AllByRecursion (λ s. P s.name) (built (the_command one both)).subs
 
 module _ (P : Text → Type 0) where
   picked : (b : Bool) (s : Shape) (rest : Option Shape) (words : List Text) (q : Text × List Row) → P s.name
@@ -33,50 +44,54 @@ module _ (P : Text → Type 0) where
   found p words [] q each e = absurd (cc)
   found p words (s ∷ ss) q each e = picked (p s) s (find p ss) words q each.0 (found p words ss q each.1) e
 
-  at_entered : (stop : Option (Text × List Text)) (q : Text × List Row) → AtEach P → entered (built the_command) stop ≡ Some q → P q.0
-  at_entered None q each e = absurd (cc)
-  at_entered (Some p) q each e = found (λ s. answers_to p.0 (label_of s)) p.1 (built the_command).subs q each e
+  at_entered : (subs : List Shape) (a : App) → (built a).subs ≡ subs → (stop : Option (Text × List Text)) (q : Text × List Row) → AllByRecursion (λ s. P s.name) subs
+      → entered (built a) stop ≡ Some q → P q.0
+  at_entered subs a same None q each e = absurd (cc)
+  at_entered subs a same (Some p) q each e =
+      found (λ s. answers_to p.0 (label_of s)) p.1 (built a).subs q (subst (AllByRecursion (λ s. P s.name)) (sym same) each) e
 
 -- what holds of the name of each subcommand holds of the name that is asked for
-pub at_asked : (P : Text → Type 0) (words : List Text) (name : Text) (rows : List Row) → AtEach P
-    → subcommand_of the_command words ≡ Some (name, rows) → P name
-unfolding the_command
-at_asked P words name rows each e = at_entered P (walk (built the_command).top.rules (names_of (built the_command)) nothing_held words).stopped (name, rows) each e
-
-asks_subcommand : (built the_command).top.subcommand_required ≡ true
-unfolding the_command
-asks_subcommand = refl
+pub at_asked : (P : Text → Type 0) (app : App) (words : List Text) (name : Text) (rows : List Row) → ((one both : ValueParser) → AtEach one both P) → IsCommand app
+    → subcommand_of app words ≡ Some (name, rows) → P name
+at_asked P app words name rows each h e =
+    at_entered P _ app (ap (λ a. (built a).subs) h.is) (walk (built app).top.rules (names_of (built app)) nothing_held (argument_words app words)).stopped (name, rows) (each _ _) e
 
 -- where no fault is found, a subcommand is named
-pub subcommand_given : (words : List Text) → fault_of the_command words ≡ [] → is_some (subcommand_of the_command words) ≡ true
-subcommand_given words = required_is_named the_command words asks_subcommand
+pub subcommand_given : (app : App) (words : List Text) → IsCommand app → fault_of app words ≡ [] → is_some (subcommand_of app words) ≡ true
+subcommand_given app words h = required_is_named app words (ap (λ a. (built a).top.subcommand_required) h.is ∙ asks_with _ _)
 
 -- a required argument of the subcommand of this name
 abbrev pub IsWanted : Text → Text → Type 0
-IsWanted name id = list_all (requires_value name id) (built the_command).subs ≡ true
+IsWanted name id = (one both : ValueParser) → list_all (requires_value name id) (built (the_command one both)).subs ≡ true
 
 pub types_wants : IsWanted (codes "types") (codes "F")
 unfolding the_command clap_on_literals
-types_wants = refl
+types_wants one both = refl
 
 pub canon_wants : IsWanted (codes "canon") (codes "F")
 unfolding the_command clap_on_literals
-canon_wants = refl
+canon_wants one both = refl
 
 pub show_wants : IsWanted (codes "show") (codes "F")
 unfolding the_command clap_on_literals
-show_wants = refl
+show_wants one both = refl
 
 pub format_wants : IsWanted (codes "format") (codes "F")
 unfolding the_command clap_on_literals
-format_wants = refl
+format_wants one both = refl
 
-pub same_wants : IsWanted (codes "same") (codes "F") × IsWanted (codes "same") (codes "G")
+pub same_wants_first : IsWanted (codes "same") (codes "F")
 unfolding the_command clap_on_literals
-same_wants = (refl, refl)
+same_wants_first one both = refl
+
+pub same_wants_second : IsWanted (codes "same") (codes "G")
+unfolding the_command clap_on_literals
+same_wants_second one both = refl
 
 -- where no fault is found, such an argument has a value
 pub value_given : (words : List Text) (name command id : Text) (rows : List Row) → Names words name rows → name ≡ command → IsWanted command id
     → is_some (first_of id rows) ≡ true
 value_given words name command id rows names e wants =
-    required_has_value the_command words name id rows (subst (λ n. IsWanted n id) (sym e) wants) names.no_fault names.named
+    let app = names.is_command in
+    let needed = ap (λ a. list_all (requires_value name id) (built a).subs) app.is ∙ subst (λ n. IsWanted n id) (sym e) wants _ _ in
+    required_has_value names.app words name id rows needed names.no_fault names.named

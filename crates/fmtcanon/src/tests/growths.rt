@@ -6,7 +6,7 @@ use pf_canon::{CanonFault, canonical};
 use pf_compare::{CompareFault, OwnedArg, Verdict, compare, confirms};
 use pf_render::{RenderVecFault, render_vec};
 use pf_text::{TextFault, signature};
-use pf_values::{Arg, ArgType, Counted};
+use pf_values::{Arg, ArgType, Counted, Model};
 use std::alloc::{AllocError, Global};
 
 // At most so many blocks are given back.
@@ -25,7 +25,7 @@ fn answer_of(right: bool) -> Seen {
 }
 
 fn canonical_seen(alloc: Global) -> Seen {
-    match canonical(alloc, b"%4095d%.0sx") {
+    match canonical(alloc, Model::Lp64, b"%4095d%.0sx") {
         Ok(text) => answer_of(
             text.len() == 4_084 + 9
                 && text.as_slice().iter().take(4_084).all(|byte| *byte == b' ')
@@ -37,7 +37,7 @@ fn canonical_seen(alloc: Global) -> Seen {
 }
 
 fn signature_seen(alloc: Global) -> Seen {
-    match signature(alloc, b"%d%d%d%d%d%d%d%d%d") {
+    match signature(alloc, Model::Lp64, b"%d%d%d%d%d%d%d%d%d") {
         Ok(types) => answer_of(types.as_slice() == [ArgType::Int; 9].as_slice()),
         Err(TextFault::Memory) => Seen::Memory,
         Err(TextFault::Refused(_)) => Seen::Wrong,
@@ -45,7 +45,7 @@ fn signature_seen(alloc: Global) -> Seen {
 }
 
 fn render_vec_seen(alloc: Global) -> Seen {
-    match render_vec(alloc, b"%4095d", &[Arg::Int(1)]) {
+    match render_vec(alloc, Model::Lp64, b"%4095d", &[Arg::Int(1)]) {
         Ok(bytes) => answer_of(
             bytes.len() == 4_095
                 && bytes
@@ -61,7 +61,7 @@ fn render_vec_seen(alloc: Global) -> Seen {
 }
 
 fn confirms_seen(alloc: Global) -> Seen {
-    match confirms(alloc, b"%05d", b"%.5d", &[Arg::Int(-1)]) {
+    match confirms(alloc, Model::Ilp32, b"%05d", b"%.5d", &[Arg::Int(-1)]) {
         Ok(told) => answer_of(told),
         Err(AllocError) => Seen::Memory,
     }
@@ -80,7 +80,7 @@ fn is_wanted(arg: &OwnedArg) -> bool {
 }
 
 fn compare_seen(alloc: Global, f: &str, g: &str, renderings: u8) -> Seen {
-    match compare(alloc, f.as_bytes(), g.as_bytes()) {
+    match compare(alloc, Model::Ilp32, f.as_bytes(), g.as_bytes()) {
         Ok(comparison) => match &comparison.verdict {
             Verdict::Args(args) => answer_of(
                 comparison.renderings == renderings

@@ -4,7 +4,7 @@ use pf_canon::{Side, canonical_len, canonical_stream, is_canonical, same_text};
 use pf_compare::{CompareFault, Verdict, compare};
 use pf_render::render;
 use pf_text::{TextFault, check, signature};
-use pf_values::{Arg, Counted};
+use pf_values::{Arg, Counted, Model};
 use std::alloc::{AllocError, Global};
 
 // What is told of two formats.
@@ -20,7 +20,7 @@ enum Told {
 }
 
 fn told_of(alloc: Global, f: &str, g: &str) -> Told {
-    match compare(alloc, f.as_bytes(), g.as_bytes()) {
+    match compare(alloc, Model::Lp64, f.as_bytes(), g.as_bytes()) {
         Ok(comparison) => match comparison.verdict {
             Verdict::Same => Told::Same,
             Verdict::Types(index) => Told::Types(index),
@@ -68,7 +68,7 @@ fn compare_takes_no_memory_but_for_arguments(rt: HostRuntime) -> Result<(), Allo
 
 // How many types a signature has, or whether memory was wanted for them.
 fn length_of(alloc: Global, format: &[u8]) -> Option<usize> {
-    match signature(alloc, format) {
+    match signature(alloc, Model::Lp64, format) {
         Ok(signature) => Some(signature.len()),
         Err(TextFault::Memory) => None,
         Err(TextFault::Refused(_)) => Some(usize::MAX),
@@ -97,15 +97,15 @@ fn calls_without_an_allocator_take_none(rt: HostRuntime) -> Result<(), AllocErro
     let mut printed = [0u8; 16];
     let exhausted = Exhausted::new(rt.alloc())?;
     let accepted = check(b"%d%%%-5s") == Ok(());
-    let recognized = is_canonical(b"%5d") == Ok(true);
-    let counted = canonical_len(b"%4095d");
-    let same = same_text(b"%zd", b"%ld") == Ok(true);
+    let recognized = is_canonical(Model::Lp64, b"%5d") == Ok(true);
+    let counted = canonical_len(Model::Ilp32, b"%4095d");
+    let same = same_text(Model::Lp64, b"%zd", b"%ld") == Ok(true);
     let mut reader = Counted::new(b"a%.0sb%05u".as_slice());
     let mut writer = Counted::new(copied.as_mut_slice());
-    let streamed = canonical_stream(&mut reader, &mut writer).is_ok();
+    let streamed = canonical_stream(Model::Lp64, &mut reader, &mut writer).is_ok();
     let left = writer.into_inner().len();
     let mut writer = Counted::new(printed.as_mut_slice());
-    let rendered = render(b"%5d|", &[Arg::Int(42)], &mut writer).is_ok();
+    let rendered = render(Model::Lp64, b"%5d|", &[Arg::Int(42)], &mut writer).is_ok();
     let unused = writer.into_inner().len();
     drop(exhausted);
     assert!(rt; accepted && recognized && same && streamed && rendered);

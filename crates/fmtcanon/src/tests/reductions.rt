@@ -1,8 +1,8 @@
-//! A directive and what it is reduced to print the same.
+//! A directive and what it is reduced to print the same, in each data model.
 use pf_reduce::{Core, Normal, reduce};
 use pf_render::render_one;
 use pf_text::{Piece, Pieces};
-use pf_values::{Arg, ArgType, Counted, Directive};
+use pf_values::{Arg, ArgType, Counted, Directive, Model};
 use std::alloc::{AllocError, Global};
 use std::test::Fail;
 
@@ -27,8 +27,11 @@ static LONG_UNSIGNED: [i128; 4] = [0, 1, 2, 18446744073709551615];
 
 static LONGS: [i128; 5] = [0, 1, -1, -9223372036854775808, 9223372036854775807];
 
-fn numbers(arg_type: ArgType) -> &'static [i128] {
+// The numbers of a type; in ILP32 a long has those of an int.
+fn numbers(model: Model, arg_type: ArgType) -> &'static [i128] {
     match arg_type {
+        ArgType::Long if model == Model::Ilp32 => &INTS,
+        ArgType::ULong if model == Model::Ilp32 => &UNSIGNED,
         ArgType::Int => &INTS,
         ArgType::UInt => &UNSIGNED,
         ArgType::ULong | ArgType::ULongLong => &LONG_UNSIGNED,
@@ -62,6 +65,7 @@ fn directive_of(format: &str) -> Option<Directive> {
 // What a directive prints of a number, between so many spaces and zeros and so many spaces.
 fn print_of(
     alloc: Global,
+    model: Model,
     directive: &Directive,
     number: i128,
     before: (u16, u16),
@@ -71,13 +75,13 @@ fn print_of(
     out.resize(usize::from(before.0), b' ')?;
     out.resize(usize::from(before.0) + usize::from(before.1), b'0')?;
     let mut writer = Counted::new(out);
-    let Some(argument) = argument_of(directive.arg_type(), number) else {
+    let Some(argument) = argument_of(directive.arg_type(model), number) else {
         return Ok(None);
     };
-    if argument.arg_type() != directive.arg_type() {
+    if argument.arg_type() != directive.arg_type(model) {
         return Ok(None);
     }
-    if render_one(directive, argument, &mut writer).is_err() {
+    if render_one(model, directive, argument, &mut writer).is_err() {
         return Ok(None);
     }
     let mut out = writer.into_inner();
@@ -93,29 +97,48 @@ fn normal_core(core: Core) -> Option<Normal> {
     }
 }
 
-fn prints_the_same(alloc: Global, directive: &Directive, number: i128) -> Result<bool, AllocError> {
-    let reduced = reduce(directive);
+fn prints_the_same(
+    alloc: Global,
+    model: Model,
+    directive: &Directive,
+    number: i128,
+) -> Result<bool, AllocError> {
+    let reduced = reduce(model, directive);
     let Some(core) = normal_core(reduced.core) else {
         return Ok(false);
     };
-    let whole = print_of(alloc, directive, number, (0, 0), 0)?;
+    let whole = print_of(alloc, model, directive, number, (0, 0), 0)?;
     let before = (reduced.spaces, reduced.zeros);
-    let parts = print_of(alloc, &core.directive(), number, before, reduced.trail)?;
+    let parts = print_of(
+        alloc,
+        model,
+        &core.directive(),
+        number,
+        before,
+        reduced.trail,
+    )?;
     Ok(whole.is_some() && whole == parts)
+}
+
+// The first number for which they differ, where one of them is no directive 0.
+fn first_wrong(alloc: Global, model: Model, format: &str) -> Result<Option<i128>, AllocError> {
+    let Some(directive) = directive_of(format) else {
+        return Ok(Some(0));
+    };
+    for number in numbers(model, directive.arg_type(model)) {
+        if !prints_the_same(alloc, model, &directive, *number)? {
+            return Ok(Some(*number));
+        }
+    }
+    Ok(None)
 }
 
 #[test]
 fn a_reduced_directive_prints_the_same(rt: HostRuntime) -> Result<(), Fail> {
-    for format in &DIRECTIVES {
-        let directive = directive_of(format);
-        assert!(rt; directive.is_some(), "{format}");
-        if let Some(directive) = directive {
-            for number in numbers(directive.arg_type()) {
-                assert!(rt;
-                    prints_the_same(rt.alloc(), &directive, *number)?,
-                    "{format} {number}"
-                );
-            }
+    for model in Model::ALL {
+        for format in &DIRECTIVES {
+            let wrong = first_wrong(rt.alloc(), model, format)?;
+            assert_eq!(rt; wrong, None, "{model:?} {format}");
         }
     }
     Ok(())

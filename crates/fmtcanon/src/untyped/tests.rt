@@ -1,10 +1,11 @@
 //! The ranges of the types, and what is of another kind.
 use super::*;
 use crate::argument_words::read_argument;
+use pf_values::Model;
 
 // The type and the number of the argument that a word gives at a type.
-fn number_at(word: &str, arg_type: ArgType) -> Option<(ArgType, i128)> {
-    let arg = read_argument(word.as_bytes())?.as_type(arg_type)?;
+fn number_at(model: Model, word: &str, arg_type: ArgType) -> Option<(ArgType, i128)> {
+    let arg = read_argument(word.as_bytes())?.as_type(model, arg_type)?;
     Some((arg.arg_type(), arg.number()?))
 }
 
@@ -50,7 +51,11 @@ fn numbers_in_range(rt: HostRuntime) {
         ("n:00000000000000000042", ArgType::Int, 42),
     ];
     for (word, arg_type, want) in rows {
-        assert_eq!(rt; number_at(word, arg_type), Some((arg_type, want)), "{word}");
+        assert_eq!(rt;
+            number_at(Model::Lp64, word, arg_type),
+            Some((arg_type, want)),
+            "{word}"
+        );
     }
 }
 
@@ -78,8 +83,24 @@ fn of_no_such_type(rt: HostRuntime) {
     for (word, arg_type) in rows {
         let given = read_argument(word.as_bytes());
         assert!(rt; given.is_some(), "{word}");
-        let typed = given.and_then(|given| given.as_type(arg_type));
+        let typed = given.and_then(|given| given.as_type(Model::Lp64, arg_type));
         assert!(rt; typed.is_none(), "{word} {arg_type:?}");
+    }
+}
+
+#[test]
+fn numbers_of_a_long_in_ilp32(rt: HostRuntime) {
+    let rows: [(&str, ArgType, Option<i128>); 6] = [
+        ("n:-2147483648", ArgType::Long, Some(-2_147_483_648)),
+        ("n:-2147483649", ArgType::Long, None),
+        ("n:2147483648", ArgType::Long, None),
+        ("n:4294967295", ArgType::ULong, Some(4_294_967_295)),
+        ("n:4294967296", ArgType::ULong, None),
+        ("n:4294967296", ArgType::LongLong, Some(4_294_967_296)),
+    ];
+    for (word, arg_type, want) in rows {
+        let found = number_at(Model::Ilp32, word, arg_type);
+        assert_eq!(rt; found, want.map(|number| (arg_type, number)), "{word}");
     }
 }
 
@@ -88,7 +109,7 @@ fn a_string(rt: HostRuntime) {
     let given = read_argument(b"s:two words");
     assert!(rt; given.is_some());
     if let Some(given) = given {
-        match given.as_type(ArgType::Str) {
+        match given.as_type(Model::Lp64, ArgType::Str) {
             Some(Arg::Str(bytes)) => assert!(rt; bytes.bytes() == b"two words".as_slice()),
             other => assert!(rt; false, "{other:?}"),
         }

@@ -1,7 +1,7 @@
 //! How long canonical texts are.
 use crate::canonical_len;
 use pf_text::Refusal;
-use pf_values::RefusalKind;
+use pf_values::{Model, RefusalKind};
 use std::alloc::Global;
 use std::test::Fail;
 
@@ -18,18 +18,18 @@ fn lengths(rt: HostRuntime) {
         (b"Total: %i of %u", 15),
     ];
     for (text, len) in rows {
-        assert_eq!(rt; canonical_len(text), Ok(len));
+        assert_eq!(rt; canonical_len(Model::Lp64, text), Ok(len));
     }
     let unexpected = Refusal {
         kind: RefusalKind::Unexpected,
         at: 3,
     };
-    assert_eq!(rt; canonical_len(b"%d%y"), Err(unexpected));
+    assert_eq!(rt; canonical_len(Model::Lp64, b"%d%y"), Err(unexpected));
     let truncated = Refusal {
         kind: RefusalKind::Truncated,
         at: 4,
     };
-    assert_eq!(rt; canonical_len(b"100%"), Err(truncated));
+    assert_eq!(rt; canonical_len(Model::Lp64, b"100%"), Err(truncated));
 }
 
 // The length of the canonical text of a part, over and over, between a front and an end.
@@ -45,7 +45,7 @@ fn len_of(
         text.extend_from_slice(part)?;
     }
     text.extend_from_slice(end)?;
-    Ok(canonical_len(&text).ok())
+    Ok(canonical_len(Model::Lp64, &text).ok())
 }
 
 #[test]

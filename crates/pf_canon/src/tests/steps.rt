@@ -3,7 +3,7 @@ use super::devices::{feed_that_fails, has_left, whole};
 use super::{DIRECTIVES, FORMATS};
 use crate::{Side, SideFault, StreamFault, same_stream, same_text};
 use pf_text::Refusal;
-use pf_values::{Counted, RefusalKind};
+use pf_values::{Counted, Model, RefusalKind};
 use std::alloc::AllocError;
 
 static CUTS: [usize; 4] = [1, 2, 3, 7];
@@ -11,6 +11,7 @@ static CUTS: [usize; 4] = [1, 2, 3, 7];
 // What `same_stream` answers of two texts in a cut.
 fn same_over(first: &str, second: &str, step: usize) -> Result<bool, SideFault> {
     same_stream(
+        Model::Lp64,
         &mut Counted::new(whole(first.as_bytes(), step)),
         &mut Counted::new(whole(second.as_bytes(), step)),
     )
@@ -30,7 +31,7 @@ fn all_answer(first: &str, second: &str, want: Result<bool, (Side, Refusal)>) ->
             return false;
         }
     }
-    same_text(first.as_bytes(), second.as_bytes()) == want
+    same_text(Model::Lp64, first.as_bytes(), second.as_bytes()) == want
 }
 
 fn refusal(kind: RefusalKind, at: u64) -> Refusal {
@@ -105,7 +106,7 @@ fn the_second_text_is_read_no_further(rt: HostRuntime) {
         side: Side::First,
         fault: StreamFault::Refused(refusal(RefusalKind::Unexpected, 3)),
     };
-    assert!(rt; same_stream(&mut r, &mut s) == Err(want));
+    assert!(rt; same_stream(Model::Lp64, &mut r, &mut s) == Err(want));
     assert!(rt; has_left(s.into_inner(), b"%zabc"));
 }
 
@@ -121,7 +122,7 @@ fn a_reader_that_fails_is_told_by_its_side(rt: HostRuntime) {
                 side: Side::First,
                 fault,
             };
-            assert!(rt; same_stream(&mut r, &mut s) == Err(first));
+            assert!(rt; same_stream(Model::Lp64, &mut r, &mut s) == Err(first));
             assert_eq!(rt; (r.failures(), s.failures()), (1, 0));
             let mut r = Counted::new(whole(text, step));
             let mut s = Counted::new(feed_that_fails(text, step, fails_at));
@@ -129,11 +130,11 @@ fn a_reader_that_fails_is_told_by_its_side(rt: HostRuntime) {
                 side: Side::Second,
                 fault,
             };
-            assert!(rt; same_stream(&mut r, &mut s) == Err(second));
+            assert!(rt; same_stream(Model::Lp64, &mut r, &mut s) == Err(second));
             assert_eq!(rt; (r.failures(), s.failures()), (0, 1));
             let mut r = Counted::new(feed_that_fails(text, step, 5));
             let mut s = Counted::new(feed_that_fails(text, step, fails_at));
-            assert!(rt; same_stream(&mut r, &mut s) == Err(first));
+            assert!(rt; same_stream(Model::Lp64, &mut r, &mut s) == Err(first));
         }
     }
 }
@@ -146,8 +147,8 @@ fn long_texts_in_step(rt: HostRuntime) -> Result<(), AllocError> {
         first.extend_from_slice(b"%.0s%4095d")?;
         second.extend_from_slice(b"%.0s%4095i")?;
     }
-    assert!(rt; same_text(&first, &second) == Ok(true));
+    assert!(rt; same_text(Model::Lp64, &first, &second) == Ok(true));
     second.push(b'!')?;
-    assert!(rt; same_text(&first, &second) == Ok(false));
+    assert!(rt; same_text(Model::Lp64, &first, &second) == Ok(false));
     Ok(())
 }

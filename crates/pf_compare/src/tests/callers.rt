@@ -1,6 +1,6 @@
 //! The caller in CALLING.md that `crates/uses` doesn't have.
 use crate::{CompareFault, Verdict, compare, confirms};
-use pf_values::Arg;
+use pf_values::{Arg, Model};
 use std::alloc::Global;
 use std::test::Fail;
 
@@ -13,7 +13,7 @@ enum Standing {
 }
 
 fn may_stand_for(alloc: Global, old: &[u8], new: &[u8]) -> Result<Standing, CompareFault> {
-    let comparison = compare(alloc, old, new)?;
+    let comparison = compare(alloc, Model::Lp64, old, new)?;
     match comparison.verdict {
         Verdict::Same => Ok(Standing::Fits),
         Verdict::Types(index) => Ok(Standing::OtherTypes(index)),
@@ -48,7 +48,7 @@ fn a_caller_asks_whether_one_may_stand_for_another(rt: HostRuntime) {
 #[test]
 fn a_caller_confirms_arguments(rt: HostRuntime) -> Result<(), Fail> {
     let alloc = rt.alloc();
-    assert!(rt; confirms(alloc, b"%d%05d", b"%d%.5d", &[Arg::Int(0), Arg::Int(-1)])?);
-    assert!(rt; !confirms(alloc, b"%d%05d", b"%d%.5d", &[Arg::Int(0), Arg::Int(5)])?);
+    assert!(rt; confirms(alloc, Model::Lp64, b"%d%05d", b"%d%.5d", &[Arg::Int(0), Arg::Int(-1)])?);
+    assert!(rt; !confirms(alloc, Model::Lp64, b"%d%05d", b"%d%.5d", &[Arg::Int(0), Arg::Int(5)])?);
     Ok(())
 }

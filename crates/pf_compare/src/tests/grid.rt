@@ -3,7 +3,7 @@ use crate::candidate_rows::{owned_row, row_of};
 use pf_reduce::is_normal;
 use pf_render::render_vec;
 use pf_text::{Piece, Pieces, spell};
-use pf_values::{Arg, ArgType, Conv, Directive, Flag, FlagSet, Length};
+use pf_values::{Arg, ArgType, Conv, Directive, Flag, FlagSet, Length, Model};
 use std::alloc::Global;
 use std::test::Fail;
 
@@ -79,13 +79,13 @@ fn push_form(
     let Ok(bare) = Directive::new(FlagSet::empty(), None, None, length, conv) else {
         return Ok(());
     };
-    if bare.arg_type() != wanted {
+    if bare.arg_type(Model::Lp64) != wanted {
         return Ok(());
     }
     let digits = match conv {
         Conv::S => STRING_DIGITS,
         Conv::C => 2,
-        _ => u16::from(bare.max_digits()),
+        _ => u16::from(bare.max_digits(Model::Lp64)),
     };
     for precision in &precisions(alloc, digits)? {
         for width in &widths(alloc, digits, *precision)? {
@@ -97,7 +97,7 @@ fn push_form(
                     length,
                     conv,
                 ) {
-                    if is_normal(&directive) {
+                    if is_normal(Model::Lp64, &directive) {
                         found.push(directive)?;
                     }
                 }
@@ -121,7 +121,7 @@ fn grid(alloc: Global, wanted: ArgType) -> Result<Vec<Directive>, Fail> {
 fn texts_of(alloc: Global, directive: &Directive, row: &[Arg<'_>]) -> Result<Vec<Vec<u8>>, Fail> {
     let mut texts = Vec::new(alloc);
     for argument in row {
-        match render_vec(alloc, &spell(directive), &[*argument]) {
+        match render_vec(alloc, Model::Lp64, &spell(directive), &[*argument]) {
             Ok(text) => texts.push(text)?,
             Err(_) => return Ok(texts),
         }
@@ -162,7 +162,7 @@ struct Tally {
 }
 
 fn tally_of(alloc: Global, wanted: ArgType) -> Result<Tally, Fail> {
-    let owned = owned_row(alloc, wanted)?;
+    let owned = owned_row(alloc, Model::Lp64, wanted)?;
     let row = row_of(alloc, &owned)?;
     let mut texts = Vec::new(alloc);
     for directive in &grid(alloc, wanted)? {
@@ -278,7 +278,7 @@ fn told_formats(alloc: Global, f: &str, g: &str) -> Result<Told, Fail> {
     let (Some(first), Some(second)) = (directive_of(f), directive_of(g)) else {
         return Ok(Told::Nowhere);
     };
-    let owned = owned_row(alloc, first.arg_type())?;
+    let owned = owned_row(alloc, Model::Lp64, first.arg_type(Model::Lp64))?;
     let row = row_of(alloc, &owned)?;
     let x = texts_of(alloc, &first, &row)?;
     let y = texts_of(alloc, &second, &row)?;

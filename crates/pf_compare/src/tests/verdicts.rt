@@ -2,6 +2,7 @@
 use super::is_confirmed;
 use crate::{CompareFault, OwnedArg, Verdict, compare};
 use pf_canon::Side;
+use pf_values::Model;
 use std::alloc::Global;
 use std::fmt::Write;
 use std::test::Fail;
@@ -31,7 +32,7 @@ fn write_arg(out: &mut String, arg: &OwnedArg) -> Result<(), Fail> {
 
 fn verdict_text(alloc: Global, f: &[u8], g: &[u8]) -> Result<String, Fail> {
     let mut out = String::new(alloc);
-    match compare(alloc, f, g) {
+    match compare(alloc, Model::Lp64, f, g) {
         Ok(comparison) => match &comparison.verdict {
             Verdict::Same => write!(out, "same")?,
             Verdict::Types(index) => write!(out, "types {index}")?,

@@ -1,6 +1,6 @@
 //! The core of each directive of a grid is normal, and is its own core.
 use crate::{Core, Reduced, is_normal, reduce};
-use pf_values::{Conv, Directive, Flag, FlagSet, Length};
+use pf_values::{Conv, Directive, Flag, FlagSet, Length, Model};
 use std::process::Abort;
 
 // The numbers of a directive; with 4096 there is none.
@@ -27,8 +27,8 @@ fn check_core(rt: &impl Abort, core: Core, given: &Directive) -> bool {
     match core {
         Core::Normal(normal) => {
             let directive = normal.directive();
-            assert!(rt; is_normal(&directive), "{given:?}");
-            assert_eq!(rt; reduce(&directive), alone(core), "{given:?}");
+            assert!(rt; is_normal(Model::Lp64, &directive), "{given:?}");
+            assert_eq!(rt; reduce(Model::Lp64, &directive), alone(core), "{given:?}");
             directive == *given
         }
         Core::Silent => false,
@@ -49,10 +49,10 @@ fn check_grid(rt: &impl Abort, flags: FlagSet, length: Length, conv: Conv) {
         for precision in &NUMBERS {
             let made = Directive::new(flags, number(*width), number(*precision), length, conv);
             let Ok(given) = made else { continue };
-            let reduced = reduce(&given);
+            let reduced = reduce(Model::Lp64, &given);
             let kept = check_core(rt, reduced.core, &given);
             assert_eq!(rt;
-                is_normal(&given),
+                is_normal(Model::Lp64, &given),
                 kept && reduced == alone(reduced.core),
                 "{given:?}"
             );

@@ -25,7 +25,7 @@ fn growth_after_growth_is_refused(rt: HostRuntime) -> Result<(), AllocError> {
     let mut refused = 0u32;
     for size in 0..SIZES {
         let heap = LocalHeap::new(rt.alloc(), size)?;
-        match render_vec_in(&heap, FORMAT, &arguments()) {
+        match render_vec_in(&heap, Model::Lp64, FORMAT, &arguments()) {
             Ok(bytes) => {
                 assert!(rt; bytes.as_slice() == PRINTED);
                 assert!(rt; refused > 0);
@@ -45,15 +45,15 @@ fn growth_after_growth_is_refused(rt: HostRuntime) -> Result<(), AllocError> {
 #[test]
 fn no_memory_is_taken_for_nothing(rt: HostRuntime) -> Result<(), AllocError> {
     let heap = LocalHeap::new(rt.alloc(), 0)?;
-    match render_vec_in(&heap, b"%.0d", &[Arg::Int(0)]) {
+    match render_vec_in(&heap, Model::Lp64, b"%.0d", &[Arg::Int(0)]) {
         Ok(bytes) => assert!(rt; bytes.is_empty()),
         Err(fault) => assert!(rt; false, "{fault}"),
     }
-    let Err(fault) = render_vec_in(&heap, b"abc%", &[]) else {
+    let Err(fault) = render_vec_in(&heap, Model::Lp64, b"abc%", &[]) else {
         panic!(rt; "the text is not refused");
     };
     assert!(rt; matches!(&fault, RenderVecFault::Refused(_)));
-    let Err(fault) = render_vec_in(&heap, b"abc%d", &[]) else {
+    let Err(fault) = render_vec_in(&heap, Model::Lp64, b"abc%d", &[]) else {
         panic!(rt; "an argument is missing");
     };
     assert!(rt;
@@ -63,7 +63,7 @@ fn no_memory_is_taken_for_nothing(rt: HostRuntime) -> Result<(), AllocError> {
                 given: 0
             }
     );
-    let Err(fault) = render_vec_in(&heap, b"abc%s", &[Arg::Int(0)]) else {
+    let Err(fault) = render_vec_in(&heap, Model::Lp64, b"abc%s", &[Arg::Int(0)]) else {
         panic!(rt; "the argument is no string");
     };
     assert!(rt; fault == RenderVecFault::WrongType(0));

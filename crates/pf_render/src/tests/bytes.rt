@@ -1,7 +1,7 @@
 //! Bytes that are no ASCII characters, and zero bytes.
 use super::{directive_of, is_rendering};
 use crate::render_one;
-use pf_values::{Arg, CBytes, Counted};
+use pf_values::{Arg, CBytes, Counted, Model};
 use std::test::Fail;
 
 // All bytes but zero and `%`, which a text holds as they are.
@@ -89,9 +89,12 @@ fn one_string(rt: HostRuntime) -> Result<(), Fail> {
         panic!(rt; "no directive or no string");
     };
     let argument = Arg::Str(string);
-    assert!(rt; argument.arg_type() == directive.arg_type());
+    assert!(rt; argument.arg_type() == directive.arg_type(Model::Lp64));
     let mut writer = Counted::new(Vec::new(rt.alloc()));
-    assert_eq!(rt; render_one(&directive, argument, &mut writer), Ok(()));
+    assert_eq!(rt;
+        render_one(Model::Lp64, &directive, argument, &mut writer),
+        Ok(())
+    );
     assert!(rt; writer.into_inner().as_slice() == b"\xe6\xbc  ".as_slice());
     Ok(())
 }

@@ -1,6 +1,6 @@
 //! The caller in CALLING.md that `crates/uses` doesn't have.
 use crate::{RenderFault, render};
-use pf_values::{Arg, CBytes, Counted};
+use pf_values::{Arg, CBytes, Counted, Model};
 use std::io::Write;
 
 /// Writes a name and a count as a line.
@@ -10,7 +10,7 @@ fn write_line<W: Write>(
     writer: &mut Counted<W>,
 ) -> Result<(), RenderFault> {
     let args = [Arg::Str(name), Arg::ULong(count)];
-    render(b"%-8s%5lu\n", &args, writer)
+    render(Model::Lp64, b"%-8s%5lu\n", &args, writer)
 }
 
 #[test]

@@ -1,7 +1,7 @@
 //! How often a writer is called, and a writer that takes nothing where it is full.
 use super::write_number;
 use crate::{RenderFault, render};
-use pf_values::{Arg, Counted};
+use pf_values::{Arg, Counted, Model};
 use std::alloc::{AllocError, Global};
 use std::io;
 use std::io::Write;
@@ -11,7 +11,7 @@ fn room_for_one_byte(rt: HostRuntime) {
     let mut room = [0u8; 1];
     let mut writer = Counted::new(room.as_mut_slice());
     assert_eq!(rt;
-        render(b"%3d|", &[Arg::Int(5)], &mut writer),
+        render(Model::Lp64, b"%3d|", &[Arg::Int(5)], &mut writer),
         Err(RenderFault::Write(1))
     );
     assert_eq!(rt; writer.failures(), 1);
@@ -46,7 +46,7 @@ fn calls_of(format: &[u8]) -> Option<Calls> {
         bytes: 0,
         flushes: 0,
     });
-    if render(format, &[Arg::Int(7)], &mut writer).is_err() {
+    if render(Model::Lp64, format, &[Arg::Int(7)], &mut writer).is_err() {
         return None;
     }
     Some(writer.into_inner())

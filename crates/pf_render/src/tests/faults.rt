@@ -2,7 +2,7 @@
 use super::rendering_of;
 use crate::{RenderFault, RenderVecFault, render, render_vec};
 use pf_text::Refusal;
-use pf_values::{Arg, CBytes, Counted, RefusalKind};
+use pf_values::{Arg, CBytes, Counted, Model, RefusalKind};
 use std::alloc::{AllocError, Global};
 use std::test::Fail;
 
@@ -13,10 +13,10 @@ fn fault_of(
     args: &[Arg<'_>],
 ) -> Result<Option<RenderFault>, AllocError> {
     let mut writer = Counted::new(Vec::new(alloc));
-    let Err(fault) = render(format, args, &mut writer) else {
+    let Err(fault) = render(Model::Lp64, format, args, &mut writer) else {
         return Ok(None);
     };
-    let same = match (fault, render_vec(alloc, format, args)) {
+    let same = match (fault, render_vec(alloc, Model::Lp64, format, args)) {
         (RenderFault::Refused(a), Err(RenderVecFault::Refused(b))) => a == b,
         (
             RenderFault::WrongCount { wanted, given },

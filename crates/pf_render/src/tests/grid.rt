@@ -2,7 +2,7 @@
 //! what a C library prints, kept as data: `docs/grid.c` wrote the tables, on glibc 2.36.
 use super::rooms::is_exact_at_interrupts;
 use super::{directive_of, print_of, prints};
-use pf_values::{ArgType, Directive};
+use pf_values::{ArgType, Directive, Model};
 use std::alloc::{AllocError, Global};
 use std::test::Fail;
 
@@ -30,11 +30,11 @@ type LongRow = (
 // The five numbers, as arguments of the directive: an unsigned type has those of the same bits.
 fn numbers(directive: &Directive, bits: u32) -> [i128; 5] {
     let half = 1i128 << bits.clamp(1, 64).saturating_sub(1);
-    let least = match directive.arg_type() {
+    let least = match directive.arg_type(Model::Lp64) {
         ArgType::UInt | ArgType::ULong | ArgType::ULongLong => half,
         _ => -half,
     };
-    let minus_one = match directive.arg_type() {
+    let minus_one = match directive.arg_type(Model::Lp64) {
         ArgType::UInt | ArgType::ULong | ArgType::ULongLong => 2 * half - 1,
         _ => -1,
     };

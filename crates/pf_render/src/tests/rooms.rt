@@ -6,7 +6,7 @@ use super::vectors::{HEXADECIMAL, MORE_SIGNED, NumberRow, OCTAL, SIGNED, UNSIGNE
 use super::{argument, arguments, directive_of, number_of};
 use crate::{RenderFault, render, render_one};
 use pf_values::devices::Cut;
-use pf_values::{Arg, Counted, Directive};
+use pf_values::{Arg, Counted, Directive, Model};
 use std::alloc::{AllocError, Global};
 use std::io::{ErrorKind, Write};
 use std::test::Fail;
@@ -54,17 +54,17 @@ fn end_of_one<W: Write>(
     argument: Arg<'_>,
     writer: &mut Counted<W>,
 ) -> Ended {
-    if argument.arg_type() != directive.arg_type() {
+    if argument.arg_type() != directive.arg_type(Model::Lp64) {
         return Ended::Other;
     }
-    match render_one(directive, argument, writer) {
+    match render_one(Model::Lp64, directive, argument, writer) {
         Ok(()) => Ended::Whole,
         Err(fault) => Ended::Cut(fault.written),
     }
 }
 
 fn end_of_whole<W: Write>(format: &[u8], args: &[Arg<'_>], writer: &mut Counted<W>) -> Ended {
-    match render(format, args, writer) {
+    match render(Model::Lp64, format, args, writer) {
         Ok(()) => Ended::Whole,
         Err(RenderFault::Write(written)) => Ended::Cut(written),
         Err(_) => Ended::Other,
@@ -136,7 +136,7 @@ fn is_number_exact(format: &str, number: i128, text: &str) -> bool {
     let Some(directive) = directive_of(format) else {
         return false;
     };
-    let Some(arg) = number_of(directive.arg_type(), number) else {
+    let Some(arg) = number_of(directive.arg_type(Model::Lp64), number) else {
         return false;
     };
     let args = [arg];
@@ -147,7 +147,7 @@ fn is_number_exact(format: &str, number: i128, text: &str) -> bool {
 /// Whether a number is written so by a directive, over writers that are interrupted where they are
 /// full.
 pub(super) fn is_exact_at_interrupts(directive: &Directive, number: i128, text: &[u8]) -> bool {
-    let Some(arg) = number_of(directive.arg_type(), number) else {
+    let Some(arg) = number_of(directive.arg_type(Model::Lp64), number) else {
         return false;
     };
     let mut place = [0u8; LONGEST];
@@ -231,8 +231,10 @@ fn is_short_exact(format: &str, word: &'static str, text: &str) -> bool {
     let Some(directive) = directive_of(format) else {
         return false;
     };
-    let (Some(arg), Some(alone)) = (argument(word, directive.arg_type()), text.strip_suffix("|"))
-    else {
+    let (Some(arg), Some(alone)) = (
+        argument(word, directive.arg_type(Model::Lp64)),
+        text.strip_suffix("|"),
+    ) else {
         return false;
     };
     let args = [arg];

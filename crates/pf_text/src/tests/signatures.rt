@@ -1,11 +1,11 @@
 //! The types of arguments.
 use crate::{Refusal, TextFault, signature};
-use pf_values::{ArgType, RefusalKind};
+use pf_values::{ArgType, Model, RefusalKind};
 use std::alloc::AllocError;
 
 #[test]
 fn types_in_order(rt: HostRuntime) {
-    let found = signature(rt.alloc(), b"%d %hhu %zu %lld %s").expect(&rt, "accepted");
+    let found = signature(rt.alloc(), Model::Lp64, b"%d %hhu %zu %lld %s").expect(&rt, "accepted");
     let wanted = [
         ArgType::Int,
         ArgType::Int,
@@ -21,9 +21,21 @@ fn types_in_order(rt: HostRuntime) {
 }
 
 #[test]
+fn types_in_ilp32(rt: HostRuntime) {
+    let found = signature(rt.alloc(), Model::Ilp32, b"%zu%td%jx%ld").expect(&rt, "accepted");
+    let wanted = [
+        ArgType::UInt,
+        ArgType::Int,
+        ArgType::ULongLong,
+        ArgType::Long,
+    ];
+    assert!(rt; found.as_slice() == wanted.as_slice());
+}
+
+#[test]
 fn no_types(rt: HostRuntime) {
     for format in ["", "100%%"] {
-        let found = signature(rt.alloc(), format.as_bytes()).expect(&rt, "accepted");
+        let found = signature(rt.alloc(), Model::Ilp32, format.as_bytes()).expect(&rt, "accepted");
         assert_eq!(rt; found.len(), 0);
         assert!(rt; found.is_empty());
         assert!(rt; found.get(0) == None);
@@ -32,7 +44,7 @@ fn no_types(rt: HostRuntime) {
 
 #[test]
 fn more_than_eight(rt: HostRuntime) {
-    let found = signature(rt.alloc(), b"%d%d%d%d%d%d%d%d%s").expect(&rt, "accepted");
+    let found = signature(rt.alloc(), Model::Lp64, b"%d%d%d%d%d%d%d%d%s").expect(&rt, "accepted");
     assert_eq!(rt; found.len(), 9);
     assert!(rt; found.get(8) == Some(ArgType::Str));
 }
@@ -43,7 +55,7 @@ fn a_refused_text(rt: HostRuntime) -> Result<(), AllocError> {
         kind: RefusalKind::Unexpected,
         at: 3,
     };
-    let Err(fault) = signature(rt.alloc(), b"%d%y") else {
+    let Err(fault) = signature(rt.alloc(), Model::Lp64, b"%d%y") else {
         panic!(rt; "the text is not refused");
     };
     assert!(rt; fault == TextFault::Refused(refusal));

@@ -3,7 +3,6 @@ use Rattle.std.proofs.lemmas.Bool.{false≢true}
 use Rattle.std.proofs.lemmas.List.{length_push}
 use Rattle.std.proofs.lemmas.Slice.Zip.{zip_end, zip_turn}
 use Rattle.std.specs.Result.{is_ok}
-use Rattle.pf_values.specs.declared.models.Model.TheVariants.{Lp64}
 use Rattle.fmtcanon.proofs.FormatArgumentLemmas.{first_wrong_type, one_more_typed, typed_so_far}
 use Rattle.fmtcanon.specs.UntypedArgs.{argument_given}
 use Rattle.fmtcanon.proofs.format_arguments.at_types.Goals as goal
@@ -15,8 +14,8 @@ returns-in-None-as_type-clause-err c =
     let args = c.loop-argument.args in
     let turn = zip_turn given wanted c.loop-argument.yielded c.into_iter-argument-iterator.result _ c.next.new.self _ (search rules) (search rules) c.loop-argument.yielded_by _ c.in-Some.is c.next.ensures.steps in
     let at = length c.loop-argument.yielded in
-    let index : c.len.result ≡ at = omega (arith, args.ok.0, typed_so_far Lp64 given wanted args.items at c.loop-argument.invariant turn.0) in
-    rw index (first_wrong_type Lp64 given wanted args.items at c.loop-argument.invariant _ _ turn.0 turn.1 turn.2 turn.3 (λ typed. false≢true (c.in-None-as_type.ensures.typed.1 typed)))
+    let index : c.len.result ≡ at = omega (arith, args.ok.0, typed_so_far c.args.model given wanted args.items at c.loop-argument.invariant turn.0) in
+    rw index (first_wrong_type c.args.model given wanted args.items at c.loop-argument.invariant _ _ turn.0 turn.1 turn.2 turn.3 (λ typed. false≢true (c.in-None-as_type.ensures.typed.1 typed)))
 
 pub loop-argument-preserved : goal.loop-argument-preserved
 loop-argument-preserved c =
@@ -27,7 +26,7 @@ loop-argument-preserved c =
     let pushed : is_ok c.push.result ≡ true = c.if-is_err.ensures.negation in
     let some = c.in-Some-as_type.ensures.some in
     rw (c.push.ensures.items, pushed, length_push)
-    (one_more_typed Lp64 given wanted args.items _ c.loop-argument.invariant _ _ turn.0 turn.1 turn.2 turn.3 c.in-Some-as_type.arg some.1 some.0 (c.in-Some-as_type.ensures.typed.0 refl))
+    (one_more_typed c.args.model given wanted args.items _ c.loop-argument.invariant _ _ turn.0 turn.1 turn.2 turn.3 c.in-Some-as_type.arg some.1 some.0 (c.in-Some-as_type.ensures.typed.0 refl))
 
 pub returns-clause-ok : goal.returns-clause-ok
 returns-clause-ok c =

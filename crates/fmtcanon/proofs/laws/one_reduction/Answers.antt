@@ -1,6 +1,5 @@
-use Rattle.pf_values.specs.declared.models.Model.TheVariants.{Lp64}
 use Rattle.fmtcanon.proofs.ReductionLemmas.{one_reduction}
 use Rattle.fmtcanon.proofs.laws.one_reduction.Goals as goal
 
 pub returns : goal.returns
-returns c = one_reduction Lp64
+returns c = one_reduction

@@ -1,4 +1,3 @@
-use Rattle.pf_values.specs.declared.models.Model.TheVariants.{Lp64}
 use Rattle.fmtcanon.proofs.ShowLemmas.{HasShown}
 use Rattle.fmtcanon.proofs.show_lines.show_lines.Given as goal
 
@@ -6,5 +5,5 @@ abbrev pub invariant-loop-piece : goal.invariant-loop-piece
 invariant-loop-piece l = record {
   can : (goal.iterator-loop-piece).can_next l.piece-iterator;
   finite : (goal.iterator-loop-piece).is_finite l.piece-iterator;
-  shown : HasShown Lp64 l.piece-iterator l.format l.out.items;
+  shown : HasShown l.model l.piece-iterator l.format l.out.items;
 }

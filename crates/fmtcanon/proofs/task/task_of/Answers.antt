@@ -10,27 +10,24 @@ use Rattle.clap.specs.declared.error.kind.ErrorKind.{ErrorKind}
 use Rattle.clap.specs.declared.error.kind.ErrorKind.TheVariants as kind
 use Rattle.clap.specs.declared.parser.matches.ArgMatches.{ArgMatches}
 use Rattle.clap.specs.declared.parser.matches.ArgMatches.TheViews.{out-ArgMatches}
-use Rattle.fmtcanon.specs.Words.{IsTaken, the_command}
+use Rattle.fmtcanon.specs.Words.{IsCommand, IsTaken}
 use Rattle.fmtcanon.specs.Tasks.{IsAnsweredBy, IsNoTaskOf, Names, rows_in}
 use Rattle.fmtcanon.specs.declared.task.NoTask.{NoTask}
 use Rattle.fmtcanon.specs.declared.task.NoTask.TheVariants.{Usage, Memory}
 use Rattle.fmtcanon.proofs.command_line.WordLemmas.{free_command, simple_command, subcommand_given}
 use Rattle.fmtcanon.proofs.task.task_of.Goals as goal
 
-answered : (words : List Text) (k : ErrorKind) (r : NoTask) → (IsTaken words → k ≡ kind.OutOfMemory) → (k ≡ kind.OutOfMemory) ⊎ IsAmong k (fault_of the_command words) → IsAnsweredBy k r → IsNoTaskOf words r
-answered words k (Usage m) f g h = (λ taken. h (f taken), (k, h, elim g [ inl none ↦ absurd (h none) | inr among ↦ among ]))
-answered words k Memory f g h = tt
+answered : (app : App) (words : List Text) (k : ErrorKind) (r : NoTask) → IsCommand app → (takes app words ≡ true → k ≡ kind.OutOfMemory) → (k ≡ kind.OutOfMemory) ⊎ IsAmong k (fault_of app words) → IsAnsweredBy k r → IsNoTaskOf words r
+answered app words k (Usage m) is f g h = (λ taken. h (f (taken app is)), (app, is, k, h, elim g [ inl none ↦ absurd (h none) | inr among ↦ among ]))
+answered app words k Memory is f g h = tt
 
 abbrev texts : List (Bor Text) → List Text
 texts = map (λ s. s.now)
 
 -- words for which clap has matches: no fault is found, and the matches have their subcommand
-parsed : (a : App) (words : List Text) (m : ArgMatches) → a ≡ the_command → HasMatchesOf a words m → (is_simple_and_free a ≡ true → fault_of a words ≡ [])
-    → (fault_of the_command words ≡ []) × (subcommand_rows_of m ≡ subcommand_of the_command words)
-parsed a words m e matches no_fault = (
-  ap (λ a. fault_of a words) (sym e) ∙ no_fault (ap is_simple_and_free e ∙ free_command),
-  (matches (ap is_simple e ∙ simple_command)).1 ∙ ap (λ a. subcommand_of a words) e,
-)
+parsed : (app : App) (words : List Text) (m : ArgMatches) → IsCommand app → HasMatchesOf app words m → (is_simple_and_free app ≡ true → fault_of app words ≡ [])
+    → (fault_of app words ≡ []) × (subcommand_rows_of m ≡ subcommand_of app words)
+parsed app words m is matches no_fault = (no_fault (free_command app is), (matches (simple_command app is)).1)
 
 -- a name and rows that are told apart are of one subcommand
 joined : {X : Type 0} (o : Option X) (told : X → Text × List Row) (name : Text) (rows : List Row) → Some name ≡ option_map (λ x. (told x).0) o
@@ -39,30 +36,28 @@ joined None told name rows e h = absurd (cc)
 joined (Some x) told name rows e h = ap₂ (λ n r. Some (n, r)) (ap (λ o. unwrap_or o name) (sym e)) (ap (λ o. unwrap_or o rows) (sym h))
 
 -- the words name the subcommand that the code finds
-named : (a : App) (words : List Text) (m : ArgMatches) (name : Text) (inner : ArgMatches)
-    → a ≡ the_command → HasMatchesOf a words m → (is_simple_and_free a ≡ true → fault_of a words ≡ [])
+named : (app : App) (words : List Text) (m : ArgMatches) (name : Text) (inner : ArgMatches)
+    → IsCommand app → HasMatchesOf app words m → (is_simple_and_free app ≡ true → fault_of app words ≡ [])
     → Some name ≡ subcommand_name_of m → Some (rows_in inner) ≡ option_map (λ p. p.1) (subcommand_rows_of m) → Names words name (rows_in inner)
-named a words m name inner e matches no_fault n r =
-    let p = parsed a words m e matches no_fault in
-    record { no_fault = p.0; named = sym p.1 ∙ joined (out-ArgMatches m).subcommand _ name _ n r }
+named app words m name inner is matches no_fault n r =
+    let p = parsed app words m is matches no_fault in
+    record { app = app; is_command = is; no_fault = p.0; named = sym p.1 ∙ joined (out-ArgMatches m).subcommand _ name _ n r }
 
 missing : {A B : Type 0} (o : Option A) (f : A → B) (x : Option B) → false ≡ is_some o → option_map f o ≡ x → is_some x ≡ true → ⊥
 missing None f x a e h = let g : is_some x ≡ false = ap is_some (sym e) in cc
 missing (Some y) f x a e h = cc
 
 pub returns-in-Err-clause-err : goal.returns-in-Err-clause-err
-returns-in-Err-clause-err c = let words = texts c.args.words.now in
-    answered words _ c.no_task.result
-    (λ taken. c.in-Err.ensures.passes (ap (λ a. takes a words) c.in-Ok.ensures ∙ taken))
-    (subst (λ a. HasKind (fault_of a words) c.in-Err.error) c.in-Ok.ensures (c.in-Err.ensures.kinds (ap is_simple_and_free c.in-Ok.ensures ∙ free_command)))
-    c.no_task.ensures
+returns-in-Err-clause-err c =
+    let is = c.in-Ok.ensures in
+    answered _ (texts c.args.words.now) _ c.no_task.result is c.in-Err.ensures.passes (c.in-Err.ensures.kinds (free_command _ is)) c.no_task.ensures
 
 pub unreachable-requires : goal.unreachable-requires
 unreachable-requires c =
     let words = texts c.args.words.now in
     let ok = c.in-Ok-try_get_matches_from in
     let p = parsed _ words ok.matches c.in-Ok.ensures ok.ensures.matches ok.ensures.kinds in
-    missing (out-ArgMatches ok.matches).subcommand _ _ c.in_default-subcommand.ensures.variant p.1 (subcommand_given words p.0)
+    missing (out-ArgMatches ok.matches).subcommand _ _ c.in_default-subcommand.ensures.variant p.1 (subcommand_given _ words c.in-Ok.ensures p.0)
 
 pub named_task-requires : goal.named_task-requires
 named_task-requires c =

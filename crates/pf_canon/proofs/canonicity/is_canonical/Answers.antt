@@ -1,6 +1,5 @@
 use Rattle.std.proofs.Common.{◌≤◌, ◌++◌, arith, length, drop, refl}
 use Rattle.std.proofs.lemmas.List.{length-drop, take_all, take_rest}
-use Rattle.pf_values.specs.declared.models.Model.TheVariants.{Lp64}
 use Rattle.pf_canon.specs.Parts.{parts_text}
 use Rattle.pf_canon.specs.Through.{front_text}
 use Rattle.pf_canon.proofs.BuildingLemmas.{built_more, refused_at}
@@ -16,9 +15,9 @@ loop-at-preserved c =
     let f = c.in-Ok.front in
     let len : f.len ≤ length (drop at text) = rw take_rest at c.in-Ok.ensures.within.len in
     let few : at ≤ length text = i.within in
-    let grown = rw take_rest at c.in-Ok.ensures.fed _ h.0 h.1 h.2 in
+    let grown = rw take_rest at c.in-Ok.ensures.fed c.args.model _ h.0 h.1 h.2 in
     let out = h.0 ++ front_text f (drop at text) in
-    let now = built_more Lp64 text h.0 out at f c.feed_front.new.self grown refl in
+    let now = built_more c.args.model text h.0 out at f c.feed_front.new.self grown refl in
     record {
       within = omega (arith, len, length-drop at text, few);
       through = (out, now.0, now.1, behind_more text h.0 (front_text f (drop at text)) c.loop-at.left c.cut-left.result h.3 (rw take_rest at c.cut-left.ensures));
@@ -27,12 +26,12 @@ loop-at-preserved c =
 pub returns-in-Err-clause-err : goal.returns-in-Err-clause-err
 returns-in-Err-clause-err c =
     let h = c.loop-at.invariant.through in
-    refused_at Lp64 c.args.text.now h.0 c.loop-at.at c.in-Err.stop (rw take_rest at c.in-Err.ensures.fed _ h.0 h.1 h.2)
+    refused_at c.args.model c.args.text.now h.0 c.loop-at.at c.in-Err.stop (rw take_rest at c.in-Err.ensures.fed c.args.model _ h.0 h.1 h.2)
 
 pub returns-in-Err-finish-clause-err : goal.returns-in-Err-finish-clause-err
 returns-in-Err-finish-clause-err c =
     let h = c.loop-at.invariant.through in
-    rw (take_all c.loop-at.at c.args.text.now c.loop-at-test.false) at (c.in-Err-finish.ensures.ended _ h.0 h.1 h.2).2
+    rw (take_all c.loop-at.at c.args.text.now c.loop-at-test.false) at (c.in-Err-finish.ensures.ended c.args.model _ h.0 h.1 h.2).2
 
 pub returns-in-Ok-finish : goal.returns-in-Ok-finish
 returns-in-Ok-finish c =
@@ -40,6 +39,6 @@ returns-in-Ok-finish c =
     let h = c.loop-at.invariant.through in
     let p = c.in-Ok-finish.parts in
     record {
-      ok = cut_to_end Lp64 text h.0 c.loop-at.transducer h.1 c.loop-at.at p c.cut_parts.result c.is_used_up.result c.loop-at-test.false h.2 (c.in-Ok-finish.ensures.ended _ h.0 h.1 h.2) (behind_more text h.0 (parts_text p) c.loop-at.left c.cut_parts.result h.3 c.cut_parts.ensures) c.is_used_up.ensures;
+      ok = cut_to_end c.args.model text h.0 c.loop-at.transducer h.1 c.loop-at.at p c.cut_parts.result c.is_used_up.result c.loop-at-test.false h.2 (c.in-Ok-finish.ensures.ended c.args.model _ h.0 h.1 h.2) (behind_more text h.0 (parts_text p) c.loop-at.left c.cut_parts.result h.3 c.cut_parts.ensures) c.is_used_up.ensures;
       err = tt;
     }

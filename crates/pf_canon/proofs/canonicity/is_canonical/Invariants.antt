@@ -1,5 +1,4 @@
 use Rattle.std.proofs.Common.{length, ◌-◌, ◌≤◌, List, take}
-use Rattle.pf_values.specs.declared.models.Model.TheVariants.{Lp64}
 use Rattle.pf_values.specs.Items.{Item}
 use Rattle.pf_values.specs.Text.{Text}
 use Rattle.pf_canon.specs.Cutting.{IsBehind}
@@ -9,7 +8,7 @@ use Rattle.pf_canon.proofs.canonicity.is_canonical.Given as goal
 abbrev pub invariant-loop-at : goal.invariant-loop-at
 invariant-loop-at l = record {
   within : l.at ≤ length l.text;
-  through : ((out : Text) × (items : List Item) × IsThrough Lp64 l.transducer (take l.at l.text) items out × IsBehind l.text out l.left);
+  through : ((out : Text) × (items : List Item) × IsThrough l.fn.model l.transducer (take l.at l.text) items out × IsBehind l.text out l.left);
 }
 
 abbrev pub decreases-loop-at : goal.decreases-loop-at

@@ -1,5 +1,5 @@
 use Rattle.std.proofs.Common.{ℕ, Option}
-use Rattle.pf_values.specs.declared.models.Model.TheVariants.{Lp64}
+use Rattle.pf_values.specs.declared.models.Model.{Model}
 use Rattle.pf_values.specs.Counting.{Known}
 use Rattle.pf_values.specs.Text.{Text}
 use Rattle.pf_canon.specs.Comparing.{Gave}
@@ -9,7 +9,7 @@ use Rattle.pf_canon.proofs.comparing.drain.Given as goal
 
 abbrev pub invariant-loop-fault : goal.invariant-loop-fault
 invariant-loop-fault g l = record {
-  going : ((x : Option ℕ) (start : Known) (taken given : Text) → Gave Lp64 x l.fn.source start (g.B.Bytes.left l.fn.bytes) taken given → (now : Text) × GoesOn Lp64 x l.source start (g.B.Bytes.left l.bytes) now given);
+  going : ((model : Model) (x : Option ℕ) (start : Known) (taken given : Text) → Gave model x l.fn.source start (g.B.Bytes.left l.fn.bytes) taken given → (now : Text) × GoesOn model x l.source start (g.B.Bytes.left l.bytes) now given);
   kept : g.B.Bytes.kept l.fn.bytes l.bytes;
 }
 

@@ -15,7 +15,7 @@ loop-first-preserved g c =
     let paced = rw c.in-Ok-On.field-0-is at c.in-Ok-On.ensures.paced in
     let counts = c.in-Ok-On.ensures.counts in
     record {
-      in_step = paced _ _ i.in_step;
+      in_step = paced c.args.model _ _ i.in_step;
       kept_a = g.met.A.Bytes.kept_later _ _ _ i.kept_a counts.0;
       kept_b = g.met.B.Bytes.kept_later _ _ _ i.kept_b counts.1;
     }
@@ -23,12 +23,12 @@ loop-first-preserved g c =
 pub returns-in-Ok-Same-clause-compared : goal.returns-in-Ok-Same-clause-compared
 returns-in-Ok-Same-clause-compared g c =
     let paced = rw c.in-Ok-Same.field-0-is at c.in-Ok-Same.ensures.paced in
-    paced _ _ c.loop-first.invariant.in_step
+    paced c.args.model _ _ c.loop-first.invariant.in_step
 
 pub returns-in-Ok-Differ-clause-compared : goal.returns-in-Ok-Differ-clause-compared
 returns-in-Ok-Differ-clause-compared g c =
     let paced = rw c.in-Ok-Differ.field-0-is at c.in-Ok-Differ.ensures.paced in
-    c.drain_both.ensures.compared _ _ (paced _ _ c.loop-first.invariant.in_step)
+    c.drain_both.ensures.compared c.args.model _ _ (paced c.args.model _ _ c.loop-first.invariant.in_step)
 
 pub returns-in-Ok-Differ-clause-counts : goal.returns-in-Ok-Differ-clause-counts
 returns-in-Ok-Differ-clause-counts g c =

@@ -1,5 +1,4 @@
 use Rattle.std.proofs.Common.{◌≡◌, length, ◌-◌, ◌≤◌, List, take}
-use Rattle.pf_values.specs.declared.models.Model.TheVariants.{Lp64}
 use Rattle.pf_values.specs.Items.{Item}
 use Rattle.pf_values.specs.Text.{Text}
 use Rattle.pf_canon.specs.Through.{IsThrough}
@@ -9,7 +8,7 @@ use Rattle.pf_canon.proofs.lengths.len_from.Given as goal
 abbrev pub invariant-loop-at : goal.invariant-loop-at
 invariant-loop-at l = record {
   within : l.at ≤ length l.text;
-  through : ((out : Text) × (items : List Item) × IsThrough Lp64 l.transducer (take l.at l.text) items out × (l.len ≡ length out));
+  through : ((out : Text) × (items : List Item) × IsThrough l.fn.transducer.model l.transducer (take l.at l.text) items out × (l.len ≡ length out));
 }
 
 abbrev pub decreases-loop-at : goal.decreases-loop-at

@@ -1,7 +1,6 @@
 use Rattle.std.proofs.Common.{◌≡◌, ℕ, length, refl, sym, subst, arith, Some, Option}
 use Rattle.std.specs.Prelude.{slice_get}
 use Rattle.std.proofs.lemmas.Option.{slice_get_read}
-use Rattle.pf_values.specs.declared.models.Model.TheVariants.{Lp64}
 use Rattle.pf_values.specs.DataModel.{arg_type}
 use Rattle.pf_values.specs.Text.{Text}
 use Rattle.pf_compare.specs.Layouts.{FindsUnlike, IsInside}
@@ -15,53 +14,53 @@ two_at : (c : goal.After-index-in-loop-index) → slice_get c.args.second.now.ho
 two_at c =
     let r = c.requires.level in
     slice_get_read c.args.second.now.holes.items _ c.loop-index.index c.index-in-loop-index.result.now refl
-    (omega (arith, c.loop-index-test.true, c.len.ensures, c.args.first.now.holes.ok.0, as_many Lp64 c.args.first.now c.args.second.now r.xs r.ys r.laid_first r.laid_second r.same_types r.same_bytes)) c.index-in-loop-index.ensures
+    (omega (arith, c.loop-index-test.true, c.len.ensures, c.args.first.now.holes.ok.0, as_many c.args.model c.args.first.now c.args.second.now r.xs r.ys r.laid_first r.laid_second r.same_types r.same_bytes)) c.index-in-loop-index.ensures
 
 pub first_candidate-requires-clause-one_type : goal.first_candidate-requires-clause-one_type
 first_candidate-requires-clause-one_type c =
     let r = c.requires.level in
-    hole_types_same Lp64 r.xs r.ys c.args.first.now.bytes.items c.loop-index.index c.index.result.now c.index-in-loop-index.result.now
-    (first_hole Lp64 c.args.first.now c.args.second.now r.xs r.ys r.laid_first r.laid_second r.same_types r.same_bytes c.loop-index.index c.index.result.now (one_at c))
-    (second_hole Lp64 c.args.first.now c.args.second.now r.xs r.ys r.laid_first r.laid_second r.same_types r.same_bytes c.loop-index.index c.index-in-loop-index.result.now (two_at c)) r.same_types
+    hole_types_same c.args.model r.xs r.ys c.args.first.now.bytes.items c.loop-index.index c.index.result.now c.index-in-loop-index.result.now
+    (first_hole c.args.model c.args.first.now c.args.second.now r.xs r.ys r.laid_first r.laid_second r.same_types r.same_bytes c.loop-index.index c.index.result.now (one_at c))
+    (second_hole c.args.model c.args.first.now c.args.second.now r.xs r.ys r.laid_first r.laid_second r.same_types r.same_bytes c.loop-index.index c.index-in-loop-index.result.now (two_at c)) r.same_types
 
 pub first_candidate-requires-clause-first : goal.first_candidate-requires-clause-first
 first_candidate-requires-clause-first c =
     let r = c.requires.level in
     subst (λ (t : Text). IsInside t c.index.result.now) (sym c.deref.ensures.value)
-    (first_hole Lp64 c.args.first.now c.args.second.now r.xs r.ys r.laid_first r.laid_second r.same_types r.same_bytes c.loop-index.index c.index.result.now (one_at c)).inside
+    (first_hole c.args.model c.args.first.now c.args.second.now r.xs r.ys r.laid_first r.laid_second r.same_types r.same_bytes c.loop-index.index c.index.result.now (one_at c)).inside
 
 pub first_candidate-requires-clause-second : goal.first_candidate-requires-clause-second
 first_candidate-requires-clause-second c =
     let r = c.requires.level in
     subst (λ (t : Text). IsInside t c.index-in-loop-index.result.now) (sym c.deref.ensures.value)
-    (second_hole Lp64 c.args.first.now c.args.second.now r.xs r.ys r.laid_first r.laid_second r.same_types r.same_bytes c.loop-index.index c.index-in-loop-index.result.now (two_at c)).inside
+    (second_hole c.args.model c.args.first.now c.args.second.now r.xs r.ys r.laid_first r.laid_second r.same_types r.same_bytes c.loop-index.index c.index-in-loop-index.result.now (two_at c)).inside
 
 pub returns-in-Some : goal.returns-in-Some
 returns-in-Some c =
     let r = c.requires.level in
-    let finds : FindsUnlike Lp64 c.deref.result.now c.index.result.now c.index-in-loop-index.result.now (arg_type Lp64 c.index.result.now.directive) c.in_ok-found.found = c.in_ok-found.ensures in
-    let here = subst (λ (t : Text). FindsUnlike Lp64 t c.index.result.now c.index-in-loop-index.result.now (arg_type Lp64 c.index.result.now.directive) c.in_ok-found.found) c.deref.ensures.value finds in
-    λ xs ys a b same. found_probe Lp64 c.args.first.now c.args.second.now xs ys a b same r.same_bytes c.loop-index.index c.in-Some.place c.index.result.now c.index-in-loop-index.result.now
+    let finds : FindsUnlike c.args.model c.deref.result.now c.index.result.now c.index-in-loop-index.result.now (arg_type c.args.model c.index.result.now.directive) c.in_ok-found.found = c.in_ok-found.ensures in
+    let here = subst (λ (t : Text). FindsUnlike c.args.model t c.index.result.now c.index-in-loop-index.result.now (arg_type c.args.model c.index.result.now.directive) c.in_ok-found.found) c.deref.ensures.value finds in
+    λ xs ys a b same. found_probe c.args.model c.args.first.now c.args.second.now xs ys a b same r.same_bytes c.loop-index.index c.in-Some.place c.index.result.now c.index-in-loop-index.result.now
     (slice_get_read c.args.first.now.holes.items _ c.loop-index.index c.index.result.now refl (omega (arith, c.loop-index-test.true, c.len.ensures, c.args.first.now.holes.ok.0)) c.index.ensures)
     (slice_get_read c.args.second.now.holes.items _ c.loop-index.index c.index-in-loop-index.result.now refl
-    (omega (arith, c.loop-index-test.true, c.len.ensures, c.args.first.now.holes.ok.0, as_many Lp64 c.args.first.now c.args.second.now r.xs r.ys r.laid_first r.laid_second r.same_types r.same_bytes)) c.index-in-loop-index.ensures)
-    c.loop-index.invariant.tried (subst (λ (o : Option ℕ). FindsUnlike Lp64 c.args.first.now.bytes.items c.index.result.now c.index-in-loop-index.result.now (arg_type Lp64 c.index.result.now.directive) o) c.in-Some.is here)
+    (omega (arith, c.loop-index-test.true, c.len.ensures, c.args.first.now.holes.ok.0, as_many c.args.model c.args.first.now c.args.second.now r.xs r.ys r.laid_first r.laid_second r.same_types r.same_bytes)) c.index-in-loop-index.ensures)
+    c.loop-index.invariant.tried (subst (λ (o : Option ℕ). FindsUnlike c.args.model c.args.first.now.bytes.items c.index.result.now c.index-in-loop-index.result.now (arg_type c.args.model c.index.result.now.directive) o) c.in-Some.is here)
 
 pub loop-index-preserved : goal.loop-index-preserved
 loop-index-preserved c =
     let r = c.requires.level in
-    let finds : FindsUnlike Lp64 c.deref.result.now c.index.result.now c.index-in-loop-index.result.now (arg_type Lp64 c.index.result.now.directive) c.in_ok-found.found = c.in_ok-found.ensures in
-    let here = subst (λ (t : Text). FindsUnlike Lp64 t c.index.result.now c.index-in-loop-index.result.now (arg_type Lp64 c.index.result.now.directive) c.in_ok-found.found) c.deref.ensures.value finds in
+    let finds : FindsUnlike c.args.model c.deref.result.now c.index.result.now c.index-in-loop-index.result.now (arg_type c.args.model c.index.result.now.directive) c.in_ok-found.found = c.in_ok-found.ensures in
+    let here = subst (λ (t : Text). FindsUnlike c.args.model t c.index.result.now c.index-in-loop-index.result.now (arg_type c.args.model c.index.result.now.directive) c.in_ok-found.found) c.deref.ensures.value finds in
     record {
       within = omega (arith, c.loop-index-test.true, c.len.ensures, c.args.first.now.holes.ok.0);
-      tried = tried_next Lp64 c.args.first.now c.args.second.now c.loop-index.index c.index.result.now c.index-in-loop-index.result.now
+      tried = tried_next c.args.model c.args.first.now c.args.second.now c.loop-index.index c.index.result.now c.index-in-loop-index.result.now
           (slice_get_read c.args.first.now.holes.items _ c.loop-index.index c.index.result.now refl (omega (arith, c.loop-index-test.true, c.len.ensures, c.args.first.now.holes.ok.0)) c.index.ensures)
           (slice_get_read c.args.second.now.holes.items _ c.loop-index.index c.index-in-loop-index.result.now refl
-          (omega (arith, c.loop-index-test.true, c.len.ensures, c.args.first.now.holes.ok.0, as_many Lp64 c.args.first.now c.args.second.now r.xs r.ys r.laid_first r.laid_second r.same_types r.same_bytes)) c.index-in-loop-index.ensures)
-          c.loop-index.invariant.tried (subst (λ (o : Option ℕ). FindsUnlike Lp64 c.args.first.now.bytes.items c.index.result.now c.index-in-loop-index.result.now (arg_type Lp64 c.index.result.now.directive) o) c.in-None.is here);
+          (omega (arith, c.loop-index-test.true, c.len.ensures, c.args.first.now.holes.ok.0, as_many c.args.model c.args.first.now c.args.second.now r.xs r.ys r.laid_first r.laid_second r.same_types r.same_bytes)) c.index-in-loop-index.ensures)
+          c.loop-index.invariant.tried (subst (λ (o : Option ℕ). FindsUnlike c.args.model c.args.first.now.bytes.items c.index.result.now c.index-in-loop-index.result.now (arg_type c.args.model c.index.result.now.directive) o) c.in-None.is here);
     }
 
 pub returns : goal.returns
 returns c = λ xs ys a b same.
     let whole : c.loop-index.index ≡ length c.args.first.now.holes.items = omega (arith, c.loop-index.invariant.within, c.loop-index-test.false, c.len.ensures, c.args.first.now.holes.ok.0) in
-    none_found Lp64 c.args.first.now c.args.second.now xs ys a b same c.requires.level.same_bytes (subst (AreTried Lp64 c.args.first.now c.args.second.now) whole c.loop-index.invariant.tried)
+    none_found c.args.model c.args.first.now c.args.second.now xs ys a b same c.requires.level.same_bytes (subst (AreTried c.args.model c.args.first.now c.args.second.now) whole c.loop-index.invariant.tried)

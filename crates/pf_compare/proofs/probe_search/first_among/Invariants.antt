@@ -1,12 +1,11 @@
 use Rattle.std.proofs.Common.{◌≤◌, ◌-◌, length}
-use Rattle.pf_values.specs.declared.models.Model.TheVariants.{Lp64}
 use Rattle.pf_compare.proofs.ProbeLemmas.{AreTried}
 use Rattle.pf_compare.proofs.probe_search.first_among.Given as goal
 
 abbrev pub invariant-loop-index : goal.invariant-loop-index
 invariant-loop-index l = record {
   within : l.index ≤ length l.first.holes.items;
-  tried : AreTried Lp64 l.first l.second l.index;
+  tried : AreTried l.model l.first l.second l.index;
 }
 
 abbrev pub decreases-loop-index : goal.decreases-loop-index

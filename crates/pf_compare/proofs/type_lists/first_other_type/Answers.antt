@@ -1,5 +1,4 @@
 use Rattle.std.proofs.Common.{refl, arith, rules, subst, sym, []}
-use Rattle.pf_values.specs.declared.models.Model.TheVariants.{Lp64}
 use Rattle.pf_text.specs.declared.pieces.Pieces.{Pieces}
 use Rattle.pf_compare.specs.TypeLists.{HasTaken}
 use Rattle.pf_compare.proofs.TypeListLemmas.{differ_after, differ_here, not_refused, same_lists_of, stepped, taken_all, taken_more, taken_same}
@@ -12,7 +11,7 @@ loop-piece-init c = record {
   bound = omega arith;
   steps = record {
     done = [];
-    first_taken = subst (λ (pieces : Pieces). HasTaken Lp64 pieces c.args.f.now []) (sym c.into_iter-piece-iterator.ensures.into_iter_gives) (record { read = []; items = []; given = c.new-piece-items.ensures; types_are = refl });
+    first_taken = subst (λ (pieces : Pieces). HasTaken c.args.model pieces c.args.f.now []) (sym c.into_iter-piece-iterator.ensures.into_iter_gives) (record { read = []; items = []; given = c.new-piece-items.ensures; types_are = refl });
     second_taken = record { read = []; items = []; given = c.new-others.ensures; types_are = refl };
     count = refl;
   };
@@ -22,8 +21,8 @@ pub returns-then-not-is_type : goal.returns-then-not-is_type
 returns-then-not-is_type c =
     let s = c.loop-piece.invariant.steps in
     λ xs ys a b.
-    differ_here Lp64 c.next.new.self c.next_type.new.pieces c.args.f.now c.args.g.now s.done c.loop-piece.index c.in-Some-arg_type.wanted c.next_type.result xs ys s.count
-    (taken_more Lp64 c.loop-piece.piece-iterator c.next.new.self c.args.f.now s.done s.first_taken c.in-Some.piece c.in-Some.ensures.steps c.in-Ok.piece _ c.in-Ok.is c.in-Some-arg_type.ensures)
+    differ_here c.args.model c.next.new.self c.next_type.new.pieces c.args.f.now c.args.g.now s.done c.loop-piece.index c.in-Some-arg_type.wanted c.next_type.result xs ys s.count
+    (taken_more c.args.model c.loop-piece.piece-iterator c.next.new.self c.args.f.now s.done s.first_taken c.in-Some.piece c.in-Some.ensures.steps c.in-Ok.piece _ c.in-Ok.is c.in-Some-arg_type.ensures)
     (c.next_type.ensures c.args.g.now s.done c.requires.second s.second_taken) (c.is_type.ensures.other (rw c.if-not-is_type.true (search rules))) a b
 
 pub loop-piece-preserved-in-Some-arg_type : goal.loop-piece-preserved-in-Some-arg_type
@@ -34,8 +33,8 @@ loop-piece-preserved-in-Some-arg_type c =
       can = tt;
       finite = tt;
       bound = omega (arith, c.loop-piece.invariant.bound, less);
-      steps = stepped Lp64 c.next.new.self c.next_type.new.pieces c.args.f.now c.args.g.now s.done c.loop-piece.index c.in-Some-arg_type.wanted c.next_type.result s.count
-          (taken_more Lp64 c.loop-piece.piece-iterator c.next.new.self c.args.f.now s.done s.first_taken c.in-Some.piece c.in-Some.ensures.steps c.in-Ok.piece _ c.in-Ok.is c.in-Some-arg_type.ensures)
+      steps = stepped c.args.model c.next.new.self c.next_type.new.pieces c.args.f.now c.args.g.now s.done c.loop-piece.index c.in-Some-arg_type.wanted c.next_type.result s.count
+          (taken_more c.args.model c.loop-piece.piece-iterator c.next.new.self c.args.f.now s.done s.first_taken c.in-Some.piece c.in-Some.ensures.steps c.in-Ok.piece _ c.in-Ok.is c.in-Some-arg_type.ensures)
           (c.next_type.ensures c.args.g.now s.done c.requires.second s.second_taken) (c.is_type.ensures.yes (rw c.if-not-is_type.false (search rules)));
     }
 
@@ -49,7 +48,7 @@ loop-piece-preserved c =
       bound = omega (arith, c.loop-piece.invariant.bound, less);
       steps = record {
         done = s.done;
-        first_taken = taken_same Lp64 c.loop-piece.piece-iterator c.next.new.self c.args.f.now s.done s.first_taken c.in-Some.piece c.in-Some.ensures.steps c.in-Ok.piece c.in-Ok.is c.in_default.ensures;
+        first_taken = taken_same c.args.model c.loop-piece.piece-iterator c.next.new.self c.args.f.now s.done s.first_taken c.in-Some.piece c.in-Some.ensures.steps c.in-Ok.piece c.in-Ok.is c.in_default.ensures;
         second_taken = s.second_taken;
         count = s.count;
       };
@@ -58,20 +57,20 @@ loop-piece-preserved c =
 pub unreachable-requires : goal.unreachable-requires
 unreachable-requires c =
     let s = c.loop-piece.invariant.steps in
-    not_refused Lp64 c.loop-piece.piece-iterator c.next.new.self c.args.f.now s.done s.first_taken c.in-Some.piece c.in-Some.ensures.steps c.requires.first c.in-Err.field-0 c.in-Err.is
+    not_refused c.args.model c.loop-piece.piece-iterator c.next.new.self c.args.f.now s.done s.first_taken c.in-Some.piece c.in-Some.ensures.steps c.requires.first c.in-Err.field-0 c.in-Err.is
 
 pub returns-in-Some-next_type : goal.returns-in-Some-next_type
 returns-in-Some-next_type c =
     let s = c.loop-piece.invariant.steps in
     λ xs ys a b.
-    differ_after Lp64 c.next_type-2.new.pieces c.args.f.now c.args.g.now s.done c.loop-piece.index c.in-Some-next_type.field-0 xs ys s.count
-    (taken_all Lp64 c.loop-piece.piece-iterator c.next.new.self c.args.f.now s.done s.first_taken c.in-None.ensures.steps)
+    differ_after c.args.model c.next_type-2.new.pieces c.args.f.now c.args.g.now s.done c.loop-piece.index c.in-Some-next_type.field-0 xs ys s.count
+    (taken_all c.args.model c.loop-piece.piece-iterator c.next.new.self c.args.f.now s.done s.first_taken c.in-None.ensures.steps)
     (c.in-Some-next_type.ensures c.args.g.now s.done c.requires.second s.second_taken) a b
 
 pub returns-in-None-next_type : goal.returns-in-None-next_type
 returns-in-None-next_type c =
     let s = c.loop-piece.invariant.steps in
     λ xs ys a b.
-    same_lists_of Lp64 c.args.f.now c.args.g.now s.done xs ys
-    (taken_all Lp64 c.loop-piece.piece-iterator c.next.new.self c.args.f.now s.done s.first_taken c.in-None.ensures.steps)
+    same_lists_of c.args.model c.args.f.now c.args.g.now s.done xs ys
+    (taken_all c.args.model c.loop-piece.piece-iterator c.next.new.self c.args.f.now s.done s.first_taken c.in-None.ensures.steps)
     (c.in-None-next_type.ensures c.args.g.now s.done c.requires.second s.second_taken) a b

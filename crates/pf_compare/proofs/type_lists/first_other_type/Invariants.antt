@@ -1,5 +1,4 @@
 use Rattle.std.proofs.Common.{◌≤◌, ◌+◌}
-use Rattle.pf_values.specs.declared.models.Model.TheVariants.{Lp64}
 use Rattle.pf_compare.proofs.TypeListLemmas.{AreInStep}
 use Rattle.pf_compare.proofs.type_lists.first_other_type.Given as goal
 
@@ -8,5 +7,5 @@ invariant-loop-piece l = record {
   can : (goal.iterator-loop-piece).can_next l.piece-iterator;
   finite : (goal.iterator-loop-piece).is_finite l.piece-iterator;
   bound : l.index + (goal.iterator-loop-piece).remaining l.piece-iterator ≤ (goal.iterator-loop-piece).remaining l.initial.piece-iterator;
-  steps : AreInStep Lp64 l.piece-iterator l.others l.f l.g l.index;
+  steps : AreInStep l.model l.piece-iterator l.others l.f l.g l.index;
 }

@@ -1,6 +1,5 @@
-use Rattle.pf_values.specs.declared.models.Model.TheVariants.{Lp64}
 use Rattle.pf_probes.proofs.Telling.{candidate_typed}
 use Rattle.pf_probes.proofs.laws.candidates_are_arguments.Goals as goal
 
 pub returns : goal.returns
-returns c = candidate_typed Lp64
+returns c = λ model. candidate_typed model

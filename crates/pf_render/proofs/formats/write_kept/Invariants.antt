@@ -1,5 +1,4 @@
 use Rattle.std.proofs.Common.{◌*◌, ◌^◌, ◌≤◌, drop, map}
-use Rattle.pf_values.specs.declared.models.Model.TheVariants.{Lp64}
 use Rattle.pf_values.specs.Arg.{argument_of}
 use Rattle.pf_values.proofs.Alike.{all_printed}
 use Rattle.pf_render.specs.Keeping.{items_of_parts}
@@ -10,5 +9,5 @@ use Rattle.pf_render.proofs.formats.write_kept.Given as goal
 abbrev pub invariant-loop-part : goal.invariant-loop-part
 invariant-loop-part g l = record {
   few : l.progress.written ≤ l.part-index * 2 ^ 64;
-  so_far : IsPrinting Lp64 g.W.Write.contents l.fn.writer l.args (all_printed Lp64 (items_of_parts l.parts) (map argument_of l.args)) l.writer l.progress (items_of_parts (drop l.part-index l.parts));
+  so_far : IsPrinting l.model g.W.Write.contents l.fn.writer l.args (all_printed l.model (items_of_parts l.parts) (map argument_of l.args)) l.writer l.progress (items_of_parts (drop l.part-index l.parts));
 }

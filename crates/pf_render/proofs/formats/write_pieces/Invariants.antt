@@ -1,4 +1,3 @@
-use Rattle.pf_values.specs.declared.models.Model.TheVariants.{Lp64}
 use Rattle.pf_render.proofs.FormatLemmas.{IsUnderWay}
 use Rattle.pf_render.proofs.formats.write_pieces.Given as goal
 
@@ -7,5 +6,5 @@ abbrev pub invariant-loop-piece : goal.invariant-loop-piece
 invariant-loop-piece g l = record {
   can : (goal.iterator-loop-piece g).can_next l.piece-iterator;
   finite : (goal.iterator-loop-piece g).is_finite l.piece-iterator;
-  so_far : IsUnderWay Lp64 g.W.Write.contents l.fn.writer l.text l.args l.writer l.piece-iterator l.progress;
+  so_far : IsUnderWay l.model g.W.Write.contents l.fn.writer l.text l.args l.writer l.piece-iterator l.progress;
 }

@@ -1,7 +1,6 @@
 use Rattle.std.proofs.Common.{◌≡◌, ap, ◌∙◌, replicate, arith, to_z, of_z}
 use Rattle.std.specs.Int.{w128}
 use Rattle.std.proofs.lemmas.Int.{ints}
-use Rattle.pf_values.specs.declared.models.Model.TheVariants.{Lp64}
 use Rattle.pf_values.specs.Conversions.{kind_of}
 use Rattle.pf_values.specs.Text.{zero_digit}
 use Rattle.pf_render.proofs.IntegerLemmas.{Prints-written, glyphs_are}
@@ -14,6 +13,6 @@ returns g c =
     let digits = c.as_slice-digits.ensures ∙ c.of-digits.ensures ∙ glyphs_are c.args.directive.now c.of-value.result _ _ (c.kind.ensures ∙ ap kind_of c.conv.ensures.value) c.size.ensures in
     let zeros = c.zeros-zeros.ensures ∙ ap (λ n. replicate n zero_digit) c.zero_count.ensures.value in (
       _,
-      Prints-written Lp64 c.args.directive.now c.args.number c.of-value.result c.sign_or_prefix-sign.result.now c.zeros-zeros.result.now c.as_slice-digits.result.now c.requires.integer value c.sign_or_prefix-sign.ensures.value digits zeros,
+      Prints-written c.args.model c.args.directive.now c.args.number c.of-value.result c.sign_or_prefix-sign.result.now c.zeros-zeros.result.now c.as_slice-digits.result.now c.requires.integer value c.sign_or_prefix-sign.ensures.value digits zeros,
       c.write_field.ensures,
     )

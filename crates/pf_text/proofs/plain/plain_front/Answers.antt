@@ -1,13 +1,21 @@
-use Rattle.std.proofs.Common.{map, take, subst, sym}
-use Rattle.pf_values.specs.declared.models.Model.TheVariants.{Lp64}
+use Rattle.std.proofs.Common.{◌∷◌, ◌∙◌, [], ap, arith, get_or, map, take, subst, sym}
 use Rattle.pf_values.specs.Items.{Byte}
 use Rattle.pf_text.proofs.LiteralLemmas.{IsRun, literal_take, run_found}
-use Rattle.pf_text.proofs.PlainLemmas.{literals_plain}
+use Rattle.pf_text.specs.Plain.{IsPlainText}
+use Rattle.pf_text.proofs.PlainLemmas.{first_two, literals_plain}
 use Rattle.pf_text.proofs.plain.plain_front.Goals as goal
 
 pub returns-then-text-ne37-clause-plain : goal.returns-then-text-ne37-clause-plain
-returns-then-text-ne37-clause-plain c =
+returns-then-text-ne37-clause-plain c model =
     let text = c.args.text.now in
     let len = c.unwrap_or.result in
     let found = subst (IsRun text) (sym c.unwrap_or.ensures) (run_found text c.first_other.result c.first_other.ensures) in
-    (map Byte (take len text), literals_plain Lp64 (take len text) (literal_take text len found.within found.literal))
+    (map Byte (take len text), literals_plain model (take len text) (literal_take text len found.within found.literal))
+
+pub returns-then-ends_plain-clause-plain : goal.returns-then-ends_plain-clause-plain
+returns-then-ends_plain-clause-plain c = λ model. (
+    let text = c.args.text.now in
+    let plain = c.ends_plain.ensures model c.if-ends_plain.true in
+    let bytes = first_two text (omega (arith, c.if-text-lt2.false)) ∙ ap (λ b. b ∷ get_or text 1 0 ∷ []) c.if-text-ne37.false in
+    (plain.0 ∷ [], subst (λ t. IsPlainText model t (plain.0 ∷ [])) (sym bytes) plain.1)
+    )

@@ -1,8 +1,7 @@
-use Rattle.pf_values.specs.declared.models.Model.TheVariants.{Lp64}
 use Rattle.pf_canon.proofs.FrontLemmas.{fed_made}
 use Rattle.pf_canon.proofs.transducing.Transducer.end_front.Goals as goal
 
 pub returns-clause-fed : goal.returns-clause-fed
-returns-clause-fed c t out items f =
+returns-clause-fed c model t out items f =
     let s = c.settle.ensures in
-    fed_made Lp64 c.args.self.now c.settle.new.self t out c.args.text.now items c.args.run c.args.at c.args.step.now c.settle.result f s.scanner s.settles s.one s.short
+    fed_made model c.args.self.now c.settle.new.self t out c.args.text.now items c.args.run c.args.at c.args.step.now c.settle.result f s.model s.scanner s.settles s.one s.short

@@ -1,6 +1,5 @@
 use Rattle.std.proofs.Common.{arith, get_or, refl, ◌++◌, take, subst}
 use Rattle.std.proofs.lemmas.List.{drop_more}
-use Rattle.pf_values.specs.declared.models.Model.TheVariants.{Lp64}
 use Rattle.pf_canon.specs.Through.{IsFed, IsThrough}
 use Rattle.pf_canon.proofs.FrontLemmas.{all_inside, inside, one_more, refused_in}
 use Rattle.pf_canon.proofs.transducing.Transducer.feed_front.Goals as goal
@@ -9,7 +8,7 @@ pub loop-at-init : goal.loop-at-init
 loop-at-init c = record {
   run = c.pass_silents-at.ensures.within.0;
   within = c.pass_silents-at.ensures.within.1;
-  through = λ t out items h. let k = c.pass_run-run.ensures.kept t out items h in c.pass_silents-at.ensures.kept t _ k.items k.through;
+  through = λ model t out items h. let k = c.pass_run-run.ensures.kept model t out items h in c.pass_silents-at.ensures.kept model t _ k.items k.through;
 }
 
 pub loop-at-preserved : goal.loop-at-preserved
@@ -22,11 +21,11 @@ loop-at-preserved c =
     record {
       run = omega (arith, run);
       within = omega (arith, c.loop-at-test.true);
-      through = λ t out items h.
-          let now = i.through t out items h in
+      through = λ model t out items h.
+          let now = i.through model t out items h in
           let takes = rw c.in-Ok-More.field-0-is at c.in-Ok-More.ensures.fed (t ++ take at text) now.0 now.1.after in
           let o = out ++ take c.pass_run-run.result text in
-          (now.0, subst (λ u. IsThrough Lp64 new u now.0 o) (one_more t text at _ (drop_more text at 0 c.loop-at-test.true)) (inside Lp64 c.loop-at.self new (t ++ take at text) o now.0 _ now.1 refl takes));
+          (now.0, subst (λ u. IsThrough model new u now.0 o) (one_more t text at _ (drop_more text at 0 c.loop-at-test.true)) (inside model c.loop-at.self new (t ++ take at text) o now.0 _ now.1 refl refl takes));
     }
 
 pub returns-in-Ok : goal.returns-in-Ok
@@ -35,11 +34,11 @@ returns-in-Ok c =
     let at = c.loop-at.at in
     let i = c.loop-at.invariant in
     record {
-      fed = λ t out items h.
-          let now = i.through t out items h in
-          let fed : IsFed Lp64 (record c.loop-at.self { scanner = c.feed.new.self }) t now.0 (out ++ take c.pass_run-run.result text) text at c.in-Ok.step =
-          record { before = c.loop-at.self; byte = get_or text at 0; first = drop_more text at 0 c.loop-at-test.true; through = now.1; waiting = refl; takes = c.in-Ok.ensures.fed (t ++ take at text) now.0 now.1.after } in
-          c.end_front.ensures.fed t out now.0 fed;
+      fed = λ model t out items h.
+          let now = i.through model t out items h in
+          let fed : IsFed model (record c.loop-at.self { scanner = c.feed.new.self }) t now.0 (out ++ take c.pass_run-run.result text) text at c.in-Ok.step =
+          record { before = c.loop-at.self; byte = get_or text at 0; first = drop_more text at 0 c.loop-at-test.true; through = now.1; model_is = refl; waiting = refl; takes = c.in-Ok.ensures.fed (t ++ take at text) now.0 now.1.after } in
+          c.end_front.ensures.fed model t out now.0 fed;
       within = c.end_front.ensures.within;
     }
 
@@ -48,9 +47,9 @@ returns-in-Err c =
     let text = c.args.text.now in
     let at = c.loop-at.at in
     record {
-      fed = λ t out items h.
-          let before = c.loop-at.invariant.through t out items h in
-          refused_in Lp64 c.loop-at.self (record c.loop-at.self { scanner = c.feed.new.self }) t out text before.0 c.pass_run-run.result at _ c.in-Err.refusal (drop_more text at 0 c.loop-at-test.true) before.1 (c.in-Err.ensures.fed (t ++ take at text) before.0 before.1.after);
+      fed = λ model t out items h.
+          let before = c.loop-at.invariant.through model t out items h in
+          refused_in model c.loop-at.self (record c.loop-at.self { scanner = c.feed.new.self }) t out text before.0 c.pass_run-run.result at _ c.in-Err.refusal (drop_more text at 0 c.loop-at-test.true) before.1 (c.in-Err.ensures.fed (t ++ take at text) before.0 before.1.after);
       within = (let run = c.loop-at.invariant.run in omega (arith, run, c.loop-at-test.true));
     }
 
@@ -59,6 +58,6 @@ returns c =
     let i = c.loop-at.invariant in
     let run = i.run in
     record {
-      fed = λ t out items h. let now = i.through t out items h in all_inside Lp64 c.loop-at.self t out c.args.text.now now.0 c.pass_run-run.result c.loop-at.at now.1;
+      fed = λ model t out items h. let now = i.through model t out items h in all_inside model c.loop-at.self t out c.args.text.now now.0 c.pass_run-run.result c.loop-at.at now.1;
       within = record { some = omega (arith, c.requires, c.loop-at-test.false); run = run; start = omega arith; len = i.within };
     }

@@ -1,5 +1,5 @@
 use Rattle.std.proofs.Common.{length, ◌-◌, ◌≤◌, List, ◌++◌, take}
-use Rattle.pf_values.specs.declared.models.Model.TheVariants.{Lp64}
+use Rattle.pf_values.specs.declared.models.Model.{Model}
 use Rattle.pf_values.specs.Items.{Item}
 use Rattle.pf_values.specs.Text.{Text}
 use Rattle.pf_canon.specs.Through.{IsThrough}
@@ -9,7 +9,7 @@ abbrev pub invariant-loop-at : goal.invariant-loop-at
 invariant-loop-at l = record {
   run : l.run ≤ l.at;
   within : l.at ≤ length l.text;
-  through : ((t out : Text) (items : List Item) → IsThrough Lp64 l.fn.self t items out → (now : List Item) × IsThrough Lp64 l.self (t ++ take l.at l.text) now (out ++ take l.run l.text));
+  through : ((model : Model) (t out : Text) (items : List Item) → IsThrough model l.fn.self t items out → (now : List Item) × IsThrough model l.self (t ++ take l.at l.text) now (out ++ take l.run l.text));
 }
 
 abbrev pub decreases-loop-at : goal.decreases-loop-at

@@ -1,5 +1,5 @@
 use Rattle.std.proofs.Common.{length, ◌-◌, ◌≤◌, List, ◌++◌, take}
-use Rattle.pf_values.specs.declared.models.Model.TheVariants.{Lp64}
+use Rattle.pf_values.specs.declared.models.Model.{Model}
 use Rattle.pf_values.specs.Items.{Item}
 use Rattle.pf_values.specs.Text.{Text}
 use Rattle.pf_canon.specs.Through.{IsThrough}
@@ -8,7 +8,7 @@ use Rattle.pf_canon.proofs.transducing.Transducer.pass.Given as goal
 abbrev pub invariant-loop-at : goal.invariant-loop-at
 invariant-loop-at l = record {
   within : l.at ≤ length l.text;
-  through : ((t out : Text) (items : List Item) → IsThrough Lp64 l.fn.self t items out → (more : Text) × (now : List Item) × IsThrough Lp64 l.self (t ++ take l.at l.text) now (out ++ more));
+  through : ((model : Model) (t out : Text) (items : List Item) → IsThrough model l.fn.self t items out → (more : Text) × (now : List Item) × IsThrough model l.self (t ++ take l.at l.text) now (out ++ more));
 }
 
 abbrev pub decreases-loop-at : goal.decreases-loop-at

@@ -1,0 +1,9 @@
+use Rattle.std.proofs.Common.{◌∙◌}
+use Rattle.fmtcanon.proofs.command_line.ModelLemmas.{model_given}
+use Rattle.fmtcanon.proofs.models.model_of.Goals as goal
+
+pub returns-in-Some : goal.returns-in-Some
+returns-in-Some c = c.model_named.ensures ∙ model_given c.args.inner.now c.get_str.result _ c.get_str.ensures c.in-Some.is
+
+pub returns-in-None : goal.returns-in-None
+returns-in-None c = model_given c.args.inner.now c.get_str.result _ c.get_str.ensures c.in-None.is

@@ -1,0 +1,45 @@
+-- The data models that the option `--model` names. This project's own.
+use Rattle.std.specs.Prelude.{List, [], ◌∷◌, ◌++◌, Option, Some, None, codes, if◌then◌else◌}
+use Rattle.std.specs.Str.{bytes_eq}
+use Rattle.clap.specs.Walk.{Row, first_of}
+use Rattle.pf_values.specs.declared.models.Model.{Model}
+use Rattle.pf_values.specs.declared.models.Model.TheVariants.{Lp64, Ilp32}
+use Rattle.pf_values.specs.Text.{Text}
+use Rattle.fmtcanon.specs.declared.models.Models.{Models}
+use Rattle.fmtcanon.specs.declared.models.Models.TheVariants.{One, Both}
+
+-- the name of a data model
+abbrev pub model_name : Model → Text
+model_name Lp64 = codes "lp64"
+model_name Ilp32 = codes "ilp32"
+
+-- the names that the option takes
+abbrev pub model_names : List Text
+model_names = model_name Lp64 ∷ model_name Ilp32 ∷ []
+
+-- the same, where two formats are compared
+abbrev pub model_names_or_both : List Text
+model_names_or_both = model_names ++ codes "both" ∷ []
+
+-- the data model of such a name
+abbrev pub model_named : Text → Model
+model_named name = if bytes_eq name (model_name Ilp32) then Ilp32 else Lp64
+
+abbrev pub models_named : Text → Models
+models_named name = if bytes_eq name (codes "both") then Both else One (model_named name)
+
+-- the data model that clap's rows of a command name, and LP64 where they name none
+abbrev pub model_of_value : Option Text → Model
+model_of_value None = Lp64
+model_of_value (Some name) = model_named name
+
+abbrev pub model_in : List Row → Model
+model_in rows = model_of_value (first_of (codes "model") rows)
+
+-- the data models that those of the command that compares name
+abbrev pub models_of_value : Option Text → Models
+models_of_value None = One Lp64
+models_of_value (Some name) = models_named name
+
+abbrev pub models_in : List Row → Models
+models_in rows = models_of_value (first_of (codes "model") rows)

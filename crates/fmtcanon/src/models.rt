@@ -1,0 +1,61 @@
+//! The data models that the option `--model` names.
+ghost use Rattle.std.specs.Prelude.{◌≡◌};
+ghost use Rattle.fmtcanon.specs.Models.{model_in, model_named, models_in, models_named};
+ghost use Rattle.fmtcanon.specs.Tasks.{rows_in};
+
+use clap::ArgMatches;
+use pf_values::Model;
+
+/// The names of the data models.
+pub const NAMES: &[&str] = &["lp64", "ilp32"];
+
+/// The same, and the name of the two together.
+pub const NAMES_OR_BOTH: &[&str] = &["lp64", "ilp32", "both"];
+
+/// The data models in which two formats are compared.
+#[derive(Clone, Copy, Debug)]
+pub enum Models {
+    /// This one.
+    One(Model),
+    /// LP64 and ILP32, one after the other.
+    Both,
+}
+
+/// The data model of a command.
+pub fn model_of(inner: &ArgMatches<'_>) -> Model
+    ensures { result ≡ model_in (rows_in inner.now) }
+{
+    match inner.get_str("model") {
+        Some(name) => model_named(name),
+        None => Model::Lp64,
+    }
+}
+
+/// The data models of the command that compares.
+pub fn models_of(inner: &ArgMatches<'_>) -> Models
+    ensures { result ≡ models_in (rows_in inner.now) }
+{
+    match inner.get_str("model") {
+        Some(name) => models_named(name),
+        None => Models::One(Model::Lp64),
+    }
+}
+
+fn models_named(name: &str) -> Models
+    ensures { result ≡ models_named name.now }
+{
+    match name {
+        "both" => Models::Both,
+        _ => Models::One(model_named(name)),
+    }
+}
+
+// clap takes no name but those above.
+fn model_named(name: &str) -> Model
+    ensures { result ≡ model_named name.now }
+{
+    match name {
+        "ilp32" => Model::Ilp32,
+        _ => Model::Lp64,
+    }
+}
