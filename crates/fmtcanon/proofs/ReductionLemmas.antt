@@ -1,5 +1,5 @@
 -- A directive has one reduction: as items it is a canonical text, of which equivalent ones are equal.
-use Rattle.std.proofs.Common.{◌≡◌, ◌≢◌, ℕ, zero, suc, List, [], ◌∷◌, ◌++◌, length, map, replicate, refl, sym, ap, ◌∙◌, inl, inr, subst, arith, Result}
+use Rattle.std.proofs.Common.{◌≡◌, ◌≢◌, ℕ, zero, suc, List, [], ◌∷◌, ◌++◌, length, map, replicate, refl, sym, ap, ap₂, ◌∙◌, inl, inr, subst, arith, Result}
 use Rattle.std.specs.Prelude.{IfOk, flat_map}
 use Rattle.std.proofs.lemmas.List.{length-replicate}
 use Rattle.std.proofs.lemmas.Result.{IfOk-weaker}
@@ -14,6 +14,7 @@ use Rattle.pf_values.specs.Text.{Text, space, zero_digit}
 use Rattle.pf_values.proofs.Alike.{alike-equivalent, alike_sym, alike_trans}
 use Rattle.pf_text.proofs.ReadBack.{spelled_read}
 use Rattle.pf_text.proofs.Texts.{Reads-unique}
+use Rattle.pf_reduce.specs.NormalValues.{NormalDirective}
 use Rattle.pf_reduce.specs.Reducing.{IsNormalCore, IsReducedTo, core_of}
 use Rattle.pf_reduce.specs.declared.results.Core.{Core}
 use Rattle.pf_reduce.specs.declared.results.Core.TheVariants.{Normal, Silent}
@@ -29,7 +30,7 @@ silent_not_normal : (model : Model) → IsNormal model silent → ⊥
 silent_not_normal model h = h.form.shows_some refl
 
 core_defined : (model : Model) (core : Core) → IsNormalCore model core → IsDefined (core_of core)
-core_defined model (Normal s) h = h.defined
+core_defined model (Normal n) h = h.1.defined
 core_defined model Silent h = silent_defined
 
 spaces_read : (n : ℕ) → Reads (flat_map item_spelling (map Byte (replicate n space))) (map Byte (replicate n space))
@@ -59,7 +60,7 @@ before_canonical model [] items h = h
 before_canonical model (b ∷ bytes) items h = before_canonical model bytes items h
 
 core_canonical : (model : Model) (core : Core) (trail : ℕ) → IsNormalCore model core → (core ≡ Silent → trail ≡ 0) → AreCanonical model (Directive (core_of core) ∷ map Byte (replicate trail space))
-core_canonical model (Normal s) trail h none = (inl h, bytes_canonical model (replicate trail space))
+core_canonical model (Normal n) trail h none = (inl h.1, bytes_canonical model (replicate trail space))
 core_canonical model Silent zero h none = (inr (refl, tt), tt)
 core_canonical model Silent (suc n) h none = absurd (let e = none refl in omega (arith, e))
 
@@ -128,10 +129,18 @@ same_runs x z n (suc a) b (suc c) d e =
 other_byte : space ≢ zero_digit
 other_byte e = omega (arith, e)
 
+abbrev normal_in : Model → Specification → NormalDirective
+normal_in model s = record { model = model; specification = s }
+
+same_normal : (n m : NormalDirective) → n.model ≡ m.model → n.specification ≡ m.specification → n ≡ m
+same_normal n m e f =
+    let same : normal_in n.model n.specification ≡ normal_in m.model m.specification = ap₂ normal_in e f in
+    same
+
 same_core : (model : Model) (c d : Core) → IsNormalCore model c → IsNormalCore model d → core_of c ≡ core_of d → c ≡ d
-same_core model (Normal s) (Normal t) h g e = ap Normal e
-same_core model (Normal s) Silent h g e = absurd (silent_not_normal model (subst (IsNormal model) e h))
-same_core model Silent (Normal t) h g e = absurd (silent_not_normal model (subst (IsNormal model) (sym e) g))
+same_core model (Normal n) (Normal m) h g e = ap Normal (same_normal n m (h.0 ∙ sym g.0) e)
+same_core model (Normal n) Silent h g e = absurd (silent_not_normal model (subst (IsNormal model) e h.1))
+same_core model Silent (Normal m) h g e = absurd (silent_not_normal model (subst (IsNormal model) (sym e) g.1))
 same_core model Silent Silent h g e = refl
 
 abbrev whole : ℕ → ℕ → Core → ℕ → Reduced

@@ -1,9 +1,7 @@
 -- One meaning, one canonical text.
-use Rattle.std.proofs.Common.{◌≡◌, sym, subst}
-use Rattle.std.specs.Prelude.{◌↔◌}
+use Rattle.std.proofs.Common.{sym, subst}
 use Rattle.pf_values.specs.declared.models.Model.{Model}
 use Rattle.pf_values.specs.Canonical.{IsCanonicalOf}
-use Rattle.pf_values.specs.Printing.{AreEquivalent}
 use Rattle.pf_values.specs.Text.{Text}
 use Rattle.pf_canon.proofs.EquivalentTexts.{equivalent_by}
 use Rattle.pf_probes.proofs.Unique.{equivalent_formats_one, one_canonical}

@@ -16,12 +16,7 @@ use std::alloc::{AllocError, Global};
 /// probe is given for which they print different bytes. A refused text is answered by its refusal,
 /// the first before the second. Memory is taken only for arguments: where both are accepted, have
 /// the same types, and are not equivalent.
-pub fn compare(
-    alloc: Global,
-    model: Model,
-    f: &[u8],
-    g: &[u8],
-) -> Result<Comparison, CompareFault>
+pub fn compare(alloc: Global, model: Model, f: &[u8], g: &[u8]) -> Result<Comparison, CompareFault>
     ensures { MatchResult result (IsComparisonOf model f.now g.now)
         (HindersComparison model f.now g.now) }
 {
@@ -45,12 +40,7 @@ pub fn compare(
 }
 
 // The same of two formats with the same types, which differ in what they print.
-fn compare_bytes(
-    alloc: Global,
-    model: Model,
-    f: &[u8],
-    g: &[u8],
-) -> Result<Comparison, AllocError>
+fn compare_bytes(alloc: Global, model: Model, f: &[u8], g: &[u8]) -> Result<Comparison, AllocError>
     requires apart { AreTextsSame model f.now g.now false }
     requires types { HaveSameTypes model f.now g.now }
     ensures { IfOk result (IsComparisonOf model f.now g.now) }

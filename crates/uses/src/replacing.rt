@@ -10,7 +10,7 @@ use std::alloc::Global;
 /// Whether `new` may be put in the place of `old`, by their canonical strings. True only where both
 /// take the same types and print the same bytes for all arguments; so not for a refused format, nor
 /// for want of memory.
-pub fn may_replace(model: Model, alloc: Global, old: &[u8], new: &[u8]) -> bool
+pub fn may_replace(alloc: Global, model: Model, old: &[u8], new: &[u8]) -> bool
     ensures { IsTrue result → AreEquivalent model old.now new.now }
 {
     one_canonical_text_means_the_same();

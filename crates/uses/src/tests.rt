@@ -17,9 +17,9 @@ use pf_values::{Conv, Counted, Directive, FlagSet, Length, Model};
 #[test]
 fn a_format_may_replace_another(rt: HostRuntime) {
     let alloc = rt.alloc();
-    assert!(rt; may_replace(Model::Lp64, alloc, b"%5c", b"    %c"));
-    assert!(rt; !may_replace(Model::Lp64, alloc, b"%05d", b"%.5d"));
-    assert!(rt; !may_replace(Model::Lp64, alloc, b"%f", b"%f"));
+    assert!(rt; may_replace(alloc, Model::Lp64, b"%5c", b"    %c"));
+    assert!(rt; !may_replace(alloc, Model::Lp64, b"%05d", b"%.5d"));
+    assert!(rt; !may_replace(alloc, Model::Lp64, b"%f", b"%f"));
 }
 
 #[test]
@@ -100,11 +100,23 @@ fn spaces_stand_in_front(rt: HostRuntime) {
 fn a_format_is_copied(rt: HostRuntime) {
     let mut copy = [0u8; 8];
     let mut writer = Counted::new(copy.as_mut_slice());
-    assert!(rt; copies_tidily(Model::Lp64, &mut Counted::new(b"%5c%i".as_slice()), &mut writer));
+    assert!(rt;
+        copies_tidily(
+            Model::Lp64,
+            &mut Counted::new(b"%5c%i".as_slice()),
+            &mut writer
+        )
+    );
     assert!(rt; copy.as_slice() == b"    %c%d".as_slice());
     let mut copy = [0u8; 8];
     let mut writer = Counted::new(copy.as_mut_slice());
-    assert!(rt; !copies_tidily(Model::Lp64, &mut Counted::new(b"%i%f".as_slice()), &mut writer));
+    assert!(rt;
+        !copies_tidily(
+            Model::Lp64,
+            &mut Counted::new(b"%i%f".as_slice()),
+            &mut writer
+        )
+    );
 }
 
 #[test]

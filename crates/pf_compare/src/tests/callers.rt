@@ -48,7 +48,23 @@ fn a_caller_asks_whether_one_may_stand_for_another(rt: HostRuntime) {
 #[test]
 fn a_caller_confirms_arguments(rt: HostRuntime) -> Result<(), Fail> {
     let alloc = rt.alloc();
-    assert!(rt; confirms(alloc, Model::Lp64, b"%d%05d", b"%d%.5d", &[Arg::Int(0), Arg::Int(-1)])?);
-    assert!(rt; !confirms(alloc, Model::Lp64, b"%d%05d", b"%d%.5d", &[Arg::Int(0), Arg::Int(5)])?);
+    assert!(rt;
+        confirms(
+            alloc,
+            Model::Lp64,
+            b"%d%05d",
+            b"%d%.5d",
+            &[Arg::Int(0), Arg::Int(-1)]
+        )?
+    );
+    assert!(rt;
+        !confirms(
+            alloc,
+            Model::Lp64,
+            b"%d%05d",
+            b"%d%.5d",
+            &[Arg::Int(0), Arg::Int(5)]
+        )?
+    );
     Ok(())
 }

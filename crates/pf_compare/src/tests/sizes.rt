@@ -17,7 +17,10 @@ fn confirms_after(alloc: Global, len: usize) -> Result<bool, AllocError> {
     let wide = text_that_ends(alloc, len, b"%5d")?;
     let alike = text_that_ends(alloc, len, b"%i")?;
     let one = [Arg::Int(1)];
-    Ok(confirms(alloc, Model::Lp64, &plain, &wide, &one)? && !confirms(alloc, Model::Lp64, &plain, &alike, &one)?)
+    Ok(
+        confirms(alloc, Model::Lp64, &plain, &wide, &one)?
+            && !confirms(alloc, Model::Lp64, &plain, &alike, &one)?,
+    )
 }
 
 #[test]
@@ -44,10 +47,19 @@ fn any_number_of_arguments(rt: HostRuntime) -> Result<(), AllocError> {
         last.extend_from_slice(b"%5d")?;
         first.extend_from_slice(b"%d")?;
         // One argument is missing, and then there are as many as directives.
-        assert!(rt; !confirms(alloc, Model::Lp64, &first, &last, &args)?, "{count} of more");
+        assert!(rt;
+            !confirms(alloc, Model::Lp64, &first, &last, &args)?,
+            "{count} of more"
+        );
         args.push(Arg::Int(1))?;
-        assert!(rt; confirms(alloc, Model::Lp64, &first, &last, &args)?, "{count}");
-        assert!(rt; !confirms(alloc, Model::Lp64, &first, &first, &args)?, "{count} alike");
+        assert!(rt;
+            confirms(alloc, Model::Lp64, &first, &last, &args)?,
+            "{count}"
+        );
+        assert!(rt;
+            !confirms(alloc, Model::Lp64, &first, &first, &args)?,
+            "{count} alike"
+        );
     }
     Ok(())
 }

@@ -13,7 +13,7 @@ fn memory_for_the_ninth_type(rt: HostRuntime) -> Result<(), AllocError> {
         let heap = LocalHeap::new(rt.alloc(), size)?;
         let _filling = Vec::<u8, &LocalHeap>::with_capacity(&heap, LEAST)?;
         let mut found = SmallVec::new(&heap);
-        match push_types(&mut found, b"%d%d%d%d%d%d%d%d%d") {
+        match push_types(&mut found, Model::Lp64, b"%d%d%d%d%d%d%d%d%d") {
             Ok(()) => {
                 assert!(rt; found.as_slice() == [ArgType::Int; 9].as_slice());
                 assert!(rt; refused > 0);
@@ -36,7 +36,7 @@ fn no_memory_for_eight_types(rt: HostRuntime) -> Result<(), AllocError> {
         let _filling = Vec::<u8, &LocalHeap>::with_capacity(&heap, LEAST)?;
         let mut found = SmallVec::new(&heap);
         assert!(rt;
-            push_types(&mut found, b"%d%d%d%d%d%d%d%d") == Ok(()),
+            push_types(&mut found, Model::Lp64, b"%d%d%d%d%d%d%d%d") == Ok(()),
             "size {size}"
         );
         assert!(rt; found.as_slice() == [ArgType::Int; 8].as_slice());

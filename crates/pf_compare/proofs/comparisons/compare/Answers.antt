@@ -1,4 +1,4 @@
-use Rattle.std.proofs.Common.{subst, sym}
+use Rattle.std.proofs.Common.{subst}
 use Rattle.std.proofs.lemmas.Result.{err_from_is_err_and}
 use Rattle.pf_canon.specs.Comparing.{AreTextsSame}
 use Rattle.pf_compare.proofs.TypeListLemmas.{same_types_of}
