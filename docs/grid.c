@@ -1,6 +1,7 @@
 /* What the C library prints for integers: the tables in crates/pf_render/src/tests/grid.
    cc -w -o grid docs/grid.c; ./grid short di; ./grid short u; ./grid short o; ./grid short xX;
-   ./grid long diu; ./grid long oxX (with a width or a precision of 4,095).
+   ./grid short b; ./grid long diu; ./grid long oxXb (with a width or a precision of 4,095). It takes
+   a library that has C23's `b`.
    A row is a format, the bits of its values, and what is printed of 0, 1, -1 and of the least and the
    greatest number of so many bits. A long row has for the five of them what comes before the longest run
    of one byte, that byte, how often it stands there, and what comes behind. */

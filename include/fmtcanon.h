@@ -56,7 +56,7 @@ enum fmtcanon_kind {
     FMTCANON_WIDE = 12,                /* `%C`, `%S`, `%lc`, `%ls` */
     FMTCANON_ALT_UNDEFINED = 13,       /* `#` with one of `d i u c s` */
     FMTCANON_ZERO_UNDEFINED = 14,      /* `0` with one of `c s` */
-    FMTCANON_GROUP_UNDEFINED = 15,     /* `'` with one of `o x X c s` */
+    FMTCANON_GROUP_UNDEFINED = 15,     /* `'` with one of `o x X b c s` */
     FMTCANON_PRECISION_UNDEFINED = 16, /* a precision with `c` */
     FMTCANON_LENGTH_UNDEFINED = 17,    /* a length modifier other than `l`, with `c s` */
     FMTCANON_TOO_LONG = 18             /* more than 2^62 bytes */
@@ -94,7 +94,7 @@ typedef struct fmtcanon_comparison {
                             nothing else. DIFFERENT: how many words are given. SAME: 0. */
     uint32_t verdict;    /* an enum fmtcanon_verdict */
     uint32_t renderings; /* DIFFERENT: the place of the one argument that isn't neutral among those
-                            that are tried for its type, from 1 to 16; else 0. */
+                            that are tried for its type, from 1 to 17; else 0. */
 } fmtcanon_comparison;
 
 /* 0 where the format is accepted. Takes no memory. */

@@ -206,11 +206,13 @@ def pairs_of(count):
 
 def told_counts():
     """What README.md says is tested: patterns of its numbers, each with the numbers that the files give."""
-    grids = [f"pf_render/src/tests/grid/{name}.rt" for name in ["hexadecimal", "long", "octal", "signed", "unsigned"]]
+    grids = [f"pf_render/src/tests/grid/{name}.rt" for name in ["binary", "hexadecimal", "long", "octal", "signed", "unsigned"]]
     forms = table_rows("pf_compare/src/tests/grid.rt", ["INTS"])
     sizes = grid_sizes(True) + grid_sizes(False)
     yield r"(\d+) refusals out of", [table_rows("pf_text/src/tests/refused.rt")]
     yield r"(\d+) texts that the GNU C library prints .* 16 shapes and (5) values", [5 * sum(map(table_rows, grids)), 5]
+    shapes = table_rows("pf_render/src/tests/grid/shapes.rt")
+    yield r"(\d+) that it prints by `b` \((\d+) shapes with (6) values\)", [6 * shapes, shapes, 6]
     yield r"(\d+) rows out of other programs' test suites, (\d+) worked rows", [table_rows("pf_render/src/tests/vectors.rt"), table_rows("pf_render/src/tests/rows.rt")]
     yield r"(\d+) directives and what they are reduced to .* up to (\d+) numbers", [table_rows("fmtcanon/src/tests/reductions.rt", [name]) for name in ["DIRECTIVES", "INTS"]]
     yield r"(\d+) worked canonical texts", [table_rows("pf_canon/src/tests.rt", ["DIRECTIVES", "FORMATS"])]

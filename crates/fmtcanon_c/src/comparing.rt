@@ -18,7 +18,7 @@ pub struct CComparison {
     pub number: u64,
     /// 1 for the same, 2 for other types, 3 for arguments.
     pub verdict: u32,
-    /// The place of the argument among the candidates of its type, from 1 to 16, or 0.
+    /// The place of the argument among the candidates of its type, from 1 to 17, or 0.
     pub renderings: u32,
 }
 

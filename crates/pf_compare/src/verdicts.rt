@@ -19,6 +19,6 @@ pub enum Verdict {
 pub struct Comparison {
     /// The verdict.
     pub verdict: Verdict,
-    /// The place: 1 for neutral arguments, and 0 where no arguments are given. At most 16.
+    /// The place: 1 for neutral arguments, and 0 where no arguments are given. At most 17.
     pub renderings: u8,
 }

@@ -110,7 +110,7 @@ digits_reduced model s p precision text sign normal few same =
     ∙ same_digits t.conv s.conv precision (nat_abs v) kept in
     same v (count-le s.conv (bits_under model s.length) text v fits) ∙ ap (with_padding p) (sym core))
 
--- what `u`, and `o x X` without `#`, print
+-- what `u`, and `o x X b` without `#`, print
 pub plain_value : (s : Specification) (v : ℤ) → is_signed s.conv ≡ false → has s.flags Alt ≡ false → value_text s v ≡ digits_text s.conv (effective_precision s 0) (nat_abs v)
 plain_value s v sign alt = effective s v 0 (λ e. inl (ap length (no_prefix s v sign alt))) ∙ number_text-plain s (effective_precision s 0) v sign alt
 

@@ -4,7 +4,7 @@ use Rattle.std.specs.Prelude.{None, nat_abs, not, ◌&&◌, ◌⊎◌, if◌then
 use Rattle.std.proofs.lemmas.List.{length-append}
 use Rattle.pf_values.specs.declared.bases.Alternative.TheVariants.{Prefixed}
 use Rattle.pf_values.specs.declared.bases.Base.{Base}
-use Rattle.pf_values.specs.declared.bases.Base.TheVariants.{Octal, Decimal, Hexadecimal}
+use Rattle.pf_values.specs.declared.bases.Base.TheVariants.{Binary, Octal, Decimal, Hexadecimal}
 use Rattle.pf_values.specs.declared.conversions.Conv.{Conv}
 use Rattle.pf_values.specs.declared.conversions.Kind.{Kind}
 use Rattle.pf_values.specs.declared.conversions.Kind.TheVariants as kinds
@@ -72,6 +72,8 @@ pub record HasPrefix (k : Kind) : Type 0 where
 
 prefix_of_two : (base : Base) (capitals : Bool) → alternative_of base ≡ Prefixed
     → length (prefix_of base capitals) ≡ 2
+prefix_of_two Binary true e = refl
+prefix_of_two Binary false e = refl
 prefix_of_two Octal capitals e = cc
 prefix_of_two Decimal capitals e = cc
 prefix_of_two Hexadecimal true e = refl
@@ -79,6 +81,16 @@ prefix_of_two Hexadecimal false e = refl
 
 prefixed_under : (base : Base) (capitals : Bool) → puts_prefix (alternative_of base) ≡ true
     → HasPrefix (kinds.Unsigned base capitals)
+prefixed_under Binary capitals e = record {
+  raised = refl;
+  sign = refl;
+  text = refl;
+  base = omega arith;
+  prefix = λ s v a.
+      let two = prefix_of_two Binary capitals refl in
+      prefix_is (prefix_of Binary capitals) (nat_abs v) (has s.flags Alt) two a;
+  one_prefix = λ s t v a b. rw (a, b) refl;
+}
 prefixed_under Octal capitals e = cc
 prefixed_under Decimal capitals e = cc
 prefixed_under Hexadecimal capitals e = record {

@@ -28,7 +28,7 @@ use crate::results::Reduced;
 use crate::signs::Sign;
 use pf_values::{Alternative, Directive, Flag, FlagSet, Model};
 
-/// `u o x X`, by what the flag `#` does.
+/// `u o x X b`, by what the flag `#` does.
 pub(crate) fn reduce_unsigned(
     model: Model,
     directive: &Directive,
@@ -49,7 +49,7 @@ pub(crate) fn reduce_unsigned(
     }
 }
 
-// `u`, and `o x X` without `#`: digits alone.
+// `u`, and `o x X b` without `#`: digits alone.
 fn reduce_plain(model: Model, directive: &Directive) -> Reduced
     requires text { is_text directive.now.conv ≡ false }
     requires sign { is_signed directive.now.conv ≡ false }
@@ -88,7 +88,7 @@ fn reduce_octal(model: Model, directive: &Directive) -> Reduced
     plain_core(model, padding, directive, precision - zeros)
 }
 
-// `x X` with `#`: digits after a prefix of two letters.
+// `x X b` with `#`: digits after a prefix of two letters.
 fn reduce_prefixed(model: Model, directive: &Directive) -> Reduced
     requires prefixed { is_prefixed directive.now.conv ≡ true }
     requires alt { has directive.now.flags Alt ≡ true }

@@ -41,6 +41,7 @@ fn parse(rt: &impl Abort, text: &str) -> Directive {
             b'o' => conv = Conv::O,
             b'x' => conv = Conv::X,
             b'X' => conv = Conv::UpperX,
+            b'b' => conv = Conv::B,
             b'c' => conv = Conv::C,
             _ => {}
         }
@@ -53,7 +54,7 @@ fn parse(rt: &impl Abort, text: &str) -> Directive {
 type Row = (&'static str, u16, u16, &'static str, u16);
 
 #[rattlefmt::skip]
-static REDUCED: [Row; 15] = [
+static REDUCED: [Row; 22] = [
     ("%-20d", 0, 0, "%-11d", 9),
     ("%30.20u", 10, 10, "%.10u", 0),
     ("%-12.0s", 12, 0, "%.0s", 0),
@@ -69,6 +70,13 @@ static REDUCED: [Row; 15] = [
     ("%-5c", 0, 0, "%c", 4),
     ("%.0s", 0, 0, "%.0s", 0),
     ("%20d", 9, 0, "%11d", 0),
+    ("%08b", 0, 0, "%.8b", 0),
+    ("%40b", 8, 0, "%32b", 0),
+    ("%.40b", 0, 8, "%.32b", 0),
+    ("%-#40b", 0, 0, "%-#34b", 6),
+    ("%-1.0b", 0, 0, "%1.0b", 0),
+    ("%-#3.0b", 0, 0, "%#3.0b", 0),
+    ("%#040b", 0, 0, "%#040b", 0),
 ];
 
 // The canonical strings of directives, cut into constant padding and core.
@@ -128,7 +136,7 @@ static OTHERS: [Row; 16] = [
 ];
 
 #[rattlefmt::skip]
-static IN_ILP32: [Row; 12] = [
+static IN_ILP32: [Row; 14] = [
     ("%20ld", 9, 0, "%11ld", 0),
     ("%20jd", 0, 0, "%20lld", 0),
     ("%jd", 0, 0, "%lld", 0),
@@ -141,6 +149,8 @@ static IN_ILP32: [Row; 12] = [
     ("%_11ld", 0, 0, "%11ld", 0),
     ("%_10ld", 0, 0, "%_10ld", 0),
     ("%12.11zd", 0, 0, "%_.11d", 0),
+    ("%-#40zb", 0, 0, "%-#34b", 6),
+    ("%40lb", 8, 0, "%32lb", 0),
 ];
 
 fn directive_of(core: Core) -> Option<Directive> {

@@ -9,7 +9,7 @@ use Rattle.std.proofs.lemmas.List.{append_assoc, length-append, length-map, leng
 use Rattle.std.proofs.lemmas.List.Elements.{filter-append}
 use Rattle.std.proofs.lemmas.List.Sums.{count_by-le-length, length-filter}
 use Rattle.pf_values.specs.declared.bases.Base.{Base}
-use Rattle.pf_values.specs.declared.bases.Base.TheVariants.{Octal, Decimal, Hexadecimal}
+use Rattle.pf_values.specs.declared.bases.Base.TheVariants.{Binary, Octal, Decimal, Hexadecimal}
 use Rattle.pf_values.specs.declared.conversions.Kind.{Kind}
 use Rattle.pf_values.specs.declared.conversions.Kind.TheVariants as kinds
 use Rattle.pf_values.specs.declared.flags.Flag.{Flag}
@@ -89,6 +89,7 @@ not_broken (kind ∷ kinds) s e = let here = none_first (breaks s kind) kind (fi
 one_missing_in : (base : Base) (alt group : Bool)
     → (not (is_defined (alternative_of base)) && alt) ≡ false
     → (not (is_grouped base) && group) ≡ false → (alt ≡ false) ⊎ (group ≡ false)
+one_missing_in Binary alt group h g = inr g
 one_missing_in Octal alt group h g = inr g
 one_missing_in Decimal alt group h g = inl h
 one_missing_in Hexadecimal alt group h g = inr g

@@ -49,6 +49,7 @@ pub(crate) fn conv_of(byte: u8) -> Option<Conv>
         b'o' => Some(Conv::O),
         b'x' => Some(Conv::X),
         b'X' => Some(Conv::UpperX),
+        b'b' => Some(Conv::B),
         b'c' => Some(Conv::C),
         b's' => Some(Conv::S),
         _ => None,
@@ -108,6 +109,7 @@ pub(crate) fn conv_letter(conv: Conv) -> u8
         Conv::O => b'o',
         Conv::X => b'x',
         Conv::UpperX => b'X',
+        Conv::B => b'b',
         Conv::C => b'c',
         Conv::S => b's',
     }

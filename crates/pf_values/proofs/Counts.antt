@@ -4,7 +4,7 @@ use Rattle.std.specs.Prelude.{nat_abs}
 use Rattle.std.proofs.lemmas.Int.{ints}
 use Rattle.std.proofs.lemmas.Int.Digits.{length-digits_of-le, length-digits_of_step}
 use Rattle.pf_values.specs.declared.bases.Base.{Base}
-use Rattle.pf_values.specs.declared.bases.Base.TheVariants.{Octal, Decimal, Hexadecimal}
+use Rattle.pf_values.specs.declared.bases.Base.TheVariants.{Binary, Octal, Decimal, Hexadecimal}
 use Rattle.pf_values.specs.declared.conversions.Conv.{Conv}
 use Rattle.pf_values.specs.declared.conversions.Kind.{Kind}
 use Rattle.pf_values.specs.declared.conversions.Kind.TheVariants as kinds
@@ -41,6 +41,10 @@ most_signed B64 v h = signed 10 19 64 v (omega arith) (omega arith) h
 
 most_unsigned : (base : Base) (bits : Bits) (v : ℤ) → FitsIn false (bit_count bits) v
     → count_of (number_of base) (nat_abs v) ≤ most_digits_in base bits
+most_unsigned Binary B8 v h = unsigned 2 8 8 v (omega arith) (omega arith) h
+most_unsigned Binary B16 v h = unsigned 2 16 16 v (omega arith) (omega arith) h
+most_unsigned Binary B32 v h = unsigned 2 32 32 v (omega arith) (omega arith) h
+most_unsigned Binary B64 v h = unsigned 2 64 64 v (omega arith) (omega arith) h
 most_unsigned Octal B8 v h = unsigned 8 3 8 v (omega arith) (omega arith) h
 most_unsigned Octal B16 v h = unsigned 8 6 16 v (omega arith) (omega arith) h
 most_unsigned Octal B32 v h = unsigned 8 11 32 v (omega arith) (omega arith) h

@@ -2,7 +2,7 @@
 use Rattle.std.proofs.Common.{◌≡◌, ℕ, ◌^◌, List, [], ◌∷◌, codes, refl, Option, Some, None, length, pos, negsuc}
 use Rattle.std.specs.Fmt.{digits}
 use Rattle.pf_values.specs.declared.conversions.Conv.{Conv}
-use Rattle.pf_values.specs.declared.conversions.Conv.TheVariants.{D, O, X, C, S}
+use Rattle.pf_values.specs.declared.conversions.Conv.TheVariants.{D, O, X, B, C, S}
 use Rattle.pf_values.specs.declared.flags.Flag.{Flag}
 use Rattle.pf_values.specs.declared.flags.Flag.TheVariants.{Minus, Plus, Space, Alt, Zero, Group}
 use Rattle.pf_values.specs.declared.lengths.Length.{Length}
@@ -48,6 +48,13 @@ zeros_behind_the_prefix model = refl
 
 no_prefix_at_zero : (model : Model) → printed_text model (spec (Alt ∷ Zero ∷ []) (Some 6) None lengths.None X) (Number (pos 0)) ≡ codes "000000"
 no_prefix_at_zero model = refl
+
+-- `%#010b` prints 5 as `0b00000101`, and `%hhb` -1 as eight ones
+binary_behind_the_prefix : (model : Model) → printed_text model (spec (Alt ∷ Zero ∷ []) (Some 10) None lengths.None B) (Number (pos 5)) ≡ codes "0b00000101"
+binary_behind_the_prefix model = refl
+
+ones_of_a_byte : (model : Model) → printed_text model (spec [] None None lengths.Hh B) (Number (negsuc 0)) ≡ codes "11111111"
+ones_of_a_byte model = refl
 
 -- `%hhd` prints 300 as `44`, and 128 as `-128`
 value_in_range : (model : Model) → printed_text model (spec [] None None lengths.Hh D) (Number (pos 300)) ≡ codes "44"

@@ -2,7 +2,7 @@
 use Rattle.std.proofs.Common.{◌≡◌, ℕ, zero, suc, ◌+◌, ◌-◌, ◌<◌, ◌≤◌, max, Bool, true, false, List, [], ◌∷◌, ◌++◌, length, get_or, map, replicate, refl, ap, ◌∙◌, subst, arith, inl, inr, ℤ}
 use Rattle.std.specs.Prelude.{MatchBool, ◌&&◌, nat_abs, unwrap_or, nat_lt, if◌then◌else◌}
 use Rattle.pf_values.specs.declared.bases.Base.{Base}
-use Rattle.pf_values.specs.declared.bases.Base.TheVariants.{Octal, Decimal, Hexadecimal}
+use Rattle.pf_values.specs.declared.bases.Base.TheVariants.{Binary, Octal, Decimal, Hexadecimal}
 use Rattle.pf_values.specs.declared.conversions.Conv.{Conv}
 use Rattle.pf_values.specs.declared.conversions.Conv.TheVariants.{O}
 use Rattle.std.specs.Fmt.{digit_glyph}
@@ -118,6 +118,7 @@ len_under true precision count = max precision (suc count)
 len_under false precision count = max precision count
 
 from_two : (base : Base) → 2 ≤ number_of base
+from_two Binary = omega arith
 from_two Octal = omega arith
 from_two Decimal = omega arith
 from_two Hexadecimal = omega arith

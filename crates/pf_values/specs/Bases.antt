@@ -3,7 +3,7 @@ use Rattle.std.specs.Prelude.{ℕ, Bool, true, false, if◌then◌else◌, [], c
 use Rattle.pf_values.specs.declared.bases.Alternative.{Alternative}
 use Rattle.pf_values.specs.declared.bases.Alternative.TheVariants.{Undefined, Raised, Prefixed}
 use Rattle.pf_values.specs.declared.bases.Base.{Base}
-use Rattle.pf_values.specs.declared.bases.Base.TheVariants.{Octal, Decimal, Hexadecimal}
+use Rattle.pf_values.specs.declared.bases.Base.TheVariants.{Binary, Octal, Decimal, Hexadecimal}
 use Rattle.pf_values.specs.Bits.{Bits, by_bits}
 use Rattle.pf_values.specs.Text.{Text}
 
@@ -20,7 +20,16 @@ pub record Row : Type 0 where
   -- the most digits of an unsigned number of so many bits
   pub digits : Bits → ℕ
 
+-- base two is that of `b` alone, of which `#` puts `0b` before a number (C23 7.23.6.1 p6, p8)
 abbrev pub row_of : Base → Row
+row_of Binary = record {
+  number = 2;
+  alternative = Prefixed;
+  prefix = codes "0b";
+  capital_prefix = codes "0B";
+  grouped = false;
+  digits = λ bits. by_bits bits 8 16 32 64;
+}
 row_of Octal = record {
   number = 8;
   alternative = Raised;

@@ -7,9 +7,9 @@ use Rattle.pf_values.specs.declared.types.ArgType.TheVariants.{Int, UInt, Long, 
 use Rattle.pf_values.specs.Arguments.{Argument, Number, String}
 use Rattle.pf_values.specs.DataModel.{Bits, bit_count, type_bits}
 
--- the greatest number of so many bits last
+-- the greatest number of so many bits, and 3, by which binary numbers are told
 abbrev pub unsigned_candidates : Bits → List Argument
-unsigned_candidates bits = map Number (pos 0 ∷ pos 1 ∷ pos 2 ∷ pos (2 ^ bit_count bits - 1) ∷ [])
+unsigned_candidates bits = map Number (pos 0 ∷ pos 1 ∷ pos 2 ∷ pos (2 ^ bit_count bits - 1) ∷ pos 3 ∷ [])
 
 -- the least and the greatest number of so many bits last
 abbrev pub signed_candidates : Bits → List Argument
@@ -22,7 +22,7 @@ abbrev pub candidates : Model → ArgType → List Argument
 candidates model Int = map Number (pos 0 ∷ pos 1 ∷ pos 2 ∷ pos 257 ∷ pos 129 ∷ pos 32769
     ∷ negsuc 0 ∷ negsuc 126 ∷ negsuc 32766 ∷ negsuc 2147483646
     ∷ negsuc 127 ∷ negsuc 32767 ∷ negsuc 2147483647
-    ∷ pos 127 ∷ pos 32767 ∷ pos 2147483647 ∷ [])
+    ∷ pos 127 ∷ pos 32767 ∷ pos 2147483647 ∷ pos 3 ∷ [])
 candidates model UInt = unsigned_candidates (type_bits model UInt)
 candidates model ULong = unsigned_candidates (type_bits model ULong)
 candidates model ULongLong = unsigned_candidates (type_bits model ULongLong)

@@ -3,9 +3,9 @@ use Rattle.std.specs.Prelude.{ℕ, Bool, true, false}
 use Rattle.pf_values.specs.declared.bases.Alternative.{Alternative}
 use Rattle.pf_values.specs.declared.bases.Alternative.TheVariants.{Undefined}
 use Rattle.pf_values.specs.declared.bases.Base.{Base}
-use Rattle.pf_values.specs.declared.bases.Base.TheVariants.{Octal, Decimal, Hexadecimal}
+use Rattle.pf_values.specs.declared.bases.Base.TheVariants.{Binary, Octal, Decimal, Hexadecimal}
 use Rattle.pf_values.specs.declared.conversions.Conv.{Conv}
-use Rattle.pf_values.specs.declared.conversions.Conv.TheVariants.{D, I, U, O, X, UpperX, C, S}
+use Rattle.pf_values.specs.declared.conversions.Conv.TheVariants.{D, I, U, O, X, UpperX, B, C, S}
 use Rattle.pf_values.specs.declared.conversions.Kind.{Kind}
 use Rattle.pf_values.specs.declared.conversions.Kind.TheVariants as kinds
 use Rattle.pf_values.specs.Bases.{
@@ -17,7 +17,7 @@ use Rattle.pf_values.specs.Bases.{
   raises_precision,
 }
 
--- `d`, `i`, `u`, `o`, `x`, `X`, `c` and `s` (C11 7.21.6.1 p8)
+-- `d`, `i`, `u`, `o`, `x`, `X`, `c` and `s` (C11 7.21.6.1 p8), and `b` (C23 7.23.6.1 p8)
 abbrev pub conv_letter : Conv → ℕ
 conv_letter D = 100
 conv_letter I = 105
@@ -25,10 +25,11 @@ conv_letter U = 117
 conv_letter O = 111
 conv_letter X = 120
 conv_letter UpperX = 88
+conv_letter B = 98
 conv_letter C = 99
 conv_letter S = 115
 
--- what is printed (C11 7.21.6.1 p8)
+-- what is printed (C11 7.21.6.1 p8; C23 7.23.6.1 p8 on `b`)
 abbrev pub kind_of : Conv → Kind
 kind_of D = kinds.Signed
 kind_of I = kinds.Signed
@@ -36,6 +37,7 @@ kind_of U = kinds.Unsigned Decimal false
 kind_of O = kinds.Unsigned Octal false
 kind_of X = kinds.Unsigned Hexadecimal false
 kind_of UpperX = kinds.Unsigned Hexadecimal true
+kind_of B = kinds.Unsigned Binary false
 kind_of C = kinds.Char
 kind_of S = kinds.String
 
@@ -47,6 +49,7 @@ kept_conv U = U
 kept_conv O = O
 kept_conv X = X
 kept_conv UpperX = UpperX
+kept_conv B = B
 kept_conv C = C
 kept_conv S = S
 

@@ -30,7 +30,7 @@ pub record Row : Type 0 where
   pub kept : Length
   -- the bits of the value that is printed
   pub bits : Bits
-  -- the types of the arguments of `d i` and of `u o x X`, after promotion
+  -- the types of the arguments of `d i` and of `u o x X b`, after promotion
   pub signed : ArgType
   pub unsigned : ArgType
 
@@ -80,7 +80,7 @@ kept_length model length = (row_of model length).kept
 abbrev pub bits_under : Model → Length → Bits
 bits_under model length = (row_of model length).bits
 
--- the argument types of `d i` and of `u o x X` under a length modifier
+-- the argument types of `d i` and of `u o x X b` under a length modifier
 abbrev pub signed_type : Model → Length → ArgType
 signed_type model length = (row_of model length).signed
 

@@ -43,7 +43,7 @@ pub record IsNormalString (s : Specification) : Type 0 where
   pub width : IfSome s.precision (λ p. width_of s ≤ p)
   pub left : IsTrue (has s.flags Minus) → 1 < width_of s
 
--- `u o x X` without `#`
+-- `u o x X b` without `#`
 pub record IsNormalPlain (model : Model) (s : Specification) : Type 0 where
   pub not_filled : IsFalse (has s.flags Zero)
   pub precision : precision_of s ≤ digits_at_most model s
@@ -66,7 +66,7 @@ pub record IsNormalFilled (s : Specification) : Type 0 where
   pub no_precision : s.precision ≡ None
   pub width : 2 ≤ width_of s
 
--- `x X` with `#`, not filled
+-- `x X b` with `#`, not filled
 pub record IsNormalPrefixed (model : Model) (s : Specification) : Type 0 where
   pub least : 0 < width_of s → precision_of s < width_of s
   pub most : width_of s ≤ 2 + longest model s
@@ -85,18 +85,18 @@ pub record IsNormalSigned (model : Model) (s : Specification) : Type 0 where
   pub left : IsTrue (has s.flags Minus) → (0 < width_of s)
       × (IsFalse (has s.flags Plus) → precision_of s ≡ 0 → sign_len s + 1 < width_of s)
 
--- `x X`, with or without `#` and with or without `0`
-abbrev pub IsNormalHexadecimal : Model → Bool → Bool → Specification → Type 0
-IsNormalHexadecimal model true true s = IsNormalFilled s
-IsNormalHexadecimal model true false s = IsNormalPrefixed model s
-IsNormalHexadecimal model false _ s = IsNormalPlain model s
+-- `x X b`, with or without `#` and with or without `0`
+abbrev pub HasPrefixedForm : Model → Bool → Bool → Specification → Type 0
+HasPrefixedForm model true true s = IsNormalFilled s
+HasPrefixedForm model true false s = IsNormalPrefixed model s
+HasPrefixedForm model false _ s = IsNormalPlain model s
 
--- `u o x X`, by what `#` does
+-- `u o x X b`, by what `#` does
 abbrev pub HasUnsignedForm : Model → Alternative → Specification → Type 0
 HasUnsignedForm model Undefined s = IsNormalPlain model s
 HasUnsignedForm model Raised s =
     MatchBool (has s.flags Alt) (IsNormalOctal model s) (IsNormalPlain model s)
-HasUnsignedForm model Prefixed s = IsNormalHexadecimal model (has s.flags Alt) (has s.flags Zero) s
+HasUnsignedForm model Prefixed s = HasPrefixedForm model (has s.flags Alt) (has s.flags Zero) s
 
 -- `d`
 abbrev pub HasSignedForm : Model → Specification → Type 0

@@ -12,6 +12,8 @@ ghost use Rattle.pf_values.specs.Bases.{
 /// A base in which a number is printed (C11 7.21.6.1, paragraph 8).
 #[derive(Clone, Copy, Debug, PartialEq, Eq)]
 pub enum Base {
+    /// Base two (C23 7.23.6.1, paragraph 8).
+    Binary,
     /// Base eight.
     Octal,
     /// Base ten.
@@ -38,6 +40,7 @@ impl Base {
         ensures range { (2 ≤ result) × (result ≤ 16) }
     {
         match self {
+            Base::Binary => 2,
             Base::Octal => 8,
             Base::Decimal => 10,
             Base::Hexadecimal => 16,
@@ -51,7 +54,7 @@ impl Base {
         match self {
             Base::Octal => Alternative::Raised,
             Base::Decimal => Alternative::Undefined,
-            Base::Hexadecimal => Alternative::Prefixed,
+            Base::Binary | Base::Hexadecimal => Alternative::Prefixed,
         }
     }
 
@@ -60,7 +63,7 @@ impl Base {
         ensures { result ≡ is_grouped self }
     {
         match self {
-            Base::Octal | Base::Hexadecimal => false,
+            Base::Binary | Base::Octal | Base::Hexadecimal => false,
             Base::Decimal => true,
         }
     }
@@ -73,6 +76,8 @@ impl Base {
     {
         match self {
             Base::Octal | Base::Decimal => b"",
+            Base::Binary if capitals => b"0B",
+            Base::Binary => b"0b",
             Base::Hexadecimal if capitals => b"0X",
             Base::Hexadecimal => b"0x",
         }
@@ -83,6 +88,7 @@ impl Base {
         ensures { (b : Bits) → bits ≡ bit_count b → result ≡ most_digits_in self b }
     {
         match self {
+            Base::Binary => by_bits(bits, 8, 16, 32, 64),
             Base::Octal => by_bits(bits, 3, 6, 11, 22),
             Base::Decimal => by_bits(bits, 3, 5, 10, 20),
             Base::Hexadecimal => by_bits(bits, 2, 4, 8, 16),

@@ -29,6 +29,8 @@ pub enum Conv {
     X,
     /// `X`: the same in upper case.
     UpperX,
+    /// `b`: an unsigned number in binary (C23 7.23.6.1, paragraph 8).
+    B,
     /// `c`: one byte.
     C,
     /// `s`: a string.
@@ -50,13 +52,14 @@ pub enum Kind {
 
 impl Conv {
     /// All conversions.
-    pub const ALL: [Conv; 8] = [
+    pub const ALL: [Conv; 9] = [
         Conv::D,
         Conv::I,
         Conv::U,
         Conv::O,
         Conv::X,
         Conv::UpperX,
+        Conv::B,
         Conv::C,
         Conv::S,
     ];
@@ -82,6 +85,7 @@ impl Conv {
             Conv::O => Kind::Unsigned(Base::Octal, false),
             Conv::X => Kind::Unsigned(Base::Hexadecimal, false),
             Conv::UpperX => Kind::Unsigned(Base::Hexadecimal, true),
+            Conv::B => Kind::Unsigned(Base::Binary, false),
             Conv::C => Kind::Char,
             Conv::S => Kind::String,
         }

@@ -26,7 +26,7 @@ pub(crate) struct Row {
     pub(crate) bits: u8,
     /// The type of the argument of `d` and `i`.
     pub(crate) signed: ArgType,
-    /// The type of the argument of `u`, `o`, `x` and `X`.
+    /// The type of the argument of `u`, `o`, `x`, `X` and `b`.
     pub(crate) unsigned: ArgType,
 }
 

@@ -33,7 +33,7 @@ pub enum RefusalKind {
     AltUndefined,
     /// `0` with `c s`, which the standard leaves undefined.
     ZeroUndefined,
-    /// `'` with `o x X c s`, which POSIX leaves undefined.
+    /// `'` with `o x X b c s`, which POSIX leaves undefined.
     GroupUndefined,
     /// A precision with `c`, which the standard leaves undefined.
     PrecisionUndefined,

@@ -20,7 +20,7 @@ fn number_of(flags: FlagSet, width: u16, precision: Option<u16>, length: Length,
 
 // By conversion, as in the standard's paragraphs on each flag: a row for each of `Conv::ALL`.
 #[rattlefmt::skip]
-const WITH_FLAG: [[u8; 6]; 8] = [
+const WITH_FLAG: [[u8; 6]; 9] = [
     // -  +  ' '  #   0   '
     [0, 0, 0, 13, 0, 0],    // d
     [0, 0, 0, 13, 0, 0],    // i
@@ -28,6 +28,7 @@ const WITH_FLAG: [[u8; 6]; 8] = [
     [0, 0, 0, 0, 0, 15],    // o
     [0, 0, 0, 0, 0, 15],    // x
     [0, 0, 0, 0, 0, 15],    // X
+    [0, 0, 0, 0, 0, 15],    // b
     [0, 0, 0, 13, 14, 15],  // c
     [0, 0, 0, 13, 14, 15],  // s
 ];
@@ -48,13 +49,14 @@ fn each_flag_with_each_conversion(rt: HostRuntime) {
 
 // Without a modifier, and then `hh h l ll j z t`.
 #[rattlefmt::skip]
-const WITH_LENGTH: [[u8; 8]; 8] = [
+const WITH_LENGTH: [[u8; 8]; 9] = [
     [0, 0, 0, 0, 0, 0, 0, 0],          // d
     [0, 0, 0, 0, 0, 0, 0, 0],          // i
     [0, 0, 0, 0, 0, 0, 0, 0],          // u
     [0, 0, 0, 0, 0, 0, 0, 0],          // o
     [0, 0, 0, 0, 0, 0, 0, 0],          // x
     [0, 0, 0, 0, 0, 0, 0, 0],          // X
+    [0, 0, 0, 0, 0, 0, 0, 0],          // b
     [0, 17, 17, 12, 17, 17, 17, 17],   // c
     [0, 17, 17, 12, 17, 17, 17, 17],   // s
 ];
@@ -74,7 +76,7 @@ fn each_modifier_with_each_conversion(rt: HostRuntime) {
 
 #[test]
 fn a_precision_with_each_conversion(rt: HostRuntime) {
-    for (conv, want) in Conv::ALL.iter().zip([0, 0, 0, 0, 0, 0, 16, 0]) {
+    for (conv, want) in Conv::ALL.iter().zip([0, 0, 0, 0, 0, 0, 0, 16, 0]) {
         assert_eq!(rt;
             number_of(FlagSet::empty(), 0, Some(0), Length::None, *conv),
             want,
@@ -106,6 +108,7 @@ fn the_least_number_counts(rt: HostRuntime) {
             16,
         ),
         (number_of(group, u16::MAX, None, Length::None, Conv::X), 7),
+        (number_of(group, 4095, None, Length::None, Conv::B), 15),
         (
             number_of(group, 4095, Some(4095), Length::None, Conv::X),
             15,
@@ -238,7 +241,7 @@ fn each_value_has_its_bits(rt: HostRuntime) {
 }
 
 // The conversions, each with its kind and with the one that a normal directive has for it.
-const CONVERSIONS: [(Conv, Kind, Conv); 8] = [
+const CONVERSIONS: [(Conv, Kind, Conv); 9] = [
     (Conv::D, Kind::Signed, Conv::D),
     (Conv::I, Kind::Signed, Conv::D),
     (Conv::U, Kind::Unsigned(Base::Decimal, false), Conv::U),
@@ -249,6 +252,7 @@ const CONVERSIONS: [(Conv, Kind, Conv); 8] = [
         Kind::Unsigned(Base::Hexadecimal, true),
         Conv::UpperX,
     ),
+    (Conv::B, Kind::Unsigned(Base::Binary, false), Conv::B),
     (Conv::C, Kind::Char, Conv::C),
     (Conv::S, Kind::String, Conv::S),
 ];
@@ -277,6 +281,7 @@ fn each_modifier_has_its_representative(rt: HostRuntime) {
 #[test]
 fn each_base_has_its_row(rt: HostRuntime) {
     for (base, number, alternative, small, capital) in [
+        (Base::Binary, 2, Alternative::Prefixed, "0b", "0B"),
         (Base::Octal, 8, Alternative::Raised, "", ""),
         (Base::Decimal, 10, Alternative::Undefined, "", ""),
         (Base::Hexadecimal, 16, Alternative::Prefixed, "0x", "0X"),
@@ -315,24 +320,26 @@ fn each_kind_converts(rt: HostRuntime) {
 
 // A row for each of `Conv::ALL`; without a modifier, and then `hh h l ll j z t`.
 #[rattlefmt::skip]
-static MAX_DIGITS: [[u8; 8]; 6] = [
+static MAX_DIGITS: [[u8; 8]; 7] = [
     [10, 3, 5, 19, 19, 19, 19, 19], // d
     [10, 3, 5, 19, 19, 19, 19, 19], // i
     [10, 3, 5, 20, 20, 20, 20, 20], // u
     [11, 3, 6, 22, 22, 22, 22, 22], // o
     [8, 2, 4, 16, 16, 16, 16, 16],  // x
     [8, 2, 4, 16, 16, 16, 16, 16],  // X
+    [32, 8, 16, 64, 64, 64, 64, 64], // b
 ];
 
 // The same, for the modifiers that name other types there.
 #[rattlefmt::skip]
-static MAX_DIGITS_IN_ILP32: [[u8; 8]; 6] = [
+static MAX_DIGITS_IN_ILP32: [[u8; 8]; 7] = [
     [10, 3, 5, 10, 19, 19, 10, 10], // d
     [10, 3, 5, 10, 19, 19, 10, 10], // i
     [10, 3, 5, 10, 20, 20, 10, 10], // u
     [11, 3, 6, 11, 22, 22, 11, 11], // o
     [8, 2, 4, 8, 16, 16, 8, 8],     // x
     [8, 2, 4, 8, 16, 16, 8, 8],     // X
+    [32, 8, 16, 32, 64, 64, 32, 32], // b
 ];
 
 fn max_digits_of(model: Model, length: Length, conv: Conv) -> Result<u8, RefusalKind> {

@@ -8,22 +8,24 @@ use std::test::Fail;
 
 // The integer directives whose canonical texts are worked out by hand.
 #[rattlefmt::skip]
-static DIRECTIVES: [&str; 48] = [
+static DIRECTIVES: [&str; 58] = [
     "%i", "%d", "%jd", "%ld", "%zu", "%lu", "%tx", "%lx", "%'d", "%+ d", "%+d", "%+u", "%u", "%.d", "%.0d",
     "%.0001d", "%0000005d", "%05d", "%01d", "%+05d", "%+.4d", "%-05u", "%-5u", "%#06x", "%#01x", "%#x", "%#08o",
     "%#5o", "%-#2o", "%#.0o", "%#.0x", "%5hhu", "%3hhu", "%3.3hhu", "%.3hhu", "%7hd", "%6hd", "%6.5hd", "% .5hd",
     "%+6.5hd", "%+.5hd", "%-12d", "%-11d", "%- 2.0d", "% 2.0d", "%-#5o", "%-#20X", "%+020lld",
+    "%08b", "%40b", "%.40b", "%-#40b", "%-1.0b", "%-#3.0b", "%#b", "%#040b", "%hhb", "%-#80zb",
 ];
 
 // Numbers that tell directives of a type apart.
 #[rattlefmt::skip]
-static INTS: [i128; 16] = [
+static INTS: [i128; 17] = [
     0, 1, 2, 257, 129, 32769, -1, -127, -32767, -2147483647, -128, -32768, -2147483648, 127, 32767, 2147483647,
+    3,
 ];
 
-static UNSIGNED: [i128; 4] = [0, 1, 2, 4294967295];
+static UNSIGNED: [i128; 5] = [0, 1, 2, 4294967295, 3];
 
-static LONG_UNSIGNED: [i128; 4] = [0, 1, 2, 18446744073709551615];
+static LONG_UNSIGNED: [i128; 5] = [0, 1, 2, 18446744073709551615, 3];
 
 static LONGS: [i128; 5] = [0, 1, -1, -9223372036854775808, 9223372036854775807];
 

@@ -236,11 +236,11 @@ fn every_two_ints(rt: HostRuntime) -> Result<(), Fail> {
     // 0, -1, 127, 32767 and 2147483647
     let needed = [
         true, false, false, false, false, false, true, false, false, false, false, false, false,
-        true, true, true,
+        true, true, true, false,
     ];
     for model in Model::ALL {
         assert!(rt;
-            are_told_by(rt.alloc(), model, ArgType::Int, 555, &needed)?,
+            are_told_by(rt.alloc(), model, ArgType::Int, 709, &needed)?,
             "{model:?}"
         );
     }
@@ -249,19 +249,19 @@ fn every_two_ints(rt: HostRuntime) -> Result<(), Fail> {
 
 #[test]
 fn every_two_unsigned(rt: HostRuntime) -> Result<(), Fail> {
-    // 0 and the greatest
-    let needed = [true, false, false, true];
+    // 0, 1 and the greatest
+    let needed = [true, true, false, true, false];
     for model in Model::ALL {
         assert!(rt;
-            are_told_by(rt.alloc(), model, ArgType::UInt, 212, &needed)?,
+            are_told_by(rt.alloc(), model, ArgType::UInt, 289, &needed)?,
             "{model:?}"
         );
         assert!(rt;
-            are_told_by(rt.alloc(), model, ArgType::ULong, 212, &needed)?,
+            are_told_by(rt.alloc(), model, ArgType::ULong, 289, &needed)?,
             "{model:?}"
         );
         assert!(rt;
-            are_told_by(rt.alloc(), model, ArgType::ULongLong, 212, &needed)?,
+            are_told_by(rt.alloc(), model, ArgType::ULongLong, 289, &needed)?,
             "{model:?}"
         );
     }
@@ -329,7 +329,7 @@ fn told_formats(alloc: Global, f: &str, g: &str) -> Result<Told, Fail> {
 
 // Two directives, and the place of the one candidate that tells them apart.
 #[rattlefmt::skip]
-static TOLD_BY_ONE: [(&str, &str, usize); 14] = [
+static TOLD_BY_ONE: [(&str, &str, usize); 16] = [
     ("%d", "%.0d", 0),
     ("%02d", "%.2d", 6),
     ("% hhd", "%2hhd", 13),
@@ -338,6 +338,8 @@ static TOLD_BY_ONE: [(&str, &str, usize); 14] = [
     ("%u", "%.0u", 0),
     ("%u", "%o", 3),
     ("%lu", "%lo", 3),
+    ("%2.0b", "%-2.0b", 1),
+    ("%2.0lb", "%-2.0lb", 1),
     ("%ld", "%.0ld", 0),
     ("%2.0ld", "%-2.0ld", 1),
     ("%02ld", "%.2ld", 2),

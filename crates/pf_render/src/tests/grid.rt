@@ -8,9 +8,11 @@ use pf_values::{ArgType, Directive, Length, Model};
 use std::alloc::{AllocError, Global};
 use std::test::Fail;
 
+mod binary;
 mod hexadecimal;
 mod long;
 mod octal;
+mod shapes;
 mod signed;
 mod unsigned;
 
@@ -28,6 +30,10 @@ type LongRow = (
     [usize; 5],
     [&'static str; 5],
 );
+
+// A format, the bits of its values, and what is printed of 0, 1, 2, 5, 255, and the number whose
+// bits are all ones.
+type ShapeRow = (&'static str, u32, [&'static str; 6]);
 
 // The five numbers, as arguments of the directive: an unsigned type has those of the same bits.
 fn numbers(directive: &Directive, bits: u32) -> [i128; 5] {
@@ -67,6 +73,7 @@ fn short_rows(rt: HostRuntime) -> Result<(), Fail> {
     assert_eq!(rt; first_wrong(rt.alloc(), &unsigned::UNSIGNED)?, None);
     assert_eq!(rt; first_wrong(rt.alloc(), &octal::OCTAL)?, None);
     assert_eq!(rt; first_wrong(rt.alloc(), &hexadecimal::HEXADECIMAL)?, None);
+    assert_eq!(rt; first_wrong(rt.alloc(), &binary::BINARY)?, None);
     Ok(())
 }
 
@@ -144,6 +151,7 @@ fn short_rows_in_ilp32(rt: HostRuntime) {
         first_wrong_in_ilp32(alloc, &hexadecimal::HEXADECIMAL),
         None
     );
+    assert_eq!(rt; first_wrong_in_ilp32(alloc, &binary::BINARY), None);
 }
 
 // The first row whose text isn't written just as far as there is room.
@@ -167,6 +175,7 @@ fn each_room_for_short_rows(rt: HostRuntime) {
     assert_eq!(rt; first_inexact(&unsigned::UNSIGNED), None);
     assert_eq!(rt; first_inexact(&octal::OCTAL), None);
     assert_eq!(rt; first_inexact(&hexadecimal::HEXADECIMAL), None);
+    assert_eq!(rt; first_inexact(&binary::BINARY), None);
 }
 
 // Whether a text is `head`, the byte so many times, and `tail`.
@@ -203,5 +212,39 @@ fn first_wrong_run(
 fn long_rows(rt: HostRuntime) -> Result<(), Fail> {
     assert_eq!(rt; first_wrong_run(rt.alloc(), &long::DECIMAL)?, None);
     assert_eq!(rt; first_wrong_run(rt.alloc(), &long::BASED)?, None);
+    Ok(())
+}
+
+// The six numbers, as arguments of the directive.
+fn shape_numbers(directive: &Directive, bits: u32) -> [i128; 6] {
+    let ones = match directive.arg_type(Model::Lp64) {
+        ArgType::UInt | ArgType::ULong | ArgType::ULongLong => (1i128 << bits.clamp(1, 64)) - 1,
+        _ => -1,
+    };
+    [0, 1, 2, 5, 255, ones]
+}
+
+// The first row of which something else is printed, with its number.
+fn first_wrong_shape(
+    alloc: Global,
+    table: &[ShapeRow],
+) -> Result<Option<(&'static str, i128)>, AllocError> {
+    for (format, bits, texts) in table {
+        let Some(directive) = directive_of(format) else {
+            return Ok(Some((*format, 0)));
+        };
+        for (number, text) in shape_numbers(&directive, *bits).iter().zip(texts) {
+            if !prints(alloc, format, *number, text)? {
+                return Ok(Some((*format, *number)));
+            }
+        }
+    }
+    Ok(None)
+}
+
+#[test]
+fn shapes_of_binary_numbers(rt: HostRuntime) -> Result<(), Fail> {
+    assert_eq!(rt; first_wrong_shape(rt.alloc(), &shapes::BARE)?, None);
+    assert_eq!(rt; first_wrong_shape(rt.alloc(), &shapes::FLAGGED)?, None);
     Ok(())
 }

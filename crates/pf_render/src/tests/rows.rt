@@ -5,7 +5,7 @@ use std::test::Fail;
 
 // A directive, a number, and what it prints.
 #[rattlefmt::skip]
-pub(super) static ROWS: [NumberRow; 32] = [
+pub(super) static ROWS: [NumberRow; 38] = [
     ("%08.3d", 5, "     005"),
     ("% 05d", 42, " 0042"),
     ("%#8.5o", 8, "   00010"),
@@ -38,6 +38,12 @@ pub(super) static ROWS: [NumberRow; 32] = [
     ("%ld", -9223372036854775808, "-9223372036854775808"),
     ("%llo", 18446744073709551615, "1777777777777777777777"),
     ("%#05o", 8, "00010"),
+    ("%b", 10, "1010"),
+    ("%#b", 0, "0"),
+    ("%#b", 10, "0b1010"),
+    ("%08b", 5, "00000101"),
+    ("%#010b", 5, "0b00000101"),
+    ("%hhb", -1, "11111111"),
 ];
 
 #[test]

@@ -109,7 +109,7 @@ fn inside_an_item_no_run_is_taken(rt: HostRuntime) {
 fn each_letter_after_percent(rt: HostRuntime) {
     for letter in 0..=u8::MAX {
         let mut scanner = Scanner::new();
-        let taken = if b"%douxXcs".contains(&letter) { 2 } else { 0 };
+        let taken = if b"%douxXbcs".contains(&letter) { 2 } else { 0 };
         assert_eq!(rt;
             scanner.pass_plain(&[b'%', letter]),
             taken,

@@ -27,24 +27,24 @@ const UNEXPECTED: u8 = 3;
 #[rattlefmt::skip]
 static ROWS: [Row; 7] = [
     Row {
-        front: "%", goes_on: "-+ #0'123456789.hljzt", ends: "%diuoxXcs",
+        front: "%", goes_on: "-+ #0'123456789.hljzt", ends: "%diuoxXbcs",
         refused: &[(5, "*"), (9, "L")],
     },
     Row {
-        front: "%5", goes_on: "0123456789.hljzt", ends: "diuoxXcs",
+        front: "%5", goes_on: "0123456789.hljzt", ends: "diuoxXbcs",
         refused: &[(4, "%"), (6, "$"), (9, "L")],
     },
     Row {
-        front: "%.", goes_on: "0123456789hljzt", ends: "diuoxXs",
+        front: "%.", goes_on: "0123456789hljzt", ends: "diuoxXbs",
         refused: &[(4, "%"), (5, "*"), (9, "L"), (16, "c")],
     },
     Row {
-        front: "%.5", goes_on: "0123456789hljzt", ends: "diuoxXs",
+        front: "%.5", goes_on: "0123456789hljzt", ends: "diuoxXbs",
         refused: &[(4, "%"), (9, "L"), (16, "c")],
     },
-    Row { front: "%h", goes_on: "h", ends: "diuoxX", refused: &[(4, "%"), (17, "cs")] },
-    Row { front: "%l", goes_on: "l", ends: "diuoxX", refused: &[(4, "%"), (12, "cs")] },
-    Row { front: "%hh", goes_on: "", ends: "diuoxX", refused: &[(4, "%"), (17, "cs")] },
+    Row { front: "%h", goes_on: "h", ends: "diuoxXb", refused: &[(4, "%"), (17, "cs")] },
+    Row { front: "%l", goes_on: "l", ends: "diuoxXb", refused: &[(4, "%"), (12, "cs")] },
+    Row { front: "%hh", goes_on: "", ends: "diuoxXb", refused: &[(4, "%"), (17, "cs")] },
 ];
 
 #[derive(Clone, Copy, Debug, PartialEq, Eq)]

@@ -33,6 +33,19 @@ fn types_in_ilp32(rt: HostRuntime) {
 }
 
 #[test]
+fn types_of_binary_numbers(rt: HostRuntime) {
+    let found = signature(rt.alloc(), Model::Lp64, b"%b%hhb%lb%llb%zb").expect(&rt, "accepted");
+    let wanted = [
+        ArgType::UInt,
+        ArgType::Int,
+        ArgType::ULong,
+        ArgType::ULongLong,
+        ArgType::ULong,
+    ];
+    assert!(rt; found.as_slice() == wanted.as_slice());
+}
+
+#[test]
 fn no_types(rt: HostRuntime) {
     for format in ["", "100%%"] {
         let found = signature(rt.alloc(), Model::Ilp32, format.as_bytes()).expect(&rt, "accepted");

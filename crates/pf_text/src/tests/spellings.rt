@@ -23,12 +23,13 @@ fn is_spelled(text: &str, wanted: &str) -> bool {
 
 // Flags come in one order and once each, numbers without zeros in front, and a precision always with its number.
 #[rattlefmt::skip]
-const SPELLINGS: [(&str, &str); 6] = [
+const SPELLINGS: [(&str, &str); 7] = [
     ("%'0+ -ld", "%-+ 0'ld"),
     ("%-+ 0'4095.4095lld", "%-+ 0'4095.4095lld"),
     ("%--.s", "%-.0s"),
     ("%#10.0070hhX", "%#10.70hhX"),
     ("%.d", "%.0d"),
+    ("%0#08hhb", "%#08hhb"),
     ("%0000005d", "%05d"),
 ];
 

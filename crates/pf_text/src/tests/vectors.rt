@@ -3,7 +3,7 @@ use super::{all_answer, refused};
 
 // A byte that can't go on, or the end of the text.
 #[rattlefmt::skip]
-const OF_SYNTAX: [(&str, u8, u64); 30] = [
+const OF_SYNTAX: [(&str, u8, u64); 32] = [
     ("ab\0", 1, 2),
     ("%5\0", 1, 2),
     ("%", 2, 1),
@@ -16,7 +16,8 @@ const OF_SYNTAX: [(&str, u8, u64); 30] = [
     ("%0$d", 3, 2),
     ("%hld", 3, 2),
     ("%.-5d", 3, 2),
-    ("%b", 3, 1),
+    ("%B", 3, 1),
+    ("%#9.5B", 3, 5),
     ("%5*d", 3, 2),
     ("%.0*d", 3, 3),
     ("%l5d", 3, 2),
@@ -34,11 +35,12 @@ const OF_SYNTAX: [(&str, u8, u64); 30] = [
     ("%.4096d", 8, 5),
     ("%5Ld", 9, 2),
     ("%Lf", 9, 1),
+    ("%Lb", 9, 1),
 ];
 
 // A letter that is refused wherever it stands, or that makes a specification which isn't defined.
 #[rattlefmt::skip]
-const OF_LETTERS: [(&str, u8, u64); 22] = [
+const OF_LETTERS: [(&str, u8, u64); 25] = [
     ("%lf", 9, 2),
     ("%hhf", 9, 3),
     ("%p", 10, 1),
@@ -55,6 +57,9 @@ const OF_LETTERS: [(&str, u8, u64); 22] = [
     ("%-#0'.3hs", 13, 8),
     ("%0s", 14, 2),
     ("%'x", 15, 2),
+    ("%'b", 15, 2),
+    ("%#'08b", 15, 5),
+    ("%b%B", 3, 3),
     ("%'.3c", 15, 4),
     ("%.3c", 16, 3),
     ("%hs", 17, 2),
@@ -65,7 +70,7 @@ const OF_LETTERS: [(&str, u8, u64); 22] = [
 
 // Formats, each byte of which goes on or ends an item.
 #[rattlefmt::skip]
-const ACCEPTED: [&str; 17] = [
+const ACCEPTED: [&str; 21] = [
     "",
     "100%%",
     "Total: %i of %u%%",
@@ -83,6 +88,10 @@ const ACCEPTED: [&str; 17] = [
     "%05u",
     "%-5.2s|",
     "x%20d%%",
+    "%llb",
+    "%#b",
+    "%0b",
+    "%-+ 0#4095.4095hhb%b",
 ];
 
 #[test]
