@@ -25,6 +25,11 @@ SHARED = $(C)/libfmtcanon.so.$(VERSION)
 # The oldest processors that the library is to run on. It doesn't test for them.
 CPU = x86-64
 
+# How many checks the gate runs side by side: one a processor, with 4 GB of free memory for each.
+# Left alone, `rt ci` plans twice the memory that a check takes, and the greatest crate starts last.
+JOBS = $(shell awk -v n="$$(nproc)" '/^MemAvailable/ { m = int($$2 / 4000000); \
+    if (m > n) m = n; if (m < 1) m = 1; print m }' /proc/meminfo)
+
 .PHONY: all program library archive test gate trials check-more tools c-tools install
 
 all: program library
@@ -76,7 +81,7 @@ $(C)/fmtcanon.pc: Makefile archive
 test: gate trials
 
 gate: tools
-	rt ci
+	RT_JOBS=$(JOBS) rt ci
 
 trials: program library
 	python3 tests/program.py $(PROGRAM)

@@ -196,7 +196,7 @@ def table_rows(path, names=None):
 def grid_sizes(of_int):
     """How many directives the grid of comparisons has, of int or of the other types, as its tests want it."""
     text = (TOP / "crates/pf_compare/src/tests/grid.rt").read_text(encoding="utf-8")
-    sizes = re.findall(r"are_told_by\(rt\.alloc\(\), ArgType::(\w+), (\d+),", text)
+    sizes = re.findall(r"are_told_by\(\s*rt\.alloc\(\),\s*model,\s*ArgType::(\w+),\s*(\d+),", text)
     return [int(size) for name, size in sizes if (name == "Int") == of_int]
 
 

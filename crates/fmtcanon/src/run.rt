@@ -12,9 +12,9 @@ use std::alloc::Global;
 use std::io::{Read, Write};
 
 /// Runs the command that the words name; the program's name isn't among them. What a command reads
-/// comes from `reader`, and what it writes goes to `writer`. Its last call is a flush before `Done`,
-/// `Same` and `Different`, and by `stream` also before `Refused` and `Read`. Any other refusal, and
-/// wrong words, come before the first call of the writer.
+/// comes from `reader`, and what it writes goes to `writer`. Its last call is a flush before
+/// `Done`, `Same` and `Different`, and by `stream` also before `Refused` and `Read`. Any other
+/// refusal, and wrong words, come before the first call of the writer.
 pub fn run<R: Read, W: Write>(
     alloc: Global,
     words: &[&str],

@@ -7,8 +7,9 @@ use pf_canon::{CopyFault, copy_canonical};
 use pf_values::{Counted, Model};
 use std::io::{Read, Write};
 
-/// Copies the canonical string of what the reader hands out in a data model. What was written is flushed at the
-/// end, at a refusal and where a read fails; these two are told even where that flush fails.
+/// Copies the canonical string of what the reader hands out in a data model. What was written is
+/// flushed at the end, at a refusal and where a read fails; these two are told even where that
+/// flush fails.
 pub fn copy<R: Read, W: Write>(
     model: Model,
     reader: &mut Counted<R>,

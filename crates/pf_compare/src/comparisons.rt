@@ -12,10 +12,10 @@ use pf_canon::same_text;
 use pf_values::Model;
 use std::alloc::{AllocError, Global};
 
-/// Compares two formats in a data model. Equivalent ones are `Same`. Else they differ in their types, or the first
-/// probe is given for which they print different bytes. A refused text is answered by its refusal,
-/// the first before the second. Memory is taken only for arguments: where both are accepted, have
-/// the same types, and are not equivalent.
+/// Compares two formats in a data model. Equivalent ones are `Same`. Else they differ in their
+/// types, or the first probe is given for which they print different bytes. A refused text is
+/// answered by its refusal, the first before the second. Memory is taken only for arguments: where
+/// both are accepted, have the same types, and are not equivalent.
 pub fn compare(alloc: Global, model: Model, f: &[u8], g: &[u8]) -> Result<Comparison, CompareFault>
     ensures { MatchResult result (IsComparisonOf model f.now g.now)
         (HindersComparison model f.now g.now) }

@@ -152,7 +152,8 @@ fn tell_apart(
     second: &Hole,
     argument: Arg<'_>,
 ) -> Result<bool, AllocError>
-    requires typed_first { HasType model (argument_of argument) (arg_type model first.now.directive) }
+    requires typed_first { HasType model (argument_of argument)
+        (arg_type model first.now.directive) }
     requires typed_second { HasType model (argument_of argument)
         (arg_type model second.now.directive) }
     requires first { IsInside whole.now first.now }

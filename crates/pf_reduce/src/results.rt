@@ -2,8 +2,8 @@
 use pf_values::Directive;
 use std::marker::Model;
 
-/// A directive that is normal in a data model, as `IsNormal` of `pf_values` says. There is no way to
-/// make one that isn't.
+/// A directive that is normal in a data model, as `IsNormal` of `pf_values` says. There is no way
+/// to make one that isn't.
 #[derive(Clone, Copy, Debug, PartialEq, Eq)]
 pub struct Normal {
     model: pf_values::Model,

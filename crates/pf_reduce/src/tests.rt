@@ -127,6 +127,22 @@ static OTHERS: [Row; 16] = [
     ("%#2zo", 0, 0, "%#2lo", 0),
 ];
 
+#[rattlefmt::skip]
+static IN_ILP32: [Row; 12] = [
+    ("%20ld", 9, 0, "%11ld", 0),
+    ("%20jd", 0, 0, "%20lld", 0),
+    ("%jd", 0, 0, "%lld", 0),
+    ("%tx", 0, 0, "%x", 0),
+    ("%zu", 0, 0, "%u", 0),
+    ("%-20zd", 0, 0, "%-11d", 9),
+    ("%30.20lu", 10, 10, "%.10lu", 0),
+    ("%#20to", 8, 0, "%#12o", 0),
+    ("%-#20lX", 0, 0, "%-#10lX", 10),
+    ("%_11ld", 0, 0, "%11ld", 0),
+    ("%_10ld", 0, 0, "%_10ld", 0),
+    ("%12.11zd", 0, 0, "%_.11d", 0),
+];
+
 fn directive_of(core: Core) -> Option<Directive> {
     match core {
         Core::Normal(normal) => Some(normal.directive()),
@@ -134,9 +150,9 @@ fn directive_of(core: Core) -> Option<Directive> {
     }
 }
 
-fn check_row(rt: &impl Abort, row: Row) {
+fn check_row(rt: &impl Abort, model: Model, row: Row) {
     let (given, spaces, zeros, core, trail) = row;
-    let reduced = reduce(Model::Lp64, &parse(rt, given));
+    let reduced = reduce(model, &parse(rt, given));
     assert_eq!(rt; reduced.spaces, spaces, "{given}");
     assert_eq!(rt; reduced.zeros, zeros, "{given}");
     let found = directive_of(reduced.core).unwrap_or(parse(rt, "%.0s"));
@@ -147,21 +163,28 @@ fn check_row(rt: &impl Abort, row: Row) {
 #[test]
 fn each_row_of_the_rules(rt: HostRuntime) {
     for row in &REDUCED {
-        check_row(&rt, *row);
+        check_row(&rt, Model::Lp64, *row);
     }
 }
 
 #[test]
 fn each_canonical_string(rt: HostRuntime) {
     for row in &CANONICAL {
-        check_row(&rt, *row);
+        check_row(&rt, Model::Lp64, *row);
     }
 }
 
 #[test]
 fn each_other_row(rt: HostRuntime) {
     for row in &OTHERS {
-        check_row(&rt, *row);
+        check_row(&rt, Model::Lp64, *row);
+    }
+}
+
+#[test]
+fn each_row_of_ilp32(rt: HostRuntime) {
+    for row in &IN_ILP32 {
+        check_row(&rt, Model::Ilp32, *row);
     }
 }
 

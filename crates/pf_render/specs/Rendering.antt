@@ -48,8 +48,8 @@ pub record DifferFirstAt {A : Type 0} (xs ys : List A) (place : ℕ) : Type 0 wh
   pub same : take place xs ≡ take place ys
   pub differ : slice_get xs place ≢ slice_get ys place
 
--- an accepted text takes as many arguments, and this is the first one that is not of the type wanted
--- there (C11 7.21.6.1 p9)
+-- an accepted text takes as many arguments, and this is the first one that is not of the type
+-- wanted there (C11 7.21.6.1 p9)
 pub record HasWrongType (model : Model) (t : Text) (args : List Arg) (index : ℕ) : Type 0 where
   pub types : List ArgType
   pub takes : TakesTypes model t types

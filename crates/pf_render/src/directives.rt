@@ -15,8 +15,8 @@ use pf_values::{Arg, Counted, Directive, Kind, Model, ShortWrite};
 use std::io::Write;
 
 /// Writes what the directive prints for an argument of its type in this data model (C11 7.21.6.1).
-/// Where the writer fails, or takes none of some bytes, exactly the first `written` bytes of it went
-/// out, fewer than all. It doesn't flush, and takes no memory.
+/// Where the writer fails, or takes none of some bytes, exactly the first `written` bytes of it
+/// went out, fewer than all. It doesn't flush, and takes no memory.
 pub fn render_one<W: Write>(
     model: Model,
     directive: &Directive,

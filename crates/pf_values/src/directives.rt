@@ -157,7 +157,8 @@ impl Directive {
         }
     }
 
-    /// The type of the argument that it takes in this data model (C11 7.21.6.1, paragraphs 7 and 8).
+    /// The type of the argument that it takes in this data model (C11 7.21.6.1, paragraphs 7 and
+    /// 8).
     pub fn arg_type(&self, model: models::Model) -> ArgType
         ensures { result ≡ arg_type model self.now }
     {

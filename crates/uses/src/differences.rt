@@ -9,7 +9,7 @@ use std::alloc::Global;
 
 /// Whether a number shows that two formats differ: both take an int and nothing else, and print
 /// different bytes for this one.
-pub fn shows_difference(model: Model, alloc: Global, old: &[u8], new: &[u8], number: i32) -> bool
+pub fn shows_difference(alloc: Global, model: Model, old: &[u8], new: &[u8], number: i32) -> bool
     ensures { IsTrue result → TellApart model old.now new.now (args.Int number ∷ []) }
 {
     match confirms(alloc, model, old, new, &[Arg::Int(number)]) {

@@ -73,9 +73,9 @@ fn a_canonical_string_fits(rt: HostRuntime) {
 #[test]
 fn a_number_shows_a_difference(rt: HostRuntime) {
     let alloc = rt.alloc();
-    assert!(rt; shows_difference(Model::Lp64, alloc, b"%05d", b"%.5d", -1));
-    assert!(rt; !shows_difference(Model::Lp64, alloc, b"%05d", b"%.5d", 1));
-    assert!(rt; !shows_difference(Model::Lp64, alloc, b"%ld", b"%d", -1));
+    assert!(rt; shows_difference(alloc, Model::Lp64, b"%05d", b"%.5d", -1));
+    assert!(rt; !shows_difference(alloc, Model::Lp64, b"%05d", b"%.5d", 1));
+    assert!(rt; !shows_difference(alloc, Model::Lp64, b"%ld", b"%d", -1));
 }
 
 #[test]
@@ -122,7 +122,7 @@ fn a_format_is_copied(rt: HostRuntime) {
 #[test]
 fn a_translation_takes_another_type(rt: HostRuntime) {
     let alloc = rt.alloc();
-    assert!(rt; other_type_at(Model::Lp64, alloc, b"%s: %u files", b"%u Dateien: %s") == Some(0));
-    assert!(rt; other_type_at(Model::Lp64, alloc, b"%s: %u files", b"%s: Dateien") == Some(1));
-    assert!(rt; other_type_at(Model::Lp64, alloc, b"%s: %u files", b"%s: %u Dateien") == None);
+    assert!(rt; other_type_at(alloc, Model::Lp64, b"%s: %u files", b"%u Dateien: %s") == Some(0));
+    assert!(rt; other_type_at(alloc, Model::Lp64, b"%s: %u files", b"%s: Dateien") == Some(1));
+    assert!(rt; other_type_at(alloc, Model::Lp64, b"%s: %u files", b"%s: %u Dateien") == None);
 }

@@ -9,7 +9,7 @@ use std::alloc::Global;
 
 /// The first argument for which a translation wants another type than its source, counted from 0;
 /// the number of arguments of the one that takes fewer, where one begins as the other.
-pub fn other_type_at(model: Model, alloc: Global, source: &[u8], translation: &[u8]) -> Option<u64>
+pub fn other_type_at(alloc: Global, model: Model, source: &[u8], translation: &[u8]) -> Option<u64>
     ensures { IfSome result (λ at.
         (first second : List Item) × HasItems source.now first × HasItems translation.now second
         × DifferFirstAt (types model first) (types model second) at) }

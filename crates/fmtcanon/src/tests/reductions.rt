@@ -81,6 +81,9 @@ fn print_of(
     if argument.arg_type() != directive.arg_type(model) {
         return Ok(None);
     }
+    if !argument.fits(model) {
+        return Ok(None);
+    }
     if render_one(model, directive, argument, &mut writer).is_err() {
         return Ok(None);
     }

@@ -72,6 +72,7 @@ fn widths(alloc: Global, digits: u16, precision: Option<u16>) -> Result<Vec<Opti
 fn push_form(
     alloc: Global,
     found: &mut Vec<Directive>,
+    model: Model,
     wanted: ArgType,
     conv: Conv,
     length: Length,
@@ -79,13 +80,13 @@ fn push_form(
     let Ok(bare) = Directive::new(FlagSet::empty(), None, None, length, conv) else {
         return Ok(());
     };
-    if bare.arg_type(Model::Lp64) != wanted {
+    if bare.arg_type(model) != wanted {
         return Ok(());
     }
     let digits = match conv {
         Conv::S => STRING_DIGITS,
         Conv::C => 2,
-        _ => u16::from(bare.max_digits(Model::Lp64)),
+        _ => u16::from(bare.max_digits(model)),
     };
     for precision in &precisions(alloc, digits)? {
         for width in &widths(alloc, digits, *precision)? {
@@ -97,7 +98,7 @@ fn push_form(
                     length,
                     conv,
                 ) {
-                    if is_normal(Model::Lp64, &directive) {
+                    if is_normal(model, &directive) {
                         found.push(directive)?;
                     }
                 }
@@ -107,21 +108,26 @@ fn push_form(
     Ok(())
 }
 
-fn grid(alloc: Global, wanted: ArgType) -> Result<Vec<Directive>, Fail> {
+fn grid(alloc: Global, model: Model, wanted: ArgType) -> Result<Vec<Directive>, Fail> {
     let mut found = Vec::new(alloc);
     for conv in Conv::ALL {
         for length in Length::ALL {
-            push_form(alloc, &mut found, wanted, conv, length)?;
+            push_form(alloc, &mut found, model, wanted, conv, length)?;
         }
     }
     Ok(found)
 }
 
 // What a directive prints for each candidate.
-fn texts_of(alloc: Global, directive: &Directive, row: &[Arg<'_>]) -> Result<Vec<Vec<u8>>, Fail> {
+fn texts_of(
+    alloc: Global,
+    model: Model,
+    directive: &Directive,
+    row: &[Arg<'_>],
+) -> Result<Vec<Vec<u8>>, Fail> {
     let mut texts = Vec::new(alloc);
     for argument in row {
-        match render_vec(alloc, Model::Lp64, &spell(directive), &[*argument]) {
+        match render_vec(alloc, model, &spell(directive), &[*argument]) {
             Ok(text) => texts.push(text)?,
             Err(_) => return Ok(texts),
         }
@@ -161,12 +167,12 @@ struct Tally {
     alone: Vec<usize>,
 }
 
-fn tally_of(alloc: Global, wanted: ArgType) -> Result<Tally, Fail> {
-    let owned = owned_row(alloc, Model::Lp64, wanted)?;
+fn tally_of(alloc: Global, model: Model, wanted: ArgType) -> Result<Tally, Fail> {
+    let owned = owned_row(alloc, model, wanted)?;
     let row = row_of(alloc, &owned)?;
     let mut texts = Vec::new(alloc);
-    for directive in &grid(alloc, wanted)? {
-        texts.push(texts_of(alloc, directive, &row)?)?;
+    for directive in &grid(alloc, model, wanted)? {
+        texts.push(texts_of(alloc, model, directive, &row)?)?;
     }
     let mut alone = Vec::new(alloc);
     alone.resize(row.len(), 0)?;
@@ -215,11 +221,12 @@ impl Tally {
 // without one of them two directives of the grid fall together, and without any other none do.
 fn are_told_by(
     alloc: Global,
+    model: Model,
     wanted: ArgType,
     directives: usize,
     needed: &[bool],
 ) -> Result<bool, Fail> {
-    let tally = tally_of(alloc, wanted)?;
+    let tally = tally_of(alloc, model, wanted)?;
     let pairs = directives.saturating_mul(directives.saturating_sub(1)) / 2;
     Ok(tally.pairs == pairs && tally.untold == 0 && tally.needs(needed))
 }
@@ -231,7 +238,12 @@ fn every_two_ints(rt: HostRuntime) -> Result<(), Fail> {
         true, false, false, false, false, false, true, false, false, false, false, false, false,
         true, true, true,
     ];
-    assert!(rt; are_told_by(rt.alloc(), ArgType::Int, 555, &needed)?);
+    for model in Model::ALL {
+        assert!(rt;
+            are_told_by(rt.alloc(), model, ArgType::Int, 555, &needed)?,
+            "{model:?}"
+        );
+    }
     Ok(())
 }
 
@@ -239,9 +251,20 @@ fn every_two_ints(rt: HostRuntime) -> Result<(), Fail> {
 fn every_two_unsigned(rt: HostRuntime) -> Result<(), Fail> {
     // 0 and the greatest
     let needed = [true, false, false, true];
-    assert!(rt; are_told_by(rt.alloc(), ArgType::UInt, 212, &needed)?);
-    assert!(rt; are_told_by(rt.alloc(), ArgType::ULong, 212, &needed)?);
-    assert!(rt; are_told_by(rt.alloc(), ArgType::ULongLong, 212, &needed)?);
+    for model in Model::ALL {
+        assert!(rt;
+            are_told_by(rt.alloc(), model, ArgType::UInt, 212, &needed)?,
+            "{model:?}"
+        );
+        assert!(rt;
+            are_told_by(rt.alloc(), model, ArgType::ULong, 212, &needed)?,
+            "{model:?}"
+        );
+        assert!(rt;
+            are_told_by(rt.alloc(), model, ArgType::ULongLong, 212, &needed)?,
+            "{model:?}"
+        );
+    }
     Ok(())
 }
 
@@ -249,15 +272,34 @@ fn every_two_unsigned(rt: HostRuntime) -> Result<(), Fail> {
 fn every_two_signed(rt: HostRuntime) -> Result<(), Fail> {
     // 0, 1, -1 and the greatest
     let needed = [true, true, true, false, true];
-    assert!(rt; are_told_by(rt.alloc(), ArgType::Long, 91, &needed)?);
-    assert!(rt; are_told_by(rt.alloc(), ArgType::LongLong, 91, &needed)?);
+    for model in Model::ALL {
+        assert!(rt;
+            are_told_by(rt.alloc(), model, ArgType::Long, 91, &needed)?,
+            "{model:?}"
+        );
+        assert!(rt;
+            are_told_by(rt.alloc(), model, ArgType::LongLong, 91, &needed)?,
+            "{model:?}"
+        );
+    }
     Ok(())
 }
 
 #[test]
 fn every_two_strings(rt: HostRuntime) -> Result<(), Fail> {
     // the empty one and `A`
-    assert!(rt; are_told_by(rt.alloc(), ArgType::Str, 40, &[true, true, false, false])?);
+    for model in Model::ALL {
+        assert!(rt;
+            are_told_by(
+                rt.alloc(),
+                model,
+                ArgType::Str,
+                40,
+                &[true, true, false, false]
+            )?,
+            "{model:?}"
+        );
+    }
     Ok(())
 }
 
@@ -280,8 +322,8 @@ fn told_formats(alloc: Global, f: &str, g: &str) -> Result<Told, Fail> {
     };
     let owned = owned_row(alloc, Model::Lp64, first.arg_type(Model::Lp64))?;
     let row = row_of(alloc, &owned)?;
-    let x = texts_of(alloc, &first, &row)?;
-    let y = texts_of(alloc, &second, &row)?;
+    let x = texts_of(alloc, Model::Lp64, &first, &row)?;
+    let y = texts_of(alloc, Model::Lp64, &second, &row)?;
     Ok(how_told(&x, &y))
 }
 

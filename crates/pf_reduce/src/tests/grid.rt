@@ -1,4 +1,4 @@
-//! The core of each directive of a grid is normal, and is its own core.
+//! The core of each directive of a grid is normal, and is its own core, in each data model.
 use crate::{Core, Reduced, is_normal, reduce};
 use pf_values::{Conv, Directive, Flag, FlagSet, Length, Model};
 use std::process::Abort;
@@ -23,12 +23,13 @@ fn flags_of(bits: u8) -> FlagSet {
     flags
 }
 
-fn check_core(rt: &impl Abort, core: Core, given: &Directive) -> bool {
+fn check_core(rt: &impl Abort, model: Model, core: Core, given: &Directive) -> bool {
     match core {
         Core::Normal(normal) => {
             let directive = normal.directive();
-            assert!(rt; is_normal(Model::Lp64, &directive), "{given:?}");
-            assert_eq!(rt; reduce(Model::Lp64, &directive), alone(core), "{given:?}");
+            assert!(rt; normal.model() == model, "{given:?}");
+            assert!(rt; is_normal(model, &directive), "{given:?}");
+            assert_eq!(rt; reduce(model, &directive), alone(core), "{given:?}");
             directive == *given
         }
         Core::Silent => false,
@@ -44,15 +45,15 @@ fn alone(core: Core) -> Reduced {
     }
 }
 
-fn check_grid(rt: &impl Abort, flags: FlagSet, length: Length, conv: Conv) {
+fn check_grid(rt: &impl Abort, model: Model, flags: FlagSet, length: Length, conv: Conv) {
     for width in &NUMBERS {
         for precision in &NUMBERS {
             let made = Directive::new(flags, number(*width), number(*precision), length, conv);
             let Ok(given) = made else { continue };
-            let reduced = reduce(Model::Lp64, &given);
-            let kept = check_core(rt, reduced.core, &given);
+            let reduced = reduce(model, &given);
+            let kept = check_core(rt, model, reduced.core, &given);
             assert_eq!(rt;
-                is_normal(Model::Lp64, &given),
+                is_normal(model, &given),
                 kept && reduced == alone(reduced.core),
                 "{given:?}"
             );
@@ -62,10 +63,12 @@ fn check_grid(rt: &impl Abort, flags: FlagSet, length: Length, conv: Conv) {
 
 #[test]
 fn a_core_is_its_own_core(rt: HostRuntime) {
-    for bits in 0..64 {
-        for conv in Conv::ALL {
-            for length in Length::ALL {
-                check_grid(&rt, flags_of(bits), length, conv);
+    for model in Model::ALL {
+        for bits in 0..64 {
+            for conv in Conv::ALL {
+                for length in Length::ALL {
+                    check_grid(&rt, model, flags_of(bits), length, conv);
+                }
             }
         }
     }

@@ -1,8 +1,10 @@
 //! Each conversion under each length modifier, with a dozen shapes and five values. What is printed is
 //! what a C library prints, kept as data: `docs/grid.c` wrote the tables, on glibc 2.36.
 use super::rooms::is_exact_at_interrupts;
-use super::{directive_of, print_of, prints};
-use pf_values::{ArgType, Directive, Model};
+use super::{directive_of, number_of, print_of, prints};
+use crate::render_vec;
+use pf_text::spell;
+use pf_values::{ArgType, Directive, Length, Model};
 use std::alloc::{AllocError, Global};
 use std::test::Fail;
 
@@ -66,6 +68,82 @@ fn short_rows(rt: HostRuntime) -> Result<(), Fail> {
     assert_eq!(rt; first_wrong(rt.alloc(), &octal::OCTAL)?, None);
     assert_eq!(rt; first_wrong(rt.alloc(), &hexadecimal::HEXADECIMAL)?, None);
     Ok(())
+}
+
+static OF_AN_INT: [Length; 4] = [Length::None, Length::L, Length::Z, Length::T];
+
+static OF_A_LONG_LONG: [Length; 2] = [Length::Ll, Length::J];
+
+static OF_A_BYTE: [Length; 1] = [Length::Hh];
+
+static OF_A_SHORT: [Length; 1] = [Length::H];
+
+// The modifiers under which ILP32 prints what LP64 prints under this one, but for those that name
+// other bits there.
+fn alike_in_ilp32(length: Length) -> &'static [Length] {
+    match length {
+        Length::None => &OF_AN_INT,
+        Length::Hh => &OF_A_BYTE,
+        Length::H => &OF_A_SHORT,
+        Length::Ll | Length::J => &OF_A_LONG_LONG,
+        Length::L | Length::Z | Length::T => &[],
+    }
+}
+
+// Whether the directive under another modifier prints this of the number in ILP32.
+fn prints_in_ilp32(
+    alloc: Global,
+    directive: &Directive,
+    length: Length,
+    number: i128,
+    text: &str,
+) -> bool {
+    let made = Directive::new(
+        directive.flags(),
+        directive.width(),
+        directive.precision(),
+        length,
+        directive.conv(),
+    );
+    let Ok(other) = made else {
+        return false;
+    };
+    let Some(argument) = number_of(other.arg_type(Model::Ilp32), number) else {
+        return false;
+    };
+    match render_vec(alloc, Model::Ilp32, &spell(&other), &[argument]) {
+        Ok(out) => out.as_slice() == text.as_bytes(),
+        Err(_) => false,
+    }
+}
+
+// The first row of which something else is printed in ILP32, with its number.
+fn first_wrong_in_ilp32(alloc: Global, table: &[ShortRow]) -> Option<(&'static str, i128)> {
+    for (format, bits, texts) in table {
+        let Some(directive) = directive_of(format) else {
+            return Some((*format, 0));
+        };
+        for length in alike_in_ilp32(directive.length()) {
+            for (number, text) in numbers(&directive, *bits).iter().zip(texts) {
+                if !prints_in_ilp32(alloc, &directive, *length, *number, text) {
+                    return Some((*format, *number));
+                }
+            }
+        }
+    }
+    None
+}
+
+#[test]
+fn short_rows_in_ilp32(rt: HostRuntime) {
+    let alloc = rt.alloc();
+    assert_eq!(rt; first_wrong_in_ilp32(alloc, &signed::SIGNED), None);
+    assert_eq!(rt; first_wrong_in_ilp32(alloc, &unsigned::UNSIGNED), None);
+    assert_eq!(rt; first_wrong_in_ilp32(alloc, &octal::OCTAL), None);
+    assert_eq!(rt;
+        first_wrong_in_ilp32(alloc, &hexadecimal::HEXADECIMAL),
+        None
+    );
 }
 
 // The first row whose text isn't written just as far as there is room.
