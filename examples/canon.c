@@ -1,4 +1,5 @@
-/* Writes the canonical text of each format that it is given, or why there is none. */
+/* Writes the canonical text of each format that it is given, or why there is none. It is that of the
+ * data model LP64, or of ILP32 behind the word --ilp32. */
 #include <fmtcanon.h>
 #include <stdio.h>
 #include <stdlib.h>
@@ -12,14 +13,14 @@ static int write_refusal(const char *format, const fmtcanon_error *error)
     return 1;
 }
 
-static int write_canonical(const char *format)
+static int write_canonical(int model, const char *format)
 {
     fmtcanon_error error;
     size_t len = strlen(format);
-    int64_t size = fmtcanon_canonical_length(format, len, &error);
+    int64_t size = fmtcanon_canonical_length(model, format, len, &error);
     char *out = size < 0 ? NULL : malloc((size_t)size + 1);
     if (out != NULL)
-        size = fmtcanon_canonical(format, len, out, (size_t)size + 1, &error);
+        size = fmtcanon_canonical(model, format, len, out, (size_t)size + 1, &error);
     if (out != NULL && size >= 0)
         puts(out);
     free(out);
@@ -35,7 +36,9 @@ static int write_canonical(const char *format)
 int main(int argc, char **argv)
 {
     int status = 0;
-    for (int i = 1; i < argc; i++)
-        status |= write_canonical(argv[i]);
+    int is_ilp32 = argc > 1 && strcmp(argv[1], "--ilp32") == 0;
+    int model = is_ilp32 ? FMTCANON_ILP32 : FMTCANON_LP64;
+    for (int i = 1 + is_ilp32; i < argc; i++)
+        status |= write_canonical(model, argv[i]);
     return status;
 }

@@ -1,12 +1,15 @@
 #!/usr/bin/env python3
 """Checks the C formats of message catalogs: a translation takes the arguments of its message.
 
-Usage: check_po.py FILE.po..
+Usage: check_po.py [--model MODEL] FILE.po..
 
 Each message with the flag c-format that has a translation is checked, but for fuzzy and obsolete
 ones. The translation must take arguments of the same types, in the same order. A plural form has to
 take those of msgid_plural, and so has msgid; it may leave the last ones out where it stands for a
 few numbers only, as in 'one file'.
+
+MODEL says in which data models the types have to be the same: lp64, ilp32 or both. It is both where
+it isn't given, so that a catalog serves on any machine: %zu is no translation of %lu.
 
 A fault is told as by `msgfmt -c`: the file, the line, the message and the reason, and then how many
 there are. The exit status is 1 where there is one, or where a file can't be read, else 0. What the
@@ -29,6 +32,11 @@ except ImportError:
 
 # A form that stands for no more numbers than these, of the first thousand, may leave arguments out.
 FEW_NUMBERS = 5
+MODELS = {
+    "lp64": [fmtcanon.Model.LP64],
+    "ilp32": [fmtcanon.Model.ILP32],
+    "both": list(fmtcanon.Model),
+}
 # So much of a message is shown.
 SHOWN = 60
 # Refusals of formats that C defines: such a translation may be right.
@@ -147,8 +155,9 @@ def few_numbers(header):
 class Checker:
     """Checks one file after another, and counts the faults."""
 
-    def __init__(self, out):
+    def __init__(self, out, models):
         self.out = out
+        self.models = models
         self.faults = 0
 
     def tell(self, file, line, text):
@@ -202,12 +211,12 @@ class Checker:
     def check_pair(self, file, entry, first, second, may_be_fewer):
         (known, original), (name, text) = first, second
         try:
-            wanted = fmtcanon.types(original)
+            wanted = [fmtcanon.types(original, model=model) for model in self.models]
         except fmtcanon.Refused as refusal:
             self.warn_of(file, entry, f"'{name}' isn't checked, since '{known}' is {refusal}")
             return
         try:
-            found = fmtcanon.types(text)
+            found = [fmtcanon.types(text, model=model) for model in self.models]
         except fmtcanon.Refused as refusal:
             if refusal.kind in UNJUDGED:
                 self.warn_of(file, entry, f"'{name}' isn't checked: {refusal}")
@@ -215,9 +224,13 @@ class Checker:
                 reason = f"'{name}' is not a valid C format string, unlike '{known}'. Reason: {refusal}"
                 self.tell_of(file, entry, reason)
             return
-        reason = difference(wanted, found, may_be_fewer)
-        if reason:
-            self.tell_of(file, entry, reason.format(known, name))
+        reasons = [difference(one, other, may_be_fewer) for one, other in zip(wanted, found)]
+        for model, reason in zip(self.models, reasons):
+            if reason:
+                # The data model is named where it isn't so in each.
+                where = "" if all(reasons) else f", in {model.name}"
+                self.tell_of(file, entry, reason.format(known, name) + where)
+                return
 
 
 def shown(text):
@@ -240,9 +253,12 @@ def difference(wanted, found, may_be_fewer):
 
 
 def main(files):
-    if not files:
+    models = MODELS["both"]
+    if files[:1] == ["--model"] and files[1:] and files[1] in MODELS:
+        models, files = MODELS[files[1]], files[2:]
+    if not files or files[0].startswith("--"):
         sys.exit(__doc__)
-    checker = Checker(sys.stderr)
+    checker = Checker(sys.stderr, models)
     for file in files:
         checker.check_file(file)
     if checker.faults:

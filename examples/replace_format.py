@@ -1,10 +1,12 @@
 #!/usr/bin/env python3
 """Replaces one printf format by another in C source, where the two mean the same.
 
-Usage: replace_format.py [--dry-run] [--function NAME:INDEX].. OLD NEW FILE.c..
+Usage: replace_format.py [--dry-run] [--model MODEL] [--function NAME:INDEX].. OLD NEW FILE.c..
 
 OLD and NEW are formats as they stand in C between the quotes, so that '%i\\n' ends in a newline.
 Nothing is replaced unless both take the same arguments and print the same bytes for all of them.
+MODEL says in which data models that has to be so: lp64, ilp32 or both. It is both where it isn't
+given, so that the source means the same wherever it is compiled.
 
 A place is one or more string literals side by side that make up OLD. It is replaced where it is the
 format of a call of the printf family, or of a function NAME whose format is the argument INDEX,
@@ -28,6 +30,11 @@ FUNCTIONS = {
     b"fprintf": 1, b"vfprintf": 1, b"dprintf": 1, b"vdprintf": 1, b"sprintf": 1, b"vsprintf": 1,
     b"asprintf": 1, b"vasprintf": 1, b"syslog": 1, b"vsyslog": 1, b"err": 1, b"errx": 1,
     b"snprintf": 2, b"vsnprintf": 2, b"error": 2,
+}
+MODELS = {
+    "lp64": [fmtcanon.Model.LP64],
+    "ilp32": [fmtcanon.Model.ILP32],
+    "both": list(fmtcanon.Model),
 }
 SPLICE = rb"(?:\\\r?\n)"
 TOKEN = re.compile(
@@ -211,19 +218,31 @@ def why_left(place, functions, verdict):
     return verdict
 
 
+def difference(old, new, model):
+    """In what two formats differ in a data model, or None."""
+    told = fmtcanon.compare(old, new, model=model)
+    if told.verdict is fmtcanon.Verdict.SAME:
+        return None
+    if told.verdict is fmtcanon.Verdict.TYPES:
+        return f"the types differ at argument {told.types_differ_at}"
+    return f"the two print different bytes for {told.arguments}"
+
+
+def difference_in(old, new, models):
+    """In what two formats differ in data models, which are named where it isn't so in each; or None."""
+    found = [difference(old, new, model) for model in models]
+    if len(set(found)) == 1:
+        return found[0]
+    return "; ".join(f"in {model.name} {one}" for model, one in zip(models, found) if one)
+
+
 class Replacer:
     """Replaces one format by another in one file after another."""
 
-    def __init__(self, old, new, functions):
-        self.old, self.new, self.functions = old, new, functions
+    def __init__(self, old, new, functions, models):
+        self.old, self.new, self.functions, self.models = old, new, functions, models
         self.left = 0
-        told = fmtcanon.compare(old, new)
-        if told.verdict is fmtcanon.Verdict.SAME:
-            self.verdict = None
-        elif told.verdict is fmtcanon.Verdict.TYPES:
-            self.verdict = f"the types differ at argument {told.types_differ_at}"
-        else:
-            self.verdict = f"the two print different bytes for {told.arguments}"
+        self.verdict = difference_in(old, new, models)
 
     def leave(self, file, line, why):
         self.left += 1
@@ -231,7 +250,7 @@ class Replacer:
 
     def means_the_same(self, text):
         try:
-            return fmtcanon.same(self.old, text)
+            return set(self.models) <= set(fmtcanon.same_in(self.old, text))
         except fmtcanon.Refused:
             return False
 
@@ -292,10 +311,12 @@ def format_of(word):
 
 
 def main(words):
-    functions, is_dry = dict(FUNCTIONS), False
+    functions, is_dry, models = dict(FUNCTIONS), False, MODELS["both"]
     while words and words[0].startswith("--") and words[0] != "--":
         if words[0] == "--dry-run":
             is_dry = True
+        elif words[0] == "--model" and words[1:] and words[1] in MODELS:
+            models = MODELS[words.pop(1)]
         elif words[0] == "--function" and re.fullmatch(r"\w+:\d+", words[1] if words[1:] else ""):
             name, index = words.pop(1).split(":")
             functions[name.encode()] = int(index)
@@ -308,7 +329,7 @@ def main(words):
         print(__doc__, file=sys.stderr)
         return 2
     try:
-        replacer = Replacer(format_of(words[0]), format_of(words[1]), functions)
+        replacer = Replacer(format_of(words[0]), format_of(words[1]), functions, models)
         for file in words[2:]:
             replacer.replace_file(file, is_dry)
     except fmtcanon.Refused as refusal:

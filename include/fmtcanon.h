@@ -4,9 +4,14 @@
  * and a zero byte inside it is refused. What a call answers is proved of the code that makes it; the
  * source's docs/C.md says what that means, and has examples.
  *
+ * The data model. What a format means hangs on it: in LP64 `%zu` is `%lu`, in ILP32 it is `%u`.
+ * `model` is an enum fmtcanon_model, that of the machine on which the format is to be used, whatever
+ * the library runs on. Which formats are accepted is the same in both.
+ *
  * Results. Below zero is an error: -1 to -18 where a format is refused, and then `*error` says
- * why, where, and which format; or FMTCANON_ERROR_NOMEMORY. Anything else is the answer. Only a
- * refusal changes `*error`.
+ * why, where, and which format; FMTCANON_ERROR_NOMEMORY; or FMTCANON_ERROR_MODEL, which is the only
+ * answer to a `model` that is neither, and then nothing is written. Anything else is the answer.
+ * Only a refusal changes `*error`.
  *
  * Buffers. `out` is written only where all of the answer has room in its `cap` bytes; else it is
  * left as it was, and so is every byte behind the answer. The result is the same either way. So a
@@ -39,6 +44,23 @@ extern "C" {
 /* Memory was refused, or no memory could hold the answer. */
 #define FMTCANON_ERROR_NOMEMORY (-100)
 
+/* The caller's `model` is no enum fmtcanon_model. */
+#define FMTCANON_ERROR_MODEL (-101)
+
+/* How many bits the integer types have, and which types the length modifiers name. */
+enum fmtcanon_model {
+    FMTCANON_LP64 = 0, /* `long` has 64 bits, as have `z`, `t` and `j`, which are `l` */
+    FMTCANON_ILP32 = 1 /* `long` has 32 bits; `z` and `t` are no modifier, and `j` is `ll` */
+};
+
+/* Data models, as a set: their sum. */
+enum fmtcanon_models {
+    FMTCANON_IN_NEITHER = 0,
+    FMTCANON_IN_LP64 = 1,
+    FMTCANON_IN_ILP32 = 2,
+    FMTCANON_IN_BOTH = 3
+};
+
 /* Why a format is refused. The result is the number of the kind below zero. fmtcanon_kind_name()
  * gives the names that the command `fmtcanon` writes. */
 enum fmtcanon_kind {
@@ -62,7 +84,7 @@ enum fmtcanon_kind {
     FMTCANON_TOO_LONG = 18             /* more than 2^62 bytes */
 };
 
-/* The type of an argument after the default promotions, in the data model LP64. */
+/* The type of an argument after the default promotions. */
 enum fmtcanon_type {
     FMTCANON_INT = 1,
     FMTCANON_UINT = 2,
@@ -101,27 +123,32 @@ typedef struct fmtcanon_comparison {
 int64_t fmtcanon_check(const char *text, size_t len, fmtcanon_error *error);
 
 /* 1 where the format is its own canonical text, 0 where it isn't. Takes no memory. */
-int64_t fmtcanon_is_canonical(const char *text, size_t len, fmtcanon_error *error);
+int64_t fmtcanon_is_canonical(int model, const char *text, size_t len, fmtcanon_error *error);
 
 /* The length of the canonical text, without a zero behind it. Takes no memory; it is the way to ask
  * how much room fmtcanon_canonical() wants: one byte more. FMTCANON_ERROR_NOMEMORY for a length
  * of 2^63 or more. */
-int64_t fmtcanon_canonical_length(const char *text, size_t len, fmtcanon_error *error);
+int64_t fmtcanon_canonical_length(int model, const char *text, size_t len, fmtcanon_error *error);
 
 /* The length of the canonical text, which is put into `out` with a zero behind it. There is room
  * where the length is below `cap`. Takes memory of that length. */
-int64_t fmtcanon_canonical(const char *text, size_t len, char *out, size_t cap,
+int64_t fmtcanon_canonical(int model, const char *text, size_t len, char *out, size_t cap,
                            fmtcanon_error *error);
 
 /* How many arguments the format takes. The type of each, an enum fmtcanon_type in one byte, is put
  * into `out`. Takes memory only for more than eight. */
-int64_t fmtcanon_types(const char *text, size_t len, unsigned char *out, size_t cap,
+int64_t fmtcanon_types(int model, const char *text, size_t len, unsigned char *out, size_t cap,
                        fmtcanon_error *error);
 
 /* 1 where both formats take arguments of the same types and print the same bytes for all of them, 0
  * where they don't: then, and only then, have they one canonical text. Takes no memory. */
-int64_t fmtcanon_same(const char *first, size_t first_len, const char *second, size_t second_len,
-                      fmtcanon_error *error);
+int64_t fmtcanon_same(int model, const char *first, size_t first_len, const char *second,
+                      size_t second_len, fmtcanon_error *error);
+
+/* The data models in which fmtcanon_same() is 1, an enum fmtcanon_models: where a rewrite is for
+ * machines of both, it must be FMTCANON_IN_BOTH. Takes no memory. */
+int64_t fmtcanon_same_models(const char *first, size_t first_len, const char *second,
+                             size_t second_len, fmtcanon_error *error);
 
 /* Compares two formats, and tells `*comparison` what they are to each other. For
  * FMTCANON_DIFFERENT the words of arguments for which they print different bytes are put into
@@ -129,7 +156,7 @@ int64_t fmtcanon_same(const char *first, size_t first_len, const char *second, s
  * These are the words that the commands `fmtcanon same` and `fmtcanon format` use. The result is
  * how many bytes the words and the zeros are, 0 where none are given. Where it is an error,
  * `*comparison` is left as it was. Takes memory only for FMTCANON_DIFFERENT. */
-int64_t fmtcanon_compare(const char *first, size_t first_len, const char *second,
+int64_t fmtcanon_compare(int model, const char *first, size_t first_len, const char *second,
                          size_t second_len, char *out, size_t cap,
                          fmtcanon_comparison *comparison, fmtcanon_error *error);
 

@@ -48,6 +48,16 @@ SOURCES = [
     # The two don't mean the same.
     (["%05d", "%.5d"], 'printf("%05d", n);', "a.c:1: left: the two print different bytes for (-1,)\n", None),
     (["%d", "%ld"], 'printf("%d", n);', "a.c:1: left: the types differ at argument 0\n", None),
+    # They do in one data model alone.
+    (["%zu", "%lu"], 'printf("%zu", n);', "a.c:1: left: in ILP32 the types differ at argument 0\n", None),
+    (["--model", "both", "%zd", "%d"], 'printf("%zd", n);', "a.c:1: left: in LP64 the types differ at argument 0\n", None),
+    (["--model", "lp64", "%zu", "%lu"], 'printf("%zu", n);', "a.c:1: replaced\n", 'printf("%lu", n);'),
+    (["--model", "ilp32", "%zd", "%d"], 'printf("%zd", n);', "a.c:1: replaced\n", 'printf("%d", n);'),
+    (["--model", "ilp32", "%zu", "%lu"], 'printf("%zu", n);', "a.c:1: left: the types differ at argument 0\n", None),
+    (["--model", "ilp32", "%zx", "%u"], 'printf("%zx", n);', "a.c:1: left: the two print different bytes for (4294967295,)\n", None),
+    (["%hx", "%zd"], 'printf("%hx", n);', "a.c:1: left: in LP64 the types differ at argument 0; in ILP32 the two print different bytes for (257,)\n", None),
+    (["%jd", "%td"], 'printf("%ld", n);', "", None),
+    (["--model", "lp64", "%jd", "%td"], 'printf("%ld", n);', "a.c:1: left: it means the same, and is spelled otherwise\n", None),
     # What isn't the format of a known call.
     (["%i", "%d"], 'out.printf("%i"); out->printf("%i");', "a.c:1: left: it is no argument of a call\n" * 2, None),
     (["%i", "%d"], '#define printf log\nprintf("%i");', "a.c:2: left: it is an argument of printf, which isn't known\n", None),
@@ -72,6 +82,8 @@ WRONG = [
     ([], "Usage"),
     (["%i", "%d"], "Usage"),
     (["--what", "%i", "%d", "a.c"], "Usage"),
+    (["--model", "LP64", "%i", "%d", "a.c"], "Usage"),
+    (["--model", "both", "%i", "%d"], "Usage"),
     (["%y", "%d", "a.c"], "OLD is refused 3 Unexpected at byte 1"),
     (["%d", "%f", "a.c"], "NEW is refused 9 Float at byte 1"),
     (['%d"', "%d", "a.c"], "between the quotes"),

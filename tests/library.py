@@ -7,6 +7,7 @@ FOLDER has libfmtcanon.a and libfmtcanon.so, as `make library` leaves them. It n
 binutils. Its last line is 'N passed, M failed', and it exits with 1 where M isn't 0.
 """
 
+import json
 import os
 import re
 import subprocess
@@ -21,6 +22,7 @@ from program import TIMEOUT, TOP, Trials, examples, fences, run  # noqa: E402
 
 HEADER = TOP / "include/fmtcanon.h"
 SHAPES = TOP / "bench/shapes.nul"
+ROWS = TOP / "tests/commands.jsonl"
 SOURCES = TOP / "crates/fmtcanon_c/src"
 STRICT = ["-Wall", "-Wextra", "-pedantic", "-Werror", f"-I{HEADER.parent}"]
 WRAPPED = ["-pthread", "-Wl,--wrap=malloc,--wrap=realloc"]
@@ -31,6 +33,7 @@ PARAMETERS = {
     "&mut CError": ["fmtcanon_error *"],
     "&mut CComparison": ["fmtcanon_comparison *"],
     "u32": ["uint32_t"],
+    "i32": ["int"],
     "Global": [],
 }
 NUMBERS = {"i64": "int64_t", "u64": "uint64_t", "u32": "uint32_t"}
@@ -47,6 +50,8 @@ INSTALLED = sorted([
     "share/man/man1/fmtcanon.1",
     "share/zsh/site-functions/_fmtcanon",
 ])
+# The types as the program writes them, and the numbers of the library.
+TYPES = ["int", "unsigned int", "long", "unsigned long", "long long", "unsigned long long", "string"]
 # Of so many formats, one is given to the program, too.
 STEP = 16
 
@@ -96,6 +101,12 @@ def try_header(trials):
     names = {"UInt": "UINT", "ULong": "ULONG", "ULongLong": "ULONG_LONG", "Str": "STRING"}
     types = source_numbers("fmtcanon_c/src/types.rt", r"ArgType::(\w+) => (\d+),", names)
     trials.expect("types", header_numbers("fmtcanon_type"), types)
+    text = (SOURCES / "models.rt").read_text(encoding="utf-8")
+    models = {name.upper(): int(number) for number, name in re.findall(r"(\d+) => Some\(Model::(\w+)\),", text)}
+    trials.expect("data models", header_numbers("fmtcanon_model"), models)
+    sets = {f"IN_{name}": 1 << number for name, number in models.items()}
+    sets = {**sets, "IN_NEITHER": 0, "IN_BOTH": sum(sets.values())}
+    trials.expect("sets of data models", header_numbers("fmtcanon_models"), sets)
     verdicts = source_numbers("fmtcanon_c/src/comparing.rt", r"Verdict::(\w+)[^=]*=> \((\d+),", {"Args": "DIFFERENT"})
     trials.expect("verdicts", header_numbers("fmtcanon_verdict"), verdicts)
     for name, source, struct in [("fmtcanon_error", "errors", "CError"), ("fmtcanon_comparison", "comparing", "CComparison")]:
@@ -104,9 +115,9 @@ def try_header(trials):
         code = re.search(rf"#\[repr\(C\)\][^{{]*struct {struct} \{{(.*?)\n\}}", text, flags=re.DOTALL).group(1)
         wanted = [(NUMBERS[kind], field) for field, kind in re.findall(r"pub (\w+): (\w+),", code)]
         trials.expect(f"fields of {name}", re.findall(r"(\w+) (\w+);", told), wanted)
-    memory = re.search(r"FMTCANON_ERROR_NOMEMORY \((-\d+)\)", header_text()).group(1)
-    code = re.search(r"NO_MEMORY: i64 = (-\d+);", (SOURCES / "errors.rt").read_text(encoding="utf-8")).group(1)
-    trials.expect("the error of memory", memory, code)
+    told = dict(re.findall(r"FMTCANON_ERROR_(\w+) \((-\d+)\)", header_text()))
+    code = dict(re.findall(r"NO_(\w+): i64 = (-\d+);", (SOURCES / "errors.rt").read_text(encoding="utf-8")))
+    trials.expect("errors that are no refusal", told, {"NOMEMORY": code["MEMORY"], "MODEL": code["MODEL"]})
     version = ".".join(re.findall(r"FMTCANON_VERSION_\w+ (\d+)", header_text()))
     told = re.search(r"^## (\S+),", (TOP / "CHANGELOG.md").read_text(encoding="utf-8"), flags=re.MULTILINE).group(1)
     trials.expect("the version of the header", version, told)
@@ -170,21 +181,34 @@ def refusal_line(refusal):
 
 def python_lines(module, formats):
     """What answers.c writes, by the Python module."""
-    for at, one in enumerate(formats):
-        try:
-            canonical, types = module.canonical(one), module.types(one)
-            yield f"canonical {canonical.hex()} {''.join(str(int(kind)) for kind in types)}"
-        except module.Refused as refusal:
-            yield refusal_line(refusal)
-        other = formats[at + 1] if at + 1 < len(formats) else b""
-        try:
-            told = module.compare(one, other)
-        except module.Refused as refusal:
-            yield refusal_line(refusal)
-            continue
-        number = len(told.arguments) if told.arguments is not None else told.types_differ_at or 0
-        words = b"".join(word + b"\0" for word in map(word_of, told.arguments or ()))
-        yield f"verdict {int(told.verdict)} {number} {words.hex()}"
+    for one, other in zip(formats, [*formats[1:], b""]):
+        for model in module.Model:
+            yield line_or_refusal(module, canonical_line, one, model)
+            yield line_or_refusal(module, verdict_line, one, other, model)
+        yield line_or_refusal(module, models_line, one, other)
+
+
+def line_or_refusal(module, line, *words):
+    try:
+        return line(module, *words)
+    except module.Refused as refusal:
+        return refusal_line(refusal)
+
+
+def canonical_line(module, one, model):
+    canonical, types = module.canonical(one, model=model), module.types(one, model=model)
+    return f"canonical {canonical.hex()} {''.join(str(int(kind)) for kind in types)}"
+
+
+def verdict_line(module, one, other, model):
+    told = module.compare(one, other, model=model)
+    number = len(told.arguments) if told.arguments is not None else told.types_differ_at or 0
+    words = b"".join(word + b"\0" for word in map(word_of, told.arguments or ()))
+    return f"verdict {int(told.verdict)} {number} {words.hex()}"
+
+
+def models_line(module, one, other):
+    return f"models {sum(1 << model for model in module.same_in(one, other))}"
 
 
 def word_of(argument):
@@ -195,24 +219,65 @@ def shapes():
     return SHAPES.read_bytes().split(b"\0")[:-1]
 
 
+def program_answer(module, command, formats, models):
+    """What the program answers, by the Python module: the status, and the bytes on the two streams."""
+    try:
+        if command == "same":
+            told = [same_lines(module, *formats, model) for model in models]
+            names = [f"{model.name.lower()}\n".encode() if models[1:] else b"" for model in models]
+            are_same = [lines == b"same\n" for lines in told]
+            # The calls that answer by yes or no say the same.
+            found = module.same_in(*formats)
+            if are_same != [model in found for model in models] or are_same != [module.same(*formats, model=model) for model in models]:
+                return "compare, same and same_in differ"
+            return 0 if all(are_same) else 1, b"".join(name + lines for name, lines in zip(names, told)), b""
+        if command == "canon":
+            canonical = module.canonical(formats[0], model=models[0])
+            if module.is_canonical(formats[0], model=models[0]) != (canonical == formats[0]):
+                return "canonical and is_canonical differ"
+            return 0, canonical + b"\n", b""
+        return 0, "".join(f"{TYPES[kind - 1]}\n" for kind in module.types(formats[0], model=models[0])).encode(), b""
+    except module.Refused as refusal:
+        side = ["first: ", "second: "][refusal.side] if formats[1:] else ""
+        return 2, b"", f"{side}{refusal}\n".encode()
+
+
+def same_lines(module, one, other, model):
+    told = module.compare(one, other, model=model)
+    if told.verdict is module.Verdict.SAME:
+        return b"same\n"
+    if told.verdict is module.Verdict.TYPES:
+        return b"types differ at argument %d\n" % told.types_differ_at
+    return b"".join(word + b"\n" for word in [b"different", *map(word_of, told.arguments)])
+
+
+def try_program_rows(module, trials):
+    """The rows that the program is held to hold for the library, too: of either data model, and of both."""
+    found = {"lp64": 0, "ilp32": 0, "both": 0}
+    for line in ROWS.read_text(encoding="utf-8").splitlines():
+        row = json.loads(line)
+        command, *words = row["words"]
+        if command not in ("canon", "types", "same") or row["status"] == 3 or row.get("stderr") is None:
+            continue
+        name = words.pop(words.index("--model") + 1) if "--model" in words else "lp64"
+        formats = [word.encode() for word in words if word not in ("--model", "--")]
+        models = list(module.Model) if name == "both" else [module.Model[name.upper()]]
+        wanted = (row["status"], row["stdout"].encode("latin-1"), row["stderr"].encode())
+        trials.expect(f"the library: {row['words']}", program_answer(module, command, formats, models), wanted)
+        found[name] += 1
+    trials.expect("rows of each data model", min(found.values()) > 20, True)
+
+
 def try_program(program, module, trials):
-    """The program answers the same of a sample."""
+    """The program answers the same of a sample, in one data model after the other."""
     formats = shapes()
-    names = dict(zip(module.Type, ["int", "unsigned int", "long", "unsigned long", "long long", "unsigned long long", "string"]))
     for at in range(0, len(formats) - 1, STEP):
         one, other = formats[at], formats[at + 1]
-        wanted = (0, module.canonical(one) + b"\n", b"")
-        trials.expect(f"canon {one}", run(program, ["canon", "--", one]), wanted)
-        types = "".join(f"{names[kind]}\n" for kind in module.types(one)).encode()
-        trials.expect(f"types {one}", run(program, ["types", "--", one]), (0, types, b""))
-        told = module.compare(one, other)
-        if told.verdict is module.Verdict.SAME:
-            wanted = (0, b"same\n", b"")
-        elif told.verdict is module.Verdict.TYPES:
-            wanted = (1, b"types differ at argument %d\n" % told.types_differ_at, b"")
-        else:
-            wanted = (1, b"".join(word + b"\n" for word in [b"different", *map(word_of, told.arguments)]), b"")
-        trials.expect(f"same {one} {other}", run(program, ["same", "--", one, other]), wanted)
+        model = list(module.Model)[at // STEP % 2]
+        name = ["--model", model.name.lower()]
+        for command, words in [("canon", [one]), ("types", [one]), ("same", [one, other])]:
+            wanted = program_answer(module, command, words, [model])
+            trials.expect(f"{command} {name} {words}", run(program, [command, *name, "--", *words]), wanted)
     refused = [b"%", b"%y", b"%5%", b"%*d", b"%1$d", b"%4096d", b"%.4096d", b"%f", b"%p", b"%n", b"%ls", b"%#d", b"%0s", b"%'x", b"%.3c", b"%hs"]
     for one in refused:
         try:
@@ -281,12 +346,15 @@ def main():
     try_header(trials)
     try_exports(folder, trials)
     module = load_module(folder)
-    for enum, kind in [(module.Kind, "fmtcanon_kind"), (module.Type, "fmtcanon_type"), (module.Verdict, "fmtcanon_verdict")]:
+    enums = [(module.Kind, "kind"), (module.Model, "model"), (module.Type, "type"), (module.Verdict, "verdict")]
+    for enum, kind in enums:
+        kind = f"fmtcanon_{kind}"
         trials.expect(f"{kind} of the Python module", {one.name: int(one) for one in enum}, header_numbers(kind))
     with tempfile.TemporaryDirectory() as work:
         work = Path(work)
         lines = try_compiler(["gcc", "-std=c99"], folder, trials, work)
         trials.expect("the Python module answers as the library", list(python_lines(module, shapes())) == lines, True)
+        try_program_rows(module, trials)
         try_program(program, module, trials)
         prefix = installed(work, trials)
         try_installed(prefix, trials)

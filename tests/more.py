@@ -41,6 +41,25 @@ wrong.po:25: warning: 'msgstr' isn't checked: refused 6 Numbered at byte 2 ["%s 
 found 4 fatal errors
 """),
 ]
+# One catalog in each data model, and in both.
+IN_MODELS = [
+    (["--model", "lp64"], 1, """\
+models.po:10: format specifications in 'msgid' and 'msgstr' for argument 2 are not the same: int and long ["%d of %d"]
+models.po:14: format specifications in 'msgid' and 'msgstr' for argument 1 are not the same: int and uint ["%d"]
+found 2 fatal errors
+"""),
+    (["--model", "ilp32"], 1, """\
+models.po:6: format specifications in 'msgid' and 'msgstr' for argument 1 are not the same: uint and ulong ["%zu"]
+models.po:14: format specifications in 'msgid' and 'msgstr' for argument 1 are not the same: int and uint ["%d"]
+found 2 fatal errors
+"""),
+    ([], 1, """\
+models.po:6: format specifications in 'msgid' and 'msgstr' for argument 1 are not the same: uint and ulong, in ILP32 ["%zu"]
+models.po:10: format specifications in 'msgid' and 'msgstr' for argument 2 are not the same: int and long, in LP64 ["%d of %d"]
+models.po:14: format specifications in 'msgid' and 'msgstr' for argument 1 are not the same: int and uint ["%d"]
+found 3 fatal errors
+"""),
+]
 # They can't be read, with the line where it is known.
 UNREADABLE = [("torn.po", 1), ("escape.po", 6), ("flags.po", 1), ("bytes.po", 0), ("rule.po", 0), ("nothing.po", 0), ('msgid "a"', 0)]
 
@@ -73,7 +92,7 @@ def try_compilers(folder, tools, module, trials, work):
             lines = try_compiler(compiler, folder, trials, work)
         trials.expect(f"{compiler}: the answers are those of the Python module", lines == wanted, True)
     source = work / "header.cpp"
-    source.write_text('#include "fmtcanon.h"\nint main() { fmtcanon_error e; return (int)fmtcanon_check("%d", 2, &e); }\n')
+    source.write_text('#include "fmtcanon.h"\nint main() { fmtcanon_error e; return (int)fmtcanon_is_canonical(FMTCANON_ILP32, "%ld", 3, &e) - 1; }\n')
     for compiler, package in [("g++", "g++"), ("clang++", "clang")]:
         if tools.has(compiler, package):
             for standard in ["c++11", "c++17"]:
@@ -132,6 +151,11 @@ def try_catalogs(folder, trials):
         status, out, told = check_po(folder, [catalog])
         trials.expect(f"check_po.py {catalog}", (status, out), (1, ""))
         trials.expect(f"what it tells of {catalog}", told.startswith(f"{catalog}:{line}: it can't be read: ") and "Traceback" not in told, True)
+    for words, status, told in IN_MODELS:
+        trials.expect(f"check_po.py {words} models.po", check_po(folder, [*words, "models.po"]), (status, "", told))
+    trials.expect("--model both is what isn't said", check_po(folder, ["--model", "both", "models.po"])[2], IN_MODELS[-1][2])
+    for words in [["--model", "LP64", "right.po"], ["--model", "both"], ["--what", "right.po"]]:
+        trials.expect(f"check_po.py {words}", "Usage" in check_po(folder, words)[2], True)
     told = "".join(text for _, _, text in CHECKED if "fatal" not in text)
     trials.expect("two catalogs", check_po(folder, ["right.po", "empty.po"]), (0, "", told))
 

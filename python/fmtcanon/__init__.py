@@ -6,6 +6,9 @@ A format is a `str` or bytes. A `str` is handed over in UTF-8, and all places ar
 Give bytes where a format isn't UTF-8. Each call raises `Refused` for a format that the library
 doesn't accept, `MemoryError` where memory is out, and `TypeError` for what is no format.
 
+What a format means hangs on the data model of the machine on which it is used: `model` says which,
+and is LP64 where it isn't given. `ValueError` is raised for what is no data model.
+
 The library is looked up as `libfmtcanon.so.0`, or as the environment's FMTCANON_LIBRARY says.
 
     >>> import fmtcanon
@@ -15,6 +18,10 @@ The library is looked up as `libfmtcanon.so.0`, or as the environment's FMTCANON
     True
     >>> fmtcanon.compare("%05d", "%.5d").arguments
     (-1,)
+    >>> fmtcanon.canonical("%zu", model=fmtcanon.Model.ILP32)
+    '%u'
+    >>> [model.name for model in fmtcanon.same_in("%zu", "%lu")]
+    ['LP64']
 """
 
 from __future__ import annotations
@@ -27,6 +34,7 @@ from typing import Any, Callable, List, NamedTuple, Optional, Tuple, TypeVar, Un
 __all__ = [
     "Comparison",
     "Kind",
+    "Model",
     "Refused",
     "Type",
     "Verdict",
@@ -35,6 +43,7 @@ __all__ = [
     "compare",
     "is_canonical",
     "same",
+    "same_in",
     "types",
     "version",
 ]
@@ -71,8 +80,19 @@ class Kind(enum.IntEnum):
     TOO_LONG = 18
 
 
+class Model(enum.IntEnum):
+    """A data model: how many bits integers have, and which types the length modifiers name.
+
+    In LP64 `long` has 64 bits, and `z`, `t` and `j` are `l`. In ILP32 it has 32 bits, `z` and `t`
+    are no modifier, and `j` is `ll`.
+    """
+
+    LP64 = 0
+    ILP32 = 1
+
+
 class Type(enum.IntEnum):
-    """The type of an argument, in the data model LP64."""
+    """The type of an argument."""
 
     INT = 1
     UINT = 2
@@ -134,17 +154,19 @@ class _Comparison(ctypes.Structure):
     ]
 
 
+_MODEL = (ctypes.c_int,)
 _TEXT = (ctypes.c_char_p, ctypes.c_size_t)
 _ERROR = (ctypes.POINTER(_Error),)
 _CALLS = {
     "check": ((*_TEXT, *_ERROR), ctypes.c_int64),
-    "is_canonical": ((*_TEXT, *_ERROR), ctypes.c_int64),
-    "canonical_length": ((*_TEXT, *_ERROR), ctypes.c_int64),
-    "canonical": ((*_TEXT, *_TEXT, *_ERROR), ctypes.c_int64),
-    "types": ((*_TEXT, *_TEXT, *_ERROR), ctypes.c_int64),
-    "same": ((*_TEXT, *_TEXT, *_ERROR), ctypes.c_int64),
+    "is_canonical": ((*_MODEL, *_TEXT, *_ERROR), ctypes.c_int64),
+    "canonical_length": ((*_MODEL, *_TEXT, *_ERROR), ctypes.c_int64),
+    "canonical": ((*_MODEL, *_TEXT, *_TEXT, *_ERROR), ctypes.c_int64),
+    "types": ((*_MODEL, *_TEXT, *_TEXT, *_ERROR), ctypes.c_int64),
+    "same": ((*_MODEL, *_TEXT, *_TEXT, *_ERROR), ctypes.c_int64),
+    "same_models": ((*_TEXT, *_TEXT, *_ERROR), ctypes.c_int64),
     "compare": (
-        (*_TEXT, *_TEXT, *_TEXT, ctypes.POINTER(_Comparison), *_ERROR),
+        (*_MODEL, *_TEXT, *_TEXT, *_TEXT, ctypes.POINTER(_Comparison), *_ERROR),
         ctypes.c_int64,
     ),
     "kind_name": ((ctypes.c_uint32, *_TEXT), ctypes.c_uint64),
@@ -215,44 +237,53 @@ def check(format: Format) -> None:
     _answer(_library.fmtcanon_check(text, len(text), error), error)
 
 
-def is_canonical(format: Format) -> bool:
+def is_canonical(format: Format, *, model: Model = Model.LP64) -> bool:
     """Whether the format is its own canonical text."""
     text, error = _bytes(format), _Error()
-    return _answer(_library.fmtcanon_is_canonical(text, len(text), error), error) == 1
+    return _answer(_library.fmtcanon_is_canonical(Model(model), text, len(text), error), error) == 1
 
 
-def canonical(format: _Text) -> _Text:
+def canonical(format: _Text, *, model: Model = Model.LP64) -> _Text:
     """The canonical text, a `str` where the format is one, else bytes.
 
     Two formats have one canonical text exactly if they take arguments of the same types and print
     the same bytes for all of them.
     """
-    text, error = _bytes(format), _Error()
-    size = _answer(_library.fmtcanon_canonical_length(text, len(text), error), error)
+    text, error, number = _bytes(format), _Error(), Model(model)
+    size = _answer(_library.fmtcanon_canonical_length(number, text, len(text), error), error)
     out = ctypes.create_string_buffer(size + 1)
-    _answer(_library.fmtcanon_canonical(text, len(text), out, len(out), error), error)
+    _answer(_library.fmtcanon_canonical(number, text, len(text), out, len(out), error), error)
     # Bytes that print themselves stay as they are, so UTF-8 stays UTF-8.
     return out.raw[:size].decode() if isinstance(format, str) else out.raw[:size]
 
 
-def types(format: Format) -> List[Type]:
+def types(format: Format, *, model: Model = Model.LP64) -> List[Type]:
     """The types of the arguments, in order."""
     text = _bytes(format)
     room = text.count(b"%") + 1
-    return [Type(code) for code in _filled(_library.fmtcanon_types, room, text, len(text))]
+    codes = _filled(_library.fmtcanon_types, room, Model(model), text, len(text))
+    return [Type(code) for code in codes]
 
 
-def same(first: Format, second: Format) -> bool:
+def same(first: Format, second: Format, *, model: Model = Model.LP64) -> bool:
     """Whether two formats take the same types and print the same bytes for all arguments."""
     f, g, error = _bytes(first), _bytes(second), _Error()
-    return _answer(_library.fmtcanon_same(f, len(f), g, len(g), error), error) == 1
+    result = _library.fmtcanon_same(Model(model), f, len(f), g, len(g), error)
+    return _answer(result, error) == 1
+
+
+def same_in(first: Format, second: Format) -> List[Model]:
+    """The data models in which two formats are the same: none, one, or both, LP64 first."""
+    f, g, error = _bytes(first), _bytes(second), _Error()
+    found = _answer(_library.fmtcanon_same_models(f, len(f), g, len(g), error), error)
+    return [model for model in Model if found & 1 << model]
 
 
 def _argument(word: bytes) -> Union[int, bytes]:
     return int(word[2:]) if word.startswith(b"n:") else word[2:]
 
 
-def compare(first: Format, second: Format) -> Comparison:
+def compare(first: Format, second: Format, *, model: Model = Model.LP64) -> Comparison:
     """What two formats are to each other, with arguments that they print differently."""
     f, g, told = _bytes(first), _bytes(second), _Comparison()
 
@@ -260,7 +291,7 @@ def compare(first: Format, second: Format) -> Comparison:
         *texts, out, room, error = arguments
         return _library.fmtcanon_compare(*texts, out, room, told, error)
 
-    words = _filled(call, 4096, f, len(f), g, len(g))
+    words = _filled(call, 4096, Model(model), f, len(f), g, len(g))
     verdict = Verdict(told.verdict)
     if verdict is Verdict.TYPES:
         return Comparison(verdict, types_differ_at=told.number)

@@ -8,7 +8,7 @@ import threading
 import unittest
 
 import fmtcanon
-from fmtcanon import Kind, Refused, Type, Verdict
+from fmtcanon import Kind, Model, Refused, Type, Verdict
 
 
 class Calls(unittest.TestCase):
@@ -47,6 +47,40 @@ class Calls(unittest.TestCase):
         many = fmtcanon.compare("%d" * 3000 + "a", "%d" * 3000 + "b")
         self.assertEqual(many.arguments, (0,) * 3000)
 
+    def test_models(self):
+        wanted = [Type.INT, Type.UINT, Type.LONG_LONG, Type.ULONG_LONG, Type.LONG]
+        self.assertEqual(fmtcanon.types("%td%zu%jd%ju%ld", model=Model.ILP32), wanted)
+        wanted = [Type.LONG, Type.ULONG, Type.LONG, Type.ULONG, Type.LONG]
+        self.assertEqual(fmtcanon.types("%td%zu%jd%ju%ld", model=Model.LP64), wanted)
+        self.assertEqual(fmtcanon.types("%td%zu%jd%ju%ld"), wanted)
+        self.assertEqual(fmtcanon.canonical("%ju", model=Model.ILP32), "%llu")
+        self.assertEqual(fmtcanon.canonical(b"%ju"), b"%lu")
+        self.assertTrue(fmtcanon.is_canonical("%lld", model=Model.ILP32))
+        self.assertTrue(fmtcanon.same("%zu", "%u", model=Model.ILP32))
+        self.assertFalse(fmtcanon.same("%zu", "%lu", model=Model.ILP32))
+        self.assertEqual(fmtcanon.compare("%zu", "%u", model=Model.ILP32).verdict, Verdict.SAME)
+        self.assertEqual(fmtcanon.compare("%zu", "%u").types_differ_at, 0)
+        told = fmtcanon.compare("%zx", "%u", model=Model.ILP32)
+        self.assertEqual(told.arguments, (4294967295,))
+
+    def test_same_in(self):
+        self.assertEqual(fmtcanon.same_in("%i", b"%d"), [Model.LP64, Model.ILP32])
+        self.assertEqual(fmtcanon.same_in("%td", "%jd"), [Model.LP64])
+        self.assertEqual(fmtcanon.same_in("%zd", "%d"), [Model.ILP32])
+        self.assertEqual(fmtcanon.same_in("%d", "%u"), [])
+
+    def test_no_model(self):
+        for wrong in [2, -1, 64, 1 << 32, "lp64", None]:
+            for call in [fmtcanon.canonical, fmtcanon.is_canonical, fmtcanon.types]:
+                with self.assertRaises(ValueError):
+                    call("%d", model=wrong)
+            for call in [fmtcanon.same, fmtcanon.compare]:
+                with self.assertRaises(ValueError):
+                    call("%d", "%d", model=wrong)
+        self.assertEqual(fmtcanon.types("%zu", model=1), [Type.UINT])
+        with self.assertRaises(TypeError):
+            fmtcanon.same("%d", "%d", Model.LP64)
+
     def test_version(self):
         self.assertEqual(fmtcanon.version()[:2], (0, 1))
 
@@ -67,7 +101,7 @@ class Refusals(unittest.TestCase):
             self.assertEqual((refusal.kind, refusal.name), (Kind.STAR, "Star"))
             self.assertEqual((refusal.byte, refusal.side), (8, 0))
             self.assertEqual(str(refusal), "refused 5 Star at byte 8")
-        for call in [fmtcanon.same, fmtcanon.compare]:
+        for call in [fmtcanon.same, fmtcanon.same_in, fmtcanon.compare]:
             self.assertEqual(self.refused(call, "%d", "%y").side, 1)
             self.assertEqual(self.refused(call, "%f", "%y").side, 0)
 

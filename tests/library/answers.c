@@ -1,5 +1,6 @@
 /* Writes what the library answers for the formats of a file, each ended by a zero byte: a line for
- * each format, and one for each with the format behind it. */
+ * each format, and one for each with the format behind it, in one data model after the other, and
+ * then one that says in which data models these two are the same. */
 #include "fmtcanon.h"
 #include <stdio.h>
 #include <stdlib.h>
@@ -7,6 +8,7 @@
 
 enum { ROOM = 1 << 20 };
 
+static int model;
 static char *whole;
 static size_t whole_len;
 
@@ -73,18 +75,19 @@ static int is_untouched(const fmtcanon_error *error)
 static void canonical_of(const char *text, size_t len, size_t at)
 {
     fmtcanon_error error = {77, 78, 79};
-    size_t n = (size_t)fmtcanon_canonical_length(text, len, &error);
+    int own;
+    size_t n = (size_t)fmtcanon_canonical_length(model, text, len, &error);
     char *out = taken(n + 3);
     memset(out, 'Z', n + 3);
-    if (fmtcanon_canonical(text, len, NULL, 0, &error) != (int64_t)n) stop("length", at);
-    if (fmtcanon_canonical(text, len, out, n, &error) != (int64_t)n) stop("small", at);
+    if (fmtcanon_canonical(model, text, len, NULL, 0, &error) != (int64_t)n) stop("length", at);
+    if (fmtcanon_canonical(model, text, len, out, n, &error) != (int64_t)n) stop("small", at);
     if (!all_are(out, 0, n + 3, 'Z')) stop("written without room", at);
-    if (fmtcanon_canonical(text, len, out, n + 1, &error) != (int64_t)n) stop("fits", at);
+    if (fmtcanon_canonical(model, text, len, out, n + 1, &error) != (int64_t)n) stop("fits", at);
     if (out[n] != 0 || !all_are(out, n + 1, n + 3, 'Z')) stop("the end", at);
-    if (fmtcanon_is_canonical(out, n, &error) != 1) stop("its own", at);
-    if (fmtcanon_is_canonical(text, len, &error) != (n == len && (!n || !memcmp(out, text, n))))
-        stop("is canonical", at);
-    if (fmtcanon_same(text, len, out, n, &error) != 1) stop("same as its own", at);
+    if (fmtcanon_is_canonical(model, out, n, &error) != 1) stop("its own", at);
+    own = n == len && (!n || !memcmp(out, text, n));
+    if (fmtcanon_is_canonical(model, text, len, &error) != own) stop("is canonical", at);
+    if (fmtcanon_same(model, text, len, out, n, &error) != 1) stop("same as its own", at);
     if (!is_untouched(&error)) stop("error", at);
     write_hex(out, n);
     free(out);
@@ -93,13 +96,13 @@ static void canonical_of(const char *text, size_t len, size_t at)
 static void types_of(const char *text, size_t len, size_t at)
 {
     fmtcanon_error error = {77, 78, 79};
-    size_t n = (size_t)fmtcanon_types(text, len, NULL, 0, &error), k;
+    size_t n = (size_t)fmtcanon_types(model, text, len, NULL, 0, &error), k;
     unsigned char *out = taken(n + 1);
     memset(out, 'Z', n + 1);
-    if (n && (fmtcanon_types(text, len, out, n - 1, &error) != (int64_t)n || out[0] != 'Z'))
-        stop("types without room", at);
-    if (fmtcanon_types(text, len, out, n, &error) != (int64_t)n || out[n] != 'Z')
-        stop("types", at);
+    if (n && fmtcanon_types(model, text, len, out, n - 1, &error) != (int64_t)n) stop("few", at);
+    if (out[0] != 'Z') stop("types without room", at);
+    if (fmtcanon_types(model, text, len, out, n, &error) != (int64_t)n) stop("types", at);
+    if (out[n] != 'Z') stop("behind the types", at);
     if (!is_untouched(&error)) stop("error", at);
     putchar(' ');
     for (k = 0; k < n; k++) printf("%u", (unsigned)out[k]);
@@ -112,9 +115,9 @@ static void one(const char *text, size_t len, size_t at)
     fmtcanon_error error = {77, 78, 79}, again = {1, 2, 3};
     int64_t result = fmtcanon_check(text, len, &error);
     if (result < 0) {
-        if (fmtcanon_canonical(text, len, NULL, 0, &again) != result || again.at != error.at)
+        if (fmtcanon_canonical(model, text, len, NULL, 0, &again) != result || again.at != error.at)
             stop("canonical of a refused text", at);
-        if (fmtcanon_types(text, len, NULL, 0, &again) != result || again.at != error.at)
+        if (fmtcanon_types(model, text, len, NULL, 0, &again) != result || again.at != error.at)
             stop("types of a refused text", at);
         refused(&error, result, at);
         return;
@@ -129,9 +132,9 @@ static void two(const char *f, size_t f_len, const char *g, size_t g_len, size_t
 {
     fmtcanon_error error = {77, 78, 79};
     fmtcanon_comparison told = {77, 78, 79};
-    int64_t same = fmtcanon_same(f, f_len, g, g_len, &error), n, again;
+    int64_t same = fmtcanon_same(model, f, f_len, g, g_len, &error), n, again;
     char *out;
-    n = fmtcanon_compare(f, f_len, g, g_len, NULL, 0, &told, &error);
+    n = fmtcanon_compare(model, f, f_len, g, g_len, NULL, 0, &told, &error);
     if (same < 0) {
         if (n != same || told.number != 77 || told.verdict != 78) stop("compare, refused", at);
         refused(&error, same, at);
@@ -141,17 +144,29 @@ static void two(const char *f, size_t f_len, const char *g, size_t g_len, size_t
     out = taken((size_t)n + 1);
     memset(out, 'Z', (size_t)n + 1);
     if (n) {
-        again = fmtcanon_compare(f, f_len, g, g_len, out, (size_t)n - 1, &told, &error);
+        again = fmtcanon_compare(model, f, f_len, g, g_len, out, (size_t)n - 1, &told, &error);
         if (again != n || !all_are(out, 0, (size_t)n + 1, 'Z')) stop("words without room", at);
     }
-    if (fmtcanon_compare(f, f_len, g, g_len, out, (size_t)n, &told, &error) != n || out[n] != 'Z')
-        stop("words", at);
+    again = fmtcanon_compare(model, f, f_len, g, g_len, out, (size_t)n, &told, &error);
+    if (again != n || out[n] != 'Z') stop("words", at);
     if (n && out[n - 1] != 0) stop("the end of the words", at);
     if (!is_untouched(&error)) stop("error", at);
     printf("verdict %u %lu", (unsigned)told.verdict, (unsigned long)told.number);
     write_hex(out, (size_t)n);
     putchar('\n');
     free(out);
+}
+
+static void in_which(const char *f, size_t f_len, const char *g, size_t g_len, size_t at)
+{
+    fmtcanon_error error = {77, 78, 79};
+    int64_t models = fmtcanon_same_models(f, f_len, g, g_len, &error);
+    if (models < 0) {
+        refused(&error, models, at);
+        return;
+    }
+    if (!is_untouched(&error)) stop("error", at);
+    printf("models %lu\n", (unsigned long)models);
 }
 
 int main(int argc, char **argv)
@@ -163,8 +178,11 @@ int main(int argc, char **argv)
         size_t len = strlen(whole + at), next = at + len + 1;
         size_t next_len = next < whole_len ? strlen(whole + next) : 0;
         char *f = copy_of(at, len), *g = copy_of(next, next_len);
-        one(f, len, at);
-        two(f, len, g, next_len, at);
+        for (model = FMTCANON_LP64; model <= FMTCANON_ILP32; model++) {
+            one(f, len, at);
+            two(f, len, g, next_len, at);
+        }
+        in_which(f, len, g, next_len, at);
         free(f);
         free(g);
         at = next;

@@ -12,6 +12,8 @@
 #define WANT(holds) ((holds) ? (void)0 : failed(#holds, __LINE__))
 #define COUNT(rows) (sizeof(rows) / sizeof *(rows))
 
+enum { LP64 = FMTCANON_LP64, ILP32 = FMTCANON_ILP32 };
+
 static void failed(const char *what, int line)
 {
     fprintf(stderr, "edges.c:%d: not so: %s\n", line, what);
@@ -82,10 +84,40 @@ static void numbers(void)
     WANT(fmtcanon_kind_name(FMTCANON_TOO_LONG, name, sizeof name) && !strcmp(name, "TooLong"));
     WANT(fmtcanon_kind_name(0, name, 1) == 0 && fmtcanon_kind_name(19, NULL, 0) == 0);
     WANT(fmtcanon_kind_name(0xffffffff, NULL, 0) == 0);
-    WANT(fmtcanon_types("%d%u%ld%lu%lld%llu%s", 20, found, sizeof found, &e) == 7);
+    WANT(fmtcanon_types(LP64, "%d%u%ld%lu%lld%llu%s", 20, found, sizeof found, &e) == 7);
     WANT(!memcmp(found, types, sizeof types));
     WANT(fmtcanon_version() == (FMTCANON_VERSION_MAJOR << 16 | FMTCANON_VERSION_MINOR << 8
                                 | FMTCANON_VERSION_PATCH));
+}
+
+static void models(void)
+{
+    static const int none[] = {-1, 2, 3, 32, 64, 0x7fffffff, -0x7fffffff - 1};
+    fmtcanon_error e = {77, 78, 79};
+    fmtcanon_comparison told = {77, 78, 79};
+    char out[8] = "ZZZZZZZ";
+    unsigned char *bytes = (unsigned char *)out;
+    size_t i;
+    for (i = 0; i < COUNT(none); i++) {
+        WANT(fmtcanon_is_canonical(none[i], "%y", 2, &e) == FMTCANON_ERROR_MODEL);
+        WANT(fmtcanon_canonical_length(none[i], "%d", 2, &e) == FMTCANON_ERROR_MODEL);
+        WANT(fmtcanon_canonical(none[i], "%d", 2, out, 8, &e) == FMTCANON_ERROR_MODEL);
+        WANT(fmtcanon_types(none[i], "%d", 2, bytes, 8, &e) == FMTCANON_ERROR_MODEL);
+        WANT(fmtcanon_same(none[i], "%d", 2, "%d", 2, &e) == FMTCANON_ERROR_MODEL);
+        WANT(fmtcanon_compare(none[i], "a", 1, "b", 1, out, 8, &told, &e) == FMTCANON_ERROR_MODEL);
+    }
+    WANT(!strcmp(out, "ZZZZZZZ") && e.at == 77 && e.kind == 78 && e.side == 79);
+    WANT(told.number == 77 && told.verdict == 78 && told.renderings == 79);
+    WANT(fmtcanon_canonical(ILP32, "%ju", 3, out, 8, &e) == 4 && !strcmp(out, "%llu"));
+    WANT(fmtcanon_types(ILP32, "%zu%jd%ld", 9, bytes, 8, &e) == 3);
+    WANT(bytes[0] == FMTCANON_UINT && bytes[1] == FMTCANON_LONG_LONG && bytes[2] == FMTCANON_LONG);
+    WANT(fmtcanon_same_models("%d", 2, "%ld", 3, &e) == FMTCANON_IN_NEITHER);
+    WANT(fmtcanon_same_models("%td", 3, "%jd", 3, &e) == FMTCANON_IN_LP64);
+    WANT(fmtcanon_same_models("%zd", 3, "%d", 2, &e) == FMTCANON_IN_ILP32);
+    WANT(fmtcanon_same_models("%i", 2, "%d", 2, &e) == FMTCANON_IN_BOTH);
+    WANT(fmtcanon_same_models(NULL, 0, NULL, 0, &e) == FMTCANON_IN_BOTH && e.at == 77);
+    WANT(fmtcanon_same_models("%d", 2, "%y", 2, &e) == -FMTCANON_UNEXPECTED && e.side == 1);
+    WANT(fmtcanon_same_models("%*d", 3, "%y", 2, &e) == -FMTCANON_STAR && e.side == 0);
 }
 
 static void two_texts(void)
@@ -93,15 +125,16 @@ static void two_texts(void)
     fmtcanon_error e;
     fmtcanon_comparison told;
     char out[32];
-    WANT(fmtcanon_same("%d", 2, "%y", 2, &e) == -FMTCANON_UNEXPECTED && e.side == 1 && e.at == 1);
-    WANT(fmtcanon_same("%*d", 3, "%y", 2, &e) == -FMTCANON_STAR && e.side == 0);
-    WANT(fmtcanon_compare("%i", 2, "%d", 2, out, sizeof out, &told, &e) == 0);
+    WANT(fmtcanon_same(LP64, "%d", 2, "%y", 2, &e) == -FMTCANON_UNEXPECTED);
+    WANT(e.side == 1 && e.at == 1);
+    WANT(fmtcanon_same(LP64, "%*d", 3, "%y", 2, &e) == -FMTCANON_STAR && e.side == 0);
+    WANT(fmtcanon_compare(LP64, "%i", 2, "%d", 2, out, sizeof out, &told, &e) == 0);
     WANT(told.verdict == FMTCANON_SAME && told.number == 0 && told.renderings == 0);
-    WANT(fmtcanon_compare("%d%s", 4, "%d", 2, out, sizeof out, &told, &e) == 0);
+    WANT(fmtcanon_compare(LP64, "%d%s", 4, "%d", 2, out, sizeof out, &told, &e) == 0);
     WANT(told.verdict == FMTCANON_TYPES && told.number == 1 && told.renderings == 0);
-    WANT(fmtcanon_compare("a", 1, "b", 1, NULL, 0, &told, &e) == 0);
+    WANT(fmtcanon_compare(LP64, "a", 1, "b", 1, NULL, 0, &told, &e) == 0);
     WANT(told.verdict == FMTCANON_DIFFERENT && told.number == 0 && told.renderings == 1);
-    WANT(fmtcanon_compare("%05d%s", 6, "%.5d%s", 6, out, sizeof out, &told, &e) == 8);
+    WANT(fmtcanon_compare(LP64, "%05d%s", 6, "%.5d%s", 6, out, sizeof out, &told, &e) == 8);
     WANT(told.verdict == FMTCANON_DIFFERENT && told.number == 2);
     WANT(!memcmp(out, "n:-1\0s:\0", 8));
 }
@@ -129,18 +162,18 @@ static void pages(void)
         char *text = at_end(len);
         int64_t n, m, w;
         memcpy(text, formats[i], len);
-        n = fmtcanon_canonical_length(text, len, &e);
-        WANT(fmtcanon_canonical(text, len, NULL, 0, &e) == n);
-        WANT(fmtcanon_same(text, len, text, len, &e) == (n < 0 ? n : 1));
+        n = fmtcanon_canonical_length(LP64, text, len, &e);
+        WANT(fmtcanon_canonical(LP64, text, len, NULL, 0, &e) == n);
+        WANT(fmtcanon_same(LP64, text, len, text, len, &e) == (n < 0 ? n : 1));
         if (n < 0) continue;
         for (cap = 0; cap < (size_t)n + 3; cap++)
-            WANT(fmtcanon_canonical(text, len, at_end(cap), cap, &e) == n);
-        m = fmtcanon_types(text, len, NULL, 0, &e);
+            WANT(fmtcanon_canonical(LP64, text, len, at_end(cap), cap, &e) == n);
+        m = fmtcanon_types(LP64, text, len, NULL, 0, &e);
         for (cap = 0; cap < (size_t)m + 3; cap++)
-            WANT(fmtcanon_types(text, len, (unsigned char *)at_end(cap), cap, &e) == m);
-        w = fmtcanon_compare(text, len, "%.1d", 4, NULL, 0, &told, &e);
+            WANT(fmtcanon_types(LP64, text, len, (unsigned char *)at_end(cap), cap, &e) == m);
+        w = fmtcanon_compare(LP64, text, len, "%.1d", 4, NULL, 0, &told, &e);
         for (cap = 0; cap < (size_t)w + 3; cap++)
-            WANT(fmtcanon_compare(text, len, "%.1d", 4, at_end(cap), cap, &told, &e) == w);
+            WANT(fmtcanon_compare(LP64, text, len, "%.1d", 4, at_end(cap), cap, &told, &e) == w);
     }
 }
 
@@ -150,15 +183,18 @@ static void nothing(void)
     fmtcanon_comparison told;
     char one[1] = {'Z'};
     char small[8];
-    WANT(fmtcanon_check(NULL, 0, &e) == 0 && fmtcanon_is_canonical(NULL, 0, &e) == 1);
-    WANT(fmtcanon_canonical_length(NULL, 0, &e) == 0);
-    WANT(fmtcanon_canonical(NULL, 0, NULL, 0, &e) == 0);
-    WANT(fmtcanon_canonical(NULL, 0, one, 1, &e) == 0 && one[0] == 0);
-    WANT(fmtcanon_types(NULL, 0, NULL, 0, &e) == 0 && fmtcanon_types("%d", 2, NULL, 0, &e) == 1);
-    WANT(fmtcanon_same(NULL, 0, NULL, 0, &e) == 1 && fmtcanon_same(NULL, 0, "", 0, &e) == 1);
-    WANT(fmtcanon_compare(NULL, 0, NULL, 0, NULL, 0, &told, &e) == 0);
+    WANT(fmtcanon_check(NULL, 0, &e) == 0 && fmtcanon_is_canonical(LP64, NULL, 0, &e) == 1);
+    WANT(fmtcanon_canonical_length(LP64, NULL, 0, &e) == 0);
+    WANT(fmtcanon_canonical(LP64, NULL, 0, NULL, 0, &e) == 0);
+    WANT(fmtcanon_canonical(LP64, NULL, 0, one, 1, &e) == 0 && one[0] == 0);
+    WANT(fmtcanon_types(LP64, NULL, 0, NULL, 0, &e) == 0);
+    WANT(fmtcanon_types(LP64, "%d", 2, NULL, 0, &e) == 1);
+    WANT(fmtcanon_same(LP64, NULL, 0, NULL, 0, &e) == 1);
+    WANT(fmtcanon_same(LP64, NULL, 0, "", 0, &e) == 1);
+    WANT(fmtcanon_compare(LP64, NULL, 0, NULL, 0, NULL, 0, &told, &e) == 0);
     WANT(fmtcanon_check("%d junk %", 2, &e) == 0);
-    WANT(fmtcanon_canonical("%d", 2, small, (size_t)-1 >> 1, &e) == 2 && !strcmp(small, "%d"));
+    WANT(fmtcanon_canonical(LP64, "%d", 2, small, (size_t)-1 >> 1, &e) == 2);
+    WANT(!strcmp(small, "%d"));
 }
 
 /* One of the calls that take memory. */
@@ -166,9 +202,9 @@ static int64_t growing(int call, char *out, size_t cap, fmtcanon_comparison *tol
                        fmtcanon_error *e)
 {
     static const char many[] = "%d%d%d%d%d%d%d%d%d%d%4095d%4095d";
-    if (call == 0) return fmtcanon_canonical(many, sizeof many - 1, out, cap, e);
-    if (call == 1) return fmtcanon_types(many, sizeof many - 1, (unsigned char *)out, cap, e);
-    return fmtcanon_compare("%d%s", 4, "%d%.4095s", 9, out, cap, told, e);
+    if (call == 0) return fmtcanon_canonical(LP64, many, sizeof many - 1, out, cap, e);
+    if (call == 1) return fmtcanon_types(LP64, many, sizeof many - 1, (unsigned char *)out, cap, e);
+    return fmtcanon_compare(LP64, "%d%s", 4, "%d%.4095s", 9, out, cap, told, e);
 }
 
 static void refusals_of_memory(void)
@@ -204,13 +240,14 @@ static void without_memory(void)
     unsigned char out[8];
     growths = 0;
     fmtcanon_check("%d", 2, &e);
-    fmtcanon_is_canonical("%4095d", 6, &e);
-    fmtcanon_canonical_length("%4095d", 6, &e);
-    fmtcanon_same("%4095d%5c", 9, "%4095d    %c", 12, &e);
-    fmtcanon_types("%d%d%d%d%d%d%d%d", 16, out, 8, &e);
-    fmtcanon_compare("%i", 2, "%d", 2, NULL, 0, &told, &e);
-    fmtcanon_compare("%i", 2, "%s", 2, NULL, 0, &told, &e);
-    fmtcanon_canonical("%y", 2, NULL, 0, &e);
+    fmtcanon_is_canonical(LP64, "%4095d", 6, &e);
+    fmtcanon_canonical_length(LP64, "%4095d", 6, &e);
+    fmtcanon_same(LP64, "%4095d%5c", 9, "%4095d    %c", 12, &e);
+    fmtcanon_same_models("%4095d%5c", 9, "%4095d    %c", 12, &e);
+    fmtcanon_types(LP64, "%d%d%d%d%d%d%d%d", 16, out, 8, &e);
+    fmtcanon_compare(LP64, "%i", 2, "%d", 2, NULL, 0, &told, &e);
+    fmtcanon_compare(LP64, "%i", 2, "%s", 2, NULL, 0, &told, &e);
+    fmtcanon_canonical(LP64, "%y", 2, NULL, 0, &e);
     WANT(growths == 0);
 }
 
@@ -220,8 +257,8 @@ static void *in_small_stack(void *p)
     fmtcanon_error e;
     fmtcanon_comparison told;
     (void)p;
-    fmtcanon_canonical("%4095d%.4095s%#o%zd", 19, out, sizeof out, &e);
-    fmtcanon_compare("%4095d%s", 8, "%4095d%.4095s", 13, out, sizeof out, &told, &e);
+    fmtcanon_canonical(LP64, "%4095d%.4095s%#o%zd", 19, out, sizeof out, &e);
+    fmtcanon_compare(LP64, "%4095d%s", 8, "%4095d%.4095s", 13, out, sizeof out, &told, &e);
     return NULL;
 }
 
@@ -231,6 +268,7 @@ int main(void)
     pthread_t thread;
     layout();
     numbers();
+    models();
     two_texts();
     pages();
     nothing();

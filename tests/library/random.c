@@ -6,7 +6,7 @@
 #include <stdlib.h>
 #include <string.h>
 
-enum { ROOM = 1 << 15, LONGEST = 24 };
+enum { LP64 = FMTCANON_LP64, ROOM = 1 << 15, LONGEST = 24 };
 
 static unsigned long long state = 1;
 
@@ -51,7 +51,7 @@ static int64_t arguments(const char *text, unsigned char *type)
 {
     unsigned char types[LONGEST];
     fmtcanon_error e;
-    int64_t n = fmtcanon_types(text, strlen(text), types, sizeof types, &e);
+    int64_t n = fmtcanon_types(LP64, text, strlen(text), types, sizeof types, &e);
     if ((fmtcanon_check(text, strlen(text), &e) < 0) != (n < 0)) stop("check", text, "");
     if (n < 0 && e.at > strlen(text)) stop("place", text, "");
     *type = n > 0 ? types[0] : 0;
@@ -68,11 +68,12 @@ static void one(const char *text, int64_t count, int type)
     static char own[ROOM], again[ROOM];
     unsigned char other;
     fmtcanon_error e;
-    int64_t n = fmtcanon_canonical(text, strlen(text), own, sizeof own, &e);
+    int64_t n = fmtcanon_canonical(LP64, text, strlen(text), own, sizeof own, &e);
     if (n < 0 || n >= ROOM) stop("canonical", text, "");
-    if (fmtcanon_canonical(own, (size_t)n, again, sizeof again, &e) != n) stop("len", text, own);
+    if (fmtcanon_canonical(LP64, own, (size_t)n, again, sizeof again, &e) != n)
+        stop("len", text, own);
     if (memcmp(own, again, (size_t)n)) stop("its own", text, own);
-    if (fmtcanon_same(text, strlen(text), own, (size_t)n, &e) != 1) stop("same", text, own);
+    if (fmtcanon_same(LP64, text, strlen(text), own, (size_t)n, &e) != 1) stop("same", text, own);
     if (arguments(own, &other) != count || other != type) stop("types", text, own);
     if (count <= 1 && !prints_alike(text, own, type, any_number(), "hello")) stop("prints", text, own);
 }
@@ -82,8 +83,8 @@ static int two(const char *first, const char *second, int type)
     char words[ROOM];
     fmtcanon_error e;
     fmtcanon_comparison told;
-    int64_t n = fmtcanon_compare(first, strlen(first), second, strlen(second), words, sizeof words,
-                                 &told, &e);
+    int64_t n = fmtcanon_compare(LP64, first, strlen(first), second, strlen(second), words,
+                                 sizeof words, &told, &e);
     if (n < 0 || n > ROOM) stop("compare", first, second);
     if (told.verdict == FMTCANON_SAME && !prints_alike(first, second, type, any_number(), "hello"))
         stop("same, but prints", first, second);

@@ -1,6 +1,7 @@
 -- What the calls answer. This project's own.
 use Rattle.std.specs.Prelude.{◌≡◌, ◌≤◌, ◌<◌, ◌^◌, ◌⊎◌, ⊤, ℕ, ℤ, pos, List, [], ◌∷◌, ◌++◌, length, map}
 use Rattle.pf_values.specs.declared.models.Model.{Model}
+use Rattle.pf_values.specs.declared.models.Model.TheVariants.{Lp64, Ilp32}
 use Rattle.pf_values.specs.declared.refusals.RefusalKind.{RefusalKind}
 use Rattle.pf_values.specs.declared.types.ArgType.{ArgType}
 use Rattle.pf_values.specs.Canonical.{IsCanonicalText}
@@ -54,6 +55,20 @@ IsOneRefusedBy f g code error =
 abbrev pub TellsSame : Model → Text → Text → CError → ℤ → CError → Type 0
 TellsSame model f g error code error_now =
     (IsAccepted f × IsAccepted g × Tells (AreEquivalent model f g) code × (error_now ≡ error))
+    ⊎ IsOneRefusedBy f g code error_now
+
+-- the data models of which it is so: 1 for LP64 and 2 for ILP32, added
+abbrev pub IsModelsCode : Type 0 → Type 0 → ℤ → Type 0
+IsModelsCode InLp64 InIlp32 code =
+    ((¬ InLp64) × (¬ InIlp32) × (code ≡ pos 0)) ⊎ (InLp64 × (¬ InIlp32) × (code ≡ pos 1))
+    ⊎ ((¬ InLp64) × InIlp32 × (code ≡ pos 2)) ⊎ (InLp64 × InIlp32 × (code ≡ pos 3))
+
+-- the data models in which two accepted texts mean the same, with the error untouched; or one is
+-- refused
+abbrev pub TellsModels : Text → Text → CError → ℤ → CError → Type 0
+TellsModels f g error code error_now =
+    (IsAccepted f × IsAccepted g
+    × IsModelsCode (AreEquivalent Lp64 f g) (AreEquivalent Ilp32 f g) code × (error_now ≡ error))
     ⊎ IsOneRefusedBy f g code error_now
 
 -- nothing was put: the text is refused, or memory is out

@@ -1,4 +1,5 @@
 pub mod Buffers
 pub mod Errors
+pub mod Models
 pub mod Words
 pub mod Calls

@@ -1,9 +1,11 @@
 //! Canonical texts, and how long they are.
-ghost use Rattle.pf_values.specs.declared.models.Model.TheVariants.{Lp64};
+ghost use Rattle.std.specs.Prelude.{◌≡◌};
 ghost use Rattle.fmtcanon_c.specs.Calls.{IsLengthCode, PutsCanonical, TellsLength};
+ghost use Rattle.fmtcanon_c.specs.Models.{InModel};
 
 use crate::buffers::put_string;
-use crate::errors::{CError, NO_MEMORY, put_refusal};
+use crate::errors::{CError, NO_MEMORY, NO_MODEL, put_refusal};
+use crate::models::model_of;
 use pf_canon::{CanonFault, Side, canonical, canonical_len};
 use pf_values::Model;
 use std::alloc::Global;
@@ -13,13 +15,31 @@ use std::alloc::Global;
 #[unsafe(no_mangle)]
 pub extern "C" fn fmtcanon_canonical(
     alloc: Global,
+    model: i32,
     text: &[u8],
     out: &mut [u8],
     error: &mut CError,
 ) -> i64
-    ensures { PutsCanonical Lp64 text.now out.old error.old result out.new error.new }
+    ensures { InModel model
+        (λ m. PutsCanonical m text.now out.old error.old result out.new error.new)
+        result ((out.new ≡ out.old) × (error.new ≡ error.old)) }
 {
-    match canonical(alloc, Model::Lp64, text) {
+    match model_of(model) {
+        Some(model) => put_canonical(alloc, model, text, out, error),
+        None => NO_MODEL,
+    }
+}
+
+fn put_canonical(
+    alloc: Global,
+    model: Model,
+    text: &[u8],
+    out: &mut [u8],
+    error: &mut CError,
+) -> i64
+    ensures { PutsCanonical model text.now out.old error.old result out.new error.new }
+{
+    match canonical(alloc, model, text) {
         Ok(canonical) => {
             put_string(out, &canonical);
             canonical.len() as i64
@@ -32,10 +52,20 @@ pub extern "C" fn fmtcanon_canonical(
 /// The length of the canonical text, or the code of an error: that of no memory where the length is
 /// 2^63 or more. It takes no memory.
 #[unsafe(no_mangle)]
-pub extern "C" fn fmtcanon_canonical_length(text: &[u8], error: &mut CError) -> i64
-    ensures { TellsLength Lp64 text.now error.old result error.new }
+pub extern "C" fn fmtcanon_canonical_length(model: i32, text: &[u8], error: &mut CError) -> i64
+    ensures { InModel model (λ m. TellsLength m text.now error.old result error.new)
+        result (error.new ≡ error.old) }
 {
-    match canonical_len(Model::Lp64, text) {
+    match model_of(model) {
+        Some(model) => tell_length(model, text, error),
+        None => NO_MODEL,
+    }
+}
+
+fn tell_length(model: Model, text: &[u8], error: &mut CError) -> i64
+    ensures { TellsLength model text.now error.old result error.new }
+{
+    match canonical_len(model, text) {
         Ok(len) => length_code(len),
         Err(refusal) => put_refusal(error, Side::First, refusal),
     }

@@ -1,10 +1,11 @@
 //! Two formats compared.
 ghost use Rattle.std.specs.Prelude.{◌≡◌, ◌⊎◌};
-ghost use Rattle.pf_values.specs.declared.models.Model.TheVariants.{Lp64};
 ghost use Rattle.fmtcanon_c.specs.Calls.{Compares, ComparesNot, Gives, IsFaultTold, IsTold, verdict_code, verdict_number};
+ghost use Rattle.fmtcanon_c.specs.Models.{InModel};
 
 use crate::buffers::put_bytes;
-use crate::errors::{CError, NO_MEMORY, put_refusal};
+use crate::errors::{CError, NO_MEMORY, NO_MODEL, put_refusal};
+use crate::models::model_of;
 use crate::words::words_of;
 use pf_compare::{CompareFault, Comparison, Verdict, compare};
 use pf_values::Model;
@@ -28,18 +29,42 @@ pub struct CComparison {
 #[unsafe(no_mangle)]
 pub extern "C" fn fmtcanon_compare(
     alloc: Global,
+    model: i32,
     first: &[u8],
     second: &[u8],
     out: &mut [u8],
     comparison: &mut CComparison,
     error: &mut CError,
 ) -> i64
-    ensures { Compares Lp64 first.now second.now out.old error.old result
+    ensures { InModel model
+        (λ m. Compares m first.now second.now out.old error.old result
         out.new comparison.new error.new
-        ⊎ ComparesNot Lp64 first.now second.now out.old comparison.old error.old result
+        ⊎ ComparesNot m first.now second.now out.old comparison.old error.old result
+        out.new comparison.new error.new)
+        result ((out.new ≡ out.old) × (comparison.new ≡ comparison.old)
+        × (error.new ≡ error.old)) }
+{
+    match model_of(model) {
+        Some(model) => compare_in(alloc, model, first, second, out, comparison, error),
+        None => NO_MODEL,
+    }
+}
+
+fn compare_in(
+    alloc: Global,
+    model: Model,
+    first: &[u8],
+    second: &[u8],
+    out: &mut [u8],
+    comparison: &mut CComparison,
+    error: &mut CError,
+) -> i64
+    ensures { Compares model first.now second.now out.old error.old result
+        out.new comparison.new error.new
+        ⊎ ComparesNot model first.now second.now out.old comparison.old error.old result
         out.new comparison.new error.new }
 {
-    match compare(alloc, Model::Lp64, first, second) {
+    match compare(alloc, model, first, second) {
         Ok(found) => give(alloc, &found, out, comparison),
         Err(fault) => fault_code(error, fault),
     }

@@ -9,6 +9,9 @@ use pf_text::Refusal;
 /// `FMTCANON_ERROR_NOMEMORY`
 pub(crate) const NO_MEMORY: i64 = -100;
 
+/// `FMTCANON_ERROR_MODEL`
+pub(crate) const NO_MODEL: i64 = -101;
+
 /// `fmtcanon_error`: where and why a text is refused.
 #[repr(C)]
 #[derive(Clone, Copy)]

@@ -7,6 +7,7 @@ mod canonicity;
 mod checking;
 mod comparing;
 mod errors;
+mod models;
 mod refusal_names;
 mod sameness;
 #[cfg(test)]

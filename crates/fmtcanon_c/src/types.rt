@@ -1,10 +1,11 @@
 //! The types of the arguments that a format takes.
 ghost use Rattle.std.specs.Prelude.{◌≡◌, ◌≤◌, ◌++◌, length, drop, map};
 ghost use Rattle.fmtcanon_c.specs.Buffers.{type_code};
-ghost use Rattle.pf_values.specs.declared.models.Model.TheVariants.{Lp64};
 ghost use Rattle.fmtcanon_c.specs.Calls.{PutsTypes};
+ghost use Rattle.fmtcanon_c.specs.Models.{InModel};
 
-use crate::errors::{CError, NO_MEMORY, put_refusal};
+use crate::errors::{CError, NO_MEMORY, NO_MODEL, put_refusal};
+use crate::models::model_of;
 use pf_canon::Side;
 use pf_text::{TextFault, signature};
 use pf_values::{ArgType, Model};
@@ -15,13 +16,30 @@ use std::alloc::Global;
 #[unsafe(no_mangle)]
 pub extern "C" fn fmtcanon_types(
     alloc: Global,
+    model: i32,
     text: &[u8],
     out: &mut [u8],
     error: &mut CError,
 ) -> i64
-    ensures { PutsTypes Lp64 text.now out.old error.old result out.new error.new }
+    ensures { InModel model (λ m. PutsTypes m text.now out.old error.old result out.new error.new)
+        result ((out.new ≡ out.old) × (error.new ≡ error.old)) }
 {
-    match signature(alloc, Model::Lp64, text) {
+    match model_of(model) {
+        Some(model) => put_types(alloc, model, text, out, error),
+        None => NO_MODEL,
+    }
+}
+
+fn put_types(
+    alloc: Global,
+    model: Model,
+    text: &[u8],
+    out: &mut [u8],
+    error: &mut CError,
+) -> i64
+    ensures { PutsTypes model text.now out.old error.old result out.new error.new }
+{
+    match signature(alloc, model, text) {
         Ok(signature) => {
             let types = signature.as_slice();
             if types.len() <= out.len() {

@@ -1,16 +1,11 @@
-use Rattle.std.proofs.Common.{◌≡◌, inr, arith, to_z, of_z}
-use Rattle.std.specs.Int.{w64}
+use Rattle.std.proofs.Common.{◌≡◌, ◌∙◌, ap, inl, sym, arith, to_z, of_z}
+use Rattle.std.specs.Int.{w32, w64}
 use Rattle.std.proofs.lemmas.Int.{ints}
-use Rattle.pf_values.specs.declared.models.Model.TheVariants.{Lp64}
-use Rattle.fmtcanon_c.proofs.ComparingLemmas.{hindered, made}
+use Rattle.fmtcanon_c.specs.Models.{model_of}
 use Rattle.fmtcanon_c.proofs.comparing.fmtcanon_compare.Goals as goal
 
-pub returns-in-Ok : goal.returns-in-Ok
-returns-in-Ok c =
-    let code : to_z w64 (of_z w64 c.give.result) ≡ c.give.result = omega (arith, ints) in
-    rw code (made Lp64 c.args.first.now c.args.second.now c.args.out.now c.args.comparison.now c.args.error.now c.give.result c.give.new.out c.give.new.comparison c.in-Ok.found c.in-Ok.ensures c.give.ensures)
-
-pub returns-in-Err : goal.returns-in-Err
-returns-in-Err c =
-    let code : to_z w64 (of_z w64 c.fault_code.result) ≡ c.fault_code.result = omega (arith, ints) in
-    rw code (inr (hindered Lp64 c.args.first.now c.args.second.now c.args.out.now c.args.comparison.now c.args.error.now c.fault_code.new.error c.fault_code.result c.in-Err.fault c.in-Err.ensures c.fault_code.ensures))
+pub returns-in-Some : goal.returns-in-Some
+returns-in-Some c =
+    let number : c.args.model ≡ to_z w32 (of_z w32 c.args.model) = omega (arith, ints) in
+    let code : to_z w64 (of_z w64 c.compare_in.result) ≡ c.compare_in.result = omega (arith, ints) in
+    rw code (inl (c.in-Some.model, ap model_of number ∙ sym c.in-Some.ensures, c.compare_in.ensures))
