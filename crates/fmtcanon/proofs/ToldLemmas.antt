@@ -13,7 +13,8 @@ use Rattle.pf_values.specs.DataModel.{B8, B16, B32, B64, Bits, FitsIn, bit_count
 use Rattle.pf_values.proofs.Numerals.{place_sum-digits_of}
 use Rattle.pf_render.proofs.DigitLemmas.{decimal_glyphs}
 use Rattle.fmtcanon.specs.ArgumentWords.{SpellsArgument, SpellsMagnitude}
-use Rattle.fmtcanon.specs.Comparisons.{ToldIsRead, argument_word}
+use Rattle.fmtcanon.specs.Comparisons.{ToldIsRead}
+use Rattle.pf_compare.specs.Words.{argument_word}
 
 decimal_spells : (n : ℕ) → n < 2 ^ 64 → SpellsMagnitude (decimal n) n
 decimal_spells zero h = record {

@@ -1,13 +1,13 @@
 -- How a comparison is told. This project's own.
 use Rattle.std.specs.Prelude.{◌≡◌, ◌++◌, codes, decimal, flat_map}
-use Rattle.std.specs.Fmt.{signed_decimal}
 use Rattle.pf_values.specs.declared.models.Model.{Model}
 use Rattle.pf_values.specs.declared.models.Model.TheVariants.{Lp64, Ilp32}
 use Rattle.pf_values.specs.declared.types.ArgType.{ArgType}
-use Rattle.pf_values.specs.Arguments.{Argument, HasType, Number, String}
+use Rattle.pf_values.specs.Arguments.{Argument, HasType}
 use Rattle.pf_values.specs.Text.{Text}
 use Rattle.pf_compare.specs.Answers.{IsComparisonOf}
 use Rattle.pf_compare.specs.Owned.{argument_of_owned}
+use Rattle.pf_compare.specs.Words.{argument_word}
 use Rattle.pf_compare.specs.declared.verdicts.Comparison.{Comparison}
 use Rattle.pf_compare.specs.declared.verdicts.Verdict.{Verdict}
 use Rattle.pf_compare.specs.declared.verdicts.Verdict.TheVariants.{Same, Types, Args}
@@ -19,11 +19,6 @@ use Rattle.fmtcanon.specs.declared.models.Models.TheVariants.{One, Both}
 use Rattle.fmtcanon.specs.ArgumentWords.{SpellsArgument}
 use Rattle.fmtcanon.specs.Lines.{line}
 use Rattle.fmtcanon.specs.Models.{model_name}
-
--- the word that gives an argument
-abbrev pub argument_word : Argument → Text
-argument_word (Number n) = codes "n:" ++ signed_decimal n
-argument_word (String bytes) = codes "s:" ++ bytes
 
 -- it is read as that argument
 abbrev pub ToldIsRead : Model → Type 0

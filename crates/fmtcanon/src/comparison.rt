@@ -1,10 +1,8 @@
 //! How two formats compare, as lines.
-ghost use Rattle.std.specs.Fmt.{signed_decimal};
 ghost use Rattle.std.specs.Prelude.{◌≡◌, ◌<◌, ◌++◌, ◌^◌, IfOk, MatchResult, codes, decimal, flat_map};
-ghost use Rattle.pf_values.specs.Arg.{argument_of};
 ghost use Rattle.fmtcanon.specs.Answers.{HindersFormats};
 ghost use Rattle.pf_values.specs.declared.models.Model.TheVariants.{Lp64, Ilp32};
-ghost use Rattle.fmtcanon.specs.Comparisons.{IsComparisonAnswer, IsComparisonIn, IsComparisonInBoth, argument_line, argument_word, ending_of, ending_of_both, verdict_lines};
+ghost use Rattle.fmtcanon.specs.Comparisons.{IsComparisonAnswer, IsComparisonIn, IsComparisonInBoth, argument_line, ending_of, ending_of_both, verdict_lines};
 ghost use Rattle.fmtcanon.specs.Lines.{line};
 ghost use Rattle.fmtcanon.specs.Models.{model_name};
 
@@ -13,7 +11,7 @@ use crate::fault::Fault;
 use crate::models::Models;
 use itoa::Buffer;
 use pf_compare::{OwnedArg, Verdict, compare};
-use pf_values::{Arg, Model};
+use pf_values::Model;
 use std::alloc::{AllocError, Global};
 
 /// Whether two formats mean the same in a data model; else where their types differ, or arguments
@@ -122,38 +120,8 @@ fn argument_lines(alloc: Global, args: &[OwnedArg]) -> Result<Vec<u8>, AllocErro
 {
     let mut out = Vec::from_slice(alloc, b"different\n")?;
     for arg in args {
-        push_word(&mut out, arg.as_arg())?;
+        arg.push_word(&mut out)?;
         out.push(b'\n')?;
     }
     Ok(out)
-}
-
-// The word that gives an argument.
-fn push_word(out: &mut Vec<u8>, arg: Arg<'_>) -> Result<(), AllocError>
-    ensures { IfOk result
-        (λ _. out.new.items ≡ out.old.items ++ argument_word (argument_of arg.entry)) }
-{
-    if let Arg::Str(bytes) = arg {
-        return push_string(out, bytes.bytes());
-    }
-    match arg.number() {
-        Some(number) => push_number(out, number),
-        None => unreachable!(),
-    }
-}
-
-fn push_number(out: &mut Vec<u8>, number: i128) -> Result<(), AllocError>
-    ensures { IfOk result
-        (λ _. out.new.items ≡ out.old.items ++ (codes "n:" ++ signed_decimal number)) }
-{
-    let mut digits = Buffer::new();
-    out.extend_from_slice(b"n:")?;
-    out.extend_from_slice(digits.format(number).as_bytes())
-}
-
-fn push_string(out: &mut Vec<u8>, bytes: &[u8]) -> Result<(), AllocError>
-    ensures { IfOk result (λ _. out.new.items ≡ out.old.items ++ (codes "s:" ++ bytes.now)) }
-{
-    out.extend_from_slice(b"s:")?;
-    out.extend_from_slice(bytes)
 }

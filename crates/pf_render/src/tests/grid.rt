@@ -243,8 +243,22 @@ fn first_wrong_shape(
 }
 
 #[test]
-fn shapes_of_binary_numbers(rt: HostRuntime) -> Result<(), Fail> {
-    assert_eq!(rt; first_wrong_shape(rt.alloc(), &shapes::BARE)?, None);
-    assert_eq!(rt; first_wrong_shape(rt.alloc(), &shapes::FLAGGED)?, None);
+fn binary_numbers_without_a_prefix(rt: HostRuntime) -> Result<(), Fail> {
+    assert_eq!(rt; first_wrong_shape(rt.alloc(), &shapes::PLAIN)?, None);
+    assert_eq!(rt; first_wrong_shape(rt.alloc(), &shapes::LEFT)?, None);
+    Ok(())
+}
+
+#[test]
+fn binary_numbers_with_a_prefix(rt: HostRuntime) -> Result<(), Fail> {
+    assert_eq!(rt; first_wrong_shape(rt.alloc(), &shapes::PREFIXED)?, None);
+    assert_eq!(rt; first_wrong_shape(rt.alloc(), &shapes::PREFIXED_LEFT)?, None);
+    Ok(())
+}
+
+#[test]
+fn binary_numbers_with_zeros(rt: HostRuntime) -> Result<(), Fail> {
+    assert_eq!(rt; first_wrong_shape(rt.alloc(), &shapes::ZERO_FILLED)?, None);
+    assert_eq!(rt; first_wrong_shape(rt.alloc(), &shapes::PREFIXED_ZERO_FILLED)?, None);
     Ok(())
 }

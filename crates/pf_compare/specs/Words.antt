@@ -1,0 +1,10 @@
+-- The words by which the program takes arguments and tells them. This project's own.
+use Rattle.std.specs.Prelude.{◌++◌, codes}
+use Rattle.std.specs.Fmt.{signed_decimal}
+use Rattle.pf_values.specs.Arguments.{Argument, Number, String}
+use Rattle.pf_values.specs.Text.{Text}
+
+-- the word that gives an argument
+abbrev pub argument_word : Argument → Text
+argument_word (Number n) = codes "n:" ++ signed_decimal n
+argument_word (String bytes) = codes "s:" ++ bytes
