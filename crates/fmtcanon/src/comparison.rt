@@ -1,5 +1,5 @@
 //! How two formats compare, as lines.
-ghost use Rattle.std.specs.Prelude.{◌≡◌, ◌<◌, ◌++◌, ◌^◌, IfOk, MatchResult, codes, decimal, flat_map};
+ghost use Rattle.std.specs.Prelude.{◌≡◌, ◌<◌, ◌++◌, IfOk, MatchResult, codes, decimal, flat_map};
 ghost use Rattle.fmtcanon.specs.Answers.{HindersFormats};
 ghost use Rattle.pf_values.specs.declared.models.Model.TheVariants.{Lp64, Ilp32};
 ghost use Rattle.fmtcanon.specs.Comparisons.{IsComparisonAnswer, IsComparisonIn, IsComparisonInBoth, argument_line, ending_of, ending_of_both, verdict_lines};

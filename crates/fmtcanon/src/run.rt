@@ -1,5 +1,5 @@
 //! A run of the program.
-ghost use Rattle.std.specs.Prelude.{◌≡◌, map};
+ghost use Rattle.std.specs.Prelude.{map};
 ghost use Rattle.fmtcanon.specs.Outcomes.{outcome_of};
 ghost use Rattle.fmtcanon.specs.Runs.{Leaves, LeavesAnswer, LeavesBytes};
 

@@ -1,5 +1,4 @@
 //! The canonical string of what a reader hands out.
-ghost use Rattle.pf_values.specs.Counting.{device_of};
 ghost use Rattle.fmtcanon.specs.Streams.{LeavesCopy};
 
 use crate::outcome::Outcome;

@@ -3,7 +3,7 @@ ghost use Rattle.std.specs.Prelude.{◌≡◌, [], IfOk, IfErr, List, Some, code
 ghost use Rattle.clap.specs.Matches.{first_value};
 ghost use Rattle.clap.specs.Words.{found_of, kind_of, matched_of, raw_values};
 ghost use Rattle.pf_values.specs.Text.{Text};
-ghost use Rattle.fmtcanon.specs.Tasks.{Asks, HasValue, IsAnsweredBy, IsNoTaskOf, Names, rows_in};
+ghost use Rattle.fmtcanon.specs.Tasks.{Asks, IsAnsweredBy, IsNoTaskOf, Names, rows_in};
 
 use crate::command::definition;
 use crate::models::{Models, model_of, models_of};

@@ -1,5 +1,5 @@
 //! Putting bytes into the buffer of a caller.
-ghost use Rattle.std.specs.Prelude.{◌≡◌, ◌∷◌, [], ◌++◌, length, drop};
+ghost use Rattle.std.specs.Prelude.{◌≡◌, ◌∷◌, [], ◌++◌};
 ghost use Rattle.fmtcanon_c.specs.Buffers.{put};
 
 /// Puts bytes at the front of a buffer that has room for them, and leaves any other as it is.

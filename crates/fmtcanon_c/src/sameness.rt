@@ -14,12 +14,7 @@ use pf_values::Model;
 /// 1 where two formats have equal types and print equal bytes for all arguments, 0 where they
 /// don't, else the code of the refusal of one. It takes no memory.
 #[unsafe(no_mangle)]
-pub extern "C" fn fmtcanon_same(
-    model: i32,
-    first: &[u8],
-    second: &[u8],
-    error: &mut CError,
-) -> i64
+pub extern "C" fn fmtcanon_same(model: i32, first: &[u8], second: &[u8], error: &mut CError) -> i64
     ensures { InModel model (λ m. TellsSame m first.now second.now error.old result error.new)
         result (error.new ≡ error.old) }
 {

@@ -9,6 +9,7 @@ use crate::types::fmtcanon_types;
 use crate::version::fmtcanon_version;
 
 const LP64: i32 = 0;
+
 const ILP32: i32 = 1;
 
 fn untouched() -> CError {
@@ -74,7 +75,15 @@ fn calls_on_two_texts(rt: HostRuntime) {
     assert_eq!(rt; told.verdict, 3);
     assert_eq!(rt; told.number, 2);
     assert!(rt; told.renderings > 1);
-    let len = fmtcanon_compare(rt.alloc(), LP64, b"%d", b"%s", &mut out, &mut told, &mut error);
+    let len = fmtcanon_compare(
+        rt.alloc(),
+        LP64,
+        b"%d",
+        b"%s",
+        &mut out,
+        &mut told,
+        &mut error,
+    );
     assert_eq!(rt; len, 0);
     assert_eq!(rt; told.verdict, 2);
     assert_eq!(rt; told.number, 0);
@@ -133,9 +142,15 @@ fn calls_in_no_data_model(rt: HostRuntime) {
         renderings: 9,
     };
     assert_eq!(rt; fmtcanon_canonical_length(2, b"%y", &mut error), -101);
-    assert_eq!(rt; fmtcanon_canonical(rt.alloc(), -1, b"", &mut out, &mut error), -101);
+    assert_eq!(rt;
+        fmtcanon_canonical(rt.alloc(), -1, b"", &mut out, &mut error),
+        -101
+    );
     assert_eq!(rt; fmtcanon_is_canonical(64, b"%y", &mut error), -101);
-    assert_eq!(rt; fmtcanon_types(rt.alloc(), 32, b"%d", &mut out, &mut error), -101);
+    assert_eq!(rt;
+        fmtcanon_types(rt.alloc(), 32, b"%d", &mut out, &mut error),
+        -101
+    );
     assert_eq!(rt; fmtcanon_same(3, b"", b"", &mut error), -101);
     let len = fmtcanon_compare(rt.alloc(), 2, b"a", b"b", &mut out, &mut told, &mut error);
     assert_eq!(rt; len, -101);

@@ -30,13 +30,7 @@ pub extern "C" fn fmtcanon_types(
     }
 }
 
-fn put_types(
-    alloc: Global,
-    model: Model,
-    text: &[u8],
-    out: &mut [u8],
-    error: &mut CError,
-) -> i64
+fn put_types(alloc: Global, model: Model, text: &[u8], out: &mut [u8], error: &mut CError) -> i64
     ensures { PutsTypes model text.now out.old error.old result out.new error.new }
 {
     match signature(alloc, model, text) {

@@ -1,5 +1,5 @@
 //! Characters and strings.
-ghost use Rattle.std.specs.Prelude.{◌≡◌, ◌≤◌, ◌+◌, IfSome, Some};
+ghost use Rattle.std.specs.Prelude.{◌≡◌, ◌≤◌, IfSome, Some};
 ghost use Rattle.pf_values.specs.declared.conversions.Conv.TheVariants.{C, S};
 ghost use Rattle.pf_values.specs.Printing.{printed_front};
 ghost use Rattle.pf_values.specs.Specification.{width_of};

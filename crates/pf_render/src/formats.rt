@@ -1,6 +1,6 @@
 //! What a format prints for arguments.
 ghost use Rattle.std.specs.Prelude.{◌≤◌, length, map};
-ghost use Rattle.pf_values.specs.Arg.{argument_of, type_of};
+ghost use Rattle.pf_values.specs.Arg.{argument_of};
 ghost use Rattle.pf_values.specs.Arguments.{HasTypes};
 ghost use Rattle.pf_values.specs.Counting.{WritesUpTo};
 ghost use Rattle.pf_values.specs.Items.{types};

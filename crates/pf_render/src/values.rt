@@ -1,5 +1,5 @@
 //! The values that directives print for numbers.
-ghost use Rattle.std.specs.Prelude.{◌≡◌, IsFalse, true, false, ℕ, nat_abs};
+ghost use Rattle.std.specs.Prelude.{◌≡◌, IsFalse, true, false, nat_abs};
 ghost use Rattle.pf_values.specs.Arguments.{IsConverted, IsValue};
 ghost use Rattle.pf_values.specs.Conversions.{is_text};
 ghost use Rattle.pf_values.specs.DataModel.{Bits, bit_count};

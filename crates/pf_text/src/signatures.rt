@@ -1,6 +1,5 @@
 //! The argument types of formats.
 ghost use Rattle.std.specs.Prelude.{◌≡◌, ◌↔◌, [], IsTrue, length, slice_get};
-ghost use Rattle.std.specs.Option.{option_copied};
 ghost use Rattle.pf_text.specs.Signatures.{types_of};
 
 use pf_values::ArgType;

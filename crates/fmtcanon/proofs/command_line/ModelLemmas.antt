@@ -1,13 +1,11 @@
 -- The data models that clap's rows name.
-use Rattle.std.proofs.Common.{◌≡◌, ◌∙◌, Bor, List, Option, ap, codes, option_map, sym}
+use Rattle.std.proofs.Common.{◌≡◌, ◌∙◌, Bor, Option, ap, codes, option_map, sym}
 use Rattle.clap.specs.Matches.{first_value, found_of}
 use Rattle.clap.specs.Walk.{Text, first_of}
 use Rattle.clap.specs.declared.parser.matches.ArgMatches.{ArgMatches}
 use Rattle.clap.proofs.WalkLemmas.{first_value-rows}
-use Rattle.pf_values.specs.declared.models.Model.{Model}
 use Rattle.fmtcanon.specs.Models.{model_in, model_of_value, models_in, models_of_value}
 use Rattle.fmtcanon.specs.Tasks.{rows_in}
-use Rattle.fmtcanon.specs.declared.models.Models.{Models}
 
 -- what is made of the first value of an argument
 value_of_row : {A : Type 0} (f : Option Text → A) (inner : ArgMatches) (found o : Option (Bor Text)) → option_map (λ s. s.now) found ≡ first_value (found_of inner) (codes "model")

@@ -252,13 +252,19 @@ fn binary_numbers_without_a_prefix(rt: HostRuntime) -> Result<(), Fail> {
 #[test]
 fn binary_numbers_with_a_prefix(rt: HostRuntime) -> Result<(), Fail> {
     assert_eq!(rt; first_wrong_shape(rt.alloc(), &shapes::PREFIXED)?, None);
-    assert_eq!(rt; first_wrong_shape(rt.alloc(), &shapes::PREFIXED_LEFT)?, None);
+    assert_eq!(rt;
+        first_wrong_shape(rt.alloc(), &shapes::PREFIXED_LEFT)?,
+        None
+    );
     Ok(())
 }
 
 #[test]
 fn binary_numbers_with_zeros(rt: HostRuntime) -> Result<(), Fail> {
     assert_eq!(rt; first_wrong_shape(rt.alloc(), &shapes::ZERO_FILLED)?, None);
-    assert_eq!(rt; first_wrong_shape(rt.alloc(), &shapes::PREFIXED_ZERO_FILLED)?, None);
+    assert_eq!(rt;
+        first_wrong_shape(rt.alloc(), &shapes::PREFIXED_ZERO_FILLED)?,
+        None
+    );
     Ok(())
 }
