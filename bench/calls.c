@@ -2,7 +2,7 @@
  * half a processor second, and writes how many such calls take one processor second.
  *
  *   calls CALL FILE            a call of libfmtcanon in LP64, or parse_printf_format
- *   calls process FILE WORD..  the words as a process, with the format behind them
+ *   calls process FILE WORD..  the words as a process, with the format after them
  *
  * The time of a process is its own and that of this program. */
 #define _GNU_SOURCE

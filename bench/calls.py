@@ -4,7 +4,7 @@
 Usage: bench/calls.py PROGRAM FOLDER [FILE]
 
 FOLDER has libfmtcanon.a and libfmtcanon.so.0, as `make library` leaves them. FILE has formats, each with a zero byte
-behind it; it is bench/shapes.nul where it isn't given. Each figure is the best of five. `same`, `same_models` and
+after it; it is bench/shapes.nul where it isn't given. Each figure is the best of five. `same`, `same_models` and
 `compare` take each format beside itself. It needs gcc.
 """
 

@@ -1,5 +1,5 @@
 /* Writes the canonical text of each format that it is given, or why there is none. It is that of the
- * data model LP64, or of ILP32 behind the word --ilp32. */
+ * data model LP64, or of ILP32 after the word --ilp32. */
 #include <fmtcanon.h>
 #include <stdio.h>
 #include <stdlib.h>

@@ -1,6 +1,6 @@
 /* fmtcanon: canonical texts of printf formats, and whether one may stand for another.
  *
- * A format is `len` bytes at `text`, and no byte behind them is read: it needs no zero at its end,
+ * A format is `len` bytes at `text`, and no byte after them is read: it needs no zero at its end,
  * and a zero byte inside it is refused. What a call answers is proved of the code that makes it; the
  * source's docs/C.md says what that means, and has examples.
  *
@@ -14,7 +14,7 @@
  * Only a refusal changes `*error`.
  *
  * Buffers. `out` is written only where all of the answer has room in its `cap` bytes; else it is
- * left as it was, and so is every byte behind the answer. The result is the same either way. So a
+ * left as it was, and so is every byte after the answer. The result is the same either way. So a
  * call with `cap` 0 asks how much room is wanted, and the next one, with that room, fills it.
  *
  * What the caller owes. `error` and `comparison` aren't NULL and are aligned. `text` and `out` may
@@ -125,12 +125,12 @@ int64_t fmtcanon_check(const char *text, size_t len, fmtcanon_error *error);
 /* 1 where the format is its own canonical text, 0 where it isn't. Takes no memory. */
 int64_t fmtcanon_is_canonical(int model, const char *text, size_t len, fmtcanon_error *error);
 
-/* The length of the canonical text, without a zero behind it. Takes no memory; it is the way to ask
+/* The length of the canonical text, without a zero after it. Takes no memory; it is the way to ask
  * how much room fmtcanon_canonical() wants: one byte more. FMTCANON_ERROR_NOMEMORY for a length
  * of 2^63 or more. */
 int64_t fmtcanon_canonical_length(int model, const char *text, size_t len, fmtcanon_error *error);
 
-/* The length of the canonical text, which is put into `out` with a zero behind it. There is room
+/* The length of the canonical text, which is put into `out` with a zero after it. There is room
  * where the length is below `cap`. Takes memory of that length. */
 int64_t fmtcanon_canonical(int model, const char *text, size_t len, char *out, size_t cap,
                            fmtcanon_error *error);
@@ -152,7 +152,7 @@ int64_t fmtcanon_same_models(const char *first, size_t first_len, const char *se
 
 /* Compares two formats, and tells `*comparison` what they are to each other. For
  * FMTCANON_DIFFERENT the words of arguments for which they print different bytes are put into
- * `out`, each with a zero behind it: `n:` and a decimal number, or `s:` and the bytes of a string.
+ * `out`, each with a zero after it: `n:` and a decimal number, or `s:` and the bytes of a string.
  * These are the words that the commands `fmtcanon same` and `fmtcanon format` use. The result is
  * how many bytes the words and the zeros are, 0 where none are given. Where it is an error,
  * `*comparison` is left as it was. Takes memory only for FMTCANON_DIFFERENT. */
@@ -160,7 +160,7 @@ int64_t fmtcanon_compare(int model, const char *first, size_t first_len, const c
                          size_t second_len, char *out, size_t cap,
                          fmtcanon_comparison *comparison, fmtcanon_error *error);
 
-/* The length of the name of a kind, as `Star`, which is put into `out` with a zero behind it; 0 for
+/* The length of the name of a kind, as `Star`, which is put into `out` with a zero after it; 0 for
  * a number that is no kind's. No name is longer than 18 bytes. Takes no memory. */
 uint64_t fmtcanon_kind_name(uint32_t kind, char *out, size_t cap);
 
