@@ -144,8 +144,8 @@ pub record Compares (model : Model) (f g out : Text) (error : CError) (code : �
   pub error_is : error_now ≡ error
 
 -- nothing was put or told: one text is refused, or memory is out
-pub record ComparesNot (model : Model) (f g out : Text) (told : CComparison) (error : CError) (code : ℤ)
-    (out_now : Text) (told_now : CComparison) (error_now : CError) : Type 0 where
+pub record ComparesNot (model : Model) (f g out : Text) (told : CComparison) (error : CError)
+    (code : ℤ) (out_now : Text) (told_now : CComparison) (error_now : CError) : Type 0 where
   pub out_is : out_now ≡ out
   pub told_is : told_now ≡ told
   pub why : IsOneRefusedBy f g code error_now

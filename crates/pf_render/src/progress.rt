@@ -74,7 +74,8 @@ fn write_part<W: Write>(
     own: &[Arg<'_>],
     writer: &mut Counted<W>,
 ) -> Result<usize, ShortWrite>
-    requires typed { HasTypes model (map argument_of own.now) (types model (items_of_part part.now)) }
+    requires typed { HasTypes model (map argument_of own.now)
+        (types model (items_of_part part.now)) }
     ensures { (out : Text) × PrintsAll model (items_of_part part.now) (map argument_of own.now) out
         × WritesCounted W.contents writer.old writer.new out result }
 {

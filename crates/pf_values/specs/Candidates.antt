@@ -9,7 +9,8 @@ use Rattle.pf_values.specs.DataModel.{Bits, bit_count, type_bits}
 
 -- the greatest number of so many bits, and 3, by which binary numbers are told
 abbrev pub unsigned_candidates : Bits → List Argument
-unsigned_candidates bits = map Number (pos 0 ∷ pos 1 ∷ pos 2 ∷ pos (2 ^ bit_count bits - 1) ∷ pos 3 ∷ [])
+unsigned_candidates bits =
+    map Number (pos 0 ∷ pos 1 ∷ pos 2 ∷ pos (2 ^ bit_count bits - 1) ∷ pos 3 ∷ [])
 
 -- the least and the greatest number of so many bits last
 abbrev pub signed_candidates : Bits → List Argument
