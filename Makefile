@@ -3,6 +3,7 @@
 #                        and the library are tried
 # make check-more        tries the library with tools that the gate doesn't want: clang, valgrind,
 #                        polib, and the shells of the completions
+# make wrong-bodies      tries the wrong bodies that the gate leaves out
 # make install PREFIX=   installs the program, the C library, the manual page and the completions;
 #                        below DESTDIR=, where that is given
 
@@ -30,7 +31,7 @@ CPU = x86-64
 JOBS = $(shell awk -v n="$$(nproc)" '/^MemAvailable/ { m = int($$2 / 4000000); \
     if (m > n) m = n; if (m < 1) m = 1; print m }' /proc/meminfo)
 
-.PHONY: all program library archive test gate trials check-more tools c-tools install
+.PHONY: all program library archive test gate trials check-more wrong-bodies tools c-tools install
 
 all: program library
 
@@ -91,6 +92,9 @@ trials: program library
 
 check-more: program library $(C)/second.a
 	python3 tests/more.py $(PROGRAM) $(C)
+
+wrong-bodies: tools
+	python3 tests/wrong_bodies.py
 
 # A tool that is missing is told, and fails.
 tools:

@@ -2,9 +2,10 @@
    cc -w -o grid docs/grid.c; ./grid short di; ./grid short u; ./grid short o; ./grid short xX;
    ./grid short b; ./grid long diu; ./grid long oxXb (with a width or a precision of 4,095). It takes
    a library that has C23's `b`.
-   A row is a format, the bits of its values, and what is printed of 0, 1, -1 and of the least and the
-   greatest number of so many bits. A long row has for the five of them what comes before the longest run
-   of one byte, that byte, how often it stands there, and what comes behind. */
+   A row is a line: a format, the bits of its values, and what is printed of 0, 1, -1 and of the least
+   and the greatest number of so many bits, with `|` after each. A long row has the byte that stands
+   many times, and then for each of the five what comes before its longest run, how often it stands
+   there, and what comes after, with `~` between. */
 #include <stdint.h>
 #include <stdio.h>
 #include <string.h>
@@ -45,19 +46,16 @@ static size_t longest_run(const char *out, size_t *at) {
 }
 
 static void short_row(char out[5][8192]) {
-    for (int i = 0; i < 5; i++) printf("%s\"%s\"", i ? ", " : "[", out[i]);
-    printf("]),\n");
+    for (int i = 0; i < 5; i++) printf("%s|", out[i]);
+    printf("\n");
 }
 
 static void long_row(char out[5][8192]) {
     size_t at[5] = {0}, run[5];
     for (int i = 0; i < 5; i++) run[i] = longest_run(out[i], &at[i]);
-    for (int i = 0; i < 5; i++) printf("%s\"%.*s\"", i ? ", " : "[", (int)at[i], out[i]);
-    printf("], b'%c', ", out[0][at[0]]);
-    for (int i = 0; i < 5; i++) printf("%s%zu", i ? ", " : "[", run[i]);
-    printf("], ");
-    for (int i = 0; i < 5; i++) printf("%s\"%s\"", i ? ", " : "[", out[i] + at[i] + run[i]);
-    printf("]),\n");
+    printf("%c|", out[0][at[0]]);
+    for (int i = 0; i < 5; i++) printf("%.*s~%zu~%s|", (int)at[i], out[i], run[i], out[i] + at[i] + run[i]);
+    printf("\n");
 }
 
 static void table(char conv, int is_long) {
@@ -73,7 +71,7 @@ static void table(char conv, int is_long) {
             int64_t least = bits[l] == 64 ? INT64_MIN : -half;
             int64_t values[] = {0, 1, -1, least, -(least + 1)};
             for (int i = 0; i < 5; i++) print(out[i], sizeof out[i], format, l, is_signed, values[i]);
-            printf("    (\"%s\", %d, ", format, bits[l]);
+            printf("%s|%d|", format, bits[l]);
             if (is_long) long_row(out); else short_row(out);
         }
 }

@@ -19,15 +19,8 @@ from pathlib import Path
 TOP = Path(__file__).resolve().parent.parent
 DOCUMENTS = ["README.md", "docs/USING.md", "docs/REFUSALS.md"]
 TIMEOUT = 60
-# A command, the file of its rows from a model of the program, and the tables in it that are, where not all are.
-MODEL_ROWS = [
-    ("canon", "canonicals", None),
-    ("same", "sames", None),
-    ("format", "formats", ["MODEL_PRINTED", "MODEL_STOPPED"]),
-    ("show", "shows", None),
-    ("stream", "stream_rows", None),
-    ("types", "types", None),
-]
+# The commands with rows of a model of the program.
+MODEL_COMMANDS = ["canon", "same", "format", "show", "stream", "types"]
 
 
 # Names in the documents that are none of this repository's: of C and its library, of other tools and of the kit, and
@@ -64,10 +57,14 @@ def run(program, words, stdin=b"", **devices):
     return done.returncode, done.stdout, done.stderr
 
 
-def try_rows(program, trials):
+def model_rows():
     """Rows of a model of the program that shares no code with it."""
-    for line in (TOP / "tests/commands.jsonl").read_text(encoding="utf-8").splitlines():
-        row = json.loads(line)
+    return [json.loads(line) for line in (TOP / "tests/commands.jsonl").read_text(encoding="utf-8").splitlines()]
+
+
+def try_rows(program, trials):
+    """The program answers as that model does."""
+    for row in model_rows():
         status, stdout, stderr = run(program, row["words"], row.get("stdin", "").encode("latin-1"))
         wanted_out = row["stdout"].encode("latin-1")
         wanted_err = stderr if row["stderr"] is None else row["stderr"].encode()
@@ -187,9 +184,10 @@ def try_devices(program, trials):
 
 
 def table_rows(path, names=None):
-    """How many rows the tables of a test file have; of these names, or of all."""
+    """How many rows the tables of a test file have, of these names or of all: arrays, and texts with a row a line."""
     text = (TOP / "crates" / path).read_text(encoding="utf-8")
     tables = re.findall(r"(\w+): \[[^;=]*; (\d+)\] = \[", text)
+    tables += [(name, rows.count("\n")) for name, rows in re.findall(r'static (\w+): &str = "\\(\n[^"]*)";', text)]
     return sum(int(rows) for name, rows in tables if names is None or name in names)
 
 
@@ -216,8 +214,9 @@ def told_counts():
     yield r"(\d+) rows out of other programs' test suites, (\d+) worked rows", [table_rows("pf_render/src/tests/vectors.rt"), table_rows("pf_render/src/tests/rows.rt")]
     yield r"(\d+) directives and what they are reduced to .* up to (\d+) numbers", [table_rows("fmtcanon/src/tests/reductions.rt", [name]) for name in ["DIRECTIVES", "INTS"]]
     yield r"(\d+) worked canonical texts", [table_rows("pf_canon/src/tests.rt", ["DIRECTIVES", "FORMATS"])]
-    for command, file, names in MODEL_ROWS:
-        yield rf"(\d+)(?: rows)? of `{command}`", [table_rows(f"fmtcanon/src/tests/{file}.rt", names)]
+    commands = [row["words"][0] for row in model_rows()]
+    for command in MODEL_COMMANDS:
+        yield rf"(\d+)(?: rows)? of `{command}`", [commands.count(command)]
     yield r"(\d+) rows of whole formats", [table_rows("pf_render/src/tests/formats.rt")]
     yield r"(\d+) normal directives of int and (\d+) of the other types.* (\d+) pairs, each", [sum(grid_sizes(True)), sum(grid_sizes(False)), sum(map(pairs_of, sizes))]
     yield r"(\d+) forms of int, (\d+) pairs", [forms, pairs_of(forms)]

@@ -1,22 +1,16 @@
 //! Runs of the program, and what it reports.
 
 mod canon_rows;
-mod canonicals;
 mod cuts;
 mod devices;
 mod exhaustion;
 mod formats;
 mod growths;
 mod memory;
-mod model_rooms;
 mod reductions;
 mod rooms;
-mod sames;
-mod shows;
 mod sizes;
-mod stream_rows;
 mod streams;
-mod types;
 mod written_rows;
 
 use self::written_rows::{
@@ -115,23 +109,6 @@ fn first_unanswered(alloc: Global, command: &str, rows: &[(&str, &str)]) -> Opti
     None
 }
 
-// Whether a run ends well and writes this.
-fn is_done(alloc: Global, words: &[&str], want: &str) -> bool {
-    let (outcome, written) = ran(alloc, words);
-    matches!(outcome, Outcome::Done) && written.as_slice() == want.as_bytes()
-}
-
-// The first row with which a command doesn't end well.
-fn first_undone(alloc: Global, command: &str, rows: &[(&str, &str)]) -> Option<usize> {
-    for (at, (format, want)) in rows.iter().enumerate() {
-        let words = [command, *format];
-        if !is_done(alloc, words.as_slice(), want) {
-            return Some(at);
-        }
-    }
-    None
-}
-
 #[rattlefmt::skip]
 static TYPES_REFUSED: [Line; 3] = [
     ("%*d", "refused 5 Star at byte 1\n"),
@@ -143,15 +120,6 @@ static TYPES_REFUSED: [Line; 3] = [
 fn types_writes_a_line_for_each_argument(rt: HostRuntime) {
     assert_eq!(rt; first_unwritten(rt.alloc(), &TYPE_LINES), None);
     assert_eq!(rt; first_unanswered(rt.alloc(), "types", &TYPES_REFUSED), None);
-}
-
-#[test]
-fn types_answers_as_the_model(rt: HostRuntime) {
-    assert_eq!(rt; first_undone(rt.alloc(), "types", &types::TYPES), None);
-    assert_eq!(rt;
-        first_unanswered(rt.alloc(), "types", &types::REFUSED),
-        None
-    );
 }
 
 #[rattlefmt::skip]
@@ -168,28 +136,6 @@ fn show_writes_a_line_for_each_part(rt: HostRuntime) {
     assert_eq!(rt; first_unanswered(rt.alloc(), "show", &SHOW_REFUSED), None);
 }
 
-#[test]
-fn show_answers_as_the_model(rt: HostRuntime) {
-    assert_eq!(rt; first_undone(rt.alloc(), "show", &shows::SHOWS), None);
-    assert_eq!(rt; first_unanswered(rt.alloc(), "show", &shows::REFUSED), None);
-}
-
-#[test]
-fn canon_answers_as_the_model(rt: HostRuntime) {
-    assert_eq!(rt;
-        first_unanswered(rt.alloc(), "canon", &canonicals::CANONICALS),
-        None
-    );
-    assert_eq!(rt;
-        first_unanswered(rt.alloc(), "canon", &canonicals::MORE_CANONICALS),
-        None
-    );
-    assert_eq!(rt;
-        first_unanswered(rt.alloc(), "canon", &canonicals::REFUSED),
-        None
-    );
-}
-
 #[rattlefmt::skip]
 static SAME_REFUSED: [(&str, &str, &str); 3] = [
     ("%y", "%z", "first: refused 3 Unexpected at byte 1\n"),
@@ -201,22 +147,9 @@ static SAME_REFUSED: [(&str, &str, &str); 3] = [
 fn same_tells_whether_one_may_stand_for_the_other(rt: HostRuntime) {
     assert_eq!(rt; first_unwritten(rt.alloc(), &SAME_LINES), None);
     assert_eq!(rt; first_unwritten(rt.alloc(), &MORE_SAME_LINES), None);
-    assert!(rt; all_answer(rt.alloc(), &SAME_REFUSED));
-}
-
-#[test]
-fn same_answers_as_the_model(rt: HostRuntime) {
-    assert!(rt; all_answer(rt.alloc(), &sames::SAME));
-    assert!(rt; all_answer(rt.alloc(), &sames::DIFFERENT));
-    assert!(rt; all_answer(rt.alloc(), &sames::MORE_DIFFERENT));
-    assert!(rt; all_answer(rt.alloc(), &sames::REFUSED));
-}
-
-// Whether `same` answers each row.
-fn all_answer(alloc: Global, rows: &[(&str, &str, &str)]) -> bool {
-    rows.iter().all(|(first, second, want)| {
-        answers(alloc, ["same", *first, *second].as_slice(), want)
-    })
+    for (first, second, want) in &SAME_REFUSED {
+        assert!(rt; answers(rt.alloc(), ["same", *first, *second].as_slice(), want));
+    }
 }
 
 // No precision is as long as the strings that tell `%s` from the longest one.

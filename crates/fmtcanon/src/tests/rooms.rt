@@ -127,22 +127,6 @@ fn is_exact(alloc: Global, row: Row<'_>) -> bool {
     true
 }
 
-/// The same of a device that is interrupted where it is full.
-pub(super) fn is_exact_at_interrupts(
-    alloc: Global,
-    words: &[&str],
-    input: &[u8],
-    want: &[u8],
-) -> bool {
-    let row = (words, input, want);
-    for step in STEPS {
-        if !is_cut(alloc, row, step, ErrorKind::Interrupted) || !is_whole(alloc, row, step) {
-            return false;
-        }
-    }
-    true
-}
-
 // The first row that isn't exact.
 fn first_wrong(alloc: Global, rows: &[Written]) -> Option<usize> {
     for (at, row) in rows.iter().enumerate() {

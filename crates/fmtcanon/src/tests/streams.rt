@@ -1,7 +1,5 @@
 //! The command `stream`: its rows, in cuts of some lengths, over readers and writers that fail.
 use super::devices::Watched;
-use super::report_of;
-use super::stream_rows::{DONE, REFUSED};
 use super::written_rows::{STREAMED, UNFINISHED};
 use crate::outcome::Outcome;
 use crate::run::run;
@@ -41,19 +39,6 @@ fn is_done(alloc: Global, bytes: &[u8], want: &[u8]) -> bool {
     true
 }
 
-// Whether a text is refused in cuts of each length, and this is written and reported.
-fn is_refused(alloc: Global, bytes: &[u8], want: &[u8], line: &str) -> bool {
-    for step in STEPS {
-        let (outcome, written) = stream_over(alloc, bytes, step, None);
-        let told = report_of(alloc, &outcome);
-        let is_told = outcome.status() == 2 && told.as_slice() == line.as_bytes();
-        if !is_told || written.as_slice() != want {
-            return false;
-        }
-    }
-    true
-}
-
 // Whether a text is refused at this byte in cuts of each length, and this is written.
 fn is_refused_at(alloc: Global, bytes: &[u8], want: &[u8], at: u64) -> bool {
     for step in STEPS {
@@ -63,16 +48,6 @@ fn is_refused_at(alloc: Global, bytes: &[u8], want: &[u8], at: u64) -> bool {
         }
     }
     true
-}
-
-#[test]
-fn stream_answers_as_the_model(rt: HostRuntime) {
-    for (at, (bytes, want)) in DONE.iter().enumerate() {
-        assert!(rt; is_done(rt.alloc(), bytes, want), "{at}");
-    }
-    for (bytes, want, line) in &REFUSED {
-        assert!(rt; is_refused(rt.alloc(), bytes, want, line), "{line}");
-    }
 }
 
 #[test]

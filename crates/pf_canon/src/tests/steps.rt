@@ -1,6 +1,6 @@
 //! Two texts, compared in step.
 use super::devices::{feed_that_fails, has_left, whole};
-use super::{DIRECTIVES, FORMATS};
+use super::{directives, formats};
 use crate::{Side, SideFault, StreamFault, same_stream, same_text};
 use pf_text::Refusal;
 use pf_values::{Counted, Model, RefusalKind};
@@ -54,11 +54,11 @@ fn told_from(
 
 #[test]
 fn formats_of_one_canonical_text_are_the_same(rt: HostRuntime) {
-    for (format, text) in DIRECTIVES {
-        assert_eq!(rt; told_from(format, text, &DIRECTIVES), None, "{format}");
+    for (format, text) in directives() {
+        assert_eq!(rt; told_from(format, text, directives()), None, "{format}");
     }
-    for (format, text) in FORMATS {
-        assert_eq!(rt; told_from(format, text, &FORMATS), None, "{format}");
+    for (format, text) in formats() {
+        assert_eq!(rt; told_from(format, text, formats()), None, "{format}");
         assert!(rt; all_answer(format, text, Ok(true)), "{format}");
     }
 }

@@ -6,6 +6,7 @@ use crate::render_vec;
 use pf_text::spell;
 use pf_values::{ArgType, Directive, Length, Model};
 use std::alloc::{AllocError, Global};
+use std::str::SplitTerminator;
 use std::test::Fail;
 
 mod binary;
@@ -16,24 +17,84 @@ mod shapes;
 mod signed;
 mod unsigned;
 
-// A format, the bits of its values, and what is printed of 0, 1, -1, and the least and the greatest
-// number of so many bits.
-type ShortRow = (&'static str, u32, [&'static str; 5]);
+// The tables of short texts.
+fn short() -> [&'static str; 5] {
+    [
+        signed::SIGNED,
+        unsigned::UNSIGNED,
+        octal::OCTAL,
+        hexadecimal::HEXADECIMAL,
+        binary::BINARY,
+    ]
+}
 
-// The same, where a byte stands many times: for each number what comes before, that byte, how often
-// it stands there, and what comes after.
-type LongRow = (
-    &'static str,
-    u32,
-    [&'static str; 5],
-    u8,
-    [usize; 5],
-    [&'static str; 5],
-);
+// A line of a table: a format, the bits of its values, and what is printed of each number.
+#[derive(Clone, Copy, Debug)]
+struct Row<'a> {
+    format: &'a str,
+    directive: Directive,
+    bits: u32,
+    // with `|` after each
+    texts: &'a str,
+}
 
-// A format, the bits of its values, and what is printed of 0, 1, 2, 5, 255, and the number whose
-// bits are all ones.
-type ShapeRow = (&'static str, u32, [&'static str; 6]);
+impl<'a> Row<'a> {
+    fn read(line: &'a str) -> Option<Row<'a>> {
+        let (format, rest) = line.split_once('|')?;
+        let (bits, texts) = rest.split_once('|')?;
+        Some(Row {
+            format,
+            directive: directive_of(format)?,
+            bits: bits.parse::<u32>().ok()?,
+            texts,
+        })
+    }
+
+    // The text of each number, where there are as many of both.
+    fn texts_of(&self, numbers: &[i128]) -> Option<SplitTerminator<'a, char>> {
+        let texts = self.texts.split_terminator('|');
+        (self.texts.split_terminator('|').count() == numbers.len()).then_some(texts)
+    }
+
+    // Whether each of the numbers is printed so.
+    fn is_printed(&self, alloc: Global, numbers: &[i128]) -> Result<bool, AllocError> {
+        let Some(texts) = self.texts_of(numbers) else {
+            return Ok(false);
+        };
+        for (number, text) in numbers.iter().zip(texts) {
+            if !prints(alloc, self.format, *number, text)? {
+                return Ok(false);
+            }
+        }
+        Ok(true)
+    }
+
+    // Whether the directive under another modifier prints this of the numbers in ILP32.
+    fn is_printed_in_ilp32(&self, alloc: Global, length: Length, numbers: &[i128]) -> bool {
+        let Some(texts) = self.texts_of(numbers) else {
+            return false;
+        };
+        for (number, text) in numbers.iter().zip(texts) {
+            if !prints_in_ilp32(alloc, &self.directive, length, *number, text) {
+                return false;
+            }
+        }
+        true
+    }
+
+    // Whether each text is written just as far as there is room.
+    fn is_exact(&self, numbers: &[i128]) -> bool {
+        let Some(texts) = self.texts_of(numbers) else {
+            return false;
+        };
+        for (number, text) in numbers.iter().zip(texts) {
+            if !is_exact_at_interrupts(&self.directive, *number, text.as_bytes()) {
+                return false;
+            }
+        }
+        true
+    }
+}
 
 // The five numbers, as arguments of the directive: an unsigned type has those of the same bits.
 fn numbers(directive: &Directive, bits: u32) -> [i128; 5] {
@@ -49,31 +110,21 @@ fn numbers(directive: &Directive, bits: u32) -> [i128; 5] {
     [0, 1, minus_one, least, half - 1]
 }
 
-// The first row of which something else is printed, with its number.
-fn first_wrong(
-    alloc: Global,
-    table: &[ShortRow],
-) -> Result<Option<(&'static str, i128)>, AllocError> {
-    for (format, bits, texts) in table {
-        let Some(directive) = directive_of(format) else {
-            return Ok(Some((*format, 0)));
-        };
-        for (number, text) in numbers(&directive, *bits).iter().zip(texts) {
-            if !prints(alloc, format, *number, text)? {
-                return Ok(Some((*format, *number)));
-            }
-        }
+// Whether this is printed of 0, 1, -1, and the least and the greatest number of so many bits.
+fn is_printed(alloc: Global, line: &str) -> Result<bool, AllocError> {
+    match Row::read(line) {
+        Some(row) => row.is_printed(alloc, &numbers(&row.directive, row.bits)),
+        None => Ok(false),
     }
-    Ok(None)
 }
 
 #[test]
 fn short_rows(rt: HostRuntime) -> Result<(), Fail> {
-    assert_eq!(rt; first_wrong(rt.alloc(), &signed::SIGNED)?, None);
-    assert_eq!(rt; first_wrong(rt.alloc(), &unsigned::UNSIGNED)?, None);
-    assert_eq!(rt; first_wrong(rt.alloc(), &octal::OCTAL)?, None);
-    assert_eq!(rt; first_wrong(rt.alloc(), &hexadecimal::HEXADECIMAL)?, None);
-    assert_eq!(rt; first_wrong(rt.alloc(), &binary::BINARY)?, None);
+    for table in short() {
+        for line in table.lines() {
+            assert!(rt; is_printed(rt.alloc(), line)?, "{line}");
+        }
+    }
     Ok(())
 }
 
@@ -124,58 +175,44 @@ fn prints_in_ilp32(
     }
 }
 
-// The first row of which something else is printed in ILP32, with its number.
-fn first_wrong_in_ilp32(alloc: Global, table: &[ShortRow]) -> Option<(&'static str, i128)> {
-    for (format, bits, texts) in table {
-        let Some(directive) = directive_of(format) else {
-            return Some((*format, 0));
-        };
-        for length in alike_in_ilp32(directive.length()) {
-            for (number, text) in numbers(&directive, *bits).iter().zip(texts) {
-                if !prints_in_ilp32(alloc, &directive, *length, *number, text) {
-                    return Some((*format, *number));
-                }
-            }
+// Whether this is printed in ILP32, under each modifier.
+fn is_printed_in_ilp32(alloc: Global, line: &str) -> bool {
+    let Some(row) = Row::read(line) else {
+        return false;
+    };
+    let numbers = numbers(&row.directive, row.bits);
+    for length in alike_in_ilp32(row.directive.length()) {
+        if !row.is_printed_in_ilp32(alloc, *length, &numbers) {
+            return false;
         }
     }
-    None
+    true
 }
 
 #[test]
 fn short_rows_in_ilp32(rt: HostRuntime) {
-    let alloc = rt.alloc();
-    assert_eq!(rt; first_wrong_in_ilp32(alloc, &signed::SIGNED), None);
-    assert_eq!(rt; first_wrong_in_ilp32(alloc, &unsigned::UNSIGNED), None);
-    assert_eq!(rt; first_wrong_in_ilp32(alloc, &octal::OCTAL), None);
-    assert_eq!(rt;
-        first_wrong_in_ilp32(alloc, &hexadecimal::HEXADECIMAL),
-        None
-    );
-    assert_eq!(rt; first_wrong_in_ilp32(alloc, &binary::BINARY), None);
-}
-
-// The first row whose text isn't written just as far as there is room.
-fn first_inexact(table: &[ShortRow]) -> Option<(&'static str, i128)> {
-    for (format, bits, texts) in table {
-        let Some(directive) = directive_of(format) else {
-            return Some((*format, 0));
-        };
-        for (number, text) in numbers(&directive, *bits).iter().zip(texts) {
-            if !is_exact_at_interrupts(&directive, *number, text.as_bytes()) {
-                return Some((*format, *number));
-            }
+    for table in short() {
+        for line in table.lines() {
+            assert!(rt; is_printed_in_ilp32(rt.alloc(), line), "{line}");
         }
     }
-    None
+}
+
+// Whether each text is written just as far as there is room.
+fn is_exact(line: &str) -> bool {
+    match Row::read(line) {
+        Some(row) => row.is_exact(&numbers(&row.directive, row.bits)),
+        None => false,
+    }
 }
 
 #[test]
 fn each_room_for_short_rows(rt: HostRuntime) {
-    assert_eq!(rt; first_inexact(&signed::SIGNED), None);
-    assert_eq!(rt; first_inexact(&unsigned::UNSIGNED), None);
-    assert_eq!(rt; first_inexact(&octal::OCTAL), None);
-    assert_eq!(rt; first_inexact(&hexadecimal::HEXADECIMAL), None);
-    assert_eq!(rt; first_inexact(&binary::BINARY), None);
+    for table in short() {
+        for line in table.lines() {
+            assert!(rt; is_exact(line), "{line}");
+        }
+    }
 }
 
 // Whether a text is `head`, the byte so many times, and `tail`.
@@ -189,29 +226,44 @@ fn is_run(text: &[u8], head: &str, byte: u8, count: usize, tail: &str) -> bool {
     run.len() == count && run.iter().all(|each| *each == byte)
 }
 
-fn first_wrong_run(
-    alloc: Global,
-    table: &[LongRow],
-) -> Result<Option<(&'static str, i128)>, AllocError> {
-    for (format, bits, heads, byte, counts, tails) in table {
-        let Some(directive) = directive_of(format) else {
-            return Ok(Some((*format, 0)));
-        };
-        for (i, number) in numbers(&directive, *bits).iter().enumerate() {
-            let out = print_of(alloc, format, *number)?;
-            let out = out.as_deref().unwrap_or(&[]);
-            if i < 5 && !is_run(out, heads[i], *byte, counts[i], tails[i]) {
-                return Ok(Some((*format, *number)));
-            }
+// Whether a text is what a field tells: what comes before the longest run of one byte, how often it
+// stands there, and what comes after, with `~` between.
+fn is_run_of(text: &[u8], field: &str, byte: u8) -> Option<bool> {
+    let (head, rest) = field.split_once('~')?;
+    let (count, tail) = rest.split_once('~')?;
+    let count = count.parse::<usize>().ok()?;
+    Some(is_run(text, head, byte, count, tail))
+}
+
+// Whether each of the numbers is printed so; the first field is the byte that stands many times.
+fn is_long_row(alloc: Global, line: &str) -> Result<bool, AllocError> {
+    let Some(row) = Row::read(line) else {
+        return Ok(false);
+    };
+    let Some((byte, texts)) = row.texts.split_once('|') else {
+        return Ok(false);
+    };
+    let numbers = numbers(&row.directive, row.bits);
+    let row = Row { texts, ..row };
+    let (Some(texts), [byte]) = (row.texts_of(&numbers), byte.as_bytes()) else {
+        return Ok(false);
+    };
+    for (number, field) in numbers.iter().zip(texts) {
+        let out = print_of(alloc, row.format, *number)?;
+        if is_run_of(out.as_deref().unwrap_or(&[]), field, *byte) != Some(true) {
+            return Ok(false);
         }
     }
-    Ok(None)
+    Ok(true)
 }
 
 #[test]
 fn long_rows(rt: HostRuntime) -> Result<(), Fail> {
-    assert_eq!(rt; first_wrong_run(rt.alloc(), &long::DECIMAL)?, None);
-    assert_eq!(rt; first_wrong_run(rt.alloc(), &long::BASED)?, None);
+    for table in [long::DECIMAL, long::BASED] {
+        for line in table.lines() {
+            assert!(rt; is_long_row(rt.alloc(), line)?, "{line}");
+        }
+    }
     Ok(())
 }
 
@@ -224,47 +276,18 @@ fn shape_numbers(directive: &Directive, bits: u32) -> [i128; 6] {
     [0, 1, 2, 5, 255, ones]
 }
 
-// The first row of which something else is printed, with its number.
-fn first_wrong_shape(
-    alloc: Global,
-    table: &[ShapeRow],
-) -> Result<Option<(&'static str, i128)>, AllocError> {
-    for (format, bits, texts) in table {
-        let Some(directive) = directive_of(format) else {
-            return Ok(Some((*format, 0)));
-        };
-        for (number, text) in shape_numbers(&directive, *bits).iter().zip(texts) {
-            if !prints(alloc, format, *number, text)? {
-                return Ok(Some((*format, *number)));
-            }
-        }
+// Whether this is printed of the six numbers.
+fn is_shape(alloc: Global, line: &str) -> Result<bool, AllocError> {
+    match Row::read(line) {
+        Some(row) => row.is_printed(alloc, &shape_numbers(&row.directive, row.bits)),
+        None => Ok(false),
     }
-    Ok(None)
 }
 
 #[test]
-fn binary_numbers_without_a_prefix(rt: HostRuntime) -> Result<(), Fail> {
-    assert_eq!(rt; first_wrong_shape(rt.alloc(), &shapes::PLAIN)?, None);
-    assert_eq!(rt; first_wrong_shape(rt.alloc(), &shapes::LEFT)?, None);
-    Ok(())
-}
-
-#[test]
-fn binary_numbers_with_a_prefix(rt: HostRuntime) -> Result<(), Fail> {
-    assert_eq!(rt; first_wrong_shape(rt.alloc(), &shapes::PREFIXED)?, None);
-    assert_eq!(rt;
-        first_wrong_shape(rt.alloc(), &shapes::PREFIXED_LEFT)?,
-        None
-    );
-    Ok(())
-}
-
-#[test]
-fn binary_numbers_with_zeros(rt: HostRuntime) -> Result<(), Fail> {
-    assert_eq!(rt; first_wrong_shape(rt.alloc(), &shapes::ZERO_FILLED)?, None);
-    assert_eq!(rt;
-        first_wrong_shape(rt.alloc(), &shapes::PREFIXED_ZERO_FILLED)?,
-        None
-    );
+fn binary_numbers(rt: HostRuntime) -> Result<(), Fail> {
+    for line in shapes::SHAPES.lines() {
+        assert!(rt; is_shape(rt.alloc(), line)?, "{line}");
+    }
     Ok(())
 }

@@ -1,198 +1,195 @@
 //! What `x` and `X` print.
-use super::ShortRow;
 
-#[rattlefmt::skip]
-pub(super) static HEXADECIMAL: [ShortRow; 192] = [
-    ("%hhx", 8, ["0", "1", "ff", "80", "7f"]),
-    ("%#hhx", 8, ["0", "0x1", "0xff", "0x80", "0x7f"]),
-    ("%#8hhx", 8, ["       0", "     0x1", "    0xff", "    0x80", "    0x7f"]),
-    ("%-#8hhx", 8, ["0       ", "0x1     ", "0xff    ", "0x80    ", "0x7f    "]),
-    ("%08hhx", 8, ["00000000", "00000001", "000000ff", "00000080", "0000007f"]),
-    ("%#08hhx", 8, ["00000000", "0x000001", "0x0000ff", "0x000080", "0x00007f"]),
-    ("%-8.3hhx", 8, ["000     ", "001     ", "0ff     ", "080     ", "07f     "]),
-    ("%8.5hhx", 8, ["   00000", "   00001", "   000ff", "   00080", "   0007f"]),
-    ("%#8.5hhx", 8, ["   00000", " 0x00001", " 0x000ff", " 0x00080", " 0x0007f"]),
-    ("%.0hhx", 8, ["", "1", "ff", "80", "7f"]),
-    ("%#.0hhx", 8, ["", "0x1", "0xff", "0x80", "0x7f"]),
-    ("%-#5.0hhx", 8, ["     ", "0x1  ", "0xff ", "0x80 ", "0x7f "]),
-    ("%hx", 16, ["0", "1", "ffff", "8000", "7fff"]),
-    ("%#hx", 16, ["0", "0x1", "0xffff", "0x8000", "0x7fff"]),
-    ("%#8hx", 16, ["       0", "     0x1", "  0xffff", "  0x8000", "  0x7fff"]),
-    ("%-#8hx", 16, ["0       ", "0x1     ", "0xffff  ", "0x8000  ", "0x7fff  "]),
-    ("%08hx", 16, ["00000000", "00000001", "0000ffff", "00008000", "00007fff"]),
-    ("%#08hx", 16, ["00000000", "0x000001", "0x00ffff", "0x008000", "0x007fff"]),
-    ("%-8.3hx", 16, ["000     ", "001     ", "ffff    ", "8000    ", "7fff    "]),
-    ("%8.5hx", 16, ["   00000", "   00001", "   0ffff", "   08000", "   07fff"]),
-    ("%#8.5hx", 16, ["   00000", " 0x00001", " 0x0ffff", " 0x08000", " 0x07fff"]),
-    ("%.0hx", 16, ["", "1", "ffff", "8000", "7fff"]),
-    ("%#.0hx", 16, ["", "0x1", "0xffff", "0x8000", "0x7fff"]),
-    ("%-#5.0hx", 16, ["     ", "0x1  ", "0xffff", "0x8000", "0x7fff"]),
-    ("%x", 32, ["0", "1", "ffffffff", "80000000", "7fffffff"]),
-    ("%#x", 32, ["0", "0x1", "0xffffffff", "0x80000000", "0x7fffffff"]),
-    ("%#8x", 32, ["       0", "     0x1", "0xffffffff", "0x80000000", "0x7fffffff"]),
-    ("%-#8x", 32, ["0       ", "0x1     ", "0xffffffff", "0x80000000", "0x7fffffff"]),
-    ("%08x", 32, ["00000000", "00000001", "ffffffff", "80000000", "7fffffff"]),
-    ("%#08x", 32, ["00000000", "0x000001", "0xffffffff", "0x80000000", "0x7fffffff"]),
-    ("%-8.3x", 32, ["000     ", "001     ", "ffffffff", "80000000", "7fffffff"]),
-    ("%8.5x", 32, ["   00000", "   00001", "ffffffff", "80000000", "7fffffff"]),
-    ("%#8.5x", 32, ["   00000", " 0x00001", "0xffffffff", "0x80000000", "0x7fffffff"]),
-    ("%.0x", 32, ["", "1", "ffffffff", "80000000", "7fffffff"]),
-    ("%#.0x", 32, ["", "0x1", "0xffffffff", "0x80000000", "0x7fffffff"]),
-    ("%-#5.0x", 32, ["     ", "0x1  ", "0xffffffff", "0x80000000", "0x7fffffff"]),
-    ("%lx", 64, ["0", "1", "ffffffffffffffff", "8000000000000000", "7fffffffffffffff"]),
-    ("%#lx", 64, ["0", "0x1", "0xffffffffffffffff", "0x8000000000000000", "0x7fffffffffffffff"]),
-    ("%#8lx", 64, ["       0", "     0x1", "0xffffffffffffffff", "0x8000000000000000", "0x7fffffffffffffff"]),
-    ("%-#8lx", 64, ["0       ", "0x1     ", "0xffffffffffffffff", "0x8000000000000000", "0x7fffffffffffffff"]),
-    ("%08lx", 64, ["00000000", "00000001", "ffffffffffffffff", "8000000000000000", "7fffffffffffffff"]),
-    ("%#08lx", 64, ["00000000", "0x000001", "0xffffffffffffffff", "0x8000000000000000", "0x7fffffffffffffff"]),
-    ("%-8.3lx", 64, ["000     ", "001     ", "ffffffffffffffff", "8000000000000000", "7fffffffffffffff"]),
-    ("%8.5lx", 64, ["   00000", "   00001", "ffffffffffffffff", "8000000000000000", "7fffffffffffffff"]),
-    ("%#8.5lx", 64, ["   00000", " 0x00001", "0xffffffffffffffff", "0x8000000000000000", "0x7fffffffffffffff"]),
-    ("%.0lx", 64, ["", "1", "ffffffffffffffff", "8000000000000000", "7fffffffffffffff"]),
-    ("%#.0lx", 64, ["", "0x1", "0xffffffffffffffff", "0x8000000000000000", "0x7fffffffffffffff"]),
-    ("%-#5.0lx", 64, ["     ", "0x1  ", "0xffffffffffffffff", "0x8000000000000000", "0x7fffffffffffffff"]),
-    ("%llx", 64, ["0", "1", "ffffffffffffffff", "8000000000000000", "7fffffffffffffff"]),
-    ("%#llx", 64, ["0", "0x1", "0xffffffffffffffff", "0x8000000000000000", "0x7fffffffffffffff"]),
-    ("%#8llx", 64, ["       0", "     0x1", "0xffffffffffffffff", "0x8000000000000000", "0x7fffffffffffffff"]),
-    ("%-#8llx", 64, ["0       ", "0x1     ", "0xffffffffffffffff", "0x8000000000000000", "0x7fffffffffffffff"]),
-    ("%08llx", 64, ["00000000", "00000001", "ffffffffffffffff", "8000000000000000", "7fffffffffffffff"]),
-    ("%#08llx", 64, ["00000000", "0x000001", "0xffffffffffffffff", "0x8000000000000000", "0x7fffffffffffffff"]),
-    ("%-8.3llx", 64, ["000     ", "001     ", "ffffffffffffffff", "8000000000000000", "7fffffffffffffff"]),
-    ("%8.5llx", 64, ["   00000", "   00001", "ffffffffffffffff", "8000000000000000", "7fffffffffffffff"]),
-    ("%#8.5llx", 64, ["   00000", " 0x00001", "0xffffffffffffffff", "0x8000000000000000", "0x7fffffffffffffff"]),
-    ("%.0llx", 64, ["", "1", "ffffffffffffffff", "8000000000000000", "7fffffffffffffff"]),
-    ("%#.0llx", 64, ["", "0x1", "0xffffffffffffffff", "0x8000000000000000", "0x7fffffffffffffff"]),
-    ("%-#5.0llx", 64, ["     ", "0x1  ", "0xffffffffffffffff", "0x8000000000000000", "0x7fffffffffffffff"]),
-    ("%jx", 64, ["0", "1", "ffffffffffffffff", "8000000000000000", "7fffffffffffffff"]),
-    ("%#jx", 64, ["0", "0x1", "0xffffffffffffffff", "0x8000000000000000", "0x7fffffffffffffff"]),
-    ("%#8jx", 64, ["       0", "     0x1", "0xffffffffffffffff", "0x8000000000000000", "0x7fffffffffffffff"]),
-    ("%-#8jx", 64, ["0       ", "0x1     ", "0xffffffffffffffff", "0x8000000000000000", "0x7fffffffffffffff"]),
-    ("%08jx", 64, ["00000000", "00000001", "ffffffffffffffff", "8000000000000000", "7fffffffffffffff"]),
-    ("%#08jx", 64, ["00000000", "0x000001", "0xffffffffffffffff", "0x8000000000000000", "0x7fffffffffffffff"]),
-    ("%-8.3jx", 64, ["000     ", "001     ", "ffffffffffffffff", "8000000000000000", "7fffffffffffffff"]),
-    ("%8.5jx", 64, ["   00000", "   00001", "ffffffffffffffff", "8000000000000000", "7fffffffffffffff"]),
-    ("%#8.5jx", 64, ["   00000", " 0x00001", "0xffffffffffffffff", "0x8000000000000000", "0x7fffffffffffffff"]),
-    ("%.0jx", 64, ["", "1", "ffffffffffffffff", "8000000000000000", "7fffffffffffffff"]),
-    ("%#.0jx", 64, ["", "0x1", "0xffffffffffffffff", "0x8000000000000000", "0x7fffffffffffffff"]),
-    ("%-#5.0jx", 64, ["     ", "0x1  ", "0xffffffffffffffff", "0x8000000000000000", "0x7fffffffffffffff"]),
-    ("%zx", 64, ["0", "1", "ffffffffffffffff", "8000000000000000", "7fffffffffffffff"]),
-    ("%#zx", 64, ["0", "0x1", "0xffffffffffffffff", "0x8000000000000000", "0x7fffffffffffffff"]),
-    ("%#8zx", 64, ["       0", "     0x1", "0xffffffffffffffff", "0x8000000000000000", "0x7fffffffffffffff"]),
-    ("%-#8zx", 64, ["0       ", "0x1     ", "0xffffffffffffffff", "0x8000000000000000", "0x7fffffffffffffff"]),
-    ("%08zx", 64, ["00000000", "00000001", "ffffffffffffffff", "8000000000000000", "7fffffffffffffff"]),
-    ("%#08zx", 64, ["00000000", "0x000001", "0xffffffffffffffff", "0x8000000000000000", "0x7fffffffffffffff"]),
-    ("%-8.3zx", 64, ["000     ", "001     ", "ffffffffffffffff", "8000000000000000", "7fffffffffffffff"]),
-    ("%8.5zx", 64, ["   00000", "   00001", "ffffffffffffffff", "8000000000000000", "7fffffffffffffff"]),
-    ("%#8.5zx", 64, ["   00000", " 0x00001", "0xffffffffffffffff", "0x8000000000000000", "0x7fffffffffffffff"]),
-    ("%.0zx", 64, ["", "1", "ffffffffffffffff", "8000000000000000", "7fffffffffffffff"]),
-    ("%#.0zx", 64, ["", "0x1", "0xffffffffffffffff", "0x8000000000000000", "0x7fffffffffffffff"]),
-    ("%-#5.0zx", 64, ["     ", "0x1  ", "0xffffffffffffffff", "0x8000000000000000", "0x7fffffffffffffff"]),
-    ("%tx", 64, ["0", "1", "ffffffffffffffff", "8000000000000000", "7fffffffffffffff"]),
-    ("%#tx", 64, ["0", "0x1", "0xffffffffffffffff", "0x8000000000000000", "0x7fffffffffffffff"]),
-    ("%#8tx", 64, ["       0", "     0x1", "0xffffffffffffffff", "0x8000000000000000", "0x7fffffffffffffff"]),
-    ("%-#8tx", 64, ["0       ", "0x1     ", "0xffffffffffffffff", "0x8000000000000000", "0x7fffffffffffffff"]),
-    ("%08tx", 64, ["00000000", "00000001", "ffffffffffffffff", "8000000000000000", "7fffffffffffffff"]),
-    ("%#08tx", 64, ["00000000", "0x000001", "0xffffffffffffffff", "0x8000000000000000", "0x7fffffffffffffff"]),
-    ("%-8.3tx", 64, ["000     ", "001     ", "ffffffffffffffff", "8000000000000000", "7fffffffffffffff"]),
-    ("%8.5tx", 64, ["   00000", "   00001", "ffffffffffffffff", "8000000000000000", "7fffffffffffffff"]),
-    ("%#8.5tx", 64, ["   00000", " 0x00001", "0xffffffffffffffff", "0x8000000000000000", "0x7fffffffffffffff"]),
-    ("%.0tx", 64, ["", "1", "ffffffffffffffff", "8000000000000000", "7fffffffffffffff"]),
-    ("%#.0tx", 64, ["", "0x1", "0xffffffffffffffff", "0x8000000000000000", "0x7fffffffffffffff"]),
-    ("%-#5.0tx", 64, ["     ", "0x1  ", "0xffffffffffffffff", "0x8000000000000000", "0x7fffffffffffffff"]),
-    ("%hhX", 8, ["0", "1", "FF", "80", "7F"]),
-    ("%#hhX", 8, ["0", "0X1", "0XFF", "0X80", "0X7F"]),
-    ("%#8hhX", 8, ["       0", "     0X1", "    0XFF", "    0X80", "    0X7F"]),
-    ("%-#8hhX", 8, ["0       ", "0X1     ", "0XFF    ", "0X80    ", "0X7F    "]),
-    ("%08hhX", 8, ["00000000", "00000001", "000000FF", "00000080", "0000007F"]),
-    ("%#08hhX", 8, ["00000000", "0X000001", "0X0000FF", "0X000080", "0X00007F"]),
-    ("%-8.3hhX", 8, ["000     ", "001     ", "0FF     ", "080     ", "07F     "]),
-    ("%8.5hhX", 8, ["   00000", "   00001", "   000FF", "   00080", "   0007F"]),
-    ("%#8.5hhX", 8, ["   00000", " 0X00001", " 0X000FF", " 0X00080", " 0X0007F"]),
-    ("%.0hhX", 8, ["", "1", "FF", "80", "7F"]),
-    ("%#.0hhX", 8, ["", "0X1", "0XFF", "0X80", "0X7F"]),
-    ("%-#5.0hhX", 8, ["     ", "0X1  ", "0XFF ", "0X80 ", "0X7F "]),
-    ("%hX", 16, ["0", "1", "FFFF", "8000", "7FFF"]),
-    ("%#hX", 16, ["0", "0X1", "0XFFFF", "0X8000", "0X7FFF"]),
-    ("%#8hX", 16, ["       0", "     0X1", "  0XFFFF", "  0X8000", "  0X7FFF"]),
-    ("%-#8hX", 16, ["0       ", "0X1     ", "0XFFFF  ", "0X8000  ", "0X7FFF  "]),
-    ("%08hX", 16, ["00000000", "00000001", "0000FFFF", "00008000", "00007FFF"]),
-    ("%#08hX", 16, ["00000000", "0X000001", "0X00FFFF", "0X008000", "0X007FFF"]),
-    ("%-8.3hX", 16, ["000     ", "001     ", "FFFF    ", "8000    ", "7FFF    "]),
-    ("%8.5hX", 16, ["   00000", "   00001", "   0FFFF", "   08000", "   07FFF"]),
-    ("%#8.5hX", 16, ["   00000", " 0X00001", " 0X0FFFF", " 0X08000", " 0X07FFF"]),
-    ("%.0hX", 16, ["", "1", "FFFF", "8000", "7FFF"]),
-    ("%#.0hX", 16, ["", "0X1", "0XFFFF", "0X8000", "0X7FFF"]),
-    ("%-#5.0hX", 16, ["     ", "0X1  ", "0XFFFF", "0X8000", "0X7FFF"]),
-    ("%X", 32, ["0", "1", "FFFFFFFF", "80000000", "7FFFFFFF"]),
-    ("%#X", 32, ["0", "0X1", "0XFFFFFFFF", "0X80000000", "0X7FFFFFFF"]),
-    ("%#8X", 32, ["       0", "     0X1", "0XFFFFFFFF", "0X80000000", "0X7FFFFFFF"]),
-    ("%-#8X", 32, ["0       ", "0X1     ", "0XFFFFFFFF", "0X80000000", "0X7FFFFFFF"]),
-    ("%08X", 32, ["00000000", "00000001", "FFFFFFFF", "80000000", "7FFFFFFF"]),
-    ("%#08X", 32, ["00000000", "0X000001", "0XFFFFFFFF", "0X80000000", "0X7FFFFFFF"]),
-    ("%-8.3X", 32, ["000     ", "001     ", "FFFFFFFF", "80000000", "7FFFFFFF"]),
-    ("%8.5X", 32, ["   00000", "   00001", "FFFFFFFF", "80000000", "7FFFFFFF"]),
-    ("%#8.5X", 32, ["   00000", " 0X00001", "0XFFFFFFFF", "0X80000000", "0X7FFFFFFF"]),
-    ("%.0X", 32, ["", "1", "FFFFFFFF", "80000000", "7FFFFFFF"]),
-    ("%#.0X", 32, ["", "0X1", "0XFFFFFFFF", "0X80000000", "0X7FFFFFFF"]),
-    ("%-#5.0X", 32, ["     ", "0X1  ", "0XFFFFFFFF", "0X80000000", "0X7FFFFFFF"]),
-    ("%lX", 64, ["0", "1", "FFFFFFFFFFFFFFFF", "8000000000000000", "7FFFFFFFFFFFFFFF"]),
-    ("%#lX", 64, ["0", "0X1", "0XFFFFFFFFFFFFFFFF", "0X8000000000000000", "0X7FFFFFFFFFFFFFFF"]),
-    ("%#8lX", 64, ["       0", "     0X1", "0XFFFFFFFFFFFFFFFF", "0X8000000000000000", "0X7FFFFFFFFFFFFFFF"]),
-    ("%-#8lX", 64, ["0       ", "0X1     ", "0XFFFFFFFFFFFFFFFF", "0X8000000000000000", "0X7FFFFFFFFFFFFFFF"]),
-    ("%08lX", 64, ["00000000", "00000001", "FFFFFFFFFFFFFFFF", "8000000000000000", "7FFFFFFFFFFFFFFF"]),
-    ("%#08lX", 64, ["00000000", "0X000001", "0XFFFFFFFFFFFFFFFF", "0X8000000000000000", "0X7FFFFFFFFFFFFFFF"]),
-    ("%-8.3lX", 64, ["000     ", "001     ", "FFFFFFFFFFFFFFFF", "8000000000000000", "7FFFFFFFFFFFFFFF"]),
-    ("%8.5lX", 64, ["   00000", "   00001", "FFFFFFFFFFFFFFFF", "8000000000000000", "7FFFFFFFFFFFFFFF"]),
-    ("%#8.5lX", 64, ["   00000", " 0X00001", "0XFFFFFFFFFFFFFFFF", "0X8000000000000000", "0X7FFFFFFFFFFFFFFF"]),
-    ("%.0lX", 64, ["", "1", "FFFFFFFFFFFFFFFF", "8000000000000000", "7FFFFFFFFFFFFFFF"]),
-    ("%#.0lX", 64, ["", "0X1", "0XFFFFFFFFFFFFFFFF", "0X8000000000000000", "0X7FFFFFFFFFFFFFFF"]),
-    ("%-#5.0lX", 64, ["     ", "0X1  ", "0XFFFFFFFFFFFFFFFF", "0X8000000000000000", "0X7FFFFFFFFFFFFFFF"]),
-    ("%llX", 64, ["0", "1", "FFFFFFFFFFFFFFFF", "8000000000000000", "7FFFFFFFFFFFFFFF"]),
-    ("%#llX", 64, ["0", "0X1", "0XFFFFFFFFFFFFFFFF", "0X8000000000000000", "0X7FFFFFFFFFFFFFFF"]),
-    ("%#8llX", 64, ["       0", "     0X1", "0XFFFFFFFFFFFFFFFF", "0X8000000000000000", "0X7FFFFFFFFFFFFFFF"]),
-    ("%-#8llX", 64, ["0       ", "0X1     ", "0XFFFFFFFFFFFFFFFF", "0X8000000000000000", "0X7FFFFFFFFFFFFFFF"]),
-    ("%08llX", 64, ["00000000", "00000001", "FFFFFFFFFFFFFFFF", "8000000000000000", "7FFFFFFFFFFFFFFF"]),
-    ("%#08llX", 64, ["00000000", "0X000001", "0XFFFFFFFFFFFFFFFF", "0X8000000000000000", "0X7FFFFFFFFFFFFFFF"]),
-    ("%-8.3llX", 64, ["000     ", "001     ", "FFFFFFFFFFFFFFFF", "8000000000000000", "7FFFFFFFFFFFFFFF"]),
-    ("%8.5llX", 64, ["   00000", "   00001", "FFFFFFFFFFFFFFFF", "8000000000000000", "7FFFFFFFFFFFFFFF"]),
-    ("%#8.5llX", 64, ["   00000", " 0X00001", "0XFFFFFFFFFFFFFFFF", "0X8000000000000000", "0X7FFFFFFFFFFFFFFF"]),
-    ("%.0llX", 64, ["", "1", "FFFFFFFFFFFFFFFF", "8000000000000000", "7FFFFFFFFFFFFFFF"]),
-    ("%#.0llX", 64, ["", "0X1", "0XFFFFFFFFFFFFFFFF", "0X8000000000000000", "0X7FFFFFFFFFFFFFFF"]),
-    ("%-#5.0llX", 64, ["     ", "0X1  ", "0XFFFFFFFFFFFFFFFF", "0X8000000000000000", "0X7FFFFFFFFFFFFFFF"]),
-    ("%jX", 64, ["0", "1", "FFFFFFFFFFFFFFFF", "8000000000000000", "7FFFFFFFFFFFFFFF"]),
-    ("%#jX", 64, ["0", "0X1", "0XFFFFFFFFFFFFFFFF", "0X8000000000000000", "0X7FFFFFFFFFFFFFFF"]),
-    ("%#8jX", 64, ["       0", "     0X1", "0XFFFFFFFFFFFFFFFF", "0X8000000000000000", "0X7FFFFFFFFFFFFFFF"]),
-    ("%-#8jX", 64, ["0       ", "0X1     ", "0XFFFFFFFFFFFFFFFF", "0X8000000000000000", "0X7FFFFFFFFFFFFFFF"]),
-    ("%08jX", 64, ["00000000", "00000001", "FFFFFFFFFFFFFFFF", "8000000000000000", "7FFFFFFFFFFFFFFF"]),
-    ("%#08jX", 64, ["00000000", "0X000001", "0XFFFFFFFFFFFFFFFF", "0X8000000000000000", "0X7FFFFFFFFFFFFFFF"]),
-    ("%-8.3jX", 64, ["000     ", "001     ", "FFFFFFFFFFFFFFFF", "8000000000000000", "7FFFFFFFFFFFFFFF"]),
-    ("%8.5jX", 64, ["   00000", "   00001", "FFFFFFFFFFFFFFFF", "8000000000000000", "7FFFFFFFFFFFFFFF"]),
-    ("%#8.5jX", 64, ["   00000", " 0X00001", "0XFFFFFFFFFFFFFFFF", "0X8000000000000000", "0X7FFFFFFFFFFFFFFF"]),
-    ("%.0jX", 64, ["", "1", "FFFFFFFFFFFFFFFF", "8000000000000000", "7FFFFFFFFFFFFFFF"]),
-    ("%#.0jX", 64, ["", "0X1", "0XFFFFFFFFFFFFFFFF", "0X8000000000000000", "0X7FFFFFFFFFFFFFFF"]),
-    ("%-#5.0jX", 64, ["     ", "0X1  ", "0XFFFFFFFFFFFFFFFF", "0X8000000000000000", "0X7FFFFFFFFFFFFFFF"]),
-    ("%zX", 64, ["0", "1", "FFFFFFFFFFFFFFFF", "8000000000000000", "7FFFFFFFFFFFFFFF"]),
-    ("%#zX", 64, ["0", "0X1", "0XFFFFFFFFFFFFFFFF", "0X8000000000000000", "0X7FFFFFFFFFFFFFFF"]),
-    ("%#8zX", 64, ["       0", "     0X1", "0XFFFFFFFFFFFFFFFF", "0X8000000000000000", "0X7FFFFFFFFFFFFFFF"]),
-    ("%-#8zX", 64, ["0       ", "0X1     ", "0XFFFFFFFFFFFFFFFF", "0X8000000000000000", "0X7FFFFFFFFFFFFFFF"]),
-    ("%08zX", 64, ["00000000", "00000001", "FFFFFFFFFFFFFFFF", "8000000000000000", "7FFFFFFFFFFFFFFF"]),
-    ("%#08zX", 64, ["00000000", "0X000001", "0XFFFFFFFFFFFFFFFF", "0X8000000000000000", "0X7FFFFFFFFFFFFFFF"]),
-    ("%-8.3zX", 64, ["000     ", "001     ", "FFFFFFFFFFFFFFFF", "8000000000000000", "7FFFFFFFFFFFFFFF"]),
-    ("%8.5zX", 64, ["   00000", "   00001", "FFFFFFFFFFFFFFFF", "8000000000000000", "7FFFFFFFFFFFFFFF"]),
-    ("%#8.5zX", 64, ["   00000", " 0X00001", "0XFFFFFFFFFFFFFFFF", "0X8000000000000000", "0X7FFFFFFFFFFFFFFF"]),
-    ("%.0zX", 64, ["", "1", "FFFFFFFFFFFFFFFF", "8000000000000000", "7FFFFFFFFFFFFFFF"]),
-    ("%#.0zX", 64, ["", "0X1", "0XFFFFFFFFFFFFFFFF", "0X8000000000000000", "0X7FFFFFFFFFFFFFFF"]),
-    ("%-#5.0zX", 64, ["     ", "0X1  ", "0XFFFFFFFFFFFFFFFF", "0X8000000000000000", "0X7FFFFFFFFFFFFFFF"]),
-    ("%tX", 64, ["0", "1", "FFFFFFFFFFFFFFFF", "8000000000000000", "7FFFFFFFFFFFFFFF"]),
-    ("%#tX", 64, ["0", "0X1", "0XFFFFFFFFFFFFFFFF", "0X8000000000000000", "0X7FFFFFFFFFFFFFFF"]),
-    ("%#8tX", 64, ["       0", "     0X1", "0XFFFFFFFFFFFFFFFF", "0X8000000000000000", "0X7FFFFFFFFFFFFFFF"]),
-    ("%-#8tX", 64, ["0       ", "0X1     ", "0XFFFFFFFFFFFFFFFF", "0X8000000000000000", "0X7FFFFFFFFFFFFFFF"]),
-    ("%08tX", 64, ["00000000", "00000001", "FFFFFFFFFFFFFFFF", "8000000000000000", "7FFFFFFFFFFFFFFF"]),
-    ("%#08tX", 64, ["00000000", "0X000001", "0XFFFFFFFFFFFFFFFF", "0X8000000000000000", "0X7FFFFFFFFFFFFFFF"]),
-    ("%-8.3tX", 64, ["000     ", "001     ", "FFFFFFFFFFFFFFFF", "8000000000000000", "7FFFFFFFFFFFFFFF"]),
-    ("%8.5tX", 64, ["   00000", "   00001", "FFFFFFFFFFFFFFFF", "8000000000000000", "7FFFFFFFFFFFFFFF"]),
-    ("%#8.5tX", 64, ["   00000", " 0X00001", "0XFFFFFFFFFFFFFFFF", "0X8000000000000000", "0X7FFFFFFFFFFFFFFF"]),
-    ("%.0tX", 64, ["", "1", "FFFFFFFFFFFFFFFF", "8000000000000000", "7FFFFFFFFFFFFFFF"]),
-    ("%#.0tX", 64, ["", "0X1", "0XFFFFFFFFFFFFFFFF", "0X8000000000000000", "0X7FFFFFFFFFFFFFFF"]),
-    ("%-#5.0tX", 64, ["     ", "0X1  ", "0XFFFFFFFFFFFFFFFF", "0X8000000000000000", "0X7FFFFFFFFFFFFFFF"]),
-];
+pub(super) static HEXADECIMAL: &str = "\
+%hhx|8|0|1|ff|80|7f|
+%#hhx|8|0|0x1|0xff|0x80|0x7f|
+%#8hhx|8|       0|     0x1|    0xff|    0x80|    0x7f|
+%-#8hhx|8|0       |0x1     |0xff    |0x80    |0x7f    |
+%08hhx|8|00000000|00000001|000000ff|00000080|0000007f|
+%#08hhx|8|00000000|0x000001|0x0000ff|0x000080|0x00007f|
+%-8.3hhx|8|000     |001     |0ff     |080     |07f     |
+%8.5hhx|8|   00000|   00001|   000ff|   00080|   0007f|
+%#8.5hhx|8|   00000| 0x00001| 0x000ff| 0x00080| 0x0007f|
+%.0hhx|8||1|ff|80|7f|
+%#.0hhx|8||0x1|0xff|0x80|0x7f|
+%-#5.0hhx|8|     |0x1  |0xff |0x80 |0x7f |
+%hx|16|0|1|ffff|8000|7fff|
+%#hx|16|0|0x1|0xffff|0x8000|0x7fff|
+%#8hx|16|       0|     0x1|  0xffff|  0x8000|  0x7fff|
+%-#8hx|16|0       |0x1     |0xffff  |0x8000  |0x7fff  |
+%08hx|16|00000000|00000001|0000ffff|00008000|00007fff|
+%#08hx|16|00000000|0x000001|0x00ffff|0x008000|0x007fff|
+%-8.3hx|16|000     |001     |ffff    |8000    |7fff    |
+%8.5hx|16|   00000|   00001|   0ffff|   08000|   07fff|
+%#8.5hx|16|   00000| 0x00001| 0x0ffff| 0x08000| 0x07fff|
+%.0hx|16||1|ffff|8000|7fff|
+%#.0hx|16||0x1|0xffff|0x8000|0x7fff|
+%-#5.0hx|16|     |0x1  |0xffff|0x8000|0x7fff|
+%x|32|0|1|ffffffff|80000000|7fffffff|
+%#x|32|0|0x1|0xffffffff|0x80000000|0x7fffffff|
+%#8x|32|       0|     0x1|0xffffffff|0x80000000|0x7fffffff|
+%-#8x|32|0       |0x1     |0xffffffff|0x80000000|0x7fffffff|
+%08x|32|00000000|00000001|ffffffff|80000000|7fffffff|
+%#08x|32|00000000|0x000001|0xffffffff|0x80000000|0x7fffffff|
+%-8.3x|32|000     |001     |ffffffff|80000000|7fffffff|
+%8.5x|32|   00000|   00001|ffffffff|80000000|7fffffff|
+%#8.5x|32|   00000| 0x00001|0xffffffff|0x80000000|0x7fffffff|
+%.0x|32||1|ffffffff|80000000|7fffffff|
+%#.0x|32||0x1|0xffffffff|0x80000000|0x7fffffff|
+%-#5.0x|32|     |0x1  |0xffffffff|0x80000000|0x7fffffff|
+%lx|64|0|1|ffffffffffffffff|8000000000000000|7fffffffffffffff|
+%#lx|64|0|0x1|0xffffffffffffffff|0x8000000000000000|0x7fffffffffffffff|
+%#8lx|64|       0|     0x1|0xffffffffffffffff|0x8000000000000000|0x7fffffffffffffff|
+%-#8lx|64|0       |0x1     |0xffffffffffffffff|0x8000000000000000|0x7fffffffffffffff|
+%08lx|64|00000000|00000001|ffffffffffffffff|8000000000000000|7fffffffffffffff|
+%#08lx|64|00000000|0x000001|0xffffffffffffffff|0x8000000000000000|0x7fffffffffffffff|
+%-8.3lx|64|000     |001     |ffffffffffffffff|8000000000000000|7fffffffffffffff|
+%8.5lx|64|   00000|   00001|ffffffffffffffff|8000000000000000|7fffffffffffffff|
+%#8.5lx|64|   00000| 0x00001|0xffffffffffffffff|0x8000000000000000|0x7fffffffffffffff|
+%.0lx|64||1|ffffffffffffffff|8000000000000000|7fffffffffffffff|
+%#.0lx|64||0x1|0xffffffffffffffff|0x8000000000000000|0x7fffffffffffffff|
+%-#5.0lx|64|     |0x1  |0xffffffffffffffff|0x8000000000000000|0x7fffffffffffffff|
+%llx|64|0|1|ffffffffffffffff|8000000000000000|7fffffffffffffff|
+%#llx|64|0|0x1|0xffffffffffffffff|0x8000000000000000|0x7fffffffffffffff|
+%#8llx|64|       0|     0x1|0xffffffffffffffff|0x8000000000000000|0x7fffffffffffffff|
+%-#8llx|64|0       |0x1     |0xffffffffffffffff|0x8000000000000000|0x7fffffffffffffff|
+%08llx|64|00000000|00000001|ffffffffffffffff|8000000000000000|7fffffffffffffff|
+%#08llx|64|00000000|0x000001|0xffffffffffffffff|0x8000000000000000|0x7fffffffffffffff|
+%-8.3llx|64|000     |001     |ffffffffffffffff|8000000000000000|7fffffffffffffff|
+%8.5llx|64|   00000|   00001|ffffffffffffffff|8000000000000000|7fffffffffffffff|
+%#8.5llx|64|   00000| 0x00001|0xffffffffffffffff|0x8000000000000000|0x7fffffffffffffff|
+%.0llx|64||1|ffffffffffffffff|8000000000000000|7fffffffffffffff|
+%#.0llx|64||0x1|0xffffffffffffffff|0x8000000000000000|0x7fffffffffffffff|
+%-#5.0llx|64|     |0x1  |0xffffffffffffffff|0x8000000000000000|0x7fffffffffffffff|
+%jx|64|0|1|ffffffffffffffff|8000000000000000|7fffffffffffffff|
+%#jx|64|0|0x1|0xffffffffffffffff|0x8000000000000000|0x7fffffffffffffff|
+%#8jx|64|       0|     0x1|0xffffffffffffffff|0x8000000000000000|0x7fffffffffffffff|
+%-#8jx|64|0       |0x1     |0xffffffffffffffff|0x8000000000000000|0x7fffffffffffffff|
+%08jx|64|00000000|00000001|ffffffffffffffff|8000000000000000|7fffffffffffffff|
+%#08jx|64|00000000|0x000001|0xffffffffffffffff|0x8000000000000000|0x7fffffffffffffff|
+%-8.3jx|64|000     |001     |ffffffffffffffff|8000000000000000|7fffffffffffffff|
+%8.5jx|64|   00000|   00001|ffffffffffffffff|8000000000000000|7fffffffffffffff|
+%#8.5jx|64|   00000| 0x00001|0xffffffffffffffff|0x8000000000000000|0x7fffffffffffffff|
+%.0jx|64||1|ffffffffffffffff|8000000000000000|7fffffffffffffff|
+%#.0jx|64||0x1|0xffffffffffffffff|0x8000000000000000|0x7fffffffffffffff|
+%-#5.0jx|64|     |0x1  |0xffffffffffffffff|0x8000000000000000|0x7fffffffffffffff|
+%zx|64|0|1|ffffffffffffffff|8000000000000000|7fffffffffffffff|
+%#zx|64|0|0x1|0xffffffffffffffff|0x8000000000000000|0x7fffffffffffffff|
+%#8zx|64|       0|     0x1|0xffffffffffffffff|0x8000000000000000|0x7fffffffffffffff|
+%-#8zx|64|0       |0x1     |0xffffffffffffffff|0x8000000000000000|0x7fffffffffffffff|
+%08zx|64|00000000|00000001|ffffffffffffffff|8000000000000000|7fffffffffffffff|
+%#08zx|64|00000000|0x000001|0xffffffffffffffff|0x8000000000000000|0x7fffffffffffffff|
+%-8.3zx|64|000     |001     |ffffffffffffffff|8000000000000000|7fffffffffffffff|
+%8.5zx|64|   00000|   00001|ffffffffffffffff|8000000000000000|7fffffffffffffff|
+%#8.5zx|64|   00000| 0x00001|0xffffffffffffffff|0x8000000000000000|0x7fffffffffffffff|
+%.0zx|64||1|ffffffffffffffff|8000000000000000|7fffffffffffffff|
+%#.0zx|64||0x1|0xffffffffffffffff|0x8000000000000000|0x7fffffffffffffff|
+%-#5.0zx|64|     |0x1  |0xffffffffffffffff|0x8000000000000000|0x7fffffffffffffff|
+%tx|64|0|1|ffffffffffffffff|8000000000000000|7fffffffffffffff|
+%#tx|64|0|0x1|0xffffffffffffffff|0x8000000000000000|0x7fffffffffffffff|
+%#8tx|64|       0|     0x1|0xffffffffffffffff|0x8000000000000000|0x7fffffffffffffff|
+%-#8tx|64|0       |0x1     |0xffffffffffffffff|0x8000000000000000|0x7fffffffffffffff|
+%08tx|64|00000000|00000001|ffffffffffffffff|8000000000000000|7fffffffffffffff|
+%#08tx|64|00000000|0x000001|0xffffffffffffffff|0x8000000000000000|0x7fffffffffffffff|
+%-8.3tx|64|000     |001     |ffffffffffffffff|8000000000000000|7fffffffffffffff|
+%8.5tx|64|   00000|   00001|ffffffffffffffff|8000000000000000|7fffffffffffffff|
+%#8.5tx|64|   00000| 0x00001|0xffffffffffffffff|0x8000000000000000|0x7fffffffffffffff|
+%.0tx|64||1|ffffffffffffffff|8000000000000000|7fffffffffffffff|
+%#.0tx|64||0x1|0xffffffffffffffff|0x8000000000000000|0x7fffffffffffffff|
+%-#5.0tx|64|     |0x1  |0xffffffffffffffff|0x8000000000000000|0x7fffffffffffffff|
+%hhX|8|0|1|FF|80|7F|
+%#hhX|8|0|0X1|0XFF|0X80|0X7F|
+%#8hhX|8|       0|     0X1|    0XFF|    0X80|    0X7F|
+%-#8hhX|8|0       |0X1     |0XFF    |0X80    |0X7F    |
+%08hhX|8|00000000|00000001|000000FF|00000080|0000007F|
+%#08hhX|8|00000000|0X000001|0X0000FF|0X000080|0X00007F|
+%-8.3hhX|8|000     |001     |0FF     |080     |07F     |
+%8.5hhX|8|   00000|   00001|   000FF|   00080|   0007F|
+%#8.5hhX|8|   00000| 0X00001| 0X000FF| 0X00080| 0X0007F|
+%.0hhX|8||1|FF|80|7F|
+%#.0hhX|8||0X1|0XFF|0X80|0X7F|
+%-#5.0hhX|8|     |0X1  |0XFF |0X80 |0X7F |
+%hX|16|0|1|FFFF|8000|7FFF|
+%#hX|16|0|0X1|0XFFFF|0X8000|0X7FFF|
+%#8hX|16|       0|     0X1|  0XFFFF|  0X8000|  0X7FFF|
+%-#8hX|16|0       |0X1     |0XFFFF  |0X8000  |0X7FFF  |
+%08hX|16|00000000|00000001|0000FFFF|00008000|00007FFF|
+%#08hX|16|00000000|0X000001|0X00FFFF|0X008000|0X007FFF|
+%-8.3hX|16|000     |001     |FFFF    |8000    |7FFF    |
+%8.5hX|16|   00000|   00001|   0FFFF|   08000|   07FFF|
+%#8.5hX|16|   00000| 0X00001| 0X0FFFF| 0X08000| 0X07FFF|
+%.0hX|16||1|FFFF|8000|7FFF|
+%#.0hX|16||0X1|0XFFFF|0X8000|0X7FFF|
+%-#5.0hX|16|     |0X1  |0XFFFF|0X8000|0X7FFF|
+%X|32|0|1|FFFFFFFF|80000000|7FFFFFFF|
+%#X|32|0|0X1|0XFFFFFFFF|0X80000000|0X7FFFFFFF|
+%#8X|32|       0|     0X1|0XFFFFFFFF|0X80000000|0X7FFFFFFF|
+%-#8X|32|0       |0X1     |0XFFFFFFFF|0X80000000|0X7FFFFFFF|
+%08X|32|00000000|00000001|FFFFFFFF|80000000|7FFFFFFF|
+%#08X|32|00000000|0X000001|0XFFFFFFFF|0X80000000|0X7FFFFFFF|
+%-8.3X|32|000     |001     |FFFFFFFF|80000000|7FFFFFFF|
+%8.5X|32|   00000|   00001|FFFFFFFF|80000000|7FFFFFFF|
+%#8.5X|32|   00000| 0X00001|0XFFFFFFFF|0X80000000|0X7FFFFFFF|
+%.0X|32||1|FFFFFFFF|80000000|7FFFFFFF|
+%#.0X|32||0X1|0XFFFFFFFF|0X80000000|0X7FFFFFFF|
+%-#5.0X|32|     |0X1  |0XFFFFFFFF|0X80000000|0X7FFFFFFF|
+%lX|64|0|1|FFFFFFFFFFFFFFFF|8000000000000000|7FFFFFFFFFFFFFFF|
+%#lX|64|0|0X1|0XFFFFFFFFFFFFFFFF|0X8000000000000000|0X7FFFFFFFFFFFFFFF|
+%#8lX|64|       0|     0X1|0XFFFFFFFFFFFFFFFF|0X8000000000000000|0X7FFFFFFFFFFFFFFF|
+%-#8lX|64|0       |0X1     |0XFFFFFFFFFFFFFFFF|0X8000000000000000|0X7FFFFFFFFFFFFFFF|
+%08lX|64|00000000|00000001|FFFFFFFFFFFFFFFF|8000000000000000|7FFFFFFFFFFFFFFF|
+%#08lX|64|00000000|0X000001|0XFFFFFFFFFFFFFFFF|0X8000000000000000|0X7FFFFFFFFFFFFFFF|
+%-8.3lX|64|000     |001     |FFFFFFFFFFFFFFFF|8000000000000000|7FFFFFFFFFFFFFFF|
+%8.5lX|64|   00000|   00001|FFFFFFFFFFFFFFFF|8000000000000000|7FFFFFFFFFFFFFFF|
+%#8.5lX|64|   00000| 0X00001|0XFFFFFFFFFFFFFFFF|0X8000000000000000|0X7FFFFFFFFFFFFFFF|
+%.0lX|64||1|FFFFFFFFFFFFFFFF|8000000000000000|7FFFFFFFFFFFFFFF|
+%#.0lX|64||0X1|0XFFFFFFFFFFFFFFFF|0X8000000000000000|0X7FFFFFFFFFFFFFFF|
+%-#5.0lX|64|     |0X1  |0XFFFFFFFFFFFFFFFF|0X8000000000000000|0X7FFFFFFFFFFFFFFF|
+%llX|64|0|1|FFFFFFFFFFFFFFFF|8000000000000000|7FFFFFFFFFFFFFFF|
+%#llX|64|0|0X1|0XFFFFFFFFFFFFFFFF|0X8000000000000000|0X7FFFFFFFFFFFFFFF|
+%#8llX|64|       0|     0X1|0XFFFFFFFFFFFFFFFF|0X8000000000000000|0X7FFFFFFFFFFFFFFF|
+%-#8llX|64|0       |0X1     |0XFFFFFFFFFFFFFFFF|0X8000000000000000|0X7FFFFFFFFFFFFFFF|
+%08llX|64|00000000|00000001|FFFFFFFFFFFFFFFF|8000000000000000|7FFFFFFFFFFFFFFF|
+%#08llX|64|00000000|0X000001|0XFFFFFFFFFFFFFFFF|0X8000000000000000|0X7FFFFFFFFFFFFFFF|
+%-8.3llX|64|000     |001     |FFFFFFFFFFFFFFFF|8000000000000000|7FFFFFFFFFFFFFFF|
+%8.5llX|64|   00000|   00001|FFFFFFFFFFFFFFFF|8000000000000000|7FFFFFFFFFFFFFFF|
+%#8.5llX|64|   00000| 0X00001|0XFFFFFFFFFFFFFFFF|0X8000000000000000|0X7FFFFFFFFFFFFFFF|
+%.0llX|64||1|FFFFFFFFFFFFFFFF|8000000000000000|7FFFFFFFFFFFFFFF|
+%#.0llX|64||0X1|0XFFFFFFFFFFFFFFFF|0X8000000000000000|0X7FFFFFFFFFFFFFFF|
+%-#5.0llX|64|     |0X1  |0XFFFFFFFFFFFFFFFF|0X8000000000000000|0X7FFFFFFFFFFFFFFF|
+%jX|64|0|1|FFFFFFFFFFFFFFFF|8000000000000000|7FFFFFFFFFFFFFFF|
+%#jX|64|0|0X1|0XFFFFFFFFFFFFFFFF|0X8000000000000000|0X7FFFFFFFFFFFFFFF|
+%#8jX|64|       0|     0X1|0XFFFFFFFFFFFFFFFF|0X8000000000000000|0X7FFFFFFFFFFFFFFF|
+%-#8jX|64|0       |0X1     |0XFFFFFFFFFFFFFFFF|0X8000000000000000|0X7FFFFFFFFFFFFFFF|
+%08jX|64|00000000|00000001|FFFFFFFFFFFFFFFF|8000000000000000|7FFFFFFFFFFFFFFF|
+%#08jX|64|00000000|0X000001|0XFFFFFFFFFFFFFFFF|0X8000000000000000|0X7FFFFFFFFFFFFFFF|
+%-8.3jX|64|000     |001     |FFFFFFFFFFFFFFFF|8000000000000000|7FFFFFFFFFFFFFFF|
+%8.5jX|64|   00000|   00001|FFFFFFFFFFFFFFFF|8000000000000000|7FFFFFFFFFFFFFFF|
+%#8.5jX|64|   00000| 0X00001|0XFFFFFFFFFFFFFFFF|0X8000000000000000|0X7FFFFFFFFFFFFFFF|
+%.0jX|64||1|FFFFFFFFFFFFFFFF|8000000000000000|7FFFFFFFFFFFFFFF|
+%#.0jX|64||0X1|0XFFFFFFFFFFFFFFFF|0X8000000000000000|0X7FFFFFFFFFFFFFFF|
+%-#5.0jX|64|     |0X1  |0XFFFFFFFFFFFFFFFF|0X8000000000000000|0X7FFFFFFFFFFFFFFF|
+%zX|64|0|1|FFFFFFFFFFFFFFFF|8000000000000000|7FFFFFFFFFFFFFFF|
+%#zX|64|0|0X1|0XFFFFFFFFFFFFFFFF|0X8000000000000000|0X7FFFFFFFFFFFFFFF|
+%#8zX|64|       0|     0X1|0XFFFFFFFFFFFFFFFF|0X8000000000000000|0X7FFFFFFFFFFFFFFF|
+%-#8zX|64|0       |0X1     |0XFFFFFFFFFFFFFFFF|0X8000000000000000|0X7FFFFFFFFFFFFFFF|
+%08zX|64|00000000|00000001|FFFFFFFFFFFFFFFF|8000000000000000|7FFFFFFFFFFFFFFF|
+%#08zX|64|00000000|0X000001|0XFFFFFFFFFFFFFFFF|0X8000000000000000|0X7FFFFFFFFFFFFFFF|
+%-8.3zX|64|000     |001     |FFFFFFFFFFFFFFFF|8000000000000000|7FFFFFFFFFFFFFFF|
+%8.5zX|64|   00000|   00001|FFFFFFFFFFFFFFFF|8000000000000000|7FFFFFFFFFFFFFFF|
+%#8.5zX|64|   00000| 0X00001|0XFFFFFFFFFFFFFFFF|0X8000000000000000|0X7FFFFFFFFFFFFFFF|
+%.0zX|64||1|FFFFFFFFFFFFFFFF|8000000000000000|7FFFFFFFFFFFFFFF|
+%#.0zX|64||0X1|0XFFFFFFFFFFFFFFFF|0X8000000000000000|0X7FFFFFFFFFFFFFFF|
+%-#5.0zX|64|     |0X1  |0XFFFFFFFFFFFFFFFF|0X8000000000000000|0X7FFFFFFFFFFFFFFF|
+%tX|64|0|1|FFFFFFFFFFFFFFFF|8000000000000000|7FFFFFFFFFFFFFFF|
+%#tX|64|0|0X1|0XFFFFFFFFFFFFFFFF|0X8000000000000000|0X7FFFFFFFFFFFFFFF|
+%#8tX|64|       0|     0X1|0XFFFFFFFFFFFFFFFF|0X8000000000000000|0X7FFFFFFFFFFFFFFF|
+%-#8tX|64|0       |0X1     |0XFFFFFFFFFFFFFFFF|0X8000000000000000|0X7FFFFFFFFFFFFFFF|
+%08tX|64|00000000|00000001|FFFFFFFFFFFFFFFF|8000000000000000|7FFFFFFFFFFFFFFF|
+%#08tX|64|00000000|0X000001|0XFFFFFFFFFFFFFFFF|0X8000000000000000|0X7FFFFFFFFFFFFFFF|
+%-8.3tX|64|000     |001     |FFFFFFFFFFFFFFFF|8000000000000000|7FFFFFFFFFFFFFFF|
+%8.5tX|64|   00000|   00001|FFFFFFFFFFFFFFFF|8000000000000000|7FFFFFFFFFFFFFFF|
+%#8.5tX|64|   00000| 0X00001|0XFFFFFFFFFFFFFFFF|0X8000000000000000|0X7FFFFFFFFFFFFFFF|
+%.0tX|64||1|FFFFFFFFFFFFFFFF|8000000000000000|7FFFFFFFFFFFFFFF|
+%#.0tX|64||0X1|0XFFFFFFFFFFFFFFFF|0X8000000000000000|0X7FFFFFFFFFFFFFFF|
+%-#5.0tX|64|     |0X1  |0XFFFFFFFFFFFFFFFF|0X8000000000000000|0X7FFFFFFFFFFFFFFF|";
