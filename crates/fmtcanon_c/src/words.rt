@@ -6,7 +6,7 @@ ghost use Rattle.fmtcanon_c.specs.Words.{ended_words};
 use pf_compare::{OwnedArg, Verdict};
 use std::alloc::{AllocError, Global};
 
-/// The words of the arguments that a verdict gives, each with a zero behind it.
+/// The words of the arguments that a verdict gives, each with a zero after it.
 pub(crate) fn words_of(alloc: Global, verdict: &Verdict) -> Result<Vec<u8>, AllocError>
     ensures { MatchResult result (λ out. out.items ≡ words_of verdict.now)
         (λ _. GivesArguments verdict.now) }
