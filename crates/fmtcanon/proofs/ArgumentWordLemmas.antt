@@ -7,7 +7,7 @@ use Rattle.fmtcanon.specs.ArgumentWords.{SpellsArgument, SpellsMagnitude, Spells
 use Rattle.fmtcanon.specs.declared.untyped.UntypedArg.{UntypedArg}
 use Rattle.fmtcanon.proofs.MagnitudeLemmas.{read_only}
 
--- the text behind its first byte, and behind its first two, as the code's patterns cut it
+-- the text after its first byte, and after its first two, as the code's patterns cut it
 pub rest_of : (t : Text) → 1 ≤ length t → t ≡ get_or t 0 0 ∷ take (length t - 1) (drop 1 t)
 rest_of [] h = absurd (omega arith)
 rest_of (x ∷ t) h = ap (λ (u : Text). x ∷ u) (sym (take_rest (x ∷ t) 1))

@@ -9,6 +9,6 @@ use Rattle.pf_compare.specs.declared.owned_args.OwnedArg.{OwnedArg}
 abbrev pub ended_word : OwnedArg → Text
 ended_word arg = argument_word (argument_of_owned arg) ++ 0 ∷ []
 
--- the words of arguments, each with a zero behind it
+-- the words of arguments, each with a zero after it
 abbrev pub ended_words : List OwnedArg → Text
 ended_words args = flat_map ended_word args

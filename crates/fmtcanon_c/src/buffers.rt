@@ -12,7 +12,7 @@ pub(crate) fn put_bytes(out: &mut [u8], bytes: &[u8])
     }
 }
 
-/// The same for bytes and a zero behind them.
+/// The same for bytes and a zero after them.
 pub(crate) fn put_string(out: &mut [u8], bytes: &[u8])
     ensures { out.new ≡ put (bytes.now ++ 0 ∷ []) out.old }
 {

@@ -5,7 +5,7 @@ ghost use Rattle.fmtcanon_c.specs.Errors.{IsKindOf};
 use crate::buffers::put_string;
 use pf_values::RefusalKind;
 
-/// Puts the name of a kind of refusal into a buffer, with a zero behind it, where it has room. The
+/// Puts the name of a kind of refusal into a buffer, with a zero after it, where it has room. The
 /// length of the name, or 0 for a number that is no kind's.
 #[unsafe(no_mangle)]
 pub extern "C" fn fmtcanon_kind_name(kind: u32, out: &mut [u8]) -> u64

@@ -1,5 +1,5 @@
--- What is left of a text behind its front.
-use Rattle.std.proofs.Common.{◌≡◌, ◌≢◌, ℕ, ◌-◌, ◌<◌, ◌≤◌, Bool, [], ◌∷◌, ◌++◌, length, take, replicate, Option, Some, None, Ok, refl, sym, ap, ◌∙◌, subst, arith}
+-- What is left of a text after its front.
+use Rattle.std.proofs.Common.{◌≡◌, ◌≢◌, ℕ, ◌-◌, ◌<◌, ◌≤◌, Bool, [], ◌∷◌, ◌++◌, length, take, replicate, Option, Some, None, Ok, sym, ap, ◌∙◌, subst, arith}
 use Rattle.std.specs.Prelude.{flat_map, IsTrue, List, MatchOption, ◌↔◌}
 use Rattle.std.specs.Borrow.{Bor}
 use Rattle.std.proofs.lemmas.List.{append-nil, append_assoc, append_cancel_left, take_all}
@@ -19,10 +19,6 @@ use Rattle.pf_canon.proofs.SilentLemmas.{silent_bytes, silents_next}
 pub cut_off : (left : Bor Text) (bytes : Text) (rest : Option (Bor Text)) → MatchOption rest ((others : Text) → left.now ≢ bytes ++ others) (λ others. left.now ≡ bytes ++ others.now) → IsCutOff (Some left) bytes rest
 cut_off left bytes (Some rest) h = h
 cut_off left bytes None h = h
-
-pub cut_none : (left : Option (Bor Text)) → IsCutOff left [] left
-cut_none (Some left) = refl
-cut_none None = refl
 
 -- some bytes, and then some more
 pub cut_then : (left mid rest : Option (Bor Text)) (a b : Text) → IsCutOff left a mid → IsCutOff mid b rest → IsCutOff left (a ++ b) rest

@@ -44,7 +44,7 @@ one_more t text at byte first = append_assoc t (take at text) (byte ∷ []) ∙ 
 pub all_inside : (model : Model) (new : Transducer) (t out text : Text) (items : List Item) (run at : ℕ) → IsThrough model new (t ++ take at text) items (out ++ take run text) → GrowsBy model t out text (record { run = run; start = at; len = at; made = mades.Nothing }) new
 all_inside model new t out text items run at h = record { items = items; through = subst (λ u. IsThrough model new (t ++ take at text) items (out ++ u)) (sym (append-nil (take run text))) h }
 
--- a byte is refused behind what settles nothing more
+-- a byte is refused after what settles nothing more
 pub refused_in : (model : Model) (old new : Transducer) (t out text : Text) (items : List Item) (run at byte : ℕ) (refusal : Refusal) → drop at text ≡ byte ∷ drop (at + 1) text → IsThrough model old (t ++ take at text) items (out ++ take run text)
     → scanned.Feeds (t ++ take at text) items byte (Err refusal) new.scanner → RefusesIn model t out text (record { run = run; refusal = refusal })
 refused_in model old new t out text items run at byte refusal first h f =

@@ -72,7 +72,7 @@ pub gives : (model : Model) (is_open : Bool) (r : Transducer) (due rest : Text) 
     → (more : Text) × GivesByte model is_open r rest start left given byte (taken ++ more)
 gives model is_open r due rest start left taken given byte e h = none_more (GivesByte model is_open r rest start left given byte) taken (one_given model is_open r due rest start left taken given byte e h)
 
--- nothing waits behind the end
+-- nothing waits after the end
 pub over : (model : Model) (is_open : Bool) (r : Transducer) (due : Text) (start left : Known) (taken given : Text) (P : Type 0) → is_open ≡ false → due ≡ [] → P → HistoryOf model is_open r due start left taken given
     → (more : Text) × (IsEnding model [] start left (taken ++ more) given × P)
 over model true r due start left taken given P closed none p h = absurd (cc)

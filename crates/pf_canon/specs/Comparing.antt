@@ -39,7 +39,7 @@ pub record EndsBoth (model : Model) (f f_left g g_left : Known) (is : Bool) : Ty
   pub second : IsReadWhole model g g_left u
   pub same : IsTrue is ↔ AreEquivalent model t u
 
--- a text stopped behind `taken`, whose whole items settle this
+-- a text stopped after `taken`, whose whole items settle this
 abbrev pub StopsBy : Model → StreamFault → Known → Known → Text → Text → Type 0
 StopsBy model (faults.Refused refusal) start left taken settled =
     IsRefusedBehind start left taken refusal × SettlesTo model taken settled

@@ -1,9 +1,9 @@
--- What is left of a text behind its front. This project's own.
+-- What is left of a text after its front. This project's own.
 use Rattle.std.specs.Prelude.{◌≡◌, ◌≢◌, [], ◌++◌, Option, Some, None}
 use Rattle.std.specs.Borrow.{Bor}
 use Rattle.pf_values.specs.Text.{Text}
 
--- behind these bytes the one is left of the other, or it doesn't begin with them
+-- after these bytes the one is left of the other, or it doesn't begin with them
 abbrev pub IsCutOff : Option (Bor Text) → Text → Option (Bor Text) → Type 0
 IsCutOff (Some left) bytes (Some rest) = left.now ≡ bytes ++ rest.now
 IsCutOff (Some left) bytes None = (rest : Text) → left.now ≢ bytes ++ rest

@@ -19,7 +19,7 @@ module _ {B : Type 0} (kept failed : B → B → Type 0) where
   CountsTaken old new takings.End = kept old new
   CountsTaken old new takings.Failed = failed old new
 
--- one failed call behind calls that did not fail
+-- one failed call after calls that did not fail
 pub failed_later : {R : Type 0} → (a b c : Counted R) → failures_of b ≡ failures_of a
     → HasFailed b c → HasFailed a c
 failed_later a b c e h = rw (← e) h

@@ -59,7 +59,7 @@ pub record IsInTime (model : Model) (taken given : Text) (byte : ℕ) : Type 0 w
   pub begins : settled ≡ (given ++ byte ∷ []) ++ rest
   pub lean : IsLean model taken given
 
--- behind `taken` the text ends, or goes on with a byte that is refused however it goes on
+-- after `taken` the text ends, or goes on with a byte that is refused however it goes on
 pub record IsRefusedBehind (start left : Known) (taken : Text) (refusal : Refusal) : Type 0 where
   pub place : refusal.at ≡ length taken
   pub cause : (

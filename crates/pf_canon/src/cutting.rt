@@ -1,4 +1,4 @@
-//! What is left of a text behind its front.
+//! What is left of a text after its front.
 ghost use Rattle.std.specs.Prelude.{flat_map, replicate};
 ghost use Rattle.pf_values.specs.Canonical.{item_spelling};
 ghost use Rattle.pf_canon.specs.Cutting.{IsCutOff};
@@ -10,12 +10,12 @@ use crate::parts::Parts;
 use crate::transducing::{Front, Made};
 
 impl Front {
-    /// What is left of a text, of which something may be left, behind what the front settles.
+    /// What is left of a text, of which something may be left, after what the front settles.
     pub(crate) fn cut<'a>(&self, text: &[u8], left: Option<&'a [u8]>) -> Option<&'a [u8]>
         requires { IsFrontWithin self.now text.now }
         ensures { IsCutOff left.entry (front_text self.now text.now) result }
     {
-        // Nothing is compared behind the first byte that differs.
+        // Nothing is compared after the first byte that differs.
         if left.is_none() {
             return None;
         }
@@ -35,7 +35,7 @@ impl Front {
     }
 }
 
-/// What is left behind some bytes.
+/// What is left after some bytes.
 fn cut<'a>(front: &[u8], left: Option<&'a [u8]>) -> Option<&'a [u8]>
     ensures { IsCutOff left.entry front.now result }
 {
@@ -45,7 +45,7 @@ fn cut<'a>(front: &[u8], left: Option<&'a [u8]>) -> Option<&'a [u8]>
     }
 }
 
-/// What is left behind the bytes of an item.
+/// What is left after the bytes of an item.
 pub(crate) fn cut_parts<'a>(parts: &Parts, left: Option<&'a [u8]>) -> Option<&'a [u8]>
     ensures { IsCutOff left.entry (parts_text parts.now) result }
 {

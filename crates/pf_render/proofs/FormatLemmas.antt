@@ -56,7 +56,7 @@ module _ (model : Model) (t : Text) (args : List Arg) (h : TakesArguments model 
     pub renders_parts : (out : Text) → PrintsAll model (items_of_parts kept.parts.items) (arguments args) out → Renders model t args out
     renders_parts out prints = renders_items k.0 k.1 out (subst (λ i. PrintsAll model i (arguments args) out) (k.2.same whole) prints)
 
--- the part that comes next, and those behind it
+-- the part that comes next, and those after it
 pub next_part : (parts : List Part) (n : ℕ) (part : Part) → n < length parts → part ≡ get_or parts n part → items_of_parts (drop n parts) ≡ items_of_part part ++ items_of_parts (drop (n + 1) parts)
 next_part parts n part less e =
     let one_more : suc n ≡ n + 1 = omega arith in

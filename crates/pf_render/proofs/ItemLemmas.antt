@@ -14,7 +14,7 @@ use Rattle.pf_text.proofs.Complete.{On}
 use Rattle.pf_text.proofs.Runs.{moved, run, run-append, run-refused}
 use Rattle.pf_text.proofs.Texts.{items_in, run-reads, start}
 
--- some items, and more behind them
+-- some items, and more after them
 abbrev pub Begin : List Item → List Item → Type 0
 Begin items all = (more : List Item) × (all ≡ items ++ more)
 

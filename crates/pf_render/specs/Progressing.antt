@@ -18,7 +18,7 @@ use Rattle.pf_render.specs.Keeping.{items_of_part}
 abbrev pub arity : Model → Part → ℕ
 arity model part = length (types model (items_of_part part))
 
--- the arguments that a part takes, behind those that were taken before
+-- the arguments that a part takes, after those that were taken before
 abbrev pub next_arguments : Model → Progress → Part → List Arg → List Argument
 next_arguments model progress part args =
     map argument_of (take (arity model part) (drop progress.taken args))

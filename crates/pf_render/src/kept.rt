@@ -9,7 +9,7 @@ use arrayvec::ArrayVec;
 use pf_text::Piece;
 use pf_values::Directive;
 
-/// Eight directives, and a run of literal bytes before and behind each.
+/// Eight directives, and a run of literal bytes before and after each.
 const MOST: usize = 17;
 
 /// What a piece prints: what its directive does, or else bytes.

@@ -56,7 +56,7 @@ abbrev pub at_width : List Flag → Option ℕ → State
 at_width flags None = at_flags flags
 at_width flags (Some n) = Width (flag_set flags) n
 
--- a flag or a byte that is none, behind `%` and flags
+-- a flag or a byte that is none, after `%` and flags
 pub next-at_flags : (flags : List Flag) (byte : ℕ) → (byte == 37) ≡ false → next (at_flags flags) byte ≡ after_flags (flag_set flags) byte
 next-at_flags [] byte h = rw h refl
 next-at_flags (flag ∷ flags) byte h = refl
@@ -156,7 +156,7 @@ no_digit byte h = grind (arith, nat_tests)
 pub no_high_flag : (byte : ℕ) → 57 < byte → flag_of byte ≡ None
 no_high_flag byte h = grind (arith, nat_tests)
 
--- a letter behind a width
+-- a letter after a width
 letter_at_width : (flags : List Flag) (width : Option ℕ) (byte : ℕ) → 57 < byte → next (at_width flags width) byte ≡ after_number (flag_set flags) width None byte
 letter_at_width flags None byte h =
     let percent = no_test byte 37 (omega arith) in
@@ -182,7 +182,7 @@ letter_at_digits set width n (d ∷ ds) byte a h =
     let value : number_from_digits_after 10 d ds ≡ n = omega (arith, number_after-place_sum 10 d ds, a.sum) in
     rw (digit) (ap (λ m. after_number set width (Some m) byte) value)
 
--- a letter behind the numbers
+-- a letter after the numbers
 pub letter_at_point : (flags : List Flag) (width precision : Option ℕ) (t : Text) (s : SpellsPrecision t precision) (byte : ℕ) → 57 < byte
     → next (at_point flags width precision t s) byte ≡ after_number (flag_set flags) width precision byte
 letter_at_point flags width None t s byte h = letter_at_width flags width byte h

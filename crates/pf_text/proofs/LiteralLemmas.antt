@@ -76,11 +76,11 @@ run_ends t text run room h full =
       | inr le ↦ subst (EndsRun (t ++ take n text)) (sym (drop_of_length-le text le)) tt
     ]
 
--- a text that is read has no part of an item behind its items
+-- a text that is read has no part of an item after its items
 pub no_part : (scanner : Scanner) (t : Text) (items : List Item) (h : IsAfter scanner t items) → Reads t items → h.part ≡ []
 no_part scanner t items h reads = same_whole items h.good.splits.whole t h.part h.good.splits.reads reads h.good.splits.split
 
--- such a text was taken with the items behind it
+-- such a text was taken with the items after it
 pub after_read : (scanner : Scanner) (t run : Text) (items more : List Item) → IsAfter scanner t items → Reads t items
     → Reads (t ++ run) (items ++ more) → length (t ++ run) ≤ MAX_TEXT_LEN
     → IsAfter (record scanner { offset = scanner.offset + length run }) (t ++ run) (items ++ more)

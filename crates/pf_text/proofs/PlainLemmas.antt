@@ -140,7 +140,7 @@ all_read : (model : Model) (items : List Item) → AllByRecursion (IsPlain model
 all_read model [] h = refl
 all_read model (item ∷ items) h = (item_spelling item, flat_map item_spelling items, read_plain model item h.0, all_read model items h.1, refl)
 
--- a text of items behind another
+-- a text of items after another
 pub Reads-append : (t u : Text) (a b : List Item) → Reads t a → Reads u b → Reads (t ++ u) (a ++ b)
 Reads-append t u [] b h g = rw h g
 Reads-append t u (item ∷ a) b h g = (h.0, h.1 ++ u, h.2, Reads-append h.1 u a b h.3 g, ap (λ x. x ++ u) h.4 ∙ append_assoc h.0 h.1 u)

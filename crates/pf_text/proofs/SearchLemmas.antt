@@ -10,7 +10,7 @@ use lib.Lanes.{chunk, mask_l, top}
 use Rattle.memchr.specs.Find.{NoneBefore, Nowhere, Passes, is_byte2}
 use Rattle.pf_values.specs.Text.{Text}
 
--- what a search behind the first bytes finds, where none of those passes the test
+-- what a search after the first bytes finds, where none of those passes the test
 module _ (test : ℕ → Bool) (text : Text) (seen : ℕ) (within : seen ≤ length text) (none : Nowhere (Passes test text) 0 seen) where
   abbrev behind : Text
   behind = take (length text - seen) (drop seen text)

@@ -130,7 +130,7 @@ SpellsPrecision-push t n byte d h =
 SpellsPrecision-point : SpellsPrecision (46 ∷ []) (Some 0)
 SpellsPrecision-point = ([], record { below = tt; sum = refl }, refl)
 
--- a text that ends behind flags, behind a width, behind a precision
+-- a text that ends after flags, after a width, after a precision
 whole_flags : {part : Text} {set : FlagSet} (h : IsFront part set None None lengths.None) → part ≡ flags_text h.flags
 whole_flags {part} {set} h = h.whole ∙ ap (λ d. 37 ∷ map flag_byte h.flags ++ d ++ h.precision_text ++ []) h.width_is ∙ ap (λ d. 37 ∷ map flag_byte h.flags ++ [] ++ d ++ []) h.precision_is ∙ simp append-nil
 
@@ -264,7 +264,7 @@ module _ (part : Text) (byte : ℕ) where
       go (Some length) e = let letter = letter_of byte length e in (with_modifier length letter.0, letter.1)
       go None e = choose (byte == 76) _ _ (λ b. inr (eqb-true byte 76 b, (precision, to_precision h))) (λ _. judge_ending set width precision lengths.None h)
 
-  -- a point behind flags or a width
+  -- a point after flags or a width
   with_point : (set : FlagSet) (width : Option ℕ) → IsFront part set width None lengths.None → (byte == 46) ≡ true → IsAt (Point set width) (part ++ byte ∷ [])
   with_point set width h e =
       let same = eqb-true byte 46 e in (

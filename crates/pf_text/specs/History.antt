@@ -83,7 +83,7 @@ abbrev pub EndsRun : Text → Text → Type 0
 EndsRun t [] = ⊤
 EndsRun t (byte ∷ rest) = (byte ≡ percent) ⊎ (byte ≡ 0) ⊎ (length t ≡ MAX_TEXT_LEN)
 
--- behind a text that is read, the longest run of literal bytes at the front of what follows was
+-- after a text that is read, the longest run of literal bytes at the front of what follows was
 -- taken
 pub record Passes (t : Text) (items : List Item) (following : Text) (len : ℕ)
     (new : Scanner) : Type 0 where
@@ -92,7 +92,7 @@ pub record Passes (t : Text) (items : List Item) (following : Text) (len : ℕ)
   pub literal : AllByRecursion IsLiteral (take len following)
   pub longest : EndsRun (t ++ take len following) (drop len following)
 
--- behind a text that is read, the two bytes at the front of what follows were taken, which are a
+-- after a text that is read, the two bytes at the front of what follows were taken, which are a
 -- directive
 pub record TakesDirective (t : Text) (items : List Item) (following : Text) (new : Scanner)
     (d : Specification) : Type 0 where

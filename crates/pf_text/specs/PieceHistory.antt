@@ -45,7 +45,7 @@ pub record GivesPiece (new : Pieces) (t read : Text) (items : List Item)
   pub given : HasGiven new t (read ++ more) (items ++ items_of piece)
   pub whole : IsPieceBefore piece (read ++ more) new.rest.now
 
--- inside a call: no run of literal bytes begins behind what was given, the scanner has taken some
+-- inside a call: no run of literal bytes begins after what was given, the scanner has taken some
 -- more bytes, and no item has ended
 pub record IsInside (pieces : Pieces) (t read : Text) (items : List Item) : Type 0 where
   pub fed : Text
@@ -66,7 +66,7 @@ pub record IsFed (pieces : Pieces) (step : Step) (t read : Text) (items : List I
   pub first : pieces.rest.now ≡ byte ∷ after
   pub takes : Takes (read ++ fed) items byte step pieces.scanner
 
--- the text is refused behind the items that were given
+-- the text is refused after the items that were given
 pub record GivesRefusal (t : Text) (items : List Item) (refusal : Refusal) : Type 0 where
   pub refused : IsRefusedAt t refusal.kind refusal.at
   pub front : Text

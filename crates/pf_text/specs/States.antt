@@ -42,7 +42,7 @@ judged_as flags width precision length conv = judgement_of
     (specification_of flags width precision length conv)
     (refused_as (specification_of flags width precision length conv))
 
--- behind all that may be missing the conversion comes (C11 7.21.6.1 p8)
+-- after all that may be missing the conversion comes (C11 7.21.6.1 p8)
 abbrev pub end_by : FlagSet → Option ℕ → Option ℕ → Length → ℕ → Option Conv → Next
 end_by flags width precision length byte None = Err (refused_letter byte)
 end_by flags width precision length byte (Some conv) = judged_as flags width precision length conv

@@ -78,7 +78,7 @@ impl<'a> Pieces<'a> {
         Some(run)
     }
 
-    // Moves on behind the first byte of the rest, of which the scanner made this step. Gives the
+    // Moves on past the first byte of the rest, of which the scanner made this step. Gives the
     // piece that ends there, if one does. A literal byte never does, since the runs are given
     // before.
     #[inline(always)]

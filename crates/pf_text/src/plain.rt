@@ -50,7 +50,7 @@ fn plain_front(text: &[u8]) -> usize
     0
 }
 
-// Whether a byte behind `%` ends such an item: `%`, or a conversion, but not `i`, since `%d` is the
+// Whether a byte after `%` ends such an item: `%`, or a conversion, but not `i`, since `%d` is the
 // normal one.
 #[inline(always)]
 fn ends_plain(letter: u8) -> bool

@@ -8,7 +8,7 @@ use std::simd::prelude::*;
 const LANES: usize = 16;
 
 // How far the search goes a vector at a time. Most runs end there, and `memchr2` is the faster one
-// behind it.
+// after it.
 const NEAR: usize = 64;
 
 /// Where the first byte stands that isn't literal. It sees no scanner, so that a reader's scanner

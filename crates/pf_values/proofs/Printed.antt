@@ -112,11 +112,6 @@ under_unique true base upper precision n t h g =
     ∙ ap (λ p. numeral 8 false p n) (IsLeastFrom-unique precision _ g.0 _ g.1 (octal_least precision n))
 under_unique false base upper precision n t h g = IsNumeral-unique base upper precision n t h g
 
--- the length of what is printed of a number with so many digits
-abbrev pub len_under : Bool → ℕ → ℕ → ℕ
-len_under true precision count = max precision (suc count)
-len_under false precision count = max precision count
-
 from_two : (base : Base) → 2 ≤ number_of base
 from_two Binary = omega arith
 from_two Octal = omega arith

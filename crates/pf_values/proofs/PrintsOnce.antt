@@ -1,6 +1,6 @@
 -- For each directive and argument of its type there is one text that it prints.
 use Rattle.std.proofs.Common.{◌≡◌, [], ◌∷◌, ◌++◌, refl, sym, ap, ◌∙◌, ℤ, pos, false, arith}
-use Rattle.std.specs.Prelude.{nat_abs, IsFalse}
+use Rattle.std.specs.Prelude.{nat_abs}
 use Rattle.std.proofs.lemmas.Int.{ints}
 use Rattle.pf_values.specs.declared.conversions.Conv.{Conv}
 use Rattle.pf_values.specs.declared.conversions.Kind.{Kind}
@@ -10,14 +10,13 @@ use Rattle.pf_values.specs.declared.lengths.Length.TheVariants as lengths
 use Rattle.pf_values.specs.declared.models.Model.{Model}
 use Rattle.pf_values.specs.declared.models.Model.TheVariants.{Lp64, Ilp32}
 use Rattle.pf_values.specs.Arguments.{Argument, Number, String, HasType, IsValue}
-use Rattle.pf_values.specs.Conversions.{is_signed, is_text, kind_of, prints_text}
+use Rattle.pf_values.specs.Conversions.{is_signed, kind_of}
 use Rattle.pf_values.specs.DataModel.{
   B8,
   arg_type,
   bits_under,
   signed_type,
   type_of_kind,
-  type_under,
   unsigned_type,
 }
 use Rattle.pf_values.specs.Printing.{
@@ -109,18 +108,6 @@ no_unsigned_string : (model : Model) (length : Length) (t : Text) → HasType mo
 no_unsigned_string model lengths.None t h = h
 no_unsigned_string Lp64 _ t h = h
 no_unsigned_string Ilp32 _ t h = h
-
-kind_takes_number : (model : Model) (k : Kind) (length : Length) (t : Text) → IsFalse (prints_text k)
-    → HasType model (String t) (type_of_kind model k length) → ⊥
-kind_takes_number model kinds.Signed length t e h = no_string model length t h
-kind_takes_number model (kinds.Unsigned base capitals) length t e h = no_unsigned_string model length t h
-kind_takes_number model kinds.Char length t e h = cc
-kind_takes_number model kinds.String length t e h = cc
-
--- an integer conversion takes no string
-pub takes_number : (model : Model) (conv : Conv) (length : Length) (t : Text) → IsFalse (is_text conv)
-    → HasType model (String t) (type_under model conv length) → ⊥
-takes_number model conv length t e h = kind_takes_number model (kind_of conv) length t e h
 
 one_body : (model : Model) (k : Kind) (length : Length) (s : Specification) (argument : Argument)
     → HasType model argument (type_of_kind model k length) → IsOne model k s argument

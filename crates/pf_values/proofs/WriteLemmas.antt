@@ -9,7 +9,7 @@ use Rattle.pf_values.specs.Counting.{Known, WritesAll, WritesFirst, device_of, f
 use Rattle.pf_values.specs.Text.{Text}
 
 module _ {W : Type 0} (contents : W → Known) (old mid new : Counted W) where
-  -- the first bytes of a text went out, and then some of those behind them
+  -- the first bytes of a text went out, and then some of those after them
   pub WritesAll-more : (bytes : Text) (n m : ℕ) → WritesAll contents old mid (take n bytes) → Appends (contents (device_of mid)) (contents (device_of new)) (take m (drop n bytes)) → failures_of new ≡ failures_of mid → WritesAll contents old new (take (n + m) bytes)
   WritesAll-more bytes n m before now same =
       record {

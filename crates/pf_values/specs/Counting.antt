@@ -7,7 +7,7 @@ use Rattle.pf_values.specs.declared.writing.ShortWrite.{ShortWrite}
 use Rattle.pf_values.specs.Text.{Text}
 
 module _ {T : Type 0} where
-  -- the reader or writer behind it
+  -- the reader or writer inside
   abbrev pub device_of : Counted T → T
   device_of c = c.device
 

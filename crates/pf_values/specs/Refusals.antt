@@ -72,11 +72,11 @@ letters_of _ = []
 abbrev pub long_double_letter : ℕ
 long_double_letter = 76
 
--- a modifier may begin behind the part (C11 7.21.6.1 p4)
+-- a modifier may begin after the part (C11 7.21.6.1 p4)
 abbrev pub TakesModifier : Text → Type 0
 TakesModifier part = (precision : Option ℕ) × IsToPrecision part precision
 
--- a width or a precision may begin behind the part, and has not, so that `*` may stand there
+-- a width or a precision may begin after the part, and has not, so that `*` may stand there
 -- (C11 7.21.6.1 p5)
 abbrev pub TakesStar : Text → Type 0
 TakesStar part = ((flags : List Flag) × (part ≡ flags_text flags)) ⊎ (
@@ -107,7 +107,7 @@ pub record IsRefusedByte (part : Text) (byte : ℕ) (kind : RefusalKind) : Type 
   pub others : (other : RefusalKind) → HasReason part byte other
       → (other ≡ kind) ⊎ (other ≡ Unexpected)
 
--- Why a text is refused behind its longest good front, which has so many bytes: `part` is what has
+-- Why a text is refused after its longest good front, which has so many bytes: `part` is what has
 -- come of an item there, and `rest` follows.
 abbrev pub HasCause : ℕ → Text → Text → RefusalKind → Type 0
 HasCause at part [] kind = kind ≡ Truncated

@@ -435,7 +435,7 @@ fn an_argument_has_its_type(rt: HostRuntime) {
     prints_once();
 }
 
-// Numbers at the ends of the range of a long in ILP32, and behind them.
+// Numbers at the ends of the range of a long in ILP32, and past them.
 #[test]
 fn an_argument_fits_its_type_in_a_model(rt: HostRuntime) {
     let rows = [
