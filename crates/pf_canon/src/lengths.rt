@@ -18,7 +18,8 @@ pub fn canonical_len(model: Model, text: &[u8]) -> Result<u128, Refusal>
         (λ len. (c : Text) × IsCanonicalFor model text.now c × (len ≡ length c))
         (λ refusal. IsRefusedAt text.now refusal.kind refusal.at) }
 {
-    len_from(Transducer::new(model), text, 0, 0)
+    let (transducer, run) = Transducer::after_run(model, text);
+    len_from(transducer, text, run, run as u128)
 }
 
 /// The same, where the first `at` bytes were taken and settle `len` bytes.

@@ -37,9 +37,13 @@ pub(crate) fn check_arguments<'a>(
             Ok(piece) => piece,
             Err(refusal) => return Err(RenderFault::Refused(refusal)),
         };
-        kept.push(&piece);
-        if let Piece::Directive(directive) = piece {
-            tally = tally.with(model, directive.arg_type(model), args);
+        // It is kept in each arm, where it is known which part it makes.
+        match piece {
+            Piece::Directive(directive) => {
+                kept.push(&piece);
+                tally = tally.with(model, directive.arg_type(model), args);
+            }
+            _ => kept.push(&piece),
         }
     }
     tally.judge(args.len())

@@ -1,10 +1,21 @@
-use Rattle.std.proofs.Common.{◌≤◌, ◌++◌, arith, length, drop, refl}
-use Rattle.std.proofs.lemmas.List.{length-drop, take_all, take_rest}
+use Rattle.std.proofs.Common.{◌≤◌, ◌++◌, arith, length, take, drop, refl, sym, subst}
+use Rattle.std.proofs.lemmas.List.{length-drop, take_all, take_rest, take-append-drop}
 use Rattle.pf_canon.specs.Parts.{parts_text}
-use Rattle.pf_canon.specs.Through.{front_text}
+use Rattle.pf_canon.specs.Through.{IsThrough, front_text}
 use Rattle.pf_canon.proofs.BuildingLemmas.{built_more, refused_at}
 use Rattle.pf_canon.proofs.CutLemmas.{behind_more, cut_to_end}
 use Rattle.pf_canon.proofs.canonicity.is_canonical.Goals as goal
+
+pub loop-at-init : goal.loop-at-init
+loop-at-init c =
+    let text = c.args.text.now in
+    let run = c.after_run-run in
+    let front = take run.result.1 text in
+    let k = run.ensures.kept in
+    record {
+      within = k.0;
+      through = (front, k.1, subst (λ m. IsThrough m run.result.0 front k.1 front) run.ensures.model k.2, rw take_rest (sym (take-append-drop run.result.1 text)));
+    }
 
 pub loop-at-preserved : goal.loop-at-preserved
 loop-at-preserved c =

@@ -1,4 +1,6 @@
-use Rattle.std.proofs.Common.{arith, refl, rules}
+use Rattle.std.proofs.Common.{◌++◌, arith, refl, rules}
+use Rattle.pf_text.specs.PieceHistory.{items_of}
+use Rattle.pf_render.specs.Keeping.{Keeps}
 use Rattle.pf_text.proofs.SignatureLemmas.{refused}
 use Rattle.pf_render.proofs.MatchingLemmas.{all_checked, directive_checked, few_found, none_checked, on_ok, other_checked}
 use Rattle.pf_render.proofs.argument_lists.check_arguments.Goals as goal
@@ -17,16 +19,18 @@ with-tally-requires c =
 pub loop-piece-preserved-in-Directive : goal.loop-piece-preserved-in-Directive
 loop-piece-preserved-in-Directive c =
     let so_far = c.loop-piece.invariant.so_far in
+    let d = c.in-Directive.directive in
+    let pushed : Keeps c.push.new.self (so_far.found.items ++ items_of c.in-Ok.piece) = rw c.in-Directive.is (c.push.ensures so_far.found.items so_far.keeps) in
     record {
       can = tt;
       finite = tt;
-      so_far = directive_checked c.args.model so_far c.in-Some.ensures.steps c.in-Ok.is _ _ (c.push.ensures so_far.found.items so_far.keeps) c.in-Directive.directive c.arg_type.result c.in-Directive.is c.arg_type.ensures (c.with-tally.ensures so_far.types so_far.tallies);
+      so_far = directive_checked c.args.model so_far c.in-Some.ensures.steps c.in-Ok.is _ _ pushed d c.arg_type.result c.in-Directive.is c.arg_type.ensures (c.with-tally.ensures so_far.types so_far.tallies);
     }
 
 pub loop-piece-preserved : goal.loop-piece-preserved
 loop-piece-preserved c =
     let so_far = c.loop-piece.invariant.so_far in
-    record { can = tt; finite = tt; so_far = other_checked c.args.model so_far c.in-Some.ensures.steps c.in-Ok.is _ _ (c.push.ensures so_far.found.items so_far.keeps) c.in_default.not-Directive so_far.tallies }
+    record { can = tt; finite = tt; so_far = other_checked c.args.model so_far c.in-Some.ensures.steps c.in-Ok.is _ _ (c.push-in_default.ensures so_far.found.items so_far.keeps) c.in_default.not-Directive so_far.tallies }
 
 pub returns-clause-matched : goal.returns-clause-matched
 returns-clause-matched c =
