@@ -309,6 +309,17 @@ def try_names(trials):
     trials.expect("foreign names that no document has", sorted(foreign), [])
 
 
+def try_map(trials):
+    """Each source file of a crate stands in the part of docs/ARCHITECTURE.md on that crate."""
+    text = (TOP / "docs/ARCHITECTURE.md").read_text(encoding="utf-8")
+    parts = dict(re.findall(r"^### `(\w+)`\n(.*?)(?=^##)", text, flags=re.DOTALL | re.MULTILINE))
+    for crate in sorted((TOP / "crates").iterdir()):
+        sources = [path.relative_to(crate / "src") for path in (crate / "src").rglob("*.rt")]
+        names = {path.name for path in sources if "tests" not in path.parts} - {"lib.rt", "tests.rt"}
+        missing = [name for name in names if f"`{name}`" not in parts.get(crate.name, "")]
+        trials.expect(f"source files of {crate.name} that the map has not", sorted(missing), [])
+
+
 def plain_code(text):
     """Code without comments, imports and layout."""
     text = re.sub(r"//[^\n]*|^(ghost )?use .*?;$|^#!\[.*$", "", text, flags=re.DOTALL | re.MULTILINE)
@@ -338,6 +349,7 @@ def main():
     try_words(program, trials)
     try_devices(program, trials)
     try_names(trials)
+    try_map(trials)
     try_callers(trials)
     try_numbers(trials)
     print(f"{trials.passed} passed, {trials.failed} failed")
