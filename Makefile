@@ -3,7 +3,7 @@
 #                        and the library are tried
 # make check-more        tries the library with tools that the gate doesn't want: clang, valgrind,
 #                        polib, and the shells of the completions
-# make wrong-bodies      tries the wrong bodies that the gate leaves out
+# make wrong-bodies      tries wrong bodies, which the prover must refuse, and the script that does so
 # make install PREFIX=   installs the program, the C library, the manual page and the completions;
 #                        below DESTDIR=, where that is given
 
@@ -79,22 +79,32 @@ $(C)/fmtcanon.pc: Makefile archive
 	    'Name: fmtcanon' 'Description: Canonical texts of printf formats' 'Version: $(VERSION)' \
 	    'Libs: -L$${libdir} -lfmtcanon' 'Cflags: -I$${includedir}' > $@
 
-test: gate trials
+# The trials here take the program that `gate` has just proved and built; it leaves no library.
+test:
+	$(MAKE) gate
+	$(MAKE) library
+	$(MAKE) wrong-bodies
+	$(TRIALS)
 
 gate: tools
 	RT_JOBS=$(JOBS) rt ci
 
 trials: program library
+	$(TRIALS)
+
+define TRIALS
 	python3 tests/program.py $(PROGRAM)
 	python3 tests/devices.py $(PROGRAM)
 	python3 tests/library.py $(PROGRAM) $(C)
 	python3 tests/examples.py $(PROGRAM) $(C)
+endef
 
 check-more: program library $(C)/second.a
 	python3 tests/more.py $(PROGRAM) $(C)
 
 wrong-bodies: tools
-	python3 tests/wrong_bodies.py
+	python3 tests/wrong_bodies_test.py
+	python3 tests/wrong_bodies.py --jobs $(JOBS)
 
 # A tool that is missing is told, and fails.
 tools:

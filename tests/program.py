@@ -225,12 +225,12 @@ def told_counts():
     yield r"on (\d+) pairs from a model", [table_rows("pf_compare/src/tests/verdicts.rt", ["FIRST", "SECOND"])]
 
 
-# Numbers of the README's pages on tests that count no rows, tests or edits.
+# Numbers of the README's pages on tests that count no rows, tests or wrong bodies.
 PLAIN_NUMBERS = [r"each of the 256 bytes", r"16 shapes", r"take 1, 2, 3 or 7 bytes a call", r"10000 arguments", r"UTF-8", r"\d+ runs and comparisons"]
 
 
 def try_numbers(trials):
-    """The numbers of rows, tests and must-fail edits that the documents tell are those of the files."""
+    """The numbers of rows, tests and wrong bodies that the documents tell are those of the files."""
     readme = re.sub(r"(?<=\d),(?=\d{3})", "", (TOP / "README.md").read_text(encoding="utf-8"))
     tested = readme[readme.index("## What is only tested"):readme.index("## What is trusted")]
     checked = set()
@@ -251,8 +251,8 @@ def try_numbers(trials):
         told = re.search(rf"\| `{crate}` \| \d+ \| (\d+) \| (\d+) \|", contributing)
         sources = (TOP / "crates" / crate / "src").rglob("*.rt")
         tests = sum(source.read_text(encoding="utf-8").count("#[test]\n") for source in sources)
-        edits = len(list((TOP / "crates" / crate / "must-fail").glob("*.edit")))
-        trials.expect(f"tests and edits of {crate} in CONTRIBUTING.md", told and told.groups(), (str(tests), str(edits)))
+        edits = len([it for folder in ["must-fail", "wrong-bodies"] for it in (TOP / "crates" / crate / folder).glob("*.edit")])
+        trials.expect(f"tests and wrong bodies of {crate} in CONTRIBUTING.md", told and told.groups(), (str(tests), str(edits)))
     # This is the last trial of all, and counts itself.
     told = re.search(r"(\d+) runs and comparisons", readme)
     trials.expect("trials in README.md", told and int(told.group(1)), trials.passed + trials.failed + 1)

@@ -1,35 +1,372 @@
 #!/usr/bin/env python3
-"""Tries the wrong bodies that the gate leaves out: crates/*/wrong-bodies/*.edit.
+"""Tries wrong bodies: each must be refused by the prover, at the very function that it turns.
 
-Usage: tests/wrong_bodies.py
+Usage: tests/wrong_bodies.py [--jobs N] [CRATE ..]
 
-Each is an edit as those in must-fail/, of a function of which one stands there, too, and the prover must refuse it. They are
-tried on a copy of the crates, where they take the place of that folder, over what checks have left in out/. It exits
-with 1 where one is not refused.
+A wrong body is an edit, a file crates/NAME/must-fail/*.edit or crates/NAME/wrong-bodies/*.edit: a line 'file: PATH', and
+then pairs of lines 'old: TEXT' and 'new: TEXT', where the old text stands once in that file. It is tried on a copy of its
+crate, over what a proof of the crate as it stands has kept in out/. Edits of different functions share a check.
+
+It is refused where a goal is open in a function whose body it changes: no search proves it, or the answer that a file of
+proofs/ gives to it is of another type. The crate as it stands is proved, so the goal is open for the edit alone. Where a
+file of proofs/ only names what is gone, the edit may be harmless: then the crate's tests are run with it, and one must
+fail. An edit of a constant, of a table or of a file of specs/ is tried alone, and any function may refuse it.
+
+Its last line is 'N passed, M failed', and it exits with 1 where M isn't 0.
 """
 
+import argparse
+import os
+import re
 import shutil
 import subprocess
 import sys
 import tempfile
+import threading
+from concurrent.futures import ThreadPoolExecutor
+from dataclasses import dataclass, field
+from enum import Enum
 from pathlib import Path
 
+import rattle_functions
+
 TOP = Path(__file__).resolve().parent.parent
+FOLDERS = ["must-fail", "wrong-bodies"]
+PARTS = ["src", "specs", "proofs"]
+PRINTING = threading.Lock()
+# What is said of a proof file that names what the code no longer has.
+MISFITS = re.compile(r"has no field|is not in scope|has no `|was not admitted")
+
+
+class Verdict(Enum):
+    """What became of an edit."""
+
+    REFUSED = "refused"
+    BY_A_TEST = "refused by a proof file alone, and a test fails with it"
+    BY_A_PROOF_FILE = "REFUSED BY A PROOF FILE ALONE, and every test passes with it"
+    LET_THROUGH = "LET THROUGH"
+    BROKEN = "BROKEN"
+    NOT_JUDGED = "NOT JUDGED"
+
+    def is_good(self):
+        return self in (Verdict.REFUSED, Verdict.BY_A_TEST)
+
+
+@dataclass
+class Edit:
+    """A wrong body: pairs of an old and a new text with their file, and the functions in whose bodies they stand."""
+
+    name: str
+    pairs: list = field(default_factory=list)
+    # The paths below the crate; none where a text stands in no body.
+    functions: frozenset = frozenset()
+    why_broken: str = ""
+
+
+def read_pairs(text):
+    """The file, the old and the new text of each pair of an edit."""
+    file = old = None
+    for line in text.splitlines():
+        word, _, rest = line.partition(":")
+        rest = rest.removeprefix(" ")
+        if word == "file":
+            file = rest.strip()
+        elif word == "old":
+            old = rest
+        elif word == "new":
+            if not file or not old:
+                raise ValueError("a line 'new:' stands before any 'file:' or 'old:'")
+            yield file, old, rest
+            old = None
+        elif line.strip():
+            raise ValueError(f"a line is none of file, old and new: {line!r}")
+
+
+def text_in(crate, texts, file):
+    """The text of a file, as it is in texts or else in the crate's folder."""
+    return texts[file] if file in texts else (crate / file).read_text(encoding="utf-8")
+
+
+def applied(pairs, crate, texts):
+    """These texts with the pairs applied to them, or to the crate's own where they are missing."""
+    texts = dict(texts)
+    for file, old, new in pairs:
+        before = text_in(crate, texts, file)
+        if before.count(old) != 1:
+            raise ValueError(f"an old text stands in {file} {before.count(old)} times, and not once")
+        texts[file] = before.replace(old, new)
+    return texts
+
+
+def read_edit(name, text, crate):
+    """The edit of this name and text, of the crate in that folder."""
+    sources = {str(it.relative_to(crate)): it.read_text(encoding="utf-8") for it in (crate / "src").rglob("*.rt")}
+    homes = rattle_functions.homes_of(sources)
+    try:
+        pairs, texts, places = list(read_pairs(text)), {}, []
+        for pair in pairs:
+            file, old, _ = pair
+            before = text_in(crate, texts, file)
+            texts = applied([pair], crate, texts)
+            at = before.index(old)
+            places.append(functions_at(before, file, homes, at, at + len(old)))
+    except (OSError, ValueError) as error:
+        return Edit(name, why_broken=str(error))
+    if not pairs:
+        return Edit(name, why_broken="it has no pair of old and new")
+    return Edit(name, pairs, frozenset().union(*places) if all(places) else frozenset())
+
+
+def functions_at(text, file, homes, start, end):
+    """The path of the function whose body has the offsets from start to end; none outside the bodies of src/."""
+    if not file.startswith("src/"):
+        return set()
+    found = rattle_functions.functions(text, file, homes)
+    for function in found:
+        if start < function.start and function.contract < end:
+            raise ValueError(f"it changes the contract of {function.path}, and so shows nothing")
+    return {it.path for it in found if it.start <= start and end <= it.end}
+
+
+def edits_of(crate):
+    """The edits of the crate in that folder."""
+    files = [it for folder in FOLDERS for it in sorted((crate / folder).glob("*.edit"))]
+    return [read_edit(f"{crate.name}/{it.stem}", it.read_text(encoding="utf-8"), crate) for it in files]
+
+
+def crate_lines():
+    """The line of crates.txt for each crate."""
+    lines = (TOP / "crates.txt").read_text(encoding="utf-8").splitlines()
+    return {it.split()[0].rstrip(":"): it for it in lines if it.split("#")[0].strip()}
+
+
+def crates_below(name):
+    """The crates of this repository that this one stands on."""
+    lines = crate_lines()
+    direct = [it for it in lines[name].partition(":")[2].split() if it in lines]
+    return sorted({below for it in direct for below in [it, *crates_below(it)]})
+
+
+def link(source, to):
+    """A second name of the file, or a copy of it on another disk."""
+    try:
+        os.link(source, to)
+    except OSError:
+        shutil.copyfile(source, to)
+
+
+def run(folder, *words):
+    """What a command of rt prints in a crate's folder, and its status."""
+    how = {"stdin": subprocess.DEVNULL, "stdout": subprocess.PIPE, "stderr": subprocess.STDOUT, "errors": "replace"}
+    done = subprocess.run(["rt", *words], cwd=folder, check=False, **how)
+    return done.stdout, done.returncode
+
+
+class Room:
+    """A copy of the sources, with what the proof of one crate kept and what it stands on."""
+
+    def __init__(self, name, folder):
+        self.name, self.crate = name, folder / "crates" / name
+        for file in ["crates.txt", "HANDLES"]:
+            shutil.copy(TOP / file, folder)
+        for crate in crate_lines():
+            for part in PARTS:
+                if (TOP / "crates" / crate / part).is_dir():
+                    shutil.copytree(TOP / "crates" / crate / part, folder / "crates" / crate / part)
+        for below in crates_below(name):
+            kept = TOP / "crates" / below / "out/rlib"
+            if kept.is_dir():
+                shutil.copytree(kept, folder / "crates" / below / "out/rlib", copy_function=link)
+        kept = TOP / "crates" / name / "out/incremental"
+        if kept.is_dir():
+            shutil.copytree(kept, self.crate / "out/incremental")
+
+    def write(self, texts):
+        """Writes these texts in place of the crate's own."""
+        for file, text in texts.items():
+            (self.crate / file).write_text(text, encoding="utf-8")
+
+    def put_back(self, texts):
+        """Writes the crate's own texts in place of these."""
+        self.write({it: (TOP / "crates" / self.name / it).read_text(encoding="utf-8") for it in texts})
+
+    def check(self, paths, *flags):
+        """What a check prints of these functions, or of the whole crate where there are none."""
+        only = [word for path in sorted(paths) for word in ("--only", f"{self.name}::{path}")]
+        return run(self.crate, "check", "--jobs", "1", *flags, *only)[0]
+
+    def tests(self):
+        """What the tests of the crate print, or of the first that stands on it and has any; and their status."""
+        above = [it for it in crate_lines() if self.name in crates_below(it)]
+        for name in [self.name, *above]:
+            crate = self.crate.parent / name
+            if any("#[test]" in it.read_text(encoding="utf-8") for it in (crate / "src").rglob("*.rt")):
+                return run(crate, "try", "--test")
+        return "no test", 0
+
+
+class Report:
+    """What a check with holes allowed said."""
+
+    def __init__(self, text, crate):
+        self.text, self.crate = text, crate
+        self.lines = dict(re.findall(r"^fn (\S+): (.*)$", text, re.MULTILINE))
+
+    def is_whole(self):
+        """Whether the prover came to its end, so that the source compiles."""
+        return bool(re.search(r"^(only=\d+ )?holes=\d+$", self.text, re.MULTILINE))
+
+    def names(self, path):
+        """The names under which the check tells of the function at this path: its own, and those of its closures."""
+        module, _, name = path.rpartition("::")
+        outer, _, block = module.rpartition("::")
+        closures = [f"{self.crate}::{m}::fn::{f}::" if m else f"{self.crate}::fn::{f}::" for m, f in [(module, name), (outer, f"{block}::{name}")]]
+        own = f"{self.crate}::{path}"
+        return [it for it in self.lines if it == own or it.startswith(tuple(closures))]
+
+    def open_goals(self, path=None):
+        """The goals that are open in the function at this path or in all: no search proves them, or no answer fits."""
+        names = self.lines if path is None else self.names(path)
+        for name in names:
+            goal = re.search(r"`search` did not prove `([^`]+)`", self.lines[name])
+            if goal:
+                yield f"the goal `{goal[1]}` of {name}"
+            folder = re.escape("/".join(name.split("::")[1:]))
+            for goal, said in re.findall(rf"^\./proofs/{folder}/\w+\.antt:\S+ error: `([^`]+)`: (.*)$", self.text, re.MULTILINE):
+                if not MISFITS.search(said):
+                    yield f"the answer to the goal `{goal}` of {name}"
+
+    def is_refused(self, path=None):
+        """Whether the function at this path, or any, is not proved."""
+        if path is None:
+            return "the crate is not proved" in self.text
+        return any(re.match(r"(not proved|no proof)", self.lines[it]) for it in self.names(path))
+
+    def first_error(self):
+        found = re.search(r"^.*\berror\b.*$", self.text, re.MULTILINE)
+        return found[0][:200] if found else self.text.strip().splitlines()[-1][:200] if self.text.strip() else "nothing was said"
+
+
+def verdict_of(report, edit):
+    """What the report says of an edit whose texts were in place, and why."""
+    if not report.is_whole():
+        kind = Verdict.NOT_JUDGED if "no verdict" in report.text else Verdict.BROKEN
+        return kind, report.first_error()
+    paths = sorted(edit.functions) or [None]
+    for path in paths:
+        for goal in report.open_goals(path):
+            return Verdict.REFUSED, goal
+    if any(report.is_refused(path) for path in paths):
+        return Verdict.BY_A_PROOF_FILE, report.first_error()
+    return Verdict.LET_THROUGH, f"{', '.join(map(str, paths))} as proved"
+
+
+def batches(edits, crate):
+    """The edits in groups with the texts of each, in which no function is changed in two ways."""
+    groups = []
+    for edit in edits:
+        for group in groups:
+            if any(edit.functions & it.functions for it in group[0]):
+                continue
+            try:
+                group[1] = applied(edit.pairs, crate, group[1])
+            except ValueError:
+                continue
+            group[0].append(edit)
+            break
+        else:
+            groups.append([[edit], applied(edit.pairs, crate, {})])
+    return groups
+
+
+class Trial:
+    """The trial of the edits of one crate."""
+
+    def __init__(self, name, room):
+        self.room, self.source, self.verdicts = room, TOP / "crates" / name, {}
+
+    def judge(self, edits, texts):
+        """Gives each of these edits, whose texts are these, its verdict by one check."""
+        paths = {path for edit in edits for path in edit.functions}
+        self.room.write(texts)
+        report = Report(self.room.check(paths, "--allow-holes"), self.room.name)
+        self.room.put_back(texts)
+        for edit in edits:
+            self.verdicts[edit.name] = verdict_of(report, edit)
+
+    def alone(self, edit):
+        """Tries an edit with nothing beside it, and runs the tests with it where only a proof file refuses it."""
+        texts = applied(edit.pairs, self.source, {})
+        self.judge([edit], texts)
+        if self.verdicts[edit.name][0] is Verdict.BY_A_PROOF_FILE:
+            failed = self.failing_test(texts)
+            if failed:
+                self.verdicts[edit.name] = Verdict.BY_A_TEST, failed
+
+    def failing_test(self, texts):
+        """A test that fails with these texts, if there is one."""
+        self.room.write(texts)
+        said, status = self.room.tests()
+        self.room.put_back(texts)
+        found = re.search(r"^test (\S+) \.\.\. FAILED", said, re.MULTILINE)
+        return found[1] if found and status else None
+
+    def run(self, edits):
+        """Gives each edit its verdict: in a batch, and alone where that doesn't show it refused."""
+        whole = [it for it in edits if not it.why_broken]
+        for edit in edits:
+            if edit.why_broken:
+                self.verdicts[edit.name] = Verdict.BROKEN, edit.why_broken
+        for group, texts in batches([it for it in whole if it.functions], self.source):
+            self.judge(group, texts)
+        for edit in whole:
+            if self.verdicts.get(edit.name, [None])[0] is not Verdict.REFUSED:
+                self.alone(edit)
+
+    def is_proved(self, edits):
+        """Whether the functions that edits change are proved as they stand, over the same kept work."""
+        paths = {path for edit in edits for path in edit.functions}
+        return not paths or bool(re.search(r"^only=(\d+) proved=\1$", self.room.check(paths), re.MULTILINE))
+
+
+def try_crate(name):
+    """Tries the edits of a crate, and answers how many passed and failed."""
+    edits = edits_of(TOP / "crates" / name)
+    if not edits:
+        return 0, 0
+    with tempfile.TemporaryDirectory(prefix="wrong-bodies-") as folder:
+        trial = Trial(name, Room(name, Path(folder)))
+        trial.run(edits)
+        proved = trial.is_proved(edits)
+    passed = sum(kind.is_good() for kind, _ in trial.verdicts.values())
+    with PRINTING:
+        for edit in edits:
+            kind, why = trial.verdicts[edit.name]
+            print(f"{edit.name}: {kind.value}: {why}")
+        if not proved:
+            print(f"{name}: NOT PROVED as it stands, so its edits show nothing")
+        print(f"{name}: {passed} of {len(edits)} edits refused", flush=True)
+    return (passed, len(edits) - passed) if proved else (0, len(edits))
 
 
 def main():
-    failed = 0
-    with tempfile.TemporaryDirectory(prefix="wrong-bodies-") as work:
-        room = Path(work)
-        shutil.copytree(TOP / "crates", room / "crates")
-        for name in ["HANDLES", "crates.txt"]:
-            shutil.copy(TOP / name, room)
-        for bodies in sorted(room.glob("crates/*/wrong-bodies")):
-            crate = bodies.parent
-            shutil.rmtree(crate / "must-fail")
-            bodies.rename(crate / "must-fail")
-            failed += subprocess.run(["rt", "must-fail", crate.name], cwd=room, check=False).returncode != 0
-    return 1 if failed else 0
+    parser = argparse.ArgumentParser(description="Tries wrong bodies: the prover must refuse each.")
+    parser.add_argument("--jobs", type=int, default=1, help="how many crates are tried side by side")
+    parser.add_argument("crates", nargs="*", help="the crates to try, all where none is named")
+    options = parser.parse_args()
+    names = options.crates or list(crate_lines())
+    # A crate's check builds what it stands on, in the tree itself, so those come first on which no other stands.
+    for name in [it for it in names if not any(it in crates_below(other) for other in names)]:
+        said, status = run(TOP / "crates" / name, "check", "--only", "")
+        if status:
+            print(said, f"{name}: what it stands on is not proved", sep="\n")
+            return 1
+    with ThreadPoolExecutor(options.jobs) as pool:
+        # Those with the most edits come first, so that none is left alone at the end.
+        results = list(pool.map(try_crate, sorted(names, key=lambda it: -len(edits_of(TOP / "crates" / it)))))
+    passed, failed = (sum(it) for it in zip(*results))
+    print(f"{passed} passed, {failed} failed")
+    return 1 if failed or not passed else 0
 
 
 if __name__ == "__main__":
