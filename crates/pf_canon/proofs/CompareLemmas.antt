@@ -1,17 +1,14 @@
 -- Two texts that are compared in step.
-use Rattle.std.proofs.Common.{◌≡◌, ◌≢◌, ℕ, ◌<◌, Bool, true, false, [], ◌∷◌, ◌++◌, length, Option, Some, None, Result, Ok, Err, refl, sym, ap, ◌∙◌, subst, arith, inl, inr}
+use Rattle.std.proofs.Common.{◌≡◌, ◌≢◌, ℕ, ◌<◌, Bool, true, false, [], ◌∷◌, ◌++◌, length, Option, Some, None, Result, Ok, Err, refl, sym, ◌∙◌, subst, arith, inl, inr}
 use Rattle.std.specs.Prelude.{MatchBool}
 use Rattle.std.specs.Io.KnownBytes.{Consumes}
 use Rattle.std.proofs.lemmas.List.{append-nil, append_assoc, append_cancel_left, length-append}
 use Rattle.pf_values.specs.declared.models.Model.{Model}
 use Rattle.pf_values.specs.Canonical.{IsCanonicalOf}
 use Rattle.pf_values.specs.Counting.{Known}
-use Rattle.pf_values.specs.Items.{IsAccepted}
-use Rattle.pf_values.specs.Refusals.{IsRefusedAt}
 use Rattle.pf_values.specs.Text.{Text}
 use Rattle.pf_probes.proofs.Unique.{equivalent_formats_one}
-use Rattle.pf_canon.specs.Comparing.{BeginsWith, CountsSides, CountsStop, Drained, DrainsTo, EndsBoth, FaultCounts, Gave, HasPace, IsPaced, IsReadWhole, PacesTo, StopsBy, StopsOn, TextStopsOn}
-use Rattle.pf_text.specs.declared.refusal.Refusal.{Refusal}
+use Rattle.pf_canon.specs.Comparing.{BeginsWith, CountsSides, CountsStop, Drained, DrainsTo, EndsBoth, FaultCounts, Gave, HasPace, IsPaced, PacesTo, StopsBy, StopsOn}
 use Rattle.pf_canon.specs.declared.comparing.Pace.{Pace}
 use Rattle.pf_canon.specs.declared.comparing.Pace.TheVariants.{On, Same, Differ}
 use Rattle.pf_canon.specs.declared.faults.SideFault.{SideFault}
@@ -21,7 +18,7 @@ use Rattle.pf_canon.specs.declared.sides.Side.{Side}
 use Rattle.pf_canon.specs.declared.sides.Side.TheVariants.{First, Second}
 use Rattle.pf_canon.specs.declared.sources.Source.{Source}
 use Rattle.pf_canon.specs.Due.{due_text}
-use Rattle.pf_canon.specs.Sources.{CountsFault, History, IsEnding, IsOver, IsReadFor, IsReading, IsRefusedBehind, Leaves, StepsBy}
+use Rattle.pf_canon.specs.Sources.{CountsFault, History, IsEnding, IsOver, IsReadFor, IsReading, Leaves, StepsBy}
 use Rattle.pf_canon.proofs.EquivalentTexts.{equivalent_by}
 
 pub fault_counts : {B : Type 0} (kept failed : B → B → Type 0) (fault : StreamFault) (old new : B) → CountsFault kept failed (Some (Err fault)) old new → FaultCounts kept failed fault old new
@@ -198,21 +195,3 @@ module _ {A B : Type 0} (kept_a failed_a : A → A → Type 0) (kept_b failed_b 
       → (T : Type 0) (r : Result T SideFault) (a a_mid a_new : A) (b b_mid b_new : B) → kept_a a a_mid → kept_b b b_mid → CountsSides kept_a failed_a kept_b failed_b r a_mid a_new b_mid b_new → CountsSides kept_a failed_a kept_b failed_b r a a_new b b_new
   sides_later also_a later_a also_b later_b T (Ok answer) a a_mid a_new b b_mid b_new h k s = (also_a a a_mid a_new h s.0, also_b b b_mid b_new k s.1)
   sides_later also_a later_a also_b later_b T (Err stop) a a_mid a_new b b_mid b_new h k s = stop_later also_a later_a also_b later_b stop.side stop.fault a a_mid a_new b b_mid b_new h k s
-
--- texts in memory
-read_whole : (model : Model) (f rest t : Text) → IsReadWhole model (Some f) (Some rest) t → f ≡ t
-read_whole model f rest t h = h.reader ∙ ap (λ r. t ++ r) h.end ∙ append-nil t
-
-whole_accepted : (model : Model) (f rest t : Text) → IsReadWhole model (Some f) (Some rest) t → IsAccepted f
-whole_accepted model f rest t h = subst IsAccepted (sym (read_whole model f rest t h)) h.accepted
-
-refused_text : (f rest taken : Text) (refusal : Refusal) → IsRefusedBehind (Some f) (Some rest) taken refusal → IsRefusedAt f refusal.kind refusal.at
-refused_text f rest taken refusal h = elim h.cause [
-  | inl end ↦ subst (λ t. IsRefusedAt t refusal.kind refusal.at) (sym (end.1 ∙ ap (λ r. taken ++ r) end.2 ∙ append-nil taken)) end.3
-  | inr byte ↦ subst (λ t. IsRefusedAt t refusal.kind refusal.at) (sym (byte.2 ∙ append_assoc taken (byte.0 ∷ []) rest)) (byte.3 rest)
-]
-
-module _ (model : Model) (f f_rest g g_rest : Text) where
-  pub text_stops : (side : Side) (fault : StreamFault) (refusal : Refusal) → fault ≡ faults.Refused refusal → StopsOn model side fault (Some f) (Some f_rest) (Some g) (Some g_rest) → TextStopsOn side f g refusal
-  text_stops First fault refusal e h = refused_text f f_rest h.0 refusal (subst (λ x. StopsBy model x (Some f) (Some f_rest) h.0 h.1) e h.3).0
-  text_stops Second fault refusal e h = (whole_accepted model f f_rest h.0 h.3, refused_text g g_rest h.1 refusal (subst (λ x. StopsBy model x (Some g) (Some g_rest) h.1 h.2) e h.4).0)

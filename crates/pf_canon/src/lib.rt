@@ -22,6 +22,7 @@ mod streaming;
 #[cfg(test)]
 mod tests;
 mod transducing;
+mod walks;
 
 pub use canonical_texts::canonical;
 pub use canonicity::is_canonical;
