@@ -1,5 +1,5 @@
 -- What a walk through a text in memory has given. This project's own.
-use Rattle.std.specs.Prelude.{◌≡◌, ◌≢◌, ℕ, ◌+◌, ◌*◌, List, [], ◌++◌, length, take, drop, Bool, MatchBool, Option, Some, None, Result, Ok, Err, ◌⊎◌, ◌≤◌}
+use Rattle.std.specs.Prelude.{◌≡◌, ◌≢◌, ℕ, ◌+◌, ◌*◌, List, [], ◌++◌, length, drop, Bool, MatchBool, Option, Some, None, Result, Ok, Err}
 use Rattle.pf_values.specs.declared.models.Model.{Model}
 use Rattle.pf_values.specs.Canonical.{IsCanonicalOf}
 use Rattle.pf_values.specs.Items.{Item, IsAccepted}
@@ -69,15 +69,6 @@ units_by (Some end) rest waiting = 0
 abbrev pub to_come : Walk → ℕ
 to_come w = length (waits w) + units_by w.end (length w.rest.now) (waiting_of w.transducer)
 
--- Two texts begin with so many equal bytes, some unless both are empty. Or they begin with unequal
--- ones, or just one of them is empty.
-abbrev pub HaveCommon : Text → Text → Option ℕ → Type 0
-HaveCommon t u (Some count) =
-    (count ≤ length t) × (count ≤ length u) × (take count t ≡ take count u)
-    × (count ≡ 0 → (t ≡ []) × (u ≡ []))
-HaveCommon t u None =
-    ((t ≢ []) ⊎ (u ≢ [])) × ((t ≡ []) ⊎ (u ≡ []) ⊎ ((x y : Text) → t ++ x ≢ u ++ y))
-
 -- no text that begins so is one that begins so, where nothing follows an empty one
 abbrev pub AreApart : Text → Text → Type 0
 AreApart t u = (x y : Text) → (t ≡ [] → x ≡ []) → (u ≡ [] → y ≡ []) → t ++ x ≢ u ++ y
@@ -105,9 +96,3 @@ pub record IsCleared (old new : Walk) : Type 0 where
   pub transducer : new.transducer ≡ old.transducer
   pub rest : new.rest.now ≡ old.rest.now
   pub end : new.end ≡ old.end
-
--- two texts begin with the same bytes, so many
-pub record AreCommon (t u : Text) (count : ℕ) : Type 0 where
-  pub first : count ≤ length t
-  pub second : count ≤ length u
-  pub same : take count t ≡ take count u

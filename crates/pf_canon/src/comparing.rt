@@ -1,12 +1,13 @@
 //! Two texts, compared in step.
-ghost use Rattle.std.specs.Prelude.{◌≡◌, ◌≢◌, ◌≤◌, ◌⊎◌, ℕ, [], length, MatchBool, Option, Some, None, Err, IfOk, MatchResult};
+ghost use Rattle.std.specs.Prelude.{◌≡◌, ℕ, Option, Some, None, Err, IfOk, MatchResult};
 ghost use Rattle.pf_values.specs.Counting.{HasFailed, Known, device_of, failures_of};
 ghost use Rattle.pf_values.specs.Text.{Text};
 ghost use Rattle.pf_canon.specs.Comparing.{AreTextsSame, CountsBehind, CountsDrain, CountsSides, DrainsTo, EndsBoth, Gave, GoesOnlyWith, HasPace, IsApart, IsInStep, Lowers, PacesTo, StopsSide, TextStops};
 ghost use Rattle.pf_canon.specs.Sources.{History, Leaves};
-ghost use Rattle.pf_canon.specs.Walks.{AreCommon, GoInStep, HasGiven, HaveCommon};
+ghost use Rattle.pf_canon.specs.Walks.{GoInStep, HasGiven};
 
 use crate::faults::{SideFault, StreamFault};
+use crate::prefixes::{common_front, common_len};
 use crate::reading::Bytes;
 use crate::sides::Side;
 use crate::sources::Source;
@@ -15,9 +16,6 @@ use crate::walks::Walk;
 use pf_text::Refusal;
 use pf_values::{Counted, Model};
 use std::io::Read;
-
-// How many bytes are compared at once.
-const LANES: usize = 16;
 
 /// Whether the formats that two readers hand out up to their ends have equal types in this data
 /// model, and print equal bytes for all arguments. A difference doesn't stop the reading. Where a
@@ -45,10 +43,7 @@ pub fn same_stream<R: Read, S: Read>(
 pub fn same_text(model: Model, f: &[u8], g: &[u8]) -> Result<bool, (Side, Refusal)>
     ensures { MatchResult result (AreTextsSame model f.now g.now) (TextStops f.now g.now) }
 {
-    let common = common_len(f, g);
-    let (transducer, at) = Transducer::after_front(model, &f[..common]);
-    let mut first = Walk::new(transducer, &f[at..]);
-    let mut second = Walk::new(transducer, &g[at..]);
+    let (mut first, mut second) = walks_of(model, f, g);
     let same = go_in_step(&mut first, &mut second);
     if let Err(refusal) = first.finish() {
         return Err((Side::First, refusal));
@@ -59,47 +54,17 @@ pub fn same_text(model: Model, f: &[u8], g: &[u8]) -> Result<bool, (Side, Refusa
     Ok(same)
 }
 
-// How many bytes two texts begin with in common. A few aren't worth being taken by themselves, where
-// the first text goes on.
-fn common_len(x: &[u8], y: &[u8]) -> usize
-    ensures { AreCommon x.now y.now result }
+// A walk through each of two texts. What both begin with is read once.
+#[inline(always)]
+fn walks_of<'a>(model: Model, f: &'a [u8], g: &'a [u8]) -> (Walk<'a>, Walk<'a>)
+    ensures { (given : Text) × HasGiven model result.0 f.now given
+        × HasGiven model result.1 g.now given }
 {
-    let common = common_bytes(x, y);
-    if common < LANES.min(x.len()) {
-        return 0;
-    }
-    common
-}
-
-fn common_bytes(x: &[u8], y: &[u8]) -> usize
-    ensures { AreCommon x.now y.now result }
-{
-    let most = x.len().min(y.len());
-    let mut at = 0;
-    while most - at >= LANES {
-        let next = at + LANES;
-        if !are_equal(&x[at..next], &y[at..next]) {
-            return common_from(x, y, at);
-        }
-        at = next;
-    }
-    common_from(x, y, at)
-}
-
-// The same byte by byte, where so many are known.
-fn common_from(x: &[u8], y: &[u8], known: usize) -> usize
-    requires { AreCommon x.now y.now known }
-    ensures { AreCommon x.now y.now result }
-{
-    let most = x.len().min(y.len());
-    let mut at = known;
-    while at < most {
-        if x[at] != y[at] {
-            return at;
-        }
-        at += 1;
-    }
-    at
+    let common = common_len(f, g);
+    let (transducer, at) = Transducer::after_front(model, &f[..common]);
+    let first = Walk::new(transducer, &f[at..]);
+    let second = Walk::new(transducer, &g[at..]);
+    (first, second)
 }
 
 // Gives the bytes that two canonical texts have in common, and tells whether both ended with them.
@@ -110,7 +75,7 @@ fn go_in_step(first: &mut Walk<'_>, second: &mut Walk<'_>) -> bool
     loop {
         first.fill();
         second.fill();
-        match common(first.front(), second.front()) {
+        match common_front(first.front(), second.front()) {
             Some(0) => return true,
             Some(count) => {
                 first.skip(count);
@@ -119,38 +84,6 @@ fn go_in_step(first: &mut Walk<'_>, second: &mut Walk<'_>) -> bool
             None => return false,
         }
     }
-}
-
-// How many bytes both begin with: as many as the shorter one has, or none.
-fn common(x: &[u8], y: &[u8]) -> Option<usize>
-    ensures { HaveCommon x.now y.now result }
-{
-    if x.is_empty() {
-        return both_empty(y);
-    }
-    let count = x.len().min(y.len());
-    if count == 0 {
-        return None;
-    }
-    if are_equal(&x[..count], &y[..count]) {
-        return Some(count);
-    }
-    None
-}
-
-fn both_empty(y: &[u8]) -> Option<usize>
-    ensures { HaveCommon [] y.now result }
-{
-    if y.is_empty() {
-        return Some(0);
-    }
-    None
-}
-
-fn are_equal(x: &[u8], y: &[u8]) -> bool
-    ensures { MatchBool result (x.now ≡ y.now) (x.now ≢ y.now) }
-{
-    x == y
 }
 
 // What the next bytes of two canonical texts are to each other.

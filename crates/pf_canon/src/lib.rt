@@ -13,6 +13,7 @@ pub mod laws;
 mod lengths;
 pub mod limits;
 mod parts;
+mod prefixes;
 mod putting;
 mod reading;
 mod rooms;

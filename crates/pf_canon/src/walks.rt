@@ -84,17 +84,25 @@ impl<'a> Walk<'a> {
         }
     }
 
-    /// Gives so many of the bytes that wait.
+    /// Gives so many of the bytes that wait, or all if there are fewer.
     pub(crate) fn skip(&mut self, count: usize)
-        requires { count ≤ length (waits self.old) }
         ensures given { (model : Model) (text given : Text)
             → HasGiven model self.old text given
             → HasGiven model self.new text (given ++ take count (waits self.old)) }
-        ensures fewer { to_come self.new + count ≤ to_come self.old }
+        ensures fewer { count ≤ length (waits self.old)
+            → to_come self.new + count ≤ to_come self.old }
     {
-        // There are so many, so the sum fits.
-        let _all = all_len(self.run.len(), self.literal.len(), len_in(&self.parts));
-        self.given += count as u128;
+        let given = self.given.saturating_add(count as u128);
+        self.given = given.min(self.len());
+    }
+
+    // How many bytes waited before any was given.
+    fn len(&self) -> u128
+        ensures total { result ≡ length (self.now.run.now
+            ++ (self.now.literal.now ++ text_in self.now.parts)) }
+        ensures few { result < 2 ^ 101 }
+    {
+        all_len(self.run.len(), self.literal.len(), len_in(&self.parts))
     }
 
     /// Whether the text is accepted, which is read to its end.

@@ -1,6 +1,6 @@
 use Rattle.std.proofs.Common.{arith}
 use Rattle.pf_canon.specs.declared.limits.TheConstants.{PADDING}
-use Rattle.pf_canon.proofs.WalkLemmas.{few_repeated, many_repeated}
+use Rattle.pf_canon.proofs.PlaceLemmas.{few_repeated, many_repeated}
 use Rattle.pf_canon.proofs.parts.repeated.Goals as goal
 
 pub returns-then-count : goal.returns-then-count

@@ -4,7 +4,7 @@ use Rattle.std.proofs.lemmas.List.{take_rest}
 use Rattle.pf_values.specs.Canonical.{item_spelling}
 use Rattle.pf_text.specs.Plain.{silents}
 use Rattle.pf_canon.specs.Parts.{IsFrontOf}
-use Rattle.pf_canon.proofs.WalkLemmas.{silent_at}
+use Rattle.pf_canon.proofs.PlaceLemmas.{silent_at}
 use Rattle.pf_canon.proofs.parts.silent_front.Goals as goal
 
 pub returns : goal.returns

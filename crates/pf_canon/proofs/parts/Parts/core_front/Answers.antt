@@ -6,7 +6,7 @@ use Rattle.pf_values.specs.Text.{space}
 use Rattle.pf_text.specs.Plain.{silents}
 use Rattle.pf_canon.specs.Parts.{IsFrontOf}
 use Rattle.pf_canon.proofs.SilentLemmas.{length-silents}
-use Rattle.pf_canon.proofs.WalkLemmas.{front_all, front_of_first, front_of_second}
+use Rattle.pf_canon.proofs.PlaceLemmas.{front_all, front_of_first, front_of_second}
 use Rattle.pf_canon.proofs.parts.Parts.core_front.Goals as goal
 
 pub returns-then-at-silents : goal.returns-then-at-silents

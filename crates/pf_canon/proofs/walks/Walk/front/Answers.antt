@@ -1,6 +1,6 @@
 use Rattle.std.proofs.Common.{◌++◌, length, refl}
 use Rattle.pf_canon.specs.Walks.{text_in}
-use Rattle.pf_canon.proofs.WalkLemmas.{front_of_second}
+use Rattle.pf_canon.proofs.PlaceLemmas.{front_of_second}
 use Rattle.pf_canon.proofs.walks.Walk.front.Goals as goal
 
 pub returns : goal.returns

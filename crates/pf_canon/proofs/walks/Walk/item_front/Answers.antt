@@ -1,6 +1,6 @@
 use Rattle.std.proofs.Common.{length, refl}
 use Rattle.pf_canon.specs.Parts.{parts_text}
-use Rattle.pf_canon.proofs.WalkLemmas.{front_of_second}
+use Rattle.pf_canon.proofs.PlaceLemmas.{front_of_second}
 use Rattle.pf_canon.proofs.walks.Walk.item_front.Goals as goal
 
 pub returns-in-Some : goal.returns-in-Some

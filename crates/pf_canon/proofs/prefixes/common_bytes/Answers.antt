@@ -1,6 +1,6 @@
 use Rattle.std.proofs.Common.{◌≡◌, ◌+◌, ◌-◌, arith, drop, take}
-use Rattle.pf_canon.proofs.WalkLemmas.{common_more}
-use Rattle.pf_canon.proofs.comparing.common_bytes.Goals as goal
+use Rattle.pf_canon.proofs.PrefixLemmas.{common_more}
+use Rattle.pf_canon.proofs.prefixes.common_bytes.Goals as goal
 
 pub loop-at-preserved : goal.loop-at-preserved
 loop-at-preserved c =

@@ -1,6 +1,6 @@
 use Rattle.std.proofs.Common.{◌≤◌, ◌-◌}
-use Rattle.pf_canon.specs.Walks.{AreCommon}
-use Rattle.pf_canon.proofs.comparing.common_bytes.Given as goal
+use Rattle.pf_canon.specs.Prefixes.{AreCommon}
+use Rattle.pf_canon.proofs.prefixes.common_bytes.Given as goal
 
 abbrev pub invariant-loop-at : goal.invariant-loop-at
 invariant-loop-at l = record {
