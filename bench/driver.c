@@ -35,6 +35,15 @@ static uint64_t call_is_canonical(const char *text, size_t len) { return bench_i
 static uint64_t call_same(const char *text, size_t len) { return bench_same_text(text, len, text, len); }
 static uint64_t call_other(const char *text, size_t len) { return bench_same_text(text, len, "\t", 1); }
 
+/* The text beside the one before it. */
+static uint64_t call_before(const char *text, size_t len) {
+    static const char *before = "";
+    static size_t before_len = 0;
+    bool same = bench_same_text(before, before_len, text, len);
+    before = text, before_len = len;
+    return same;
+}
+
 static uint64_t call_nothing(const char *text, size_t len) { return text[0] + len; }
 
 static uint64_t call_parse(const char *text, size_t len) {
@@ -79,6 +88,7 @@ static const struct {
     {"canonical_len", bench_canonical_len},
     {"same_text", call_same},
     {"same_text, differs at once", call_other},
+    {"same_text, unrelated", call_before},
     {"parse_printf_format twice", call_parse_twice},
     {"Scanner", bench_scanner},
     {"parse_printf_format", call_parse},

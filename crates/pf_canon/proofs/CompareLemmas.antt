@@ -1,17 +1,14 @@
 -- Two texts that are compared in step.
-use Rattle.std.proofs.Common.{◌≡◌, ◌≢◌, ℕ, ◌<◌, Bool, true, false, [], ◌∷◌, ◌++◌, length, Option, Some, None, Result, Ok, Err, refl, sym, ap, ◌∙◌, subst, arith, inl, inr}
+use Rattle.std.proofs.Common.{◌≡◌, ◌≢◌, ℕ, ◌<◌, Bool, true, false, [], ◌∷◌, ◌++◌, length, Option, Some, None, Result, Ok, Err, refl, sym, ◌∙◌, subst, arith, inl, inr, take, drop, ap}
 use Rattle.std.specs.Prelude.{MatchBool}
 use Rattle.std.specs.Io.KnownBytes.{Consumes}
-use Rattle.std.proofs.lemmas.List.{append-nil, append_assoc, append_cancel_left, length-append}
+use Rattle.std.proofs.lemmas.List.{append-nil, append_assoc, append_cancel_left, length-append, take-append-drop, take-append-le}
 use Rattle.pf_values.specs.declared.models.Model.{Model}
 use Rattle.pf_values.specs.Canonical.{IsCanonicalOf}
 use Rattle.pf_values.specs.Counting.{Known}
-use Rattle.pf_values.specs.Items.{IsAccepted}
-use Rattle.pf_values.specs.Refusals.{IsRefusedAt}
 use Rattle.pf_values.specs.Text.{Text}
 use Rattle.pf_probes.proofs.Unique.{equivalent_formats_one}
-use Rattle.pf_canon.specs.Comparing.{BeginsWith, CountsSides, CountsStop, Drained, DrainsTo, EndsBoth, FaultCounts, Gave, HasPace, IsPaced, IsReadWhole, PacesTo, StopsBy, StopsOn, TextStopsOn}
-use Rattle.pf_text.specs.declared.refusal.Refusal.{Refusal}
+use Rattle.pf_canon.specs.Comparing.{BeginsWith, CountsSides, CountsStop, Drained, DrainsTo, EndsBoth, FaultCounts, Gave, HasPace, IsPaced, PacesTo, StopsBy, StopsOn, AreTextsSame}
 use Rattle.pf_canon.specs.declared.comparing.Pace.{Pace}
 use Rattle.pf_canon.specs.declared.comparing.Pace.TheVariants.{On, Same, Differ}
 use Rattle.pf_canon.specs.declared.faults.SideFault.{SideFault}
@@ -21,8 +18,13 @@ use Rattle.pf_canon.specs.declared.sides.Side.{Side}
 use Rattle.pf_canon.specs.declared.sides.Side.TheVariants.{First, Second}
 use Rattle.pf_canon.specs.declared.sources.Source.{Source}
 use Rattle.pf_canon.specs.Due.{due_text}
-use Rattle.pf_canon.specs.Sources.{CountsFault, History, IsEnding, IsOver, IsReadFor, IsReading, IsRefusedBehind, Leaves, StepsBy}
+use Rattle.pf_canon.specs.Sources.{CountsFault, History, IsEnding, IsOver, IsReadFor, IsReading, Leaves, StepsBy}
 use Rattle.pf_canon.proofs.EquivalentTexts.{equivalent_by}
+use Rattle.pf_canon.specs.declared.transducing.Transducer.{Transducer}
+use Rattle.pf_canon.specs.Through.{IsUpTo}
+use Rattle.pf_canon.specs.Walks.{AreApart, GoInStep, IsMidway, IsWalkedWhole, IsWhole, waits}
+use Rattle.pf_canon.specs.Prefixes.{AreCommon}
+use Rattle.pf_canon.specs.declared.walks.Walk.{Walk}
 
 pub fault_counts : {B : Type 0} (kept failed : B → B → Type 0) (fault : StreamFault) (old new : B) → CountsFault kept failed (Some (Err fault)) old new → FaultCounts kept failed fault old new
 fault_counts kept failed faults.Read old new h = h
@@ -200,19 +202,51 @@ module _ {A B : Type 0} (kept_a failed_a : A → A → Type 0) (kept_b failed_b 
   sides_later also_a later_a also_b later_b T (Err stop) a a_mid a_new b b_mid b_new h k s = stop_later also_a later_a also_b later_b stop.side stop.fault a a_mid a_new b b_mid b_new h k s
 
 -- texts in memory
-read_whole : (model : Model) (f rest t : Text) → IsReadWhole model (Some f) (Some rest) t → f ≡ t
-read_whole model f rest t h = h.reader ∙ ap (λ r. t ++ r) h.end ∙ append-nil t
+begun : (model : Model) (r : Transducer) (f p out : Text) (common at : ℕ) → take common f ≡ p → r.model ≡ model → IsUpTo r p at out → IsMidway model r (drop at f) [] f out
+begun model r f p out common at e same h =
+    let front : take at p ≡ take at f = sym (ap (take at) (sym (take-append-drop common f) ∙ ap (λ t. t ++ drop common f) e) ∙ take-append-le at p (drop common f) h.0) in
+    record {
+      taken = take at f;
+      items = h.1;
+      split = sym (take-append-drop at f);
+      through = rw (← front, append-nil out, ← same) h.2;
+    }
 
-whole_accepted : (model : Model) (f rest t : Text) → IsReadWhole model (Some f) (Some rest) t → IsAccepted f
-whole_accepted model f rest t h = subst IsAccepted (sym (read_whole model f rest t h)) h.accepted
+-- what was taken is at the front of both
+pub begun_both : (model : Model) (r : Transducer) (f g out : Text) (common at : ℕ) → AreCommon f g common → r.model ≡ model → IsUpTo r (take common f) at out → IsMidway model r (drop at f) [] f out × IsMidway model r (drop at g) [] g out
+begun_both model r f g out common at both same h = (begun model r f (take common f) out common at refl same h, begun model r g (take common f) out common at (sym both.same) same h)
 
-refused_text : (f rest taken : Text) (refusal : Refusal) → IsRefusedBehind (Some f) (Some rest) taken refusal → IsRefusedAt f refusal.kind refusal.at
-refused_text f rest taken refusal h = elim h.cause [
-  | inl end ↦ subst (λ t. IsRefusedAt t refusal.kind refusal.at) (sym (end.1 ∙ ap (λ r. taken ++ r) end.2 ∙ append-nil taken)) end.3
-  | inr byte ↦ subst (λ t. IsRefusedAt t refusal.kind refusal.at) (sym (byte.2 ∙ append_assoc taken (byte.0 ∷ []) rest)) (byte.3 rest)
-]
+module _ (model : Model) (f g given w v : Text) where
+  -- both canonical texts are the same
+  pub same_told : (x y : Text) → w ≡ [] → x ≡ [] → v ≡ [] → y ≡ [] → IsWhole model f (given ++ (w ++ x)) → IsWhole model g (given ++ (v ++ y)) → AreTextsSame model f g true
+  same_told x y w_none x_none v_none y_none h k =
+      let c = rw (w_none, x_none) at h in
+      let d = rw (v_none, y_none) at k in
+      record {
+        first = h.0;
+        second = k.0;
+        first_canonical = (_, h.1);
+        second_canonical = (_, k.1);
+        same = (λ _. equivalent_by model f g (given ++ []) c.1.equivalent d.1.equivalent, λ _. refl);
+      }
 
-module _ (model : Model) (f f_rest g g_rest : Text) where
-  pub text_stops : (side : Side) (fault : StreamFault) (refusal : Refusal) → fault ≡ faults.Refused refusal → StopsOn model side fault (Some f) (Some f_rest) (Some g) (Some g_rest) → TextStopsOn side f g refusal
-  text_stops First fault refusal e h = refused_text f f_rest h.0 refusal (subst (λ x. StopsBy model x (Some f) (Some f_rest) h.0 h.1) e h.3).0
-  text_stops Second fault refusal e h = (whole_accepted model f f_rest h.0 h.3, refused_text g g_rest h.1 refusal (subst (λ x. StopsBy model x (Some g) (Some g_rest) h.1 h.2) e h.4).0)
+  -- they go on with other bytes
+  pub apart_told : (x y : Text) → AreApart w v → (w ≡ [] → x ≡ []) → (v ≡ [] → y ≡ []) → IsWhole model f (given ++ (w ++ x)) → IsWhole model g (given ++ (v ++ y)) → AreTextsSame model f g false
+  apart_told x y apart no_x no_y h k = record {
+    first = h.0;
+    second = k.0;
+    first_canonical = (_, h.1);
+    second_canonical = (_, k.1);
+    same = (
+      λ is. absurd (cc),
+      λ e. absurd (apart x y no_x no_y (append_cancel_left given (w ++ x) (v ++ y) (equivalent_formats_one model f g (given ++ (w ++ x)) (given ++ (v ++ y)) e h.1 k.1))),
+    );
+  }
+
+-- both texts were walked to their ends
+pub told : (model : Model) (first second : Walk) (f g : Text) (is : Bool) (step : GoInStep model first f second g is) → IsWalkedWhole model first f step.given → IsWalkedWhole model second g step.given → AreTextsSame model f g is
+told model first second f g true step h k =
+    let none = step.so in
+    same_told model f g step.given (waits first) (waits second) h.more k.more none.0 (h.ended (step.one_ended none.0)) none.1 (k.ended (step.two_ended none.1)) h.whole k.whole
+told model first second f g false step h k =
+    apart_told model f g step.given (waits first) (waits second) h.more k.more step.so (λ none. h.ended (step.one_ended none)) (λ none. k.ended (step.two_ended none)) h.whole k.whole

@@ -11,10 +11,10 @@ use Rattle.pf_canon.specs.declared.parts.Parts.{Parts}
 use Rattle.pf_canon.specs.declared.transducing.Transducer.{Transducer}
 use Rattle.pf_canon.specs.Cutting.{IsBehind, IsCutOff, IsUsedUp}
 use Rattle.pf_text.specs.Plain.{silents}
-use Rattle.pf_canon.specs.Parts.{parts_text}
+use Rattle.pf_canon.specs.Parts.{parts_text, silent_bytes}
 use Rattle.pf_canon.specs.Through.{Ends, IsThrough}
 use Rattle.pf_canon.proofs.PutLemmas.{run_more}
-use Rattle.pf_canon.proofs.SilentLemmas.{silent_bytes, silents_next}
+use Rattle.pf_canon.proofs.SilentLemmas.{silents_next}
 
 pub cut_off : (left : Bor Text) (bytes : Text) (rest : Option (Bor Text)) → MatchOption rest ((others : Text) → left.now ≢ bytes ++ others) (λ others. left.now ≡ bytes ++ others.now) → IsCutOff (Some left) bytes rest
 cut_off left bytes (Some rest) h = h

@@ -6,7 +6,8 @@ use Rattle.pf_values.specs.Canonical.{item_spelling}
 use Rattle.pf_values.specs.Text.{Text}
 use Rattle.pf_canon.specs.Due.{silent_rest, silents_text}
 use Rattle.pf_text.specs.Plain.{silents}
-use Rattle.pf_canon.proofs.SilentLemmas.{silent_bytes, spelled_silent}
+use Rattle.pf_canon.specs.Parts.{silent_bytes}
+use Rattle.pf_canon.proofs.SilentLemmas.{spelled_silent}
 
 some_count : (count : ℕ) (t : Text) → count ≢ 0 → (if count == 0 then [] else t) ≡ t
 some_count count t some = grind (arith, nat_tests)

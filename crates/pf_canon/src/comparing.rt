@@ -4,11 +4,15 @@ ghost use Rattle.pf_values.specs.Counting.{HasFailed, Known, device_of, failures
 ghost use Rattle.pf_values.specs.Text.{Text};
 ghost use Rattle.pf_canon.specs.Comparing.{AreTextsSame, CountsBehind, CountsDrain, CountsSides, DrainsTo, EndsBoth, Gave, GoesOnlyWith, HasPace, IsApart, IsInStep, Lowers, PacesTo, StopsSide, TextStops};
 ghost use Rattle.pf_canon.specs.Sources.{History, Leaves};
+ghost use Rattle.pf_canon.specs.Walks.{GoInStep, HasGiven};
 
 use crate::faults::{SideFault, StreamFault};
-use crate::reading::{Bytes, Taken};
+use crate::prefixes::{common_front, common_len};
+use crate::reading::Bytes;
 use crate::sides::Side;
 use crate::sources::Source;
+use crate::transducing::Transducer;
+use crate::walks::Walk;
 use pf_text::Refusal;
 use pf_values::{Counted, Model};
 use std::io::Read;
@@ -39,41 +43,45 @@ pub fn same_stream<R: Read, S: Read>(
 pub fn same_text(model: Model, f: &[u8], g: &[u8]) -> Result<bool, (Side, Refusal)>
     ensures { MatchResult result (AreTextsSame model f.now g.now) (TextStops f.now g.now) }
 {
-    match same_bytes(model, &mut Slice { rest: f }, &mut Slice { rest: g }) {
-        Ok(same) => Ok(same),
-        Err(stop) => match stop.fault {
-            StreamFault::Refused(refusal) => Err((stop.side, refusal)),
-            StreamFault::Read => unreachable!(),
-        },
+    let (mut first, mut second) = walks_of(model, f, g);
+    let same = go_in_step(&mut first, &mut second);
+    if let Err(refusal) = first.finish() {
+        return Err((Side::First, refusal));
     }
+    if let Err(refusal) = second.finish() {
+        return Err((Side::Second, refusal));
+    }
+    Ok(same)
 }
 
-// Bytes in memory.
-#[derive(Drop)]
-struct Slice<'a> {
-    rest: &'a [u8],
+// A walk through each of two texts. What both begin with is read once.
+#[inline(always)]
+fn walks_of<'a>(model: Model, f: &'a [u8], g: &'a [u8]) -> (Walk<'a>, Walk<'a>)
+    ensures { (given : Text) × HasGiven model result.0 f.now given
+        × HasGiven model result.1 g.now given }
+{
+    let common = common_len(f, g);
+    let (transducer, at) = Transducer::after_front(model, &f[..common]);
+    let first = Walk::new(transducer, &f[at..]);
+    let second = Walk::new(transducer, &g[at..]);
+    (first, second)
 }
 
-impl Bytes for Slice<'_> {
-    ghost left = { λ s. Some s.rest.now };
-
-    ghost kept = { λ old new. Unit {0} };
-
-    ghost failed = { λ old new. ⊥ };
-
-    ghost kept_itself = { λ s. tt };
-
-    ghost kept_later = { λ a b c h g. tt };
-
-    ghost failed_later = { λ a b c h g. g };
-
-    fn take(&mut self) -> Taken {
-        match self.rest.split_first() {
-            Some((byte, rest)) => {
-                self.rest = rest;
-                Taken::Byte(*byte)
+// Gives the bytes that two canonical texts have in common, and tells whether both ended with them.
+fn go_in_step(first: &mut Walk<'_>, second: &mut Walk<'_>) -> bool
+    ensures { (model : Model) (f g given : Text) → HasGiven model first.old f given
+        → HasGiven model second.old g given → GoInStep model first.new f second.new g result }
+{
+    loop {
+        first.fill();
+        second.fill();
+        match common_front(first.front(), second.front()) {
+            Some(0) => return true,
+            Some(count) => {
+                first.skip(count);
+                second.skip(count);
             }
-            None => Taken::End,
+            None => return false,
         }
     }
 }

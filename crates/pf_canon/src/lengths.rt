@@ -81,8 +81,8 @@ fn run_and_item(run: usize, item: u128) -> u128
 }
 
 impl Parts {
-    // How many bytes they are.
-    fn len(&self) -> u128
+    /// How many bytes they are.
+    pub(crate) fn len(&self) -> u128
         ensures total { result ≡ length (parts_text self.now) }
         ensures few { result < 2 ^ 100 }
     {

@@ -13,6 +13,7 @@ pub mod laws;
 mod lengths;
 pub mod limits;
 mod parts;
+mod prefixes;
 mod putting;
 mod reading;
 mod rooms;
@@ -22,6 +23,7 @@ mod streaming;
 #[cfg(test)]
 mod tests;
 mod transducing;
+mod walks;
 
 pub use canonical_texts::canonical;
 pub use canonicity::is_canonical;

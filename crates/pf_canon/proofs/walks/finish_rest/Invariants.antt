@@ -1,0 +1,15 @@
+use Rattle.std.proofs.Common.{length, ◌-◌, ◌≤◌, List, ◌++◌, take}
+use Rattle.pf_values.specs.declared.models.Model.{Model}
+use Rattle.pf_values.specs.Items.{Item}
+use Rattle.pf_values.specs.Text.{Text}
+use Rattle.pf_canon.specs.Through.{IsThrough}
+use Rattle.pf_canon.proofs.walks.finish_rest.Given as goal
+
+abbrev pub invariant-loop-at : goal.invariant-loop-at
+invariant-loop-at l = record {
+  within : l.at ≤ length l.rest;
+  through : ((model : Model) (t out : Text) (items : List Item) → IsThrough model l.fn.transducer t items out → (more : Text) × (now : List Item) × IsThrough model l.transducer (t ++ take l.at l.rest) now (out ++ more));
+}
+
+abbrev pub decreases-loop-at : goal.decreases-loop-at
+decreases-loop-at l = length l.rest - l.at
