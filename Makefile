@@ -86,6 +86,7 @@ gate: tools
 
 trials: program library
 	python3 tests/program.py $(PROGRAM)
+	python3 tests/rows.py $(PROGRAM) $(C)
 	python3 tests/devices.py $(PROGRAM)
 	python3 tests/library.py $(PROGRAM) $(C)
 	python3 tests/examples.py $(PROGRAM) $(C)
