@@ -27,7 +27,7 @@ MODEL_COMMANDS = ["canon", "same", "format", "show", "stream", "types"]
 # words that stand for others.
 FOREIGN_NAMES = set("""
     cents errno intmax_t ptrdiff_t strerror uintmax_t I64
-    msgfmt pipefail fix imports plant PYTHONPATH ldconfig pip pkg config
+    msgfmt pipefail fix fmt imports plant PYTHONPATH ldconfig pip pkg config
     AllocFailed Display KIT logic dac8208d650f15bf ed8637e01fc3206ec782c5daf8d913b1fcd4ddf4efb850537416d13256281534 the_type write_all
     NAME TEXT
 """.split())
@@ -187,15 +187,29 @@ def table_rows(path, names=None):
     """How many rows the tables of a test file have, of these names or of all: arrays, and texts with a row a line."""
     text = (TOP / "crates" / path).read_text(encoding="utf-8")
     tables = re.findall(r"(\w+): \[[^;=]*; (\d+)\] = \[", text)
-    tables += [(name, rows.count("\n")) for name, rows in re.findall(r'static (\w+): &str = "\\(\n[^"]*)";', text)]
+    tables += [(name, rows.count("\n")) for name, rows in re.findall(r'static (\w+): &str = "\\(\n(?:[^"\\]|\\.)*)";', text)]
     return sum(int(rows) for name, rows in tables if names is None or name in names)
 
 
+def data_rows(name):
+    """The rows of a file of tests/rows: lines of JSON after the one that says where they come from, or a text's lines."""
+    lines = (TOP / "tests/rows" / name).read_text(encoding="utf-8").splitlines()
+    return [json.loads(line) for line in lines[1:]] if name.endswith(".jsonl") else [line for line in lines if not line.startswith("#")]
+
+
+def data_count(name):
+    return len(data_rows(name))
+
+
 def grid_sizes(of_int):
-    """How many directives the grid of comparisons has, of int or of the other types, as its tests want it."""
-    text = (TOP / "crates/pf_compare/src/tests/grid.rt").read_text(encoding="utf-8")
-    sizes = re.findall(r"are_told_by\(\s*rt\.alloc\(\),\s*model,\s*ArgType::(\w+),\s*(\d+),", text)
-    return [int(size) for name, size in sizes if (name == "Int") == of_int]
+    """How many directives the grid of comparisons has of int, or of each other type."""
+    return [count for kind, count, _ in data_rows("candidates.jsonl") if (kind == "int") == of_int]
+
+
+def numbers_of_int():
+    """How many numbers of int tests/rows.py prints."""
+    text = (TOP / "tests/rows.py").read_text(encoding="utf-8")
+    return len(re.search(r"^INTS = \[(.*)\]$", text, flags=re.MULTILINE).group(1).split(","))
 
 
 def pairs_of(count):
@@ -204,15 +218,15 @@ def pairs_of(count):
 
 def told_counts():
     """What README.md says is tested: patterns of its numbers, each with the numbers that the files give."""
-    grids = [f"pf_render/src/tests/grid/{name}.rt" for name in ["binary", "hexadecimal", "long", "octal", "signed", "unsigned"]]
-    forms = table_rows("pf_compare/src/tests/grid.rt", ["INTS"])
+    grids = [f"pf_render/src/tests/grid/{name}.rt" for name in ["binary", "hexadecimal", "octal", "signed", "unsigned"]]
+    texts = sum(map(table_rows, grids)) + data_count("long.txt")
+    shapes, forms = data_count("shapes.txt"), data_count("forms_of_int.jsonl")
     sizes = grid_sizes(True) + grid_sizes(False)
-    yield r"(\d+) refusals out of", [table_rows("pf_text/src/tests/refused.rt")]
-    yield r"(\d+) texts that the GNU C library prints .* 16 shapes and (5) values", [5 * sum(map(table_rows, grids)), 5]
-    shapes = table_rows("pf_render/src/tests/grid/shapes.rt")
+    yield r"(\d+) refusals out of", [data_count("refused.jsonl")]
+    yield r"(\d+) texts that the GNU C library prints .* 16 shapes and (5) values", [5 * texts, 5]
     yield r"(\d+) that it prints by `b` \((\d+) shapes with (6) values\)", [6 * shapes, shapes, 6]
     yield r"(\d+) rows out of other programs' test suites, (\d+) worked rows", [table_rows("pf_render/src/tests/vectors.rt"), table_rows("pf_render/src/tests/rows.rt")]
-    yield r"(\d+) directives and what they are reduced to .* up to (\d+) numbers", [table_rows("fmtcanon/src/tests/reductions.rt", [name]) for name in ["DIRECTIVES", "INTS"]]
+    yield r"(\d+) directives and what they are reduced to .* up to (\d+) numbers", [data_count("reductions.jsonl"), numbers_of_int()]
     yield r"(\d+) worked canonical texts", [table_rows("pf_canon/src/tests.rt", ["DIRECTIVES", "FORMATS"])]
     commands = [row["words"][0] for row in model_rows()]
     for command in MODEL_COMMANDS:
@@ -220,9 +234,12 @@ def told_counts():
     yield r"(\d+) rows of whole formats", [table_rows("pf_render/src/tests/formats.rt")]
     yield r"(\d+) normal directives of int and (\d+) of the other types.* (\d+) pairs, each", [sum(grid_sizes(True)), sum(grid_sizes(False)), sum(map(pairs_of, sizes))]
     yield r"(\d+) forms of int, (\d+) pairs", [forms, pairs_of(forms)]
-    yield r"(\d+) pairs that one candidate alone", [table_rows("pf_compare/src/tests/grid.rt", ["TOLD_BY_ONE"])]
-    yield r"every two of (\d+) formats", [table_rows("pf_compare/src/tests/vectors.rt", ["FORMATS"])]
-    yield r"on (\d+) pairs from a model", [table_rows("pf_compare/src/tests/verdicts.rt", ["FIRST", "SECOND"])]
+    yield r"(\d+) pairs that one candidate alone", [data_count("told_by_one.jsonl")]
+    yield r"every two of (\d+) formats", [data_count("canonical_pairs.jsonl")]
+    yield r"on (\d+) pairs from a model", [data_count("verdicts.jsonl")]
+    longest = max(sum(times for _, times in parts) for row in data_rows("long_comparisons.jsonl") for parts in row[:2])
+    yield r"formats of up to (\d+) directives", [longest]
+    yield r"(\d+) runs worked out by hand, (\d+) worked reductions and (\d+) calls", [data_count(name) for name in ["commands.jsonl", "reduced.txt", "calls.jsonl"]]
 
 
 # Numbers of the README's pages on tests that count no rows, tests or wrong bodies.

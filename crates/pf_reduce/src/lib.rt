@@ -10,8 +10,6 @@ mod padding;
 mod reducing;
 mod results;
 mod signs;
-#[cfg(test)]
-mod tests;
 mod texts;
 
 pub use normality::is_normal;

@@ -13,7 +13,6 @@ mod devices;
 mod faults;
 mod formats;
 mod grid;
-mod long;
 mod rooms;
 mod rows;
 mod vectors;
@@ -60,23 +59,6 @@ fn write_number<W: Write>(
     }
 }
 
-// What is printed of the number; nothing but a `Vec` without room makes it fail.
-fn print_of(alloc: Global, format: &str, number: i128) -> Result<Option<Vec<u8>>, AllocError> {
-    let mut out = Vec::new(alloc);
-    out.reserve(8192)?;
-    let mut writer = Counted::new(out);
-    match write_number(format, number, &mut writer) {
-        Some(Ok(())) => Ok(Some(writer.into_inner())),
-        _ => Ok(None),
-    }
-}
-
-// Whether the directive prints this of the number.
-fn prints(alloc: Global, format: &str, number: i128, text: &str) -> Result<bool, AllocError> {
-    let out = print_of(alloc, format, number)?;
-    Ok(out.as_deref() == Some(text.as_bytes()))
-}
-
 // The argument of a type that a word stands for: a number after `n:`, or a string after `s:`.
 fn argument(word: &'static str, arg_type: ArgType) -> Option<Arg<'static>> {
     if let Some(text) = word.strip_prefix("s:") {
@@ -86,17 +68,17 @@ fn argument(word: &'static str, arg_type: ArgType) -> Option<Arg<'static>> {
     number_of(arg_type, digits.parse::<i128>().ok()?)
 }
 
-// The arguments that the words stand for, as many as the format takes.
+// The arguments that words with `¦` between them stand for, as many as the format takes.
 fn arguments(
     alloc: Global,
     format: &[u8],
-    words: &[&'static str],
+    words: &'static str,
 ) -> Result<Option<Vec<Arg<'static>>>, AllocError> {
     let mut args = Vec::new(alloc);
     let Ok(types) = signature(alloc, Model::Lp64, format) else {
         return Ok(None);
     };
-    for (word, arg_type) in words.iter().zip(types.as_slice()) {
+    for (word, arg_type) in words.split('¦').zip(types.as_slice()) {
         match argument(word, *arg_type) {
             Some(arg) => args.push(arg)?,
             None => return Ok(None),
@@ -133,17 +115,4 @@ fn is_rendering(
 ) -> Result<bool, AllocError> {
     let out = rendering_of(alloc, format, args)?;
     Ok(out.as_deref() == Some(text))
-}
-
-// Whether a format prints this for the arguments that the words stand for.
-fn renders(
-    alloc: Global,
-    format: &str,
-    words: &[&'static str],
-    text: &str,
-) -> Result<bool, AllocError> {
-    let Some(args) = arguments(alloc, format.as_bytes(), words)? else {
-        return Ok(false);
-    };
-    is_rendering(alloc, format.as_bytes(), args.as_slice(), text.as_bytes())
 }

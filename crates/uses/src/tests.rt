@@ -11,8 +11,9 @@ use crate::replacing::may_replace;
 use crate::room::fits;
 use crate::tidiness::is_tidy;
 use crate::translations::other_type_at;
+use pf_reduce::{Core, is_normal, reduce};
 use pf_render::RenderFault;
-use pf_values::{Conv, Counted, Directive, FlagSet, Length, Model};
+use pf_values::{Conv, Counted, Directive, FlagSet, Length, Model, RefusalKind};
 
 #[test]
 fn a_format_may_replace_another(rt: HostRuntime) {
@@ -125,4 +126,36 @@ fn a_translation_takes_another_type(rt: HostRuntime) {
     assert!(rt; other_type_at(alloc, Model::Lp64, b"%s: %u files", b"%u Dateien: %s") == Some(0));
     assert!(rt; other_type_at(alloc, Model::Lp64, b"%s: %u files", b"%s: Dateien") == Some(1));
     assert!(rt; other_type_at(alloc, Model::Lp64, b"%s: %u files", b"%s: %u Dateien") == None);
+}
+
+// The caller in `pf_reduce`'s CALLING.md that promises nothing.
+fn directive_of(core: Core) -> Option<Directive> {
+    match core {
+        Core::Normal(normal) => Some(normal.directive()),
+        Core::Silent => None,
+    }
+}
+
+fn reduced_char(width: u16) -> Result<(u16, Option<Directive>), RefusalKind> {
+    let directive = Directive::new(FlagSet::empty(), Some(width), None, Length::None, Conv::C)?;
+    let reduced = reduce(Model::Lp64, &directive);
+    Ok((reduced.spaces, directive_of(reduced.core)))
+}
+
+#[test]
+fn a_char_leaves_its_spaces_and_its_core(rt: HostRuntime) {
+    let Ok(plain) = Directive::new(FlagSet::empty(), None, None, Length::None, Conv::C) else {
+        panic!(rt; "the directive is not defined");
+    };
+    assert_eq!(rt; reduced_char(5), Ok((4, Some(plain))));
+    assert_eq!(rt; reduced_char(4096), Err(RefusalKind::WidthTooLarge));
+}
+
+#[test]
+fn a_char_with_a_width_is_not_normal(rt: HostRuntime) {
+    for (width, wanted) in [(None, true), (Some(5), false)] {
+        let made = Directive::new(FlagSet::empty(), width, None, Length::None, Conv::C);
+        let found = made.map(|directive| is_normal(Model::Lp64, &directive));
+        assert_eq!(rt; found, Ok(wanted), "{width:?}");
+    }
 }

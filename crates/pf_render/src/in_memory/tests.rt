@@ -1,7 +1,8 @@
 //! Growths that are refused.
 use super::*;
 use linked_list_allocator::LocalHeap;
-use pf_values::CBytes;
+use pf_text::Refusal;
+use pf_values::{CBytes, RefusalKind};
 use std::alloc::AllocError;
 
 // The sizes of heaps that are tried: in the last ones there is room.
@@ -20,52 +21,65 @@ fn arguments() -> [Arg<'static>; 2] {
     }
 }
 
-#[test]
-fn growth_after_growth_is_refused(rt: HostRuntime) -> Result<(), AllocError> {
-    let mut refused = 0u32;
+// The fault of a call over a heap; none where it prints this.
+fn fault_over(
+    heap: &LocalHeap,
+    format: &[u8],
+    args: &[Arg<'_>],
+    text: &[u8],
+) -> Option<RenderVecFault> {
+    match render_vec_in(heap, Model::Lp64, format, args) {
+        Ok(bytes) => (bytes.as_slice() != text).then_some(RenderVecFault::WrongType(0)),
+        Err(fault) => Some(fault),
+    }
+}
+
+// The size of the first heap that is large enough, where memory is refused in each one before it.
+fn first_enough(alloc: Global) -> Result<Option<usize>, AllocError> {
     for size in 0..SIZES {
-        let heap = LocalHeap::new(rt.alloc(), size)?;
-        match render_vec_in(&heap, Model::Lp64, FORMAT, &arguments()) {
-            Ok(bytes) => {
-                assert!(rt; bytes.as_slice() == PRINTED);
-                assert!(rt; refused > 0);
-                return Ok(());
-            }
-            Err(fault) => {
-                assert!(rt; fault == RenderVecFault::Memory, "size {size}");
-                refused = refused.saturating_add(1);
-            }
+        let heap = LocalHeap::new(alloc, size)?;
+        match fault_over(&heap, FORMAT, &arguments(), PRINTED) {
+            None => return Ok(Some(size)),
+            Some(RenderVecFault::Memory) => {}
+            Some(_) => return Ok(None),
         }
     }
-    assert!(rt; false, "never enough");
+    Ok(None)
+}
+
+#[test]
+fn growth_after_growth_is_refused(rt: HostRuntime) -> Result<(), AllocError> {
+    let size = first_enough(rt.alloc())?;
+    assert!(rt; size > Some(0));
     Ok(())
+}
+
+// The fault of a call that has no memory at all; none where it prints nothing.
+fn fault_without_memory(
+    alloc: Global,
+    format: &[u8],
+    args: &[Arg<'_>],
+) -> Result<Option<RenderVecFault>, AllocError> {
+    let heap = LocalHeap::new(alloc, 0)?;
+    Ok(fault_over(&heap, format, args, b""))
 }
 
 // What needs no memory is answered without any.
 #[test]
 fn no_memory_is_taken_for_nothing(rt: HostRuntime) -> Result<(), AllocError> {
-    let heap = LocalHeap::new(rt.alloc(), 0)?;
-    match render_vec_in(&heap, Model::Lp64, b"%.0d", &[Arg::Int(0)]) {
-        Ok(bytes) => assert!(rt; bytes.is_empty()),
-        Err(fault) => assert!(rt; false, "{fault}"),
-    }
-    let Err(fault) = render_vec_in(&heap, Model::Lp64, b"abc%", &[]) else {
-        panic!(rt; "the text is not refused");
+    let alloc = rt.alloc();
+    let refused = RenderVecFault::Refused(Refusal {
+        kind: RefusalKind::Truncated,
+        at: 4,
+    });
+    let missing = RenderVecFault::WrongCount {
+        wanted: 1,
+        given: 0,
     };
-    assert!(rt; matches!(&fault, RenderVecFault::Refused(_)));
-    let Err(fault) = render_vec_in(&heap, Model::Lp64, b"abc%d", &[]) else {
-        panic!(rt; "an argument is missing");
-    };
-    assert!(rt;
-        fault
-            == RenderVecFault::WrongCount {
-                wanted: 1,
-                given: 0
-            }
-    );
-    let Err(fault) = render_vec_in(&heap, Model::Lp64, b"abc%s", &[Arg::Int(0)]) else {
-        panic!(rt; "the argument is no string");
-    };
-    assert!(rt; fault == RenderVecFault::WrongType(0));
+    let other = RenderVecFault::WrongType(0);
+    assert!(rt; fault_without_memory(alloc, b"%.0d", &[Arg::Int(0)])? == None);
+    assert!(rt; fault_without_memory(alloc, b"abc%", &[])? == Some(refused));
+    assert!(rt; fault_without_memory(alloc, b"abc%d", &[])? == Some(missing));
+    assert!(rt; fault_without_memory(alloc, b"abc%s", &[Arg::Int(0)])? == Some(other));
     Ok(())
 }

@@ -46,42 +46,6 @@ fn strings_of_bytes(rt: HostRuntime) -> Result<(), Fail> {
     Ok(())
 }
 
-// Numbers, and the bytes that they are modulo 256.
-#[rattlefmt::skip]
-static CHARS: [(i32, u8); 14] = [
-    (0, 0),
-    (1, 1),
-    (127, 127),
-    (128, 128),
-    (255, 255),
-    (256, 0),
-    (257, 1),
-    (321, 65),
-    (-1, 255),
-    (-128, 128),
-    (-256, 0),
-    (-257, 255),
-    (2147483647, 255),
-    (-2147483648, 0),
-];
-
-#[test]
-fn chars(rt: HostRuntime) -> Result<(), Fail> {
-    for (number, byte) in &CHARS {
-        let args = [Arg::Int(*number); 3];
-        assert!(rt;
-            is_rendering(rt.alloc(), b"%c", &args[..1], &[*byte])?,
-            "{number}"
-        );
-        let wanted = [b' ', b' ', *byte, *byte, b' ', *byte];
-        assert!(rt;
-            is_rendering(rt.alloc(), b"%3c%-2c%1c", &args, &wanted)?,
-            "{number}"
-        );
-    }
-    Ok(())
-}
-
 #[test]
 fn one_string(rt: HostRuntime) -> Result<(), Fail> {
     let (Some(directive), Some(string)) = (directive_of("%-4.2s"), CBytes::new(b"\xe6\xbc\xa2"))
@@ -96,5 +60,14 @@ fn one_string(rt: HostRuntime) -> Result<(), Fail> {
         Ok(())
     );
     assert!(rt; writer.into_inner().as_slice() == b"\xe6\xbc  ".as_slice());
+    Ok(())
+}
+
+// Longer than a word of the program can be.
+#[test]
+fn a_long_literal(rt: HostRuntime) -> Result<(), Fail> {
+    let mut format = Vec::new(rt.alloc());
+    format.resize(500_000, b'a')?;
+    assert!(rt; is_rendering(rt.alloc(), format.as_slice(), &[], format.as_slice())?);
     Ok(())
 }

@@ -1,5 +1,5 @@
 //! What is found before any byte is written.
-use super::rendering_of;
+use super::is_rendering;
 use crate::{RenderFault, RenderVecFault, render, render_vec};
 use pf_text::Refusal;
 use pf_values::{Arg, CBytes, Counted, Model, RefusalKind};
@@ -152,10 +152,42 @@ fn the_first_wrong_type(rt: HostRuntime) -> Result<(), Fail> {
     Ok(())
 }
 
+// Whether an argument is taken and printed so, or is told to be of another type.
+fn is_told(
+    alloc: Global,
+    format: &[u8],
+    arg: Arg<'_>,
+    text: Option<&[u8]>,
+) -> Result<bool, AllocError> {
+    match text {
+        Some(text) => is_rendering(alloc, format, &[arg], text),
+        None => {
+            let fault = fault_of(alloc, Model::Lp64, format, &[arg])?;
+            Ok(fault == Some(RenderFault::WrongType(0)))
+        }
+    }
+}
+
+// The first of the directives that isn't told to take its own type alone, among arguments of each.
+fn first_mistaken(
+    alloc: Global,
+    formats: &[&'static str],
+    args: &[Arg<'_>],
+) -> Result<Option<(&'static str, usize)>, AllocError> {
+    for (i, format) in formats.iter().enumerate() {
+        for (k, arg) in args.iter().enumerate() {
+            let own: &[u8] = if k == 6 { b"x" } else { b"120" };
+            if !is_told(alloc, format.as_bytes(), *arg, (i == k).then_some(own))? {
+                return Ok(Some((*format, k)));
+            }
+        }
+    }
+    Ok(None)
+}
+
 // Of each type there is a directive that takes it, and it takes no other.
 #[test]
 fn each_type(rt: HostRuntime) -> Result<(), Fail> {
-    let formats = ["%d", "%u", "%ld", "%lu", "%lld", "%llu", "%s"];
     let args = [
         Arg::Int(120),
         Arg::UInt(120),
@@ -165,18 +197,8 @@ fn each_type(rt: HostRuntime) -> Result<(), Fail> {
         Arg::ULongLong(120),
         string(),
     ];
-    for (i, format) in formats.iter().enumerate() {
-        for (k, arg) in args.iter().enumerate() {
-            if i == k {
-                let wanted: &[u8] = if k == 6 { b"x" } else { b"120" };
-                let out = rendering_of(rt.alloc(), format.as_bytes(), &[*arg])?;
-                assert!(rt; out.as_deref() == Some(wanted), "{format}");
-            } else {
-                let found = fault_of(rt.alloc(), Model::Lp64, format.as_bytes(), &[*arg])?;
-                assert!(rt; found == Some(RenderFault::WrongType(0)), "{format} {k}");
-            }
-        }
-    }
+    let formats = ["%d", "%u", "%ld", "%lu", "%lld", "%llu", "%s"];
+    assert_eq!(rt; first_mistaken(rt.alloc(), &formats, &args)?, None);
     Ok(())
 }
 

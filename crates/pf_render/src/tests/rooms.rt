@@ -1,6 +1,6 @@
 //! The rows of the other tests, written into each room from none to that for the whole text:
 //! exactly the bytes that fit go out, and a failure is counted.
-use super::formats::{CHARS, OF_LIBRARIES, OF_SUITES, Row, STRINGS, ShortRow, WORKED};
+use super::formats::{CHARS, OF_LIBRARIES, OF_SUITES, STRINGS, WORKED};
 use super::rows::{NumberRow, ROWS};
 use super::vectors::{HEXADECIMAL, OCTAL, SIGNED, UNSIGNED};
 use super::{argument, arguments, directive_of, number_of};
@@ -183,12 +183,19 @@ fn each_room_for_numbers(rt: HostRuntime) {
     assert_eq!(rt; first_wrong_number(HEXADECIMAL), None);
 }
 
-fn is_format_exact(
-    alloc: Global,
-    format: &str,
-    words: &[&'static str],
-    text: &str,
-) -> Result<bool, AllocError> {
+// A row: a format, the words of its arguments, and what it prints.
+fn split_row(row: &'static str) -> Option<(&'static str, &'static str, &'static str)> {
+    let (format, rest) = row.split_once('¦')?;
+    match rest.rsplit_once('¦') {
+        Some((words, text)) => Some((format, words, text)),
+        None => Some((format, "", rest)),
+    }
+}
+
+fn is_format_exact(alloc: Global, row: &'static str) -> Result<bool, AllocError> {
+    let Some((format, words, text)) = split_row(row) else {
+        return Ok(false);
+    };
     let Some(args) = arguments(alloc, format.as_bytes(), words)? else {
         return Ok(false);
     };
@@ -196,10 +203,11 @@ fn is_format_exact(
     Ok(is_exact(&job, text.as_bytes()))
 }
 
-fn first_wrong(alloc: Global, table: &[Row]) -> Result<Option<&'static str>, AllocError> {
-    for (format, words, text) in table {
-        if !is_format_exact(alloc, format, words.as_slice(), text)? {
-            return Ok(Some(*format));
+// The first row whose text isn't written just as far as there is room.
+fn first_wrong(alloc: Global, table: &'static str) -> Result<Option<&'static str>, AllocError> {
+    for row in table.split("¶\n") {
+        if !is_format_exact(alloc, row)? {
+            return Ok(Some(row));
         }
     }
     Ok(None)
@@ -207,30 +215,26 @@ fn first_wrong(alloc: Global, table: &[Row]) -> Result<Option<&'static str>, All
 
 // A format whose literals and directives print spaces, digits, prefixes, strings, single bytes and
 // nothing.
-static MIXED: [Row; 1] = [(
-    "ab%%%5d,%-4sz%#x%c%.0s!%%",
-    ["n:42", "s:xy", "n:255", "n:65", "s:zzz"],
-    "ab%   42,xy  z0xffA!%",
-)];
+static MIXED: &str = "ab%%%5d,%-4sz%#x%c%.0s!%%¦n:42¦s:xy¦n:255¦n:65¦s:zzz¦ab%   42,xy  z0xffA!%";
 
 #[test]
 fn each_room_for_formats(rt: HostRuntime) -> Result<(), Fail> {
-    assert_eq!(rt; first_wrong(rt.alloc(), &MIXED)?, None);
-    assert_eq!(rt; first_wrong(rt.alloc(), &WORKED)?, None);
-    assert_eq!(rt; first_wrong(rt.alloc(), &OF_SUITES)?, None);
-    assert_eq!(rt; first_wrong(rt.alloc(), &OF_LIBRARIES)?, None);
+    assert_eq!(rt; first_wrong(rt.alloc(), MIXED)?, None);
+    assert_eq!(rt; first_wrong(rt.alloc(), WORKED)?, None);
+    assert_eq!(rt; first_wrong(rt.alloc(), OF_SUITES)?, None);
+    assert_eq!(rt; first_wrong(rt.alloc(), OF_LIBRARIES)?, None);
     Ok(())
 }
 
 // Whether a format that is one directive and then `|` is written so, and the directive alone, too.
-fn is_short_exact(format: &str, word: &'static str, text: &str) -> bool {
-    let Some(directive) = directive_of(format) else {
+fn is_short_exact(row: &'static str) -> bool {
+    let Some((format, word, text)) = split_row(row) else {
         return false;
     };
-    let (Some(arg), Some(alone)) = (
-        argument(word, directive.arg_type(Model::Lp64)),
-        text.strip_suffix("|"),
-    ) else {
+    let (Some(directive), Some(alone)) = (directive_of(format), text.strip_suffix("|")) else {
+        return false;
+    };
+    let Some(arg) = argument(word, directive.arg_type(Model::Lp64)) else {
         return false;
     };
     let args = [arg];
@@ -238,19 +242,14 @@ fn is_short_exact(format: &str, word: &'static str, text: &str) -> bool {
         && is_exact(&Job::Whole(format.as_bytes(), &args), text.as_bytes())
 }
 
-fn first_wrong_short(table: &[ShortRow]) -> Option<(&'static str, &'static str)> {
-    for (format, word, text) in table {
-        if !is_short_exact(format, word, text) {
-            return Some((*format, *word));
-        }
-    }
-    None
+fn first_wrong_short(table: &'static str) -> Option<&'static str> {
+    table.split("¶\n").find(|row| !is_short_exact(row))
 }
 
 #[test]
 fn each_room_for_strings_and_bytes(rt: HostRuntime) {
-    assert_eq!(rt; first_wrong_short(&STRINGS), None);
-    assert_eq!(rt; first_wrong_short(&CHARS), None);
+    assert_eq!(rt; first_wrong_short(STRINGS), None);
+    assert_eq!(rt; first_wrong_short(CHARS), None);
 }
 
 // The greatest padding.

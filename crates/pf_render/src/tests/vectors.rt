@@ -1,15 +1,5 @@
-//! What test suites of other programs and two C libraries say of single directives.
-use super::rows::first_wrong;
-use std::test::Fail;
-
-#[test]
-fn vectors(rt: HostRuntime) -> Result<(), Fail> {
-    assert_eq!(rt; first_wrong(rt.alloc(), SIGNED)?, None);
-    assert_eq!(rt; first_wrong(rt.alloc(), UNSIGNED)?, None);
-    assert_eq!(rt; first_wrong(rt.alloc(), OCTAL)?, None);
-    assert_eq!(rt; first_wrong(rt.alloc(), HEXADECIMAL)?, None);
-    Ok(())
-}
+//! What test suites of other programs and two C libraries say of single directives: rows that are
+//! written into each room here, and that the built program prints.
 
 pub(super) static SIGNED: &str = "\
 %0.0d|2|2|

@@ -1,0 +1,583 @@
+#!/usr/bin/env python3
+"""Tries the built program and the C library on the rows of tests/rows, which are plain data.
+
+Usage: tests/rows.py PROGRAM FOLDER
+
+FOLDER has libfmtcanon.so, as `make library` leaves it. Each file of rows begins with where its expected values come
+from. The last line is 'N passed, M failed', and it exits with 1 where M isn't 0.
+"""
+
+import ctypes
+import itertools
+import json
+import os
+import re
+import sys
+from pathlib import Path
+
+sys.dont_write_bytecode = True
+sys.path.insert(0, str(Path(__file__).resolve().parent))
+
+from library import load_module  # noqa: E402
+from program import TOP, Trials, run  # noqa: E402
+
+ROWS = TOP / "tests/rows"
+RENDERED = TOP / "crates/pf_render/src/tests"
+ESCAPED = {"n": "\n", "t": "\t", "r": "\r", "0": "\0", "\\": "\\", '"': '"'}
+MODELS = ["lp64", "ilp32"]
+FLAGS = "-+ #0'"
+LENGTHS = ["", "hh", "h", "l", "ll", "j", "z", "t"]
+CONVERSIONS = "diuoxXbcs"
+GREATEST = 4095
+# Linux takes no longer word, with the zero byte at its end.
+LONGEST_WORD = 131_072
+
+
+def rows_of(name):
+    """The rows of a file with a row of JSON a line, after the line that says where they come from."""
+    lines = (ROWS / name).read_text(encoding="utf-8").splitlines()
+    assert "source" in json.loads(lines[0])
+    return [json.loads(line) for line in lines[1:]]
+
+
+def fields_of(name):
+    """The rows of a file with a row a line, in which `|` stands after each field, and `#` before a remark."""
+    lines = (ROWS / name).read_text(encoding="utf-8").splitlines()
+    return [line.split("|")[:-1] for line in lines if not line.startswith("#")]
+
+
+def rattle_text(path, name):
+    """A table that tests of `pf_render` write into each room, too: a text in their source."""
+    source = (RENDERED / path).read_text(encoding="utf-8")
+    literal = re.search(rf'static {name}: &str = "\\\n((?:[^"\\]|\\.)*)";', source).group(1)
+    return re.sub(r"\\(x..|.)", lambda found: ESCAPED.get(found.group(1)) or chr(int(found.group(1)[1:], 16)), literal)
+
+
+def rattle_fields(path, name):
+    return [line.split("|")[:-1] for line in rattle_text(path, name).splitlines()]
+
+
+def answer(program, command, model, *words, stdin=b""):
+    """The status and the two streams of a command in a data model, over words that may begin with a minus."""
+    return run(program, [command, "--model", model, "--", *words], stdin)
+
+
+def printed(program, model, format, words):
+    """What a format prints for the words, or the status and the line where it prints nothing."""
+    status, stdout, stderr = answer(program, "format", model, format, *words)
+    return stdout if status == 0 and not stderr else (status, stderr)
+
+
+def try_commands(program, trials):
+    """Each run ends, writes and reports as its row says."""
+    for row in rows_of("commands.jsonl"):
+        wanted = (row["status"], row["stdout"].encode("latin-1"), row["stderr"].encode())
+        trials.expect(row["words"], run(program, row["words"]), wanted)
+
+
+def try_usages(program, trials):
+    """Help and faults of the words are told on standard error alone."""
+    for words, begins in rows_of("usages.jsonl"):
+        status, stdout, stderr = run(program, words)
+        trials.expect(words, (status, stdout, stderr[:len(begins)]), (3, b"", begins.encode()))
+
+
+# The reader: by the bytes of standard input, by the pieces of a word, and by a call of the library.
+
+
+def refusal_of(result):
+    """The kind and the place of a run's refusal; None where the text is accepted."""
+    status, _, stderr = result
+    told = re.fullmatch(rb"refused (\d+) \w+ at byte (\d+)\n", stderr)
+    if status == 2 and told:
+        return [int(number) for number in told.groups()]
+    return None if (status, stderr) == (0, b"") else result
+
+
+def library_refusal(module, text):
+    try:
+        module.check(text)
+    except module.Refused as refusal:
+        return [int(refusal.kind), refusal.byte]
+    return None
+
+
+def try_text(program, module, trials, text, wanted):
+    """Each way to read a text answers so."""
+    name = text if len(text) < 99 else text[:20] + b".." + text[-20:]
+    trials.expect(f"the library on {name}", library_refusal(module, text), wanted)
+    trials.expect(f"stream on {name}", refusal_of(run(program, ["stream"], text)), wanted)
+    # A word can't hold a zero byte.
+    if b"\0" not in text and len(text) < LONGEST_WORD:
+        trials.expect(f"show on {name}", refusal_of(answer(program, "show", "lp64", text)), wanted)
+
+
+def try_refused(program, module, trials):
+    """Each row is refused at its byte for its reason, or accepted, however it is read."""
+    for name in ["refused.jsonl", "grammar.jsonl"]:
+        for text, kind, at in rows_of(name):
+            try_text(program, module, trials, text.encode(), kind and [kind, at])
+
+
+def byte_answers(row, everywhere):
+    """What each of the 256 bytes does after the front of a row: the refusal, or None, of the front with that byte."""
+    front = row["front"]
+    for byte in map(chr, range(256)):
+        kinds = [int(kind) for rows in (row["refused"], everywhere) for kind, letters in rows.items() if byte in letters]
+        if byte in row["goes_on"]:
+            # The text ends in the middle of an item.
+            yield byte, [2, len(front) + 1]
+        elif byte in row["ends"]:
+            yield byte, None
+        else:
+            yield byte, [(kinds or [3])[0], len(front)]
+
+
+def try_bytes(program, module, trials):
+    """Each byte after each beginning of a specification goes on, ends it, or is refused, as the grammar has it."""
+    everywhere, *rows = rows_of("bytes.jsonl")
+    for row in rows:
+        for byte, wanted in byte_answers(row, everywhere["refused"]):
+            text = (row["front"] + byte).encode("latin-1")
+            trials.expect(f"the library on {text}", library_refusal(module, text), wanted)
+            trials.expect(f"stream on {text}", refusal_of(run(program, ["stream"], text)), wanted)
+
+
+def try_hostile(program, module, trials):
+    """A million flags or digits, and numbers that are small again modulo a power of two."""
+    for front, middle, count, back, kind, at in rows_of("hostile.jsonl"):
+        text = front.encode() + middle.encode() * count + back.encode()
+        try_text(program, module, trials, text, kind and [kind, at])
+
+
+# What directives and formats print.
+
+
+def values(bits, is_unsigned):
+    """0, 1, -1, and the least and the greatest number of so many bits; an unsigned type has those of the same bits."""
+    half = 1 << bits - 1
+    return [0, 1, 2 * half - 1, half, half - 1] if is_unsigned else [0, 1, -1, -half, half - 1]
+
+
+def binary_values(bits, is_unsigned):
+    return [0, 1, 2, 5, 255, (1 << bits) - 1 if is_unsigned else -1]
+
+
+def takes_unsigned(format):
+    """Whether the argument is of an unsigned type; of one byte or two it is an int."""
+    return format[-1] not in "di" and not re.search(r"h+.$", format)
+
+
+def length_of(format):
+    return re.search(r"[hljzt]*(?=.$)", format).group()
+
+
+def with_length(format, length):
+    return re.sub(r"[hljzt]*(?=.$)", length, format, count=1)
+
+
+def try_texts(program, trials, model, format, numbers, texts):
+    """A directive prints these texts of the numbers, in one run with a line for each."""
+    whole = "\n".join([format] * len(numbers))
+    words = [f"n:{number}" for number in numbers]
+    trials.expect(f"{model} {format} of {words}", printed(program, model, whole, words), "\n".join(texts).encode())
+
+
+# The modifiers under which ILP32 prints what LP64 prints under this one, but for those that name other bits there.
+ALIKE_IN_ILP32 = {"": ["", "l", "z", "t"], "hh": ["hh"], "h": ["h"], "ll": ["ll", "j"], "j": ["ll", "j"]}
+
+
+def whole_text(field, byte):
+    """A text in which the longest run of a byte is told by its length: what comes before, how often, what comes after."""
+    head, count, tail = field.split("~")
+    return head + byte * int(count) + tail
+
+
+def try_grid(program, trials):
+    """Each integer conversion under each modifier prints what a C library prints, in either data model."""
+    for name in ["signed", "unsigned", "octal", "hexadecimal", "binary"]:
+        for format, bits, *texts in rattle_fields(f"grid/{name}.rt", name.upper()):
+            numbers = values(int(bits), takes_unsigned(format))
+            try_texts(program, trials, "lp64", format, numbers, texts)
+            for length in ALIKE_IN_ILP32.get(length_of(format), []):
+                try_texts(program, trials, "ilp32", with_length(format, length), numbers, texts)
+    for format, bits, byte, *fields in fields_of("long.txt"):
+        numbers = values(int(bits), takes_unsigned(format))
+        try_texts(program, trials, "lp64", format, numbers, [whole_text(field, byte) for field in fields])
+    for format, bits, *texts in fields_of("shapes.txt"):
+        try_texts(program, trials, "lp64", format, binary_values(int(bits), takes_unsigned(format)), texts)
+
+
+def try_numbers(program, trials):
+    """Single directives print what is worked out by hand, and what others say."""
+    tables = {"rows.rt": ["ROWS"], "vectors.rt": ["SIGNED", "UNSIGNED", "OCTAL", "HEXADECIMAL"]}
+    for path, names in tables.items():
+        for format, number, text in (row for name in names for row in rattle_fields(path, name)):
+            try_texts(program, trials, "lp64", format, [number], [text])
+
+
+def try_formats(program, trials):
+    """Whole formats, strings and single bytes are printed as their rows say."""
+    for name in ["WORKED", "OF_SUITES", "OF_LIBRARIES", "STRINGS", "CHARS"]:
+        for row in rattle_text("formats.rt", name).split("¶\n"):
+            format, *words, text = row.split("¦")
+            trials.expect([format, words], printed(program, "lp64", format, words), text.encode())
+    for format, words, text in rows_of("chars.jsonl"):
+        trials.expect([format, words], printed(program, "lp64", format, words), text.encode("latin-1"))
+
+
+def try_long_formats(program, trials):
+    """Long strings, many arguments and long formats are printed whole."""
+    text = "abcdefgh" * 12_500
+    strings = {"%s": text, "%4095s": text, "%.4095s": text[:4095], "%-4095.4094s": text[:4094] + " "}
+    for format, wanted in strings.items():
+        trials.expect(f"{format} of a long string", printed(program, "lp64", format, ["s:" + text]) == wanted.encode(), True)
+    rows = [
+        ("%4095c%-4095c", ["n:65", "n:66"], " " * 4094 + "AB" + " " * 4094),
+        ("%d,%s;" * 500, ["n:-7", "s:x"] * 500, "-7,x;" * 500),
+        ("a%%%3ld" * 10_000, ["n:5"] * 10_000, "a%  5" * 10_000),
+        ("abcdefghi\n" * 13_000, [], "abcdefghi\n" * 13_000),
+    ]
+    for format, words, wanted in rows:
+        trials.expect(f"{format[:20]}.. is printed whole", printed(program, "lp64", format, words) == wanted.encode(), True)
+
+
+# What directives are reduced to.
+
+
+def shown(program, model, formats):
+    """What each directive of a list is reduced to: its spelling, spaces, zeros, core and trail, by few runs of `show`."""
+    texts, size = [[]], 0
+    for format in formats:
+        size += len(format)
+        if size >= LONGEST_WORD:
+            texts, size = [*texts, []], len(format)
+        texts[-1].append(format)
+    pattern = r"directive (%\S*(?: \S+)*): [\w ]+: (\d+) (\d+) (%.*) (\d+)"
+    for part in texts:
+        lines = answer(program, "show", model, "".join(part))[1].decode().splitlines()
+        assert len(lines) == len(part), "not a line for each directive"
+        for line in lines:
+            spelling, spaces, zeros, core, trail = re.fullmatch(pattern, line).groups()
+            yield spelling, int(spaces), int(zeros), core, int(trail)
+
+
+def try_reduced(program, trials):
+    """Each directive is reduced to what its row says."""
+    for model, format, spaces, zeros, core, trail in fields_of("reduced.txt"):
+        wanted = (int(spaces), int(zeros), core, int(trail))
+        trials.expect(f"{model} {format}", [row[1:] for row in shown(program, model, [format])], [wanted])
+
+
+def directives(widths, precisions):
+    """Each directive with these numbers that is defined, as the standard's table of flags and modifiers has it."""
+    undefined = {**dict.fromkeys("diu", "#"), **dict.fromkeys("oxXb", "'"), "c": "#0'", "s": "#0'"}
+    for conversion, length in itertools.product(CONVERSIONS, LENGTHS):
+        if conversion in "cs" and length:
+            continue
+        flags = [flag for flag in FLAGS if flag not in undefined[conversion]]
+        for chosen in itertools.product(*[("", flag) for flag in flags]):
+            for width, precision in itertools.product(widths, precisions if conversion != "c" else [""]):
+                yield f"%{''.join(chosen)}{width}{precision}{length}{conversion}"
+
+
+def try_cores(program, module, trials):
+    """Over a grid of directives, each core is its own core, and just what is its own core is canonical."""
+    numbers = [*range(1, 13), GREATEST]
+    given = list(directives(["", *numbers], ["", ".0", *[f".{number}" for number in numbers]]))
+    for model in MODELS:
+        reduced = dict(zip(given, shown(program, model, given)))
+        cores = sorted({core for _, _, _, core, _ in reduced.values()})
+        moved = [row for core, row in zip(cores, shown(program, model, cores)) if row != (core, 0, 0, core, 0)]
+        trials.expect(f"{model}: cores that are no core of their own", moved, [])
+        number = module.Model[model.upper()]
+        wrong = [
+            format for format, row in reduced.items()
+            if module.is_canonical(format, model=number) != (row == (format, 0, 0, format, 0))
+        ]
+        trials.expect(f"{model}: directives that are canonical and no core, or the other way round", wrong, [])
+        trials.expect(f"{model}: directives of the grid", len(reduced) > 300_000, True)
+
+
+# Numbers that tell directives of a type apart: the candidates of docs/DEFINITIONS.md.
+INTS = [0, 1, 2, 257, 129, 32769, -1, -127, -32767, -2147483647, -128, -32768, -2147483648, 127, 32767, 2147483647, 3]
+CANDIDATES = {
+    "int": INTS,
+    "unsigned int": [0, 1, 2, (1 << 32) - 1, 3],
+    "unsigned long long": [0, 1, 2, (1 << 64) - 1, 3],
+    "long long": [0, 1, -1, -(1 << 63), (1 << 63) - 1],
+}
+CANDIDATES_OF_A_LONG = {
+    "lp64": {"long": CANDIDATES["long long"], "unsigned long": CANDIDATES["unsigned long long"]},
+    "ilp32": {"long": [0, 1, -1, -(1 << 31), (1 << 31) - 1], "unsigned long": CANDIDATES["unsigned int"]},
+}
+STRINGS = ["", "A", "A" * 4096, "B" * 4096]
+
+
+def type_of(program, model, format):
+    return answer(program, "types", model, format)[1].decode().strip()
+
+
+def candidate_words(model, kind):
+    """The words of the candidates of a type."""
+    if kind == "string":
+        return [f"s:{text}" for text in STRINGS]
+    return [f"n:{number}" for number in {**CANDIDATES, **CANDIDATES_OF_A_LONG[model]}[kind]]
+
+
+def texts_of(program, model, format, words):
+    """What a directive prints for each of the words, by one run."""
+    return printed(program, model, "\n".join([format] * len(words)), words).split(b"\n")
+
+
+def try_reductions(program, trials):
+    """A directive and what it is reduced to print the same of each number that tells directives apart."""
+    formats = [format for format, in rows_of("reductions.jsonl")]
+    for model in MODELS:
+        for format, (_, spaces, zeros, core, trail) in zip(formats, shown(program, model, formats)):
+            # Every number of the int candidates fits a long of 32 bits.
+            kind = type_of(program, model, format)
+            words = candidate_words(model, "int" if (kind, model) == ("long", "ilp32") else kind)
+            parts = [b" " * spaces + b"0" * zeros + text + b" " * trail for text in texts_of(program, model, core, words)]
+            trials.expect(f"{model} {format} and {core}", texts_of(program, model, format, words), parts)
+
+
+# Comparisons.
+
+
+def are_told_apart(program, model, first, second, words):
+    """Whether two formats print different bytes for the arguments."""
+    texts = [printed(program, model, format, words) for format in (first, second)]
+    return all(isinstance(text, bytes) for text in texts) and texts[0] != texts[1]
+
+
+def verdict_of(program, model, first, second):
+    """What two formats are to each other, in the words of the rows; arguments are confirmed by printing them."""
+    status, stdout, stderr = answer(program, "same", model, first, second)
+    lines = stdout.decode().splitlines()
+    refused = re.fullmatch(rb"(first|second): refused (\d+) \w+ at byte (\d+)\n", stderr)
+    if status == 2 and refused:
+        return b" ".join(refused.groups()).decode()
+    if (status, lines) == (0, ["same"]):
+        return "same"
+    told = re.fullmatch(r"types differ at argument (\d+)", lines[0])
+    if told:
+        return f"types {told.group(1)}"
+    is_confirmed = are_told_apart(program, model, first, second, lines[1:])
+    return " ".join(["different", *map(short_word, lines[1:]), *([] if is_confirmed else ["unconfirmed"])])
+
+
+def short_word(word):
+    """A word, with a string of many bytes told by their number."""
+    return f"{word[:3]}*{len(word) - 2}" if word.startswith("s:") and len(word) > 3 else word
+
+
+def try_verdicts(program, trials):
+    """Each pair is told as a model of the definitions tells it, and the arguments are confirmed."""
+    for first, second, wanted in rows_of("verdicts.jsonl"):
+        trials.expect([first, second], verdict_of(program, "lp64", first, second), wanted)
+
+
+def try_every_two(program, trials):
+    """Formats are the same just where their canonical texts are one; else they are told apart."""
+    rows = rows_of("canonical_pairs.jsonl")
+    for (first, canonical), (second, other) in itertools.product(rows, rows):
+        told = verdict_of(program, "lp64", first, second)
+        is_right = told == "same" if canonical == other else told.startswith(("types", "different"))
+        trials.expect([first, second], is_right and "unconfirmed" not in told, True)
+    for first, canonical in rows:
+        trials.expect([first, canonical], verdict_of(program, "lp64", first, canonical), "same")
+        trials.expect([canonical, first], verdict_of(program, "lp64", canonical, first), "same")
+
+
+def compared(module, model, first, second):
+    """The verdict of the library with how many words it tells, and how many renderings that took."""
+    texts = [text.encode() for text in (first, second)]
+    told, error = module._Comparison(), module._Error()
+    sized = [part for text in texts for part in (text, len(text))]
+    call = module._library.fmtcanon_compare
+    size = max(0, call(module.Model[model.upper()], *sized, None, 0, told, error))
+    out = ctypes.create_string_buffer(size + 1)
+    call(module.Model[model.upper()], *sized, out, len(out), told, error)
+    return told.verdict, told.number, told.renderings, out.raw[:size].split(b"\0")[:-1]
+
+
+def try_comparisons(program, module, trials):
+    """The last argument that tells two formats apart, and the place of it among the candidates."""
+    for model, first, second, verdict, last, renderings in rows_of("comparisons.jsonl"):
+        told = " ".join(filter(None, [verdict, last]))
+        found = re.sub(r"^different.* ", "different ", verdict_of(program, model, first, second))
+        trials.expect(f"{model} {first} {second}", [found, compared(module, model, first, second)[2]], [told, renderings])
+
+
+def try_long_comparisons(module, trials):
+    """Formats with thousands of directives are told apart, in time."""
+    for first, second, number, renderings in rows_of("long_comparisons.jsonl"):
+        texts = ["".join(part * count for part, count in parts) for parts in (first, second)]
+        verdict, told, found, words = compared(module, "lp64", *texts)
+        wanted = (3 if number else 1, number, renderings, number)
+        trials.expect(f"{first} {second}", (verdict, told, found, len(words)), wanted)
+
+
+# Every two normal directives of a grid are told apart by a candidate.
+
+
+def grid_numbers(digits, more):
+    return list(dict.fromkeys(number for number in [*more, digits - 1, digits, digits + 1] if number > 0))
+
+
+def digits_of(program, model, format, words):
+    """The most digits that a conversion prints; of a string as many bytes as the greatest precision but one has."""
+    if format[-1] in "cs":
+        return {"c": 2, "s": GREATEST - 1}[format[-1]]
+    return max(len(text.lstrip(b"-")) for text in texts_of(program, model, format, words))
+
+
+def grid_of(program, model, kind):
+    """The normal directives of a type, of few numbers about the most digits that are printed."""
+    given = []
+    for conversion, length in itertools.product(CONVERSIONS, LENGTHS):
+        bare = f"%{length}{conversion}"
+        if conversion in "cs" and length or type_of(program, model, bare) != kind:
+            continue
+        digits = digits_of(program, model, bare, candidate_words(model, kind))
+        for precision in [None, 0, *grid_numbers(digits, [1, 2])]:
+            longest = max(digits, 1 if precision is None else precision)
+            widths = [*grid_numbers(digits, [1, 2]), longest + 1, longest + 2]
+            wanted = "" if precision is None else f".{precision}"
+            near = [str(width) for width in dict.fromkeys(widths) if width <= GREATEST]
+            given += [one for one in directives(["", *near], [wanted]) if one.endswith(f"{wanted}{length}{conversion}")
+                      and length_of(one) == length and one[-1] == conversion]
+    reduced = dict(zip(given, shown(program, model, given)))
+    return [format for format, row in reduced.items() if row == (format, 0, 0, format, 0) and row[3] != "%.0s"]
+
+
+def places_told(first, second):
+    return [place for place, (one, other) in enumerate(zip(first, second)) if one != other]
+
+
+def try_candidates(program, trials):
+    """Every two are told apart, and just these candidates are needed: without one of them two fall together."""
+    for kind, count, needed in rows_of("candidates.jsonl"):
+        for model in MODELS:
+            words = candidate_words(model, kind)
+            formats = grid_of(program, model, kind)
+            texts = [texts_of(program, model, format, words) for format in formats]
+            told = [places_told(one, other) for one, other in itertools.combinations(texts, 2)]
+            alone = sorted({places[0] for places in told if len(places) == 1})
+            name = f"{model}: {kind}"
+            trials.expect(f"{name}: directives of the grid", len(formats), count)
+            trials.expect(f"{name}: pairs that no candidate tells apart", told.count([]), 0)
+            trials.expect(f"{name}: candidates that tell a pair apart alone", alone, needed)
+
+
+def try_single_candidates(program, trials):
+    """One candidate alone tells these apart; every two of some forms of int are told apart."""
+    for first, second, place in rows_of("told_by_one.jsonl"):
+        words = candidate_words("lp64", type_of(program, "lp64", first))
+        texts = [texts_of(program, "lp64", format, words) for format in (first, second)]
+        trials.expect([first, second], places_told(*texts), [place])
+    forms = [format for format, in rows_of("forms_of_int.jsonl")]
+    texts = {format: texts_of(program, "lp64", format, candidate_words("lp64", "int")) for format in forms}
+    for first, second in itertools.combinations(forms, 2):
+        trials.expect(f"{first} and {second} are told apart", texts[first] != texts[second], True)
+
+
+# Sizes on either side of each power of two: memory that is there is used.
+
+
+def sizes(most):
+    return sorted({size for power in range(most + 1) for size in (1 << power, (1 << power) - 1)})
+
+
+def try_many_directives(program, trials):
+    """Each command answers for any number of directives that a word can hold."""
+    for count in sizes(15):
+        given, canonical = "%i" * count, "%d" * count
+        wanted = {
+            "canon": (given, canonical + "\n"),
+            "types": (given, "int\n" * count),
+            "show": (canonical, "directive %d: int: 0 0 %d 0\n" * count),
+        }
+        for command, (word, text) in wanted.items():
+            is_right = answer(program, command, "lp64", word) == (0, text.encode(), b"")
+            trials.expect(f"{command} of {count} directives", is_right, True)
+        trials.expect(f"same of {count}", answer(program, "same", "lp64", given, canonical), (0, b"same\n", b""))
+        is_right = run(program, ["stream"], given.encode()) == (0, canonical.encode(), b"")
+        trials.expect(f"stream of {count} directives", is_right, True)
+
+
+def try_many_arguments(program, trials):
+    """`format` prints any number of arguments, and `same` tells them."""
+    for count in range(41):
+        digits = [str(at % 10) for at in range(count)]
+        words = [f"n:{digit}" for digit in digits]
+        trials.expect(f"{count} arguments", printed(program, "lp64", "%d" * count, words), "".join(digits).encode())
+        front = "%d" * count
+        trials.expect(f"{count} and one alike", verdict_of(program, "lp64", front + "%d", front + "%i"), "same")
+        told = " ".join(["different", *["n:0"] * (count + 1)])
+        trials.expect(f"{count} and one other", verdict_of(program, "lp64", front + "%d", front + "%5d"), told)
+
+
+# The calls of the C library.
+
+
+def called(module, row):
+    """What a call of a row answers: its result, its buffer, its error and its comparison."""
+    call, model, texts, room = row["call"], row["model"], row["texts"], row["room"]
+    error, told = module._Error(7, 8, 9), module._Comparison(7, 8, 9)
+    out = ctypes.create_string_buffer(b"Z" * (room or 0), room or 0)
+    words = [] if model is None else [model]
+    for text in texts:
+        words += [text.encode(), len(text.encode())] if isinstance(text, str) else [text]
+    words += [] if room is None else [out, room]
+    words += [told] if call == "compare" else []
+    words += [] if call in ("kind_name", "version") else [error]
+    result = getattr(module._library, f"fmtcanon_{call}")(*words)
+    return {
+        "result": result,
+        "out": out.raw[:len(row["out"])].decode("latin-1"),
+        "error": [error.at, error.kind, error.side],
+        "told": [told.number, told.verdict],
+    }
+
+
+def try_calls(module, trials):
+    """Each call answers as its row says, and leaves as it was what it doesn't tell."""
+    for row in rows_of("calls.jsonl"):
+        wanted = {key: row[key] for key in ("result", "out", "error", "told")}
+        trials.expect(f"{row['call']} {row['model']} {row['texts']}", called(module, row), wanted)
+
+
+def main():
+    if len(sys.argv) != 3:
+        sys.exit(__doc__)
+    program, folder = os.path.abspath(sys.argv[1]), Path(sys.argv[2]).resolve()
+    module, trials = load_module(folder), Trials()
+    try_commands(program, trials)
+    try_usages(program, trials)
+    try_refused(program, module, trials)
+    try_bytes(program, module, trials)
+    try_hostile(program, module, trials)
+    try_grid(program, trials)
+    try_numbers(program, trials)
+    try_formats(program, trials)
+    try_long_formats(program, trials)
+    try_reduced(program, trials)
+    try_cores(program, module, trials)
+    try_reductions(program, trials)
+    try_verdicts(program, trials)
+    try_every_two(program, trials)
+    try_comparisons(program, module, trials)
+    try_long_comparisons(module, trials)
+    try_candidates(program, trials)
+    try_single_candidates(program, trials)
+    try_many_directives(program, trials)
+    try_many_arguments(program, trials)
+    try_calls(module, trials)
+    print(f"{trials.passed} passed, {trials.failed} failed")
+    return 1 if trials.failed else 0
+
+
+if __name__ == "__main__":
+    sys.exit(main())
