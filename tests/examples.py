@@ -1,5 +1,5 @@
 #!/usr/bin/env python3
-"""Tries fmtcanon-replace (replacing.py), and the manual page and the completions against the program's help.
+"""Tries fmtcanon-replace (replacing.py), fmtcanon-po (translations.py), and the manual page and the completions against the program's help.
 
 Usage: tests/examples.py PROGRAM FOLDER
 
@@ -18,6 +18,7 @@ sys.path.insert(0, str(Path(__file__).resolve().parent))
 
 from program import TIMEOUT, TOP, Trials, run  # noqa: E402
 from replacing import try_replacing  # noqa: E402
+from translations import try_catalogs  # noqa: E402
 
 def help_of(program, words):
     """The parts of a help text: the lines of usage, commands, arguments, options, examples and statuses."""
@@ -118,6 +119,7 @@ def main():
     program, folder = os.path.abspath(sys.argv[1]), Path(sys.argv[2]).resolve()
     trials = Trials()
     try_replacing(folder, trials)
+    try_catalogs(folder, trials)
     try_page(program, trials)
     try_completions(program, trials)
     print(f"{trials.passed} passed, {trials.failed} failed")
