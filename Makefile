@@ -132,7 +132,7 @@ install: built
 	install -m 755 $(PROGRAM) $(DESTDIR)$(BINDIR)/fmtcanon
 	install -m 644 include/fmtcanon.h $(DESTDIR)$(INCLUDEDIR)
 	install -m 644 $(C)/libfmtcanon.a $(DESTDIR)$(LIBDIR)
-	install -m 755 $(SHARED) $(DESTDIR)$(LIBDIR)
+	install -m 644 $(SHARED) $(DESTDIR)$(LIBDIR)
 	ln -sf libfmtcanon.so.$(VERSION) $(DESTDIR)$(LIBDIR)/$(SONAME)
 	ln -sf $(SONAME) $(DESTDIR)$(LIBDIR)/libfmtcanon.so
 	printf '%s\n' $(PKGCONFIG) > $(DESTDIR)$(LIBDIR)/pkgconfig/fmtcanon.pc
