@@ -26,7 +26,7 @@ SHAPES = TOP / "bench/shapes.nul"
 ROWS = TOP / "tests/commands.jsonl"
 SOURCES = TOP / "crates/fmtcanon_c/src"
 STRICT = ["-Wall", "-Wextra", "-pedantic", "-Werror", f"-I{HEADER.parent}"]
-WRAPPED = ["-pthread", "-Wl,--wrap=malloc,--wrap=realloc"]
+WRAPPED = ["-pthread", "-Wl,--wrap=malloc,--wrap=realloc,--wrap=free"]
 # What a parameter of Rattle is in C.
 PARAMETERS = {
     "&[u8]": ["const char *", "size_t"],

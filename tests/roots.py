@@ -8,7 +8,6 @@ import os
 import re
 import shutil
 import subprocess
-import sys
 import tempfile
 import venv
 from pathlib import Path
@@ -20,6 +19,7 @@ PACKAGE = TOP / f"out/fmtcanon_{VERSION}-1_amd64.deb"
 ARCHIVE = TOP / f"out/fmtcanon-{VERSION}-linux-x86_64.tar.gz"
 WHEEL = TOP / f"out/fmtcanon-{VERSION}-py3-none-manylinux_2_17_x86_64.whl"
 INCLUDED = "gcc,libc6-dev,make,pkg-config,python3"
+CHROOT = shutil.which("chroot") or "/usr/sbin/chroot"
 # What is tried of an installation, each with what it prints.
 TRIED = [
     ("fmtcanon canon 'Total: %i of %u%%'", "Total: %d of %u%%\n"),
@@ -57,7 +57,7 @@ def try_commands(where, inside, trials):
     """Each command prints what it should in a root, as a user would call it."""
     put_samples(inside / "work")
     for command, wanted in TRIED:
-        got = shell(["chroot", inside, "/bin/sh", "-c", f"cd /work && {command}"], env={"PATH": "/usr/local/bin:/usr/bin:/bin", "LC_ALL": "C.UTF-8"})
+        got = shell([CHROOT, inside, "/bin/sh", "-c", f"cd /work && {command}"], env={"PATH": "/usr/local/bin:/usr/bin:/bin", "LC_ALL": "C.UTF-8"})
         trials.expect(f"{where}: {command}", got, (0, wanted))
 
 
@@ -69,10 +69,10 @@ def is_left(root):
 
 def try_package(root, trials):
     shutil.copy(PACKAGE, root / "package.deb")
-    status, told = shell(["chroot", root, "dpkg", "-i", "/package.deb"])
+    status, told = shell([CHROOT, root, "dpkg", "-i", "/package.deb"])
     trials.expect(f"dpkg -i: {told if status else ''}", status, 0)
     try_commands("the package", root, trials)
-    trials.expect("dpkg -P", shell(["chroot", root, "dpkg", "-P", "fmtcanon"])[0], 0)
+    trials.expect("dpkg -P", shell([CHROOT, root, "dpkg", "-P", "fmtcanon"])[0], 0)
     (root / "package.deb").unlink()
     trials.expect("what dpkg -P leaves", is_left(root), [])
 
@@ -81,7 +81,7 @@ def try_archive(root, trials):
     shell(["tar", "-xzf", ARCHIVE, "-C", root / "root"])
     folder = f"/root/fmtcanon-{VERSION}-linux-x86_64"
     for target in ["install", "uninstall"]:
-        status, told = shell(["chroot", root, "/bin/sh", "-c", f"cd {folder} && make {target}" + (" && ldconfig" if target == "install" else "")])
+        status, told = shell([CHROOT, root, "/bin/sh", "-c", f"cd {folder} && make {target}" + (" && ldconfig" if target == "install" else "")])
         trials.expect(f"make {target} in the archive: {told if status else ''}", status, 0)
         if target == "install":
             try_commands("the archive", root, trials)
