@@ -58,6 +58,18 @@ Description: canonical texts of printf formats
  replaces formats in C source.
 CONTROL
 echo "libfmtcanon 0 fmtcanon (>= $1)" > "$stage/DEBIAN/shlibs"
+# Python's compiled modules come and go with the package.
+cat > "$stage/DEBIAN/postinst" << 'SCRIPT'
+#!/bin/sh
+set -e
+if [ "$1" = configure ] && command -v py3compile > /dev/null; then py3compile -p fmtcanon; fi
+SCRIPT
+cat > "$stage/DEBIAN/prerm" << 'SCRIPT'
+#!/bin/sh
+set -e
+if command -v py3clean > /dev/null; then py3clean -p fmtcanon; fi
+SCRIPT
+chmod 755 "$stage/DEBIAN/postinst" "$stage/DEBIAN/prerm"
 echo 'activate-noawait ldconfig' > "$stage/DEBIAN/triggers"
 (cd "$stage" && find usr -type f -exec md5sum {} +) > "$stage/DEBIAN/md5sums"
 dpkg-deb --build --root-owner-group "$stage" "$package" > /dev/null

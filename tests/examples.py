@@ -50,6 +50,11 @@ def plain_lines(page, name):
             yield re.sub(r" (\[) (\w+) (\])", r" \1\2\3", line)
 
 
+def model_option(help_parts):
+    """The option --model of a command, with its text."""
+    return next((re.sub("[<>]", "", name), text) for name, text in help_parts["Options"] if "--model" in name)
+
+
 def try_page(program, trials):
     """The manual page has the commands, arguments, options, statuses and examples of the help."""
     page = (TOP / "man/fmtcanon.1").read_text(encoding="utf-8")
@@ -65,7 +70,10 @@ def try_page(program, trials):
     trials.expect("the synopsis", synopsis, usages)
     wanted = {re.sub(r"\W", "", name): text for one in helps.values() for name, text in one["Arguments"]}
     trials.expect("arguments of the manual page", dict(page_section(page, "ARGUMENTS")), wanted)
-    model = [(re.sub("[<>]", "", name), text) for name, text in helps["same"]["Options"] if "--model" in name]
+    name, text = model_option(helps["canon"])
+    wider = re.search(r"possible values: .*(?=\])", model_option(helps["same"])[1]).group()
+    # One command takes more values than the others.
+    model = [(name, text[:-1] + wider.replace("possible values", "; under same") + "]")]
     trials.expect("options of the manual page", list(page_section(page, "OPTIONS")), model + top["Options"])
     trials.expect("statuses of the manual page", list(page_section(page, "EXIT STATUS")), top["Exit status"])
     examples = {example for one in [top, *helps.values()] for example in one["Example"]}
@@ -95,9 +103,17 @@ def try_completions(program, trials):
         one = [option.split()[0] for names in told for option in names.split(", ")]
         models = re.search(r"possible values: (.*)\]", told["--model <MODEL>"]).group(1).split(", ")
         trials.expect(f"bash: {name} --model", completed([name, "--model", ""]), models)
+        trials.expect(f"bash: {name} --model=", completed([name, "--model", "="]), models)
+        trials.expect(f"bash: {name} --model=i", completed([name, "--model", "=", "i"]), ["ilp32"])
+        trials.expect(f"bash: {name} --model=i in one word", completed([name, "--model=i"]), ["--model=ilp32"])
+        for words in [["--", "-"], ["--", "--model", ""], ["--", "%d", "n"], ["%d", "--", "s"]]:
+            trials.expect(f"bash: {name} {words}", completed([name, *words]), [])
         trials.expect(f"bash: {name} -", completed([name, "-"]), one)
         trials.expect(f"bash: {name} and a format", completed([name, ""]), [])
         trials.expect(f"bash: {name} and what follows", completed([name, "%d", ""]), ["n:", "s:"] if name == "format" else [])
+    words = ["bash", "-c", 'source "$0"; complete -p fmtcanon', TOP / "completions/fmtcanon.bash"]
+    told = subprocess.run(words, stdout=subprocess.PIPE, timeout=TIMEOUT, check=True).stdout.decode()
+    trials.expect("bash: a space follows a command", told, "complete -F _fmtcanon fmtcanon\n")
     zsh = (TOP / "completions/_fmtcanon").read_text(encoding="utf-8")
     trials.expect("zsh: commands", re.findall(r"^        '([a-z]+):(.*)'$", zsh, flags=re.MULTILINE), top["Commands"])
     fish = (TOP / "completions/fmtcanon.fish").read_text(encoding="utf-8")

@@ -18,12 +18,22 @@ from pathlib import Path
 sys.dont_write_bytecode = True
 sys.path.insert(0, str(Path(__file__).resolve().parent))
 
+import roots  # noqa: E402
 from library import TIMEOUT, TOP, Trials, compile_with, lines_of, load_module, python_lines, shapes, try_compiler  # noqa: E402
 from replacing import try_parsing  # noqa: E402
 from translations import try_msgfmt  # noqa: E402
 
 # A Python that Debian makes its modules for.
 SYSTEM_PYTHON = "/usr/bin/python3"
+# What fish completes after these words.
+FISH = [
+    ("s", ["same", "show", "stream"]),
+    ("canon --model=", ["--model=ilp32", "--model=lp64"]),
+    ("same --model ", ["both", "ilp32", "lp64"]),
+    ("format %d ", ["n:", "s:"]),
+    ("format -- %d ", []),
+    ("canon -- --m", []),
+]
 
 
 class Tools:
@@ -116,9 +126,14 @@ def try_shells(tools, trials):
     if tools.has("zsh", "zsh"):
         trials.expect("zsh reads its completion", lines_of(["zsh", "-n", TOP / "completions/_fmtcanon"]), (0, ""))
     if tools.has("fish", "fish"):
-        trials.expect("fish reads its completion", lines_of(["fish", "-n", TOP / "completions/fmtcanon.fish"]), (0, ""))
+        file = TOP / "completions/fmtcanon.fish"
+        trials.expect("fish reads its completion", lines_of(["fish", "-n", file]), (0, ""))
+        for words, wanted in FISH:
+            status, told = lines_of(["fish", "--no-config", "-c", f"source {file}; complete -C 'fmtcanon {words}'"])
+            trials.expect(f"fish: {words}", (status, [line.split("\t")[0] for line in told.splitlines()]), (0, wanted))
     if tools.has("groff", "groff"):
-        trials.expect("groff reads the manual page", lines_of(["groff", "-man", "-ww", "-z", TOP / "man/fmtcanon.1"]), (0, ""))
+        for page in sorted((TOP / "man").iterdir()):
+            trials.expect(f"groff reads {page.name}", lines_of(["groff", "-man", "-ww", "-z", page]), (0, ""))
 
 
 def main():
@@ -136,6 +151,7 @@ def main():
     try_gettext(folder, tools, trials)
     try_libclang(folder, trials)
     try_shells(tools, trials)
+    roots.try_all(os.path.abspath(sys.argv[1]), tools, trials)
     print(f"{trials.passed} passed, {trials.failed} failed")
     return 1 if trials.failed else 0
 

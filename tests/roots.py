@@ -26,7 +26,7 @@ TRIED = [
     ("python3 -c 'import fmtcanon; print(fmtcanon.same(\"%5c\", \"    %c\"))'", "True\n"),
     ("fmtcanon-po --strict right.po 2>&1", "2 messages judged, 0 not judged\n"),
     ("fmtcanon-po wrong.po > told 2>&1; echo $?", "1\n"),
-    ("fmtcanon-replace %zu %lu size.c", "size.c:2: left: in ILP32 the types differ at argument 0\n"),
+    ("fmtcanon-replace %zu %lu size.c || true", "size.c:2: left: in ILP32 the types differ at argument 0\n"),
     ("fmtcanon-replace --model lp64 %zu %lu size.c", "size.c:2: replaced\n"),
     ("cc -std=c99 -o canon canon.c $(pkg-config --cflags --libs fmtcanon) && ./canon %05u", "%.5u\n"),
 ]
