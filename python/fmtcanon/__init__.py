@@ -93,8 +93,8 @@ class Kind(enum.IntEnum):
 class Model(enum.IntEnum):
     """A data model: how many bits integers have, and which types the length modifiers name.
 
-    In LP64 `long` has 64 bits, and `z`, `t` and `j` are `l`. In ILP32 it has 32 bits, `z` and `t`
-    are no modifier, and `j` is `ll`.
+    In LP64 `long` has 64 bits, and `z`, `t` and `j` are `l`. In ILP32 it has 32 bits, `%zu` means
+    `%u`, `%td` means `%d`, and `j` is `ll`.
     """
 
     LP64 = 0
