@@ -2,20 +2,30 @@
 # make test              the gate: everything is proved and tested from nothing, then the program
 #                        and the library are tried
 # make check-more        tries the library with tools that the gate doesn't want: clang, valgrind,
-#                        polib, and the shells of the completions
+#                        gettext, libclang, lintian, debootstrap, and the shells of the completions
 # make wrong-bodies      tries wrong bodies, which the prover must refuse, and the script that does so
-# make install PREFIX=   installs the program, the C library, the manual page and the completions;
-#                        below DESTDIR=, where that is given
+# make install PREFIX=   installs what `make` built: the program, the C library, the Python module
+#                        with its two commands, manual pages, completions and documents; below
+#                        DESTDIR=, where that is given. It builds nothing
+# make uninstall PREFIX= takes all of that away again
+# make dist              an archive of what `make` built, which installs without the kit
+# make deb               a Debian package of it
+# make wheel             a wheel of the Python module with the library inside
+# make tables            what the two commands say of a machine's own catalogs and C sources
 
 PREFIX ?= /usr/local
 BINDIR ?= $(PREFIX)/bin
 LIBDIR ?= $(PREFIX)/lib
 INCLUDEDIR ?= $(PREFIX)/include
 DATADIR ?= $(PREFIX)/share
-MANDIR ?= $(DATADIR)/man/man1
+MANDIR ?= $(DATADIR)/man
+DOCDIR ?= $(DATADIR)/doc/fmtcanon
 BASHDIR ?= $(DATADIR)/bash-completion/completions
 ZSHDIR ?= $(DATADIR)/zsh/site-functions
 FISHDIR ?= $(DATADIR)/fish/vendor_completions.d
+# A folder below PREFIX in which this Python looks for modules, if there is one.
+PYTHONDIR ?= $(shell python3 packaging/python_folder.py $(PREFIX))
+PYTHON ?= /usr/bin/env python3
 PROGRAM = crates/fmtcanon/out/fmtcanon
 
 VERSION = 0.1.0
@@ -31,7 +41,8 @@ CPU = x86-64
 JOBS = $(shell awk -v n="$$(nproc)" '/^MemAvailable/ { m = int($$2 / 4000000); \
     if (m > n) m = n; if (m < 1) m = 1; print m }' /proc/meminfo)
 
-.PHONY: all program library archive test gate trials check-more wrong-bodies tools c-tools install
+.PHONY: all program library archive test gate trials check-more wrong-bodies tools c-tools
+.PHONY: built install uninstall dist deb wheel tables
 
 all: program library
 
@@ -39,7 +50,7 @@ all: program library
 program: tools
 	cd crates/fmtcanon && rt run -- canon 'Total: %i of %u%%'
 
-library: $(C)/libfmtcanon.a $(SHARED) $(C)/fmtcanon.pc
+library: $(C)/libfmtcanon.a $(SHARED)
 
 # rt knows what has changed.
 archive: tools c-tools
@@ -73,11 +84,6 @@ $(C)/second.a: library
 	cd crates/fmtcanon_c && rt lib --cpu $(CPU)
 	rm -f $@
 	ar rcs $@ $(C)/second.o
-
-$(C)/fmtcanon.pc: Makefile archive
-	printf '%s\n' 'prefix=$(PREFIX)' 'libdir=$(LIBDIR)' 'includedir=$(INCLUDEDIR)' '' \
-	    'Name: fmtcanon' 'Description: Canonical texts of printf formats' 'Version: $(VERSION)' \
-	    'Libs: -L$${libdir} -lfmtcanon' 'Cflags: -I$${includedir}' > $@
 
 # The trials here take the program that `gate` has just proved and built; it leaves no library.
 test:
@@ -118,17 +124,75 @@ c-tools:
 	@for tool in ld ar objcopy nm; do command -v $$tool > /dev/null || \
 	    { echo "$$tool is missing: the package binutils has it"; exit 1; }; done
 
-install: program library
+# What the targets below take, which only `make` builds.
+built:
+	@for file in $(PROGRAM) $(C)/libfmtcanon.a $(SHARED); do test -f $$file || \
+	    { echo "$$file is missing: make builds it" >&2; exit 1; }; done
+
+PKGCONFIG = 'prefix=$(PREFIX)' 'libdir=$(LIBDIR)' 'includedir=$(INCLUDEDIR)' '' \
+    'Name: fmtcanon' 'Description: Canonical texts of printf formats' 'Version: $(VERSION)' \
+    'Libs: -L$${libdir} -lfmtcanon' 'Cflags: -I$${includedir}'
+# The commands that are written in Python, with the folder of the module.
+COMMAND = '\#!$(PYTHON)' 'import sys' '' 'sys.path.insert(0, "$(PYTHONDIR)")' '' \
+    "from fmtcanon.$$name.command import main" '' 'sys.exit(main())'
+CALLS = sed -n 's/^[a-z0-9_]* \(fmtcanon_[a-z_]*\)(.*/\1/p' include/fmtcanon.h
+MODULES = fmtcanon fmtcanon/po fmtcanon/replace
+
+install: built
 	install -d $(DESTDIR)$(BINDIR) $(DESTDIR)$(INCLUDEDIR) $(DESTDIR)$(LIBDIR)/pkgconfig
 	install -m 755 $(PROGRAM) $(DESTDIR)$(BINDIR)/fmtcanon
 	install -m 644 include/fmtcanon.h $(DESTDIR)$(INCLUDEDIR)
 	install -m 644 $(C)/libfmtcanon.a $(DESTDIR)$(LIBDIR)
-	install -m 755 $(SHARED) $(DESTDIR)$(LIBDIR)
+	install -m 644 $(SHARED) $(DESTDIR)$(LIBDIR)
 	ln -sf libfmtcanon.so.$(VERSION) $(DESTDIR)$(LIBDIR)/$(SONAME)
 	ln -sf $(SONAME) $(DESTDIR)$(LIBDIR)/libfmtcanon.so
-	install -m 644 $(C)/fmtcanon.pc $(DESTDIR)$(LIBDIR)/pkgconfig
-	install -d $(DESTDIR)$(MANDIR) $(DESTDIR)$(BASHDIR) $(DESTDIR)$(ZSHDIR) $(DESTDIR)$(FISHDIR)
-	install -m 644 man/fmtcanon.1 $(DESTDIR)$(MANDIR)
+	printf '%s\n' $(PKGCONFIG) > $(DESTDIR)$(LIBDIR)/pkgconfig/fmtcanon.pc
+	chmod 644 $(DESTDIR)$(LIBDIR)/pkgconfig/fmtcanon.pc
+	for part in $(MODULES); do install -d $(DESTDIR)$(PYTHONDIR)/$$part && \
+	    install -m 644 python/$$part/*.py $(DESTDIR)$(PYTHONDIR)/$$part || exit 1; done
+	install -m 644 python/fmtcanon/py.typed $(DESTDIR)$(PYTHONDIR)/fmtcanon
+	ln -sfr $(DESTDIR)$(LIBDIR)/$(SONAME) $(DESTDIR)$(PYTHONDIR)/fmtcanon/$(SONAME)
+	for name in po replace; do printf '%s\n' $(COMMAND) > $(DESTDIR)$(BINDIR)/fmtcanon-$$name && \
+	    chmod 755 $(DESTDIR)$(BINDIR)/fmtcanon-$$name || exit 1; done
+	install -d $(DESTDIR)$(MANDIR)/man1 $(DESTDIR)$(MANDIR)/man3
+	install -m 644 man/*.1 $(DESTDIR)$(MANDIR)/man1
+	install -m 644 man/*.3 $(DESTDIR)$(MANDIR)/man3
+	for call in $$($(CALLS)); do echo '.so man3/fmtcanon.3' > $(DESTDIR)$(MANDIR)/man3/$$call.3 && \
+	    chmod 644 $(DESTDIR)$(MANDIR)/man3/$$call.3 || exit 1; done
+	install -d $(DESTDIR)$(BASHDIR) $(DESTDIR)$(ZSHDIR) $(DESTDIR)$(FISHDIR)
 	install -m 644 completions/fmtcanon.bash $(DESTDIR)$(BASHDIR)/fmtcanon
 	install -m 644 completions/_fmtcanon $(DESTDIR)$(ZSHDIR)
 	install -m 644 completions/fmtcanon.fish $(DESTDIR)$(FISHDIR)
+	install -d $(DESTDIR)$(DOCDIR)/docs $(DESTDIR)$(DOCDIR)/examples
+	install -m 644 LICENSE README.md CHANGELOG.md $(DESTDIR)$(DOCDIR)
+	install -m 644 docs/*.md $(DESTDIR)$(DOCDIR)/docs
+	install -m 644 examples/canon.c $(DESTDIR)$(DOCDIR)/examples
+
+# The files that an installation would make are taken away, and then the folders of its own.
+uninstall: built
+	stage=$$(mktemp -d) && trap 'rm -rf "$$stage"' EXIT && \
+	$(MAKE) -s install DESTDIR="$$stage" > /dev/null && cd "$$stage" && \
+	find . ! -type d | while read -r file; do rm -f "$(DESTDIR)/$$file"; done && \
+	for part in $(MODULES); do rm -rf "$(DESTDIR)$(PYTHONDIR)/$$part/__pycache__"; done && \
+	find . -depth -type d -path '*/fmtcanon*' | while read -r folder; do \
+	    rmdir "$(DESTDIR)/$$folder" 2> /dev/null || true; done
+
+ARCHIVE = fmtcanon-$(VERSION)-linux-x86_64
+PACKED = LICENSE README.md CHANGELOG.md Makefile include python/fmtcanon python/pyproject.toml \
+    python/README.md man completions docs examples packaging $(PROGRAM) $(C)/libfmtcanon.a $(SHARED)
+
+# Owner, order and time don't hang on the machine.
+dist: built
+	tar -czf out/$(ARCHIVE).tar.gz --transform 's,^,$(ARCHIVE)/,' --owner=0 --group=0 --sort=name \
+	    --mtime=@0 --exclude=__pycache__ $(PACKED)
+	@echo out/$(ARCHIVE).tar.gz
+
+deb: built
+	packaging/make_deb.sh $(VERSION) out
+
+wheel: built
+	python3 packaging/make_wheel.py $(SHARED) out
+
+tables:
+	FMTCANON_LIBRARY=$(C)/$(SONAME) python3 tests/field/catalogs.py
+	FMTCANON_LIBRARY=$(C)/$(SONAME) python3 tests/field/sources.py

@@ -1,23 +1,41 @@
 # Completion of fmtcanon for bash.
 
+# The values of --model, which may stand in a word of its own or after `=`.
+_fmtcanon_models() {
+    local values='lp64 ilp32'
+    [[ $1 == same ]] && values+=' both'
+    mapfile -t COMPREPLY < <(compgen -P "$3" -W "$values" -- "$2")
+}
+
 _fmtcanon() {
-    local word=${COMP_WORDS[COMP_CWORD]} before=${COMP_WORDS[COMP_CWORD - 1]} command=${COMP_WORDS[1]}
-    local models='lp64 ilp32'
-    [[ $command == same ]] && models+=' both'
+    local word=${COMP_WORDS[COMP_CWORD]} before=${COMP_WORDS[COMP_CWORD - 1]} command=${COMP_WORDS[1]} at
     COMPREPLY=()
     if ((COMP_CWORD == 1)); then
         mapfile -t COMPREPLY < <(compgen -W 'types canon show format same stream -h --help -V --version' -- "$word")
-    elif [[ $before == --model ]]; then
-        mapfile -t COMPREPLY < <(compgen -W "$models" -- "$word")
+        return
+    fi
+    case $command in
+        types | canon | show | format | same | stream) ;;
+        *) return ;;
+    esac
+    # What stands after -- is a format or an argument, and nothing of it is known.
+    for ((at = 2; at < COMP_CWORD; at++)); do
+        [[ ${COMP_WORDS[at]} == -- ]] && return
+    done
+    # Bash takes `=` for a word of its own, unless COMP_WORDBREAKS is changed.
+    if [[ $before == --model && $word == = ]]; then
+        _fmtcanon_models "$command" ''
+    elif [[ $before == = && ${COMP_WORDS[COMP_CWORD - 2]} == --model || $before == --model ]]; then
+        _fmtcanon_models "$command" "$word"
+    elif [[ $word == --model=* ]]; then
+        _fmtcanon_models "$command" "${word#*=}" --model=
     elif [[ $word == -* ]]; then
-        case $command in
-            types | canon | show | format | same | stream)
-                mapfile -t COMPREPLY < <(compgen -W '--model -h --help' -- "$word")
-                ;;
-        esac
+        mapfile -t COMPREPLY < <(compgen -W '--model -h --help' -- "$word")
     elif [[ $command == format ]] && ((COMP_CWORD > 2)); then
         mapfile -t COMPREPLY < <(compgen -W 'n: s:' -- "$word")
+        # The value follows at once.
+        compopt -o nospace 2> /dev/null
     fi
 }
 
-complete -o nospace -F _fmtcanon fmtcanon
+complete -F _fmtcanon fmtcanon

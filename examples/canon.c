@@ -1,5 +1,8 @@
 /* Writes the canonical text of each format that it is given, or why there is none. It is that of the
- * data model LP64, or of ILP32 after the word --ilp32. */
+ * data model LP64, or of ILP32 after the word --ilp32. This line compiles it:
+ *
+ *     cc -std=c99 -o canon canon.c $(pkg-config --cflags --libs fmtcanon)
+ */
 #include <fmtcanon.h>
 #include <stdio.h>
 #include <stdlib.h>

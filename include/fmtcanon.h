@@ -50,7 +50,7 @@ extern "C" {
 /* How many bits the integer types have, and which types the length modifiers name. */
 enum fmtcanon_model {
     FMTCANON_LP64 = 0, /* `long` has 64 bits, as have `z`, `t` and `j`, which are `l` */
-    FMTCANON_ILP32 = 1 /* `long` has 32 bits; `z` and `t` are no modifier, and `j` is `ll` */
+    FMTCANON_ILP32 = 1 /* `long` has 32 bits; `%zu` means `%u` and `%td` means `%d`; `j` is `ll` */
 };
 
 /* Data models, as a set: their sum. */

@@ -5,26 +5,30 @@ Usage: tests/devices.py PROGRAM
 
 Standard output: closed; the device that is always full; a pipe whose reader has left, before or after the first
 bytes; a pipe that is full and doesn't wait; a directory; standard error closed or full beside it. Standard input, for
-`stream`: closed; a directory; opened for writing; a pipe that doesn't wait and has nothing; one byte at a time.
-Address spaces: each command in spaces that grow by a page at a time, until it answers.
+`stream`: closed; a directory; opened for writing; a pipe that doesn't wait and has nothing; one byte at a time; a
+pipe that stays open; a terminal. For the other commands: a pipe that stays open, which they don't read. How many reads
+and writes there are. Address spaces: each command in spaces that grow by a page at a time, until it answers.
 
 No run is ended by a signal, none exits with 0 or 1 with bytes missing, and nothing is written for a refused format.
 A space may be too small for the system to start the program, which it then kills, or its loader ends it: the sizes
 are told.
 
-It needs a Linux system. Its last line is 'N passed, M failed', and it exits with 1 where M isn't 0.
+It needs a Linux system with gcc. Its last line is 'N passed, M failed', and it exits with 1 where M isn't 0.
 """
 
 import os
+import pty
 import resource
 import subprocess
 import sys
+import tempfile
+import termios
 from pathlib import Path
 
 sys.dont_write_bytecode = True
 sys.path.insert(0, str(Path(__file__).resolve().parent))
 
-from program import TIMEOUT, Trials, run  # noqa: E402
+from program import TIMEOUT, TOP, Trials, run  # noqa: E402
 
 WRITE_FAILED = (4, b"write failed\n")
 READ_FAILED = (4, b"read failed\n")
@@ -60,6 +64,25 @@ REFUSED = [
 ]
 # What `stream` settles before it is refused, and that it is told even where nothing can be written.
 STREAM_REFUSED = (b"a%.0sb%5d%q", b"ab%.0s%5d", b"refused 3 Unexpected at byte 10\n")
+# Words that are a fault of their own or ask for help, with the status.
+NOT_ASKED = [
+    (["format", "%d", "5"], 3),
+    (["format", "%d"], 3),
+    (["format", "%d", "n:2147483648"], 3),
+    (["format"], 3),
+    (["nothing"], 3),
+    (["canon", "--model", "both", "%d"], 3),
+    ([], 3),
+    (["--help"], 3),
+    (["same", "--help"], 3),
+    (["--version"], 3),
+]
+# How long a run may take that has nothing to wait for, in seconds.
+SOON = 10
+# The program reads and writes so many bytes at once, or fewer.
+BLOCK = 8192
+# Formats whose answers have so many bytes, below, at and above a block.
+SIZES = [1, 100, BLOCK - 1, BLOCK, BLOCK + 1, 3 * BLOCK, 100_000]
 
 
 def name_of(words):
@@ -172,10 +195,122 @@ def try_errors(program, trials):
                 trials.expect(f"{name_of(words)}, no standard error", got, 2)
 
 
-def run_from(program, stdin, closed=()):
+def try_reports(program, trials):
+    """The status is as ever where the line on standard error can't be written, whatever it would tell."""
+    with open("/dev/full", "wb") as full:
+        for closed, stderr in [([2], subprocess.DEVNULL), ([], full)]:
+            for words, status in NOT_ASKED:
+                got, _ = run_over(program, words, b"", closed=closed, stderr=stderr)
+                trials.expect(f"{name_of(words)}, no standard error", got, status)
+            for words, stdin, _, _ in ANSWERED:
+                got, _ = run_over(program, words, stdin, full, closed, stderr)
+                trials.expect(f"{name_of(words)}, nothing can be written", got, 4)
+            device = os.open("/", os.O_RDONLY)
+            got = run_from(program, device, closed, stderr)
+            os.close(device)
+            trials.expect("stream from a directory, no standard error", got[:2], (4, b""))
+
+
+def run_idle(program, words, sent=b""):
+    """The status and the streams of a run whose standard input is a pipe that stays open, with what was sent."""
+    reader, writer = os.pipe()
+    os.write(writer, sent)
+    try:
+        done = subprocess.run(
+            [program, *words], stdin=reader, stdout=subprocess.PIPE, stderr=subprocess.PIPE, timeout=SOON, check=False
+        )
+        return done.returncode, done.stdout, done.stderr
+    except subprocess.TimeoutExpired:
+        return "it waits"
+    finally:
+        os.close(reader)
+        os.close(writer)
+
+
+def try_idle(program, trials):
+    """A command that needs no input doesn't wait for any; `stream` tells a refusal as soon as it is there."""
+    for words, _, status, text in ANSWERED:
+        if words != ["stream"]:
+            trials.expect(f"{name_of(words)}, an idle pipe", run_idle(program, words), (status, text, b""))
+    for words, line in REFUSED:
+        trials.expect(f"{name_of(words)}, an idle pipe", run_idle(program, words), (2, b"", line))
+    for words, status in [*NOT_ASKED, (["stream", "--help"], 3), (["stream", "x"], 3)]:
+        trials.expect(f"{name_of(words)}, an idle pipe", run_idle(program, words)[:2], (status, b""))
+    text, settled, line = STREAM_REFUSED
+    trials.expect("stream of a refused text, an open pipe", run_idle(program, ["stream"], text), (2, settled, line))
+    front = b"x" * 1000
+    trials.expect(
+        "stream of a refused text with more after it, an open pipe", run_idle(program, ["stream"], front + b"%y" + front),
+        (2, front, b"refused 3 Unexpected at byte 1001\n"),
+    )
+
+
+def try_terminal(program, trials):
+    """One end of file is enough: a terminal tells it once, and then has more."""
+    for sent, text in [(b"%5c!\n\x04", b"    %c!\n"), (b"\x04", b"")]:
+        master, slave = pty.openpty()
+        modes = termios.tcgetattr(slave)
+        modes[3] &= ~termios.ECHO
+        termios.tcsetattr(slave, termios.TCSANOW, modes)
+        os.write(master, sent)
+        try:
+            done = subprocess.run([program, "stream"], stdin=slave, stdout=subprocess.PIPE, stderr=subprocess.PIPE, timeout=SOON, check=False)
+            got = (done.returncode, done.stdout, done.stderr)
+        except subprocess.TimeoutExpired:
+            got = "it waits"
+        os.close(master)
+        os.close(slave)
+        trials.expect(f"stream from a terminal that ends after {sent!r}", got, (0, text, b""))
+
+
+def calls_of(program, words, stdin, work):
+    """The reads and the writes of the standard streams in a run: the stream, what was asked for, and what was moved."""
+    notes = Path(work) / "notes"
+    notes.write_text("")
+    environment = {**os.environ, "LD_PRELOAD": str(Path(work) / "calls.so"), "CALLS": str(notes)}
+    run(program, words, stdin, env=environment)
+    calls = [line.split() for line in notes.read_text().splitlines()]
+    return [[tuple(map(int, numbers)) for name, *numbers in calls if name == kind] for kind in ("read", "write")]
+
+
+def blocks(size):
+    return -(-size // BLOCK)
+
+
+def try_calls(program, trials):
+    """An answer goes out in as few writes as it has blocks, none of them empty; nothing but `stream` reads."""
+    with tempfile.TemporaryDirectory() as work:
+        words = ["gcc", "-shared", "-fPIC", "-O1", "-o", f"{work}/calls.so", TOP / "tests/calls.c"]
+        trials.expect("calls.c", subprocess.run(words, check=False, timeout=TIMEOUT).returncode, 0)
+        for words, stdin, _, text in ANSWERED:
+            reads, writes = calls_of(program, words, stdin, work)
+            out = [(asked, moved) for stream, asked, moved in writes if stream == 1]
+            trials.expect(f"{name_of(words)}: what is written", sum(moved for _, moved in out), len(text))
+            is_whole = all(asked == moved > 0 for asked, moved in out)
+            trials.expect(f"{name_of(words)}: no write is empty or cut", is_whole, True)
+            trials.expect(f"{name_of(words)}: {len(out)} writes", 1 <= len(out) <= blocks(len(text)), True)
+            trials.expect(f"{name_of(words)}: nothing on standard error", [one for one in writes if one[0] == 2], [])
+            if words != ["stream"]:
+                trials.expect(f"{name_of(words)}: no read", reads, [])
+        for words in EMPTY:
+            trials.expect(f"{name_of(words)}: no write", calls_of(program, words, b"", work)[1], [])
+        for words, _ in [*REFUSED, *NOT_ASKED]:
+            reads, writes = calls_of(program, words, b"", work)
+            is_told = all(stream == 2 and asked == moved > 0 for stream, asked, moved in writes)
+            trials.expect(f"{name_of(words)}: no read, and no write but the report", (reads, is_told), ([], True))
+        for size in SIZES:
+            reads, writes = calls_of(program, ["stream"], b"x" * size, work)
+            trials.expect(f"stream of {size} bytes: writes", [one[0] for one in writes], [1] * blocks(size))
+            ends = [moved for _, _, moved in reads if moved <= 0]
+            moved = sum(moved for _, _, moved in reads)
+            trials.expect(f"stream of {size} bytes: reads, of which one is the end", (moved, ends), (size, [0]))
+            trials.expect(f"stream of {size} bytes: none is empty", all(asked for _, asked, _ in reads), True)
+
+
+def run_from(program, stdin, closed=(), stderr=subprocess.PIPE):
     """The status, standard output and standard error of `stream` over this file descriptor."""
     done = subprocess.run(
-        [program, "stream"], stdin=stdin, stdout=subprocess.PIPE, stderr=subprocess.PIPE, timeout=TIMEOUT, check=False,
+        [program, "stream"], stdin=stdin, stdout=subprocess.PIPE, stderr=stderr, timeout=TIMEOUT, check=False,
         preexec_fn=closing(closed),
     )
     return done.returncode, done.stdout, done.stderr
@@ -275,7 +410,11 @@ def main():
     try_outputs(program, trials)
     try_rooms(program, trials)
     try_errors(program, trials)
+    try_reports(program, trials)
     try_inputs(program, trials)
+    try_idle(program, trials)
+    try_terminal(program, trials)
+    try_calls(program, trials)
     try_bytes(program, trials)
     try_spaces(program, trials)
     print(f"{trials.passed} passed, {trials.failed} failed")

@@ -18,6 +18,7 @@ from pathlib import Path
 sys.dont_write_bytecode = True
 sys.path.insert(0, str(Path(__file__).resolve().parent))
 
+import installing  # noqa: E402
 from program import TIMEOUT, TOP, Trials, examples, fences, run  # noqa: E402
 
 HEADER = TOP / "include/fmtcanon.h"
@@ -25,7 +26,7 @@ SHAPES = TOP / "bench/shapes.nul"
 ROWS = TOP / "tests/commands.jsonl"
 SOURCES = TOP / "crates/fmtcanon_c/src"
 STRICT = ["-Wall", "-Wextra", "-pedantic", "-Werror", f"-I{HEADER.parent}"]
-WRAPPED = ["-pthread", "-Wl,--wrap=malloc,--wrap=realloc"]
+WRAPPED = ["-pthread", "-Wl,--wrap=malloc,--wrap=realloc,--wrap=free"]
 # What a parameter of Rattle is in C.
 PARAMETERS = {
     "&[u8]": ["const char *", "size_t"],
@@ -37,19 +38,6 @@ PARAMETERS = {
     "Global": [],
 }
 NUMBERS = {"i64": "int64_t", "u64": "uint64_t", "u32": "uint32_t"}
-INSTALLED = sorted([
-    "bin/fmtcanon",
-    "include/fmtcanon.h",
-    "lib/libfmtcanon.a",
-    "lib/libfmtcanon.so",
-    "lib/libfmtcanon.so.0",
-    "lib/libfmtcanon.so.0.1.0",
-    "lib/pkgconfig/fmtcanon.pc",
-    "share/bash-completion/completions/fmtcanon",
-    "share/fish/vendor_completions.d/fmtcanon.fish",
-    "share/man/man1/fmtcanon.1",
-    "share/zsh/site-functions/_fmtcanon",
-])
 # The types as the program writes them, and the numbers of the library.
 TYPES = ["int", "unsigned int", "long", "unsigned long", "long long", "unsigned long long", "string"]
 # Of so many formats, one is given to the program, too.
@@ -288,34 +276,16 @@ def try_program(program, module, trials):
         trials.expect(f"types {one}", run(program, ["types", "--", one]), (2, b"", line))
 
 
-def installed(work, trials):
-    """What `make install` puts into a folder, with what a compiler wants to know of it."""
-    stage = work / "stage"
-    done = lines_of(["make", "-s", "install", f"DESTDIR={stage}", "PREFIX=/usr"], cwd=TOP)
-    trials.expect("make install", done[0], 0)
-    if done[0] != 0:
-        print(done[1])
-    return stage / "usr"
-
-
-def try_installed(prefix, trials):
-    """Each file is there, and none besides."""
-    found = sorted(str(path.relative_to(prefix)) for path in prefix.rglob("*") if not path.is_dir())
-    trials.expect("installed files", found, INSTALLED)
-    variables = dict(re.findall(r"^(\w+)=(.*)$", (prefix / "lib/pkgconfig/fmtcanon.pc").read_text(), flags=re.MULTILINE))
-    trials.expect("folders of fmtcanon.pc", variables, {"prefix": "/usr", "libdir": "/usr/lib", "includedir": "/usr/include"})
-
-
 def try_document(prefix, work, trials):
     """Each command of docs/C.md answers what stands below it, with the library installed."""
     document = TOP / "docs/C.md"
     (work / "canon.c").write_bytes((TOP / "examples/canon.c").read_bytes())
     environment = {
         **os.environ, "LC_ALL": "C.UTF-8", "CPATH": str(prefix / "include"), "LIBRARY_PATH": str(prefix / "lib"),
-        "LD_LIBRARY_PATH": str(prefix / "lib"), "PYTHONPATH": str(TOP / "python"), "PYTHONDONTWRITEBYTECODE": "1",
+        "LD_LIBRARY_PATH": str(prefix / "lib"), "PKG_CONFIG_LIBDIR": str(prefix / "lib/pkgconfig"), "PYTHONPATH": str(prefix / "lib/python3/dist-packages"), "PYTHONDONTWRITEBYTECODE": "1",
     }
     environment.pop("FMTCANON_LIBRARY", None)
-    environment["PATH"] = os.pathsep.join([str(TOP / "examples"), os.environ["PATH"]])
+    environment["PATH"] = os.pathsep.join([str(prefix / "bin"), os.environ["PATH"]])
     found = 0
     for command, output in examples(document):
         found += 1
@@ -356,8 +326,7 @@ def main():
         trials.expect("the Python module answers as the library", list(python_lines(module, shapes())) == lines, True)
         try_program_rows(module, trials)
         try_program(program, module, trials)
-        prefix = installed(work, trials)
-        try_installed(prefix, trials)
+        prefix = installing.try_all(work, trials)
         try_document(prefix, work, trials)
     try_unit_tests(folder, trials)
     print(f"{trials.passed} passed, {trials.failed} failed")

@@ -8,7 +8,6 @@ names the package that has it; the others are tried all the same. Its last line 
 with 1 where M isn't 0.
 """
 
-import importlib.util
 import os
 import shutil
 import subprocess
@@ -19,49 +18,22 @@ from pathlib import Path
 sys.dont_write_bytecode = True
 sys.path.insert(0, str(Path(__file__).resolve().parent))
 
+import roots  # noqa: E402
 from library import TIMEOUT, TOP, Trials, compile_with, lines_of, load_module, python_lines, shapes, try_compiler  # noqa: E402
+from replacing import try_parsing  # noqa: E402
+from translations import try_msgfmt  # noqa: E402
 
-CATALOGS = TOP / "tests/catalogs"
-# A catalog with its exit status, and what is told of it: lines, or what stands in the first one.
-CHECKED = [
-    ("right.po", 0, ""),
-    ("empty.po", 0, ""),
-    ("singular.po", 1, """\
-singular.po:6: warning: 'msgid' isn't checked: refused 6 Numbered at byte 14 ["one file in %2$s"]
-singular.po:12: number of format specifications in 'msgid_plural' and 'msgstr[1]' does not match: 1 and 0 ["one file"]
-found 1 fatal error
-"""),
-    ("wrong.po", 1, """\
-wrong.po:5: format specifications in 'msgid' and 'msgstr' for argument 1 are not the same: string and int ["%s: %d"]
-wrong.po:9: format specifications in 'msgid' and 'msgstr' for argument 1 are not the same: int and long ["%d items"]
-wrong.po:13: number of format specifications in 'msgid' and 'msgstr' does not match: 2 and 1 ["%d of %d"]
-wrong.po:17: 'msgstr' is not a valid C format string, unlike 'msgid'. Reason: refused 2 Truncated at byte 3 ["%d%%"]
-wrong.po:21: warning: 'msgstr' isn't checked, since 'msgid' is refused 9 Float at byte 10 ["%s is %5.1f"]
-wrong.po:25: warning: 'msgstr' isn't checked: refused 6 Numbered at byte 2 ["%s in %s"]
-found 4 fatal errors
-"""),
+# A Python that Debian makes its modules for.
+SYSTEM_PYTHON = "/usr/bin/python3"
+# What fish completes after these words.
+FISH = [
+    ("s", ["same", "show", "stream"]),
+    ("canon --model=", ["--model=ilp32", "--model=lp64"]),
+    ("same --model ", ["both", "ilp32", "lp64"]),
+    ("format %d ", ["n:", "s:"]),
+    ("format -- %d ", []),
+    ("canon -- --m", []),
 ]
-# One catalog in each data model, and in both.
-IN_MODELS = [
-    (["--model", "lp64"], 1, """\
-models.po:10: format specifications in 'msgid' and 'msgstr' for argument 2 are not the same: int and long ["%d of %d"]
-models.po:14: format specifications in 'msgid' and 'msgstr' for argument 1 are not the same: int and uint ["%d"]
-found 2 fatal errors
-"""),
-    (["--model", "ilp32"], 1, """\
-models.po:6: format specifications in 'msgid' and 'msgstr' for argument 1 are not the same: uint and ulong ["%zu"]
-models.po:14: format specifications in 'msgid' and 'msgstr' for argument 1 are not the same: int and uint ["%d"]
-found 2 fatal errors
-"""),
-    ([], 1, """\
-models.po:6: format specifications in 'msgid' and 'msgstr' for argument 1 are not the same: uint and ulong, in ILP32 ["%zu"]
-models.po:10: format specifications in 'msgid' and 'msgstr' for argument 2 are not the same: int and long, in LP64 ["%d of %d"]
-models.po:14: format specifications in 'msgid' and 'msgstr' for argument 1 are not the same: int and uint ["%d"]
-found 3 fatal errors
-"""),
-]
-# They can't be read, with the line where it is known.
-UNREADABLE = [("torn.po", 1), ("escape.po", 6), ("flags.po", 1), ("bytes.po", 0), ("rule.po", 0), ("nothing.po", 0), ('msgid "a"', 0)]
 
 
 class Tools:
@@ -127,37 +99,26 @@ def try_random(folder, trials, work):
     trials.expect("random texts", status, 0)
 
 
-def check_po(folder, words):
-    environment = {
-        **os.environ, "FMTCANON_LIBRARY": str(folder / "libfmtcanon.so.0"), "PYTHONDONTWRITEBYTECODE": "1",
-        "PYTHONPATH": os.pathsep.join(filter(None, [str(TOP / "python"), os.environ.get("PYTHONPATH")])),
-    }
-    done = subprocess.run(
-        [sys.executable, TOP / "examples/check_po.py", *words], cwd=CATALOGS, env=environment, timeout=TIMEOUT,
-        check=False, stdout=subprocess.PIPE, stderr=subprocess.PIPE,
-    )
-    return done.returncode, done.stdout.decode(), done.stderr.decode()
+def try_gettext(folder, tools, trials):
+    """What fmtcanon-po tells, beside msgfmt."""
+    if tools.has("msgfmt", "gettext"):
+        try_msgfmt(folder, trials)
 
 
-def try_catalogs(folder, trials):
-    """The check of message catalogs, and msgfmt where it is there to compare with."""
-    there = importlib.util.find_spec("polib") is not None
-    trials.expect("polib is there: the package python3-polib has it, or pip install polib", there, True)
-    if not there:
-        return
-    for catalog, status, told in CHECKED:
-        trials.expect(f"check_po.py {catalog}", check_po(folder, [catalog]), (status, "", told))
-    for catalog, line in UNREADABLE:
-        status, out, told = check_po(folder, [catalog])
-        trials.expect(f"check_po.py {catalog}", (status, out), (1, ""))
-        trials.expect(f"what it tells of {catalog}", told.startswith(f"{catalog}:{line}: it can't be read: ") and "Traceback" not in told, True)
-    for words, status, told in IN_MODELS:
-        trials.expect(f"check_po.py {words} models.po", check_po(folder, [*words, "models.po"]), (status, "", told))
-    trials.expect("--model both is what isn't said", check_po(folder, ["--model", "both", "models.po"])[2], IN_MODELS[-1][2])
-    for words in [["--model", "LP64", "right.po"], ["--model", "both"], ["--what", "right.po"]]:
-        trials.expect(f"check_po.py {words}", "Usage" in check_po(folder, words)[2], True)
-    told = "".join(text for _, _, text in CHECKED if "fatal" not in text)
-    trials.expect("two catalogs", check_po(folder, ["right.po", "empty.po"]), (0, "", told))
+def python_with(module):
+    """A Python that has a module, or None: the one that runs this, or that of the system."""
+    for python in [sys.executable, SYSTEM_PYTHON]:
+        if os.path.exists(python) and lines_of([python, "-c", f"import {module}"])[0] == 0:
+            return python
+    return None
+
+
+def try_libclang(folder, trials):
+    """fmtcanon-replace, by libclang."""
+    python = python_with("clang.cindex")
+    trials.expect("libclang is there: the package python3-clang has it", python is not None, True)
+    if python:
+        try_parsing(folder, python, trials)
 
 
 def try_shells(tools, trials):
@@ -165,9 +126,14 @@ def try_shells(tools, trials):
     if tools.has("zsh", "zsh"):
         trials.expect("zsh reads its completion", lines_of(["zsh", "-n", TOP / "completions/_fmtcanon"]), (0, ""))
     if tools.has("fish", "fish"):
-        trials.expect("fish reads its completion", lines_of(["fish", "-n", TOP / "completions/fmtcanon.fish"]), (0, ""))
+        file = TOP / "completions/fmtcanon.fish"
+        trials.expect("fish reads its completion", lines_of(["fish", "-n", file]), (0, ""))
+        for words, wanted in FISH:
+            status, told = lines_of(["fish", "--no-config", "-c", f"source {file}; complete -C 'fmtcanon {words}'"])
+            trials.expect(f"fish: {words}", (status, [line.split("\t")[0] for line in told.splitlines()]), (0, wanted))
     if tools.has("groff", "groff"):
-        trials.expect("groff reads the manual page", lines_of(["groff", "-man", "-ww", "-z", TOP / "man/fmtcanon.1"]), (0, ""))
+        for page in sorted((TOP / "man").iterdir()):
+            trials.expect(f"groff reads {page.name}", lines_of(["groff", "-man", "-ww", "-z", page]), (0, ""))
 
 
 def main():
@@ -182,8 +148,10 @@ def main():
         try_valgrind(folder, tools, module, trials, Path(work))
         try_second(folder, module, trials, Path(work))
         try_random(folder, trials, Path(work))
-    try_catalogs(folder, trials)
+    try_gettext(folder, tools, trials)
+    try_libclang(folder, trials)
     try_shells(tools, trials)
+    roots.try_all(os.path.abspath(sys.argv[1]), tools, trials)
     print(f"{trials.passed} passed, {trials.failed} failed")
     return 1 if trials.failed else 0
 

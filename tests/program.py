@@ -27,7 +27,7 @@ MODEL_COMMANDS = ["canon", "same", "format", "show", "stream", "types"]
 # words that stand for others.
 FOREIGN_NAMES = set("""
     cents errno intmax_t ptrdiff_t strerror uintmax_t I64
-    msgfmt pipefail fix fmt imports plant PYTHONPATH ldconfig pip pkg config
+    msgfmt msgunfmt pipefail fix fmt imports plant PYTHONPATH PKG_CONFIG_PATH ldconfig pip pkg config cflags libs pkgconfig sudo
     AllocFailed Display KIT logic dac8208d650f15bf ed8637e01fc3206ec782c5daf8d913b1fcd4ddf4efb850537416d13256281534 the_type write_all
     NAME TEXT
 """.split())
@@ -159,9 +159,36 @@ def try_words(program, trials):
     status, stdout, stderr = run(program, ["canon", b"\xff"])
     trials.expect("a word that is not UTF-8", (status, stdout), (3, b""))
     trials.expect("it is told in a line", re.fullmatch(rb"error: .*\n", stderr) is not None, True)
-    words = ["format", "%d" * 10_000] + [f"n:{i}" for i in range(10_000)]
-    wanted = "".join(map(str, range(10_000))).encode()
-    trials.expect("10,000 arguments", run(program, words), (0, wanted, b""))
+    words = ["format", "%d" * 40_000] + [f"n:{i}" for i in range(40_000)]
+    wanted = "".join(map(str, range(40_000))).encode()
+    trials.expect("40,000 arguments", run(program, words), (0, wanted, b""))
+
+
+def try_sizes(program, trials):
+    """Numbers of more than one byte in a report, and formats of four million bytes."""
+    for at in [255, 256, 65_535, 65_536, 4_000_000]:
+        line = f"refused 3 Unexpected at byte {at}\n".encode()
+        front = b"x" * (at - 1)
+        trials.expect(f"stream refused at byte {at}", run(program, ["stream"], front + b"%y"), (2, front, line))
+    for count in [255, 256, 300, 20_000]:
+        format, arguments = "%d" * count, ["n:1"] * (count - 1)
+        line = f"argument count: wanted {count}, given {count - 1}\n".encode()
+        trials.expect(f"{count - 1} arguments for {count}", run(program, ["format", format, *arguments]), (3, b"", line))
+        line = f"argument {count - 1}: not an argument\n".encode()
+        trials.expect(f"a wrong word {count}", run(program, ["format", format, *arguments, "5"]), (3, b"", line))
+        line = f"argument {count - 1}: wrong type\n".encode()
+        trials.expect(f"a wrong type {count}", run(program, ["format", format, *arguments, "s:"]), (3, b"", line))
+        line = f"types differ at argument {count}\n".encode()
+        trials.expect(f"types that differ at {count}", run(program, ["same", format + "%d", format + "%s"]), (1, line, b""))
+    greatest = (1 << 64) - 1
+    answer = f"different\nn:{greatest}\n".encode()
+    trials.expect("the greatest number", run(program, ["same", "%lx", "%lu"]), (1, answer, b""))
+    trials.expect("the same, printed", run(program, ["format", "%lx", f"n:{greatest}"]), (0, b"f" * 16, b""))
+    trials.expect("one more", run(program, ["format", "%lx", f"n:{greatest + 1}"])[0], 3)
+    text = (b" " * 4084 + b"%11d") * 1000
+    trials.expect("a canonical string of four million bytes", run(program, ["canon", "%4095d" * 1000]), (0, text + b"\n", b""))
+    trials.expect("the same by stream", run(program, ["stream"], b"%4095d" * 1000), (0, text, b""))
+    trials.expect("four million bytes by stream", run(program, ["stream"], b"%i%%x!" * 700_000), (0, b"%d%%x!" * 700_000, b""))
 
 
 def try_devices(program, trials):
@@ -243,7 +270,7 @@ def told_counts():
 
 
 # Numbers of the README's pages on tests that count no rows, tests or wrong bodies.
-PLAIN_NUMBERS = [r"each of the 256 bytes", r"16 shapes", r"take 1, 2, 3 or 7 bytes a call", r"10000 arguments", r"UTF-8", r"\d+ runs and comparisons"]
+PLAIN_NUMBERS = [r"each of the 256 bytes", r"16 shapes", r"take 1, 2, 3 or 7 bytes a call", r"40000 arguments", r"UTF-8", r"\d+ runs and comparisons"]
 
 
 def try_numbers(trials):
@@ -364,6 +391,7 @@ def main():
     try_usage(program, trials)
     try_refusals(program, trials)
     try_words(program, trials)
+    try_sizes(program, trials)
     try_devices(program, trials)
     try_names(trials)
     try_map(trials)

@@ -7,9 +7,14 @@ Give bytes where a format isn't UTF-8. Each call raises `Refused` for a format t
 doesn't accept, `MemoryError` where memory is out, and `TypeError` for what is no format.
 
 What a format means hangs on the data model of the machine on which it is used: `model` says which,
-and is LP64 where it isn't given. `ValueError` is raised for what is no data model.
+a `Model` or its name, "lp64" or "ilp32", and is LP64 where it isn't given. `ValueError` is raised for
+what is no data model.
 
-The library is looked up as `libfmtcanon.so.0`, or as the environment's FMTCANON_LIBRARY says.
+A `str` with a lone surrogate, as the names of files may have it, has no UTF-8: each call raises
+`UnicodeEncodeError` for it. Hand over bytes there, as `os.fsencode` makes them.
+
+The library is the one that the environment's FMTCANON_LIBRARY names; else the one that lies beside
+this module, where an installation put it; else `libfmtcanon.so.0`, where the system looks.
 
     >>> import fmtcanon
     >>> fmtcanon.canonical("Total: %i of %u%%")
@@ -18,7 +23,7 @@ The library is looked up as `libfmtcanon.so.0`, or as the environment's FMTCANON
     True
     >>> fmtcanon.compare("%05d", "%.5d").arguments
     (-1,)
-    >>> fmtcanon.canonical("%zu", model=fmtcanon.Model.ILP32)
+    >>> fmtcanon.canonical("%zu", model="ilp32")
     '%u'
     >>> [model.name for model in fmtcanon.same_in("%zu", "%lu")]
     ['LP64']
@@ -29,6 +34,7 @@ from __future__ import annotations
 import ctypes
 import enum
 import os
+from pathlib import Path
 from typing import Any, Callable, List, NamedTuple, Optional, Tuple, TypeVar, Union
 
 __all__ = [
@@ -38,6 +44,7 @@ __all__ = [
     "Refused",
     "Type",
     "Verdict",
+    "__version__",
     "canonical",
     "check",
     "compare",
@@ -47,6 +54,9 @@ __all__ = [
     "types",
     "version",
 ]
+
+# The version of this module, and of the library that comes with it; version() tells the one that is loaded.
+__version__ = "0.1.0"
 
 Format = Union[str, bytes, bytearray, memoryview]
 _Text = TypeVar("_Text", str, bytes)
@@ -83,12 +93,16 @@ class Kind(enum.IntEnum):
 class Model(enum.IntEnum):
     """A data model: how many bits integers have, and which types the length modifiers name.
 
-    In LP64 `long` has 64 bits, and `z`, `t` and `j` are `l`. In ILP32 it has 32 bits, `z` and `t`
-    are no modifier, and `j` is `ll`.
+    In LP64 `long` has 64 bits, and `z`, `t` and `j` are `l`. In ILP32 it has 32 bits, `%zu` means
+    `%u`, `%td` means `%d`, and `j` is `ll`.
     """
 
     LP64 = 0
     ILP32 = 1
+
+
+# How a data model is given to a call.
+DataModel = Union[Model, str]
 
 
 class Type(enum.IntEnum):
@@ -174,8 +188,13 @@ _CALLS = {
 }
 
 
+def _library_name() -> str:
+    beside = Path(__file__).parent / "libfmtcanon.so.0"
+    return os.environ.get("FMTCANON_LIBRARY") or (str(beside) if beside.exists() else beside.name)
+
+
 def _load() -> ctypes.CDLL:
-    name = os.environ.get("FMTCANON_LIBRARY", "libfmtcanon.so.0")
+    name = _library_name()
     try:
         library = ctypes.CDLL(name)
     except OSError as error:
@@ -205,6 +224,16 @@ def _bytes(format: Format) -> bytes:
     if isinstance(format, (bytes, bytearray, memoryview)):
         return bytes(format)
     raise TypeError(f"a format is a str or bytes, not {type(format).__name__}")
+
+
+def _number(model: DataModel) -> Model:
+    """The data model that an argument names."""
+    if not isinstance(model, str):
+        return Model(model)
+    for one in Model:
+        if one.name.lower() == model:
+            return one
+    raise ValueError(f"{model!r} is no data model: there are lp64 and ilp32")
 
 
 def _name(kind: int) -> str:
@@ -237,19 +266,19 @@ def check(format: Format) -> None:
     _answer(_library.fmtcanon_check(text, len(text), error), error)
 
 
-def is_canonical(format: Format, *, model: Model = Model.LP64) -> bool:
+def is_canonical(format: Format, *, model: DataModel = Model.LP64) -> bool:
     """Whether the format is its own canonical text."""
     text, error = _bytes(format), _Error()
-    return _answer(_library.fmtcanon_is_canonical(Model(model), text, len(text), error), error) == 1
+    return _answer(_library.fmtcanon_is_canonical(_number(model), text, len(text), error), error) == 1
 
 
-def canonical(format: _Text, *, model: Model = Model.LP64) -> _Text:
+def canonical(format: _Text, *, model: DataModel = Model.LP64) -> _Text:
     """The canonical text, a `str` where the format is one, else bytes.
 
     Two formats have one canonical text exactly if they take arguments of the same types and print
     the same bytes for all of them.
     """
-    text, error, number = _bytes(format), _Error(), Model(model)
+    text, error, number = _bytes(format), _Error(), _number(model)
     size = _answer(_library.fmtcanon_canonical_length(number, text, len(text), error), error)
     out = ctypes.create_string_buffer(size + 1)
     _answer(_library.fmtcanon_canonical(number, text, len(text), out, len(out), error), error)
@@ -257,18 +286,18 @@ def canonical(format: _Text, *, model: Model = Model.LP64) -> _Text:
     return out.raw[:size].decode() if isinstance(format, str) else out.raw[:size]
 
 
-def types(format: Format, *, model: Model = Model.LP64) -> List[Type]:
+def types(format: Format, *, model: DataModel = Model.LP64) -> List[Type]:
     """The types of the arguments, in order."""
     text = _bytes(format)
     room = text.count(b"%") + 1
-    codes = _filled(_library.fmtcanon_types, room, Model(model), text, len(text))
+    codes = _filled(_library.fmtcanon_types, room, _number(model), text, len(text))
     return [Type(code) for code in codes]
 
 
-def same(first: Format, second: Format, *, model: Model = Model.LP64) -> bool:
+def same(first: Format, second: Format, *, model: DataModel = Model.LP64) -> bool:
     """Whether two formats take the same types and print the same bytes for all arguments."""
     f, g, error = _bytes(first), _bytes(second), _Error()
-    result = _library.fmtcanon_same(Model(model), f, len(f), g, len(g), error)
+    result = _library.fmtcanon_same(_number(model), f, len(f), g, len(g), error)
     return _answer(result, error) == 1
 
 
@@ -283,7 +312,7 @@ def _argument(word: bytes) -> Union[int, bytes]:
     return int(word[2:]) if word.startswith(b"n:") else word[2:]
 
 
-def compare(first: Format, second: Format, *, model: Model = Model.LP64) -> Comparison:
+def compare(first: Format, second: Format, *, model: DataModel = Model.LP64) -> Comparison:
     """What two formats are to each other, with arguments that they print differently."""
     f, g, told = _bytes(first), _bytes(second), _Comparison()
 
@@ -291,7 +320,7 @@ def compare(first: Format, second: Format, *, model: Model = Model.LP64) -> Comp
         *texts, out, room, error = arguments
         return _library.fmtcanon_compare(*texts, out, room, told, error)
 
-    words = _filled(call, 4096, Model(model), f, len(f), g, len(g))
+    words = _filled(call, 4096, _number(model), f, len(f), g, len(g))
     verdict = Verdict(told.verdict)
     if verdict is Verdict.TYPES:
         return Comparison(verdict, types_differ_at=told.number)

@@ -70,7 +70,7 @@ class Calls(unittest.TestCase):
         self.assertEqual(fmtcanon.same_in("%d", "%u"), [])
 
     def test_no_model(self):
-        for wrong in [2, -1, 64, 1 << 32, "lp64", None]:
+        for wrong in [2, -1, 64, 1 << 32, "LP64", "both", "", None]:
             for call in [fmtcanon.canonical, fmtcanon.is_canonical, fmtcanon.types]:
                 with self.assertRaises(ValueError):
                     call("%d", model=wrong)
@@ -78,11 +78,17 @@ class Calls(unittest.TestCase):
                 with self.assertRaises(ValueError):
                     call("%d", "%d", model=wrong)
         self.assertEqual(fmtcanon.types("%zu", model=1), [Type.UINT])
+        self.assertEqual(fmtcanon.types("%zu", model="ilp32"), [Type.UINT])
+        self.assertEqual(fmtcanon.canonical("%zu", model="lp64"), "%lu")
+        self.assertTrue(fmtcanon.is_canonical("%u", model="ilp32"))
+        self.assertTrue(fmtcanon.same("%zu", "%u", model="ilp32"))
+        self.assertEqual(fmtcanon.compare("%zu", "%u", model="lp64").types_differ_at, 0)
         with self.assertRaises(TypeError):
             fmtcanon.same("%d", "%d", Model.LP64)
 
     def test_version(self):
         self.assertEqual(fmtcanon.version()[:2], (0, 1))
+        self.assertEqual(fmtcanon.__version__, ".".join(map(str, fmtcanon.version())))
 
     def test_examples(self):
         self.assertEqual(doctest.testmod(fmtcanon).failed, 0)
@@ -116,8 +122,10 @@ class Refusals(unittest.TestCase):
         for wrong in [5, None, ["%d"], 1.5]:
             with self.assertRaises(TypeError):
                 fmtcanon.check(wrong)
-        with self.assertRaises(UnicodeEncodeError):
-            fmtcanon.check("\ud800")
+        for call in [fmtcanon.check, fmtcanon.canonical, fmtcanon.is_canonical, fmtcanon.types]:
+            with self.assertRaises(UnicodeEncodeError):
+                call("%d\udcff")
+        self.assertEqual(fmtcanon.canonical(os.fsencode("%i\udcff")), b"%d\xff")
 
     def test_refusal_is_a_value_error(self):
         self.assertIsInstance(self.refused(fmtcanon.check, "%"), ValueError)
@@ -125,7 +133,7 @@ class Refusals(unittest.TestCase):
 
 class Loading(unittest.TestCase):
     def import_with(self, library):
-        environment = {**os.environ, "FMTCANON_LIBRARY": library}
+        environment = {**os.environ, "FMTCANON_LIBRARY": library, "LC_ALL": "C.UTF-8"}
         words = [sys.executable, "-c", "import fmtcanon"]
         done = subprocess.run(words, env=environment, stderr=subprocess.PIPE, check=False)
         return done.returncode, done.stderr.decode().splitlines()[-1]

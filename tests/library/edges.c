@@ -1,6 +1,6 @@
 /* The edges of what the header says: its numbers and its layout, texts and buffers that end at a
- * page that can't be touched, NULL, each growth refused in turn, and a small stack. It is linked
- * with malloc and realloc wrapped. */
+ * page that can't be touched, NULL, each growth refused in turn, what is given back of memory, and a
+ * small stack. It is linked with malloc, realloc and free wrapped. */
 #define _GNU_SOURCE
 #include "fmtcanon.h"
 #include <pthread.h>
@@ -20,13 +20,30 @@ static void failed(const char *what, int line)
     exit(1);
 }
 
-static int fails_at = -1, growths;
+/* How often memory was asked for, and how many pieces of it are held. */
+static int fails_at = -1, growths, held;
 void *__real_malloc(size_t n);
 void *__real_realloc(void *p, size_t n);
-void *__wrap_malloc(size_t n) { return growths++ == fails_at ? NULL : __real_malloc(n); }
+void __real_free(void *p);
+
+void *__wrap_malloc(size_t n)
+{
+    void *p = growths++ == fails_at ? NULL : __real_malloc(n);
+    held += p != NULL;
+    return p;
+}
+
 void *__wrap_realloc(void *p, size_t n)
 {
-    return growths++ == fails_at ? NULL : __real_realloc(p, n);
+    void *q = growths++ == fails_at ? NULL : __real_realloc(p, n);
+    held += p == NULL && q != NULL;
+    return q;
+}
+
+void __wrap_free(void *p)
+{
+    held -= p != NULL;
+    __real_free(p);
 }
 
 static void layout(void)
@@ -217,10 +234,11 @@ static void refusals_of_memory(void)
             fmtcanon_comparison told = {77, 78, 79};
             int64_t result;
             out[0] = 'Z';
-            growths = 0;
+            growths = held = 0;
             fails_at = n;
             result = growing(call, out, sizeof out, &told, &e);
             fails_at = -1;
+            WANT(held == 0);
             if (growths <= n) {
                 WANT(result > 0);
                 break;
@@ -230,6 +248,29 @@ static void refusals_of_memory(void)
             WANT(told.number == 77 && told.verdict == 78 && told.renderings == 79);
         }
         WANT(n > 0);
+    }
+}
+
+/* All of it is given back, whatever the room, and the canonical text takes one growth. */
+static void memory_given_back(void)
+{
+    static char out[16384];
+    static const size_t rooms[] = {0, 1, 8, sizeof out};
+    fmtcanon_error e;
+    fmtcanon_comparison told;
+    size_t i;
+    int call;
+    for (i = 0; i < COUNT(rooms); i++) {
+        for (call = 0; call < 3; call++) {
+            growths = held = 0;
+            WANT(growing(call, out, rooms[i], &told, &e) > 0);
+            WANT(growths > 0 && held == 0 && (call != 0 || growths == 1));
+        }
+        growths = held = 0;
+        WANT(fmtcanon_canonical(LP64, "%d%y", 4, out, rooms[i], &e) == -FMTCANON_UNEXPECTED);
+        WANT(fmtcanon_types(LP64, "%d%d%d%d%d%d%d%d%d%y", 20, NULL, 0, &e) == -FMTCANON_UNEXPECTED);
+        WANT(fmtcanon_compare(LP64, "%d", 2, "%d%y", 4, out, rooms[i], &told, &e) < 0);
+        WANT(held == 0);
     }
 }
 
@@ -273,6 +314,7 @@ int main(void)
     pages();
     nothing();
     refusals_of_memory();
+    memory_given_back();
     without_memory();
     WANT(!pthread_attr_init(&attr) && !pthread_attr_setstacksize(&attr, 24 * 1024));
     WANT(!pthread_create(&thread, &attr, in_small_stack, NULL));

@@ -1,0 +1,76 @@
+#!/bin/sh
+# Makes a Debian package of what `make` built, with dpkg-deb.
+#
+# Usage: make_deb.sh VERSION FOLDER
+set -eu
+cd "$(dirname "$0")/.."
+version=$1-1
+package=$(realpath "$2")/fmtcanon_${version}_amd64.deb
+maintainer=${MAINTAINER:-$(git log -1 --format='%an <%ae>' 2> /dev/null || true)}
+maintainer=${maintainer:-fmtcanon maintainers <maintainers@fmtcanon.example>}
+
+for tool in dpkg-deb strip gzip make; do
+    command -v $tool > /dev/null || { echo "$tool is missing" >&2; exit 1; }
+done
+umask 022
+stage=$(mktemp -d)
+trap 'rm -rf "$stage"' EXIT
+chmod 755 "$stage"
+libraries=/usr/lib/x86_64-linux-gnu
+documents=$stage/usr/share/doc/fmtcanon
+make -s install DESTDIR="$stage" PREFIX=/usr LIBDIR=$libraries PYTHON=/usr/bin/python3 \
+    PYTHONDIR=/usr/lib/python3/dist-packages ZSHDIR=/usr/share/zsh/vendor-completions
+
+strip --strip-all --remove-section=.comment --remove-section=.note "$stage/usr/bin/fmtcanon"
+strip --strip-unneeded --remove-section=.comment --remove-section=.note "$stage$libraries"/libfmtcanon.so.*.*
+strip --strip-debug --enable-deterministic-archives "$stage$libraries/libfmtcanon.a"
+gzip -9n "$stage"/usr/share/man/man*/*
+
+# Debian has the license and the changes under names of its own.
+{
+    printf '%s\n' 'Format: https://www.debian.org/doc/packaging-manuals/copyright-format/1.0/' ''
+    printf '%s\n' 'Files: *' "Copyright: $(sed -n 's/^Copyright (c) //p' LICENSE)" 'License: MIT'
+    sed '1,/^Copyright/d; s/^$/./; s/^/ /' LICENSE | sed '1d'
+} > "$documents/copyright"
+rm "$documents/LICENSE"
+mv "$documents/CHANGELOG.md" "$documents/changelog"
+printf '%s\n' "fmtcanon ($version) unstable; urgency=low" '' '  * What has changed stands in the file changelog.' '' \
+    " -- $maintainer  $(date -R -u -d @"${SOURCE_DATE_EPOCH:-$(stat -c %Y CHANGELOG.md)}")" \
+    > "$documents/changelog.Debian"
+gzip -9n "$documents/changelog" "$documents/changelog.Debian"
+
+mkdir "$stage/DEBIAN"
+cat > "$stage/DEBIAN/control" << CONTROL
+Package: fmtcanon
+Version: $version
+Architecture: amd64
+Maintainer: $maintainer
+Installed-Size: $(du -sk "$stage/usr" | cut -f 1)
+Depends: libc6 (>= 2.34), python3 (>= 3.8)
+Suggests: python3-clang
+Section: devel
+Priority: optional
+Description: canonical texts of printf formats
+ It brings the format strings of the C function printf to one canonical
+ spelling, and decides whether one may stand for another: the same
+ arguments, and the same bytes printed. The package has the program, a C
+ library, a Python module, a check of message catalogs and a command that
+ replaces formats in C source.
+CONTROL
+echo "libfmtcanon 0 fmtcanon (>= $1)" > "$stage/DEBIAN/shlibs"
+# Python's compiled modules come and go with the package.
+cat > "$stage/DEBIAN/postinst" << 'SCRIPT'
+#!/bin/sh
+set -e
+if [ "$1" = configure ] && command -v py3compile > /dev/null; then py3compile -p fmtcanon; fi
+SCRIPT
+cat > "$stage/DEBIAN/prerm" << 'SCRIPT'
+#!/bin/sh
+set -e
+if command -v py3clean > /dev/null; then py3clean -p fmtcanon; fi
+SCRIPT
+chmod 755 "$stage/DEBIAN/postinst" "$stage/DEBIAN/prerm"
+echo 'activate-noawait ldconfig' > "$stage/DEBIAN/triggers"
+(cd "$stage" && find usr -type f -exec md5sum {} +) > "$stage/DEBIAN/md5sums"
+dpkg-deb --build --root-owner-group "$stage" "$package" > /dev/null
+echo "$package"

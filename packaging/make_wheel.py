@@ -1,0 +1,89 @@
+#!/usr/bin/env python3
+"""Makes a wheel of the Python module with the C library inside, which installs with no compiler and no network.
+
+Usage: make_wheel.py LIBRARY FOLDER
+
+LIBRARY is the shared library. What the wheel says of itself comes from python/pyproject.toml. Its name
+promises a system with the GNU C library 2.17 or later: a library that wants a later one is no use.
+"""
+
+import base64
+import hashlib
+import re
+import subprocess
+import sys
+import zipfile
+from pathlib import Path
+
+TOP = Path(__file__).resolve().parent.parent
+SONAME = "libfmtcanon.so.0"
+GLIBC = (2, 17)
+TAG = f"py3-none-manylinux_{GLIBC[0]}_{GLIBC[1]}_x86_64"
+# Each file of a wheel has one time, so that the same files make the same wheel.
+TIME = (1980, 1, 1, 0, 0, 0)
+
+
+def wanted_glibc(library):
+    """The version of the C library that a library wants."""
+    table = subprocess.run(["objdump", "-T", library], check=True, stdout=subprocess.PIPE).stdout.decode()
+    return max(tuple(map(int, version.split("."))) for version in re.findall(r"GLIBC_([0-9.]+)", table))
+
+
+def project():
+    """The tables of python/pyproject.toml that are lines of names and texts, and its lists of texts."""
+    text = (TOP / "python/pyproject.toml").read_text(encoding="utf-8")
+    texts = dict(re.findall(r'^([\w-]+) = "(.*)"$', text, flags=re.MULTILINE))
+    lists = {name: re.findall(r'"([^"]*)"', inside) for name, inside in re.findall(r"^([\w-]+) = \[(.*?)\]$", text, flags=re.DOTALL | re.MULTILINE)}
+    return texts, lists
+
+
+def metadata(texts, lists):
+    readme = (TOP / "python/README.md").read_text(encoding="utf-8")
+    lines = [
+        "Metadata-Version: 2.1", f"Name: {texts['name']}", f"Version: {texts['version']}", f"Summary: {texts['description']}",
+        "License: MIT", "License-File: LICENSE", f"Requires-Python: {texts['requires-python']}",
+        "Description-Content-Type: text/markdown", *(f"Classifier: {one}" for one in lists["classifiers"]),
+    ]
+    return "\n".join(lines) + "\n\n" + readme
+
+
+def files_of(library, information, texts, lists):
+    """The files of the wheel but for the record of them: names and bytes."""
+    for path in sorted((TOP / "python/fmtcanon").rglob("*")):
+        if path.suffix == ".py" or path.name == "py.typed":
+            yield str(path.relative_to(TOP / "python")), path.read_bytes()
+    yield f"fmtcanon/{SONAME}", library.read_bytes()
+    commands = [f"fmtcanon-{name} = fmtcanon.{name}.command:main" for name in ("po", "replace")]
+    yield f"{information}/METADATA", metadata(texts, lists).encode()
+    yield f"{information}/WHEEL", f"Wheel-Version: 1.0\nGenerator: make_wheel\nRoot-Is-Purelib: false\nTag: {TAG}\n".encode()
+    yield f"{information}/entry_points.txt", "\n".join(["[console_scripts]", *commands, ""]).encode()
+    yield f"{information}/LICENSE", (TOP / "LICENSE").read_bytes()
+
+
+def main(library, folder):
+    if wanted_glibc(library) > GLIBC:
+        sys.exit(f"{library} wants a later C library than {GLIBC}")
+    texts, lists = project()
+    name = f"fmtcanon-{texts['version']}"
+    information, record = f"{name}.dist-info", []
+    wheel = Path(folder) / f"{name}-{TAG}.whl"
+    with zipfile.ZipFile(wheel, "w", zipfile.ZIP_DEFLATED) as archive:
+        for path, data in files_of(Path(library), information, texts, lists):
+            digest = base64.urlsafe_b64encode(hashlib.sha256(data).digest()).rstrip(b"=").decode()
+            record.append(f"{path},sha256={digest},{len(data)}")
+            add(archive, path, data)
+        add(archive, f"{information}/RECORD", "\n".join([*record, f"{information}/RECORD,,", ""]).encode())
+    print(wheel)
+
+
+def add(archive, path, data):
+    member = zipfile.ZipInfo(path, TIME)
+    member.external_attr = 0o100644 << 16
+    member.compress_type = zipfile.ZIP_DEFLATED
+    archive.writestr(member, data)
+
+
+if __name__ == "__main__":
+    if len(sys.argv) != 3:
+        sys.exit(__doc__)
+    main(*sys.argv[1:])

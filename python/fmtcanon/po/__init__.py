@@ -1,0 +1,1 @@
+"""Checks the C formats of message catalogs: the command fmtcanon-po."""

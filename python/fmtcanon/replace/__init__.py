@@ -1,0 +1,1 @@
+"""Replaces one printf format by another in C source: the command fmtcanon-replace."""

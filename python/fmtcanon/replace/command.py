@@ -1,0 +1,254 @@
+"""Replaces one printf format by another in C source, where the two mean the same.
+
+Usage: fmtcanon-replace [OPTION].. OLD NEW FILE.c..
+
+  --dry-run              tells what would be done, and changes no file
+  --model MODEL          in which data models the two have to mean the same: lp64, ilp32 or both;
+                         both where it isn't given, so that the source means the same wherever it
+                         is compiled
+  --posix-locale         the program prints in the POSIX locale alone; without it a format with the
+                         flag ' is left, since that groups digits in other locales
+  --function NAME:INDEX  NAME takes a format as the argument INDEX, counted from 0
+  --by READER            how calls are found: libclang or pattern
+  --flag FLAG            a word for libclang, as -Iinclude or -DNAME
+  --help                 prints this text
+
+OLD and NEW are formats as they stand in C between the quotes, so that '%i\\n' ends in a newline.
+Nothing is replaced unless both take the same arguments and print the same bytes for all of them.
+
+A place is one or more string literals side by side that make up OLD. It is replaced where it is
+surely the format of a call of the printf family, or of NAME. libclang tells the calls, where it is
+there (python3-clang) and finds no error in the file. Else a pattern does, and is sure only in a file
+that includes headers of the C library alone and defines no macro but plain values. Either takes the
+file as it is compiled with the flags given, and with no other macro from a command line.
+
+A line is written for each place: that it is replaced, or that it is left, and why. So is one for
+each place that means the same as OLD and is spelled otherwise. A file that isn't plain C, one with
+a trigraph, a raw string of C++, or an end within a comment, is left as a whole.
+
+The exit status is 0 where no place was left, 1 where one was, 2 for wrong words or formats.
+"""
+
+import os
+import re
+import sys
+import tempfile
+
+import fmtcanon
+
+from .parsed import Parsed, Unparsed
+from .pattern import Pattern
+from .places import Reading
+from .tokens import TRIGRAPH, Unclear, decoded, encoded
+
+# Where the format stands among the arguments of a call, counted from 0.
+FUNCTIONS = {
+    b"printf": 0, b"vprintf": 0, b"warn": 0, b"warnx": 0, b"vwarn": 0, b"vwarnx": 0,
+    b"fprintf": 1, b"vfprintf": 1, b"dprintf": 1, b"vdprintf": 1, b"sprintf": 1, b"vsprintf": 1,
+    b"asprintf": 1, b"vasprintf": 1, b"syslog": 1, b"vsyslog": 1, b"err": 1, b"errx": 1,
+    b"snprintf": 2, b"vsnprintf": 2, b"error": 2,
+}
+MODELS = {
+    "lp64": [fmtcanon.Model.LP64],
+    "ilp32": [fmtcanon.Model.ILP32],
+    "both": list(fmtcanon.Model),
+}
+READERS = ["libclang", "pattern"]
+# The flags of each conversion specification of a format that is accepted.
+FLAGS = re.compile(rb"%([-+ #0']*)[0-9.]*[a-zA-Z%]")
+
+
+class Options:
+    """What the words of the command ask for."""
+
+    def __init__(self):
+        self.functions = dict(FUNCTIONS)
+        self.chosen = set()
+        self.is_dry = False
+        self.is_posix = False
+        self.models = MODELS["both"]
+        self.reader = None
+        self.flags = []
+
+    def choose(self, name, index):
+        self.functions[name.encode()] = int(index)
+        self.chosen.add(name.encode())
+
+    def take(self, option, words):
+        """Takes one option with its word, and answers whether it is one."""
+        if option == "--dry-run":
+            self.is_dry = True
+        elif option == "--posix-locale":
+            self.is_posix = True
+        elif option == "--model" and words and words[0] in MODELS:
+            self.models = MODELS[words.pop(0)]
+        elif option == "--by" and words and words[0] in READERS:
+            self.reader = words.pop(0)
+        elif option == "--flag" and words:
+            self.flags.append(words.pop(0))
+        elif option == "--function" and words and re.fullmatch(r"\w+:\d+", words[0]):
+            self.choose(*words.pop(0).split(":"))
+        else:
+            return False
+        return True
+
+
+def why_no_format(place, functions):
+    """Why a place is no format of a call of a known function, or None."""
+    if place.unclear:
+        return place.unclear
+    if "name" in (place.before[0], place.after[0]):
+        return "a name beside it may be a macro that is part of the string"
+    index = functions.get(place.call.function)
+    if place.call.bracket != b"(" or index is None:
+        name = place.call.function.decode("latin-1")
+        known = f"it is an argument of {name}, which isn't known"
+        return known if name else "it is no argument of a call"
+    if place.argument != index:
+        return f"it isn't the format of {place.call.function.decode()}"
+    if place.before[1] not in (b"(", b",") or place.after[1] not in (b")", b","):
+        return "it is only a part of the argument"
+    return None
+
+
+def difference(old, new, model):
+    """In what two formats differ in a data model, or None."""
+    told = fmtcanon.compare(old, new, model=model)
+    if told.verdict is fmtcanon.Verdict.SAME:
+        return None
+    if told.verdict is fmtcanon.Verdict.TYPES:
+        return f"the types differ at argument {told.types_differ_at}"
+    return f"the two print different bytes for {told.arguments}"
+
+
+def difference_in(old, new, models):
+    """In what two formats differ in data models, which are named where it isn't so in each; or None."""
+    found = [difference(old, new, model) for model in models]
+    if len(set(found)) == 1:
+        return found[0]
+    return "; ".join(f"in {model.name} {one}" for model, one in zip(models, found) if one)
+
+
+def has_grouping(text):
+    return any(b"'" in flags for flags in FLAGS.findall(text))
+
+
+def reader_of(file, reading, options):
+    """What tells whether a place is surely the format of a call."""
+    if options.reader != "pattern":
+        try:
+            return Parsed(file, options.functions, options.chosen, options.flags)
+        except Unparsed as fault:
+            if options.reader == "libclang":
+                raise Unclear(f"libclang: {fault}") from fault
+    return Pattern(reading, options.chosen)
+
+
+class Replacer:
+    """Replaces one format by another in one file after another."""
+
+    def __init__(self, old, new, options):
+        self.old, self.new, self.options = old, new, options
+        self.left = 0
+        self.known = {}
+        self.verdict = difference_in(old, new, options.models)
+        if self.verdict is None and not options.is_posix and (has_grouping(old) or has_grouping(new)):
+            self.verdict = "the flag ' groups digits, but in the POSIX locale: --posix-locale says that it prints there"
+
+    def leave(self, file, line, why):
+        self.left += 1
+        print(f"{file}:{line}: left: {why}")
+
+    def means_the_same(self, text):
+        """Whether a text means the same as the old format, in the data models that are asked for."""
+        if text not in self.known:
+            try:
+                found = set(self.options.models) <= set(fmtcanon.same_in(self.old, text))
+                is_hidden = not self.options.is_posix and has_grouping(text) != has_grouping(self.old)
+                self.known[text] = found and not is_hidden
+            except fmtcanon.Refused:
+                self.known[text] = False
+        return self.known[text]
+
+    def replaced(self, file, source):
+        """The source with what is to be replaced."""
+        reading = Reading(source, self.options.functions)
+        reader, parts, done = None, [], 0
+        for place in reading.places:
+            text = place.text
+            if text != self.old:
+                if not place.unclear and self.means_the_same(text):
+                    self.leave(file, place.line, "it means the same, and is spelled otherwise")
+                continue
+            why = why_no_format(place, self.options.functions)
+            if why is None:
+                reader = reader or reader_of(file, reading, self.options)
+                why = reader.why_left(place) or self.verdict
+            if why:
+                self.leave(file, place.line, why)
+                continue
+            print(f"{file}:{place.line}: replaced")
+            parts += [source[done : place.start], encoded(self.new)]
+            done = place.end
+        return b"".join([*parts, source[done:]])
+
+    def replace_file(self, file):
+        with open(file, "rb") as stream:
+            source = stream.read()
+        if TRIGRAPH.search(source):
+            self.leave(file, 1, "the file has a trigraph, which compilers read in two ways")
+            return
+        try:
+            text = self.replaced(file, source)
+        except Unclear as unclear:
+            self.leave(file, 1, f"the file as a whole: {unclear}")
+            return
+        if text != source and not self.options.is_dry:
+            write_whole(file, text)
+
+
+def write_whole(file, text):
+    """Writes all of a file or nothing, with the rights that it has; not a link to it."""
+    file = os.path.realpath(file)
+    handle, name = tempfile.mkstemp(dir=os.path.dirname(file))
+    try:
+        with os.fdopen(handle, "wb") as stream:
+            stream.write(text)
+        os.chmod(name, os.stat(file).st_mode & 0o7777)
+        os.replace(name, file)
+    except OSError:
+        os.unlink(name)
+        raise
+
+
+def format_of(word):
+    """The format that a word gives."""
+    inside = os.fsencode(word)
+    if re.search(rb'(?<!\\)(?:\\\\)*"|(?<!\\)(?:\\\\)*\\$', inside):
+        raise Unclear("a format is given as it stands between the quotes")
+    return decoded(inside)
+
+
+def main(words=None):
+    words, options = list(sys.argv[1:] if words is None else words), Options()
+    if "--help" in words[: words.index("--") if "--" in words else len(words)]:
+        print(__doc__, end="")
+        return 0
+    while words and words[0].startswith("--") and words[0] != "--":
+        if not options.take(words.pop(0), words):
+            words = []
+    words = words[1:] if words[:1] == ["--"] else words
+    if len(words) < 3:
+        print(__doc__, end="", file=sys.stderr)
+        return 2
+    try:
+        replacer = Replacer(format_of(words[0]), format_of(words[1]), options)
+        for file in words[2:]:
+            replacer.replace_file(file)
+    except fmtcanon.Refused as refusal:
+        print(f"{['OLD', 'NEW'][refusal.side]} is {refusal}", file=sys.stderr)
+        return 2
+    except (OSError, Unclear) as error:
+        print(error, file=sys.stderr)
+        return 2
+    return 1 if replacer.left else 0

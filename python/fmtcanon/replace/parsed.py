@@ -1,0 +1,101 @@
+"""Where libclang is sure that a literal is the format of a call."""
+
+import ctypes
+
+try:
+    from clang import cindex
+except ImportError:
+    cindex = None
+
+
+class Unparsed(Exception):
+    """libclang isn't there, or can't parse the file."""
+
+
+def is_in_system_header(location):
+    return bool(cindex.conf.lib.clang_Location_isInSystemHeader(location))
+
+
+def file_and_offset(location):
+    """The file and the byte of a place. Its line and column aren't asked for: these take the length of the line."""
+    file, offset = cindex.c_object_p(), ctypes.c_uint()
+    cindex.conf.lib.clang_getInstantiationLocation(location, ctypes.byref(file), None, None, ctypes.byref(offset))
+    return (cindex.File(file).name if file else None), offset.value
+
+
+def parsed(file, flags):
+    """The translation unit of a file that has no error."""
+    if cindex is None:
+        raise Unparsed("libclang isn't there: the package python3-clang has it")
+    try:
+        unit = cindex.Index.create().parse(file, args=flags)
+    except (cindex.LibclangError, cindex.TranslationUnitLoadError) as error:
+        raise Unparsed(str(error)) from error
+    for told in unit.diagnostics:
+        if told.severity >= cindex.Diagnostic.Error:
+            raise Unparsed(f"line {told.location.line}: {told.spelling}")
+    return unit
+
+
+def plain_literal(cursor):
+    """The string literal that an argument is, or None."""
+    while cursor is not None and cursor.kind == cindex.CursorKind.UNEXPOSED_EXPR:
+        inside = list(cursor.get_children())
+        cursor = inside[0] if len(inside) == 1 else None
+    is_literal = cursor is not None and cursor.kind == cindex.CursorKind.STRING_LITERAL
+    return cursor if is_literal else None
+
+
+class Parsed:
+    """The calls that libclang finds in one file, by the place of their format."""
+
+    def __init__(self, file, functions, chosen, flags):
+        self.functions = functions
+        self.chosen = chosen
+        self.file = file
+        self.formats = {}
+        self.declared = {}
+        self.walk(parsed(file, flags))
+
+    def walk(self, unit):
+        waiting = []
+        for cursor in unit.cursor.get_children():
+            self.note_declaration(cursor)
+            if file_and_offset(cursor.location)[0] == self.file:
+                waiting.append(cursor)
+        while waiting:
+            cursor = waiting.pop()
+            self.note_declaration(cursor)
+            if cursor.kind == cindex.CursorKind.CALL_EXPR:
+                self.note_call(cursor)
+            waiting.extend(cursor.get_children())
+
+    def note_declaration(self, cursor):
+        is_known = cursor.kind == cindex.CursorKind.FUNCTION_DECL and cursor.spelling.encode() in self.functions
+        if is_known and not is_in_system_header(cursor.location):
+            self.declared.setdefault(cursor.spelling.encode(), f"{cursor.location.file}:{cursor.location.line}")
+
+    def note_call(self, call):
+        function = call.referenced
+        if function is None or function.kind != cindex.CursorKind.FUNCTION_DECL:
+            return
+        name = function.spelling.encode()
+        is_known = name in self.chosen or is_in_system_header(function.canonical.location)
+        arguments = list(call.get_arguments())
+        index = self.functions.get(name)
+        if not is_known or index is None or index >= len(arguments):
+            return
+        literal = plain_literal(arguments[index])
+        file, offset = file_and_offset(literal.extent.start) if literal is not None else (None, 0)
+        if file == self.file:
+            self.formats[offset] = name
+
+    def why_left(self, place):
+        """Why it isn't sure that a place is the format of a call, or None."""
+        name = place.call.function
+        if name not in self.chosen and name in self.declared:
+            return f"{name.decode()} is declared in {self.declared[name]}, outside of the system's headers"
+        if self.formats.get(place.start) == name:
+            return None
+        reasons = "it may be a macro's argument, left out by #if, or another function"
+        return f"libclang finds no call of {name.decode()} of the C library here: {reasons}"

@@ -1,0 +1,242 @@
+"""Tries fmtcanon-po on the catalogs of tests/catalogs.
+
+`tests/examples.py` runs it, with no tool of gettext; `tests/more.py` compares it with msgfmt.
+"""
+
+import os
+import re
+import struct
+import subprocess
+import sys
+import tempfile
+from pathlib import Path
+
+from program import TIMEOUT, TOP
+
+CATALOGS = TOP / "tests/catalogs"
+# A catalog with its exit status, and what is told of it.
+CHECKED = [
+    ("right.po", 0, "2 messages judged, 0 not judged\n"),
+    ("empty.po", 0, "0 messages judged, 0 not judged\n"),
+    ("singular.po", 1, """\
+singular.po:9: warning: 'msgid' isn't checked: refused 6 Numbered at byte 14 ["one file in %2$s"]
+singular.po:15: number of format specifications in 'msgid_plural' and 'msgstr[1]' does not match: 1 and 0 ["one file"]
+1 messages judged, 1 not judged
+found 1 fatal error
+"""),
+    ("wrong.po", 1, """\
+wrong.po:7: format specifications in 'msgid' and 'msgstr' for argument 1 are not the same: string and int ["%s: %d"]
+wrong.po:11: format specifications in 'msgid' and 'msgstr' for argument 1 are not the same: int and long ["%d items"]
+wrong.po:15: number of format specifications in 'msgid' and 'msgstr' does not match: 2 and 1 ["%d of %d"]
+wrong.po:19: 'msgstr' is not a valid C format string, unlike 'msgid'. Reason: refused 2 Truncated at byte 3 ["%d%%"]
+wrong.po:23: warning: 'msgstr' isn't checked, since 'msgid' is refused 9 Float at byte 10 ["%s is %5.1f"]
+wrong.po:27: warning: 'msgstr' isn't checked: refused 6 Numbered at byte 2 ["%s in %s"]
+4 messages judged, 2 not judged
+found 4 fatal errors
+"""),
+    ("digits.po", 0, """\
+digits.po:11: warning: 'msgstr' isn't checked: refused 3 Unexpected at byte 9 ["%s in %d"]
+digits.po:15: warning: 'msgstr' isn't checked: refused 3 Unexpected at byte 1 ["%x"]
+digits.po:19: warning: 'msgstr' isn't checked, since 'msgid' is refused 3 Unexpected at byte 1 ["%Id"]
+digits.po:23: warning: 'msgstr' isn't checked: refused 3 Unexpected at byte 5 ["%d"]
+1 messages judged, 4 not judged
+"""),
+    ("newlines.po", 1, """\
+newlines.po:7: 'msgid' and 'msgstr' entries do not both end with '\\n' ["first\\n"]
+newlines.po:10: 'msgid' and 'msgstr' entries do not both end with '\\n' ["\\nsecond"]
+newlines.po:24: 'msgid' and 'msgstr[1]' entries do not both begin with '\\n' ["%d file\\n"]
+newlines.po:24: 'msgid' and 'msgstr[0]' entries do not both end with '\\n' ["%d file\\n"]
+newlines.po:32: 'msgid' and 'msgstr' entries do not both end with '\\n' ["five"]
+1 messages judged, 0 not judged
+found 5 fatal errors
+"""),
+    ("forms.po", 1, """\
+forms.po:16: number of format specifications in 'msgid_plural' and 'msgstr[0]' does not match: 1 and 0 ["%d line"]
+2 messages judged, 0 not judged
+found 1 fatal error
+"""),
+    ("ranges.po", 1, """\
+ranges.po:15: number of format specifications in 'msgid_plural' and 'msgstr[1]' does not match: 1 and 0 ["%d line"]
+2 messages judged, 0 not judged
+found 1 fatal error
+"""),
+    ("flags.po", 1, """\
+flags.po:3: format specifications in 'msgid' and 'msgstr' for argument 1 are not the same: int and string ["%d"]
+1 messages judged, 0 not judged
+found 1 fatal error
+"""),
+    ("escape.po", 1, """\
+escape.po:6: number of format specifications in 'msgid' and 'msgstr' does not match: 1 and 2 ["%d"]
+1 messages judged, 0 not judged
+found 1 fatal error
+"""),
+]
+# One catalog in each data model, and in both.
+IN_MODELS = [
+    (["--model", "lp64"], """\
+models.po:12: format specifications in 'msgid' and 'msgstr' for argument 2 are not the same: int and long ["%d of %d"]
+models.po:16: format specifications in 'msgid' and 'msgstr' for argument 1 are not the same: int and uint ["%d"]
+3 messages judged, 0 not judged
+found 2 fatal errors
+"""),
+    (["--model", "ilp32"], """\
+models.po:8: format specifications in 'msgid' and 'msgstr' for argument 1 are not the same: uint and ulong ["%zu"]
+models.po:16: format specifications in 'msgid' and 'msgstr' for argument 1 are not the same: int and uint ["%d"]
+3 messages judged, 0 not judged
+found 2 fatal errors
+"""),
+    (["--model", "both"], """\
+models.po:8: format specifications in 'msgid' and 'msgstr' for argument 1 are not the same: uint and ulong, in ILP32 ["%zu"]
+models.po:12: format specifications in 'msgid' and 'msgstr' for argument 2 are not the same: int and long, in LP64 ["%d of %d"]
+models.po:16: format specifications in 'msgid' and 'msgstr' for argument 1 are not the same: int and uint ["%d"]
+3 messages judged, 0 not judged
+found 3 fatal errors
+"""),
+]
+# They can't be read, with the line where it is known.
+UNREADABLE = [("torn.po", 1), ("bytes.po", 7), ("rule.po", 0), ("nothing.po", 0), ('msgid "a"', 0), (".", 0)]
+# Texts that are no catalog, with the line.
+NO_CATALOGS = [
+    ('msgid "a"\n"b"\nmsgid "c"\nmsgstr "d"\n', 1),
+    ('msgstr "d"\n', 1),
+    ('"d"\n', 1),
+    ('msgid "a"\nmsgstr\n', 2),
+    ('msgid "a"\nmsgstr[0] "b"\n', 2),
+    ('msgid "a"\nmsgid_plural "b"\nmsgstr "c"\n', 3),
+    ('msgid "a"\nmsgid_plural "b"\nmsgstr[1] "c"\nmsgstr[1] "d"\n', 4),
+    ('msgid "a"\nmsgstr "\\q"\n', 2),
+    ('msgid "a"\nmsgstr "\\777"\n', 2),
+    ('msgid "a"\nmsgstr "b\n', 2),
+    ('msgid ""\nmsgstr "Content-Type: text/plain; charset=NOSUCH\\n"\n', 0),
+]
+PLURAL = b"Content-Type: text/plain; charset=ISO-8859-1\nPlural-Forms: nplurals=2; plural=n != 1;\n"
+# The messages of a .mo file, and what is told of it with each option.
+BINARY = [
+    (b"", PLURAL),
+    (b"%d file\0%d files", b"%d Datei\0%s Dateien"),
+    (b"%s", b"f\xfcr %s"),
+    (b"100% of it", b"100 % von"),
+    (b"menu\4%u", b"%u\n"),
+    (b"no format", b"\n"),
+]
+TOLD_OF_BINARY = [
+    ([], 0, """\
+a.mo:1: warning: if it is a C format: format specifications in 'msgid_plural' and 'msgstr[1]' for argument 1 are not the same: int and string ["%d file"]
+a.mo:3: warning: if it is a C format: 'msgstr' is not a valid C format string, unlike 'msgid'. Reason: refused 3 Unexpected at byte 6 ["100% of it"]
+a.mo:4: 'msgid' and 'msgstr' entries do not both end with '\\n' ["%u"]
+a.mo:5: 'msgid' and 'msgstr' entries do not both begin with '\\n' ["no format"]
+a.mo:5: 'msgid' and 'msgstr' entries do not both end with '\\n' ["no format"]
+2 messages judged, 2 not judged
+found 3 fatal errors
+"""),
+    (["--c-format"], 1, """\
+a.mo:1: format specifications in 'msgid_plural' and 'msgstr[1]' for argument 1 are not the same: int and string ["%d file"]
+a.mo:3: 'msgstr' is not a valid C format string, unlike 'msgid'. Reason: refused 3 Unexpected at byte 6 ["100% of it"]
+a.mo:4: 'msgid' and 'msgstr' entries do not both end with '\\n' ["%u"]
+a.mo:5: 'msgid' and 'msgstr' entries do not both begin with '\\n' ["no format"]
+a.mo:5: 'msgid' and 'msgstr' entries do not both end with '\\n' ["no format"]
+4 messages judged, 0 not judged
+found 5 fatal errors
+"""),
+]
+
+
+def binary(messages, order):
+    """A .mo file of these messages, by the layout that the manual of gettext gives."""
+    count = len(messages)
+    texts = [text for column in zip(*messages) for text in column]
+    start, table, strings = 28 + 16 * count, b"", b""
+    for text in texts:
+        table += struct.pack(order + "II", len(text), start + len(strings))
+        strings += text + b"\0"
+    return struct.pack(order + "7I", 0x950412DE, 0, count, 28, 28 + 8 * count, 0, start) + table + strings
+
+
+def check_po(folder, words, stdin=b"", where=CATALOGS):
+    """The status, standard output and standard error of the command."""
+    environment = {
+        **os.environ, "FMTCANON_LIBRARY": str(folder / "libfmtcanon.so.0"), "PYTHONDONTWRITEBYTECODE": "1",
+        "PYTHONPATH": str(TOP / "python"), "PYTHONIOENCODING": "utf-8",
+    }
+    # No package of the machine is taken.
+    done = subprocess.run(
+        [sys.executable, "-S", TOP / "examples/check_po.py", *words], cwd=where, env=environment, timeout=TIMEOUT,
+        check=False, input=stdin, stdout=subprocess.PIPE, stderr=subprocess.PIPE,
+    )
+    return done.returncode, done.stdout.decode(), done.stderr.decode()
+
+
+def try_binaries(folder, trials):
+    with tempfile.TemporaryDirectory() as work:
+        file = Path(work) / "a.mo"
+        for order in "<>":
+            file.write_bytes(binary(BINARY, order))
+            for words, _, told in TOLD_OF_BINARY:
+                trials.expect(f"check_po.py {words} a.mo", check_po(folder, [*words, "a.mo"], where=work), (1, "", told))
+        whole = file.read_bytes()
+        for size in [4, 10, 27, 28, 40, len(whole) - 2]:
+            file.write_bytes(whole[:size])
+            status, out, told = check_po(folder, ["a.mo"], where=work)
+            trials.expect(f"{size} bytes of a.mo", (status, out, told.startswith("a.mo:0: it can't be read: ")), (1, "", True))
+        file.write_bytes(binary(BINARY[:1] + [(b"%d", b"%s")], "<"))
+        trials.expect("a warning alone", check_po(folder, ["a.mo"], where=work)[0], 0)
+        trials.expect("a warning alone, --strict", check_po(folder, ["--strict", "a.mo"], where=work)[0], 1)
+
+
+def try_catalogs(folder, trials):
+    """The check of message catalogs."""
+    for catalog, status, told in CHECKED:
+        trials.expect(f"check_po.py {catalog}", check_po(folder, [catalog]), (status, "", told))
+        data = (CATALOGS / catalog).read_bytes()
+        told = re.sub(rf"^{catalog}:", "-:", told, flags=re.MULTILINE)
+        trials.expect(f"check_po.py - of {catalog}", check_po(folder, ["-"], data), (status, "", told))
+        has_unjudged = " 0 not judged" not in told
+        trials.expect(f"check_po.py --strict {catalog}", check_po(folder, ["--strict", catalog])[0], 1 if has_unjudged else status)
+    for catalog, line in UNREADABLE:
+        status, out, told = check_po(folder, [catalog])
+        trials.expect(f"check_po.py {catalog}", (status, out), (1, ""))
+        trials.expect(f"what it tells of {catalog}", told.startswith(f"{catalog}:{line}: it can't be read: ") and "Traceback" not in told, True)
+    for text, line in NO_CATALOGS:
+        status, out, told = check_po(folder, ["-"], text.encode())
+        trials.expect(f"no catalog: {text!r}", (status, out, told[: told.find(" ")]), (1, "", f"-:{line}:"))
+    for words, told in IN_MODELS:
+        trials.expect(f"check_po.py {words} models.po", check_po(folder, [*words, "models.po"]), (1, "", told))
+    trials.expect("both data models where none is said", check_po(folder, ["models.po"])[2], IN_MODELS[-1][1])
+    for words in [["--model", "LP64", "right.po"], ["--model", "both"], ["--what", "right.po"], []]:
+        status, out, told = check_po(folder, words)
+        trials.expect(f"check_po.py {words}", (status, out, "Usage" in told), (2, "", True))
+    status, out, told = check_po(folder, ["--help"])
+    trials.expect("check_po.py --help", (status, "Usage: fmtcanon-po" in out, told), (0, True, ""))
+    told = "2 messages judged, 0 not judged\n"
+    trials.expect("two catalogs", check_po(folder, ["--", "right.po", "empty.po"]), (0, "", told))
+    try_binaries(folder, trials)
+
+
+def fault_lines(text):
+    """The faults of formats and newlines in what either tool tells: each line with the words that both have."""
+    kinds = r"format specifications in|number of format|is not a valid C format|do not both"
+    for line in text.splitlines():
+        found = re.match(rf"(\S+:\d+): (.*(?:{kinds})[^:.\[]*)", line)
+        if found:
+            yield found.group(1), found.group(2).strip()
+
+
+def try_msgfmt(folder, trials):
+    """What it tells of the catalogs is what msgfmt tells, but where it can't judge."""
+    environment = {**os.environ, "LC_ALL": "C", "LANGUAGE": ""}
+    for catalog, _, ours in CHECKED:
+        # With -c it reads the rule for plural forms, but shows no fault where the header is missing.
+        told = "".join(
+            subprocess.run(
+                ["msgfmt", check, "-o", os.devnull, catalog], cwd=CATALOGS, env=environment, check=False, timeout=TIMEOUT,
+                stderr=subprocess.PIPE,
+            ).stderr.decode()
+            for check in ["-c", "--check-format"]
+        )
+        unjudged = set(re.findall(r"^(\S+): warning", ours, flags=re.MULTILINE))
+        theirs = {fault for fault in fault_lines(told) if fault[0] not in unjudged}
+        # Of two faults in one line it shows one, and counts both.
+        trials.expect(f"msgfmt {catalog}", sorted(theirs - set(fault_lines(ours))), [])
+        if not unjudged and theirs:
+            found = set(re.findall(r"found \d+ fatal", ours)) & set(re.findall(r"found \d+ fatal", told))
+            trials.expect(f"how many faults msgfmt has in {catalog}", len(found), 1)
