@@ -57,14 +57,12 @@ archive: tools c-tools
 	cd crates/fmtcanon_c && rt lib --cpu $(CPU)
 	mkdir -p $(C)
 
-# One object, with the calls of malloc, realloc and free in it.
-JOIN = kit=$$(dirname "$$(rt doc)") && ld -r --whole-archive crates/fmtcanon_c/out/libfmtcanon_c.a \
-    --no-whole-archive "$$kit/c/liblibc_c.a" -o
+# One object, whose only global names are those of the header.
+JOIN = CC="$(CC)" library/join.sh crates/fmtcanon_c/out/libfmtcanon_c.a
 
-# Its only global names are those of the header. A file that stays as it is makes nothing anew.
+# A file that stays as it is makes nothing anew.
 $(C)/fmtcanon.o: archive
 	$(JOIN) $@.new
-	objcopy --wildcard --keep-global-symbol='fmtcanon_*' $@.new
 	cmp -s $@.new $@ || mv $@.new $@
 	rm -f $@.new
 

@@ -17,10 +17,11 @@
  * left as it was, and so is every byte after the answer. The result is the same either way. So a
  * call with `cap` 0 asks how much room is wanted, and the next one, with that room, fills it.
  *
- * What the caller owes. `error` and `comparison` aren't NULL and are aligned. `text` and `out` may
- * be NULL where their length is 0; else they point to so many bytes, fewer than 2^63. What is
- * written (`out`, `comparison`, `error`) overlaps nothing else that the call is given. No other
- * thread writes the texts during the call, nor touches what is written.
+ * What the caller owes. `error` may be NULL: then only the result tells of a refusal. `comparison`
+ * isn't NULL. Both are aligned. `text` and `out` may be NULL where their length is 0; else they
+ * point to so many bytes, fewer than 2^63. What is written (`out`, `comparison`, `error`) overlaps
+ * nothing else that the call is given. No other thread writes the texts during the call, nor touches
+ * what is written.
  *
  * Threads and memory. No call has state, keeps a pointer, prints, or ends the process: calls may be
  * made from any number of threads. `malloc`, `realloc` and `free` are called where a comment says

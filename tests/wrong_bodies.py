@@ -10,7 +10,7 @@ crate, over what a proof of the crate as it stands has kept in out/. Edits of di
 It is refused where a goal is open in a function whose body it changes: no search proves it, or the answer that a file of
 proofs/ gives to it is of another type. The crate as it stands is proved, so the goal is open for the edit alone. Where a
 file of proofs/ only names what is gone, the edit may be harmless: then the crate's tests are run with it, and one must
-fail. An edit of a constant, of a table or of a file of specs/ is tried alone, and any function may refuse it.
+fail. An edit of a constant, of a table or of a file of specs/ is tried alone, and any function or lemma may refuse it.
 
 Its last line is 'N passed, M failed', and it exits with 1 where M isn't 0.
 """
@@ -224,17 +224,23 @@ class Report:
         own = f"{self.crate}::{path}"
         return [it for it in self.lines if it == own or it.startswith(tuple(closures))]
 
+    def answers(self, folder):
+        """The files and the names of the answers below a folder of proofs/ that don't prove what they are for."""
+        for file, name, said in re.findall(rf"^\./proofs/({folder}\w+\.antt):\S+ error: `([^`]+)`: (.*)$", self.text, re.MULTILINE):
+            if not MISFITS.search(said):
+                yield file, name
+
     def open_goals(self, path=None):
-        """The goals that are open in the function at this path or in all: no search proves them, or no answer fits."""
-        names = self.lines if path is None else self.names(path)
-        for name in names:
+        """What is open in the function at this path, or anywhere: goals that no search proves and no answer fits."""
+        if path is None:
+            for file, name in self.answers(r"(?:[\w+-]+/)*"):
+                yield f"`{name}` of proofs/{file}"
+        for name in self.lines if path is None else self.names(path):
             goal = re.search(r"`search` did not prove `([^`]+)`", self.lines[name])
             if goal:
                 yield f"the goal `{goal[1]}` of {name}"
-            folder = re.escape("/".join(name.split("::")[1:]))
-            for goal, said in re.findall(rf"^\./proofs/{folder}/\w+\.antt:\S+ error: `([^`]+)`: (.*)$", self.text, re.MULTILINE):
-                if not MISFITS.search(said):
-                    yield f"the answer to the goal `{goal}` of {name}"
+            for _, goal in self.answers(re.escape("/".join(name.split("::")[1:])) + "/"):
+                yield f"the answer to the goal `{goal}` of {name}"
 
     def is_refused(self, path=None):
         """Whether the function at this path, or any, is not proved."""
@@ -308,8 +314,10 @@ class Trial:
         self.room.write(texts)
         said, status = self.room.tests()
         self.room.put_back(texts)
-        found = re.search(r"^test (\S+) \.\.\. FAILED", said, re.MULTILINE)
-        return found[1] if found and status else None
+        # One that only takes too long, without optimization and beside other work, says nothing.
+        failed = re.findall(r"^test (\S+) \.\.\. FAILED\n((?: +.*\n)*)", said, re.MULTILINE)
+        failed = [name for name, why in failed if "within the time limit" not in why]
+        return failed[0] if failed and status else None
 
     def run(self, edits):
         """Gives each edit its verdict: in a batch, and alone where that doesn't show it refused."""

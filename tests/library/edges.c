@@ -303,6 +303,32 @@ static void *in_small_stack(void *p)
     return NULL;
 }
 
+/* Each call answers the same where `error` is NULL, of formats that are refused and of one that isn't. */
+static void no_place_for_an_error(void)
+{
+    static const char *const texts[] = {"%i", "%y", "a%"};
+    fmtcanon_error e;
+    fmtcanon_comparison c;
+    char out[8], same_out[8];
+    unsigned char types[4];
+    for (size_t i = 0; i < COUNT(texts); i++) {
+        const char *t = texts[i];
+        size_t n = strlen(t);
+        WANT(fmtcanon_check(t, n, NULL) == fmtcanon_check(t, n, &e));
+        WANT(fmtcanon_is_canonical(LP64, t, n, NULL) == fmtcanon_is_canonical(LP64, t, n, &e));
+        WANT(fmtcanon_canonical_length(LP64, t, n, NULL) == fmtcanon_canonical_length(LP64, t, n, &e));
+        memset(out, 0, sizeof out);
+        memset(same_out, 0, sizeof same_out);
+        WANT(fmtcanon_canonical(LP64, t, n, out, 8, NULL) == fmtcanon_canonical(LP64, t, n, same_out, 8, &e));
+        WANT(memcmp(out, same_out, sizeof out) == 0);
+        WANT(fmtcanon_types(LP64, t, n, types, 4, NULL) == fmtcanon_types(LP64, t, n, types, 4, &e));
+        WANT(fmtcanon_same(LP64, "%d", 2, t, n, NULL) == fmtcanon_same(LP64, "%d", 2, t, n, &e));
+        WANT(fmtcanon_same_models("%d", 2, t, n, NULL) == fmtcanon_same_models("%d", 2, t, n, &e));
+        WANT(fmtcanon_compare(LP64, "%d", 2, t, n, out, 8, &c, NULL) == fmtcanon_compare(LP64, "%d", 2, t, n, out, 8, &c, &e));
+    }
+    WANT(fmtcanon_check("%y", 2, NULL) == -3 && fmtcanon_check("a%", 2, NULL) == -2);
+}
+
 int main(void)
 {
     pthread_attr_t attr;
@@ -313,6 +339,7 @@ int main(void)
     two_texts();
     pages();
     nothing();
+    no_place_for_an_error();
     refusals_of_memory();
     memory_given_back();
     without_memory();

@@ -1,0 +1,54 @@
+/* The calls as the header declares them: `error` may be NULL, and then nobody is told what is refused.
+ *
+ * The calls that are proved want a place for it. In the library these have the front proved_ in their
+ * names and are seen by this file alone, which stands before them and does nothing else.
+ */
+#include "fmtcanon.h"
+
+/* Declares a proved call, and defines the one that gives it a place where it was given none. */
+#define WITH_OPTIONAL_ERROR(name, parameters, arguments)                                           \
+    int64_t proved_##name parameters;                                                              \
+    int64_t name parameters                                                                        \
+    {                                                                                              \
+        fmtcanon_error unread;                                                                     \
+        if (error == NULL)                                                                         \
+            error = &unread;                                                                       \
+        return proved_##name arguments;                                                            \
+    }
+
+WITH_OPTIONAL_ERROR(fmtcanon_check, (const char *text, size_t len, fmtcanon_error *error),
+                    (text, len, error))
+
+WITH_OPTIONAL_ERROR(fmtcanon_is_canonical,
+                    (int model, const char *text, size_t len, fmtcanon_error *error),
+                    (model, text, len, error))
+
+WITH_OPTIONAL_ERROR(fmtcanon_canonical_length,
+                    (int model, const char *text, size_t len, fmtcanon_error *error),
+                    (model, text, len, error))
+
+WITH_OPTIONAL_ERROR(fmtcanon_canonical,
+                    (int model, const char *text, size_t len, char *out, size_t cap,
+                     fmtcanon_error *error),
+                    (model, text, len, out, cap, error))
+
+WITH_OPTIONAL_ERROR(fmtcanon_types,
+                    (int model, const char *text, size_t len, unsigned char *out, size_t cap,
+                     fmtcanon_error *error),
+                    (model, text, len, out, cap, error))
+
+WITH_OPTIONAL_ERROR(fmtcanon_same,
+                    (int model, const char *first, size_t first_len, const char *second,
+                     size_t second_len, fmtcanon_error *error),
+                    (model, first, first_len, second, second_len, error))
+
+WITH_OPTIONAL_ERROR(fmtcanon_same_models,
+                    (const char *first, size_t first_len, const char *second, size_t second_len,
+                     fmtcanon_error *error),
+                    (first, first_len, second, second_len, error))
+
+WITH_OPTIONAL_ERROR(fmtcanon_compare,
+                    (int model, const char *first, size_t first_len, const char *second,
+                     size_t second_len, char *out, size_t cap, fmtcanon_comparison *comparison,
+                     fmtcanon_error *error),
+                    (model, first, first_len, second, second_len, out, cap, comparison, error))
