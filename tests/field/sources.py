@@ -4,7 +4,7 @@
 Usage: tests/field/sources.py [FOLDER]..
 
 Each .c file below the folders is read, and each one in a .tar.xz file there, as Debian's source
-packages have it; the folders is /usr/share/doc where none is given. A place is one or
+packages have it; the folder is /usr/share/doc where none is given. A place is one or
 more string literals side by side with a %. It is asked of each that the library accepts whether it
 would be replaced by a format that means the same. No file is changed. It needs the module fmtcanon
 with its library, and takes libclang where it is there.
