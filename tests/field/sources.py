@@ -4,7 +4,7 @@
 Usage: tests/field/sources.py [FOLDER]..
 
 Each .c file below the folders is read, and each one in a .tar.xz file there, as Debian's source
-packages have it; the folders are /usr/share/doc and /usr/src where none is given. A place is one or
+packages have it; the folder is /usr/share/doc where none is given. A place is one or
 more string literals side by side with a %. It is asked of each that the library accepts whether it
 would be replaced by a format that means the same. No file is changed. It needs the module fmtcanon
 with its library, and takes libclang where it is there.
@@ -25,9 +25,9 @@ import fmtcanon  # noqa: E402
 from fmtcanon.replace.command import Options, Replacer, reader_of, why_no_format  # noqa: E402
 from fmtcanon.replace.parsed import Parsed  # noqa: E402
 from fmtcanon.replace.places import Reading  # noqa: E402
-from fmtcanon.replace.tokens import TRIGRAPH, Unclear  # noqa: E402
+from fmtcanon.replace.tokens import Unclear, doubt_in  # noqa: E402
 
-FOLDERS = ["/usr/share/doc", "/usr/src"]
+FOLDERS = ["/usr/share/doc"]
 # What stands in a reason for one file alone.
 DETAILS = [
     (r"sure: .* may define macros", "sure: a header that isn't the C library's may define macros"),
@@ -64,8 +64,9 @@ def surveyed(file):
     with open(file, "rb") as stream:
         source = stream.read()
     try:
-        if TRIGRAPH.search(source):
-            raise Unclear("the file has a trigraph, which compilers read in two ways")
+        doubt = doubt_in(source)
+        if doubt:
+            raise Unclear(f"the file has {doubt}")
         reading = Reading(source, options.functions)
     except Unclear as fault:
         return counts + Counter({"unread": 1, plain(f"file: {fault}"): 0})

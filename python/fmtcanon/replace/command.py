@@ -39,7 +39,7 @@ import fmtcanon
 from .parsed import Parsed, Unparsed
 from .pattern import Pattern
 from .places import Reading
-from .tokens import TRIGRAPH, Unclear, decoded, encoded
+from .tokens import Unclear, decoded, doubt_in, encoded
 
 # Where the format stands among the arguments of a call, counted from 0.
 FUNCTIONS = {
@@ -195,8 +195,9 @@ class Replacer:
     def replace_file(self, file):
         with open(file, "rb") as stream:
             source = stream.read()
-        if TRIGRAPH.search(source):
-            self.leave(file, 1, "the file has a trigraph, which compilers read in two ways")
+        doubt = doubt_in(source)
+        if doubt:
+            self.leave(file, 1, f"the file has {doubt}, which compilers read in two ways")
             return
         try:
             text = self.replaced(file, source)

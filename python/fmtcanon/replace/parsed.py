@@ -1,6 +1,7 @@
 """Where libclang is sure that a literal is the format of a call."""
 
 import ctypes
+import os
 
 try:
     from clang import cindex
@@ -34,6 +35,10 @@ def parsed(file, flags):
     for told in unit.diagnostics:
         if told.severity >= cindex.Diagnostic.Error:
             raise Unparsed(f"line {told.location.line}: {told.spelling}")
+    # What stands in such a file is read twice, and may mean two things.
+    names = [one.include.name for one in unit.get_includes() if one.include]
+    if any(os.path.samefile(name, file) for name in names if os.path.exists(name)):
+        raise Unparsed("the file includes itself")
     return unit
 
 

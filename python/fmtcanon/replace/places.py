@@ -101,6 +101,8 @@ class Reading:
     def read(self, source):
         found, between, is_first, name_line = None, b"", True, 0
         for kind, text, at, line in tokens(source):
+            if text.startswith(b"//*"):
+                self.unclear = self.unclear or f"in line {line} the first standard of C has a division and a comment"
             if kind in ("space", "comment"):
                 between += text if found is not None else b""
                 if kind == "space" and b"\n" in without_splices(text):

@@ -3,8 +3,14 @@
 import re
 
 SPLICE = rb"(?:\\\r?\n)"
-# A compiler reads one of these as another character or as it stands, by its options.
+# Compilers read these in two ways, by their options or each by itself.
 TRIGRAPH = re.compile(rb"\?\?[=/'()!<>-]")
+DOUBTS = [
+    (TRIGRAPH, "a trigraph"),
+    (re.compile(rb"\\[ \t\f\v]+\r?\n"), "a space between a backslash and the end of its line"),
+    (re.compile(rb"\r(?!\n)"), "a carriage return within a line"),
+]
+BYTE_ORDER_MARK = b"\xef\xbb\xbf"
 TOKEN = re.compile(
     rb"(?P<space>(?:[ \t\r\n\f\v]|" + SPLICE + rb")+)"
     rb"|(?P<comment>/\*.*?\*/|//(?:[^\\\n]|\\.)*)"
@@ -31,6 +37,11 @@ class Unclear(Exception):
 
 def without_splices(text):
     return re.sub(SPLICE, b"", text) if b"\\" in text else text
+
+
+def doubt_in(source):
+    """What compilers read in two ways in a source, or None."""
+    return next((name for pattern, name in DOUBTS if pattern.search(source)), None)
 
 
 def byte_of(match):
@@ -75,7 +86,8 @@ def encoded(text):
 
 def tokens(source):
     """Each token with its kind, its place and its line, and spaces and comments. A digraph is given as what it stands for."""
-    at, line, before = 0, 1, "space"
+    at = len(BYTE_ORDER_MARK) if source.startswith(BYTE_ORDER_MARK) else 0
+    line, before = 1, "space"
     while at < len(source):
         match = TOKEN.match(source, at)
         if match is None or (match.lastgroup == "other" and source[at : at + 2] == b"/*"):
