@@ -7,9 +7,6 @@ ghost use Rattle.fmtcanon.specs.UntypedArgs.{argument_given};
 
 use pf_values::{Arg, ArgType, CBytes, Model};
 
-#[cfg(test)]
-mod tests;
-
 /// An argument that has no type yet.
 #[derive(Clone, Copy, Debug)]
 pub enum UntypedArg<'a> {

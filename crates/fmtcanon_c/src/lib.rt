@@ -10,8 +10,6 @@ mod errors;
 mod models;
 mod refusal_names;
 mod sameness;
-#[cfg(test)]
-mod tests;
 mod types;
 mod version;
 mod words;

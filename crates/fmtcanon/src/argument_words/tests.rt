@@ -1,4 +1,4 @@
-//! Words that give arguments, and words that give none.
+//! What words give that no type holds or no system hands to a program. `tests/rows` has the others.
 use super::*;
 
 fn number_read(word: &[u8]) -> Option<i128> {
@@ -57,42 +57,8 @@ fn strings(rt: HostRuntime) {
 }
 
 #[test]
-fn no_arguments(rt: HostRuntime) {
-    let words: [&[u8]; 33] = [
-        b"",
-        b"n",
-        b"n:",
-        b"n:-",
-        b"n:+5",
-        b"n:--5",
-        b"n:-+5",
-        b"n:5-",
-        b"n:0x1",
-        b"n:a",
-        b"n:1a",
-        b"n: 5",
-        b"n:5 ",
-        b"n:5\n",
-        b"n:5\0",
-        b"n:1.0",
-        b"n:1_000",
-        b"n:/",
-        b"n::",
-        b"n:000000000000000000000",
-        b"n:100000000000000000000",
-        b"n:-000000000000000000042",
-        b"n5",
-        b"N:5",
-        b" n:5",
-        b"7",
-        b"-7",
-        b"s",
-        b"S:a",
-        b"x:",
-        b"s:\0",
-        b"s:a\0b",
-        b"s:ab\0",
-    ];
+fn a_word_with_a_zero_byte_gives_none(rt: HostRuntime) {
+    let words: [&[u8]; 4] = [b"n:5\0", b"s:\0", b"s:a\0b", b"s:ab\0"];
     for word in words {
         assert!(rt; read_argument(word).is_none(), "{word:?}");
     }
