@@ -1,6 +1,6 @@
 //! The definition of the command for `clap`.
 ghost use Rattle.std.specs.Prelude.{◌≡◌, IfOk, codes, false};
-ghost use Rattle.clap.specs.Simple.{with_rule, with_subcommand};
+ghost use Rattle.clap.specs.Simple.{App, with_rule, with_subcommand};
 ghost use Rattle.clap.specs.Words.{app_of};
 ghost use Rattle.clap.specs.declared.builder.command.Command.TheViews.{out-Command as fields_of};
 ghost use Rattle.clap.specs.declared.builder.value_parser.ValueParser.TheVariants.{Names};
@@ -33,28 +33,25 @@ fn definition_with<'a>(
     let format = "Writes what a format prints for arguments, and nothing else";
     let same = "Tells whether one format may stand for another; if not, in what they differ";
     let stream = "Writes the canonical string of standard input";
-    let with_types = with_subcommand(
-        top(alloc)?,
-        on_format(alloc, "types", types, texts::TYPES, one)?,
-    )?;
-    let with_canon = with_subcommand(
+    let with_types = joined(
+        top(alloc),
+        on_format(alloc, "types", types, texts::TYPES, one),
+    );
+    let with_canon = joined(
         with_types,
-        on_format(alloc, "canon", canon, texts::CANON, one)?,
-    )?;
-    let with_show = with_subcommand(
-        with_canon,
-        on_format(alloc, "show", show, texts::SHOW, one)?,
-    )?;
+        on_format(alloc, "canon", canon, texts::CANON, one),
+    );
+    let with_show = joined(with_canon, on_format(alloc, "show", show, texts::SHOW, one));
     let on_arguments = taking_arguments(
         alloc,
-        on_format(alloc, "format", format, texts::FORMAT, one)?,
-    )?;
-    let with_format = with_subcommand(with_show, on_arguments)?;
-    let on_formats = taking_second(alloc, on_format(alloc, "same", same, texts::SAME, both)?)?;
-    let with_same = with_subcommand(with_format, on_formats)?;
-    with_subcommand(
+        on_format(alloc, "format", format, texts::FORMAT, one),
+    );
+    let with_format = joined(with_show, on_arguments);
+    let on_formats = taking_second(alloc, on_format(alloc, "same", same, texts::SAME, both));
+    let with_same = joined(with_format, on_formats);
+    joined(
         with_same,
-        on_nothing(alloc, "stream", stream, texts::STREAM, one)?,
+        on_nothing(alloc, "stream", stream, texts::STREAM, one),
     )
 }
 
@@ -111,34 +108,45 @@ fn on_format<'a>(
 }
 
 // The subcommand with a second format besides.
-fn taking_second<'a>(alloc: Global, command: Command<'a>) -> Result<Command<'a>, AllocError>
-    requires { (fields_of command).has_globals ≡ false }
-    ensures { IfOk result (λ r.
-        (app_of r ≡ with_rule (app_of command.entry) (wanted (codes "G")))
-        × ((fields_of r).has_globals ≡ false)) }
+fn taking_second<'a>(
+    alloc: Global,
+    command: Result<Command<'a>, AllocError>,
+) -> Result<Command<'a>, AllocError>
+    requires { IfOk command (λ c. (fields_of c).has_globals ≡ false) }
+    ensures value { (a : App) → IfOk command.entry (λ c. app_of c ≡ a)
+        → IfOk result (λ r. app_of r ≡ with_rule a (wanted (codes "G"))) }
+    ensures plain { IfOk result (λ r. (fields_of r).has_globals ≡ false) }
 {
     let format = Arg::new(alloc, "G")
         .required(true)
         .help("Another printf format");
-    command.arg(format)
+    command?.arg(format)
 }
 
 // The subcommand with any number of arguments besides.
-fn taking_arguments<'a>(alloc: Global, command: Command<'a>) -> Result<Command<'a>, AllocError>
-    requires { (fields_of command).has_globals ≡ false }
-    ensures { IfOk result (λ r.
-        (app_of r ≡ with_rule (app_of command.entry) any_arguments)
-        × ((fields_of r).has_globals ≡ false)) }
+fn taking_arguments<'a>(
+    alloc: Global,
+    command: Result<Command<'a>, AllocError>,
+) -> Result<Command<'a>, AllocError>
+    requires { IfOk command (λ c. (fields_of c).has_globals ≡ false) }
+    ensures value { (a : App) → IfOk command.entry (λ c. app_of c ≡ a)
+        → IfOk result (λ r. app_of r ≡ with_rule a any_arguments) }
+    ensures plain { IfOk result (λ r. (fields_of r).has_globals ≡ false) }
 {
     let help = "An argument: `n:` and a decimal number, or `s:` and a string";
-    command.arg(Arg::new(alloc, "ARG").num_args(0..).help(help))
+    command?.arg(Arg::new(alloc, "ARG").num_args(0..).help(help))
 }
 
-// The command with one more subcommand.
-fn with_subcommand<'a>(command: Command<'a>, sub: Command<'a>) -> Result<Command<'a>, AllocError>
-    requires { (fields_of sub).has_globals ≡ false }
-    ensures { IfOk result
-        (λ r. app_of r ≡ with_subcommand (app_of command.entry) (app_of sub.entry).top) }
+// The command with one more subcommand. It takes both as they are made, so that a fault is handed on
+// in one place.
+fn joined<'a>(
+    command: Result<Command<'a>, AllocError>,
+    sub: Result<Command<'a>, AllocError>,
+) -> Result<Command<'a>, AllocError>
+    requires { IfOk sub (λ s. (fields_of s).has_globals ≡ false) }
+    ensures { (a s : App) → IfOk command.entry (λ c. app_of c ≡ a)
+        → IfOk sub.entry (λ c. app_of c ≡ s)
+        → IfOk result (λ r. app_of r ≡ with_subcommand a s.top) }
 {
-    command.subcommand(sub)
+    command?.subcommand(sub?)
 }
