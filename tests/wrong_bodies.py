@@ -290,6 +290,8 @@ class Trial:
 
     def __init__(self, name, room):
         self.room, self.source, self.verdicts = room, TOP / "crates" / name, {}
+        # The tests that fail with no edit: some use up a memory that can't be used up before the proof.
+        self.failing_anyway = None
 
     def judge(self, edits, texts):
         """Gives each of these edits, whose texts are these, its verdict by one check."""
@@ -310,14 +312,20 @@ class Trial:
                 self.verdicts[edit.name] = Verdict.BY_A_TEST, failed
 
     def failing_test(self, texts):
-        """A test that fails with these texts, if there is one."""
+        """A test that fails with these texts and not without them, if there is one."""
+        failed = self.failing_tests(texts)
+        if failed and self.failing_anyway is None:
+            self.failing_anyway = set(self.failing_tests({}))
+        return next((it for it in failed if it not in self.failing_anyway), None)
+
+    def failing_tests(self, texts):
+        """The tests that fail with these texts."""
         self.room.write(texts)
-        said, status = self.room.tests()
+        said, _ = self.room.tests()
         self.room.put_back(texts)
         # One that only takes too long, without optimization and beside other work, says nothing.
         failed = re.findall(r"^test (\S+) \.\.\. FAILED\n((?: +.*\n)*)", said, re.MULTILINE)
-        failed = [name for name, why in failed if "within the time limit" not in why]
-        return failed[0] if failed and status else None
+        return [name for name, why in failed if "within the time limit" not in why]
 
     def run(self, edits):
         """Gives each edit its verdict: in a batch, and alone where that doesn't show it refused."""
