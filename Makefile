@@ -10,7 +10,7 @@
 # make uninstall PREFIX= takes all of that away again
 # make dist              an archive of what `make` built, which installs without the kit
 # make deb               a Debian package of it
-# make wheel             a wheel of the Python module with the library inside
+# make wheel             a wheel of the Python module with the library and the program inside
 # make tables            what the two commands say of a machine's own catalogs and C sources
 
 PREFIX ?= /usr/local
@@ -153,6 +153,7 @@ install: built
 	    install -m 644 python/$$part/*.py $(DESTDIR)$(PYTHONDIR)/$$part || exit 1; done
 	install -m 644 python/fmtcanon/py.typed $(DESTDIR)$(PYTHONDIR)/fmtcanon
 	ln -sfr $(DESTDIR)$(LIBDIR)/$(SONAME) $(DESTDIR)$(PYTHONDIR)/fmtcanon/$(SONAME)
+	ln -sfr $(DESTDIR)$(BINDIR)/fmtcanon $(DESTDIR)$(PYTHONDIR)/fmtcanon/program
 	for name in po replace; do printf '%s\n' $(COMMAND) > $(DESTDIR)$(BINDIR)/fmtcanon-$$name && \
 	    chmod 755 $(DESTDIR)$(BINDIR)/fmtcanon-$$name || exit 1; done
 	install -d $(DESTDIR)$(MANDIR)/man1 $(DESTDIR)$(MANDIR)/man3
@@ -192,7 +193,7 @@ deb: built
 	packaging/make_deb.sh $(VERSION) out
 
 wheel: built
-	python3 packaging/make_wheel.py $(SHARED) out
+	python3 packaging/make_wheel.py $(SHARED) $(PROGRAM) out
 
 tables:
 	FMTCANON_LIBRARY=$(C)/$(SONAME) python3 tests/field/catalogs.py

@@ -1,10 +1,10 @@
 #!/usr/bin/env python3
-"""Makes a wheel of the Python module with the C library inside, which installs with no compiler and no network.
+"""Makes a wheel of the Python module with the C library and the program inside, which installs with no compiler and no network.
 
-Usage: make_wheel.py LIBRARY FOLDER
+Usage: make_wheel.py LIBRARY PROGRAM FOLDER
 
-LIBRARY is the shared library. What the wheel says of itself comes from python/pyproject.toml. Its name
-promises a system with the GNU C library 2.17 or later: a library that wants a later one is no use.
+LIBRARY is the shared library. What the wheel says of itself comes from python/pyproject.toml. Its name says
+which version of the GNU C library it wants: the latest that the library or the program does.
 """
 
 import base64
@@ -17,16 +17,19 @@ from pathlib import Path
 
 TOP = Path(__file__).resolve().parent.parent
 SONAME = "libfmtcanon.so.0"
-GLIBC = (2, 17)
-TAG = f"py3-none-manylinux_{GLIBC[0]}_{GLIBC[1]}_x86_64"
+PROGRAM = "fmtcanon/program"
+# The oldest that a wheel can be tagged for, with the program or without.
+OLDEST_GLIBC = (2, 17)
 # Each file of a wheel has one time, so that the same files make the same wheel.
 TIME = (1980, 1, 1, 0, 0, 0)
 
 
-def wanted_glibc(library):
-    """The version of the C library that a library wants."""
-    table = subprocess.run(["objdump", "-T", library], check=True, stdout=subprocess.PIPE).stdout.decode()
-    return max(tuple(map(int, version.split("."))) for version in re.findall(r"GLIBC_([0-9.]+)", table))
+def wanted_glibc(*files):
+    """The version of the C library that these files want."""
+    words = ["objdump", "-T", *files]
+    table = subprocess.run(words, check=True, stdout=subprocess.PIPE).stdout.decode()
+    found = (tuple(map(int, version.split("."))) for version in re.findall(r"GLIBC_([0-9.]+)", table))
+    return max([OLDEST_GLIBC, *(version[:2] for version in found)])
 
 
 def project():
@@ -47,28 +50,28 @@ def metadata(texts, lists):
     return "\n".join(lines) + "\n\n" + readme
 
 
-def files_of(library, information, texts, lists):
+def files_of(library, program, information, tag, texts, lists):
     """The files of the wheel but for the record of them: names and bytes."""
     for path in sorted((TOP / "python/fmtcanon").rglob("*")):
         if path.suffix == ".py" or path.name == "py.typed":
             yield str(path.relative_to(TOP / "python")), path.read_bytes()
     yield f"fmtcanon/{SONAME}", library.read_bytes()
+    yield PROGRAM, program.read_bytes()
     commands = [f"fmtcanon-{name} = fmtcanon.{name}.command:main" for name in ("po", "replace")]
     yield f"{information}/METADATA", metadata(texts, lists).encode()
-    yield f"{information}/WHEEL", f"Wheel-Version: 1.0\nGenerator: make_wheel\nRoot-Is-Purelib: false\nTag: {TAG}\n".encode()
+    yield f"{information}/WHEEL", f"Wheel-Version: 1.0\nGenerator: make_wheel\nRoot-Is-Purelib: false\nTag: {tag}\n".encode()
     yield f"{information}/entry_points.txt", "\n".join(["[console_scripts]", *commands, ""]).encode()
     yield f"{information}/LICENSE", (TOP / "LICENSE").read_bytes()
 
 
-def main(library, folder):
-    if wanted_glibc(library) > GLIBC:
-        sys.exit(f"{library} wants a later C library than {GLIBC}")
+def main(library, program, folder):
     texts, lists = project()
+    tag = "py3-none-manylinux_{}_{}_x86_64".format(*wanted_glibc(library, program))
     name = f"fmtcanon-{texts['version']}"
     information, record = f"{name}.dist-info", []
-    wheel = Path(folder) / f"{name}-{TAG}.whl"
+    wheel = Path(folder) / f"{name}-{tag}.whl"
     with zipfile.ZipFile(wheel, "w", zipfile.ZIP_DEFLATED) as archive:
-        for path, data in files_of(Path(library), information, texts, lists):
+        for path, data in files_of(Path(library), Path(program), information, tag, texts, lists):
             digest = base64.urlsafe_b64encode(hashlib.sha256(data).digest()).rstrip(b"=").decode()
             record.append(f"{path},sha256={digest},{len(data)}")
             add(archive, path, data)
@@ -78,12 +81,12 @@ def main(library, folder):
 
 def add(archive, path, data):
     member = zipfile.ZipInfo(path, TIME)
-    member.external_attr = 0o100644 << 16
+    member.external_attr = (0o100755 if path == PROGRAM else 0o100644) << 16
     member.compress_type = zipfile.ZIP_DEFLATED
     archive.writestr(member, data)
 
 
 if __name__ == "__main__":
-    if len(sys.argv) != 3:
+    if len(sys.argv) != 4:
         sys.exit(__doc__)
     main(*sys.argv[1:])

@@ -6,7 +6,7 @@ Usage: tests/devices.py PROGRAM
 Standard output: closed; the device that is always full; a pipe whose reader has left, before or after the first
 bytes; a pipe that is full and doesn't wait; a directory; standard error closed or full beside it. Standard input, for
 `stream`: closed; a directory; opened for writing; a pipe that doesn't wait and has nothing; one byte at a time; a
-pipe that stays open; a terminal. For the other commands: a pipe that stays open, which they don't read. How many reads
+pipe that stays open; a terminal; a file. For the other commands: a pipe that stays open, which they don't read. How many reads
 and writes there are. Address spaces: each command in spaces that grow by a page at a time, until it answers.
 
 No run is ended by a signal, none exits with 0 or 1 with bytes missing, and nothing is written for a refused format.
@@ -352,6 +352,45 @@ def try_bytes(program, trials):
         trials.expect(f"stream of {stdin!r} byte by byte", got, (text, line, 2 if line else 0))
 
 
+def stream_between(program, source, target):
+    done = subprocess.run([program, "stream"], stdin=source, stdout=target, stderr=subprocess.PIPE, timeout=TIMEOUT, check=False)
+    return done.returncode, done.stderr
+
+
+def run_between_files(program, text, front):
+    """`stream` from a file into a file that has a front: its status and line, the second file, and the place in the first."""
+    with tempfile.TemporaryFile() as source, tempfile.TemporaryFile() as target:
+        source.write(text)
+        source.seek(0)
+        target.write(front)
+        target.flush()
+        status, line = stream_between(program, source, target)
+        target.seek(0)
+        return status, line, target.read(), os.lseek(source.fileno(), 0, os.SEEK_CUR)
+
+
+def try_files(program, trials):
+    """What files show of the standard streams: how far `stream` reads, and that it appends just what it settles."""
+    rest = b"x" * (3 * BLOCK)
+    texts = [(b"", b""), (b"a%.0sb%5d", b"ab%.0s%5d"), (LONG_FORMAT.encode(), LONG_TEXT), (rest, rest)]
+    for text, out in texts:
+        got = run_between_files(program, text, b"before")
+        trials.expect(f"stream of {len(text)} bytes of a file", got, (0, b"", b"before" + out, len(text)))
+    text, out, _ = STREAM_REFUSED
+    for before in [b"", rest[: BLOCK - 11], rest[: BLOCK - 10], rest[: BLOCK + 1]]:
+        place = len(before) + 10
+        status, line, found, end = run_between_files(program, before + text + rest, b"before")
+        wanted = (2, b"refused 3 Unexpected at byte %d\n" % place, b"before" + before + out)
+        trials.expect(f"stream of a file that is refused at byte {place}", (status, line, found), wanted)
+        trials.expect(f"what is read of a file that is refused at byte {place}: {end}", place < end <= place + BLOCK, True)
+    with tempfile.TemporaryFile() as source, open("/dev/full", "wb") as full:
+        source.write(rest)
+        source.seek(0)
+        trials.expect("stream of a file that can't be written", stream_between(program, source, full), WRITE_FAILED)
+        end = os.lseek(source.fileno(), 0, os.SEEK_CUR)
+        trials.expect(f"it stops reading where a write fails: {end}", end < len(rest), True)
+
+
 def run_within(program, words, stdin, size):
     """The status and the streams of a run in an address space of so many bytes."""
     return run(program, words, stdin, preexec_fn=lambda: resource.setrlimit(resource.RLIMIT_AS, (size, size)))
@@ -416,6 +455,7 @@ def main():
     try_terminal(program, trials)
     try_calls(program, trials)
     try_bytes(program, trials)
+    try_files(program, trials)
     try_spaces(program, trials)
     print(f"{trials.passed} passed, {trials.failed} failed")
     return 1 if trials.failed else 0

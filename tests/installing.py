@@ -7,6 +7,7 @@ import os
 import re
 import shutil
 import subprocess
+import sys
 import tarfile
 from pathlib import Path
 
@@ -26,6 +27,7 @@ INSTALLED = {
     "lib/libfmtcanon.so.0.1.0",
     "lib/pkgconfig/fmtcanon.pc",
     f"{MODULE}/libfmtcanon.so.0",
+    f"{MODULE}/program",
     f"{MODULE}/py.typed",
     "share/bash-completion/completions/fmtcanon",
     "share/doc/fmtcanon/CHANGELOG.md",
@@ -97,7 +99,9 @@ def try_install(work, trials):
     variables = dict(re.findall(r"^(\w+)=(.*)$", text, flags=re.MULTILINE))
     trials.expect("folders of fmtcanon.pc", variables, {"prefix": "/usr", "libdir": "/usr/lib", "includedir": "/usr/include"})
     trials.expect("the library of the module", (prefix / MODULE / "libfmtcanon.so.0").resolve(), prefix / "lib/libfmtcanon.so.0.1.0")
-    modes = {oct(file.stat().st_mode & 0o777) for file in map(prefix.joinpath, files_below(prefix)) if file.parent.name != "bin"}
+    trials.expect("the program of the module", (prefix / MODULE / "program").resolve(), prefix / "bin/fmtcanon")
+    files = [file.resolve() for file in map(prefix.joinpath, files_below(prefix))]
+    modes = {oct(file.stat().st_mode & 0o777) for file in files if file.parent.name != "bin"}
     trials.expect("the rights of what is no command", modes, {"0o644"})
     try_uninstall(work, path, trials)
     return prefix
@@ -138,7 +142,11 @@ def try_archive(work, trials):
     trials.expect("its files", sorted(files_below(stage / "usr") ^ wanted_files()), [])
     module = stage / "usr/lib/python3/dist-packages"
     environment = {**os.environ, "PYTHONPATH": str(module), "PYTHONDONTWRITEBYTECODE": "1"}
-    environment.pop("FMTCANON_LIBRARY", None)
+    for name in ["FMTCANON_LIBRARY", "FMTCANON_PROGRAM"]:
+        environment.pop(name, None)
+    words = [sys.executable, "-c", "import fmtcanon; print(fmtcanon.canonical('%i'), fmtcanon.format('%05d', 7))"]
+    done = subprocess.run(words, env=environment, check=False, timeout=TIMEOUT, stdout=subprocess.PIPE)
+    trials.expect("the module of the archive", (done.returncode, done.stdout), (0, b"%d b'00007'\n"))
     for name in ["po", "replace"]:
         words = [stage / "usr/bin" / f"fmtcanon-{name}", "--help"]
         done = subprocess.run(words, env=environment, check=False, timeout=TIMEOUT, stdout=subprocess.PIPE)

@@ -154,9 +154,10 @@ def try_compiler(compiler, folder, trials, work, tools=()):
     return lines.splitlines()
 
 
-def load_module(folder):
-    """The Python module, over the library in the folder."""
+def load_module(program, folder):
+    """The Python module, over this program and the library in the folder."""
     os.environ["FMTCANON_LIBRARY"] = str(folder / "libfmtcanon.so.0")
+    os.environ["FMTCANON_PROGRAM"] = program
     sys.path.insert(0, str(TOP / "python"))
     import fmtcanon
 
@@ -224,10 +225,28 @@ def program_answer(module, command, formats, models):
             if module.is_canonical(formats[0], model=models[0]) != (canonical == formats[0]):
                 return "canonical and is_canonical differ"
             return 0, canonical + b"\n", b""
+        if command == "show":
+            return 0, "".join(shown_line(module, piece) for piece in module.show(formats[0], model=models[0])).encode(), b""
+        if command == "format":
+            return 0, module.format(formats[0], *map(argument_of, formats[1:]), model=models[0]), b""
         return 0, "".join(f"{TYPES[kind - 1]}\n" for kind in module.types(formats[0], model=models[0])).encode(), b""
     except module.Refused as refusal:
-        side = ["first: ", "second: "][refusal.side] if formats[1:] else ""
+        side = ["first: ", "second: "][refusal.side] if command == "same" else ""
         return 2, b"", f"{side}{refusal}\n".encode()
+    except ValueError as fault:
+        return 3, b"", f"{fault}\n".encode()
+
+
+def shown_line(module, piece):
+    if isinstance(piece, module.Text):
+        return f"text {piece.length}\n"
+    if isinstance(piece, module.Percent):
+        return "percent\n"
+    return f"directive {piece.spelling}: {piece.type}: {piece.spaces} {piece.zeros} {piece.core} {piece.trail}\n"
+
+
+def argument_of(word):
+    return int(word[2:]) if word.startswith(b"n:") else word[2:]
 
 
 def same_lines(module, one, other, model):
@@ -241,19 +260,23 @@ def same_lines(module, one, other, model):
 
 def try_program_rows(module, trials):
     """The rows that the program is held to hold for the library, too: of either data model, and of both."""
-    found = {"lp64": 0, "ilp32": 0, "both": 0}
+    found, commands = {"lp64": 0, "ilp32": 0, "both": 0}, {}
     for line in ROWS.read_text(encoding="utf-8").splitlines():
         row = json.loads(line)
         command, *words = row["words"]
-        if command not in ("canon", "types", "same") or row["status"] == 3 or row.get("stderr") is None:
+        # An int and bytes spell no word that isn't an argument.
+        unspelled = row["status"] == 3 and (command != "format" or "argument" not in row["stderr"] or "not an" in row["stderr"])
+        if command == "stream" or unspelled or row.get("stderr") is None:
             continue
         name = words.pop(words.index("--model") + 1) if "--model" in words else "lp64"
         formats = [word.encode() for word in words if word not in ("--model", "--")]
         models = list(module.Model) if name == "both" else [module.Model[name.upper()]]
         wanted = (row["status"], row["stdout"].encode("latin-1"), row["stderr"].encode())
-        trials.expect(f"the library: {row['words']}", program_answer(module, command, formats, models), wanted)
+        trials.expect(f"the module: {row['words']}", program_answer(module, command, formats, models), wanted)
         found[name] += 1
+        commands[command] = commands.get(command, 0) + 1
     trials.expect("rows of each data model", min(found.values()) > 20, True)
+    trials.expect("commands with rows", sorted(name for name, count in commands.items() if count > 20), ["canon", "format", "same", "show", "types"])
 
 
 def try_program(program, module, trials):
@@ -284,7 +307,8 @@ def try_document(prefix, work, trials):
         **os.environ, "LC_ALL": "C.UTF-8", "CPATH": str(prefix / "include"), "LIBRARY_PATH": str(prefix / "lib"),
         "LD_LIBRARY_PATH": str(prefix / "lib"), "PKG_CONFIG_LIBDIR": str(prefix / "lib/pkgconfig"), "PYTHONPATH": str(prefix / "lib/python3/dist-packages"), "PYTHONDONTWRITEBYTECODE": "1",
     }
-    environment.pop("FMTCANON_LIBRARY", None)
+    for name in ["FMTCANON_LIBRARY", "FMTCANON_PROGRAM"]:
+        environment.pop(name, None)
     environment["PATH"] = os.pathsep.join([str(prefix / "bin"), os.environ["PATH"]])
     found = 0
     for command, output in examples(document):
@@ -298,9 +322,9 @@ def try_document(prefix, work, trials):
             trials.expect("the block of docs/C.md stands in examples/canon.c", " ".join(block.split()) in source, True)
 
 
-def try_unit_tests(folder, trials):
+def try_unit_tests(program, folder, trials):
     """The tests of the Python module, and the examples of its text."""
-    environment = {**os.environ, "FMTCANON_LIBRARY": str(folder / "libfmtcanon.so.0"), "PYTHONDONTWRITEBYTECODE": "1"}
+    environment = {**os.environ, "FMTCANON_PROGRAM": program, "FMTCANON_LIBRARY": str(folder / "libfmtcanon.so.0"), "PYTHONDONTWRITEBYTECODE": "1"}
     words = [sys.executable, "-m", "unittest", "discover", "-s", "tests", "-t", "."]
     status, lines = lines_of(words, env=environment, cwd=TOP / "python")
     if status != 0:
@@ -315,7 +339,7 @@ def main():
     trials = Trials()
     try_header(trials)
     try_exports(folder, trials)
-    module = load_module(folder)
+    module = load_module(program, folder)
     enums = [(module.Kind, "kind"), (module.Model, "model"), (module.Type, "type"), (module.Verdict, "verdict")]
     for enum, kind in enums:
         kind = f"fmtcanon_{kind}"
@@ -328,7 +352,7 @@ def main():
         try_program(program, module, trials)
         prefix = installing.try_all(work, trials)
         try_document(prefix, work, trials)
-    try_unit_tests(folder, trials)
+    try_unit_tests(program, folder, trials)
     print(f"{trials.passed} passed, {trials.failed} failed")
     return 1 if trials.failed else 0
 

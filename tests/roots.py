@@ -17,7 +17,6 @@ from program import TOP, run
 VERSION = "0.1.0"
 PACKAGE = TOP / f"out/fmtcanon_{VERSION}-1_amd64.deb"
 ARCHIVE = TOP / f"out/fmtcanon-{VERSION}-linux-x86_64.tar.gz"
-WHEEL = TOP / f"out/fmtcanon-{VERSION}-py3-none-manylinux_2_17_x86_64.whl"
 INCLUDED = "gcc,libc6-dev,make,pkg-config,python3"
 CHROOT = shutil.which("chroot") or "/usr/sbin/chroot"
 # What is tried of an installation, each with what it prints.
@@ -116,13 +115,15 @@ def try_wheel(trials):
         folder = Path(work) / "home/bin"
         environment = {"PATH": str(folder) + ":/nowhere", "LC_ALL": "C.UTF-8", "HOME": work}
         # Without a network, and with no compiler to be found.
-        words = [folder / "pip", "install", "--no-index", "--quiet", "--disable-pip-version-check", WHEEL]
+        wheels = list((TOP / "out").glob(f"fmtcanon-{VERSION}-py3-none-manylinux_*_x86_64.whl"))
+        trials.expect("one wheel", len(wheels), 1)
+        words = [folder / "pip", "install", "--no-index", "--quiet", "--disable-pip-version-check", *wheels]
         if shutil.which("unshare") and os.geteuid() == 0:
             words = [shutil.which("unshare"), "--net", *words]
         status, told = shell(words, env=environment, cwd=work)
         trials.expect(f"pip install of the wheel: {told}", status, 0)
-        script = "import fmtcanon, importlib.metadata as m; print(fmtcanon.canonical('%i'), fmtcanon.__version__, m.version('fmtcanon'), m.metadata('fmtcanon')['License'])"
-        wanted = (0, f"%d {VERSION} {VERSION} MIT\n")
+        script = "import fmtcanon, importlib.metadata as m; print(fmtcanon.canonical('%i'), fmtcanon.format('%05d', 7), *fmtcanon.show('%%'), fmtcanon.__version__, m.version('fmtcanon'), m.metadata('fmtcanon')['License'])"
+        wanted = (0, f"%d b'00007' Percent(spelling='%%') {VERSION} {VERSION} MIT\n")
         trials.expect("the module of the wheel", shell([folder / "python", "-c", script], env=environment, cwd=work), wanted)
         put_samples(Path(work))
         told = shell([folder / "fmtcanon-po", "right.po"], env=environment, cwd=work)

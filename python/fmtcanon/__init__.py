@@ -1,6 +1,7 @@
 """Canonical texts of printf formats, and whether one may stand for another.
 
 A binding of the C library `libfmtcanon` by ctypes, with no code of its own but the conversions.
+`format` and `show` run the program instead, once for each call: the library has no such calls.
 
 A format is a `str` or bytes. A `str` is handed over in UTF-8, and all places are counted in bytes.
 Give bytes where a format isn't UTF-8. Each call raises `Refused` for a format that the library
@@ -27,6 +28,10 @@ this module, where an installation put it; else `libfmtcanon.so.0`, where the sy
     '%u'
     >>> [model.name for model in fmtcanon.same_in("%zu", "%lu")]
     ['LP64']
+    >>> fmtcanon.format("%-4s|%+05d", "ab", 42)
+    b'ab  |+0042'
+    >>> fmtcanon.show("%20d")
+    [Directive(spelling='%20d', type='int', spaces=9, zeros=0, core='%11d', trail=0)]
 """
 
 from __future__ import annotations
@@ -34,23 +39,31 @@ from __future__ import annotations
 import ctypes
 import enum
 import os
+import re
 from pathlib import Path
-from typing import Any, Callable, List, NamedTuple, Optional, Tuple, TypeVar, Union
+from typing import Any, Callable, List, NamedTuple, NoReturn, Optional, Tuple, TypeVar, Union
+
+from .printing import REFUSED, UNFIT, Directive, Failed, Percent, Shown, Text, printed, shown
 
 __all__ = [
     "Comparison",
+    "Directive",
     "Kind",
     "Model",
+    "Percent",
     "Refused",
+    "Text",
     "Type",
     "Verdict",
     "__version__",
     "canonical",
     "check",
     "compare",
+    "format",
     "is_canonical",
     "same",
     "same_in",
+    "show",
     "types",
     "version",
 ]
@@ -327,6 +340,45 @@ def compare(first: Format, second: Format, *, model: DataModel = Model.LP64) -> 
     if verdict is Verdict.DIFFERENT:
         return Comparison(verdict, arguments=tuple(map(_argument, words.split(b"\0")[:-1])))
     return Comparison(verdict)
+
+
+def _raise(fault: Failed) -> NoReturn:
+    """Raises the exception for the answer of the program."""
+    found = re.fullmatch(r"refused (\d+) (\w+) at byte (\d+)", fault.line)
+    if fault.status == REFUSED and found:
+        raise Refused(Kind(int(found[1])), found[2], int(found[3])) from None
+    if fault.status == UNFIT:
+        raise ValueError(fault.line) from None
+    raise OSError(fault.line or f"the program ended with status {fault.status}") from None
+
+
+def format(format: Format, *arguments: Union[int, str, bytes], model: DataModel = Model.LP64) -> bytes:
+    """The bytes that `printf` prints for the format and these arguments, in the POSIX locale.
+
+    A number stands for an argument of each integer type, and a `str` or bytes for a string. Raises
+    `ValueError` where the arguments don't fit the format: their count, a type, or a number that its
+    type doesn't have. It runs the program, which takes text: bytes that aren't UTF-8 raise
+    `UnicodeDecodeError`. `OSError` is raised where the program can't be run or is handed too much.
+    """
+    number = _number(model)
+    check(format)
+    try:
+        return printed(number.name.lower(), _bytes(format), arguments)
+    except Failed as fault:
+        _raise(fault)
+
+
+def show(format: Format, *, model: DataModel = Model.LP64) -> List[Shown]:
+    """The pieces of the format, in order: a `Text`, a `Percent` or a `Directive` each.
+
+    It runs the program, as `format` does.
+    """
+    number = _number(model)
+    check(format)
+    try:
+        return shown(number.name.lower(), _bytes(format))
+    except Failed as fault:
+        _raise(fault)
 
 
 def version() -> Tuple[int, int, int]:

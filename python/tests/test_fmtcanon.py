@@ -47,6 +47,48 @@ class Calls(unittest.TestCase):
         many = fmtcanon.compare("%d" * 3000 + "a", "%d" * 3000 + "b")
         self.assertEqual(many.arguments, (0,) * 3000)
 
+    def test_format(self):
+        self.assertEqual(fmtcanon.format("%-8s|%+05d|%#x", "ab", 42, 255), b"ab      |+0042|0xff")
+        self.assertEqual(fmtcanon.format("%c%c", 200, 0), b"\xc8\x00")
+        self.assertEqual(fmtcanon.format(b"\xc3\xa9%s", "\u00e9".encode()), b"\xc3\xa9\xc3\xa9")
+        self.assertEqual(fmtcanon.format("-%d", -1), b"--1")
+        self.assertEqual(fmtcanon.format("a\nb%%"), b"a\nb%")
+        self.assertEqual(fmtcanon.format("%lu", 2**32 - 1, model="ilp32"), b"4294967295")
+        wrong = [
+            ("%d%d", (1,), "argument count: wanted 2, given 1"),
+            ("%d", ("x",), "argument 0: wrong type"),
+            ("%d%d", (1, 2**31), "argument 1: wrong type"),
+            ("%llu", (10**20,), "argument 0: not an argument"),
+        ]
+        for format, arguments, told in wrong:
+            with self.assertRaises(ValueError) as raised:
+                fmtcanon.format(format, *arguments)
+            self.assertEqual(str(raised.exception), told)
+        with self.assertRaises(ValueError):
+            fmtcanon.format("%s", b"a\0b")
+        with self.assertRaises(TypeError):
+            fmtcanon.format("%d", 1.5)
+        with self.assertRaises(UnicodeDecodeError):
+            fmtcanon.format(b"\xff")
+        with self.assertRaises(UnicodeEncodeError):
+            fmtcanon.format("%s", "\udcff")
+        with self.assertRaises(OSError):
+            fmtcanon.format("a" * 200000)
+
+    def test_show(self):
+        wanted = [fmtcanon.Text(1), fmtcanon.Directive("%20d", "int", 9, 0, "%11d", 0), fmtcanon.Percent()]
+        self.assertEqual(fmtcanon.show("x%20d%%"), wanted)
+        wanted = [fmtcanon.Directive("% 5jd", "long long", 0, 0, "% 5lld", 0)]
+        self.assertEqual(fmtcanon.show(b"% 5jd", model=Model.ILP32), wanted)
+        self.assertEqual(fmtcanon.show(""), [])
+        self.assertEqual([piece.spelling for piece in fmtcanon.show("%%%.0s")], ["%%", "%.0s"])
+
+    def test_refused_by_the_program_calls(self):
+        for call in [fmtcanon.format, fmtcanon.show]:
+            refusal = self.refused(call, "%d and %*d")
+            self.assertEqual((refusal.kind, refusal.name, refusal.byte), (Kind.STAR, "Star", 8))
+            self.assertEqual(self.refused(call, "a\0").kind, Kind.NUL_BYTE)
+
     def test_models(self):
         wanted = [Type.INT, Type.UINT, Type.LONG_LONG, Type.ULONG_LONG, Type.LONG]
         self.assertEqual(fmtcanon.types("%td%zu%jd%ju%ld", model=Model.ILP32), wanted)
@@ -148,6 +190,27 @@ class Loading(unittest.TestCase):
         status, line = self.import_with("libc.so.6")
         self.assertEqual(status, 1)
         self.assertIn("ImportError: libc.so.6 is another library", line)
+
+
+class Running(unittest.TestCase):
+    def test_no_program(self):
+        before = os.environ["FMTCANON_PROGRAM"]
+        os.environ["FMTCANON_PROGRAM"] = "/nothing/fmtcanon"
+        try:
+            with self.assertRaises(FileNotFoundError):
+                fmtcanon.show("%d")
+        finally:
+            os.environ["FMTCANON_PROGRAM"] = before
+
+    def test_another_program(self):
+        before = os.environ["FMTCANON_PROGRAM"]
+        try:
+            for other in ["/bin/false", "/bin/echo"]:
+                os.environ["FMTCANON_PROGRAM"] = other
+                with self.assertRaises(OSError):
+                    fmtcanon.show("%d")
+        finally:
+            os.environ["FMTCANON_PROGRAM"] = before
 
 
 class Threads(unittest.TestCase):

@@ -5,16 +5,18 @@ use Rattle.pf_values.specs.Canonical.{IsCanonicalOf}
 use Rattle.pf_values.specs.Printing.{AreEquivalent}
 use Rattle.pf_values.specs.Text.{Text}
 
--- a text has a canonical text, and no second one
+-- A text has just one canonical text, which takes arguments of the same types and prints the same
+-- bytes for all of them, and is its own canonical text.
 pub record HasOneCanonical (model : Model) (t : Text) : Type 0 where
   pub canonical : Text
   pub is : IsCanonicalOf model t canonical
   pub only : (other : Text) → IsCanonicalOf model t other → other ≡ canonical
+  pub means_the_same : AreEquivalent model t canonical
+  pub is_its_own : IsCanonicalOf model canonical canonical
 
--- Each of two texts has one canonical text, and they are equivalent exactly if every canonical text
--- of the one is that of the other.
+-- Each of two texts has just one canonical text, and they are equivalent exactly if these two are
+-- equal byte for byte.
 pub record HaveOneMeaning (model : Model) (t u : Text) : Type 0 where
   pub first : HasOneCanonical model t
   pub second : HasOneCanonical model u
-  pub same : AreEquivalent model t u
-      ↔ ((c : Text) → IsCanonicalOf model t c ↔ IsCanonicalOf model u c)
+  pub same : AreEquivalent model t u ↔ (first.canonical ≡ second.canonical)

@@ -49,7 +49,7 @@ use Rattle.pf_reduce.proofs.CarriedIntegers.{integer_reduced, kept_kind, width_i
 use Rattle.pf_reduce.proofs.PlainNumbers.{digits_text, length-digits_text, natural_is}
 use Rattle.pf_reduce.proofs.Precisions.{PrintsLike, alt_kept, core_text, effective, filled_right, same_filled, same_number}
 
--- `0x` or `0X`, but nothing before 0
+-- `0x`, `0X` or `0b`, but nothing before 0
 abbrev IsPrefix : ℕ → Text → Type 0
 IsPrefix n t = ((n ≡ 0) × (t ≡ [])) ⊎ ((1 ≤ n) × (length t ≡ 2))
 

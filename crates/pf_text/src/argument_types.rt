@@ -15,8 +15,8 @@ use std::alloc::{Allocator, Global};
 #[cfg(test)]
 mod tests;
 
-/// The types of the arguments that a format takes in this data model. Memory can be refused for
-/// more than eight of them only.
+/// The types of the arguments that a format takes in this data model. Memory can be refused only
+/// once more than eight of them were read.
 pub fn signature(alloc: Global, model: Model, text: &[u8]) -> Result<Signature, TextFault>
     ensures { MatchResult result (λ signature. TakesTypes model text.now (types_of signature))
         (HindersSignature model text.now) }

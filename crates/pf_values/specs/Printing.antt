@@ -48,7 +48,7 @@ sign s value =
     if is_negative value then codes "-"
     else (if has s.flags Plus then codes "+" else (if has s.flags Space then codes " " else []))
 
--- `0x` or `0X`, which 0 doesn't have
+-- `0x`, `0X` or `0b`, which 0 doesn't have
 abbrev pub base_prefix : Text → Specification → ℤ → Text
 base_prefix letters s value =
     if has s.flags Alt && not (is_zero (nat_abs value)) then letters else []
