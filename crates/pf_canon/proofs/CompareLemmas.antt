@@ -8,7 +8,7 @@ use Rattle.pf_values.specs.Canonical.{IsCanonicalOf}
 use Rattle.pf_values.specs.Counting.{Known}
 use Rattle.pf_values.specs.Text.{Text}
 use Rattle.pf_probes.proofs.Unique.{equivalent_formats_one}
-use Rattle.pf_canon.specs.Comparing.{BeginsWith, CountsSides, CountsStop, Drained, DrainsTo, EndsBoth, FaultCounts, Gave, HasPace, IsPaced, PacesTo, StopsBy, StopsOn, AreTextsSame}
+use Rattle.pf_canon.specs.Comparing.{BeginsWith, CountsBehind, CountsSides, CountsStop, Drained, DrainsTo, EndsBoth, FailsOnceAtMost, FaultCounts, Gave, HasPace, IsPaced, PacesTo, StopsBy, StopsOn, AreTextsSame}
 use Rattle.pf_canon.specs.declared.comparing.Pace.{Pace}
 use Rattle.pf_canon.specs.declared.comparing.Pace.TheVariants.{On, Same, Differ}
 use Rattle.pf_canon.specs.declared.faults.SideFault.{SideFault}
@@ -34,6 +34,10 @@ pub fault_later : {B : Type 0} (kept failed : B → B → Type 0) → ((a b c : 
     → FaultCounts kept failed fault old new
 fault_later kept failed also later faults.Read old mid new h g = later old mid new h g
 fault_later kept failed also later (faults.Refused refusal) old mid new h g = also old mid new h g
+
+fails_once : {B : Type 0} (kept failed : B → B → Type 0) (fault : StreamFault) (old new : B) → FaultCounts kept failed fault old new → FailsOnceAtMost kept failed old new
+fails_once kept failed faults.Read old new h = inr h
+fails_once kept failed (faults.Refused refusal) old new h = inl h
 
 -- what a source gave first, and whatever came later
 abbrev pub GoesOn : Model → Option ℕ → Source → Known → Known → Text → Text → Type 0
@@ -192,7 +196,13 @@ paces model x y Differ one two f a g b t u given h k l read = record { x = x; y 
 module _ {A B : Type 0} (kept_a failed_a : A → A → Type 0) (kept_b failed_b : B → B → Type 0) where
   stop_later : ((a b c : A) → kept_a a b → kept_a b c → kept_a a c) → ((a b c : A) → kept_a a b → failed_a b c → failed_a a c) → ((a b c : B) → kept_b a b → kept_b b c → kept_b a c) → ((a b c : B) → kept_b a b → failed_b b c → failed_b a c)
       → (side : Side) (fault : StreamFault) (a a_mid a_new : A) (b b_mid b_new : B) → kept_a a a_mid → kept_b b b_mid → CountsStop kept_a failed_a kept_b failed_b side fault a_mid a_new b_mid b_new → CountsStop kept_a failed_a kept_b failed_b side fault a a_new b b_new
-  stop_later also_a later_a also_b later_b First fault a a_mid a_new b b_mid b_new h k s = fault_later kept_a failed_a also_a later_a fault a a_mid a_new h s
+  stop_later also_a later_a also_b later_b First fault a a_mid a_new b b_mid b_new h k s = (
+    fault_later kept_a failed_a also_a later_a fault a a_mid a_new h s.0,
+    elim s.1 [
+      | inl same ↦ inl (also_b b b_mid b_new k same)
+      | inr failed ↦ inr (later_b b b_mid b_new k failed)
+    ],
+  )
   stop_later also_a later_a also_b later_b Second fault a a_mid a_new b b_mid b_new h k s = (also_a a a_mid a_new h s.0, fault_later kept_b failed_b also_b later_b fault b b_mid b_new k s.1)
 
   -- nothing failed before
@@ -200,6 +210,11 @@ module _ {A B : Type 0} (kept_a failed_a : A → A → Type 0) (kept_b failed_b 
       → (T : Type 0) (r : Result T SideFault) (a a_mid a_new : A) (b b_mid b_new : B) → kept_a a a_mid → kept_b b b_mid → CountsSides kept_a failed_a kept_b failed_b r a_mid a_new b_mid b_new → CountsSides kept_a failed_a kept_b failed_b r a a_new b b_new
   sides_later also_a later_a also_b later_b T (Ok answer) a a_mid a_new b b_mid b_new h k s = (also_a a a_mid a_new h s.0, also_b b b_mid b_new k s.1)
   sides_later also_a later_a also_b later_b T (Err stop) a a_mid a_new b b_mid b_new h k s = stop_later also_a later_a also_b later_b stop.side stop.fault a a_mid a_new b b_mid b_new h k s
+
+  -- the second stopped, and perhaps the first, too
+  pub behind_counts : (fault : StreamFault) (side : Side) (told : StreamFault) (a a_new : A) (b b_new : B) → CountsBehind kept_a failed_a fault side told a a_new → FaultCounts kept_b failed_b fault b b_new → CountsStop kept_a failed_a kept_b failed_b side told a a_new b b_new
+  behind_counts fault First told a a_new b b_new h k = (h, fails_once kept_b failed_b fault b b_new k)
+  behind_counts fault Second told a a_new b b_new h k = (h.0, subst (λ f. FaultCounts kept_b failed_b f b b_new) (sym h.1) k)
 
 -- texts in memory
 begun : (model : Model) (r : Transducer) (f p out : Text) (common at : ℕ) → take common f ≡ p → r.model ≡ model → IsUpTo r p at out → IsMidway model r (drop at f) [] f out

@@ -1,8 +1,9 @@
 -- How a transducer takes the front of a text.
-use Rattle.std.proofs.Common.{◌≡◌, ℕ, zero, suc, ◌<◌, ◌+◌, ◌-◌, ◌*◌, ◌^◌, ◌≤◌, List, [], ◌∷◌, ◌++◌, length, map, take, drop, refl, sym, ap, ◌∙◌, subst, arith, Err, inl, inr}
+use Rattle.std.proofs.Common.{◌≡◌, ◌≢◌, ℕ, zero, suc, ◌<◌, ◌+◌, ◌-◌, ◌*◌, ◌^◌, ◌≤◌, List, [], ◌∷◌, ◌++◌, length, map, take, drop, refl, sym, ap, ◌∙◌, subst, arith, Err, ◌⊎◌, inl, inr}
 use Rattle.std.proofs.Math.Seq.{take-add}
 use Rattle.std.proofs.lemmas.List.{append-nil, append_assoc, length-append, length-take-le, take_all, take-append-drop}
 use Rattle.pf_values.specs.declared.models.Model.{Model}
+use Rattle.pf_values.specs.declared.refusals.RefusalKind.{RefusalKind}
 use Rattle.pf_values.specs.Items.{Item, Byte, Reads}
 use Rattle.pf_values.specs.Refusals.{IsRefusedAt}
 use Rattle.pf_values.specs.Text.{Text}
@@ -51,12 +52,12 @@ refused_in model old new t out text items run at byte refusal first h f =
     let fed = t ++ take at text in
     record {
       fed = take at text;
-      rest = drop at text;
-      split = sym (take-append-drop at text);
-      some = λ none. (let both : byte ∷ drop (at + 1) text ≡ [] = sym first ∙ none in cc);
+      last = byte;
+      rest = drop (at + 1) text;
+      split = sym (take-append-drop at text) ∙ ap (λ u. take at text ++ u) first;
       kind = not_truncated fed byte [] refusal.kind refusal.at f.0 (f.1 []);
       place = f.0;
-      refused = subst (λ u. IsRefusedAt (fed ++ u) refusal.kind refusal.at) (sym first) (f.1 (drop (at + 1) text));
+      refused = f.1;
       settles = through_settles model old fed (out ++ take run text) items h;
       few = let few = through_few model old fed (out ++ take run text) items h in omega (arith, few);
     }
@@ -139,6 +140,11 @@ pub kept_plain : (model : Model) (old new : Transducer) (t out text : Text) (ite
 kept_plain model old new t out text items len h same e between idle passes none =
     kept model old new t out text items len h same e between idle (λ reads. let p = passes reads in record { items = items ++ p.more; through = passed_plain model old new t out text items len h p none same e })
 
+-- no longer front of a text is accepted
+pub refused_from : (front behind : Text) (refusal : Refusal) {t : Text} → front ++ behind ≡ t → refusal.at ≡ length front → behind ≢ [] → IsRefusedAt (front ++ behind) refusal.kind refusal.at
+    → (behind ≡ []) ⊎ ((behind ≢ []) × (kind : RefusalKind) × IsRefusedAt t kind (length front))
+refused_from front behind refusal whole place some h = inr (some, refusal.kind, subst (λ u. IsRefusedAt u refusal.kind (length front)) whole (subst (IsRefusedAt (front ++ behind) refusal.kind) place h))
+
 -- a text was passed up to some place
 module _ (model : Model) (t out more text : Text) (at : ℕ) where
   pub passed_more : (front : Front) (new : Transducer) → GrowsBy model (t ++ take at text) (out ++ more) (drop at text) front new → (all : Text) × (items : List Item) × IsThrough model new (t ++ take (at + front.len) text) items (out ++ all)
@@ -152,15 +158,16 @@ module _ (model : Model) (t out more text : Text) (at : ℕ) where
   pub passed_to_refused : (stop : Stop) → RefusesIn model (t ++ take at text) (out ++ more) (drop at text) stop → (all : Text) × SettlesWhole model (t ++ text) (out ++ all)
   passed_to_refused stop h =
       let front = (t ++ take at text) ++ h.fed in
-      let whole : front ++ h.rest ≡ t ++ text =
-      append_assoc (t ++ take at text) h.fed h.rest ∙ ap (λ u. (t ++ take at text) ++ u) (sym h.split) ∙ append_assoc t (take at text) (drop at text) ∙ ap (λ u. t ++ u) (take-append-drop at text) in (
+      let behind = h.last ∷ h.rest in
+      let whole : front ++ behind ≡ t ++ text =
+      append_assoc (t ++ take at text) h.fed behind ∙ ap (λ u. (t ++ take at text) ++ u) (sym h.split) ∙ append_assoc t (take at text) (drop at text) ∙ ap (λ u. t ++ u) (take-append-drop at text) in (
         more ++ take stop.run (drop at text),
         record {
           front = front;
-          rest = h.rest;
+          rest = behind;
           split = sym whole;
           settles = subst (SettlesTo model front) (append_assoc out more (take stop.run (drop at text))) h.settles;
-          longest = inr (h.some, stop.refusal.kind, subst (λ u. IsRefusedAt u stop.refusal.kind (length front)) whole (subst (IsRefusedAt (front ++ h.rest) stop.refusal.kind) h.place h.refused));
+          longest = refused_from front behind stop.refusal whole h.place (λ none. cc) (h.refused h.rest);
         },
       )
 

@@ -79,10 +79,16 @@ abbrev pub CountsDrain : {B E : Type 0} → (B → B → Type 0) → (B → B �
 CountsDrain kept failed (Ok done) old new = kept old new
 CountsDrain kept failed (Err fault) old new = FaultCounts kept failed fault old new
 
+-- a reader has not failed, or just once
+abbrev pub FailsOnceAtMost : {B : Type 0} → (B → B → Type 0) → (B → B → Type 0) → B → B → Type 0
+FailsOnceAtMost kept failed old new = kept old new ⊎ failed old new
+
 module _ {A B : Type 0} (kept_a failed_a : A → A → Type 0) (kept_b failed_b : B → B → Type 0) where
-  -- what both readers count where one side stopped
+  -- What both readers count where one side stopped. The second may have failed before it was seen
+  -- that the first stops.
   abbrev pub CountsStop : Side → StreamFault → A → A → B → B → Type 0
-  CountsStop First fault a a_new b b_new = FaultCounts kept_a failed_a fault a a_new
+  CountsStop First fault a a_new b b_new =
+      FaultCounts kept_a failed_a fault a a_new × FailsOnceAtMost kept_b failed_b b b_new
   CountsStop Second fault a a_new b b_new =
       kept_a a a_new × FaultCounts kept_b failed_b fault b b_new
 

@@ -19,7 +19,7 @@ use Rattle.pf_canon.specs.declared.sources.Turn.{Turn}
 use Rattle.pf_canon.specs.declared.sources.Turn.TheVariants.{Again, Done}
 use Rattle.pf_canon.specs.declared.transducing.Transducer.{Transducer}
 use Rattle.pf_canon.specs.Due.{due_text}
-use Rattle.pf_canon.specs.Through.{IsThrough, SettlesTo, scanner_of, waiting_of}
+use Rattle.pf_canon.specs.Through.{IsThrough, SettlesTo, StaysRefused, scanner_of, waiting_of}
 
 -- all that was settled before the last byte taken was given
 abbrev pub IsLean : Model → Text → Text → Type 0
@@ -66,7 +66,7 @@ pub record IsRefusedBehind (start left : Known) (taken : Text) (refusal : Refusa
       (refusal.kind ≡ Truncated) × Consumes start left taken × IsAtEnd left
       × IsRefusedAt taken refusal.kind refusal.at) ⊎ (
       (last : ℕ) × (refusal.kind ≢ Truncated) × Consumes start left (taken ++ last ∷ [])
-      × ((rest : Text) → IsRefusedAt (taken ++ last ∷ rest) refusal.kind refusal.at))
+      × StaysRefused taken last refusal)
 
 -- nothing comes any more
 abbrev pub IsOver : Source → Type 0

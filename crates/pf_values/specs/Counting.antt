@@ -1,4 +1,4 @@
--- How a counted device counts its failures, and what a call that writes leaves. This project's own:
+-- How a counted device counts its calls and its failures, and what a call that writes leaves. This project's own:
 -- C11 7.21.6.1 p14 has one negative number for every failed write.
 use Rattle.std.specs.Prelude.{◌≡◌, ℕ, ◌+◌, ◌-◌, ◌^◌, ◌<◌, ◌≤◌, Bool, true, ◌&&◌, ◌==◌, nat_lt, min, length, take, Option, Result, Ok, Err, if◌then◌else◌}
 use Rattle.std.specs.Io.KnownBytes.{Appends}
@@ -11,7 +11,11 @@ module _ {T : Type 0} where
   abbrev pub device_of : Counted T → T
   device_of c = c.device
 
-  -- how many of its calls have failed
+  -- how many calls it has had
+  abbrev pub calls_of : Counted T → ℕ
+  calls_of c = c.calls
+
+  -- how many of them have failed
   abbrev pub failures_of : Counted T → ℕ
   failures_of c = c.failures
 
@@ -19,13 +23,17 @@ module _ {T : Type 0} where
   abbrev pub is_flushed : Counted T → Bool
   is_flushed c = c.is_flushed
 
--- where the count stays
-abbrev pub max_failures : ℕ
-max_failures = 2 ^ 64 - 1
+-- where a count stays
+abbrev pub max_count : ℕ
+max_count = 2 ^ 64 - 1
 
--- the count after one more call
+-- the count of calls after one more
+abbrev pub calls_after : ℕ → ℕ
+calls_after calls = min (calls + 1) max_count
+
+-- the count of failures after one more call
 abbrev pub failures_after : ℕ → Bool → ℕ
-failures_after failures failed = if failed then min (failures + 1) max_failures else failures
+failures_after failures failed = if failed then min (failures + 1) max_count else failures
 
 -- an error, or none of some bytes was taken
 abbrev pub write_failed : {E : Type 0} → Result ℕ E → Text → Bool

@@ -1,8 +1,10 @@
-//! A reader or a writer that counts how often it failed.
+//! A reader or a writer that counts its calls, and how often it failed.
 ghost use Rattle.std.specs.Prelude.{◌≡◌, is_err, true, false};
 ghost use Rattle.std.specs.Io.{ReadsAtMost, WritesAtMost};
 ghost use Rattle.std.specs.Io.KnownBytes.{Keeps, ReadConsumes, WriteAppends};
 ghost use Rattle.pf_values.specs.Counting.{
+  calls_after,
+  calls_of,
   device_of,
   failures_after,
   failures_of,
@@ -20,25 +22,29 @@ mod tests;
 ///
 /// Each `read`, `write` and `flush` makes one such call of `T`, and repeats none, also not one that
 /// was interrupted. A failure is a call that answered an error, or a write of some bytes that took
-/// none. At the greatest `u64` the count stays.
+/// none. At the greatest `u64` a count stays.
 #[derive(Debug, Drop)]
 pub struct Counted<T> {
     device: T,
     failures: u64,
+    // How many calls there were. Only contracts ask for it.
+    calls: u64,
     // Whether the last call was a flush. Only contracts ask for it.
     is_flushed: bool,
 }
 
 impl<T> Counted<T> {
-    /// The device, with no failure yet.
+    /// The device, with no call and no failure yet.
     pub fn new(device: T) -> Counted<T>
         ensures device { device_of result ≡ device }
+        ensures calls { calls_of result ≡ 0 }
         ensures none { failures_of result ≡ 0 }
         ensures flushed { is_flushed result ≡ false }
     {
         Counted {
             device,
             failures: 0,
+            calls: 0,
             is_flushed: false,
         }
     }
@@ -57,6 +63,7 @@ impl<T> Counted<T> {
         let Counted {
             device,
             failures: _,
+            calls: _,
             is_flushed: _,
         } = self;
         device
@@ -65,10 +72,12 @@ impl<T> Counted<T> {
     // Notes a call: whether it was a flush, and whether it failed.
     fn note(&mut self, flushed: bool, failed: bool)
         ensures device { device_of self.new ≡ device_of self.old }
+        ensures calls { calls_of self.new ≡ calls_after (calls_of self.old) }
         ensures failures { failures_of self.new ≡ failures_after (failures_of self.old) failed }
         ensures flushed { is_flushed self.new ≡ flushed }
     {
         self.is_flushed = flushed;
+        self.calls = self.calls.saturating_add(1);
         if failed {
             self.failures = self.failures.saturating_add(1);
         }
@@ -82,6 +91,7 @@ impl<R: Read> Read for Counted<R> {
         ensures bound { ReadsAtMost result buf.new }
         ensures bytes { ReadConsumes (R.remaining (device_of self.old))
             (R.remaining (device_of self.new)) result buf.new }
+        ensures calls { calls_of self.new ≡ calls_after (calls_of self.old) }
         ensures failures { failures_of self.new
             ≡ failures_after (failures_of self.old) (is_err result) }
         ensures flushed { is_flushed self.new ≡ false }
@@ -99,6 +109,7 @@ impl<W: Write> Write for Counted<W> {
         ensures bound { WritesAtMost result buf.now }
         ensures bytes { WriteAppends (W.contents (device_of self.old))
             (W.contents (device_of self.new)) result buf.now }
+        ensures calls { calls_of self.new ≡ calls_after (calls_of self.old) }
         ensures failures { failures_of self.new
             ≡ failures_after (failures_of self.old) (write_failed result buf.now) }
         ensures flushed { is_flushed self.new ≡ false }
@@ -114,6 +125,7 @@ impl<W: Write> Write for Counted<W> {
 
     fn flush(&mut self) -> io::Result<()>
         ensures bytes { Keeps (W.contents (device_of self.old)) (W.contents (device_of self.new)) }
+        ensures calls { calls_of self.new ≡ calls_after (calls_of self.old) }
         ensures failures { failures_of self.new
             ≡ failures_after (failures_of self.old) (is_err result) }
         ensures flushed { is_flushed self.new ≡ true }

@@ -93,6 +93,7 @@ fn the_greatest_count_stays(rt: HostRuntime) {
     let mut counted = Counted {
         device,
         failures: u64::MAX - 1,
+        calls: u64::MAX - 1,
         is_flushed: false,
     };
     let _ = counted.write(b"abc");
