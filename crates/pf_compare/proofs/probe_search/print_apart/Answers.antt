@@ -3,7 +3,7 @@ use Rattle.std.proofs.lemmas.Result.{IfOk-weaker}
 use Rattle.pf_values.specs.Arg.{argument_of}
 use Rattle.pf_values.specs.Printing.{Prints}
 use Rattle.pf_compare.proofs.ProbeLemmas.{told_here, told_printed}
-use Rattle.pf_compare.proofs.probe_search.tell_apart.Goals as goal
+use Rattle.pf_compare.proofs.probe_search.print_apart.Goals as goal
 
 pub returns-then-have_one_place : goal.returns-then-have_one_place
 returns-then-have_one_place c =
