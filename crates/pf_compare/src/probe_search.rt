@@ -1,17 +1,19 @@
 //! The first argument that tells two formats apart, where they print the same for neutral ones.
-ghost use Rattle.std.specs.Prelude.{◌≡◌, ◌≢◌, ◌≤◌, ◌+◌, ◌-◌, ◌++◌, IfOk, IsTrue, List, MatchBool, drop, length, map, take};
+ghost use Rattle.std.specs.Prelude.{◌≡◌, ◌≢◌, ◌≤◌, ◌+◌, ◌-◌, ◌++◌, IfOk, IsTrue, List, MatchBool, drop, length, take};
 ghost use Rattle.pf_values.specs.Arg.{argument_of};
 ghost use Rattle.pf_values.specs.Arguments.{HasType};
-ghost use Rattle.pf_values.specs.Candidates as spec;
 ghost use Rattle.pf_values.specs.DataModel.{arg_type};
 ghost use Rattle.pf_values.specs.Items.{Item, types};
-ghost use Rattle.pf_values.specs.declared.types.ArgType.TheVariants.{Str};
+ghost use Rattle.pf_values.specs.declared.models.Model.TheVariants.{Lp64};
+ghost use Rattle.pf_probes.specs.Candidate as probes;
 ghost use Rattle.pf_compare.specs.Answers.{FindsProbe};
 ghost use Rattle.pf_compare.specs.Layouts.{AreLevel, FillAlike, FillUnlike, FindsUnlike, IsInside, IsLayoutOf, fill};
 
-use crate::candidate_rows::{owned_row, row_of};
 use crate::equality::are_equal;
+use crate::foresight::foretell;
 use crate::layouts::{Hole, Layout, print};
+use crate::owned_args::OwnedArg;
+use pf_probes::{Candidate, candidate_row};
 use pf_values::{Arg, ArgType, Model};
 use std::alloc::{AllocError, Global};
 
@@ -31,26 +33,7 @@ pub(crate) fn first_probe(
     first: &Layout,
     second: &Layout,
 ) -> Result<Option<Probe>, AllocError>
-    requires { AreLevel model first.now second.now }
-    ensures { IfOk result (λ found.
-        (xs ys : List Item) → IsLayoutOf model xs first.now → IsLayoutOf model ys second.now
-        → types model xs ≡ types model ys → FindsProbe model xs ys found) }
-{
-    let owned = owned_row(alloc, model, ArgType::Str)?;
-    let strings = row_of(alloc, &owned)?;
-    first_among(alloc, model, first, second, &strings)
-}
-
-// The same, with the strings among the candidates, which are long, so that they are built once.
-fn first_among(
-    alloc: Global,
-    model: Model,
-    first: &Layout,
-    second: &Layout,
-    strings: &[Arg<'_>],
-) -> Result<Option<Probe>, AllocError>
     requires level { AreLevel model first.now second.now }
-    requires strings { map argument_of strings.now ≡ spec.candidates model Str }
     ensures { IfOk result (λ found.
         (xs ys : List Item) → IsLayoutOf model xs first.now → IsLayoutOf model ys second.now
         → types model xs ≡ types model ys → FindsProbe model xs ys found) }
@@ -63,7 +46,6 @@ fn first_among(
             &first.bytes,
             &first.holes[index],
             &second.holes[index],
-            strings,
         )?;
         match found {
             Some(place) => return Ok(Some(Probe { index, place })),
@@ -81,25 +63,24 @@ fn first_candidate(
     whole: &[u8],
     first: &Hole,
     second: &Hole,
-    strings: &[Arg<'_>],
 ) -> Result<Option<usize>, AllocError>
     requires one_type { arg_type model first.now.directive ≡ arg_type model second.now.directive }
     requires first { IsInside whole.now first.now }
     requires second { IsInside whole.now second.now }
-    requires strings { map argument_of strings.now ≡ spec.candidates model Str }
     ensures { IfOk result
         (FindsUnlike model whole.now first.now second.now (arg_type model first.now.directive)) }
 {
     if are_one(first, second) {
         return Ok(None);
     }
-    let wanted = first.directive.arg_type(model);
-    if wanted == ArgType::Str {
-        return first_of(alloc, model, whole, first, second, wanted, strings);
-    }
-    let owned = owned_row(alloc, model, wanted)?;
-    let numbers = row_of(alloc, &owned)?;
-    first_of(alloc, model, whole, first, second, wanted, &numbers)
+    first_of(
+        alloc,
+        model,
+        whole,
+        first,
+        second,
+        first.directive.arg_type(model),
+    )
 }
 
 fn are_one(first: &Hole, second: &Hole) -> bool
@@ -115,7 +96,7 @@ fn have_one_place(first: &Hole, second: &Hole) -> bool
     first.start == second.start && first.end == second.end
 }
 
-// The place of the first argument of a row that does.
+// The place of the first candidate of their type that does.
 fn first_of(
     alloc: Global,
     model: Model,
@@ -123,18 +104,17 @@ fn first_of(
     first: &Hole,
     second: &Hole,
     wanted: ArgType,
-    row: &[Arg<'_>],
 ) -> Result<Option<usize>, AllocError>
-    requires row { map argument_of row.now ≡ spec.candidates model wanted }
     requires first_type { arg_type model first.now.directive ≡ wanted }
     requires second_type { arg_type model second.now.directive ≡ wanted }
     requires first { IsInside whole.now first.now }
     requires second { IsInside whole.now second.now }
     ensures { IfOk result (FindsUnlike model whole.now first.now second.now wanted) }
 {
+    let row = candidate_row(model, wanted);
     let mut place = 0;
     while place < row.len() {
-        if tell_apart(alloc, model, whole, first, second, row[place])? {
+        if tell_apart(alloc, model, whole, first, second, wanted, row[place])? {
             return Ok(Some(place));
         }
         place += 1;
@@ -142,9 +122,38 @@ fn first_of(
     Ok(None)
 }
 
-// Whether an argument tells two directives apart in their holes. In one place only what they print
-// is compared, and nothing where both print what they print for a neutral argument.
+// Whether a candidate tells two directives apart in their holes.
 fn tell_apart(
+    alloc: Global,
+    model: Model,
+    whole: &[u8],
+    first: &Hole,
+    second: &Hole,
+    wanted: ArgType,
+    candidate: Candidate,
+) -> Result<bool, AllocError>
+    requires first_type { arg_type model first.now.directive ≡ wanted }
+    requires second_type { arg_type model second.now.directive ≡ wanted }
+    requires typed { HasType model (probes.argument_of candidate) wanted }
+    requires held { HasType Lp64 (probes.argument_of candidate) wanted }
+    requires first { IsInside whole.now first.now }
+    requires second { IsInside whole.now second.now }
+    ensures { IfOk result (λ told. MatchBool told
+        (FillUnlike model whole.now first.now second.now (probes.argument_of candidate))
+        (FillAlike model whole.now first.now second.now (probes.argument_of candidate))) }
+{
+    if have_one_place(first, second) {
+        if let Some(told) = foretell(model, &first.directive, &second.directive, candidate) {
+            return Ok(told);
+        }
+    }
+    let argument = OwnedArg::of(alloc, wanted, candidate)?;
+    print_apart(alloc, model, whole, first, second, argument.as_arg())
+}
+
+// Whether what two directives print for an argument tells them apart in their holes. In one place
+// only that is compared, and nothing where both print what they print for a neutral argument.
+fn print_apart(
     alloc: Global,
     model: Model,
     whole: &[u8],

@@ -7,7 +7,7 @@ ghost use Rattle.pf_compare.specs.Witnesses.{AreNeutral, FindsWitness, HasCandid
 use crate::layouts::{Hole, Layout};
 use crate::owned_args::OwnedArg;
 use crate::probe_search::{Probe, are_unlike, first_probe};
-use pf_probes::candidates;
+use pf_probes::candidate_row;
 use pf_values::Model;
 use std::alloc::{AllocError, Global};
 
@@ -68,7 +68,7 @@ fn witness_of(
 {
     let mut args = neutrals(alloc, model, holes)?;
     let arg_type = holes[probe.index].directive.arg_type(model);
-    args[probe.index] = OwnedArg::of(alloc, arg_type, candidates(model, arg_type)[probe.place])?;
+    args[probe.index] = OwnedArg::of(alloc, arg_type, candidate_row(model, arg_type)[probe.place])?;
     Ok(Witness {
         args,
         renderings: probe.place as u8 + 1,

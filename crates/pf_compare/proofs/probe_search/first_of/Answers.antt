@@ -1,19 +1,19 @@
-use Rattle.std.proofs.Common.{arith, refl}
-use Rattle.pf_values.specs.Arg.{argument_of}
-use Rattle.pf_compare.proofs.CandidateLemmas.{argument_read, candidate_has_type, typed_as, within_row}
+use Rattle.std.proofs.Common.{arith}
+use Rattle.pf_probes.specs.Candidate.{argument_of}
+use Rattle.pf_compare.proofs.CandidateLemmas.{argument_in, candidate_has_type, candidate_held, within_row}
 use Rattle.pf_compare.proofs.ProbeLemmas.{told_alike, told_unlike, tried_more}
 use Rattle.pf_compare.proofs.probe_search.first_of.Goals as goal
 
-pub tell_apart-requires-clause-typed_first : goal.tell_apart-requires-clause-typed_first
-tell_apart-requires-clause-typed_first c = typed_as c.args.model _ _ _ _ refl c.requires.first_type (candidate_has_type c.args.model c.args.wanted c.loop-place.place _ (argument_read c.args.model argument_of c.args.row.now c.args.wanted c.requires.row c.loop-place.place _ (omega (arith, c.loop-place-test.true)) _ c.index-row-place.is))
+pub tell_apart-requires-clause-typed : goal.tell_apart-requires-clause-typed
+tell_apart-requires-clause-typed c = candidate_has_type c.args.model c.args.wanted c.loop-place.place _ (argument_in c.args.model argument_of c.candidate_row-row.result.now c.args.wanted c.candidate_row-row.ensures.value c.loop-place.place _ (omega (arith, c.loop-place-test.true)))
 
-pub tell_apart-requires-clause-typed_second : goal.tell_apart-requires-clause-typed_second
-tell_apart-requires-clause-typed_second c = typed_as c.args.model _ _ _ _ refl c.requires.second_type (candidate_has_type c.args.model c.args.wanted c.loop-place.place _ (argument_read c.args.model argument_of c.args.row.now c.args.wanted c.requires.row c.loop-place.place _ (omega (arith, c.loop-place-test.true)) _ c.index-row-place.is))
+pub tell_apart-requires-clause-held : goal.tell_apart-requires-clause-held
+tell_apart-requires-clause-held c = candidate_held c.args.model c.args.wanted c.loop-place.place _ (argument_in c.args.model argument_of c.candidate_row-row.result.now c.args.wanted c.candidate_row-row.ensures.value c.loop-place.place _ (omega (arith, c.loop-place-test.true)))
 
 pub returns-then-branch : goal.returns-then-branch
 returns-then-branch c = record {
   argument = _;
-  argument_is = argument_read c.args.model argument_of c.args.row.now c.args.wanted c.requires.row c.loop-place.place _ (omega (arith, c.loop-place-test.true)) _ c.index-row-place.is;
+  argument_is = argument_in c.args.model argument_of c.candidate_row-row.result.now c.args.wanted c.candidate_row-row.ensures.value c.loop-place.place _ (omega (arith, c.loop-place-test.true));
   unlike = told_unlike _ _ c.in_ok-tell_apart.field-0 c.if-branch.true c.in_ok-tell_apart.ensures;
   earlier = c.loop-place.invariant.earlier;
 }
@@ -21,9 +21,9 @@ returns-then-branch c = record {
 pub loop-place-preserved : goal.loop-place-preserved
 loop-place-preserved c = record {
   within = omega (arith, c.loop-place-test.true);
-  earlier = tried_more c.args.model c.args.whole.now c.args.first.now c.args.second.now c.args.wanted c.loop-place.place _ (argument_read c.args.model argument_of c.args.row.now c.args.wanted c.requires.row c.loop-place.place _ (omega (arith, c.loop-place-test.true)) _ c.index-row-place.is)
+  earlier = tried_more c.args.model c.args.whole.now c.args.first.now c.args.second.now c.args.wanted c.loop-place.place _ (argument_in c.args.model argument_of c.candidate_row-row.result.now c.args.wanted c.candidate_row-row.ensures.value c.loop-place.place _ (omega (arith, c.loop-place-test.true)))
       (told_alike _ _ c.in_ok-tell_apart.field-0 c.if-branch.false c.in_ok-tell_apart.ensures) c.loop-place.invariant.earlier;
 }
 
 pub returns : goal.returns
-returns c = λ k other e. c.loop-place.invariant.earlier k other (omega (arith, c.loop-place-test.false, within_row c.args.model argument_of c.args.row.now c.args.wanted c.requires.row k other e)) e
+returns c = λ k other e. c.loop-place.invariant.earlier k other (omega (arith, c.loop-place-test.false, within_row c.args.model argument_of c.candidate_row-row.result.now c.args.wanted c.candidate_row-row.ensures.value k other e)) e

@@ -7,7 +7,7 @@ use Rattle.pf_compare.proofs.WitnessLemmas.{args_of, candidate_has, index_within
 use Rattle.pf_compare.proofs.witnesses.witness_of.Goals as goal
 
 pub of-requires : goal.of-requires
-of-requires c = candidate_has c.args.model c.args.holes.now c.args.probe c.requires c.index-holes-probe.result c.arg_type-arg_type.result c.arg_type-arg_type.ensures c.deref.result.now (ap (map argument_of) c.deref.ensures.0 ∙ c.candidates.ensures) _
+of-requires c = candidate_has c.args.model c.args.holes.now c.args.probe c.requires c.index-holes-probe.result c.arg_type-arg_type.result c.arg_type-arg_type.ensures c.candidate_row.result.now c.candidate_row.ensures.value _
 
 pub index_mut-requires : goal.index_mut-requires
 index_mut-requires c =
@@ -23,7 +23,7 @@ pub returns : goal.returns
 returns c = record {
   argument = c.requires.0;
   candidate = c.requires.1;
-  args_are = args_of c.args.model c.args.holes.now c.args.probe c.requires c.index-holes-probe.result c.arg_type-arg_type.result c.arg_type-arg_type.ensures c.deref.result.now (ap (map argument_of) c.deref.ensures.0 ∙ c.candidates.ensures) _ c.in_ok-args.args.items c.in_ok-args-2.field-0 c.in_ok-args.ensures c.in_ok-args-2.ensures.value;
+  args_are = args_of c.args.model c.args.holes.now c.args.probe c.requires c.index-holes-probe.result c.arg_type-arg_type.result c.arg_type-arg_type.ensures c.candidate_row.result.now c.candidate_row.ensures.value _ c.in_ok-args.args.items c.in_ok-args-2.field-0 c.in_ok-args.ensures c.in_ok-args-2.ensures.value;
   types_are = types_of c.args.model c.args.holes.now c.args.probe c.requires c.index-holes-probe.result c.arg_type-arg_type.result c.arg_type-arg_type.ensures c.in_ok-args.args.items c.in_ok-args-2.field-0 c.in_ok-args.ensures c.in_ok-args-2.ensures.arg_type;
   renderings_are = refl;
 }

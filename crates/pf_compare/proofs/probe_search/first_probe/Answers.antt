@@ -5,7 +5,7 @@ use Rattle.pf_values.specs.DataModel.{arg_type}
 use Rattle.pf_values.specs.Text.{Text}
 use Rattle.pf_compare.specs.Layouts.{FindsUnlike, IsInside}
 use Rattle.pf_compare.proofs.ProbeLemmas.{AreTried, as_many, first_hole, found_probe, hole_types_same, none_found, second_hole, tried_next}
-use Rattle.pf_compare.proofs.probe_search.first_among.Goals as goal
+use Rattle.pf_compare.proofs.probe_search.first_probe.Goals as goal
 
 one_at : (c : goal.After-index-in-loop-index) → slice_get c.args.first.now.holes.items c.loop-index.index ≡ Some c.index.result.now
 one_at c = slice_get_read c.args.first.now.holes.items _ c.loop-index.index c.index.result.now refl (omega (arith, c.loop-index-test.true, c.len.ensures, c.args.first.now.holes.ok.0)) c.index.ensures

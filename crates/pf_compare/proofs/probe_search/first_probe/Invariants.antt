@@ -1,6 +1,6 @@
 use Rattle.std.proofs.Common.{◌≤◌, ◌-◌, length}
 use Rattle.pf_compare.proofs.ProbeLemmas.{AreTried}
-use Rattle.pf_compare.proofs.probe_search.first_among.Given as goal
+use Rattle.pf_compare.proofs.probe_search.first_probe.Given as goal
 
 abbrev pub invariant-loop-index : goal.invariant-loop-index
 invariant-loop-index l = record {

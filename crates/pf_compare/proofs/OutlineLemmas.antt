@@ -1,0 +1,144 @@
+-- Outlines of numbers.
+use Rattle.std.proofs.Common.{◌≡◌, ◌≢◌, ℕ, zero, suc, ◌+◌, ◌-◌, ◌<◌, ◌≤◌, max, Bool, true, false, [], ◌∷◌, ◌++◌, length, map, replicate, refl, sym, ap, ◌∙◌, subst, arith, ℤ}
+use Rattle.std.specs.Prelude.{IsFalse, IsTrue, nat_abs, nat_lt, ◌&&◌, if◌then◌else◌}
+use Rattle.std.specs.Fmt.{digit_glyph}
+use Rattle.std.specs.Int.Digits.{digits_of}
+use Rattle.std.proofs.lemmas.Bool.Decides.{nat_tests}
+use Rattle.std.proofs.lemmas.List.{length-append, length-map, length-replicate}
+use Rattle.pf_values.specs.declared.conversions.Conv.{Conv}
+use Rattle.pf_values.specs.declared.conversions.Conv.TheVariants.{O}
+use Rattle.pf_values.specs.declared.conversions.Kind.{Kind}
+use Rattle.pf_values.specs.declared.conversions.Kind.TheVariants as kinds
+use Rattle.pf_values.specs.declared.flags.Flag.TheVariants.{Alt}
+use Rattle.pf_values.specs.declared.models.Model.{Model}
+use Rattle.pf_values.specs.Arguments.{Number, IsValue}
+use Rattle.pf_values.specs.Bases.{number_of}
+use Rattle.pf_values.specs.Conversions.{base_of, base_under, has_capitals, is_octal, is_signed, is_text, kind_of, prints_text}
+use Rattle.pf_values.specs.DataModel.{bit_count, bits_under}
+use Rattle.pf_values.specs.Flags.{has}
+use Rattle.pf_values.specs.Normal.{effective_precision, precision_of}
+use Rattle.pf_values.specs.Printing.{Prints, PrintsKind, PrintsNumber, field, is_zero_filled, sign_or_prefix}
+use Rattle.pf_values.specs.Specification.{Specification, width_of}
+use Rattle.pf_values.specs.Text.{Text, space, zero_digit}
+use Rattle.pf_values.proofs.NumberTexts.{value_text-is}
+use Rattle.pf_values.proofs.Printed.{count_of, filled_precision, natural_len, natural_of, precision_under, printed_precision}
+use Rattle.pf_values.proofs.PrintsOnce.{PrintsNumber-is, value_text}
+use Rattle.pf_values.proofs.Values.{IsConverted-unique}
+use Rattle.pf_probes.proofs.Digits.{natural_small}
+use Rattle.pf_render.specs.Zeros.{fewest_digits}
+use Rattle.pf_compare.specs.declared.outlines.Front.{Front}
+use Rattle.pf_compare.specs.declared.outlines.Outline.{Outline}
+use Rattle.pf_compare.specs.declared.values.Value.{Value}
+use Rattle.pf_compare.specs.Outlines.{Draws, Foretells, HasSignAndSize, IsOfValue, IsOutlineOf, digit_below_ten, digits_under, drawn, fronted, front_text, glyphs, outline_len}
+
+-- one digit below ten
+glyph_below : (upper : Bool) (n : ℕ) → n < 10 → digit_glyph upper n ≡ 48 + n
+glyph_below upper n h = grind (arith, nat_tests)
+
+pub one_digit : (base : ℕ) (upper : Bool) (n : ℕ) → 2 ≤ base → n < 10 → n < base → digits_under base upper n ≡ digit_below_ten n
+one_digit base upper zero b h l = refl
+one_digit base upper (suc n) b h l = natural_small base upper (suc n) b (omega arith) l ∙ ap (λ d. d ∷ []) (glyph_below upper (suc n) h)
+
+pub below : (n m : ℕ) → IsTrue (nat_lt n m) → n < m
+below n m h = grind (arith, nat_tests)
+
+pub same_glyphs : (s t : Specification) (k l : Kind) (n : ℕ) → k ≡ kind_of s.conv → l ≡ kind_of t.conv
+    → digits_under (number_of (base_under k)) (has_capitals k) n ≡ digits_under (number_of (base_under l)) (has_capitals l) n → glyphs s n ≡ glyphs t n
+same_glyphs s t k l n e f h =
+    let of : Kind → Text = λ i. digits_under (number_of (base_under i)) (has_capitals i) n in
+    sym (ap of e) ∙ h ∙ ap of f
+
+-- how many digits are printed
+fewest_under : (conv : Conv) (alt : Bool) (n : ℕ) → natural_len (is_octal conv && alt) (base_of conv) n ≡ (if is_octal conv && alt then count_of (base_of conv) n + 1 else count_of (base_of conv) n)
+fewest_under O true n = omega arith
+fewest_under O false n = refl
+fewest_under _ alt n = refl
+
+filled_max : (width front natural : ℕ) → max (max (width - front) 1) natural ≡ max (filled_precision width front natural) natural
+filled_max width front natural = grind (arith, nat_tests)
+
+precision_is : (b : Bool) (s : Specification) (v : ℤ) (natural : ℕ) → natural ≡ natural_of s (nat_abs v)
+    → max (if b then max (width_of s - length (sign_or_prefix s v)) 1 else precision_of s) natural
+    ≡ max (precision_under b s v) (natural_of s (nat_abs v))
+precision_is true s v natural e = rw e (filled_max (width_of s) (length (sign_or_prefix s v)) (natural_of s (nat_abs v)))
+precision_is false s v natural e = rw e refl
+
+len_is : (s : Specification) (v : ℤ) → max (effective_precision s (length (sign_or_prefix s v))) (fewest_digits s (count_of (base_of s.conv) (nat_abs v))) ≡ max (printed_precision s v) (natural_of s (nat_abs v))
+len_is s v = precision_is (is_zero_filled s) s v _ (sym (fewest_under s.conv (has s.flags Alt) (nat_abs v)))
+
+fewest_most : (b : Bool) (count : ℕ) → count ≤ (if b then count + 1 else count)
+fewest_most true count = omega arith
+fewest_most false count = omega arith
+
+-- a number is printed as its value
+under_number : (model : Model) (k : Kind) (s : Specification) (n : ℤ) (body : Text) → IsFalse (prints_text k) → PrintsKind model k s (Number n) body → PrintsNumber model s n body
+under_number model kinds.Signed s n body e h = h
+under_number model (kinds.Unsigned base capitals) s n body e h = h
+under_number model kinds.Char s n body e h = absurd cc
+under_number model kinds.String s n body e h = absurd h
+
+printed_number : (model : Model) (s : Specification) (n v : ℤ) (out : Text) → IsFalse (is_text s.conv) → IsValue model s n v → Prints model s (Number n) out → out ≡ field s (value_text s v)
+printed_number model s n v out e h g =
+    let number = under_number model (kind_of s.conv) s n g.0 e g.1 in
+    let same : number.value ≡ v = IsConverted-unique (bits_under model s.length) (is_signed s.conv) n number.value v number.value_is h in
+    g.2 ∙ ap (field s) (PrintsNumber-is model s n g.0 number ∙ ap (value_text s) same)
+
+pub outlined : (model : Model) (s : Specification) (number : ℤ) (value : Value) (front : Front) (count digits : ℕ) (o : Outline) → IsFalse (is_text s.conv)
+    → IsOfValue (is_signed s.conv) (bit_count (bits_under model s.length)) number value
+    → ((v : ℤ) → HasSignAndSize value v → front_text front ≡ sign_or_prefix s v)
+    → count ≡ length (digits_of (base_of s.conv) value.size)
+    → digits ≡ max (effective_precision s (length (front_text front))) (fewest_digits s count)
+    → Draws o digits value.size (λ t. field s (fronted (front_text front) digits t))
+    → IsOutlineOf model s number o
+outlined model s number value front count digits o integer h fronts e f draws =
+    let v = h.whole in
+    let before : front_text front ≡ sign_or_prefix s v = fronts v h.parts in
+    let counted : count ≡ count_of (base_of s.conv) (nat_abs v) = e ∙ ap (λ n. length (digits_of (base_of s.conv) n)) h.parts.size in
+    let len : digits ≡ max (printed_precision s v) (natural_of s (nat_abs v))
+    = f ∙ ap (λ t. max (effective_precision s (length t)) (fewest_digits s count)) before ∙ ap (λ k. max (effective_precision s (length (sign_or_prefix s v))) (fewest_digits s k)) counted ∙ len_is s v in
+    let long : length (glyphs s value.size) ≡ count = length-map _ _ ∙ sym e in
+    let fits : length (glyphs s value.size) ≤ digits = omega (arith, long, f, fewest_most (is_octal s.conv && has s.flags Alt) count) in
+    let zeros : digits - length (glyphs s value.size) ≡ max (printed_precision s v) (natural_of s (nat_abs v)) - count_of (base_of s.conv) (nat_abs v) = omega (arith, len, long, counted) in
+    let text : fronted (front_text front) digits (glyphs s value.size) ≡ value_text s v
+    = ap (λ t. t ++ (replicate (digits - length (glyphs s value.size)) zero_digit ++ glyphs s value.size)) before
+    ∙ ap (λ k. sign_or_prefix s v ++ (replicate k zero_digit ++ glyphs s value.size)) zeros
+    ∙ ap (λ n. sign_or_prefix s v ++ (replicate (max (printed_precision s v) (natural_of s (nat_abs v)) - count_of (base_of s.conv) (nat_abs v)) zero_digit ++ glyphs s n)) h.parts.size
+    ∙ sym (value_text-is s v) in
+    record {
+      enough = subst (λ n. length (glyphs s n) ≤ o.digits) (sym draws.size_is) (subst (λ k. length (glyphs s value.size) ≤ k) (sym draws.digits_are) fits);
+      prints = λ out g.
+          printed_number model s number v out integer h.converted g
+          ∙ ap (field s) (sym text)
+          ∙ sym (draws.drawn_is (glyphs s value.size) fits)
+          ∙ ap (λ n. drawn o (glyphs s n)) (sym draws.size_is);
+    }
+
+length_drawn : (o : Outline) (t : Text) → length t ≤ o.digits → length (drawn o t) ≡ outline_len o
+length_drawn o t h =
+    let front = front_text o.front in
+    let zeros = replicate (o.digits - length t) zero_digit in
+    omega (
+      arith,
+      h,
+      length-append (replicate o.lead space ++ (front ++ (zeros ++ t))) (replicate o.trail space),
+      length-append (replicate o.lead space) (front ++ (zeros ++ t)),
+      length-append front (zeros ++ t),
+      length-append zeros t,
+      length-replicate {A = ℕ} o.lead space,
+      length-replicate {A = ℕ} o.trail space,
+      length-replicate {A = ℕ} (o.digits - length t) zero_digit,
+    )
+
+module _ (model : Model) (s t : Specification) (n : ℤ) (x y : Outline) (h : IsOutlineOf model s n x) (g : IsOutlineOf model t n y) where
+  -- texts of other lengths differ
+  pub foretold_unlike : outline_len x ≢ outline_len y → Foretells model s t (Number n) true
+  foretold_unlike e p q a b = λ same. e (
+      sym (length_drawn x (glyphs s x.size) h.enough)
+      ∙ ap length (sym (h.prints p a) ∙ same ∙ g.prints q b)
+      ∙ length_drawn y (glyphs t y.size) g.enough
+      )
+
+  -- one outline of the same digits is one text
+  pub foretold_alike : x ≡ y → glyphs s x.size ≡ glyphs t x.size → Foretells model s t (Number n) false
+  foretold_alike e f p q a b =
+      h.prints p a ∙ ap (drawn x) f ∙ ap (λ (o : Outline). drawn o (glyphs t o.size)) e ∙ sym (g.prints q b)

@@ -1,0 +1,106 @@
+//! Whether two directives print otherwise for a candidate, where that is seen without printing.
+ghost use Rattle.std.specs.Prelude.{◌≡◌, IfSome, IsFalse, IsTrue};
+ghost use Rattle.pf_values.specs.Arguments.{Number};
+ghost use Rattle.pf_values.specs.Conversions.{base_under, has_capitals, is_text};
+ghost use Rattle.pf_values.specs.Bases.{number_of};
+ghost use Rattle.pf_probes.specs.Candidate.{argument_of};
+ghost use Rattle.pf_compare.specs.Outlines.{Foretells, digit_below_ten, digits_under};
+
+use crate::outlines::Outline;
+use pf_probes::Candidate;
+use pf_values::{Directive, Kind, Model};
+
+/// Whether two directives print different bytes for a candidate; none where they have to be printed
+/// to tell.
+pub(crate) fn foretell(
+    model: Model,
+    first: &Directive,
+    second: &Directive,
+    candidate: Candidate,
+) -> Option<bool>
+    ensures { IfSome result (Foretells model first.now second.now (argument_of candidate)) }
+{
+    match candidate {
+        Candidate::Number(number) => foretell_number(model, first, second, number),
+        Candidate::Repeat { .. } => None,
+    }
+}
+
+fn foretell_number(
+    model: Model,
+    first: &Directive,
+    second: &Directive,
+    number: i128,
+) -> Option<bool>
+    ensures { IfSome result (Foretells model first.now second.now (Number number)) }
+{
+    if is_integer(first) {
+        if is_integer(second) {
+            return foretell_integer(model, first, second, number);
+        }
+    }
+    None
+}
+
+#[inline(always)]
+fn is_integer(directive: &Directive) -> bool
+    ensures { IsTrue result → IsFalse (is_text directive.now.conv) }
+{
+    match directive.conv().kind() {
+        Kind::Signed | Kind::Unsigned(_, _) => true,
+        Kind::Char | Kind::String => false,
+    }
+}
+
+// The same of two that print integers: they print otherwise where the lengths differ.
+fn foretell_integer(
+    model: Model,
+    first: &Directive,
+    second: &Directive,
+    number: i128,
+) -> Option<bool>
+    requires first { IsFalse (is_text first.now.conv) }
+    requires second { IsFalse (is_text second.now.conv) }
+    ensures { IfSome result (Foretells model first.now second.now (Number number)) }
+{
+    let one = Outline::of(model, first, number);
+    let two = Outline::of(model, second, number);
+    if one.len() != two.len() {
+        return Some(true);
+    }
+    if have_one_outline(&one, &two) {
+        if have_same_digits(first.conv().kind(), second.conv().kind(), one.size) {
+            return Some(false);
+        }
+    }
+    None
+}
+
+#[inline(always)]
+fn have_one_outline(one: &Outline, two: &Outline) -> bool
+    ensures { IsTrue result → one.now ≡ two.now }
+{
+    one == two
+}
+
+// Whether a number has the same digits: it does in one base, and as one digit below ten.
+#[inline(always)]
+fn have_same_digits(first: Kind, second: Kind, number: u64) -> bool
+    ensures { IsTrue result
+        → digits_under (number_of (base_under first)) (has_capitals first) number
+        ≡ digits_under (number_of (base_under second)) (has_capitals second) number }
+{
+    if first == second {
+        return true;
+    }
+    is_one_digit(first, number) && is_one_digit(second, number)
+}
+
+#[inline(always)]
+fn is_one_digit(kind: Kind, number: u64) -> bool
+    ensures { IsTrue result
+        → digits_under (number_of (base_under kind)) (has_capitals kind) number
+        ≡ digit_below_ten number }
+{
+    number < 10 && number < kind.base().number()
+}
