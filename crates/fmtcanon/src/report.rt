@@ -17,7 +17,7 @@ use std::io::Write;
 
 // A line. One of the longest is `second: refused 16 PrecisionUndefined at byte
 // 18446744073709551615`.
-type Line = ArrayString<80>;
+type Line = ArrayString<96>;
 
 /// Writes the line of an outcome that has one, or the text of `clap` as it is, and answers the exit
 /// status. A write that fails ends the line, and leaves the status as it is.
@@ -38,13 +38,13 @@ fn tell<E: Write>(outcome: &Outcome, errors: &mut Counted<E>) -> Result<(), Shor
             write_bytes(errors, refusal_line(*side, refusal).as_str().as_bytes())
         }
         Outcome::BadWord(index) => {
-            write_bytes(errors, argument_line(*index, ": not an argument\n").as_str().as_bytes())
+            write_bytes(errors, argument_line(*index, ": not an argument").as_str().as_bytes())
         }
         Outcome::WrongCount { wanted, given } => {
             write_bytes(errors, count_line(*wanted, *given).as_str().as_bytes())
         }
         Outcome::WrongType(index) => {
-            write_bytes(errors, argument_line(*index, ": wrong type\n").as_str().as_bytes())
+            write_bytes(errors, argument_line(*index, ": wrong type").as_str().as_bytes())
         }
         Outcome::Usage(text) => write_bytes(errors, text.as_bytes()),
         Outcome::Read => write_bytes(errors, b"read failed\n"),
@@ -71,12 +71,13 @@ fn refusal_line(side: Option<Side>, refusal: &Refusal) -> Line
 // The line of an argument, with what is wrong with it.
 fn argument_line(index: u64, fault: &str) -> Line
     requires { length fault.now ≤ 20 }
-    ensures { result.bytes ≡ codes "argument " ++ decimal index ++ fault.now }
+    ensures { result.bytes ≡ line (codes "argument " ++ decimal index ++ fault.now) }
 {
     let mut line = Line::new();
     line.push_str("argument ");
     push_number(&mut line, index);
     line.push_str(fault);
+    line.push_str("\n");
     line
 }
 
@@ -96,7 +97,7 @@ fn count_line(wanted: u64, given: u64) -> Line
 
 // The decimal digits of a number.
 fn push_number(line: &mut Line, number: u64)
-    requires { array_string_len line.old + 20 ≤ 80 }
+    requires { array_string_len line.old + 20 ≤ 96 }
     ensures bytes { line.new.bytes ≡ line.old.bytes ++ decimal number }
     ensures len { array_string_len line.new ≤ array_string_len line.old + 20 }
 {
