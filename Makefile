@@ -107,12 +107,9 @@ endef
 check-more: program library $(C)/second.a
 	python3 tests/more.py $(PROGRAM) $(C)
 
-# Those of fmtcanon are tried by `rt ci`, one by one: its tests take too long to be run with an edit.
-BATCHED = pf_values pf_text pf_render pf_reduce pf_canon pf_probes pf_compare fmtcanon_c uses
-
 wrong-bodies: tools
 	python3 tests/wrong_bodies_test.py
-	python3 tests/wrong_bodies.py --jobs $(JOBS) $(BATCHED)
+	python3 tests/wrong_bodies.py --jobs $(JOBS)
 
 # A tool that is missing is told, and fails.
 tools:

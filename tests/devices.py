@@ -7,7 +7,8 @@ Standard output: closed; the device that is always full; a pipe whose reader has
 bytes; a pipe that is full and doesn't wait; a directory; standard error closed or full beside it. Standard input, for
 `stream`: closed; a directory; opened for writing; a pipe that doesn't wait and has nothing; one byte at a time; a
 pipe that stays open; a terminal; a file. For the other commands: a pipe that stays open, which they don't read. How many reads
-and writes there are. Address spaces: each command in spaces that grow by a page at a time, until it answers.
+and writes there are. Address spaces: each command in spaces that grow by a page at a time, until it answers. Memory:
+each growth of each command refused, one a run.
 
 No run is ended by a signal, none exits with 0 or 1 with bytes missing, and nothing is written for a refused format.
 A space may be too small for the system to start the program, which it then kills, or its loader ends it: the sizes
@@ -273,6 +274,13 @@ def calls_of(program, words, stdin, work):
     return [[tuple(map(int, numbers)) for name, *numbers in calls if name == kind] for kind in ("read", "write")]
 
 
+def library_of(name, work):
+    """A library for LD_PRELOAD of this file of tests/, and whether gcc made it."""
+    library = f"{work}/{name}.so"
+    words = ["gcc", "-shared", "-fPIC", "-O1", "-o", library, TOP / "tests" / f"{name}.c"]
+    return library, subprocess.run(words, check=False, timeout=TIMEOUT).returncode == 0
+
+
 def blocks(size):
     return -(-size // BLOCK)
 
@@ -280,8 +288,7 @@ def blocks(size):
 def try_calls(program, trials):
     """An answer goes out in as few writes as it has blocks, none of them empty; nothing but `stream` reads."""
     with tempfile.TemporaryDirectory() as work:
-        words = ["gcc", "-shared", "-fPIC", "-O1", "-o", f"{work}/calls.so", TOP / "tests/calls.c"]
-        trials.expect("calls.c", subprocess.run(words, check=False, timeout=TIMEOUT).returncode, 0)
+        trials.expect("calls.c", library_of("calls", work)[1], True)
         for words, stdin, _, text in ANSWERED:
             reads, writes = calls_of(program, words, stdin, work)
             out = [(asked, moved) for stream, asked, moved in writes if stream == 1]
@@ -296,8 +303,8 @@ def try_calls(program, trials):
             trials.expect(f"{name_of(words)}: no write", calls_of(program, words, b"", work)[1], [])
         for words, _ in [*REFUSED, *NOT_ASKED]:
             reads, writes = calls_of(program, words, b"", work)
-            is_told = all(stream == 2 and asked == moved > 0 for stream, asked, moved in writes)
-            trials.expect(f"{name_of(words)}: no read, and no write but the report", (reads, is_told), ([], True))
+            is_told = [stream == 2 and asked == moved > 0 for stream, asked, moved in writes]
+            trials.expect(f"{name_of(words)}: no read, and one write, which is the report", (reads, is_told), ([], [True]))
         for size in SIZES:
             reads, writes = calls_of(program, ["stream"], b"x" * size, work)
             trials.expect(f"stream of {size} bytes: writes", [one[0] for one in writes], [1] * blocks(size))
@@ -441,6 +448,28 @@ def try_spaces(program, trials):
         trials.expect(f"{name_of(words)} is out of memory in less", refused > 0, True)
 
 
+def try_growths(program, trials):
+    """Where one growth is refused, whichever it is, memory is out, and nothing was written."""
+    rows = [(words, stdin, (status, text, b"")) for words, stdin, status, text in ANSWERED]
+    rows += [(words, b"", (2, b"", line)) for words, line in REFUSED]
+    rows += [(words, b"", run(program, words)) for words, _ in NOT_ASKED]
+    with tempfile.TemporaryDirectory() as work:
+        library, is_made = library_of("growths", work)
+        trials.expect("growths.c", is_made, True)
+        for words, stdin, answer in rows:
+            notes = Path(work) / "notes"
+            notes.write_text("")
+            environment = {**os.environ, "LD_PRELOAD": library}
+            got = run(program, words, stdin, env={**environment, "GROWTHS": str(notes)})
+            trials.expect(f"{name_of(words)}, no growth refused", got, answer)
+            count = len(notes.read_text())
+            trials.expect(f"{name_of(words)}: it takes memory", count > 0, True)
+            ended = [run(program, words, stdin, env={**environment, "GROWTH": str(number)}) for number in range(count + 1)]
+            wrong = [(number, got) for number, got in enumerate(ended[:-1]) if got != (4, b"", b"out of memory\n")]
+            trials.expect(f"{name_of(words)}: each of {count} growths refused", wrong[:1], [])
+            trials.expect(f"{name_of(words)}: a growth more, which there is not", ended[-1], answer)
+
+
 def main():
     if len(sys.argv) != 2:
         sys.exit(__doc__)
@@ -457,6 +486,7 @@ def main():
     try_bytes(program, trials)
     try_files(program, trials)
     try_spaces(program, trials)
+    try_growths(program, trials)
     print(f"{trials.passed} passed, {trials.failed} failed")
     return 1 if trials.failed else 0
 

@@ -16,6 +16,11 @@ import subprocess
 import sys
 from pathlib import Path
 
+sys.dont_write_bytecode = True
+sys.path.insert(0, str(Path(__file__).resolve().parent))
+
+import turned  # noqa: E402
+
 TOP = Path(__file__).resolve().parent.parent
 DOCUMENTS = ["README.md", "docs/USING.md", "docs/REFUSALS.md"]
 TIMEOUT = 60
@@ -364,6 +369,13 @@ def try_map(trials):
         trials.expect(f"source files of {crate.name} that the map has not", sorted(missing), [])
 
 
+def try_edits(trials):
+    """Each public function is turned by an edit that the prover must refuse, but for a few."""
+    missing, needless = turned.all_unturned()
+    trials.expect("public functions that no edit turns", missing, [])
+    trials.expect("exceptions of tests/turned.py that are none", needless, [])
+
+
 def plain_code(text):
     """Code without comments, imports and layout."""
     text = re.sub(r"//[^\n]*|^(ghost )?use .*?;$|^#!\[.*$", "", text, flags=re.DOTALL | re.MULTILINE)
@@ -396,6 +408,7 @@ def main():
     try_names(trials)
     try_map(trials)
     try_callers(trials)
+    try_edits(trials)
     try_numbers(trials)
     print(f"{trials.passed} passed, {trials.failed} failed")
     return 1 if trials.failed else 0

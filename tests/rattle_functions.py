@@ -11,12 +11,18 @@ NO_CODE = re.compile(r"""//[^\n]*|/\*.*?\*/|b?"(?:\\.|[^"\\])*"|b?'(?:\\(?:x..|u
 
 @dataclass(frozen=True)
 class Function:
-    """A function: its path below the crate, and the offsets at which its contract and its body begin and its body ends."""
+    """A function: its path below the crate, and the offsets at which its contract and its body begin and its body ends.
+
+    Before its name may stand `pub` or `pub(..)`, with `extern` after it, and the block that it stands in has a head, where it
+    stands in one.
+    """
 
     path: str
     contract: int
     start: int
     end: int
+    visibility: str = ""
+    block: str = ""
 
 
 def blanked(text):
@@ -110,7 +116,13 @@ def functions(text, path, homes):
     return found
 
 
-def walk(code, span, names, homes, found):
+def visibility_at(code, at):
+    """What stands before the `fn` at this offset: `pub` or `pub(..)`, with `extern` where C calls the function."""
+    words = re.search(r"\b(pub(?:\([\w: ]*\))?)((?:\s+(?:const|unsafe|extern))*)\s+$", code[max(0, at - 80) : at])
+    return words[1] + " extern" * ("extern" in words[2]) if words else ""
+
+
+def walk(code, span, names, homes, found, block=""):
     """Adds the functions between two offsets, which stand in the module, block or trait of these names."""
     at, end = span
     while True:
@@ -120,7 +132,7 @@ def walk(code, span, names, homes, found):
         if item["kind"] == "fn":
             body = body_of(code, item.end())
             if body:
-                found.append(Function("::".join([*names, item["name"]]), *body))
+                found.append(Function("::".join([*names, item["name"]]), *body, visibility_at(code, item.start()), block))
             at = body[2] if body else item.end()
             continue
         opens = code.find("{", item.end())
@@ -130,5 +142,5 @@ def walk(code, span, names, homes, found):
             continue
         closes = group_end(code, opens)
         inside = [*names, item["name"]] if item["head"] is None else block_path(item["head"], names, homes)
-        walk(code, (opens + 1, closes - 1), inside, homes, found)
+        walk(code, (opens + 1, closes - 1), inside, homes, found, (item["head"] or "").strip())
         at = closes

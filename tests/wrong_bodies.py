@@ -1,11 +1,13 @@
 #!/usr/bin/env python3
 """Tries wrong bodies: each must be refused by the prover, at the very function that it turns.
 
-Usage: tests/wrong_bodies.py [--jobs N] [CRATE ..]
+Usage: tests/wrong_bodies.py [--jobs N] [CRATE ..] [NAME ..]
 
 A wrong body is an edit, a file crates/NAME/must-fail/*.edit or crates/NAME/wrong-bodies/*.edit: a line 'file: PATH', and
-then pairs of lines 'old: TEXT' and 'new: TEXT', where the old text stands once in that file. It is tried on a copy of its
-crate, over what a proof of the crate as it stands has kept in out/. Edits of different functions share a check.
+then pairs of lines 'old: TEXT' and 'new: TEXT', where the old text stands once in that file. In wrong-bodies/ a line
+'after: TEXT' may stand before a pair: then it is the first old text after that text, which stands once. It is tried on a copy
+of its crate, over what a proof of the crate as it stands has kept in out/. Edits of different functions share a check. Where names
+of edits are given, those alone are tried.
 
 It is refused where a goal is open in a function whose body it changes: no search proves it, or the answer that a file of
 proofs/ gives to it is of another type. The crate as it stands is proved, so the goal is open for the edit alone. Where a
@@ -54,7 +56,7 @@ class Verdict(Enum):
 
 @dataclass
 class Edit:
-    """A wrong body: pairs of an old and a new text with their file, and the functions in whose bodies they stand."""
+    """A wrong body: its pairs, and the functions in whose bodies they stand."""
 
     name: str
     pairs: list = field(default_factory=list)
@@ -63,23 +65,46 @@ class Edit:
     why_broken: str = ""
 
 
+@dataclass(frozen=True)
+class Pair:
+    """An old and a new text of a file, and the text after which the old one stands, where that is told."""
+
+    file: str
+    old: str
+    new: str
+    after: str = ""
+
+    def place(self, text):
+        """Where the old text begins in the text of the file."""
+        told = self.after or self.old
+        if text.count(told) != 1:
+            raise ValueError(f"an old text stands in {self.file} {text.count(told)} times, and not once")
+        at = text.find(self.old, text.index(told))
+        if at == -1:
+            raise ValueError(f"an old text does not stand in {self.file} after {self.after!r}")
+        return at
+
+    def applied(self, text):
+        """The text of the file with the new text."""
+        at = self.place(text)
+        return text[:at] + self.new + text[at + len(self.old) :]
+
+
 def read_pairs(text):
-    """The file, the old and the new text of each pair of an edit."""
-    file = old = None
+    """The pairs of an edit."""
+    told = {}
     for line in text.splitlines():
         word, _, rest = line.partition(":")
         rest = rest.removeprefix(" ")
-        if word == "file":
-            file = rest.strip()
-        elif word == "old":
-            old = rest
+        if word in ("file", "after", "old"):
+            told[word] = rest.strip() if word == "file" else rest
         elif word == "new":
-            if not file or not old:
+            if not told.get("file") or not told.get("old"):
                 raise ValueError("a line 'new:' stands before any 'file:' or 'old:'")
-            yield file, old, rest
-            old = None
+            yield Pair(new=rest, **told)
+            told = {"file": told["file"]}
         elif line.strip():
-            raise ValueError(f"a line is none of file, old and new: {line!r}")
+            raise ValueError(f"a line is none of file, after, old and new: {line!r}")
 
 
 def text_in(crate, texts, file):
@@ -90,12 +115,19 @@ def text_in(crate, texts, file):
 def applied(pairs, crate, texts):
     """These texts with the pairs applied to them, or to the crate's own where they are missing."""
     texts = dict(texts)
-    for file, old, new in pairs:
-        before = text_in(crate, texts, file)
-        if before.count(old) != 1:
-            raise ValueError(f"an old text stands in {file} {before.count(old)} times, and not once")
-        texts[file] = before.replace(old, new)
+    for pair in pairs:
+        texts[pair.file] = pair.applied(text_in(crate, texts, pair.file))
     return texts
+
+
+def places_of(pairs, crate, homes):
+    """Each pair with the functions in whose bodies it stands, where those before it are applied."""
+    texts = {}
+    for pair in pairs:
+        before = text_in(crate, texts, pair.file)
+        at = pair.place(before)
+        yield pair, functions_at(before, pair.file, homes, at, at + len(pair.old))
+        texts = applied([pair], crate, texts)
 
 
 def read_edit(name, text, crate):
@@ -103,13 +135,8 @@ def read_edit(name, text, crate):
     sources = {str(it.relative_to(crate)): it.read_text(encoding="utf-8") for it in (crate / "src").rglob("*.rt")}
     homes = rattle_functions.homes_of(sources)
     try:
-        pairs, texts, places = list(read_pairs(text)), {}, []
-        for pair in pairs:
-            file, old, _ = pair
-            before = text_in(crate, texts, file)
-            texts = applied([pair], crate, texts)
-            at = before.index(old)
-            places.append(functions_at(before, file, homes, at, at + len(old)))
+        pairs = list(read_pairs(text))
+        places = [functions for _, functions in places_of(pairs, crate, homes)]
     except (OSError, ValueError) as error:
         return Edit(name, why_broken=str(error))
     if not pairs:
@@ -345,9 +372,9 @@ class Trial:
         return not paths or bool(re.search(r"^only=(\d+) proved=\1$", self.room.check(paths), re.MULTILINE))
 
 
-def try_crate(name):
-    """Tries the edits of a crate, and answers how many passed and failed."""
-    edits = edits_of(TOP / "crates" / name)
+def try_crate(name, wanted=()):
+    """Tries the edits of a crate, or those with a wanted name, and answers how many passed and failed."""
+    edits = [it for it in edits_of(TOP / "crates" / name) if not wanted or it.name.partition("/")[2] in wanted]
     if not edits:
         return 0, 0
     with tempfile.TemporaryDirectory(prefix="wrong-bodies-") as folder:
@@ -368,9 +395,10 @@ def try_crate(name):
 def main():
     parser = argparse.ArgumentParser(description="Tries wrong bodies: the prover must refuse each.")
     parser.add_argument("--jobs", type=int, default=1, help="how many crates are tried side by side")
-    parser.add_argument("crates", nargs="*", help="the crates to try, all where none is named")
+    parser.add_argument("words", nargs="*", metavar="CRATE | NAME", help="the crates and the edits to try, all where none is named")
     options = parser.parse_args()
-    names = options.crates or list(crate_lines())
+    names = [it for it in options.words if it in crate_lines()] or list(crate_lines())
+    wanted = [it for it in options.words if it not in crate_lines()]
     # A crate's check builds what it stands on, in the tree itself, so those come first on which no other stands.
     for name in [it for it in names if not any(it in crates_below(other) for other in names)]:
         said, status = run(TOP / "crates" / name, "check", "--only", "")
@@ -379,7 +407,7 @@ def main():
             return 1
     with ThreadPoolExecutor(options.jobs) as pool:
         # Those with the most edits come first, so that none is left alone at the end.
-        results = list(pool.map(try_crate, sorted(names, key=lambda it: -len(edits_of(TOP / "crates" / it)))))
+        results = list(pool.map(try_crate, sorted(names, key=lambda it: -len(edits_of(TOP / "crates" / it))), [wanted] * len(names)))
     passed, failed = (sum(it) for it in zip(*results))
     print(f"{passed} passed, {failed} failed")
     return 1 if failed or not passed else 0

@@ -7,3 +7,4 @@ mod PrintingLemmas
 mod ShowLemmas
 mod ReductionLemmas
 mod RunLemmas
+mod ReportLemmas

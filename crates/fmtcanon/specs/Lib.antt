@@ -11,5 +11,6 @@ pub mod FormatArguments
 pub mod Comparisons
 pub mod Answers
 pub mod Outcomes
+pub mod Reports
 pub mod Streams
 pub mod Runs

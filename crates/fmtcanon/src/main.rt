@@ -36,8 +36,7 @@ fn main(rt: HostRuntime) -> ExitCode {
         Ok(outcome) => outcome,
         Err(AllocError) => Outcome::Memory,
     };
-    report(&outcome, &mut Counted::new(rt.stderr()));
-    ExitCode::from(outcome.status())
+    ExitCode::from(report(&outcome, &mut Counted::new(rt.stderr())))
 }
 
 // The buffers stand below the counts, so that what `run` says went out is what the buffer took.

@@ -1,44 +1,125 @@
 //! What is said on standard error.
+ghost use Rattle.std.specs.Prelude.{◌≡◌, ◌≤◌, ◌+◌, ◌++◌, codes, decimal, length};
+ghost use Rattle.arrayvec.specs.ArrayString.{array_string_len};
+ghost use Rattle.pf_values.specs.Counting.{Writes};
+ghost use Rattle.pf_values.specs.RefusalKinds.{name};
+ghost use Rattle.fmtcanon.specs.Lines.{line};
+ghost use Rattle.fmtcanon.specs.Outcomes.{status_of};
+ghost use Rattle.fmtcanon.specs.Reports.{Tells, refusal_told, side_told, told};
 
 use crate::outcome::Outcome;
+use arrayvec::ArrayString;
+use itoa::Buffer;
 use pf_canon::Side;
-use pf_values::Counted;
-use std::io;
+use pf_text::Refusal;
+use pf_values::{Counted, RefusalKind, ShortWrite, write_bytes};
 use std::io::Write;
 
-/// Writes the line of an outcome that has one; the text of `clap` is written as it is. A write that
-/// fails ends it.
-pub fn report<E: Write>(outcome: &Outcome, errors: &mut Counted<E>) {
-    let _ = report_line(outcome, errors);
+// A line. One of the longest is `second: refused 16 PrecisionUndefined at byte
+// 18446744073709551615`.
+type Line = ArrayString<96>;
+
+/// Writes the line of an outcome that has one, or the text of `clap` as it is, and answers the exit
+/// status. A write that fails ends the line, and leaves the status as it is.
+pub fn report<E: Write>(outcome: &Outcome, errors: &mut Counted<E>) -> u8
+    ensures told { Tells E.contents errors.old errors.new (told outcome.now) }
+    ensures status { result ≡ status_of outcome.now }
+{
+    let _ = tell(outcome, errors);
+    outcome.status()
 }
 
-fn report_line<E: Write>(outcome: &Outcome, errors: &mut Counted<E>) -> io::Result<()> {
+fn tell<E: Write>(outcome: &Outcome, errors: &mut Counted<E>) -> Result<(), ShortWrite>
+    ensures { Writes E.contents errors.old errors.new (told outcome.now) result }
+{
     match outcome {
-        Outcome::Done | Outcome::Same | Outcome::Different => Ok(()),
+        Outcome::Done | Outcome::Same | Outcome::Different => write_bytes(errors, b""),
         Outcome::Refused { side, refusal } => {
-            let front = side_name(*side);
-            let number = refusal.kind.number();
-            let name = refusal.kind.name();
-            let at = refusal.at;
-            writeln!(errors, "{front}refused {number} {name} at byte {at}")
+            write_bytes(errors, refusal_line(*side, refusal).as_str().as_bytes())
         }
-        Outcome::BadWord(index) => writeln!(errors, "argument {index}: not an argument"),
+        Outcome::BadWord(index) => {
+            write_bytes(errors, argument_line(*index, ": not an argument").as_str().as_bytes())
+        }
         Outcome::WrongCount { wanted, given } => {
-            writeln!(errors, "argument count: wanted {wanted}, given {given}")
+            write_bytes(errors, count_line(*wanted, *given).as_str().as_bytes())
         }
-        Outcome::WrongType(index) => writeln!(errors, "argument {index}: wrong type"),
-        Outcome::Usage(text) => write!(errors, "{text}"),
-        Outcome::Read => writeln!(errors, "read failed"),
-        Outcome::Write(_) => writeln!(errors, "write failed"),
-        Outcome::Memory => writeln!(errors, "out of memory"),
+        Outcome::WrongType(index) => {
+            write_bytes(errors, argument_line(*index, ": wrong type").as_str().as_bytes())
+        }
+        Outcome::Usage(text) => write_bytes(errors, text.as_bytes()),
+        Outcome::Read => write_bytes(errors, b"read failed\n"),
+        Outcome::Write(_) => write_bytes(errors, b"write failed\n"),
+        Outcome::Memory => write_bytes(errors, b"out of memory\n"),
     }
 }
 
+fn refusal_line(side: Option<Side>, refusal: &Refusal) -> Line
+    ensures { result.bytes ≡ line (refusal_told side refusal.now) }
+{
+    let mut line = Line::new();
+    line.push_str(side_name(side));
+    line.push_str("refused ");
+    push_number(&mut line, u64::from(refusal.kind.number()));
+    line.push_str(" ");
+    line.push_str(kind_name(refusal.kind));
+    line.push_str(" at byte ");
+    push_number(&mut line, refusal.at);
+    line.push_str("\n");
+    line
+}
+
+// The line of an argument, with what is wrong with it.
+fn argument_line(index: u64, fault: &str) -> Line
+    requires { length fault.now ≤ 20 }
+    ensures { result.bytes ≡ line (codes "argument " ++ decimal index ++ fault.now) }
+{
+    let mut line = Line::new();
+    line.push_str("argument ");
+    push_number(&mut line, index);
+    line.push_str(fault);
+    line.push_str("\n");
+    line
+}
+
+fn count_line(wanted: u64, given: u64) -> Line
+    ensures { result.bytes
+        ≡ line (codes "argument count: wanted " ++ decimal wanted ++ codes ", given "
+        ++ decimal given) }
+{
+    let mut line = Line::new();
+    line.push_str("argument count: wanted ");
+    push_number(&mut line, wanted);
+    line.push_str(", given ");
+    push_number(&mut line, given);
+    line.push_str("\n");
+    line
+}
+
+// The decimal digits of a number.
+fn push_number(line: &mut Line, number: u64)
+    requires { array_string_len line.old + 20 ≤ 96 }
+    ensures bytes { line.new.bytes ≡ line.old.bytes ++ decimal number }
+    ensures len { array_string_len line.new ≤ array_string_len line.old + 20 }
+{
+    let mut digits = Buffer::new();
+    line.push_str(digits.format(number));
+}
+
 // What stands before a refusal, where there are two formats.
-fn side_name(side: Option<Side>) -> &'static str {
+fn side_name(side: Option<Side>) -> &'static str
+    ensures name { result.now ≡ side_told side }
+    ensures short { length result.now ≤ 8 }
+{
     match side {
         None => "",
         Some(Side::First) => "first: ",
         Some(Side::Second) => "second: ",
     }
+}
+
+fn kind_name(kind: RefusalKind) -> &'static str
+    ensures name { result.now ≡ name kind }
+    ensures short { length result.now ≤ 18 }
+{
+    kind.name()
 }

@@ -26,26 +26,26 @@ fn ran(alloc: Global, words: &[&str]) -> (Outcome, Vec<u8>) {
     (outcome, writer.into_inner())
 }
 
-// What is reported of an outcome.
-fn report_of(alloc: Global, outcome: &Outcome) -> Vec<u8> {
+// The exit status of an outcome, and what is reported of it.
+fn report_of(alloc: Global, outcome: &Outcome) -> (u8, Vec<u8>) {
     let mut errors = Counted::new(Vec::new(alloc));
-    report(outcome, &mut errors);
-    errors.into_inner()
+    let status = report(outcome, &mut errors);
+    (status, errors.into_inner())
 }
 
 // Whether a run answers this, or is refused, writes nothing and reports this.
 fn answers(alloc: Global, words: &[&str], want: &str) -> bool {
     let (outcome, written) = ran(alloc, words);
-    let told = report_of(alloc, &outcome);
+    let (status, told) = report_of(alloc, &outcome);
     match outcome {
         Outcome::Done | Outcome::Same => {
-            outcome.status() == 0 && told.is_empty() && written.as_slice() == want.as_bytes()
+            status == 0 && told.is_empty() && written.as_slice() == want.as_bytes()
         }
         Outcome::Different => {
-            outcome.status() == 1 && told.is_empty() && written.as_slice() == want.as_bytes()
+            status == 1 && told.is_empty() && written.as_slice() == want.as_bytes()
         }
         Outcome::Refused { .. } => {
-            outcome.status() == 2 && written.is_empty() && told.as_slice() == want.as_bytes()
+            status == 2 && written.is_empty() && told.as_slice() == want.as_bytes()
         }
         _ => false,
     }
@@ -87,21 +87,83 @@ fn a_word_has_no_zero_byte(rt: HostRuntime) {
 
 // Whether an outcome has this status, and this is reported of it.
 fn is_reported(alloc: Global, outcome: Outcome, status: u8, line: &str) -> bool {
-    outcome.status() == status && report_of(alloc, &outcome).as_slice() == line.as_bytes()
+    let (answered, told) = report_of(alloc, &outcome);
+    answered == status && told.as_slice() == line.as_bytes()
 }
 
-// Whether a refusal on this side is reported so.
-fn is_refusal(alloc: Global, side: Option<Side>, line: &str) -> bool {
-    let refusal = Refusal {
-        kind: RefusalKind::TooLong,
-        at: 1 << 62,
-    };
-    is_reported(alloc, Outcome::Refused { side, refusal }, 2, line)
+// What has a number in its line.
+#[derive(Clone, Copy, Debug)]
+enum Numbered {
+    At(Option<Side>),
+    BadWord,
+    Wanted,
+    Given,
+    WrongType,
 }
 
-// Whether an outcome of two counts is reported so.
-fn is_count(alloc: Global, wanted: u64, given: u64, line: &str) -> bool {
-    is_reported(alloc, Outcome::WrongCount { wanted, given }, 3, line)
+fn refused_at(side: Option<Side>, at: u64) -> Outcome {
+    let kind = RefusalKind::PrecisionUndefined;
+    Outcome::Refused {
+        side,
+        refusal: Refusal { kind, at },
+    }
+}
+
+// The outcome with this number.
+fn outcome_with(what: Numbered, number: u64) -> Outcome {
+    match what {
+        Numbered::At(side) => refused_at(side, number),
+        Numbered::BadWord => Outcome::BadWord(number),
+        Numbered::Wanted => Outcome::WrongCount {
+            wanted: number,
+            given: 0,
+        },
+        Numbered::Given => Outcome::WrongCount {
+            wanted: 0,
+            given: number,
+        },
+        Numbered::WrongType => Outcome::WrongType(number),
+    }
+}
+
+// The status of what has a number, and the texts before and after it.
+#[rattlefmt::skip]
+static NUMBERED: [(Numbered, u8, &str, &str); 7] = [
+    (Numbered::At(None), 2, "refused 16 PrecisionUndefined at byte ", "\n"),
+    (Numbered::At(Some(Side::First)), 2, "first: refused 16 PrecisionUndefined at byte ", "\n"),
+    (Numbered::At(Some(Side::Second)), 2, "second: refused 16 PrecisionUndefined at byte ", "\n"),
+    (Numbered::BadWord, 3, "argument ", ": not an argument\n"),
+    (Numbered::Wanted, 3, "argument count: wanted ", ", given 0\n"),
+    (Numbered::Given, 3, "argument count: wanted 0, given ", "\n"),
+    (Numbered::WrongType, 3, "argument ", ": wrong type\n"),
+];
+
+static NUMBERS: [(u64, &str); 6] = [
+    (0, "0"),
+    (255, "255"),
+    (256, "256"),
+    (65_536, "65536"),
+    (4_294_967_296, "4294967296"),
+    (18_446_744_073_709_551_615, "18446744073709551615"),
+];
+
+// Whether it is reported so with each number.
+fn has_each_number(
+    alloc: Global,
+    what: Numbered,
+    status: u8,
+    before: &str,
+    after: &str,
+) -> Result<bool, AllocError> {
+    for (number, digits) in &NUMBERS {
+        let mut line = String::from_str(alloc, before)?;
+        line.push_str(digits)?;
+        line.push_str(after)?;
+        if !is_reported(alloc, outcome_with(what, *number), status, &line) {
+            return Ok(false);
+        }
+    }
+    Ok(true)
 }
 
 #[test]
@@ -112,32 +174,13 @@ fn each_outcome_has_its_status_and_line(rt: HostRuntime) -> Result<(), AllocErro
     assert!(rt; is_reported(alloc, Outcome::Done, 0, ""));
     assert!(rt; is_reported(alloc, Outcome::Same, 0, ""));
     assert!(rt; is_reported(alloc, Outcome::Different, 1, ""));
-    let line = "refused 18 TooLong at byte 4611686018427387904\n";
-    assert!(rt; is_refusal(alloc, None, line));
-    let line = "first: refused 18 TooLong at byte 4611686018427387904\n";
-    assert!(rt; is_refusal(alloc, Some(Side::First), line));
-    let line = "second: refused 18 TooLong at byte 4611686018427387904\n";
-    assert!(rt; is_refusal(alloc, Some(Side::Second), line));
-    assert!(rt;
-        is_reported(
-            alloc,
-            Outcome::BadWord(0),
-            3,
-            "argument 0: not an argument\n"
-        )
-    );
-    assert!(rt; is_count(alloc, 2, 10, "argument count: wanted 2, given 10\n"));
-    assert!(rt;
-        is_reported(
-            alloc,
-            Outcome::WrongType(12),
-            3,
-            "argument 12: wrong type\n"
-        )
-    );
     assert!(rt; is_reported(alloc, Outcome::Read, 4, "read failed\n"));
     assert!(rt; is_reported(alloc, Outcome::Write(7), 4, "write failed\n"));
     assert!(rt; is_reported(alloc, Outcome::Memory, 4, "out of memory\n"));
+    for (what, status, before, after) in &NUMBERED {
+        let right = has_each_number(alloc, *what, *status, before, after)?;
+        assert!(rt; right, "{what:?}");
+    }
     Ok(())
 }
 

@@ -8,4 +8,5 @@ pub mod Counts
 pub mod NumberTexts
 pub mod ValueKindLemmas
 pub mod WriteLemmas
+mod EachOnce
 mod Examples

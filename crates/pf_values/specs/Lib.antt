@@ -22,3 +22,4 @@ pub mod Counting
 pub mod Cuts
 pub mod FaultPlaces
 pub mod Feeds
+pub mod Tables

@@ -44,6 +44,28 @@ pub enum RefusalKind {
 }
 
 impl RefusalKind {
+    /// All kinds, in the order of their numbers.
+    pub const ALL: [RefusalKind; 18] = [
+        RefusalKind::NulByte,
+        RefusalKind::Truncated,
+        RefusalKind::Unexpected,
+        RefusalKind::BadPercent,
+        RefusalKind::Star,
+        RefusalKind::Numbered,
+        RefusalKind::WidthTooLarge,
+        RefusalKind::PrecisionTooLarge,
+        RefusalKind::Float,
+        RefusalKind::Pointer,
+        RefusalKind::Count,
+        RefusalKind::Wide,
+        RefusalKind::AltUndefined,
+        RefusalKind::ZeroUndefined,
+        RefusalKind::GroupUndefined,
+        RefusalKind::PrecisionUndefined,
+        RefusalKind::LengthUndefined,
+        RefusalKind::TooLong,
+    ];
+
     /// The number of the kind, from 1 to 18.
     pub fn number(self) -> u8
         ensures { result ≡ number self }

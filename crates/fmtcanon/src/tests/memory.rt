@@ -1,10 +1,14 @@
 //! What is answered with every growth refused.
 use super::exhaustion::{Exhausted, is_all_refused};
-use pf_canon::{Side, canonical_len, canonical_stream, is_canonical, same_text};
+use pf_canon::{
+    CanonBytes, Side, canonical_len, canonical_stream, is_canonical, same_stream, same_text,
+};
 use pf_compare::{CompareFault, Verdict, compare};
-use pf_render::render;
-use pf_text::{TextFault, check, signature};
-use pf_values::{Arg, Counted, Model};
+use pf_probes::candidates;
+use pf_reduce::{is_normal, reduce};
+use pf_render::{render, render_one};
+use pf_text::{Pieces, Scanner, TextFault, check, signature, spell};
+use pf_values::{Arg, ArgType, Conv, Counted, Directive, FlagSet, Length, Model};
 use std::alloc::{AllocError, Global};
 
 // What is told of two formats.
@@ -91,6 +95,75 @@ fn front(place: &[u8], rest: usize) -> Option<&[u8]> {
     place.get(..place.len().checked_sub(rest)?)
 }
 
+// Whether `same_stream` tells that two texts are the same.
+fn streams_are_same() -> bool {
+    let mut first = Counted::new(b"%zd".as_slice());
+    let mut second = Counted::new(b"%ld".as_slice());
+    same_stream(Model::Lp64, &mut first, &mut second) == Ok(true)
+}
+
+// Whether `CanonBytes` gives `%d` for `%i`, and then no more.
+fn bytes_come() -> bool {
+    let mut bytes = CanonBytes::new(Model::Lp64, Counted::new(b"%i".as_slice()));
+    let (first, second, end) = (bytes.next(), bytes.next(), bytes.next());
+    first == Some(Ok(b'%')) && second == Some(Ok(b'd')) && end.is_none()
+}
+
+// Whether `Scanner` takes bytes one by one and in runs.
+fn bytes_are_taken() -> bool {
+    let mut scanner = Scanner::new();
+    let literals = scanner.pass_literals(b"ab%");
+    let plain = scanner.pass_plain(b"%%%d");
+    let silents = scanner.pass_silents(b"%.0s%");
+    let is_fed = scanner.feed(b'%').is_ok();
+    literals == 2 && plain == 4 && silents == 1 && is_fed && scanner.finish().is_err()
+}
+
+// Whether `Pieces` gives a run, `%%` and a directive, and then no more.
+fn pieces_come() -> bool {
+    let mut pieces = Pieces::new(b"a%%%d");
+    for _ in 0..3 {
+        if !matches!(pieces.next(), Some(Ok(_))) {
+            return false;
+        }
+    }
+    pieces.next().is_none()
+}
+
+// Whether `render_one` writes a number.
+fn is_printed(directive: &Directive, place: &mut [u8]) -> bool {
+    let argument = Arg::Int(42);
+    if argument.arg_type() != directive.arg_type(Model::Lp64) {
+        return false;
+    }
+    let mut writer = Counted::new(place);
+    render_one(Model::Lp64, directive, argument, &mut writer).is_ok()
+}
+
+// Whether `%20d` is spelled, printed and reduced.
+fn directive_is_taken() -> bool {
+    let made = Directive::new(FlagSet::empty(), Some(20), None, Length::None, Conv::D);
+    let Ok(directive) = made else {
+        return false;
+    };
+    let mut place = [0u8; 20];
+    is_printed(&directive, &mut place)
+        && place.ends_with(b" 42")
+        && spell(&directive).as_slice() == b"%20d".as_slice()
+        && !is_normal(Model::Lp64, &directive)
+        && reduce(Model::Lp64, &directive).spaces == 9
+}
+
+// Whether the other calls without an allocator answer.
+fn others_answer() -> bool {
+    streams_are_same()
+        && bytes_come()
+        && bytes_are_taken()
+        && pieces_come()
+        && directive_is_taken()
+        && !candidates(Model::Lp64, ArgType::Int).is_empty()
+}
+
 #[test]
 fn calls_without_an_allocator_take_none(rt: HostRuntime) -> Result<(), AllocError> {
     let mut copied = [0u8; 16];
@@ -107,7 +180,10 @@ fn calls_without_an_allocator_take_none(rt: HostRuntime) -> Result<(), AllocErro
     let mut writer = Counted::new(printed.as_mut_slice());
     let rendered = render(Model::Lp64, b"%5d|", &[Arg::Int(42)], &mut writer).is_ok();
     let unused = writer.into_inner().len();
+    let others = others_answer();
+    let refused = is_all_refused(rt.alloc());
     drop(exhausted);
+    assert!(rt; refused && others);
     assert!(rt; accepted && recognized && same && streamed && rendered);
     assert!(rt; counted == Ok(4_088));
     assert!(rt; front(&copied, left) == Some(b"ab%.0s%.5u".as_slice()));

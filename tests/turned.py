@@ -1,0 +1,128 @@
+#!/usr/bin/env python3
+"""Tells the public functions in whose bodies no edit of must-fail/ or wrong-bodies/ changes anything.
+
+Usage: tests/turned.py
+
+A public function of a library is one that its root hands out, a method of a type that it hands out, or a method of a
+trait that such a type has. Those of the program are the ones that its modules hand one another, and those of the C library
+the ones that C calls.
+
+Its last line is 'N passed, M failed', and it exits with 1 where M isn't 0.
+"""
+
+import re
+import sys
+from pathlib import Path
+
+sys.dont_write_bytecode = True
+sys.path.insert(0, str(Path(__file__).resolve().parent))
+
+import rattle_functions  # noqa: E402
+from wrong_bodies import FOLDERS, TOP, places_of, read_pairs  # noqa: E402
+
+# Public functions that have no edit, each with the reason.
+EXCEPTIONS = {
+    "pf_values::counting::Counted::into_inner": "the type of its parameter leaves one answer",
+    "pf_values::devices::cutting::Cut::drop": "it lets go of what is there, and can do nothing else",
+}
+
+
+def sources_of(crate):
+    """The texts of a crate's files, but for those of tests, by their path."""
+    files = [it for it in (crate / "src").rglob("*.rt") if "tests" not in it.relative_to(crate).with_suffix("").parts]
+    return {str(it.relative_to(crate)): it.read_text(encoding="utf-8") for it in sorted(files)}
+
+
+def exported(sources):
+    """The names that a library's root hands out, and the modules; of a program every name and no module."""
+    if "src/main.rt" in sources:
+        return None, set()
+    code = {path: rattle_functions.blanked(text) for path, text in sources.items()}
+    modules = set(re.findall(r"^pub mod (\w+);", code.get("src/lib.rt", ""), re.MULTILINE))
+    roots = ["src/lib.rt", *(f"src/{it}.rt" for it in modules)]
+    names = set()
+    for path in roots:
+        for items in re.findall(r"^pub use [^;]*;", code.get(path, ""), re.MULTILINE):
+            names.update(re.findall(r"\w+", items))
+    for it in modules:
+        names.update(re.findall(r"^pub (?:struct|enum|trait) (\w+)", code.get(f"src/{it}.rt", ""), re.MULTILINE))
+    return names, modules
+
+
+def is_public(function, names, modules):
+    """Whether a crate hands out this function, where it hands out these names and modules."""
+    if " for " in function.block:
+        _, head = rattle_functions.split_parameters(function.block)
+        trait, _, of_type = head.partition(" for ")
+        return names is None or bool({rattle_functions.plain_name(trait), rattle_functions.plain_name(of_type)} & names)
+    if function.visibility != "pub":
+        return function.visibility == "pub extern"
+    if names is None:
+        return True
+    if function.block:
+        _, head = rattle_functions.split_parameters(function.block)
+        return rattle_functions.plain_name(head) in names
+    *module, name = function.path.split("::")
+    return name in names or module[:1] != [] and len(module) == 1 and module[0] in modules
+
+
+def has_body(text, function):
+    """Whether a function does anything; a law does nothing."""
+    return rattle_functions.blanked(text)[function.start + 1 : function.end - 1].strip() != ""
+
+
+def turned_by(text, crate, homes):
+    """The functions in whose bodies an edit of this text changes more than parentheses."""
+    for pair, functions in places_of(read_pairs(text), crate, homes):
+        if re.sub(r"[()\s]", "", pair.old) != re.sub(r"[()\s]", "", pair.new):
+            yield from functions
+
+
+def name_of(function, traits):
+    """The name by which a public function is told: a method of a trait of the library's own has one for all types."""
+    _, head = rattle_functions.split_parameters(function.block)
+    trait = rattle_functions.plain_name(head.partition(" for ")[0])
+    if " for " in head and trait in traits:
+        return f"{traits[trait]}::{trait}::{function.path.rpartition('::')[2]}"
+    return function.path
+
+
+def unturned(crate):
+    """The public functions of a crate that no edit turns."""
+    sources = sources_of(crate)
+    homes, (names, modules) = rattle_functions.homes_of(sources), exported(sources)
+    traits = {
+        name: "::".join(rattle_functions.module_of(path))
+        for path, text in sources.items()
+        for name in re.findall(r"\bpub trait (\w+)", rattle_functions.blanked(text))
+    }
+    edits = [it.read_text(encoding="utf-8") for folder in FOLDERS for it in sorted((crate / folder).glob("*.edit"))]
+    turned = {path for edit in edits for path in turned_by(edit, crate, homes)}
+    found = {}
+    for path, text in sources.items():
+        for function in rattle_functions.functions(text, path, homes):
+            if is_public(function, names, modules) and has_body(text, function):
+                name = f"{crate.name}::{name_of(function, traits)}"
+                found[name] = found.get(name, False) or function.path in turned
+    return [name for name, is_turned in found.items() if not is_turned]
+
+
+def all_unturned():
+    """Those of all crates, without the exceptions; and exceptions that are none."""
+    found = [it for crate in sorted((TOP / "crates").iterdir()) for it in unturned(crate)]
+    return [it for it in found if it not in EXCEPTIONS], sorted(set(EXCEPTIONS) - set(found))
+
+
+def main():
+    missing, needless = all_unturned()
+    for it in missing:
+        print(f"{it}: no edit changes its body")
+    for it in needless:
+        print(f"{it}: an exception that is none")
+    failed = len(missing) + len(needless)
+    print(f"{1 if not failed else 0} passed, {failed} failed")
+    return 1 if failed else 0
+
+
+if __name__ == "__main__":
+    sys.exit(main())
