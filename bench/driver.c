@@ -1,6 +1,7 @@
 /* Makes one call many times, so that its instructions can be counted from outside.
  *
  *   driver CALL REPEATS formats FILE                 on each text of a file in which a zero byte ends each text
+ *   driver CALL REPEATS pair FIRST SECOND            on FIRST, beside SECOND where the call takes two texts
  *   driver CALL REPEATS grown HEAD UNIT TAIL BYTES   on HEAD, UNIT over and over, and TAIL, of about so many bytes
  *
  * It ends with 0 where each call gave what the first one on the same text gave. */
@@ -18,6 +19,7 @@ uint64_t bench_canonical(const char *text, size_t len);
 bool bench_is_canonical(const char *text, size_t len);
 uint64_t bench_canonical_len(const char *text, size_t len);
 bool bench_same_text(const char *first, size_t first_len, const char *second, size_t second_len);
+uint64_t bench_compare(const char *first, size_t first_len, const char *second, size_t second_len);
 uint64_t bench_scanner(const char *text, size_t len);
 bool bench_render_two(const char *text, size_t len, int number, const char *string, size_t string_len,
                       char *out, size_t room);
@@ -42,6 +44,29 @@ static uint64_t call_before(const char *text, size_t len) {
     bool same = bench_same_text(before, before_len, text, len);
     before = text, before_len = len;
     return same;
+}
+
+/* The second text of a pair. */
+static const char *second = "";
+static size_t second_len = 0;
+
+static uint64_t call_same_pair(const char *text, size_t len) { return bench_same_text(text, len, second, second_len); }
+static uint64_t call_compare_pair(const char *text, size_t len) { return bench_compare(text, len, second, second_len); }
+static uint64_t call_compare(const char *text, size_t len) { return bench_compare(text, len, text, len); }
+
+/* The text with a tab at its end; what the copy costs is counted alone, too. */
+static char longer[1 << 16];
+
+static uint64_t call_tab(const char *text, size_t len) {
+    if (len >= sizeof longer) return 0;
+    memcpy(longer, text, len);
+    longer[len] = '\t';
+    return len + 1;
+}
+
+static uint64_t call_compare_tab(const char *text, size_t len) {
+    size_t longer_len = call_tab(text, len);
+    return bench_compare(text, len, longer, longer_len);
 }
 
 static uint64_t call_nothing(const char *text, size_t len) { return text[0] + len; }
@@ -89,6 +114,11 @@ static const struct {
     {"same_text", call_same},
     {"same_text, differs at once", call_other},
     {"same_text, unrelated", call_before},
+    {"same_text of a pair", call_same_pair},
+    {"compare", call_compare},
+    {"compare, a tab more", call_compare_tab},
+    {"a tab more", call_tab},
+    {"compare of a pair", call_compare_pair},
     {"parse_printf_format twice", call_parse_twice},
     {"Scanner", bench_scanner},
     {"parse_printf_format", call_parse},
@@ -132,6 +162,9 @@ int main(int argc, char **argv) {
     char *bytes = NULL;
     if (argc == 5 && strcmp(argv[3], "formats") == 0) {
         bytes = read_file(argv[4], &total);
+    } else if (argc == 6 && strcmp(argv[3], "pair") == 0) {
+        bytes = argv[4], total = strlen(argv[4]) + 1;
+        second = argv[5], second_len = strlen(argv[5]);
     } else if (argc == 8 && strcmp(argv[3], "grown") == 0) {
         bytes = grow(argv[4], argv[5], argv[6], strtoul(argv[7], NULL, 10), &total);
     } else {

@@ -1,5 +1,5 @@
 -- The words by which the program takes arguments and tells them. This project's own.
-use Rattle.std.specs.Prelude.{◌++◌, codes}
+use Rattle.std.specs.Prelude.{◌≡◌, ◌++◌, codes}
 use Rattle.std.specs.Fmt.{signed_decimal}
 use Rattle.pf_values.specs.Arguments.{Argument, Number, String}
 use Rattle.pf_values.specs.Text.{Text}
@@ -8,3 +8,10 @@ use Rattle.pf_values.specs.Text.{Text}
 abbrev pub argument_word : Argument → Text
 argument_word (Number n) = codes "n:" ++ signed_decimal n
 argument_word (String bytes) = codes "s:" ++ bytes
+
+-- what was there stays, and a front of a word is put after it
+pub record KeepsBefore (old new word : Text) : Type 0 where
+  pub front : Text
+  pub rest : Text
+  pub parts : word ≡ front ++ rest
+  pub kept : new ≡ old ++ front

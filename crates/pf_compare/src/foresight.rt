@@ -1,12 +1,14 @@
 //! Whether two directives print otherwise for a candidate, where that is seen without printing.
-ghost use Rattle.std.specs.Prelude.{◌≡◌, IfSome, IsFalse, IsTrue};
-ghost use Rattle.pf_values.specs.Arguments.{Number};
-ghost use Rattle.pf_values.specs.Conversions.{base_under, has_capitals, is_text};
+ghost use Rattle.std.specs.Prelude.{◌≡◌, ℕ, IfSome, IsFalse, IsTrue, replicate};
+ghost use Rattle.pf_values.specs.declared.models.Model.{Model};
+ghost use Rattle.pf_values.specs.Arguments.{Number, String};
+ghost use Rattle.pf_values.specs.Conversions.{base_under, has_capitals, is_string, is_text};
 ghost use Rattle.pf_values.specs.Bases.{number_of};
 ghost use Rattle.pf_probes.specs.Candidate.{argument_of};
 ghost use Rattle.pf_compare.specs.Outlines.{Foretells, digit_below_ten, digits_under};
 
 use crate::outlines::Outline;
+use crate::runs::Run;
 use pf_probes::Candidate;
 use pf_values::{Directive, Kind, Model};
 
@@ -22,8 +24,52 @@ pub(crate) fn foretell(
 {
     match candidate {
         Candidate::Number(number) => foretell_number(model, first, second, number),
-        Candidate::Repeat { .. } => None,
+        Candidate::Repeat { byte: _, count } => foretell_repeat(first, second, count),
     }
+}
+
+// The same for a string of any byte, so many times.
+fn foretell_repeat(first: &Directive, second: &Directive, count: u16) -> Option<bool>
+    ensures { IfSome result (λ told. (model : Model) (byte : ℕ)
+        → Foretells model first.now second.now (String (replicate count byte)) told) }
+{
+    if is_string(first) {
+        if is_string(second) {
+            return foretell_string(first, second, count);
+        }
+    }
+    None
+}
+
+#[inline(always)]
+fn is_string(directive: &Directive) -> bool
+    ensures { IsTrue result → IsTrue (is_string directive.now.conv) }
+{
+    matches!(directive.conv().kind(), Kind::String)
+}
+
+fn foretell_string(first: &Directive, second: &Directive, count: u16) -> Option<bool>
+    requires first { IsTrue (is_string first.now.conv) }
+    requires second { IsTrue (is_string second.now.conv) }
+    ensures { IfSome result (λ told. (model : Model) (byte : ℕ)
+        → Foretells model first.now second.now (String (replicate count byte)) told) }
+{
+    let one = Run::of(first, count);
+    let two = Run::of(second, count);
+    if one.len() != two.len() {
+        return Some(true);
+    }
+    if are_one_run(&one, &two) {
+        return Some(false);
+    }
+    None
+}
+
+#[inline(always)]
+fn are_one_run(one: &Run, two: &Run) -> bool
+    ensures { IsTrue result → one.now ≡ two.now }
+{
+    one == two
 }
 
 fn foretell_number(

@@ -1,5 +1,4 @@
-use Rattle.std.proofs.Common.{◌∙◌, ap, map, arith, refl}
-use Rattle.pf_probes.specs.Candidate.{argument_of}
+use Rattle.std.proofs.Common.{arith, refl}
 use Rattle.pf_compare.specs.Layouts.{hole_types}
 use Rattle.pf_compare.proofs.TypeListLemmas.{length-hole_types}
 use Rattle.pf_compare.proofs.VerdictLemmas.{place_few}
