@@ -448,8 +448,21 @@ def try_spaces(program, trials):
         trials.expect(f"{name_of(words)} is out of memory in less", refused > 0, True)
 
 
+def growth_ends(program, words, stdin, library, answer, count):
+    """How each run ends in which one growth is refused, or all from it on: as ever, out of memory or otherwise."""
+    names = {answer: "as ever", (4, b"", b"out of memory\n"): "out of memory"}
+    for flags in [{}, {"ALL": "1"}]:
+        environment = {**os.environ, "LD_PRELOAD": library, **flags}
+        runs = (run(program, words, stdin, env={**environment, "GROWTH": str(number)}) for number in range(count + 1))
+        yield [names.get(got, "otherwise") for got in runs]
+
+
 def try_growths(program, trials):
-    """Where one growth is refused, whichever it is, memory is out, and nothing was written."""
+    """Where growths are refused from one on, whichever it is, memory is out, and nothing was written.
+
+    Where it is one alone, too, but for the room of the list of the words, which std asks for ahead, and then again as
+    the words come; and where `clap` finds a fault, for what it takes to look for a tip. Then the end is as ever.
+    """
     rows = [(words, stdin, (status, text, b"")) for words, stdin, status, text in ANSWERED]
     rows += [(words, b"", (2, b"", line)) for words, line in REFUSED]
     rows += [(words, b"", run(program, words)) for words, _ in NOT_ASKED]
@@ -459,15 +472,14 @@ def try_growths(program, trials):
         for words, stdin, answer in rows:
             notes = Path(work) / "notes"
             notes.write_text("")
-            environment = {**os.environ, "LD_PRELOAD": library}
-            got = run(program, words, stdin, env={**environment, "GROWTHS": str(notes)})
-            trials.expect(f"{name_of(words)}, no growth refused", got, answer)
+            got = run(program, words, stdin, env={**os.environ, "LD_PRELOAD": library, "GROWTHS": str(notes)})
+            trials.expect(f"{name_of(words)}, no growth refused", got == answer, True)
             count = len(notes.read_text())
-            trials.expect(f"{name_of(words)}: it takes memory", count > 0, True)
-            ended = [run(program, words, stdin, env={**environment, "GROWTH": str(number)}) for number in range(count + 1)]
-            wrong = [(number, got) for number, got in enumerate(ended[:-1]) if got != (4, b"", b"out of memory\n")]
-            trials.expect(f"{name_of(words)}: each of {count} growths refused", wrong[:1], [])
-            trials.expect(f"{name_of(words)}: a growth more, which there is not", ended[-1], answer)
+            one, all_after = growth_ends(program, words, stdin, library, answer, count)
+            trials.expect(f"{name_of(words)}: each of {count} growths and all after it", all_after, ["out of memory"] * count + ["as ever"])
+            trials.expect(f"{name_of(words)}: another end of one refused", {"otherwise"} & set(one), set())
+            if (words, answer[0]) not in NOT_ASKED:
+                trials.expect(f"{name_of(words)}: refused and not told", one[:-1].count("as ever"), 1)
 
 
 def main():

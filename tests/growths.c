@@ -1,6 +1,6 @@
-/* Refuses one growth of memory: the one whose number, from 0, the environment names as GROWTH. A
- * byte for each goes to the file that it names as GROWTHS. It is loaded before the C library, by
- * LD_PRELOAD. */
+/* Refuses a growth of memory: the one whose number, from 0, the environment names as GROWTH, and all
+ * after it where it has ALL. A byte for each growth goes to the file that it names as GROWTHS. It is
+ * loaded before the C library, by LD_PRELOAD. */
 #define _GNU_SOURCE
 #include <errno.h>
 #include <fcntl.h>
@@ -23,8 +23,8 @@ static int is_refused(void)
         syscall(SYS_write, file, "+", (size_t)1);
         syscall(SYS_close, file);
     }
-    long at = growths++;
-    return number != NULL && atol(number) == at;
+    long at = growths++, refused = number == NULL ? at + 1 : atol(number);
+    return at == refused || (at > refused && getenv("ALL") != NULL);
 }
 
 void *malloc(size_t size)

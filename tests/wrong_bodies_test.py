@@ -12,7 +12,7 @@ import unittest
 from pathlib import Path
 
 import rattle_functions
-from wrong_bodies import TOP, Report, Room, Trial, Verdict, functions_at, read_edit
+from wrong_bodies import TOP, Pair, Report, Room, Trial, Verdict, functions_at, read_edit, read_pairs
 
 CRATE = TOP / "crates/pf_values"
 MODULUS = "file: src/value_kinds.rt\nold: argument.rem_euclid(1 << 16) as u16\nnew: "
@@ -79,6 +79,27 @@ class Functions(unittest.TestCase):
         self.assertEqual(functions_at(SOURCE, "specs/Lib.antt", HOMES, 0, 1), set())
         with self.assertRaises(ValueError):
             self.place("IsShort")
+
+
+class Pairs(unittest.TestCase):
+    """What the pairs of an edit are, and what they make of a text."""
+
+    TEXT = "fn a() { 1 }\nfn b() { 1 }\n"
+
+    def test_read(self):
+        found = list(read_pairs("file: src/a.rt\nafter: fn b\nold: 1\nnew: 2\nold: a\nnew: c\n"))
+        self.assertEqual(found, [Pair("src/a.rt", "1", "2", "fn b"), Pair("src/a.rt", "a", "c")])
+        with self.assertRaises(ValueError):
+            list(read_pairs("file: src/a.rt\nold: 1\nnew: 2\n3\n"))
+
+    def test_applied(self):
+        self.assertEqual(Pair("", "1", "2", "fn b").applied(self.TEXT), "fn a() { 1 }\nfn b() { 2 }\n")
+        self.assertEqual(Pair("", "a()", "c()").applied(self.TEXT), "fn c() { 1 }\nfn b() { 1 }\n")
+
+    def test_not_there_once(self):
+        for pair in [Pair("", "1", "2"), Pair("", "1", "2", "fn"), Pair("", "a", "c", "fn b"), Pair("", "3", "4")]:
+            with self.assertRaises(ValueError):
+                pair.applied(self.TEXT)
 
 
 class Reports(unittest.TestCase):
