@@ -8,3 +8,4 @@ mod ShowLemmas
 mod ReductionLemmas
 mod RunLemmas
 mod ReportLemmas
+mod StreamLemmas

@@ -23,19 +23,23 @@ module _ (model : Model) {R W : Type 0} (remaining : R → Known) (contents : W 
       (remaining (device_of reader)) (remaining (device_of left))
       (contents (device_of old)) (contents (device_of new)) fault
 
+  -- the reader did not fail
+  abbrev pub ReadWell : Type 0
+  ReadWell = failures_of left ≡ failures_of reader
+
   -- At Write the bytes are fewer than all, but where the flush failed after all went out. At
   -- Refused and Read the flush may have failed, too.
   abbrev pub LeavesCopy : Outcome → Type 0
   LeavesCopy Done =
-      ((count : ℕ) × AllCopied count) × (failures_of new ≡ failures_of old)
+      ((count : ℕ) × AllCopied count) × ReadWell × (failures_of new ≡ failures_of old)
       × (is_flushed new ≡ true)
   LeavesCopy (Refused None refusal) =
-      CopyStopped (faults.Refused refusal) × (is_flushed new ≡ true)
+      CopyStopped (faults.Refused refusal) × ReadWell × (is_flushed new ≡ true)
   LeavesCopy (Refused (Some side) refusal) = ⊥
   LeavesCopy Read =
       CopyStopped faults.Read × HasFailed reader left × (is_flushed new ≡ true)
   LeavesCopy (Write count) =
-      (CopyStopped (faults.Write count) ⊎ AllCopied count) × HasFailed old new
+      (CopyStopped (faults.Write count) ⊎ AllCopied count) × ReadWell × HasFailed old new
   LeavesCopy Same = ⊥
   LeavesCopy Different = ⊥
   LeavesCopy (BadWord index) = ⊥

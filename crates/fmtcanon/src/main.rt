@@ -36,7 +36,8 @@ fn main(rt: HostRuntime) -> ExitCode {
         Ok(outcome) => outcome,
         Err(AllocError) => Outcome::Memory,
     };
-    ExitCode::from(report(&outcome, &mut Counted::new(rt.stderr())))
+    report(&outcome, &mut Counted::new(rt.stderr()));
+    ExitCode::from(outcome.status())
 }
 
 // The buffers stand below the counts, so that what `run` says went out is what the buffer took.

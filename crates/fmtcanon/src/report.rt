@@ -4,7 +4,6 @@ ghost use Rattle.arrayvec.specs.ArrayString.{array_string_len};
 ghost use Rattle.pf_values.specs.Counting.{Writes};
 ghost use Rattle.pf_values.specs.RefusalKinds.{name};
 ghost use Rattle.fmtcanon.specs.Lines.{line};
-ghost use Rattle.fmtcanon.specs.Outcomes.{status_of};
 ghost use Rattle.fmtcanon.specs.Reports.{Tells, refusal_told, side_told, told};
 
 use crate::outcome::Outcome;
@@ -19,14 +18,12 @@ use std::io::Write;
 // 18446744073709551615`.
 type Line = ArrayString<96>;
 
-/// Writes the line of an outcome that has one, or the text of `clap` as it is, and answers the exit
-/// status. A write that fails ends the line, and leaves the status as it is.
-pub fn report<E: Write>(outcome: &Outcome, errors: &mut Counted<E>) -> u8
-    ensures told { Tells E.contents errors.old errors.new (told outcome.now) }
-    ensures status { result ≡ status_of outcome.now }
+/// Writes the line of an outcome that has one, or the text of `clap` as it is. A write that fails
+/// ends it.
+pub fn report<E: Write>(outcome: &Outcome, errors: &mut Counted<E>)
+    ensures { Tells E.contents errors.old errors.new (told outcome.now) }
 {
     let _ = tell(outcome, errors);
-    outcome.status()
 }
 
 fn tell<E: Write>(outcome: &Outcome, errors: &mut Counted<E>) -> Result<(), ShortWrite>

@@ -29,8 +29,8 @@ fn ran(alloc: Global, words: &[&str]) -> (Outcome, Vec<u8>) {
 // The exit status of an outcome, and what is reported of it.
 fn report_of(alloc: Global, outcome: &Outcome) -> (u8, Vec<u8>) {
     let mut errors = Counted::new(Vec::new(alloc));
-    let status = report(outcome, &mut errors);
-    (status, errors.into_inner())
+    report(outcome, &mut errors);
+    (outcome.status(), errors.into_inner())
 }
 
 // Whether a run answers this, or is refused, writes nothing and reports this.
