@@ -1,7 +1,7 @@
 -- The bytes that a walk gives.
-use Rattle.std.proofs.Common.{Option, Some, None, Result, Ok, Err, List, ◌≡◌, ℕ, ◌≤◌, [], ◌++◌, length, take, drop, refl, sym, ap, ◌∙◌, subst}
+use Rattle.std.proofs.Common.{Option, Some, None, Result, Ok, Err, List, ◌≡◌, ℕ, [], ◌++◌, take, drop, refl, sym, ap, ◌∙◌, subst}
 use Rattle.std.specs.Prelude.{MatchResult}
-use Rattle.std.proofs.lemmas.List.{append-nil, append_assoc, take-append-drop, take_all}
+use Rattle.std.proofs.lemmas.List.{append-nil, append_assoc, take-append-drop}
 use Rattle.pf_values.specs.Text.{Text}
 use Rattle.pf_values.specs.declared.models.Model.{Model}
 use Rattle.pf_values.specs.Items.{Item}
