@@ -1,5 +1,5 @@
 -- How a transducer takes the front of a text.
-use Rattle.std.proofs.Common.{◌≡◌, ◌≢◌, ℕ, zero, suc, ◌<◌, ◌+◌, ◌-◌, ◌*◌, ◌^◌, ◌≤◌, List, [], ◌∷◌, ◌++◌, length, map, take, drop, refl, sym, ap, ◌∙◌, subst, arith, Err, ◌⊎◌, inl, inr}
+use Rattle.std.proofs.Common.{◌≡◌, ◌≢◌, ℕ, zero, suc, ◌<◌, ◌+◌, ◌-◌, ◌*◌, ◌^◌, ◌≤◌, List, [], ◌∷◌, ◌++◌, length, map, take, drop, refl, sym, ap, ◌∙◌, subst, arith, Result, Ok, Err, ◌⊎◌, inl, inr}
 use Rattle.std.proofs.Math.Seq.{take-add}
 use Rattle.std.proofs.lemmas.List.{append-nil, append_assoc, length-append, length-take-le, take_all, take-append-drop}
 use Rattle.pf_values.specs.declared.models.Model.{Model}
@@ -18,7 +18,7 @@ use Rattle.pf_canon.specs.declared.transducing.Stop.{Stop}
 use Rattle.pf_canon.specs.declared.transducing.Made.TheVariants as mades
 use Rattle.pf_canon.specs.declared.transducing.Transducer.{Transducer}
 use Rattle.pf_canon.specs.Making.{IsMaking}
-use Rattle.pf_canon.specs.Through.{GrowsBy, IsFed, IsThrough, Keeps, RefusesIn, Settles, SettlesTo, SettlesWhole, front_text, made_text, more_of, run_text}
+use Rattle.pf_canon.specs.Through.{GrowsBy, IsFed, IsThrough, Keeps, Passes, RefusesIn, Settles, SettlesTo, SettlesWhole, front_text, made_text, more_of, run_text}
 use Rattle.pf_text.specs.Plain.{PassesPlain, PassesSilents, silents}
 use Rattle.pf_canon.proofs.BuildingLemmas.{most_len-append}
 use Rattle.pf_canon.proofs.MakingLemmas.{made_more, made_settled, made_silents}
@@ -155,30 +155,29 @@ module _ (model : Model) (t out more text : Text) (at : ℕ) where
         (subst (IsThrough model new ((t ++ take at text) ++ take front.len (drop at text)) g.items) (append_assoc out more (front_text front (drop at text))) g.through),
   )
 
-  pub passed_to_refused : (stop : Stop) → RefusesIn model (t ++ take at text) (out ++ more) (drop at text) stop → (all : Text) × SettlesWhole model (t ++ text) (out ++ all)
+  pub passed_to_refused : (stop : Stop) → RefusesIn model (t ++ take at text) (out ++ more) (drop at text) stop → (all : Text) × Passes model (t ++ text) (out ++ all) (Err stop.refusal)
   passed_to_refused stop h =
       let front = (t ++ take at text) ++ h.fed in
       let behind = h.last ∷ h.rest in
       let whole : front ++ behind ≡ t ++ text =
       append_assoc (t ++ take at text) h.fed behind ∙ ap (λ u. (t ++ take at text) ++ u) (sym h.split) ∙ append_assoc t (take at text) (drop at text) ∙ ap (λ u. t ++ u) (take-append-drop at text) in (
         more ++ take stop.run (drop at text),
-        record {
-          front = front;
-          rest = behind;
-          split = sym whole;
-          settles = subst (SettlesTo model front) (append_assoc out more (take stop.run (drop at text))) h.settles;
-          longest = refused_from front behind stop.refusal whole h.place (λ none. cc) (h.refused h.rest);
-        },
+        (
+          subst (λ u. IsRefusedAt u stop.refusal.kind stop.refusal.at) whole (h.refused h.rest),
+          record {
+            front = front;
+            rest = behind;
+            split = sym whole;
+            settles = subst (SettlesTo model front) (append_assoc out more (take stop.run (drop at text))) h.settles;
+            longest = refused_from front behind stop.refusal whole h.place (λ none. cc) (h.refused h.rest);
+          },
+        ),
       )
 
-  pub all_passed : (new : Transducer) (items : List Item) → length text ≤ at → IsThrough model new (t ++ take at text) items (out ++ more) → (all : Text) × SettlesWhole model (t ++ text) (out ++ all)
-  all_passed new items end h = (
-    more,
-    record {
-      front = t ++ text;
-      rest = [];
-      split = sym (append-nil (t ++ text));
-      settles = subst (λ u. SettlesTo model (t ++ u) (out ++ more)) (take_all at text end) (through_settles model new (t ++ take at text) (out ++ more) items h);
-      longest = inl refl;
-    },
-  )
+  pub all_passed : (new : Transducer) (items : List Item) → length text ≤ at → IsThrough model new (t ++ take at text) items (out ++ more) → (all : Text) × Passes model (t ++ text) (out ++ all) (Ok new)
+  all_passed new items end h = (more, (items, subst (λ u. IsThrough model new (t ++ u) items (out ++ more)) (take_all at text end) h))
+
+-- what a text settles that was passed
+pub passed_settles : (model : Model) (t out : Text) (r : Result Transducer Refusal) → Passes model t out r → SettlesWhole model t out
+passed_settles model t out (Ok new) h = record { front = t; rest = []; split = sym (append-nil t); settles = through_settles model new t out h.0 h.1; longest = inl refl }
+passed_settles model t out (Err refusal) h = h.1

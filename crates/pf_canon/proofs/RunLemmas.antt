@@ -1,13 +1,11 @@
 -- What a run of `CanonBytes` has given.
-use Rattle.std.proofs.Common.{◌≡◌, ℕ, ◌+◌, Bool, true, false, [], ◌∷◌, ◌++◌, length, take, drop, Some, None, Ok, Err, refl, sym, ap, ◌∙◌, subst, arith, inl, inr}
+use Rattle.std.proofs.Common.{◌≡◌, ℕ, ◌+◌, Bool, true, false, [], ◌∷◌, ◌++◌, length, take, drop, Some, None, Err, refl, sym, ap, ◌∙◌, subst, arith, inl, inr}
 use Rattle.std.specs.Prelude.{MatchBool}
 use Rattle.std.specs.Io.KnownBytes.{Consumes, IsAtEnd}
 use Rattle.std.proofs.Math.Seq.{drop-append_seam, take-append_seam}
 use Rattle.std.proofs.lemmas.List.{append-nil, append_assoc, drop_all, length-append}
 use Rattle.pf_values.specs.declared.models.Model.{Model}
-use Rattle.pf_values.specs.Canonical.{IsCanonicalOf}
 use Rattle.pf_values.specs.Counting.{Known}
-use Rattle.pf_values.specs.Items.{IsAccepted}
 use Rattle.pf_values.specs.Refusals.{IsRefusedAt}
 use Rattle.pf_values.specs.Text.{Text}
 use Rattle.pf_text.specs.declared.refusal.Refusal.{Refusal}
@@ -31,12 +29,6 @@ module _ (model : Model) (t : Text) where
   taken_to : (left : Known) (taken : Text) (last : ℕ) → Consumes (Some t) left (taken ++ last ∷ []) → (rest : Text) × (left ≡ Some rest) × (t ≡ taken ++ last ∷ rest)
   taken_to None taken last c = absurd c
   taken_to (Some rest) taken last c = (rest, refl, c ∙ append_assoc taken (last ∷ []) rest)
-
-  -- the text ended
-  pub run_ended : (left : Known) (taken given : Text) → IsEnding model [] (Some t) left taken given → RunEnds model t left given (Ok tt)
-  run_ended left taken given h =
-      let all = taken_whole left taken h.reader h.end in
-      (rw all.0 h.accepted, rw all.0 (rw append-nil at h.canonical), all.1)
 
   -- the reader failed
   pub run_failed : (left : Known) (taken given : Text) → Consumes (Some t) left taken → SettlesTo model taken given → RunEnds model t left given (Err faults.Read)

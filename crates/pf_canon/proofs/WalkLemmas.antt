@@ -1,7 +1,7 @@
 -- The bytes that a walk gives.
-use Rattle.std.proofs.Common.{Option, Some, None, Result, Ok, Err, List, ◌≡◌, ℕ, ◌≤◌, [], ◌++◌, length, take, drop, refl, sym, ap, ◌∙◌, subst}
+use Rattle.std.proofs.Common.{Option, Some, None, Result, Ok, Err, List, ◌≡◌, ℕ, [], ◌++◌, take, drop, refl, sym, ap, ◌∙◌, subst}
 use Rattle.std.specs.Prelude.{MatchResult}
-use Rattle.std.proofs.lemmas.List.{append-nil, append_assoc, take-append-drop, take_all}
+use Rattle.std.proofs.lemmas.List.{append-nil, append_assoc, take-append-drop}
 use Rattle.pf_values.specs.Text.{Text}
 use Rattle.pf_values.specs.declared.models.Model.{Model}
 use Rattle.pf_values.specs.Items.{Item}
@@ -82,19 +82,12 @@ ended_refused model r rest waiting text given refusal at_end h ends =
     let e = ends h.taken (given ++ waiting) h.items h.through in
     subst (λ t. IsRefusedAt t refusal.kind refusal.at) all e.2
 
--- a byte of the rest is refused
-pub rest_refused : (model : Model) (t out rest : Text) (at : ℕ) (stop : Stop) → RefusesIn model (t ++ take at rest) out (drop at rest) stop → IsRefusedAt (t ++ rest) stop.refusal.kind stop.refusal.at
-rest_refused model t out rest at stop h =
-    subst (λ u. IsRefusedAt u stop.refusal.kind stop.refusal.at) (append_assoc t (take at rest) (drop at rest) ∙ ap (λ u. t ++ u) (take-append-drop at rest)) (refused_behind model (t ++ take at rest) out (drop at rest) stop h)
-
 -- the rest was taken to its end
-pub rest_whole : (model : Model) (r : Transducer) (t out more rest : Text) (items : List Item) (at : ℕ) (parts : Parts) → length rest ≤ at → IsThrough model r (t ++ take at rest) items (out ++ more) → Ends model (t ++ take at rest) items (out ++ more) (Ok parts)
-    → (all : Text) × IsWhole model (t ++ rest) (out ++ all)
-rest_whole model r t out more rest items at parts whole h ends =
-    let all : t ++ take at rest ≡ t ++ rest = ap (λ u. t ++ u) (take_all at rest whole) in (
-      more ++ parts_text parts,
-      ((items, record { reads = rw all at ends.0; limit = rw all at h.after.limit }), rw (all, append_assoc out more (parts_text parts)) at ends.1),
-    )
+pub rest_whole : (model : Model) (r : Transducer) (t out more : Text) (items : List Item) (parts : Parts) → IsThrough model r t items (out ++ more) → Ends model t items (out ++ more) (Ok parts) → (all : Text) × IsWhole model t (out ++ all)
+rest_whole model r t out more items parts h ends = (
+  more ++ parts_text parts,
+  ((items, record { reads = ends.0; limit = h.after.limit }), rw (append_assoc out more (parts_text parts)) at ends.1),
+)
 
 -- what was read of a text whose rest is read
 pub walked_rest : (model : Model) (r : Transducer) (rest waiting text given : Text) → (m : IsMidway model r rest waiting text given) → (more : Text) × IsWhole model (m.taken ++ rest) ((given ++ waiting) ++ more)

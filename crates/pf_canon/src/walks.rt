@@ -240,21 +240,17 @@ impl<'a> Walk<'a> {
 }
 
 // Whether a text is accepted of which this is left.
-fn finish_rest(mut transducer: Transducer, rest: &[u8]) -> Result<(), Refusal>
+fn finish_rest(transducer: Transducer, rest: &[u8]) -> Result<(), Refusal>
     ensures { (model : Model) (t out : Text) (items : List Item)
         → IsThrough model transducer t items out
         → MatchResult result (λ _. (more : Text) × IsWhole model (t ++ rest.now) (out ++ more))
         (λ refusal. IsRefusedAt (t ++ rest.now) refusal.kind refusal.at) }
 {
-    let mut at = 0;
-    while at < rest.len() {
-        match transducer.feed_front(&rest[at..]) {
-            Ok(front) => at += front.len,
-            Err(stop) => return Err(stop.refusal),
-        }
-    }
-    match transducer.finish() {
-        Ok(_) => Ok(()),
+    match transducer.passed(rest) {
+        Ok(passed) => match passed.finish() {
+            Ok(_) => Ok(()),
+            Err(refusal) => Err(refusal),
+        },
         Err(refusal) => Err(refusal),
     }
 }

@@ -1,7 +1,7 @@
 use Rattle.std.proofs.Common.{◌≤◌, [], ◌++◌, arith, length, drop, take}
 use Rattle.std.proofs.lemmas.List.{append-nil, length-drop, take_rest}
 use Rattle.pf_canon.proofs.FrontLemmas.{all_passed, passed_more, passed_to_refused}
-use Rattle.pf_canon.proofs.transducing.Transducer.pass.Goals as goal
+use Rattle.pf_canon.proofs.transducing.Transducer.passed.Goals as goal
 
 pub loop-at-init : goal.loop-at-init
 loop-at-init c = record {
@@ -29,7 +29,7 @@ returns-in-Err c model t out items h =
     let text = c.args.text.now in
     let at = c.loop-at.at in
     let before = c.loop-at.invariant.through model t out items h in
-    passed_to_refused model t out before.0 text at c.in-Err.field-0 (rw take_rest at c.in-Err.ensures.fed model (t ++ take at text) (out ++ before.0) before.1 before.2)
+    passed_to_refused model t out before.0 text at c.in-Err.stop (rw take_rest at c.in-Err.ensures.fed model (t ++ take at text) (out ++ before.0) before.1 before.2)
 
 pub returns : goal.returns
 returns c model t out items h =

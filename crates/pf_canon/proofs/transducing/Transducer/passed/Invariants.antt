@@ -3,7 +3,7 @@ use Rattle.pf_values.specs.declared.models.Model.{Model}
 use Rattle.pf_values.specs.Items.{Item}
 use Rattle.pf_values.specs.Text.{Text}
 use Rattle.pf_canon.specs.Through.{IsThrough}
-use Rattle.pf_canon.proofs.transducing.Transducer.pass.Given as goal
+use Rattle.pf_canon.proofs.transducing.Transducer.passed.Given as goal
 
 abbrev pub invariant-loop-at : goal.invariant-loop-at
 invariant-loop-at l = record {
