@@ -28,8 +28,10 @@ use Rattle.pf_probes.proofs.Digits.{natural_small}
 use Rattle.pf_render.specs.Zeros.{fewest_digits}
 use Rattle.pf_compare.specs.declared.outlines.Front.{Front}
 use Rattle.pf_compare.specs.declared.outlines.Outline.{Outline}
+use Rattle.pf_compare.specs.declared.values.Counted.{Counted}
 use Rattle.pf_compare.specs.declared.values.Value.{Value}
-use Rattle.pf_compare.specs.Outlines.{Draws, Foretells, HasSignAndSize, IsOfValue, IsOutlineOf, digit_below_ten, digits_under, drawn, fronted, front_text, glyphs, outline_len}
+use Rattle.pf_values.specs.declared.lengths.Length.{Length}
+use Rattle.pf_compare.specs.Outlines.{Draws, Foretells, HasCounted, HasSignAndSize, IsOfValue, IsOutlineOf, digit_below_ten, digits_under, drawn, fronted, front_text, glyphs, outline_len}
 
 -- one digit below ten
 glyph_below : (upper : Bool) (n : ℕ) → n < 10 → digit_glyph upper n ≡ 48 + n
@@ -128,6 +130,16 @@ length_drawn o t h =
       length-replicate {A = ℕ} o.trail space,
       length-replicate {A = ℕ} (o.digits - length t) zero_digit,
     )
+
+-- one conversion and one length modifier make one value
+pub one_value : (model : Model) (s t : Specification) (number : ℤ) (counted : Counted) → s.conv ≡ t.conv → s.length ≡ t.length → HasCounted model s number counted → HasCounted model t number counted
+one_value model s t number counted e f h =
+    record {
+      value = subst (λ (l : Length). IsOfValue (is_signed t.conv) (bit_count (bits_under model l)) number counted.value) f
+          (subst (λ (c : Conv). IsOfValue (is_signed c) (bit_count (bits_under model s.length)) number counted.value) e h.value);
+      count = h.count ∙ ap (λ (c : Conv). length (digits_of (base_of c) counted.value.size)) e;
+      few = h.few;
+    }
 
 module _ (model : Model) (s t : Specification) (n : ℤ) (x y : Outline) (h : IsOutlineOf model s n x) (g : IsOutlineOf model t n y) where
   -- texts of other lengths differ

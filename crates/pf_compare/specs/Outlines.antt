@@ -5,13 +5,15 @@ use Rattle.std.specs.Int.Digits.{digits_of}
 use Rattle.pf_values.specs.declared.models.Model.{Model}
 use Rattle.pf_values.specs.Arguments.{Argument, IsConverted, Number}
 use Rattle.pf_values.specs.Bases.{prefix_of}
-use Rattle.pf_values.specs.Conversions.{base_of, is_upper}
+use Rattle.pf_values.specs.Conversions.{base_of, is_signed, is_upper}
+use Rattle.pf_values.specs.DataModel.{bit_count, bits_under}
 use Rattle.pf_values.specs.Printing.{Prints, is_negative}
 use Rattle.pf_values.specs.Specification.{Specification}
 use Rattle.pf_values.specs.Text.{Text, space, zero_digit}
 use Rattle.pf_compare.specs.declared.outlines.Front.{Front}
 use Rattle.pf_compare.specs.declared.outlines.Front.TheVariants as fronts
 use Rattle.pf_compare.specs.declared.outlines.Outline.{Outline}
+use Rattle.pf_compare.specs.declared.values.Counted.{Counted}
 use Rattle.pf_compare.specs.declared.values.Value.{Value}
 
 -- a value by its sign and its size
@@ -24,6 +26,14 @@ pub record IsOfValue (signed : Bool) (bits : ℕ) (number : ℤ) (value : Value)
   pub whole : ℤ
   pub converted : IsConverted signed bits number whole
   pub parts : HasSignAndSize value whole
+
+-- the value that a directive makes of a number, with the count of its digits
+pub record HasCounted (model : Model) (s : Specification) (number : ℤ)
+    (counted : Counted) : Type 0 where
+  pub value : IsOfValue (is_signed s.conv) (bit_count (bits_under model s.length)) number
+      counted.value
+  pub count : counted.count ≡ length (digits_of (base_of s.conv) counted.value.size)
+  pub few : counted.count ≤ 64
 
 -- what stands before the digits
 abbrev pub front_text : Front → Text

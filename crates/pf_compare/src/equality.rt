@@ -31,13 +31,13 @@ fn same_number(first: Option<u16>, second: Option<u16>) -> bool
     first == second
 }
 
-fn same_length(first: Length, second: Length) -> bool
+pub(crate) fn same_length(first: Length, second: Length) -> bool
     ensures { IsTrue result → first ≡ second }
 {
     first == second
 }
 
-fn same_conv(first: Conv, second: Conv) -> bool
+pub(crate) fn same_conv(first: Conv, second: Conv) -> bool
     ensures { IsTrue result → first ≡ second }
 {
     first == second

@@ -9,6 +9,7 @@ ghost use Rattle.pf_compare.specs.Outlines.{Foretells, digit_below_ten, digits_u
 
 use crate::outlines::Outline;
 use crate::runs::Run;
+use crate::values::Counted;
 use pf_probes::Candidate;
 use pf_values::{Directive, Kind, Model};
 
@@ -109,8 +110,9 @@ fn foretell_integer(
     requires second { IsFalse (is_text second.now.conv) }
     ensures { IfSome result (Foretells model first.now second.now (Number number)) }
 {
-    let one = Outline::of(model, first, number);
-    let two = Outline::of(model, second, number);
+    let counted = Counted::of(model, first, number);
+    let one = Outline::of(first, counted);
+    let two = Outline::of(second, counted.or_of(model, first, second, number));
     if one.len() != two.len() {
         return Some(true);
     }

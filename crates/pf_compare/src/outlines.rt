@@ -1,16 +1,16 @@
 //! How numbers stand in their fields, as far as that is told without making their digits.
 ghost use Rattle.std.specs.Prelude.{◌≡◌, ◌+◌, ◌<◌, ◌≤◌, ◌++◌, ℤ, IsFalse, length, max, replicate};
-ghost use Rattle.std.specs.Int.Digits.{digits_of};
+ghost use Rattle.pf_values.specs.declared.models.Model.{Model};
 ghost use Rattle.pf_values.specs.Bases.{alternative_of};
 ghost use Rattle.pf_values.specs.Conversions.{is_text};
 ghost use Rattle.pf_values.specs.Normal.{effective_precision};
 ghost use Rattle.pf_values.specs.Printing.{field, prefix_under, sign, sign_or_prefix};
 ghost use Rattle.pf_values.specs.Text.{space};
 ghost use Rattle.pf_render.specs.Zeros.{fewest_digits};
-ghost use Rattle.pf_compare.specs.Outlines.{Draws, HasSignAndSize, IsOutlineOf, front_text, fronted, outline_len};
+ghost use Rattle.pf_compare.specs.Outlines.{Draws, HasCounted, HasSignAndSize, IsOutlineOf, front_text, fronted, outline_len};
 
-use crate::values::Value;
-use pf_values::{Alternative, Base, Directive, Flag, Kind, Model};
+use crate::values::{Counted, Value};
+use pf_values::{Alternative, Base, Directive, Flag, Kind};
 
 /// What stands before the digits of a number.
 #[derive(Clone, Copy, PartialEq, Eq)]
@@ -92,17 +92,17 @@ impl Front {
 }
 
 impl Outline {
-    /// How a directive prints a number.
+    /// How a directive prints a number that has this value.
     #[inline(always)]
-    pub(crate) fn of(model: Model, directive: &Directive, number: i128) -> Outline
-        requires { IsFalse (is_text directive.now.conv) }
-        ensures { IsOutlineOf model directive.now number result }
+    pub(crate) fn of(directive: &Directive, counted: Counted) -> Outline
+        requires integer { IsFalse (is_text directive.now.conv) }
+        requires few { counted.count ≤ 64 }
+        ensures { (model : Model) (number : ℤ) → HasCounted model directive.now number counted
+            → IsOutlineOf model directive.now number result }
     {
-        let value = Value::of(model, directive, number);
-        let front = Front::of(directive, value);
-        let count = count_digits(value.size, directive.conv().kind().base().number());
-        let digits = digits_after(directive, front.len(), count);
-        Outline::in_field(directive, front, digits, value.size)
+        let front = Front::of(directive, counted.value);
+        let digits = digits_after(directive, front.len(), counted.count);
+        Outline::in_field(directive, front, digits, counted.value.size)
     }
 
     // So many digits in the field of a directive.
@@ -156,22 +156,6 @@ impl Outline {
             + usize::from(self.digits)
             + usize::from(self.trail)
     }
-}
-
-// How many digits a number has, none for 0.
-#[inline(always)]
-fn count_digits(number: u64, base: u64) -> u16
-    requires { 2 ≤ base }
-    ensures value { result ≡ length (digits_of base number) }
-    ensures few { result ≤ 64 }
-{
-    let mut left = number;
-    let mut count = 0;
-    while left > 0 {
-        left /= base;
-        count += 1;
-    }
-    count
 }
 
 // How many digits are printed of a number with so many, beside a front of so many bytes.

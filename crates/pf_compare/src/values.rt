@@ -1,9 +1,11 @@
 //! The values that directives print for numbers.
-ghost use Rattle.std.specs.Prelude.{◌≡◌, IsFalse, true, false};
+ghost use Rattle.std.specs.Prelude.{◌≡◌, ◌≤◌, IsFalse, IsTrue, length, true, false};
+ghost use Rattle.std.specs.Int.Digits.{digits_of};
 ghost use Rattle.pf_values.specs.Conversions.{is_signed, is_text};
 ghost use Rattle.pf_values.specs.DataModel.{Bits, bit_count, bits_under};
-ghost use Rattle.pf_compare.specs.Outlines.{IsOfValue};
+ghost use Rattle.pf_compare.specs.Outlines.{HasCounted, IsOfValue};
 
+use crate::equality::{same_conv, same_length};
 use pf_values::{Directive, Kind, Model, ValueKind};
 
 /// The value that a directive prints for a number, by its sign and its size.
@@ -11,6 +13,70 @@ use pf_values::{Directive, Kind, Model, ValueKind};
 pub(crate) struct Value {
     pub(crate) is_negative: bool,
     pub(crate) size: u64,
+}
+
+/// A value, and how many digits it has, none for 0.
+#[derive(Clone, Copy)]
+pub(crate) struct Counted {
+    pub(crate) value: Value,
+    pub(crate) count: u16,
+}
+
+impl Counted {
+    /// The value of a number under a directive, counted.
+    #[inline(always)]
+    pub(crate) fn of(model: Model, directive: &Directive, number: i128) -> Counted
+        requires { IsFalse (is_text directive.now.conv) }
+        ensures { HasCounted model directive.now number result }
+    {
+        let value = Value::of(model, directive, number);
+        let count = count_digits(value.size, directive.conv().kind().base().number());
+        Counted { value, count }
+    }
+
+    /// The same under another directive: where both have one conversion and one length modifier,
+    /// they make one value of a number.
+    #[inline(always)]
+    pub(crate) fn or_of(
+        self,
+        model: Model,
+        first: &Directive,
+        directive: &Directive,
+        number: i128,
+    ) -> Counted
+        requires first { HasCounted model first.now number self }
+        requires integer { IsFalse (is_text directive.now.conv) }
+        ensures { HasCounted model directive.now number result }
+    {
+        if make_one_value(first, directive) {
+            return self;
+        }
+        Counted::of(model, directive, number)
+    }
+}
+
+#[inline(always)]
+fn make_one_value(first: &Directive, second: &Directive) -> bool
+    ensures { IsTrue result → (first.now.conv ≡ second.now.conv)
+        × (first.now.length ≡ second.now.length) }
+{
+    same_conv(first.conv(), second.conv()) && same_length(first.length(), second.length())
+}
+
+// How many digits a number has, none for 0.
+#[inline(always)]
+fn count_digits(number: u64, base: u64) -> u16
+    requires { 2 ≤ base }
+    ensures value { result ≡ length (digits_of base number) }
+    ensures few { result ≤ 64 }
+{
+    let mut left = number;
+    let mut count = 0;
+    while left > 0 {
+        left /= base;
+        count += 1;
+    }
+    count
 }
 
 impl Value {

@@ -8,13 +8,13 @@ use Rattle.pf_compare.proofs.foresight.foretell_integer.Goals as goal
 pub returns-then-len : goal.returns-then-len
 returns-then-len c =
     let number : to_z w128 (of_z w128 c.args.number) ≡ c.args.number = omega (arith, ints) in
-    foretold_unlike c.args.model c.args.first.now c.args.second.now c.args.number c.of-one.result c.of-two.result (rw number at c.of-one.ensures) (rw number at c.of-two.ensures)
+    foretold_unlike c.args.model c.args.first.now c.args.second.now c.args.number c.of-one.result c.of-two.result (c.of-one.ensures _ _ (rw number at c.of-counted.ensures)) (c.of-two.ensures _ _ (rw number at c.or_of.ensures))
     (λ e. c.if-len.true (c.len.ensures ∙ e ∙ sym c.len-2.ensures))
 
 pub returns-then-have_same_digits : goal.returns-then-have_same_digits
 returns-then-have_same_digits c =
     let number : to_z w128 (of_z w128 c.args.number) ≡ c.args.number = omega (arith, ints) in
-    foretold_alike c.args.model c.args.first.now c.args.second.now c.args.number c.of-one.result c.of-two.result (rw number at c.of-one.ensures) (rw number at c.of-two.ensures)
+    foretold_alike c.args.model c.args.first.now c.args.second.now c.args.number c.of-one.result c.of-two.result (c.of-one.ensures _ _ (rw number at c.of-counted.ensures)) (c.of-two.ensures _ _ (rw number at c.or_of.ensures))
     (c.have_one_outline.ensures (rw c.if-have_one_outline.true (search rules)))
     (same_glyphs c.args.first.now c.args.second.now c.kind.result c.kind-then-have_one_outline.result c.of-one.result.size (c.kind.ensures ∙ ap kind_of c.conv.ensures.value) (c.kind-then-have_one_outline.ensures ∙ ap kind_of c.conv-then-have_one_outline.ensures.value)
     (c.have_same_digits.ensures (rw c.if-have_same_digits.true (search rules))))

@@ -1,6 +1,6 @@
 use Rattle.std.proofs.Common.{◌≡◌, ◌+◌, ◌≤◌, length}
 use Rattle.std.specs.Int.Digits.{digits_of}
-use Rattle.pf_compare.proofs.outlines.count_digits.Given as goal
+use Rattle.pf_compare.proofs.values.count_digits.Given as goal
 
 -- the digits that were counted and those of what is left are all
 abbrev pub invariant-loop-left : goal.invariant-loop-left

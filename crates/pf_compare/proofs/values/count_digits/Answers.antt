@@ -1,7 +1,7 @@
 use Rattle.std.proofs.Common.{arith}
 use Rattle.std.proofs.lemmas.Int.Digits.{length-digits_of_step}
 use Rattle.pf_render.proofs.DigitLemmas.{fits}
-use Rattle.pf_compare.proofs.outlines.count_digits.Goals as goal
+use Rattle.pf_compare.proofs.values.count_digits.Goals as goal
 
 pub loop-left-init : goal.loop-left-init
 loop-left-init c = record { all = omega arith; few = fits c.args.base c.args.number c.requires c.ranges.number.fits }
