@@ -63,7 +63,7 @@ def is_public(function, names, modules):
         _, head = rattle_functions.split_parameters(function.block)
         return rattle_functions.plain_name(head) in names
     *module, name = function.path.split("::")
-    return name in names or module[:1] != [] and len(module) == 1 and module[0] in modules
+    return name in names or (len(module) == 1 and module[0] in modules)
 
 
 def has_body(text, function):

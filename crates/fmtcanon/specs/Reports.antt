@@ -1,5 +1,5 @@
 -- What is reported of an outcome on standard error. This project's own.
-use Rattle.std.specs.Prelude.{ℕ, List, [], ◌++◌, codes, decimal, length, ◌<◌, ◌⊎◌, Option, None, Some, string_bytes}
+use Rattle.std.specs.Prelude.{ℕ, [], ◌++◌, codes, decimal, length, ◌<◌, ◌⊎◌, Option, None, Some, string_bytes}
 use Rattle.pf_values.specs.declared.counting.Counted.{Counted}
 use Rattle.pf_values.specs.Counting.{Known, WritesAll, WritesFirst}
 use Rattle.pf_values.specs.RefusalKinds.{name, number}
@@ -30,10 +30,12 @@ told Done = []
 told Same = []
 told Different = []
 told (Refused side refusal) = line (refusal_told side refusal)
-told (BadWord index) = line (codes "argument " ++ decimal index ++ codes ": not an argument")
+told (BadWord index) =
+    line (codes "argument " ++ decimal index ++ codes ": " ++ codes "not an argument")
 told (WrongCount wanted given) =
     line (codes "argument count: wanted " ++ decimal wanted ++ codes ", given " ++ decimal given)
-told (WrongType index) = line (codes "argument " ++ decimal index ++ codes ": wrong type")
+told (WrongType index) =
+    line (codes "argument " ++ decimal index ++ codes ": " ++ codes "wrong type")
 told (Usage text) = string_bytes text
 told Read = line (codes "read failed")
 told (Write written) = line (codes "write failed")

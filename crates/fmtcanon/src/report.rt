@@ -31,23 +31,21 @@ fn tell<E: Write>(outcome: &Outcome, errors: &mut Counted<E>) -> Result<(), Shor
 {
     match outcome {
         Outcome::Done | Outcome::Same | Outcome::Different => write_bytes(errors, b""),
-        Outcome::Refused { side, refusal } => {
-            write_bytes(errors, refusal_line(*side, refusal).as_str().as_bytes())
-        }
-        Outcome::BadWord(index) => {
-            write_bytes(errors, argument_line(*index, ": not an argument").as_str().as_bytes())
-        }
-        Outcome::WrongCount { wanted, given } => {
-            write_bytes(errors, count_line(*wanted, *given).as_str().as_bytes())
-        }
-        Outcome::WrongType(index) => {
-            write_bytes(errors, argument_line(*index, ": wrong type").as_str().as_bytes())
-        }
+        Outcome::Refused { side, refusal } => write_line(errors, &refusal_line(*side, refusal)),
+        Outcome::BadWord(index) => write_line(errors, &argument_line(*index, "not an argument")),
+        Outcome::WrongCount { wanted, given } => write_line(errors, &count_line(*wanted, *given)),
+        Outcome::WrongType(index) => write_line(errors, &argument_line(*index, "wrong type")),
         Outcome::Usage(text) => write_bytes(errors, text.as_bytes()),
         Outcome::Read => write_bytes(errors, b"read failed\n"),
         Outcome::Write(_) => write_bytes(errors, b"write failed\n"),
         Outcome::Memory => write_bytes(errors, b"out of memory\n"),
     }
+}
+
+fn write_line<E: Write>(errors: &mut Counted<E>, line: &Line) -> Result<(), ShortWrite>
+    ensures { Writes E.contents errors.old errors.new line.now.bytes result }
+{
+    write_bytes(errors, line.as_str().as_bytes())
 }
 
 fn refusal_line(side: Option<Side>, refusal: &Refusal) -> Line
@@ -68,11 +66,13 @@ fn refusal_line(side: Option<Side>, refusal: &Refusal) -> Line
 // The line of an argument, with what is wrong with it.
 fn argument_line(index: u64, fault: &str) -> Line
     requires { length fault.now ≤ 20 }
-    ensures { result.bytes ≡ line (codes "argument " ++ decimal index ++ fault.now) }
+    ensures { result.bytes
+        ≡ line (codes "argument " ++ decimal index ++ codes ": " ++ fault.now) }
 {
     let mut line = Line::new();
     line.push_str("argument ");
     push_number(&mut line, index);
+    line.push_str(": ");
     line.push_str(fault);
     line.push_str("\n");
     line
