@@ -2,6 +2,7 @@
 ghost use Rattle.std.specs.Prelude.{◌≡◌, ◌≢◌, ◌≤◌, ◌+◌, ◌-◌, ◌++◌, IfOk, IsTrue, List, MatchBool, drop, length, take};
 ghost use Rattle.pf_values.specs.Arg.{argument_of};
 ghost use Rattle.pf_values.specs.Arguments.{HasType};
+ghost use Rattle.pf_values.specs.Candidates.{neutral};
 ghost use Rattle.pf_values.specs.DataModel.{arg_type};
 ghost use Rattle.pf_values.specs.Items.{Item, types};
 ghost use Rattle.pf_values.specs.declared.models.Model.TheVariants.{Lp64};
@@ -65,6 +66,8 @@ fn first_candidate(
     second: &Hole,
 ) -> Result<Option<usize>, AllocError>
     requires one_type { arg_type model first.now.directive ≡ arg_type model second.now.directive }
+    requires neutral { FillAlike model whole.now first.now second.now
+        (neutral (arg_type model first.now.directive)) }
     requires first { IsInside whole.now first.now }
     requires second { IsInside whole.now second.now }
     ensures { IfOk result
@@ -96,7 +99,8 @@ fn have_one_place(first: &Hole, second: &Hole) -> bool
     first.start == second.start && first.end == second.end
 }
 
-// The place of the first candidate of their type that does.
+// The place of the first candidate of their type that does. It is not the neutral one, which is the
+// first.
 fn first_of(
     alloc: Global,
     model: Model,
@@ -107,12 +111,13 @@ fn first_of(
 ) -> Result<Option<usize>, AllocError>
     requires first_type { arg_type model first.now.directive ≡ wanted }
     requires second_type { arg_type model second.now.directive ≡ wanted }
+    requires neutral { FillAlike model whole.now first.now second.now (neutral wanted) }
     requires first { IsInside whole.now first.now }
     requires second { IsInside whole.now second.now }
     ensures { IfOk result (FindsUnlike model whole.now first.now second.now wanted) }
 {
     let row = candidate_row(model, wanted);
-    let mut place = 0;
+    let mut place = 1;
     while place < row.len() {
         if tell_apart(alloc, model, whole, first, second, wanted, row[place])? {
             return Ok(Some(place));

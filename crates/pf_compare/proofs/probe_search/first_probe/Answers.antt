@@ -3,8 +3,11 @@ use Rattle.std.specs.Prelude.{slice_get}
 use Rattle.std.proofs.lemmas.Option.{slice_get_read}
 use Rattle.pf_values.specs.DataModel.{arg_type}
 use Rattle.pf_values.specs.Text.{Text}
-use Rattle.pf_compare.specs.Layouts.{FindsUnlike, IsInside}
-use Rattle.pf_compare.proofs.ProbeLemmas.{AreTried, as_many, first_hole, found_probe, hole_types_same, none_found, second_hole, tried_next}
+use Rattle.pf_values.specs.Candidates.{neutral, neutrals}
+use Rattle.pf_values.specs.Items.{types}
+use Rattle.pf_values.specs.Printing.{PrintsAll}
+use Rattle.pf_compare.specs.Layouts.{FillAlike, FindsUnlike, IsInside}
+use Rattle.pf_compare.proofs.ProbeLemmas.{AreTried, as_many, first_hole, found_probe, hole_types_same, neutral_alike, none_found, second_hole, tried_next}
 use Rattle.pf_compare.proofs.probe_search.first_probe.Goals as goal
 
 one_at : (c : goal.After-index-in-loop-index) → slice_get c.args.first.now.holes.items c.loop-index.index ≡ Some c.index.result.now
@@ -34,6 +37,15 @@ first_candidate-requires-clause-second c =
     let r = c.requires.level in
     subst (λ (t : Text). IsInside t c.index-in-loop-index.result.now) (sym c.deref.ensures.value)
     (second_hole c.args.model c.args.first.now c.args.second.now r.xs r.ys r.laid_first r.laid_second r.same_types r.same_bytes c.loop-index.index c.index-in-loop-index.result.now (two_at c)).inside
+
+pub first_candidate-requires-clause-neutral : goal.first_candidate-requires-clause-neutral
+first_candidate-requires-clause-neutral c =
+    let r = c.requires.level in
+    subst (λ (t : Text). FillAlike c.args.model t c.index.result.now c.index-in-loop-index.result.now (neutral (arg_type c.args.model c.index.result.now.directive))) (sym c.deref.ensures.value)
+    (neutral_alike c.args.model r.xs r.ys c.args.first.now.bytes.items c.loop-index.index c.index.result.now c.index-in-loop-index.result.now
+    (first_hole c.args.model c.args.first.now c.args.second.now r.xs r.ys r.laid_first r.laid_second r.same_types r.same_bytes c.loop-index.index c.index.result.now (one_at c))
+    (second_hole c.args.model c.args.first.now c.args.second.now r.xs r.ys r.laid_first r.laid_second r.same_types r.same_bytes c.loop-index.index c.index-in-loop-index.result.now (two_at c)) r.same_types
+    r.laid_first.bytes (subst (λ (t : Text). PrintsAll c.args.model r.ys (neutrals (types c.args.model r.ys)) t) (sym r.same_bytes) r.laid_second.bytes))
 
 pub returns-in-Some : goal.returns-in-Some
 returns-in-Some c =
