@@ -83,12 +83,6 @@ class Calls(unittest.TestCase):
         self.assertEqual(fmtcanon.show(""), [])
         self.assertEqual([piece.spelling for piece in fmtcanon.show("%%%.0s")], ["%%", "%.0s"])
 
-    def test_refused_by_the_program_calls(self):
-        for call in [fmtcanon.format, fmtcanon.show]:
-            refusal = self.refused(call, "%d and %*d")
-            self.assertEqual((refusal.kind, refusal.name, refusal.byte), (Kind.STAR, "Star", 8))
-            self.assertEqual(self.refused(call, "a\0").kind, Kind.NUL_BYTE)
-
     def test_models(self):
         wanted = [Type.INT, Type.UINT, Type.LONG_LONG, Type.ULONG_LONG, Type.LONG]
         self.assertEqual(fmtcanon.types("%td%zu%jd%ju%ld", model=Model.ILP32), wanted)
@@ -168,6 +162,12 @@ class Refusals(unittest.TestCase):
             with self.assertRaises(UnicodeEncodeError):
                 call("%d\udcff")
         self.assertEqual(fmtcanon.canonical(os.fsencode("%i\udcff")), b"%d\xff")
+
+    def test_refused_by_the_program_calls(self):
+        for call in [fmtcanon.format, fmtcanon.show]:
+            refusal = self.refused(call, "%d and %*d")
+            self.assertEqual((refusal.kind, refusal.name, refusal.byte), (Kind.STAR, "Star", 8))
+            self.assertEqual(self.refused(call, "a\0").kind, Kind.NUL_BYTE)
 
     def test_refusal_is_a_value_error(self):
         self.assertIsInstance(self.refused(fmtcanon.check, "%"), ValueError)
