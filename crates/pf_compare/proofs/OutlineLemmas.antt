@@ -12,8 +12,7 @@ use Rattle.pf_values.specs.declared.conversions.Kind.TheVariants as kinds
 use Rattle.pf_values.specs.declared.flags.Flag.TheVariants.{Alt}
 use Rattle.pf_values.specs.declared.models.Model.{Model}
 use Rattle.pf_values.specs.Arguments.{Number, IsValue}
-use Rattle.pf_values.specs.Bases.{number_of}
-use Rattle.pf_values.specs.Conversions.{base_of, base_under, has_capitals, is_octal, is_signed, is_text, kind_of, prints_text}
+use Rattle.pf_values.specs.Conversions.{base_of, is_octal, is_signed, is_text, kind_of, prints_text}
 use Rattle.pf_values.specs.DataModel.{bit_count, bits_under}
 use Rattle.pf_values.specs.Flags.{has}
 use Rattle.pf_values.specs.Normal.{effective_precision, precision_of}
@@ -43,12 +42,6 @@ one_digit base upper (suc n) b h l = natural_small base upper (suc n) b (omega a
 
 pub below : (n m : ℕ) → IsTrue (nat_lt n m) → n < m
 below n m h = grind (arith, nat_tests)
-
-pub same_glyphs : (s t : Specification) (k l : Kind) (n : ℕ) → k ≡ kind_of s.conv → l ≡ kind_of t.conv
-    → digits_under (number_of (base_under k)) (has_capitals k) n ≡ digits_under (number_of (base_under l)) (has_capitals l) n → glyphs s n ≡ glyphs t n
-same_glyphs s t k l n e f h =
-    let of : Kind → Text = λ i. digits_under (number_of (base_under i)) (has_capitals i) n in
-    sym (ap of e) ∙ h ∙ ap of f
 
 -- how many digits are printed
 fewest_under : (conv : Conv) (alt : Bool) (n : ℕ) → natural_len (is_octal conv && alt) (base_of conv) n ≡ (if is_octal conv && alt then count_of (base_of conv) n + 1 else count_of (base_of conv) n)

@@ -2,16 +2,17 @@
 ghost use Rattle.std.specs.Prelude.{◌≡◌, ℕ, IfSome, IsFalse, IsTrue, replicate};
 ghost use Rattle.pf_values.specs.declared.models.Model.{Model};
 ghost use Rattle.pf_values.specs.Arguments.{Number, String};
-ghost use Rattle.pf_values.specs.Conversions.{base_under, has_capitals, is_string, is_text};
+ghost use Rattle.pf_values.specs.Conversions.{base_of, base_under, has_capitals, is_string, is_text, is_upper};
 ghost use Rattle.pf_values.specs.Bases.{number_of};
 ghost use Rattle.pf_probes.specs.Candidate.{argument_of};
 ghost use Rattle.pf_compare.specs.Outlines.{Foretells, digit_below_ten, digits_under};
 
+use crate::equality::same_conv;
 use crate::outlines::Outline;
 use crate::runs::Run;
 use crate::values::Counted;
 use pf_probes::Candidate;
-use pf_values::{Directive, Kind, Model};
+use pf_values::{Conv, Directive, Kind, Model};
 
 /// Whether two directives print different bytes for a candidate; none where they have to be printed
 /// to tell.
@@ -117,7 +118,7 @@ fn foretell_integer(
         return Some(true);
     }
     if have_one_outline(&one, &two) {
-        if have_same_digits(first.conv().kind(), second.conv().kind(), one.size) {
+        if have_same_digits(first.conv(), second.conv(), one.size) {
             return Some(false);
         }
     }
@@ -133,7 +134,17 @@ fn have_one_outline(one: &Outline, two: &Outline) -> bool
 
 // Whether a number has the same digits: it does in one base, and as one digit below ten.
 #[inline(always)]
-fn have_same_digits(first: Kind, second: Kind, number: u64) -> bool
+fn have_same_digits(first: Conv, second: Conv, number: u64) -> bool
+    ensures { IsTrue result → digits_under (base_of first) (is_upper first) number
+        ≡ digits_under (base_of second) (is_upper second) number }
+{
+    if same_conv(first, second) {
+        return true;
+    }
+    kinds_have_same_digits(first.kind(), second.kind(), number)
+}
+
+fn kinds_have_same_digits(first: Kind, second: Kind, number: u64) -> bool
     ensures { IsTrue result
         → digits_under (number_of (base_under first)) (has_capitals first) number
         ≡ digits_under (number_of (base_under second)) (has_capitals second) number }

@@ -1,8 +1,10 @@
-use Rattle.std.proofs.Common.{◌≡◌, ◌∙◌, ap, arith, of_z, rules, sym, to_z}
+use Rattle.std.proofs.Common.{◌≡◌, ◌∙◌, arith, of_z, rules, subst, sym, to_z}
 use Rattle.std.specs.Int.{w128}
 use Rattle.std.proofs.lemmas.Int.{ints}
-use Rattle.pf_values.specs.Conversions.{kind_of}
-use Rattle.pf_compare.proofs.OutlineLemmas.{foretold_alike, foretold_unlike, same_glyphs}
+use Rattle.pf_values.specs.declared.conversions.Conv.{Conv}
+use Rattle.pf_values.specs.Conversions.{base_of, is_upper}
+use Rattle.pf_compare.specs.Outlines.{digits_under, glyphs}
+use Rattle.pf_compare.proofs.OutlineLemmas.{foretold_alike, foretold_unlike}
 use Rattle.pf_compare.proofs.foresight.foretell_integer.Goals as goal
 
 pub returns-then-len : goal.returns-then-len
@@ -16,5 +18,6 @@ returns-then-have_same_digits c =
     let number : to_z w128 (of_z w128 c.args.number) ≡ c.args.number = omega (arith, ints) in
     foretold_alike c.args.model c.args.first.now c.args.second.now c.args.number c.of-one.result c.of-two.result (c.of-one.ensures _ _ (rw number at c.of-counted.ensures)) (c.of-two.ensures _ _ (rw number at c.or_of.ensures))
     (c.have_one_outline.ensures (rw c.if-have_one_outline.true (search rules)))
-    (same_glyphs c.args.first.now c.args.second.now c.kind.result c.kind-then-have_one_outline.result c.of-one.result.size (c.kind.ensures ∙ ap kind_of c.conv.ensures.value) (c.kind-then-have_one_outline.ensures ∙ ap kind_of c.conv-then-have_one_outline.ensures.value)
-    (c.have_same_digits.ensures (rw c.if-have_same_digits.true (search rules))))
+    (subst (λ (conv : Conv). digits_under (base_of conv) (is_upper conv) c.of-one.result.size ≡ glyphs c.args.second.now c.of-one.result.size) c.conv.ensures.value
+    (subst (λ (conv : Conv). digits_under (base_of c.conv.result) (is_upper c.conv.result) c.of-one.result.size ≡ digits_under (base_of conv) (is_upper conv) c.of-one.result.size) c.conv-then-have_one_outline.ensures.value
+    (c.have_same_digits.ensures (rw c.if-have_same_digits.true (search rules)))))
