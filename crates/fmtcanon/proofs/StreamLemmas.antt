@@ -20,11 +20,16 @@ refused_kept model start left w x y refusal kept (inl h) =
     inl (h.0, record { reader = ends.reader; end = ends.end; place = ends.place; kind = ends.kind; refused = ends.refused; out = settled_kept model h.0 w x y kept ends.out })
 refused_kept model start left w x y refusal kept (inr h) =
     let stops = h.3.stops in
-    inr (h.0, h.1, h.2, record {
-      reader = h.3.reader;
-      few = h.3.few;
-      stops = record { place = stops.place; kind = stops.kind; refused = stops.refused; out = settled_kept model h.0 w x y kept stops.out };
-    })
+    inr (
+      h.0,
+      h.1,
+      h.2,
+      record {
+        reader = h.3.reader;
+        few = h.3.few;
+        stops = record { place = stops.place; kind = stops.kind; refused = stops.refused; out = settled_kept model h.0 w x y kept stops.out };
+      },
+    )
 
 pub stop_kept : (model : Model) (start left w x y : Known) (fault : CopyFault) (refusal : Refusal) → fault ≡ faults.Refused refusal → Keeps x y → CopyStops model start left w x fault → CopyStops model start left w y (faults.Refused refusal)
 stop_kept model start left w x y fault refusal e kept h = refused_kept model start left w x y refusal kept (subst (λ f. CopyStops model start left w x f) e h)
