@@ -24,6 +24,8 @@ import turned  # noqa: E402
 TOP = Path(__file__).resolve().parent.parent
 DOCUMENTS = ["README.md", "docs/USING.md", "docs/REFUSALS.md"]
 TIMEOUT = 60
+# A reader enters by the README.
+README_WORDS = 1200
 # The commands with rows of a model of the program.
 MODEL_COMMANDS = ["canon", "same", "format", "show", "stream", "types"]
 
@@ -249,7 +251,7 @@ def pairs_of(count):
 
 
 def told_counts():
-    """What README.md says is tested: patterns of its numbers, each with the numbers that the files give."""
+    """What docs/TESTED.md says is tested: patterns of its numbers, each with the numbers that the files give."""
     grids = [f"pf_render/src/tests/grid/{name}.rt" for name in ["binary", "hexadecimal", "octal", "signed", "unsigned"]]
     texts = sum(map(table_rows, grids)) + data_count("long.txt")
     shapes, forms = data_count("shapes.txt"), data_count("forms_of_int.jsonl")
@@ -267,34 +269,48 @@ def told_counts():
     yield r"(\d+) normal directives of int and (\d+) of the other types.* (\d+) pairs, each", [sum(grid_sizes(True)), sum(grid_sizes(False)), sum(map(pairs_of, sizes))]
     yield r"(\d+) forms of int, (\d+) pairs", [forms, pairs_of(forms)]
     yield r"(\d+) pairs that one candidate alone", [data_count("told_by_one.jsonl")]
-    yield r"every two of (\d+) formats", [data_count("canonical_pairs.jsonl")]
+    yield r"every 2 of (\d+) formats", [data_count("canonical_pairs.jsonl")]
     yield r"on (\d+) pairs from a model", [data_count("verdicts.jsonl")]
     longest = max(sum(times for _, times in parts) for row in data_rows("long_comparisons.jsonl") for parts in row[:2])
     yield r"formats of up to (\d+) directives", [longest]
+    yield r"of the version and of (\d+) faults", [sum("error:" in text for _, text in usage_texts())]
     yield r"(\d+) runs worked out by hand, (\d+) worked reductions and (\d+) calls", [data_count(name) for name in ["commands.jsonl", "reduced.txt", "calls.jsonl"]]
 
 
-# Numbers of the README's pages on tests that count no rows, tests or wrong bodies.
-PLAIN_NUMBERS = [r"each of the 256 bytes", r"16 shapes", r"take 1, 2, 3 or 7 bytes a call", r"40000 arguments", r"UTF-8", r"\d+ runs and comparisons"]
+# Numbers of docs/TESTED.md that count no rows, tests or wrong bodies.
+PLAIN_NUMBERS = [
+    r"each of the 256 bytes after 7 beginnings", r"16 shapes", r"take 1, 2, 3 or 7 bytes a call and then fail in one of 5 ways", r"40000 arguments",
+    r"UTF-8", r"\d+ runs and comparisons", r"no 2 normal directives", r"every 2 of", r"what the 2 say",
+]
+NUMBER_WORDS = dict(zip("two three four five six seven eight nine ten eleven twelve".split(), range(2, 13)))
+
+
+def with_digits(text):
+    """A text with its numbers in digits: 40,000 as 40000, and words as far as twelve."""
+    text = re.sub(r"(?<=\d),(?=\d{3})", "", text)
+    words = "|".join(NUMBER_WORDS)
+    return re.sub(rf"\b({words})\b", lambda found: str(NUMBER_WORDS[found.group()]), text)
 
 
 def try_numbers(trials):
     """The numbers of rows, tests and wrong bodies that the documents tell are those of the files."""
-    readme = re.sub(r"(?<=\d),(?=\d{3})", "", (TOP / "README.md").read_text(encoding="utf-8"))
-    tested = readme[readme.index("## What is only tested"):readme.index("## What is trusted")]
+    tested = with_digits((TOP / "docs/TESTED.md").read_text(encoding="utf-8"))
+    proved = with_digits((TOP / "docs/PROVED.md").read_text(encoding="utf-8"))
+    words = len((TOP / "README.md").read_text(encoding="utf-8").split())
+    trials.expect(f"README.md has at most {README_WORDS} words: {words}", words <= README_WORDS, True)
     checked = set()
     for pattern, counts in told_counts():
         told = re.search(pattern, tested)
-        trials.expect(f"README.md: {pattern}", told and [int(number) for number in told.groups()], counts)
+        trials.expect(f"docs/TESTED.md: {pattern}", told and [int(number) for number in told.groups()], counts)
         checked.update(told.start(group) for group in range(1, len(counts) + 1) if told)
     for pattern in PLAIN_NUMBERS:
         for told in re.finditer(pattern, tested):
             checked.update(told.start() + number.start() for number in re.finditer(r"\d+", told.group()))
     callers = [path.name for path in (TOP / "crates/uses/src").glob("*.rt") if path.name not in ("lib.rt", "tests.rt")]
-    told = re.search(r"(\d+) such callers", readme)
-    trials.expect("callers of crates/uses in README.md", told and int(told.group(1)), len(callers))
+    told = re.search(r"(\d+) such callers", proved)
+    trials.expect("callers of crates/uses in docs/PROVED.md", told and int(told.group(1)), len(callers))
     unchecked = [tested[number.start() - 20:number.end() + 20] for number in re.finditer(r"\d+", tested) if number.start() not in checked]
-    trials.expect("numbers of README.md that nothing checks", unchecked, [])
+    trials.expect("numbers of docs/TESTED.md that nothing checks", unchecked, [])
     contributing = (TOP / "docs/CONTRIBUTING.md").read_text(encoding="utf-8")
     for crate in sorted(path.name for path in (TOP / "crates").iterdir()):
         told = re.search(rf"\| `{crate}` \| \d+ \| (\d+) \| (\d+) \|", contributing)
@@ -303,8 +319,8 @@ def try_numbers(trials):
         edits = len([it for folder in ["must-fail", "wrong-bodies"] for it in (TOP / "crates" / crate / folder).glob("*.edit")])
         trials.expect(f"tests and wrong bodies of {crate} in CONTRIBUTING.md", told and told.groups(), (str(tests), str(edits)))
     # This is the last trial of all, and counts itself.
-    told = re.search(r"(\d+) runs and comparisons", readme)
-    trials.expect("trials in README.md", told and int(told.group(1)), trials.passed + trials.failed + 1)
+    told = re.search(r"(\d+) runs and comparisons", tested)
+    trials.expect("trials in docs/TESTED.md", told and int(told.group(1)), trials.passed + trials.failed + 1)
 
 
 def documents():
