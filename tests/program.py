@@ -385,6 +385,23 @@ def try_map(trials):
         trials.expect(f"source files of {crate.name} that the map has not", sorted(missing), [])
 
 
+def crate_rows():
+    """The rows of docs/ARCHITECTURE.md on what crates need, as crates.txt has it."""
+    for line in (TOP / "crates.txt").read_text(encoding="utf-8").splitlines():
+        name, _, needs = line.partition(":")
+        needs = needs.split()
+        ours = [it for it in needs if (TOP / "crates" / it).is_dir()]
+        cells = [", ".join(f"`{it}`" for it in part) or "nothing" for part in (ours, [it for it in needs if it not in ours])]
+        yield f"| `{name.split()[0]}` | {cells[0]} | {cells[1]} |"
+
+
+def try_graph(trials):
+    """The table of what crates need is that of crates.txt."""
+    text = (TOP / "docs/ARCHITECTURE.md").read_text(encoding="utf-8")
+    told = text.split("| Crate | Needs of these | Needs of the kit |\n|---|---|---|\n")[1].split("\n\n")[0].splitlines()
+    trials.expect("what crates need, in docs/ARCHITECTURE.md", told, list(crate_rows()))
+
+
 def try_edits(trials):
     """Each public function is turned by an edit that the prover must refuse, but for a few."""
     missing, needless = turned.all_unturned()
@@ -423,6 +440,7 @@ def main():
     try_devices(program, trials)
     try_names(trials)
     try_map(trials)
+    try_graph(trials)
     try_callers(trials)
     try_edits(trials)
     try_numbers(trials)
