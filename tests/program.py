@@ -33,7 +33,7 @@ MODEL_COMMANDS = ["canon", "same", "format", "show", "stream", "types"]
 # Names in the documents that are none of this repository's: of C and its library, of other tools and of the kit, and
 # words that stand for others.
 FOREIGN_NAMES = set("""
-    cents errno intmax_t ptrdiff_t strerror uintmax_t I64
+    cents errno memset intmax_t ptrdiff_t strerror uintmax_t I64
     msgfmt msgunfmt pipefail fix fmt imports plant PYTHONPATH PKG_CONFIG_PATH ldconfig pip pkg config cflags libs pkgconfig sudo
     AllocFailed Display WHAT logic dac8208d650f15bf ed8637e01fc3206ec782c5daf8d913b1fcd4ddf4efb850537416d13256281534 the_type write_all
     NAME PATH TEXT allow lemma is_left_justified
