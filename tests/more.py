@@ -142,7 +142,7 @@ def main():
     folder = Path(sys.argv[2]).resolve()
     trials = Trials()
     tools = Tools(trials)
-    module = load_module(folder)
+    module = load_module(os.path.abspath(sys.argv[1]), folder)
     with tempfile.TemporaryDirectory() as work:
         try_compilers(folder, tools, module, trials, Path(work))
         try_valgrind(folder, tools, module, trials, Path(work))

@@ -553,7 +553,7 @@ def main():
     if len(sys.argv) != 3:
         sys.exit(__doc__)
     program, folder = os.path.abspath(sys.argv[1]), Path(sys.argv[2]).resolve()
-    module, trials = load_module(folder), Trials()
+    module, trials = load_module(program, folder), Trials()
     try_commands(program, trials)
     try_usages(program, trials)
     try_refused(program, module, trials)
