@@ -14,4 +14,5 @@ pub mod PieceLemmas
 pub mod BareLemmas
 pub mod PieceTexts
 pub mod SignatureLemmas
+pub mod WholeRunLemmas
 mod Examples

@@ -7,3 +7,4 @@ pub mod History
 pub mod Plain
 pub mod PieceHistory
 pub mod Signatures
+pub mod WholeRuns

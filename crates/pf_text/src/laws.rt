@@ -1,6 +1,7 @@
-//! Laws of the definitions: a text has one list of items, or one refusal, and a spelling is read
-//! back.
-ghost use Rattle.std.specs.Prelude.{◌≡◌, ℕ, List};
+//! Laws. The first three are over the definitions alone: a text has one list of items, or one
+//! refusal, and a spelling is read back. Each is the contract of a function that does nothing. The
+//! others are about whole runs of `Pieces` and of `Scanner`, and their functions make such a run.
+ghost use Rattle.std.specs.Prelude.{◌≡◌, ℕ, List, flat_map, IfOk};
 ghost use Rattle.pf_values.specs.declared.refusals.RefusalKind.{RefusalKind};
 ghost use Rattle.pf_values.specs.Defined.{IsDefined};
 ghost use Rattle.pf_values.specs.Items.{Item, Reads};
@@ -8,6 +9,13 @@ ghost use Rattle.pf_values.specs.Refusals.{IsRefusedAt};
 ghost use Rattle.pf_values.specs.Specification.{Specification};
 ghost use Rattle.pf_values.specs.Spelling.{Spells, spelling_of};
 ghost use Rattle.pf_values.specs.Text.{Text};
+ghost use Rattle.pf_text.specs.PieceHistory.{items_of};
+ghost use Rattle.pf_text.specs.WholeRuns.{HasRun, ended_by};
+
+use crate::pieces::{Piece, Pieces};
+use crate::refusal::Refusal;
+use crate::scanner::{Scanner, Step};
+use std::alloc::{AllocError, Global};
 
 /// A text has at most one list of items.
 pub fn reads_once()
@@ -25,3 +33,46 @@ pub fn refused_once()
 pub fn spelled_is_read()
     ensures { (s : Specification) → IsDefined s → Spells (spelling_of s) s }
 {}
+
+/// Repeated calls of `next` give pieces that stand for the items of the text, in order, and then
+/// `None`, if it is accepted. Else they give those before the item in which it is refused, and then
+/// the refusal. The answer is the pieces, and how they end.
+pub fn whole_run_of_pieces<'a>(
+    alloc: Global,
+    text: &'a [u8],
+) -> Result<(Vec<Piece<'a>>, Result<(), Refusal>), AllocError>
+    ensures { IfOk result (λ run. HasRun text.now (flat_map items_of run.0.items) run.1) }
+{
+    let mut given = Vec::new(alloc);
+    for piece in Pieces::new(text) {
+        match piece {
+            Ok(piece) => {
+                if given.push(piece).is_err() {
+                    return Err(AllocError);
+                }
+            }
+            Err(refusal) => return Ok((given, Err(refusal))),
+        }
+    }
+    Ok((given, Ok(())))
+}
+
+/// Calls of `feed` for the bytes of a text, in order, and then one of `finish`, make steps that end
+/// the items of the text, in order, if it is accepted. Else they end those before the item in which
+/// it is refused, and then give the refusal. The answer is the steps, and how they end.
+pub fn whole_run_of_steps(
+    alloc: Global,
+    text: &[u8],
+) -> Result<(Vec<Step>, Result<(), Refusal>), AllocError>
+    ensures { IfOk result (λ run. HasRun text.now (flat_map ended_by run.0.items) run.1) }
+{
+    let mut scanner = Scanner::new();
+    let mut made = Vec::new(alloc);
+    for byte in text {
+        match scanner.feed(*byte) {
+            Ok(step) => made.push(step)?,
+            Err(refusal) => return Ok((made, Err(refusal))),
+        }
+    }
+    Ok((made, scanner.finish()))
+}

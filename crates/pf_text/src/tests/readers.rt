@@ -1,5 +1,5 @@
 //! What a scanner and the pieces of a text hand out.
-use crate::laws::{reads_once, refused_once};
+use crate::laws::{reads_once, refused_once, whole_run_of_pieces, whole_run_of_steps};
 use crate::{Piece, Pieces, Refusal, Scanner, Step, check};
 use pf_values::{Conv, Directive, FlagSet, Length, RefusalKind};
 
@@ -58,6 +58,35 @@ fn pieces_up_to_a_refusal(rt: HostRuntime) {
     assert!(rt; pieces.next() == Some(Err(refusal)));
     assert!(rt; pieces.next() == None);
     assert!(rt; pieces.next() == None);
+}
+
+#[test]
+fn whole_runs_up_to_a_refusal(rt: HostRuntime) {
+    let wanted = directive_of_width(None).expect(&rt, "defined");
+    let refusal = Refusal {
+        kind: RefusalKind::Truncated,
+        at: 8,
+    };
+    let (pieces, end) = whole_run_of_pieces(rt.alloc(), b"ab%%%dc%").expect(&rt, "memory");
+    assert!(rt; end == Err(refusal));
+    assert!(rt; pieces.len() == 4);
+    let (steps, end) = whole_run_of_steps(rt.alloc(), b"b%%%dc%").expect(&rt, "memory");
+    assert!(rt;
+        end == Err(Refusal {
+            kind: RefusalKind::Truncated,
+            at: 7
+        })
+    );
+    let made = [
+        Step::Byte(b'b'),
+        Step::More,
+        Step::Percent,
+        Step::More,
+        Step::Directive(wanted),
+        Step::Byte(b'c'),
+        Step::More,
+    ];
+    assert!(rt; steps.as_slice() == made.as_slice());
 }
 
 #[test]
