@@ -97,6 +97,7 @@ trials: program library
 	$(TRIALS)
 
 define TRIALS
+	python3 tests/documents.py
 	python3 tests/program.py $(PROGRAM)
 	python3 tests/rows.py $(PROGRAM) $(C)
 	python3 tests/devices.py $(PROGRAM)

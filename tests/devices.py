@@ -29,7 +29,7 @@ from pathlib import Path
 sys.dont_write_bytecode = True
 sys.path.insert(0, str(Path(__file__).resolve().parent))
 
-from program import TIMEOUT, TOP, Trials, run  # noqa: E402
+from harness import TIMEOUT, TOP, Trials, run  # noqa: E402
 
 WRITE_FAILED = (4, b"write failed\n")
 READ_FAILED = (4, b"read failed\n")
@@ -499,8 +499,7 @@ def main():
     try_files(program, trials)
     try_spaces(program, trials)
     try_growths(program, trials)
-    print(f"{trials.passed} passed, {trials.failed} failed")
-    return 1 if trials.failed else 0
+    return trials.end()
 
 
 if __name__ == "__main__":

@@ -16,7 +16,7 @@ from pathlib import Path
 sys.dont_write_bytecode = True
 sys.path.insert(0, str(Path(__file__).resolve().parent))
 
-from program import TIMEOUT, TOP, Trials, run  # noqa: E402
+from harness import TIMEOUT, TOP, Trials, run  # noqa: E402
 from replacing import try_replacing  # noqa: E402
 from translations import try_catalogs  # noqa: E402
 
@@ -138,8 +138,7 @@ def main():
     try_catalogs(folder, trials)
     try_page(program, trials)
     try_completions(program, trials)
-    print(f"{trials.passed} passed, {trials.failed} failed")
-    return 1 if trials.failed else 0
+    return trials.end()
 
 
 if __name__ == "__main__":

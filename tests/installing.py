@@ -11,7 +11,7 @@ import sys
 import tarfile
 from pathlib import Path
 
-from program import TIMEOUT, TOP
+from harness import TIMEOUT, TOP
 
 HEADER = TOP / "include/fmtcanon.h"
 MODULE = "lib/python3/dist-packages/fmtcanon"

@@ -19,7 +19,7 @@ sys.dont_write_bytecode = True
 sys.path.insert(0, str(Path(__file__).resolve().parent))
 
 import installing  # noqa: E402
-from program import TIMEOUT, TOP, Trials, examples, fences, run  # noqa: E402
+from harness import TIMEOUT, TOP, Trials, examples, fences, run  # noqa: E402
 
 HEADER = TOP / "include/fmtcanon.h"
 SHAPES = TOP / "bench/shapes.nul"
@@ -353,8 +353,7 @@ def main():
         prefix = installing.try_all(work, trials)
         try_document(prefix, work, trials)
     try_unit_tests(program, folder, trials)
-    print(f"{trials.passed} passed, {trials.failed} failed")
-    return 1 if trials.failed else 0
+    return trials.end()
 
 
 if __name__ == "__main__":

@@ -152,8 +152,7 @@ def main():
     try_libclang(folder, trials)
     try_shells(tools, trials)
     roots.try_all(os.path.abspath(sys.argv[1]), tools, trials)
-    print(f"{trials.passed} passed, {trials.failed} failed")
-    return 1 if trials.failed else 0
+    return trials.end()
 
 
 if __name__ == "__main__":

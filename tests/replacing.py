@@ -10,7 +10,7 @@ import sys
 import tempfile
 from pathlib import Path
 
-from program import TIMEOUT, TOP
+from harness import TIMEOUT, TOP
 
 PLACES = TOP / "tests/library/places.c"
 OLD, NEW = "%i items\\n", "%d items\\n"

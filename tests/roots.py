@@ -12,7 +12,7 @@ import tempfile
 import venv
 from pathlib import Path
 
-from program import TOP, run
+from harness import TOP, run
 
 VERSION = "0.1.0"
 PACKAGE = TOP / f"out/fmtcanon_{VERSION}-1_amd64.deb"

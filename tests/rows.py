@@ -19,7 +19,7 @@ sys.dont_write_bytecode = True
 sys.path.insert(0, str(Path(__file__).resolve().parent))
 
 from library import load_module  # noqa: E402
-from program import TOP, Trials, run  # noqa: E402
+from harness import TOP, Trials, run  # noqa: E402
 
 ROWS = TOP / "tests/rows"
 RENDERED = TOP / "crates/pf_render/src/tests"
@@ -575,8 +575,7 @@ def main():
     try_many_directives(program, trials)
     try_many_arguments(program, trials)
     try_calls(module, trials)
-    print(f"{trials.passed} passed, {trials.failed} failed")
-    return 1 if trials.failed else 0
+    return trials.end()
 
 
 if __name__ == "__main__":

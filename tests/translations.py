@@ -11,7 +11,7 @@ import sys
 import tempfile
 from pathlib import Path
 
-from program import TIMEOUT, TOP
+from harness import TIMEOUT, TOP
 
 CATALOGS = TOP / "tests/catalogs"
 # A catalog with its exit status, and what is told of it.

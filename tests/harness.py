@@ -1,0 +1,70 @@
+"""What the trials share: a count of what was tried, a run of the program, and rows of the repository's files."""
+
+import json
+import re
+import shlex
+import subprocess
+from pathlib import Path
+
+TOP = Path(__file__).resolve().parent.parent
+TIMEOUT = 60
+
+
+class Trials:
+    """Counts what was tried, and tells each failure."""
+
+    def __init__(self):
+        self.passed = 0
+        self.failed = 0
+
+    def expect(self, name, got, wanted):
+        if got == wanted:
+            self.passed += 1
+            return
+        self.failed += 1
+        print(f"FAILED {name}\n  wanted {wanted!r}\n  got    {got!r}")
+
+    def end(self):
+        """Tells how many passed and failed, and answers the status to exit with."""
+        print(f"{self.passed} passed, {self.failed} failed")
+        return 1 if self.failed else 0
+
+
+def run(program, words, stdin=b"", **devices):
+    """The status, standard output and standard error of a run; None for a stream that isn't a pipe."""
+    options = {"stdout": subprocess.PIPE, "stderr": subprocess.PIPE, "input": stdin, **devices}
+    done = subprocess.run([program, *words], timeout=TIMEOUT, check=False, **options)
+    return done.returncode, done.stdout, done.stderr
+
+
+def model_rows():
+    """Rows of a model of the program that shares no code with it."""
+    return [json.loads(line) for line in (TOP / "tests/commands.jsonl").read_text(encoding="utf-8").splitlines()]
+
+
+def examples(document):
+    """The commands in indented blocks, each a line that begins with '$ ', with the lines that follow it."""
+    command, output = None, []
+    for line in document.read_text(encoding="utf-8").splitlines() + [""]:
+        if line.startswith("    $ "):
+            if command:
+                yield command, output
+            command, output = line[6:], []
+        elif line.startswith("    ") and command:
+            output.append(line[4:])
+        elif command:
+            yield command, output
+            command, output = None, []
+
+
+def usage_texts():
+    """The words after each line that begins with '$', with the text below it, up to an empty line before the next."""
+    blocks = re.split(r"^\$", (TOP / "tests/usage.txt").read_text(encoding="utf-8"), flags=re.MULTILINE)
+    for block in blocks[1:]:
+        words, _, text = block.partition("\n")
+        yield shlex.split(words), text[:-1]
+
+
+def fences(text):
+    """The blocks of a document, each with its language."""
+    return re.findall(r"^```(\w*)\n(.*?)^```", text, flags=re.DOTALL | re.MULTILINE)
