@@ -12,7 +12,6 @@ use Rattle.pf_values.specs.declared.lengths.Length.{Length}
 use Rattle.pf_values.specs.declared.lengths.Length.TheVariants as lengths
 use Rattle.pf_values.specs.declared.limits.TheConstants.{MAX_NUMBER}
 use Rattle.pf_values.specs.declared.models.Model.{Model}
-use Rattle.pf_values.specs.declared.models.Model.TheVariants.{Lp64, Ilp32}
 use Rattle.pf_values.specs.Arguments.{Number, String, IsConverted}
 use Rattle.pf_values.specs.Conversions.{
   is_signed,
@@ -36,6 +35,7 @@ use Rattle.pf_values.specs.Flags.{has}
 use Rattle.pf_values.specs.Printing.{PrintsKind, PrintsNumber, field}
 use Rattle.pf_values.specs.Specification.{Specification, width_given}
 use Rattle.pf_values.specs.Text.{Text}
+use Rattle.pf_values.proofs.DataModelLemmas.{kept_row}
 use Rattle.pf_values.proofs.PrintsOnce.{PrintsNumber-is, PrintsNumber-value, value_text}
 use Rattle.pf_reduce.specs.declared.padding.Padding.{Padding}
 use Rattle.pf_reduce.specs.declared.results.Reduced.{Reduced}
@@ -82,25 +82,14 @@ carries model s r e f sign bits same (Number n) inner typed p =
       ap (around r) (p.2 ∙ ap (field (core_of r.core)) body) ∙ sym (same h.value value.fits),
     )
 
--- The names that a normal directive doesn't have are other names for the same.
-record IsSameRow (model : Model) (first second : Length) : Type 0 where
-  signed : signed_type model first ≡ signed_type model second
-  unsigned : unsigned_type model first ≡ unsigned_type model second
-  bits : bits_under model first ≡ bits_under model second
-
-kept_row : (model : Model) (length : Length) → IsSameRow model (kept_length model length) length
-kept_row model lengths.None = record { signed = refl; unsigned = refl; bits = refl }
-kept_row Lp64 _ = record { signed = refl; unsigned = refl; bits = refl }
-kept_row Ilp32 _ = record { signed = refl; unsigned = refl; bits = refl }
-
 pub kept_kind : (conv : Conv) → kind_of (kept_conv conv) ≡ kind_of conv
 kept_kind I = refl
 kept_kind _ = refl
 
 kept_type_of : (model : Model) (k : Kind) (length : Length)
     → type_of_kind model k (kept_length model length) ≡ type_of_kind model k length
-kept_type_of model kinds.Signed length = (kept_row model length).signed
-kept_type_of model (kinds.Unsigned base capitals) length = (kept_row model length).unsigned
+kept_type_of model kinds.Signed length = ap (λ r. r.signed) (kept_row model length)
+kept_type_of model (kinds.Unsigned base capitals) length = ap (λ r. r.unsigned) (kept_row model length)
 kept_type_of model kinds.Char length = refl
 kept_type_of model kinds.String length = refl
 
@@ -111,7 +100,7 @@ kept_type model conv length =
     ∙ kept_type_of model (kind_of conv) length
 
 pub kept_bits : (model : Model) (length : Length) → bits_under model (kept_length model length) ≡ bits_under model length
-kept_bits model length = (kept_row model length).bits
+kept_bits model length = ap (λ r. r.bits) (kept_row model length)
 
 kept_text : (conv : Conv) → is_text (kept_conv conv) ≡ is_text conv
 kept_text conv = ap prints_text (kept_kind conv)

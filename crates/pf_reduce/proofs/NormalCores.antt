@@ -8,13 +8,13 @@ use Rattle.pf_values.specs.declared.lengths.Length.{Length}
 use Rattle.pf_values.specs.declared.lengths.Length.TheVariants as lengths
 use Rattle.pf_values.specs.declared.limits.TheConstants.{MAX_NUMBER}
 use Rattle.pf_values.specs.declared.models.Model.{Model}
-use Rattle.pf_values.specs.declared.models.Model.TheVariants.{Lp64, Ilp32}
 use Rattle.pf_values.specs.Conversions.{is_signed, kept_conv}
 use Rattle.pf_values.specs.DataModel.{Bits, bits_under, kept_length, most_digits}
 use Rattle.pf_values.specs.Defined.{is_above_limit, refused_as}
 use Rattle.pf_values.specs.Flags.{has}
 use Rattle.pf_values.specs.Normal.{IsNormal, IsNormalSigned, digits_at_most, sign_len}
 use Rattle.pf_values.specs.Specification.{Specification, specification_of, width_given}
+use Rattle.pf_values.proofs.DataModelLemmas.{kept_row}
 use Rattle.pf_reduce.specs.declared.padding.Padding.{Padding}
 use Rattle.pf_reduce.specs.declared.signs.Sign.{Sign}
 use Rattle.pf_reduce.specs.declared.signs.Sign.TheVariants as signs
@@ -61,12 +61,6 @@ no_precision_1 : (p : ℕ) → kept_precision p ≢ Some 1
 no_precision_1 zero e = cc
 no_precision_1 (suc zero) e = cc
 no_precision_1 (suc (suc p)) e = cc
-
-kept_twice : (model : Model) (length : Length)
-    → kept_length model (kept_length model length) ≡ kept_length model length
-kept_twice model lengths.None = refl
-kept_twice Lp64 _ = refl
-kept_twice Ilp32 _ = refl
 
 kept_signed : (conv : Conv) → is_signed conv ≡ true → kept_conv conv ≡ D
 kept_signed D e = refl
@@ -143,7 +137,7 @@ pub normal_signed : (model : Model) (s : Specification) (p : Padding) (sign : Si
     → IsNormal model (core_within model s p (sign_flags sign) (kept_precision precision))
 normal_signed model s p sign precision signed limit least most space none left =
     let length = kept_length model s.length in
-    let same = kept_twice model s.length in
+    let same = ap (λ r. r.kept) (kept_row model s.length) in
     let digits : most_digits D (bits_under model length) ≡ digits_at_most model s =
     ap (most_digits D) (kept_bits model s.length) ∙ sym (digits_signed s.conv signed (bits_under model s.length)) in
     rw (kept_signed s.conv signed) (made_normal model p sign precision length same limit

@@ -1,3 +1,4 @@
+pub mod DataModelLemmas
 pub mod Numerals
 pub mod Printed
 pub mod Values

@@ -6,9 +6,7 @@ use Rattle.pf_values.specs.declared.conversions.Conv.{Conv}
 use Rattle.pf_values.specs.declared.conversions.Kind.{Kind}
 use Rattle.pf_values.specs.declared.conversions.Kind.TheVariants as kinds
 use Rattle.pf_values.specs.declared.lengths.Length.{Length}
-use Rattle.pf_values.specs.declared.lengths.Length.TheVariants as lengths
 use Rattle.pf_values.specs.declared.models.Model.{Model}
-use Rattle.pf_values.specs.declared.models.Model.TheVariants.{Lp64, Ilp32}
 use Rattle.pf_values.specs.Arguments.{Argument, Number, String, HasType, IsValue}
 use Rattle.pf_values.specs.Conversions.{is_signed, kind_of}
 use Rattle.pf_values.specs.DataModel.{
@@ -31,6 +29,7 @@ use Rattle.pf_values.specs.Printing.{
 }
 use Rattle.pf_values.specs.Specification.{Specification}
 use Rattle.pf_values.specs.Text.{Text}
+use Rattle.pf_values.proofs.DataModelLemmas.{each_row}
 use Rattle.pf_values.proofs.Printed.{printed_digits, printed_precision, AreDigitsOf-exist, AreDigitsOf-unique, IsPrecision-exists, IsPrecision-unique}
 use Rattle.pf_values.proofs.Values.{wrapped, converted_number, converted-is, IsConverted-unique}
 
@@ -99,22 +98,15 @@ one_char model s n =
       λ other h. h.2 ∙ ap (λ b. b ∷ []) (let same = IsConverted-unique B8 false n (pos h.0) (pos (wrapped 256 n)) h.1 byte in omega (arith, ints)),
     )
 
-no_string : (model : Model) (length : Length) (t : Text) → HasType model (String t) (signed_type model length) → ⊥
-no_string model lengths.None t h = h
-no_string Lp64 _ t h = h
-no_string Ilp32 _ t h = h
-
-no_unsigned_string : (model : Model) (length : Length) (t : Text) → HasType model (String t) (unsigned_type model length) → ⊥
-no_unsigned_string model lengths.None t h = h
-no_unsigned_string Lp64 _ t h = h
-no_unsigned_string Ilp32 _ t h = h
+no_string : (model : Model) (t : Text) (length : Length) → (HasType model (String t) (signed_type model length) → ⊥) × (HasType model (String t) (unsigned_type model length) → ⊥)
+no_string model t = each_row model (λ r. (HasType model (String t) r.signed → ⊥) × (HasType model (String t) r.unsigned → ⊥)) (λ h. h, λ h. h) (λ h. h, λ h. h) (λ h. h, λ h. h) (λ h. h, λ h. h) (λ h. h, λ h. h)
 
 one_body : (model : Model) (k : Kind) (length : Length) (s : Specification) (argument : Argument)
     → HasType model argument (type_of_kind model k length) → IsOne model k s argument
 one_body model kinds.Signed length s (Number n) h = one_number model s n
-one_body model kinds.Signed length s (String t) h = absurd (no_string model length t h)
+one_body model kinds.Signed length s (String t) h = absurd ((no_string model t length).0 h)
 one_body model (kinds.Unsigned base capitals) length s (Number n) h = one_number model s n
-one_body model (kinds.Unsigned base capitals) length s (String t) h = absurd (no_unsigned_string model length t h)
+one_body model (kinds.Unsigned base capitals) length s (String t) h = absurd ((no_string model t length).1 h)
 one_body model kinds.Char length s (Number n) h = one_char model s n
 one_body model kinds.Char length s (String t) h = absurd h
 one_body model kinds.String length s (Number n) h = absurd h

@@ -1,9 +1,12 @@
--- The data models LP64 and ILP32: types, bits and ranges. They stand in the rows of this file
--- alone. That the types of `j`, `z` and `t` are so in ILP32 is this project's own.
+-- The data models: types, bits and ranges. A model has three columns, and they are in this file
+-- alone: the bits of a long, the rank of `size_t` and `ptrdiff_t`, and that of `intmax_t`. All else
+-- goes by them. That the types of `j`, `z` and `t` are so in ILP32 is this project's own.
 use Rattle.std.specs.Prelude.{ℕ, ◌-◌, ◌^◌, ◌≤ℤ◌, ◌<ℤ◌, neg_ℤ, ℤ, pos, Bool, true, false, if◌then◌else◌}
 use Rattle.pf_values.specs.declared.conversions.Conv.{Conv}
 use Rattle.pf_values.specs.declared.conversions.Kind.{Kind}
 use Rattle.pf_values.specs.declared.conversions.Kind.TheVariants as kinds
+use Rattle.pf_values.specs.declared.models.Rank.{Rank}
+use Rattle.pf_values.specs.declared.models.Rank.TheVariants as ranks
 use Rattle.pf_values.specs.declared.lengths.Length.{Length}
 use Rattle.pf_values.specs.declared.lengths.Length.TheVariants as lengths
 use Rattle.pf_values.specs.declared.models.Model.{Model}
@@ -43,25 +46,31 @@ abbrev pub long_bits : Model → Bits
 long_bits Lp64 = B64
 long_bits Ilp32 = B32
 
--- `size_t` with its signed type, and `ptrdiff_t` with its unsigned one
-abbrev pub size_row : Model → Row
-size_row Lp64 = row lengths.L B64 Long ULong
-size_row Ilp32 = row lengths.None B32 Int UInt
+-- the rank of `size_t` with its signed type, and of `ptrdiff_t` with its unsigned one
+abbrev pub size_rank : Model → Rank
+size_rank Lp64 = ranks.Long
+size_rank Ilp32 = ranks.Int
 
--- `intmax_t` and `uintmax_t`
-abbrev pub greatest_row : Model → Row
-greatest_row Lp64 = row lengths.L B64 Long ULong
-greatest_row Ilp32 = row lengths.Ll B64 LongLong ULongLong
+-- the rank of `intmax_t` and `uintmax_t`
+abbrev pub greatest_rank : Model → Rank
+greatest_rank Lp64 = ranks.Long
+greatest_rank Ilp32 = ranks.LongLong
+
+-- the row of the modifier that names the types of a rank
+abbrev pub row_of_rank : Model → Rank → Row
+row_of_rank model ranks.Int = row lengths.None B32 Int UInt
+row_of_rank model ranks.Long = row lengths.L (long_bits model) Long ULong
+row_of_rank model ranks.LongLong = row lengths.Ll B64 LongLong ULongLong
 
 abbrev pub row_of : Model → Length → Row
 row_of model lengths.Hh = row lengths.Hh B8 Int Int
 row_of model lengths.H = row lengths.H B16 Int Int
-row_of model lengths.None = row lengths.None B32 Int UInt
-row_of model lengths.L = row lengths.L (long_bits model) Long ULong
-row_of model lengths.Ll = row lengths.Ll B64 LongLong ULongLong
-row_of model lengths.J = greatest_row model
-row_of model lengths.Z = size_row model
-row_of model lengths.T = size_row model
+row_of model lengths.None = row_of_rank model ranks.Int
+row_of model lengths.L = row_of_rank model ranks.Long
+row_of model lengths.Ll = row_of_rank model ranks.LongLong
+row_of model lengths.J = row_of_rank model (greatest_rank model)
+row_of model lengths.Z = row_of_rank model (size_rank model)
+row_of model lengths.T = row_of_rank model (size_rank model)
 
 -- The bits of an integer type (C11 6.2.5). A string has none, and nothing reads its row.
 abbrev pub type_bits : Model → ArgType → Bits

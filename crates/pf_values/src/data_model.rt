@@ -4,17 +4,15 @@ ghost use Rattle.pf_values.specs.Bits.{Bits, bit_count};
 ghost use Rattle.pf_values.specs.DataModel.{
   FitsIn,
   bits_under,
-  greatest_row,
   kept_length,
-  long_bits,
+  row_of_rank,
   signed_type,
-  size_row,
   type_bits,
   unsigned_type,
 };
 
 use crate::lengths::Length;
-use crate::models::Model;
+use crate::models::{Model, Rank};
 use crate::types::ArgType;
 
 /// What a length modifier says (C11 7.21.6.1, paragraph 7).
@@ -40,47 +38,25 @@ pub(crate) fn row_of(model: Model, length: Length) -> Row
     match length {
         Length::Hh => columns(Length::Hh, 8, ArgType::Int, ArgType::Int),
         Length::H => columns(Length::H, 16, ArgType::Int, ArgType::Int),
-        Length::None => columns(Length::None, 32, ArgType::Int, ArgType::UInt),
-        Length::L => columns(Length::L, long_bits(model), ArgType::Long, ArgType::ULong),
-        Length::Ll => columns(Length::Ll, 64, ArgType::LongLong, ArgType::ULongLong),
-        Length::J => greatest_row(model),
-        Length::Z | Length::T => size_row(model),
+        Length::None => row_of_rank(model, Rank::Int),
+        Length::L => row_of_rank(model, Rank::Long),
+        Length::Ll => row_of_rank(model, Rank::LongLong),
+        Length::J => row_of_rank(model, model.greatest_rank()),
+        Length::Z | Length::T => row_of_rank(model, model.size_rank()),
     }
 }
 
-// `intmax_t` and `uintmax_t`.
-fn greatest_row(model: Model) -> Row
-    ensures kept { result.kept ≡ (greatest_row model).kept }
-    ensures bits { result.bits ≡ bit_count (greatest_row model).bits }
-    ensures signed { result.signed ≡ (greatest_row model).signed }
-    ensures unsigned { result.unsigned ≡ (greatest_row model).unsigned }
+// The row of the modifier that names the types of a rank.
+fn row_of_rank(model: Model, rank: Rank) -> Row
+    ensures kept { result.kept ≡ (row_of_rank model rank).kept }
+    ensures bits { result.bits ≡ bit_count (row_of_rank model rank).bits }
+    ensures signed { result.signed ≡ (row_of_rank model rank).signed }
+    ensures unsigned { result.unsigned ≡ (row_of_rank model rank).unsigned }
 {
-    match model {
-        Model::Lp64 => columns(Length::L, 64, ArgType::Long, ArgType::ULong),
-        Model::Ilp32 => columns(Length::Ll, 64, ArgType::LongLong, ArgType::ULongLong),
-    }
-}
-
-// `size_t` with its signed type, and `ptrdiff_t` with its unsigned one.
-fn size_row(model: Model) -> Row
-    ensures kept { result.kept ≡ (size_row model).kept }
-    ensures bits { result.bits ≡ bit_count (size_row model).bits }
-    ensures signed { result.signed ≡ (size_row model).signed }
-    ensures unsigned { result.unsigned ≡ (size_row model).unsigned }
-{
-    match model {
-        Model::Lp64 => columns(Length::L, 64, ArgType::Long, ArgType::ULong),
-        Model::Ilp32 => columns(Length::None, 32, ArgType::Int, ArgType::UInt),
-    }
-}
-
-// The bits of a long.
-fn long_bits(model: Model) -> u8
-    ensures { result ≡ bit_count (long_bits model) }
-{
-    match model {
-        Model::Lp64 => 64,
-        Model::Ilp32 => 32,
+    match rank {
+        Rank::Int => columns(Length::None, 32, ArgType::Int, ArgType::UInt),
+        Rank::Long => columns(Length::L, model.long_bits(), ArgType::Long, ArgType::ULong),
+        Rank::LongLong => columns(Length::Ll, 64, ArgType::LongLong, ArgType::ULongLong),
     }
 }
 
@@ -102,8 +78,8 @@ pub(crate) fn type_bits(model: Model, arg_type: ArgType) -> u8
     match arg_type {
         ArgType::Int => 32,
         ArgType::UInt => 32,
-        ArgType::Long => long_bits(model),
-        ArgType::ULong => long_bits(model),
+        ArgType::Long => model.long_bits(),
+        ArgType::ULong => model.long_bits(),
         ArgType::LongLong => 64,
         ArgType::ULongLong => 64,
         ArgType::Str => 64,

@@ -1,4 +1,6 @@
 //! Data models.
+ghost use Rattle.std.specs.Prelude.{◌≡◌};
+ghost use Rattle.pf_values.specs.DataModel.{bit_count, greatest_rank, long_bits, size_rank};
 
 /// How many bits the integer types have, and which types the length modifiers name.
 #[derive(Clone, Copy, Debug, PartialEq, Eq)]
@@ -9,7 +11,46 @@ pub enum Model {
     Ilp32,
 }
 
+/// `int`, `long` and `long long`, each with its unsigned type, by their rank (C11 6.3.1.1,
+/// paragraph 1).
+#[derive(Clone, Copy, Debug, PartialEq, Eq)]
+pub(crate) enum Rank {
+    Int,
+    Long,
+    LongLong,
+}
+
 impl Model {
     /// All data models.
     pub const ALL: [Model; 2] = [Model::Lp64, Model::Ilp32];
+
+    /// The bits of a long.
+    pub fn long_bits(self) -> u8
+        ensures { result ≡ bit_count (long_bits self) }
+    {
+        match self {
+            Model::Lp64 => 64,
+            Model::Ilp32 => 32,
+        }
+    }
+
+    // The rank of `size_t` with its signed type, and of `ptrdiff_t` with its unsigned one.
+    pub(crate) fn size_rank(self) -> Rank
+        ensures { result ≡ size_rank self }
+    {
+        match self {
+            Model::Lp64 => Rank::Long,
+            Model::Ilp32 => Rank::Int,
+        }
+    }
+
+    // The rank of `intmax_t` and `uintmax_t`.
+    pub(crate) fn greatest_rank(self) -> Rank
+        ensures { result ≡ greatest_rank self }
+    {
+        match self {
+            Model::Lp64 => Rank::Long,
+            Model::Ilp32 => Rank::LongLong,
+        }
+    }
 }
