@@ -2,6 +2,7 @@ pub mod command_line
 mod MagnitudeLemmas
 mod ArgumentWordLemmas
 mod ToldLemmas
+mod ComparisonLemmas
 mod FormatArgumentLemmas
 mod PrintingLemmas
 mod ShowLemmas

@@ -1,7 +1,7 @@
 -- How a comparison is told. This project's own.
-use Rattle.std.specs.Prelude.{◌≡◌, ◌++◌, codes, decimal, flat_map}
+use Rattle.std.specs.Prelude.{◌≡◌, List, [], ◌∷◌, ◌++◌, codes, decimal, flat_map, take}
 use Rattle.pf_values.specs.declared.models.Model.{Model}
-use Rattle.pf_values.specs.declared.models.Model.TheVariants.{Lp64, Ilp32}
+use Rattle.pf_values.specs.declared.models.TheConstants.Model.{ALL}
 use Rattle.pf_values.specs.declared.types.ArgType.{ArgType}
 use Rattle.pf_values.specs.Arguments.{Argument, HasType}
 use Rattle.pf_values.specs.Text.{Text}
@@ -15,7 +15,7 @@ use Rattle.pf_compare.specs.declared.owned_args.OwnedArg.{OwnedArg}
 use Rattle.fmtcanon.specs.declared.answer.Ending.{Ending}
 use Rattle.fmtcanon.specs.declared.answer.Ending.TheVariants as endings
 use Rattle.fmtcanon.specs.declared.models.Models.{Models}
-use Rattle.fmtcanon.specs.declared.models.Models.TheVariants.{One, Both}
+use Rattle.fmtcanon.specs.declared.models.Models.TheVariants.{All, Both, One}
 use Rattle.fmtcanon.specs.ArgumentWords.{SpellsArgument}
 use Rattle.fmtcanon.specs.Lines.{line}
 use Rattle.fmtcanon.specs.Models.{model_name}
@@ -51,24 +51,24 @@ pub record IsComparisonAnswer (model : Model) (first second out : Text)
   pub ends : ending ≡ ending_of comparison.verdict
 
 -- two formats mean the same where they do in each data model
-abbrev pub ending_of_both : Ending → Ending → Ending
-ending_of_both endings.Same ilp32 = ilp32
-ending_of_both endings.Done ilp32 = endings.Different
-ending_of_both endings.Different ilp32 = endings.Different
+abbrev pub ending_with : Ending → Ending → Ending
+ending_with endings.Same others = others
+ending_with endings.Done others = endings.Done
+ending_with endings.Different others = endings.Different
 
--- the verdict in each data model, below its name
-pub record IsComparisonInBoth (first second out : Text) (ending : Ending) : Type 0 where
-  pub lp64 : Text
-  pub ilp32 : Text
-  pub ends_lp64 : Ending
-  pub ends_ilp32 : Ending
-  pub in_lp64 : IsComparisonAnswer Lp64 first second lp64 ends_lp64
-  pub in_ilp32 : IsComparisonAnswer Ilp32 first second ilp32 ends_ilp32
-  pub lines : out ≡ line (model_name Lp64) ++ lp64 ++ line (model_name Ilp32) ++ ilp32
-  pub ends : ending ≡ ending_of_both ends_lp64 ends_ilp32
+-- the verdict in each of these data models, below its name
+abbrev pub IsComparisonInEach : List Model → Text → Text → Text → Ending → Type 0
+IsComparisonInEach [] first second out ending = (out ≡ []) × (ending ≡ endings.Same)
+IsComparisonInEach (model ∷ models) first second out ending =
+    (lines others : Text) × (ends end : Ending)
+    × IsComparisonAnswer model first second lines ends
+    × IsComparisonInEach models first second others end
+    × (out ≡ line (model_name model) ++ lines ++ others) × (ending ≡ ending_with ends end)
 
 -- the verdict in the data models that are asked for
 abbrev pub IsComparisonIn : Models → Text → Text → Text → Ending → Type 0
 IsComparisonIn (One model) first second out ending =
     IsComparisonAnswer model first second out ending
-IsComparisonIn Both first second out ending = IsComparisonInBoth first second out ending
+IsComparisonIn Both first second out ending =
+    IsComparisonInEach (take 2 ALL) first second out ending
+IsComparisonIn All first second out ending = IsComparisonInEach ALL first second out ending

@@ -1,12 +1,13 @@
 -- The data models that the option `--model` names. This project's own.
-use Rattle.std.specs.Prelude.{List, [], ◌∷◌, ◌++◌, Option, Some, None, codes, if◌then◌else◌}
+use Rattle.std.specs.Prelude.{List, [], ◌∷◌, ◌++◌, Option, Some, None, codes, map, if◌then◌else◌}
 use Rattle.std.specs.Str.{bytes_eq}
 use Rattle.clap.specs.Walk.{Row, first_of}
 use Rattle.pf_values.specs.declared.models.Model.{Model}
+use Rattle.pf_values.specs.declared.models.TheConstants.Model.{ALL}
 use Rattle.pf_values.specs.declared.models.Model.TheVariants.{Lp64, Ilp32}
 use Rattle.pf_values.specs.Text.{Text}
 use Rattle.fmtcanon.specs.declared.models.Models.{Models}
-use Rattle.fmtcanon.specs.declared.models.Models.TheVariants.{One, Both}
+use Rattle.fmtcanon.specs.declared.models.Models.TheVariants.{All, Both, One}
 
 -- the name of a data model
 abbrev pub model_name : Model → Text
@@ -15,18 +16,26 @@ model_name Ilp32 = codes "ilp32"
 
 -- the names that the option takes
 abbrev pub model_names : List Text
-model_names = model_name Lp64 ∷ model_name Ilp32 ∷ []
+model_names = map model_name ALL
 
--- the same, where two formats are compared
-abbrev pub model_names_or_both : List Text
-model_names_or_both = model_names ++ codes "both" ∷ []
+-- the same, where two formats are compared: in the first two, or in all
+abbrev pub model_names_or_more : List Text
+model_names_or_more = model_names ++ codes "both" ∷ codes "all" ∷ []
 
--- the data model of such a name
+-- the first of some data models that has a name, else LP64
+abbrev pub model_among : List Model → Text → Model
+model_among [] name = Lp64
+model_among (model ∷ models) name =
+    if bytes_eq name (model_name model) then model else model_among models name
+
 abbrev pub model_named : Text → Model
-model_named name = if bytes_eq name (model_name Ilp32) then Ilp32 else Lp64
+model_named name = model_among ALL name
 
 abbrev pub models_named : Text → Models
-models_named name = if bytes_eq name (codes "both") then Both else One (model_named name)
+models_named name =
+    if bytes_eq name (codes "both") then Both else
+    if bytes_eq name (codes "all") then All else
+    One (model_named name)
 
 -- the data model that clap's rows of a command name, and LP64 where they name none
 abbrev pub model_of_value : Option Text → Model

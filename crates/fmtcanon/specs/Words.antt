@@ -8,7 +8,7 @@ use Rattle.clap.specs.Walk.{Rule, texts}
 use Rattle.clap.specs.declared.builder.value_parser.ValueParser.{ValueParser}
 use Rattle.clap.specs.declared.builder.value_parser.ValueParser.TheVariants.{Names}
 use Rattle.pf_values.specs.Text.{Text}
-use Rattle.fmtcanon.specs.Models.{model_names, model_names_or_both}
+use Rattle.fmtcanon.specs.Models.{model_names, model_names_or_more}
 
 -- an argument that is wanted
 abbrev pub wanted : Text → Rule
@@ -70,7 +70,7 @@ pub record IsCommand (app : App) : Type 0 where
   pub one : Bor (List (Bor Text))
   pub both : Bor (List (Bor Text))
   pub one_names : texts one.now ≡ model_names
-  pub both_names : texts both.now ≡ model_names_or_both
+  pub both_names : texts both.now ≡ model_names_or_more
   pub is : app ≡ the_command (Names one) (Names both)
 
 -- clap's definition of the command takes the words

@@ -7,7 +7,7 @@ ghost use Rattle.clap.specs.declared.builder.value_parser.ValueParser.TheVariant
 ghost use Rattle.fmtcanon.specs.Words.{IsCommand, any_arguments, on_format, on_nothing, the_command, top_app, wanted};
 
 use crate::command_texts as texts;
-use crate::models::{NAMES, NAMES_OR_BOTH};
+use crate::models::{NAMES, NAMES_OR_MORE};
 use clap::{Arg, Command};
 use std::alloc::{AllocError, Global};
 
@@ -15,7 +15,7 @@ use std::alloc::{AllocError, Global};
 pub fn definition<'a>(alloc: Global) -> Result<Command<'a>, AllocError>
     ensures { IfOk result (λ command. IsCommand (app_of command)) }
 {
-    definition_with(alloc, NAMES, NAMES_OR_BOTH)
+    definition_with(alloc, NAMES, NAMES_OR_MORE)
 }
 
 // The same with the names of the data models: of one, and of one or both.

@@ -1,21 +1,19 @@
 //! How two formats compare, as lines.
 ghost use Rattle.std.specs.Prelude.{◌≡◌, ◌<◌, ◌++◌, IfOk, MatchResult, codes, decimal, flat_map};
 ghost use Rattle.fmtcanon.specs.Answers.{HindersFormats};
-ghost use Rattle.pf_values.specs.declared.models.Model.TheVariants.{Lp64, Ilp32};
-ghost use Rattle.fmtcanon.specs.Comparisons.{IsComparisonAnswer, IsComparisonIn, IsComparisonInBoth, argument_line, ending_of, ending_of_both, verdict_lines};
+ghost use Rattle.fmtcanon.specs.Comparisons.{IsComparisonAnswer, IsComparisonIn, IsComparisonInEach, argument_line, ending_of, ending_with, verdict_lines};
 ghost use Rattle.fmtcanon.specs.Lines.{line};
-ghost use Rattle.fmtcanon.specs.Models.{model_name};
 
 use crate::answer::{Answer, Ending};
 use crate::fault::Fault;
-use crate::models::Models;
+use crate::models::{Models, name_of};
 use itoa::Buffer;
 use pf_compare::{OwnedArg, Verdict, compare};
 use pf_values::Model;
 use std::alloc::{AllocError, Global};
 
 /// Whether two formats mean the same in a data model; else where their types differ, or arguments
-/// for which they print different bytes, each as the word that gives it. In both models, each
+/// for which they print different bytes, each as the word that gives it. In more than one, each
 /// verdict stands below the name of its model.
 pub fn comparison_answer(
     alloc: Global,
@@ -29,43 +27,49 @@ pub fn comparison_answer(
 {
     match models {
         Models::One(model) => answer_in(alloc, model, first, second),
-        Models::Both => answer_in_both(alloc, first, second),
+        Models::Both => answer_in_each(alloc, &Model::ALL[..2], first, second),
+        Models::All => answer_in_each(alloc, &Model::ALL, first, second),
     }
 }
 
-fn answer_in_both(alloc: Global, first: &[u8], second: &[u8]) -> Result<Answer, Fault>
+fn answer_in_each(
+    alloc: Global,
+    models: &[Model],
+    first: &[u8],
+    second: &[u8],
+) -> Result<Answer, Fault>
     ensures { MatchResult result
-        (λ answer. IsComparisonInBoth first.now second.now answer.bytes.items answer.ending)
+        (λ answer. IsComparisonInEach models.now first.now second.now
+        answer.bytes.items answer.ending)
         (HindersFormats first.now second.now) }
 {
-    let lp64 = answer_in(alloc, Model::Lp64, first, second)?;
-    let ilp32 = answer_in(alloc, Model::Ilp32, first, second)?;
-    let bytes = lines_of_both(alloc, &lp64.bytes, &ilp32.bytes)?;
-    Ok(Answer {
-        bytes,
-        ending: ending_of_both(lp64.ending, ilp32.ending),
-    })
+    let mut bytes = Vec::new(alloc);
+    let mut ending = Ending::Same;
+    for model in models {
+        let answer = answer_in(alloc, *model, first, second)?;
+        push_verdict(&mut bytes, name_of(*model), &answer.bytes)?;
+        ending = ending_with(ending, answer.ending);
+    }
+    Ok(Answer { bytes, ending })
 }
 
-// The lines of each data model below its name.
-fn lines_of_both(alloc: Global, lp64: &[u8], ilp32: &[u8]) -> Result<Vec<u8>, AllocError>
-    ensures { IfOk result (λ out. out.items
-        ≡ line (model_name Lp64) ++ lp64.now ++ line (model_name Ilp32) ++ ilp32.now) }
+// The lines of a verdict below the name of its data model.
+fn push_verdict(out: &mut Vec<u8>, name: &str, lines: &[u8]) -> Result<(), AllocError>
+    ensures { IfOk result (λ _. out.new.items ≡ out.old.items ++ line name.now ++ lines.now) }
 {
-    let mut out = Vec::from_slice(alloc, b"lp64\n")?;
-    out.extend_from_slice(lp64)?;
-    out.extend_from_slice(b"ilp32\n")?;
-    out.extend_from_slice(ilp32)?;
-    Ok(out)
+    out.extend_from_slice(name.as_bytes())?;
+    out.push(b'\n')?;
+    out.extend_from_slice(lines)?;
+    Ok(())
 }
 
 // They mean the same where they do in each data model.
-fn ending_of_both(lp64: Ending, ilp32: Ending) -> Ending
-    ensures { result ≡ ending_of_both lp64 ilp32 }
+fn ending_with(ending: Ending, others: Ending) -> Ending
+    ensures { result ≡ ending_with ending others }
 {
-    match lp64 {
-        Ending::Same => ilp32,
-        Ending::Done => Ending::Different,
+    match ending {
+        Ending::Same => others,
+        Ending::Done => Ending::Done,
         Ending::Different => Ending::Different,
     }
 }

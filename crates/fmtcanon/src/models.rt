@@ -1,16 +1,16 @@
 //! The data models that the option `--model` names.
 ghost use Rattle.std.specs.Prelude.{◌≡◌};
-ghost use Rattle.fmtcanon.specs.Models.{model_in, model_named, models_in, models_named};
+ghost use Rattle.fmtcanon.specs.Models.{model_in, model_name, model_named, models_in, models_named};
 ghost use Rattle.fmtcanon.specs.Tasks.{rows_in};
 
 use clap::ArgMatches;
 use pf_values::Model;
 
-/// The names of the data models.
+/// The names of the data models, in the order of `Model::ALL`.
 pub const NAMES: &[&str] = &["lp64", "ilp32"];
 
-/// The same, and the name of the two together.
-pub const NAMES_OR_BOTH: &[&str] = &["lp64", "ilp32", "both"];
+/// The same, and the names of the first two together and of all.
+pub const NAMES_OR_MORE: &[&str] = &["lp64", "ilp32", "both", "all"];
 
 /// The data models in which two formats are compared.
 #[derive(Clone, Copy, Debug)]
@@ -19,6 +19,18 @@ pub enum Models {
     One(Model),
     /// LP64 and ILP32, one after the other.
     Both,
+    /// All, one after another.
+    All,
+}
+
+/// The name of a data model.
+pub fn name_of(model: Model) -> &'static str
+    ensures { result.now ≡ model_name model }
+{
+    match model {
+        Model::Lp64 => "lp64",
+        Model::Ilp32 => "ilp32",
+    }
 }
 
 /// The data model of a command.
@@ -46,6 +58,7 @@ fn models_named(name: &str) -> Models
 {
     match name {
         "both" => Models::Both,
+        "all" => Models::All,
         _ => Models::One(model_named(name)),
     }
 }

@@ -1,0 +1,49 @@
+-- The verdicts in one data model after another.
+use Rattle.std.proofs.Common.{◌≡◌, ℕ, suc, ◌+◌, ◌<◌, List, [], ◌∷◌, ◌++◌, length, get_or, take, refl, sym, ap, ◌∙◌, subst, arith}
+use Rattle.std.proofs.Math.Seq.{take-suc}
+use Rattle.std.proofs.lemmas.List.{append-nil, append_assoc}
+use Rattle.pf_values.specs.declared.models.Model.{Model}
+use Rattle.pf_values.specs.Text.{Text}
+use Rattle.fmtcanon.specs.declared.answer.Ending.{Ending}
+use Rattle.fmtcanon.specs.declared.answer.Ending.TheVariants as endings
+use Rattle.fmtcanon.specs.Comparisons.{IsComparisonAnswer, IsComparisonInEach, ending_with}
+use Rattle.fmtcanon.specs.Lines.{line}
+use Rattle.fmtcanon.specs.Models.{model_name}
+
+with_same : (ending : Ending) → ending ≡ ending_with ending endings.Same
+with_same endings.Same = refl
+with_same endings.Done = refl
+with_same endings.Different = refl
+
+with_more : (a b c : Ending) → ending_with (ending_with a b) c ≡ ending_with a (ending_with b c)
+with_more endings.Same b c = refl
+with_more endings.Done b c = refl
+with_more endings.Different b c = refl
+
+-- one more verdict
+module _ (first second : Text) (model : Model) (lines : Text) (ends : Ending) (answer : IsComparisonAnswer model first second lines ends) where
+  abbrev told : Text
+  told = line (model_name model) ++ lines
+
+  pub one_more_model : (models : List Model) (out : Text) (end : Ending) → IsComparisonInEach models first second out end
+      → IsComparisonInEach (models ++ model ∷ []) first second (out ++ told) (ending_with end ends)
+  one_more_model [] out end h =
+      (lines, [], ends, endings.Same, answer, (refl, refl), ap (λ o. o ++ told) h.0 ∙ sym (append-nil told), ap (λ e. ending_with e ends) h.1 ∙ with_same ends)
+  one_more_model (other ∷ models) out end (its, others, ended, rest, is, h, out_is, end_is) =
+      (its, others ++ told, ended, ending_with rest ends, is, one_more_model models others rest h,
+      ap (λ o. o ++ told) out_is ∙ append_assoc (line (model_name other) ++ its) others told,
+      ap (λ e. ending_with e ends) end_is ∙ with_more ended rest ends)
+
+-- and the loop has pushed it, with the name of its data model
+pub verdict_pushed : (first second : Text) (models : List Model) (i : ℕ) (d : Model) → i < length models
+    → (lines : Text) (ends : Ending) → IsComparisonAnswer (get_or models i d) first second lines ends
+    → (out : Text) (end : Ending) → IsComparisonInEach (take i models) first second out end
+    → (name : Text) → name ≡ model_name (get_or models i d) → (new : Text) → new ≡ out ++ line name ++ lines
+    → (ended : Ending) → ended ≡ ending_with end ends → IsComparisonInEach (take (i + 1) models) first second new ended
+verdict_pushed first second models i d few lines ends answer out end h name name_is new new_is ended ended_is =
+    let model = get_or models i d in
+    let next : suc i ≡ i + 1 = omega arith in
+    let front : take i models ++ model ∷ [] ≡ take (i + 1) models = sym (take-suc models i d few) ∙ ap (λ n. take n models) next in
+    let text : new ≡ out ++ (line (model_name model) ++ lines) = new_is ∙ ap (λ n. out ++ line n ++ lines) name_is ∙ append_assoc out (line (model_name model)) lines in
+    rw text (rw ended_is (subst (λ ms. IsComparisonInEach ms first second (out ++ (line (model_name model) ++ lines)) (ending_with end ends)) front
+    (one_more_model first second model lines ends answer (take i models) out end h)))
