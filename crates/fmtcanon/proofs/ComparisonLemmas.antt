@@ -29,10 +29,16 @@ module _ (first second : Text) (model : Model) (lines : Text) (ends : Ending) (a
       → IsComparisonInEach (models ++ model ∷ []) first second (out ++ told) (ending_with end ends)
   one_more_model [] out end h =
       (lines, [], ends, endings.Same, answer, (refl, refl), ap (λ o. o ++ told) h.0 ∙ sym (append-nil told), ap (λ e. ending_with e ends) h.1 ∙ with_same ends)
-  one_more_model (other ∷ models) out end (its, others, ended, rest, is, h, out_is, end_is) =
-      (its, others ++ told, ended, ending_with rest ends, is, one_more_model models others rest h,
-      ap (λ o. o ++ told) out_is ∙ append_assoc (line (model_name other) ++ its) others told,
-      ap (λ e. ending_with e ends) end_is ∙ with_more ended rest ends)
+  one_more_model (other ∷ models) out end (its, others, ended, rest, is, h, out_is, end_is) = (
+    its,
+    others ++ told,
+    ended,
+    ending_with rest ends,
+    is,
+    one_more_model models others rest h,
+    ap (λ o. o ++ told) out_is ∙ append_assoc (line (model_name other) ++ its) others told,
+    ap (λ e. ending_with e ends) end_is ∙ with_more ended rest ends,
+  )
 
 -- and the loop has pushed it, with the name of its data model
 pub verdict_pushed : (first second : Text) (models : List Model) (i : ℕ) (d : Model) → i < length models

@@ -1,7 +1,7 @@
 -- What the calls answer. This project's own.
-use Rattle.std.specs.Prelude.{◌≡◌, ◌≤◌, ◌<◌, ◌^◌, ◌⊎◌, ⊤, ℕ, ℤ, pos, List, [], ◌∷◌, ◌++◌, length, map}
+use Rattle.std.specs.Prelude.{◌≡◌, ◌≤◌, ◌<◌, ◌^◌, ◌⊎◌, ⊤, ℕ, ◌+◌, ◌*◌, ℤ, pos, List, [], ◌∷◌, ◌++◌, length, map}
 use Rattle.pf_values.specs.declared.models.Model.{Model}
-use Rattle.pf_values.specs.declared.models.Model.TheVariants.{Lp64, Ilp32}
+use Rattle.pf_values.specs.declared.models.TheConstants.Model.{ALL}
 use Rattle.pf_values.specs.declared.refusals.RefusalKind.{RefusalKind}
 use Rattle.pf_values.specs.declared.types.ArgType.{ArgType}
 use Rattle.pf_values.specs.Canonical.{IsCanonicalText}
@@ -57,18 +57,21 @@ TellsSame model f g error code error_now =
     (IsAccepted f × IsAccepted g × Tells (AreEquivalent model f g) code × (error_now ≡ error))
     ⊎ IsOneRefusedBy f g code error_now
 
--- the data models of which it is so: 1 for LP64 and 2 for ILP32, added
-abbrev pub IsModelsCode : Type 0 → Type 0 → ℤ → Type 0
-IsModelsCode InLp64 InIlp32 code =
-    ((¬ InLp64) × (¬ InIlp32) × (code ≡ pos 0)) ⊎ (InLp64 × (¬ InIlp32) × (code ≡ pos 1))
-    ⊎ ((¬ InLp64) × InIlp32 × (code ≡ pos 2)) ⊎ (InLp64 × InIlp32 × (code ≡ pos 3))
+-- Of some data models those in which two texts mean the same, as a sum: the first counts so much, and
+-- each other twice as much as the one before it.
+abbrev pub AreSameModels : ℕ → List Model → Text → Text → ℕ → Type 0
+AreSameModels weight [] f g sum = sum ≡ 0
+AreSameModels weight (model ∷ models) f g sum =
+    (others : ℕ) × AreSameModels (2 * weight) models f g others
+    × ((AreEquivalent model f g × (sum ≡ weight + others))
+    ⊎ ((¬ AreEquivalent model f g) × (sum ≡ others)))
 
--- the data models in which two accepted texts mean the same, with the error untouched; or one is
--- refused
+-- the data models in which two accepted texts mean the same, with the error untouched: 1 for the
+-- first, 2 for the second, 4 for the third, added; or one is refused
 abbrev pub TellsModels : Text → Text → CError → ℤ → CError → Type 0
 TellsModels f g error code error_now =
     (IsAccepted f × IsAccepted g
-    × IsModelsCode (AreEquivalent Lp64 f g) (AreEquivalent Ilp32 f g) code × (error_now ≡ error))
+    × ((sum : ℕ) × AreSameModels 1 ALL f g sum × (code ≡ pos sum)) × (error_now ≡ error))
     ⊎ IsOneRefusedBy f g code error_now
 
 -- nothing was put: the text is refused, or memory is out

@@ -1,14 +1,12 @@
 -- Which data model a number is. This project's own.
-use Rattle.std.specs.Prelude.{◌≡◌, ◌⊎◌, zero, suc, ℤ, pos, negsuc, Option, Some, None}
+use Rattle.std.specs.Prelude.{◌≡◌, ◌⊎◌, ℤ, pos, negsuc, Option, Some, None, slice_get}
 use Rattle.pf_values.specs.declared.models.Model.{Model}
-use Rattle.pf_values.specs.declared.models.Model.TheVariants.{Lp64, Ilp32}
+use Rattle.pf_values.specs.declared.models.TheConstants.Model.{ALL}
 use Rattle.fmtcanon_c.specs.declared.errors.TheConstants.{NO_MODEL}
 
--- the data model with the number, if there is one
+-- the data model that stands there in the list of all, if there is one
 abbrev pub model_of : ℤ → Option Model
-model_of (pos zero) = Some Lp64
-model_of (pos (suc zero)) = Some Ilp32
-model_of (pos (suc (suc n))) = None
+model_of (pos n) = slice_get ALL n
 model_of (negsuc n) = None
 
 -- it is so in the data model with the number; or there is none, which is told, and nothing changes

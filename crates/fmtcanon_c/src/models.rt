@@ -4,13 +4,10 @@ ghost use Rattle.fmtcanon_c.specs.Models.{model_of};
 
 use pf_values::Model;
 
-/// The data model with a number, `FMTCANON_LP64` or `FMTCANON_ILP32`.
+/// The data model with a number, as `FMTCANON_LP64`: its place in the list of all.
 pub(crate) fn model_of(number: i32) -> Option<Model>
     ensures { result ≡ model_of number }
 {
-    match number {
-        0 => Some(Model::Lp64),
-        1 => Some(Model::Ilp32),
-        _ => None,
-    }
+    let place = usize::try_from(number).ok()?;
+    Model::ALL.get(place).copied()
 }

@@ -1,8 +1,9 @@
 //! Whether two formats mean the same.
-ghost use Rattle.std.specs.Prelude.{◌≡◌, IsTrue, MatchResult};
-ghost use Rattle.pf_values.specs.declared.models.Model.TheVariants.{Lp64, Ilp32};
-ghost use Rattle.pf_canon.specs.Comparing.{AreTextsSame, TextStops};
-ghost use Rattle.fmtcanon_c.specs.Calls.{IsModelsCode, TellsModels, TellsSame};
+ghost use Rattle.std.specs.Prelude.{◌≡◌, MatchResult};
+ghost use Rattle.pf_values.specs.declared.models.TheConstants.Model.{ALL};
+ghost use Rattle.pf_values.specs.Items.{IsAccepted};
+ghost use Rattle.pf_canon.specs.Comparing.{TextStops};
+ghost use Rattle.fmtcanon_c.specs.Calls.{AreSameModels, TellsModels, TellsSame};
 ghost use Rattle.fmtcanon_c.specs.Models.{InModel};
 
 use crate::errors::{CError, NO_MODEL, put_refusal};
@@ -34,37 +35,33 @@ fn tell_same(model: Model, first: &[u8], second: &[u8], error: &mut CError) -> i
     }
 }
 
-/// The data models in which two formats have equal types and print equal bytes for all arguments:
-/// 1 for LP64 and 2 for ILP32, added; else the code of the refusal of one. It takes no memory.
+/// The data models in which two formats have equal types and print equal bytes for all arguments: 1
+/// for the first of all, 2 for the second and so on, added; else the code of the refusal of one. It
+/// takes no memory.
 #[unsafe(no_mangle)]
 pub extern "C" fn fmtcanon_same_models(first: &[u8], second: &[u8], error: &mut CError) -> i64
     ensures { TellsModels first.now second.now error.old result error.new }
 {
-    match in_each(first, second) {
-        Ok((lp64, ilp32)) => models_code(lp64, ilp32),
+    match same_models(first, second) {
+        Ok(sum) => i64::from(sum),
         Err((side, refusal)) => put_refusal(error, side, refusal),
     }
 }
 
-// Whether they mean the same in LP64, and in ILP32.
-fn in_each(first: &[u8], second: &[u8]) -> Result<(bool, bool), (Side, Refusal)>
+// The data models in which they mean the same, as a sum.
+fn same_models(first: &[u8], second: &[u8]) -> Result<u8, (Side, Refusal)>
     ensures { MatchResult result
-        (λ are. AreTextsSame Lp64 first.now second.now are.0
-        × AreTextsSame Ilp32 first.now second.now are.1)
+        (λ sum. IsAccepted first.now × IsAccepted second.now
+        × AreSameModels 1 ALL first.now second.now sum)
         (TextStops first.now second.now) }
 {
-    let lp64 = same_text(Model::Lp64, first, second)?;
-    let ilp32 = same_text(Model::Ilp32, first, second)?;
-    Ok((lp64, ilp32))
-}
-
-fn models_code(lp64: bool, ilp32: bool) -> i64
-    ensures { IsModelsCode (IsTrue lp64) (IsTrue ilp32) result }
-{
-    match (lp64, ilp32) {
-        (false, false) => 0,
-        (true, false) => 1,
-        (false, true) => 2,
-        (true, true) => 3,
+    let mut sum = 0;
+    let mut weight = 1;
+    for model in &Model::ALL {
+        if same_text(*model, first, second)? {
+            sum += weight;
+        }
+        weight *= 2;
     }
+    Ok(sum)
 }
