@@ -9,7 +9,6 @@ use Rattle.pf_values.specs.declared.conversions.Kind.TheVariants as kinds
 use Rattle.pf_values.specs.declared.flags.Flag.TheVariants.{Minus}
 use Rattle.pf_values.specs.declared.flags.FlagSet.{FlagSet}
 use Rattle.pf_values.specs.declared.lengths.Length.{Length}
-use Rattle.pf_values.specs.declared.lengths.Length.TheVariants as lengths
 use Rattle.pf_values.specs.declared.limits.TheConstants.{MAX_NUMBER}
 use Rattle.pf_values.specs.declared.models.Model.{Model}
 use Rattle.pf_values.specs.Arguments.{Number, String, IsConverted}
@@ -21,16 +20,7 @@ use Rattle.pf_values.specs.Conversions.{
   prints_signed,
   prints_text,
 }
-use Rattle.pf_values.specs.DataModel.{
-  FitsIn,
-  bit_count,
-  bits_under,
-  kept_length,
-  signed_type,
-  type_of_kind,
-  type_under,
-  unsigned_type,
-}
+use Rattle.pf_values.specs.DataModel.{FitsIn, bit_count, bits_under, kept_length, type_of_kind, type_under}
 use Rattle.pf_values.specs.Flags.{has}
 use Rattle.pf_values.specs.Printing.{PrintsKind, PrintsNumber, field}
 use Rattle.pf_values.specs.Specification.{Specification, width_given}

@@ -7,3 +7,4 @@ mod Precisions
 mod PlainNumbers
 mod PrefixedNumbers
 mod SignedNumbers
+mod TextCores
