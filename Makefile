@@ -28,7 +28,7 @@ PYTHONDIR ?= $(shell python3 packaging/python_folder.py $(PREFIX))
 PYTHON ?= /usr/bin/env python3
 PROGRAM = crates/fmtcanon/out/fmtcanon
 
-VERSION = 0.1.0
+VERSION = 0.2.0
 SONAME = libfmtcanon.so.0
 # What the C library is made in: `rt ci` keeps only its own files in a crate's out/.
 C = out/c

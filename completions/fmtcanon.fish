@@ -11,5 +11,5 @@ complete -c fmtcanon -n "not __fish_seen_subcommand_from $commands" -a format -d
 complete -c fmtcanon -n "not __fish_seen_subcommand_from $commands" -a same -d 'Tells whether one format may stand for another; if not, in what they differ'
 complete -c fmtcanon -n "not __fish_seen_subcommand_from $commands" -a stream -d 'Writes the canonical string of standard input'
 complete -c fmtcanon -n '__fish_seen_subcommand_from format; and not contains -- -- (commandline -opc)' -a 'n: s:' -d 'An argument: `n:` and a decimal number, or `s:` and a string'
-complete -c fmtcanon -n '__fish_seen_subcommand_from types canon show format stream' -l model -x -a 'lp64 ilp32' -d 'The data model'
-complete -c fmtcanon -n '__fish_seen_subcommand_from same' -l model -x -a 'lp64 ilp32 both' -d 'The data model'
+complete -c fmtcanon -n '__fish_seen_subcommand_from types canon show format stream' -l model -x -a 'lp64 ilp32 llp64' -d 'The data model'
+complete -c fmtcanon -n '__fish_seen_subcommand_from same' -l model -x -a 'lp64 ilp32 llp64 both all' -d 'The data model'

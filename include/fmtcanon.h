@@ -4,13 +4,13 @@
  * and a zero byte inside it is refused. What a call answers is proved of the code that makes it; the
  * source's docs/C.md says what that means, and has examples.
  *
- * The data model. What a format means hangs on it: in LP64 `%zu` is `%lu`, in ILP32 it is `%u`.
- * `model` is an enum fmtcanon_model, that of the machine on which the format is to be used, whatever
- * the library runs on. Which formats are accepted is the same in both.
+ * The data model. What a format means hangs on it: in LP64 `%zu` is `%lu`, in ILP32 it is `%u`, in
+ * LLP64 `%llu`. `model` is an enum fmtcanon_model, that of the machine on which the format is to be
+ * used, whatever the library runs on. Which formats are accepted is the same in all.
  *
  * Results. Below zero is an error: -1 to -18 where a format is refused, and then `*error` says
  * why, where, and which format; FMTCANON_ERROR_NOMEMORY; or FMTCANON_ERROR_MODEL, which is the only
- * answer to a `model` that is neither, and then nothing is written. Anything else is the answer.
+ * answer to a `model` that is none, and then nothing is written. Anything else is the answer.
  * Only a refusal changes `*error`.
  *
  * Buffers. `out` is written only where all of the answer has room in its `cap` bytes; else it is
@@ -39,7 +39,7 @@ extern "C" {
 
 /* The version of this header; fmtcanon_version() tells that of the library. */
 #define FMTCANON_VERSION_MAJOR 0
-#define FMTCANON_VERSION_MINOR 1
+#define FMTCANON_VERSION_MINOR 2
 #define FMTCANON_VERSION_PATCH 0
 
 /* Memory was refused, or no memory could hold the answer. */
@@ -51,7 +51,8 @@ extern "C" {
 /* How many bits the integer types have, and which types the length modifiers name. */
 enum fmtcanon_model {
     FMTCANON_LP64 = 0, /* `long` has 64 bits, as have `z`, `t` and `j`, which are `l` */
-    FMTCANON_ILP32 = 1 /* `long` has 32 bits; `%zu` means `%u` and `%td` means `%d`; `j` is `ll` */
+    FMTCANON_ILP32 = 1, /* `long` has 32 bits; `%zu` means `%u` and `%td` means `%d`; `j` is `ll` */
+    FMTCANON_LLP64 = 2 /* `long` has 32 bits; `z`, `t` and `j` are `ll`: Windows on 64 bits */
 };
 
 /* Data models, as a set: their sum. */
@@ -59,7 +60,9 @@ enum fmtcanon_models {
     FMTCANON_IN_NEITHER = 0,
     FMTCANON_IN_LP64 = 1,
     FMTCANON_IN_ILP32 = 2,
-    FMTCANON_IN_BOTH = 3
+    FMTCANON_IN_BOTH = 3, /* LP64 and ILP32 */
+    FMTCANON_IN_LLP64 = 4,
+    FMTCANON_IN_ALL = 7
 };
 
 /* Why a format is refused. The result is the number of the kind below zero. fmtcanon_kind_name()
@@ -147,7 +150,7 @@ int64_t fmtcanon_same(int model, const char *first, size_t first_len, const char
                       size_t second_len, fmtcanon_error *error);
 
 /* The data models in which fmtcanon_same() is 1, an enum fmtcanon_models: where a rewrite is for
- * machines of both, it must be FMTCANON_IN_BOTH. Takes no memory. */
+ * machines of all, it must be FMTCANON_IN_ALL. Takes no memory. */
 int64_t fmtcanon_same_models(const char *first, size_t first_len, const char *second,
                              size_t second_len, fmtcanon_error *error);
 

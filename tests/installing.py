@@ -24,7 +24,7 @@ INSTALLED = {
     "lib/libfmtcanon.a",
     "lib/libfmtcanon.so",
     "lib/libfmtcanon.so.0",
-    "lib/libfmtcanon.so.0.1.0",
+    "lib/libfmtcanon.so.0.2.0",
     "lib/pkgconfig/fmtcanon.pc",
     f"{MODULE}/libfmtcanon.so.0",
     f"{MODULE}/program",
@@ -98,7 +98,7 @@ def try_install(work, trials):
     text = (prefix / "lib/pkgconfig/fmtcanon.pc").read_text()
     variables = dict(re.findall(r"^(\w+)=(.*)$", text, flags=re.MULTILINE))
     trials.expect("folders of fmtcanon.pc", variables, {"prefix": "/usr", "libdir": "/usr/lib", "includedir": "/usr/include"})
-    trials.expect("the library of the module", (prefix / MODULE / "libfmtcanon.so.0").resolve(), prefix / "lib/libfmtcanon.so.0.1.0")
+    trials.expect("the library of the module", (prefix / MODULE / "libfmtcanon.so.0").resolve(), prefix / "lib/libfmtcanon.so.0.2.0")
     trials.expect("the program of the module", (prefix / MODULE / "program").resolve(), prefix / "bin/fmtcanon")
     files = [file.resolve() for file in map(prefix.joinpath, files_below(prefix))]
     modes = {oct(file.stat().st_mode & 0o777) for file in files if file.parent.name != "bin"}
@@ -132,7 +132,7 @@ def try_missing(work, trials):
 
 def try_archive(work, trials):
     """The archive installs the same files, and the module in it finds its library."""
-    made = TOP / "out/fmtcanon-0.1.0-linux-x86_64.tar.gz"
+    made = TOP / "out/fmtcanon-0.2.0-linux-x86_64.tar.gz"
     trials.expect("make dist", make(["dist"])[0], 0)
     with tarfile.open(made) as archive:
         archive.extractall(work / "archive")
@@ -166,7 +166,7 @@ def try_page(trials):
     trials.expect("constants of fmtcanon.3 that the header has not", sorted(constants - set(re.findall(r"\w+", HEADER.read_text()))), [])
     for page in (TOP / "man").iterdir():
         version = re.search(r'^\.TH \S+ [13] "" "(.*?)"', page.read_text(encoding="utf-8")).group(1)
-        trials.expect(f"the version of {page.name}", version, "fmtcanon 0.1.0")
+        trials.expect(f"the version of {page.name}", version, "fmtcanon 0.2.0")
 
 
 def options_of(text):

@@ -89,11 +89,13 @@ def try_header(trials):
     names = {"UInt": "UINT", "ULong": "ULONG", "ULongLong": "ULONG_LONG", "Str": "STRING"}
     types = source_numbers("fmtcanon_c/src/types.rt", r"ArgType::(\w+) => (\d+),", names)
     trials.expect("types", header_numbers("fmtcanon_type"), types)
-    text = (SOURCES / "models.rt").read_text(encoding="utf-8")
-    models = {name.upper(): int(number) for number, name in re.findall(r"(\d+) => Some\(Model::(\w+)\),", text)}
+    # The number of a data model is its place in the list of all.
+    text = (TOP / "crates/pf_values/src/models.rt").read_text(encoding="utf-8")
+    listed = re.search(r"pub const ALL: .* = \[(.*)\];", text).group(1)
+    models = {name.upper(): number for number, name in enumerate(re.findall(r"Model::(\w+)", listed))}
     trials.expect("data models", header_numbers("fmtcanon_model"), models)
     sets = {f"IN_{name}": 1 << number for name, number in models.items()}
-    sets = {**sets, "IN_NEITHER": 0, "IN_BOTH": sum(sets.values())}
+    sets = {**sets, "IN_NEITHER": 0, "IN_BOTH": sets["IN_LP64"] + sets["IN_ILP32"], "IN_ALL": sum(sets.values())}
     trials.expect("sets of data models", header_numbers("fmtcanon_models"), sets)
     verdicts = source_numbers("fmtcanon_c/src/comparing.rt", r"Verdict::(\w+)[^=]*=> \((\d+),", {"Args": "DIFFERENT"})
     trials.expect("verdicts", header_numbers("fmtcanon_verdict"), verdicts)
@@ -259,8 +261,8 @@ def same_lines(module, one, other, model):
 
 
 def try_program_rows(module, trials):
-    """The rows that the program is held to hold for the library, too: of either data model, and of both."""
-    found, commands = {"lp64": 0, "ilp32": 0, "both": 0}, {}
+    """The rows that the program is held to hold for the library, too: of each data model, of both and of all."""
+    found, commands = {"lp64": 0, "ilp32": 0, "llp64": 0, "both": 0, "all": 0}, {}
     for line in ROWS.read_text(encoding="utf-8").splitlines():
         row = json.loads(line)
         command, *words = row["words"]
@@ -270,7 +272,8 @@ def try_program_rows(module, trials):
             continue
         name = words.pop(words.index("--model") + 1) if "--model" in words else "lp64"
         formats = [word.encode() for word in words if word not in ("--model", "--")]
-        models = list(module.Model) if name == "both" else [module.Model[name.upper()]]
+        several = {"both": [module.Model.LP64, module.Model.ILP32], "all": list(module.Model)}
+        models = several[name] if name in several else [module.Model[name.upper()]]
         wanted = (row["status"], row["stdout"].encode("latin-1"), row["stderr"].encode())
         trials.expect(f"the module: {row['words']}", program_answer(module, command, formats, models), wanted)
         found[name] += 1
@@ -284,7 +287,7 @@ def try_program(program, module, trials):
     formats = shapes()
     for at in range(0, len(formats) - 1, STEP):
         one, other = formats[at], formats[at + 1]
-        model = list(module.Model)[at // STEP % 2]
+        model = list(module.Model)[at // STEP % 3]
         name = ["--model", model.name.lower()]
         for command, words in [("canon", [one]), ("types", [one]), ("same", [one, other])]:
             wanted = program_answer(module, command, words, [model])

@@ -28,8 +28,8 @@ SYSTEM_PYTHON = "/usr/bin/python3"
 # What fish completes after these words.
 FISH = [
     ("s", ["same", "show", "stream"]),
-    ("canon --model=", ["--model=ilp32", "--model=lp64"]),
-    ("same --model ", ["both", "ilp32", "lp64"]),
+    ("canon --model=", ["--model=ilp32", "--model=llp64", "--model=lp64"]),
+    ("same --model ", ["all", "both", "ilp32", "llp64", "lp64"]),
     ("format %d ", ["n:", "s:"]),
     ("format -- %d ", []),
     ("canon -- --m", []),

@@ -61,13 +61,13 @@ SOURCES = [
     (["%05d", "%.5d"], 'printf("%05d", n);', "a.c:1: left: the two print different bytes for (-1,)\n", None),
     (["%d", "%ld"], 'printf("%d", n);', "a.c:1: left: the types differ at argument 0\n", None),
     # They do in one data model alone.
-    (["%zu", "%lu"], 'printf("%zu", n);', "a.c:1: left: in ILP32 the types differ at argument 0\n", None),
+    (["%zu", "%lu"], 'printf("%zu", n);', "a.c:1: left: in ILP32 the types differ at argument 0; in LLP64 the types differ at argument 0\n", None),
     (["--model", "both", "%zd", "%d"], 'printf("%zd", n);', "a.c:1: left: in LP64 the types differ at argument 0\n", None),
     (["--model", "lp64", "%zu", "%lu"], 'printf("%zu", n);', "a.c:1: replaced\n", 'printf("%lu", n);'),
     (["--model", "ilp32", "%zd", "%d"], 'printf("%zd", n);', "a.c:1: replaced\n", 'printf("%d", n);'),
     (["--model", "ilp32", "%zu", "%lu"], 'printf("%zu", n);', "a.c:1: left: the types differ at argument 0\n", None),
     (["--model", "ilp32", "%zx", "%u"], 'printf("%zx", n);', "a.c:1: left: the two print different bytes for (4294967295,)\n", None),
-    (["%hx", "%zd"], 'printf("%hx", n);', "a.c:1: left: in LP64 the types differ at argument 0; in ILP32 the two print different bytes for (257,)\n", None),
+    (["%hx", "%zd"], 'printf("%hx", n);', "a.c:1: left: in LP64 the types differ at argument 0; in ILP32 the two print different bytes for (257,); in LLP64 the types differ at argument 0\n", None),
     (["%jd", "%td"], 'printf("%ld", n);', "", None),
     (["--model", "lp64", "%jd", "%td"], 'printf("%ld", n);', "a.c:1: left: it means the same, and is spelled otherwise\n", None),
     # They do in the POSIX locale alone.

@@ -14,7 +14,7 @@ from pathlib import Path
 
 from harness import TOP, run
 
-VERSION = "0.1.0"
+VERSION = "0.2.0"
 PACKAGE = TOP / f"out/fmtcanon_{VERSION}-1_amd64.deb"
 ARCHIVE = TOP / f"out/fmtcanon-{VERSION}-linux-x86_64.tar.gz"
 INCLUDED = "gcc,libc6-dev,make,pkg-config,python3"
@@ -25,7 +25,7 @@ TRIED = [
     ("python3 -c 'import fmtcanon; print(fmtcanon.same(\"%5c\", \"    %c\"))'", "True\n"),
     ("fmtcanon-po --strict right.po 2>&1", "2 messages judged, 0 not judged\n"),
     ("fmtcanon-po wrong.po > told 2>&1; echo $?", "1\n"),
-    ("fmtcanon-replace %zu %lu size.c || true", "size.c:2: left: in ILP32 the types differ at argument 0\n"),
+    ("fmtcanon-replace %zu %lu size.c || true", "size.c:2: left: in ILP32 the types differ at argument 0; in LLP64 the types differ at argument 0\n"),
     ("fmtcanon-replace --model lp64 %zu %lu size.c", "size.c:2: replaced\n"),
     ("cc -std=c99 -o canon canon.c $(pkg-config --cflags --libs fmtcanon) && ./canon %05u", "%.5u\n"),
 ]

@@ -24,7 +24,7 @@ from harness import TOP, Trials, run  # noqa: E402
 ROWS = TOP / "tests/rows"
 RENDERED = TOP / "crates/pf_render/src/tests"
 ESCAPED = {"n": "\n", "t": "\t", "r": "\r", "0": "\0", "\\": "\\", '"': '"'}
-MODELS = ["lp64", "ilp32"]
+MODELS = ["lp64", "ilp32", "llp64"]
 FLAGS = "-+ #0'"
 LENGTHS = ["", "hh", "h", "l", "ll", "j", "z", "t"]
 CONVERSIONS = "diuoxXbcs"
@@ -183,8 +183,11 @@ def try_texts(program, trials, model, format, numbers, texts):
     trials.expect(f"{model} {format} of {words}", printed(program, model, whole, words), "\n".join(texts).encode())
 
 
-# The modifiers under which ILP32 prints what LP64 prints under this one, but for those that name other bits there.
-ALIKE_IN_ILP32 = {"": ["", "l", "z", "t"], "hh": ["hh"], "h": ["h"], "ll": ["ll", "j"], "j": ["ll", "j"]}
+# The modifiers under which another data model prints what LP64 prints under this one, but for those that name other bits there.
+ALIKE = {
+    "ilp32": {"": ["", "l", "z", "t"], "hh": ["hh"], "h": ["h"], "ll": ["ll", "j"], "j": ["ll", "j"]},
+    "llp64": {"": ["", "l"], "hh": ["hh"], "h": ["h"], "ll": ["ll", "j", "z", "t"], "j": ["ll", "j", "z", "t"]},
+}
 
 
 def whole_text(field, byte):
@@ -194,13 +197,14 @@ def whole_text(field, byte):
 
 
 def try_grid(program, trials):
-    """Each integer conversion under each modifier prints what a C library prints, in either data model."""
+    """Each integer conversion under each modifier prints what a C library prints, in each data model."""
     for name in ["signed", "unsigned", "octal", "hexadecimal", "binary"]:
         for format, bits, *texts in rattle_fields(f"grid/{name}.rt", name.upper()):
             numbers = values(int(bits), takes_unsigned(format))
             try_texts(program, trials, "lp64", format, numbers, texts)
-            for length in ALIKE_IN_ILP32.get(length_of(format), []):
-                try_texts(program, trials, "ilp32", with_length(format, length), numbers, texts)
+            for model, alike in ALIKE.items():
+                for length in alike.get(length_of(format), []):
+                    try_texts(program, trials, model, with_length(format, length), numbers, texts)
     for format, bits, byte, *fields in fields_of("long.txt"):
         numbers = values(int(bits), takes_unsigned(format))
         try_texts(program, trials, "lp64", format, numbers, [whole_text(field, byte) for field in fields])
@@ -311,6 +315,7 @@ CANDIDATES_OF_A_LONG = {
     "lp64": {"long": CANDIDATES["long long"], "unsigned long": CANDIDATES["unsigned long long"]},
     "ilp32": {"long": [0, 1, -1, -(1 << 31), (1 << 31) - 1], "unsigned long": CANDIDATES["unsigned int"]},
 }
+CANDIDATES_OF_A_LONG["llp64"] = CANDIDATES_OF_A_LONG["ilp32"]
 STRINGS = ["", "A", "A" * 4096, "B" * 4096]
 
 
@@ -337,7 +342,7 @@ def try_reductions(program, trials):
         for format, (_, spaces, zeros, core, trail) in zip(formats, shown(program, model, formats)):
             # Every number of the int candidates fits a long of 32 bits.
             kind = type_of(program, model, format)
-            words = candidate_words(model, "int" if (kind, model) == ("long", "ilp32") else kind)
+            words = candidate_words(model, "int" if kind == "long" and model != "lp64" else kind)
             parts = [b" " * spaces + b"0" * zeros + text + b" " * trail for text in texts_of(program, model, core, words)]
             trials.expect(f"{model} {format} and {core}", texts_of(program, model, format, words), parts)
 

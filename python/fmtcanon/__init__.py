@@ -8,7 +8,7 @@ Give bytes where a format isn't UTF-8. Each call raises `Refused` for a format t
 doesn't accept, `MemoryError` where memory is out, and `TypeError` for what is no format.
 
 What a format means hangs on the data model of the machine on which it is used: `model` says which,
-a `Model` or its name, "lp64" or "ilp32", and is LP64 where it isn't given. `ValueError` is raised for
+a `Model` or its name, "lp64", "ilp32" or "llp64", and is LP64 where it isn't given. `ValueError` is raised for
 what is no data model.
 
 A `str` with a lone surrogate, as the names of files may have it, has no UTF-8: each call raises
@@ -69,7 +69,7 @@ __all__ = [
 ]
 
 # The version of this module, and of the library that comes with it; version() tells the one that is loaded.
-__version__ = "0.1.0"
+__version__ = "0.2.0"
 
 Format = Union[str, bytes, bytearray, memoryview]
 _Text = TypeVar("_Text", str, bytes)
@@ -107,11 +107,13 @@ class Model(enum.IntEnum):
     """A data model: how many bits integers have, and which types the length modifiers name.
 
     In LP64 `long` has 64 bits, and `z`, `t` and `j` are `l`. In ILP32 it has 32 bits, `%zu` means
-    `%u`, `%td` means `%d`, and `j` is `ll`.
+    `%u`, `%td` means `%d`, and `j` is `ll`. In LLP64, that of Windows on 64 bits, it has 32 bits,
+    and `z`, `t` and `j` are `ll`.
     """
 
     LP64 = 0
     ILP32 = 1
+    LLP64 = 2
 
 
 # How a data model is given to a call.
@@ -246,7 +248,7 @@ def _number(model: DataModel) -> Model:
     for one in Model:
         if one.name.lower() == model:
             return one
-    raise ValueError(f"{model!r} is no data model: there are lp64 and ilp32")
+    raise ValueError(f"{model!r} is no data model: there are lp64, ilp32 and llp64")
 
 
 def _name(kind: int) -> str:
@@ -315,7 +317,7 @@ def same(first: Format, second: Format, *, model: DataModel = Model.LP64) -> boo
 
 
 def same_in(first: Format, second: Format) -> List[Model]:
-    """The data models in which two formats are the same: none, one, or both, LP64 first."""
+    """The data models in which two formats are the same: none to all, LP64 first."""
     f, g, error = _bytes(first), _bytes(second), _Error()
     found = _answer(_library.fmtcanon_same_models(f, len(f), g, len(g), error), error)
     return [model for model in Model if found & 1 << model]

@@ -89,6 +89,9 @@ class Calls(unittest.TestCase):
         wanted = [Type.LONG, Type.ULONG, Type.LONG, Type.ULONG, Type.LONG]
         self.assertEqual(fmtcanon.types("%td%zu%jd%ju%ld", model=Model.LP64), wanted)
         self.assertEqual(fmtcanon.types("%td%zu%jd%ju%ld"), wanted)
+        wanted = [Type.LONG_LONG, Type.ULONG_LONG, Type.LONG_LONG, Type.ULONG_LONG, Type.LONG]
+        self.assertEqual(fmtcanon.types("%td%zu%jd%ju%ld", model=Model.LLP64), wanted)
+        self.assertEqual(fmtcanon.canonical("%zx", model="llp64"), "%llx")
         self.assertEqual(fmtcanon.canonical("%ju", model=Model.ILP32), "%llu")
         self.assertEqual(fmtcanon.canonical(b"%ju"), b"%lu")
         self.assertTrue(fmtcanon.is_canonical("%lld", model=Model.ILP32))
@@ -100,13 +103,15 @@ class Calls(unittest.TestCase):
         self.assertEqual(told.arguments, (4294967295,))
 
     def test_same_in(self):
-        self.assertEqual(fmtcanon.same_in("%i", b"%d"), [Model.LP64, Model.ILP32])
-        self.assertEqual(fmtcanon.same_in("%td", "%jd"), [Model.LP64])
+        self.assertEqual(fmtcanon.same_in("%i", b"%d"), [Model.LP64, Model.ILP32, Model.LLP64])
+        self.assertEqual(fmtcanon.same_in("%td", "%jd"), [Model.LP64, Model.LLP64])
+        self.assertEqual(fmtcanon.same_in("%td", "%ld"), [Model.LP64])
+        self.assertEqual(fmtcanon.same_in("%zu", "%llu"), [Model.LLP64])
         self.assertEqual(fmtcanon.same_in("%zd", "%d"), [Model.ILP32])
         self.assertEqual(fmtcanon.same_in("%d", "%u"), [])
 
     def test_no_model(self):
-        for wrong in [2, -1, 64, 1 << 32, "LP64", "both", "", None]:
+        for wrong in [3, -1, 64, 1 << 32, "LP64", "both", "", None]:
             for call in [fmtcanon.canonical, fmtcanon.is_canonical, fmtcanon.types]:
                 with self.assertRaises(ValueError):
                     call("%d", model=wrong)

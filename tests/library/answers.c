@@ -178,7 +178,7 @@ int main(int argc, char **argv)
         size_t len = strlen(whole + at), next = at + len + 1;
         size_t next_len = next < whole_len ? strlen(whole + next) : 0;
         char *f = copy_of(at, len), *g = copy_of(next, next_len);
-        for (model = FMTCANON_LP64; model <= FMTCANON_ILP32; model++) {
+        for (model = FMTCANON_LP64; model <= FMTCANON_LLP64; model++) {
             one(f, len, at);
             two(f, len, g, next_len, at);
         }

@@ -12,7 +12,7 @@
 #define WANT(holds) ((holds) ? (void)0 : failed(#holds, __LINE__))
 #define COUNT(rows) (sizeof(rows) / sizeof *(rows))
 
-enum { LP64 = FMTCANON_LP64, ILP32 = FMTCANON_ILP32 };
+enum { LP64 = FMTCANON_LP64, ILP32 = FMTCANON_ILP32, LLP64 = FMTCANON_LLP64 };
 
 static void failed(const char *what, int line)
 {
@@ -109,7 +109,7 @@ static void numbers(void)
 
 static void models(void)
 {
-    static const int none[] = {-1, 2, 3, 32, 64, 0x7fffffff, -0x7fffffff - 1};
+    static const int none[] = {-1, 3, 4, 32, 64, 0x7fffffff, -0x7fffffff - 1};
     fmtcanon_error e = {77, 78, 79};
     fmtcanon_comparison told = {77, 78, 79};
     char out[8] = "ZZZZZZZ";
@@ -126,13 +126,17 @@ static void models(void)
     WANT(!strcmp(out, "ZZZZZZZ") && e.at == 77 && e.kind == 78 && e.side == 79);
     WANT(told.number == 77 && told.verdict == 78 && told.renderings == 79);
     WANT(fmtcanon_canonical(ILP32, "%ju", 3, out, 8, &e) == 4 && !strcmp(out, "%llu"));
+    WANT(fmtcanon_canonical(LLP64, "%zx", 3, out, 8, &e) == 4 && !strcmp(out, "%llx"));
     WANT(fmtcanon_types(ILP32, "%zu%jd%ld", 9, bytes, 8, &e) == 3);
     WANT(bytes[0] == FMTCANON_UINT && bytes[1] == FMTCANON_LONG_LONG && bytes[2] == FMTCANON_LONG);
     WANT(fmtcanon_same_models("%d", 2, "%ld", 3, &e) == FMTCANON_IN_NEITHER);
-    WANT(fmtcanon_same_models("%td", 3, "%jd", 3, &e) == FMTCANON_IN_LP64);
+    WANT(fmtcanon_same_models("%td", 3, "%jd", 3, &e) == FMTCANON_IN_LP64 + FMTCANON_IN_LLP64);
+    WANT(fmtcanon_same_models("%td", 3, "%ld", 3, &e) == FMTCANON_IN_LP64);
+    WANT(fmtcanon_same_models("%zu", 3, "%llu", 4, &e) == FMTCANON_IN_LLP64);
     WANT(fmtcanon_same_models("%zd", 3, "%d", 2, &e) == FMTCANON_IN_ILP32);
-    WANT(fmtcanon_same_models("%i", 2, "%d", 2, &e) == FMTCANON_IN_BOTH);
-    WANT(fmtcanon_same_models(NULL, 0, NULL, 0, &e) == FMTCANON_IN_BOTH && e.at == 77);
+    WANT(fmtcanon_same_models("%jd", 3, "%lld", 4, &e) == FMTCANON_IN_ILP32 + FMTCANON_IN_LLP64);
+    WANT(fmtcanon_same_models("%i", 2, "%d", 2, &e) == FMTCANON_IN_ALL);
+    WANT(fmtcanon_same_models(NULL, 0, NULL, 0, &e) == FMTCANON_IN_ALL && e.at == 77);
     WANT(fmtcanon_same_models("%d", 2, "%y", 2, &e) == -FMTCANON_UNEXPECTED && e.side == 1);
     WANT(fmtcanon_same_models("%*d", 3, "%y", 2, &e) == -FMTCANON_STAR && e.side == 0);
 }

@@ -4,7 +4,7 @@ use Rattle.std.specs.Str.{bytes_eq}
 use Rattle.clap.specs.Walk.{Row, first_of}
 use Rattle.pf_values.specs.declared.models.Model.{Model}
 use Rattle.pf_values.specs.declared.models.TheConstants.Model.{ALL}
-use Rattle.pf_values.specs.declared.models.Model.TheVariants.{Lp64, Ilp32}
+use Rattle.pf_values.specs.declared.models.Model.TheVariants.{Lp64, Ilp32, Llp64}
 use Rattle.pf_values.specs.Text.{Text}
 use Rattle.fmtcanon.specs.declared.models.Models.{Models}
 use Rattle.fmtcanon.specs.declared.models.Models.TheVariants.{All, Both, One}
@@ -13,6 +13,7 @@ use Rattle.fmtcanon.specs.declared.models.Models.TheVariants.{All, Both, One}
 abbrev pub model_name : Model → Text
 model_name Lp64 = codes "lp64"
 model_name Ilp32 = codes "ilp32"
+model_name Llp64 = codes "llp64"
 
 -- the names that the option takes
 abbrev pub model_names : List Text

@@ -61,7 +61,7 @@ fn top<'a>(alloc: Global) -> Result<Command<'a>, AllocError>
 {
     Command::new(alloc, "fmtcanon")
         .about("Reads printf formats, and brings them to one canonical spelling")
-        .version("0.1.0")
+        .version("0.2.0")
         .after_help(texts::PROGRAM)
         .no_binary_name(true)
         .subcommand_required(true)

@@ -7,10 +7,10 @@ use clap::ArgMatches;
 use pf_values::Model;
 
 /// The names of the data models, in the order of `Model::ALL`.
-pub const NAMES: &[&str] = &["lp64", "ilp32"];
+pub const NAMES: &[&str] = &["lp64", "ilp32", "llp64"];
 
 /// The same, and the names of the first two together and of all.
-pub const NAMES_OR_MORE: &[&str] = &["lp64", "ilp32", "both", "all"];
+pub const NAMES_OR_MORE: &[&str] = &["lp64", "ilp32", "llp64", "both", "all"];
 
 /// The data models in which two formats are compared.
 #[derive(Clone, Copy, Debug)]
@@ -30,6 +30,7 @@ pub fn name_of(model: Model) -> &'static str
     match model {
         Model::Lp64 => "lp64",
         Model::Ilp32 => "ilp32",
+        Model::Llp64 => "llp64",
     }
 }
 
@@ -69,6 +70,7 @@ fn model_named(name: &str) -> Model
 {
     match name {
         "ilp32" => Model::Ilp32,
+        "llp64" => Model::Llp64,
         _ => Model::Lp64,
     }
 }

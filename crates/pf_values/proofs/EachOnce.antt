@@ -103,10 +103,12 @@ each_flag flags.Group = once flag_place all_flags flags.Group refl refl
 abbrev model_place : Model → ℕ
 model_place models.Lp64 = 0
 model_place models.Ilp32 = 1
+model_place models.Llp64 = 2
 
 pub each_model : HasEachOnce all_models
 each_model models.Lp64 = once model_place all_models models.Lp64 refl refl
 each_model models.Ilp32 = once model_place all_models models.Ilp32 refl refl
+each_model models.Llp64 = once model_place all_models models.Llp64 refl refl
 
 abbrev refusal_place : RefusalKind → ℕ
 refusal_place refusals.NulByte = 0

@@ -10,7 +10,7 @@ use Rattle.pf_values.specs.declared.models.Rank.TheVariants as ranks
 use Rattle.pf_values.specs.declared.lengths.Length.{Length}
 use Rattle.pf_values.specs.declared.lengths.Length.TheVariants as lengths
 use Rattle.pf_values.specs.declared.models.Model.{Model}
-use Rattle.pf_values.specs.declared.models.Model.TheVariants.{Lp64, Ilp32}
+use Rattle.pf_values.specs.declared.models.Model.TheVariants.{Lp64, Ilp32, Llp64}
 use Rattle.pf_values.specs.declared.types.ArgType.{ArgType}
 use Rattle.pf_values.specs.declared.types.ArgType.TheVariants.{
   Int,
@@ -45,16 +45,19 @@ row kept bits signed unsigned =
 abbrev pub long_bits : Model → Bits
 long_bits Lp64 = B64
 long_bits Ilp32 = B32
+long_bits Llp64 = B32
 
 -- the rank of `size_t` with its signed type, and of `ptrdiff_t` with its unsigned one
 abbrev pub size_rank : Model → Rank
 size_rank Lp64 = ranks.Long
 size_rank Ilp32 = ranks.Int
+size_rank Llp64 = ranks.LongLong
 
 -- the rank of `intmax_t` and `uintmax_t`
 abbrev pub greatest_rank : Model → Rank
 greatest_rank Lp64 = ranks.Long
 greatest_rank Ilp32 = ranks.LongLong
+greatest_rank Llp64 = ranks.LongLong
 
 -- the row of the modifier that names the types of a rank
 abbrev pub row_of_rank : Model → Rank → Row

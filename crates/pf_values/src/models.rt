@@ -9,6 +9,8 @@ pub enum Model {
     Lp64,
     /// `long`, `size_t` and `ptrdiff_t` have 32 bits, and `intmax_t` is `long long`.
     Ilp32,
+    /// `long` has 32 bits; `long long`, `size_t`, `ptrdiff_t` and `intmax_t` have 64.
+    Llp64,
 }
 
 /// `int`, `long` and `long long`, each with its unsigned type, by their rank (C11 6.3.1.1,
@@ -22,7 +24,7 @@ pub(crate) enum Rank {
 
 impl Model {
     /// All data models.
-    pub const ALL: [Model; 2] = [Model::Lp64, Model::Ilp32];
+    pub const ALL: [Model; 3] = [Model::Lp64, Model::Ilp32, Model::Llp64];
 
     /// The bits of a long.
     pub fn long_bits(self) -> u8
@@ -30,7 +32,7 @@ impl Model {
     {
         match self {
             Model::Lp64 => 64,
-            Model::Ilp32 => 32,
+            Model::Ilp32 | Model::Llp64 => 32,
         }
     }
 
@@ -41,6 +43,7 @@ impl Model {
         match self {
             Model::Lp64 => Rank::Long,
             Model::Ilp32 => Rank::Int,
+            Model::Llp64 => Rank::LongLong,
         }
     }
 
@@ -50,7 +53,7 @@ impl Model {
     {
         match self {
             Model::Lp64 => Rank::Long,
-            Model::Ilp32 => Rank::LongLong,
+            Model::Ilp32 | Model::Llp64 => Rank::LongLong,
         }
     }
 }

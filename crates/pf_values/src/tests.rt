@@ -147,7 +147,7 @@ fn a_width_of_0_is_none(rt: HostRuntime) {
 
 // In each data model, without a modifier, and then `hh h l ll j z t`.
 #[rattlefmt::skip]
-const SIGNED_TYPES: [[ArgType; 8]; 2] = [
+const SIGNED_TYPES: [[ArgType; 8]; 3] = [
     [
         ArgType::Int, ArgType::Int, ArgType::Int, ArgType::Long,
         ArgType::LongLong, ArgType::Long, ArgType::Long, ArgType::Long,
@@ -156,10 +156,14 @@ const SIGNED_TYPES: [[ArgType; 8]; 2] = [
         ArgType::Int, ArgType::Int, ArgType::Int, ArgType::Long,
         ArgType::LongLong, ArgType::LongLong, ArgType::Int, ArgType::Int,
     ],
+    [
+        ArgType::Int, ArgType::Int, ArgType::Int, ArgType::Long,
+        ArgType::LongLong, ArgType::LongLong, ArgType::LongLong, ArgType::LongLong,
+    ],
 ];
 
 #[rattlefmt::skip]
-const UNSIGNED_TYPES: [[ArgType; 8]; 2] = [
+const UNSIGNED_TYPES: [[ArgType; 8]; 3] = [
     [
         ArgType::UInt, ArgType::Int, ArgType::Int, ArgType::ULong,
         ArgType::ULongLong, ArgType::ULong, ArgType::ULong, ArgType::ULong,
@@ -167,6 +171,10 @@ const UNSIGNED_TYPES: [[ArgType; 8]; 2] = [
     [
         ArgType::UInt, ArgType::Int, ArgType::Int, ArgType::ULong,
         ArgType::ULongLong, ArgType::ULongLong, ArgType::UInt, ArgType::UInt,
+    ],
+    [
+        ArgType::UInt, ArgType::Int, ArgType::Int, ArgType::ULong,
+        ArgType::ULongLong, ArgType::ULongLong, ArgType::ULongLong, ArgType::ULongLong,
     ],
 ];
 
@@ -204,9 +212,10 @@ fn each_argument_has_its_type(rt: HostRuntime) {
 }
 
 // In each data model, the bits of a value under each modifier of `Length::ALL`.
-const BITS: [[u8; 8]; 2] = [
+const BITS: [[u8; 8]; 3] = [
     [32, 8, 16, 64, 64, 64, 64, 64],
     [32, 8, 16, 32, 64, 64, 32, 32],
+    [32, 8, 16, 32, 64, 64, 64, 64],
 ];
 
 fn bits_of(model: Model, length: Length, conv: Conv) -> Result<u8, RefusalKind> {
@@ -268,13 +277,14 @@ fn each_conversion_has_its_kind(rt: HostRuntime) {
 #[test]
 fn each_modifier_has_its_representative(rt: HostRuntime) {
     for length in Length::ALL {
-        let (lp64, ilp32) = match length {
-            Length::J => (Length::L, Length::Ll),
-            Length::Z | Length::T => (Length::L, Length::None),
-            other => (other, other),
+        let (lp64, ilp32, llp64) = match length {
+            Length::J => (Length::L, Length::Ll, Length::Ll),
+            Length::Z | Length::T => (Length::L, Length::None, Length::Ll),
+            other => (other, other, other),
         };
         assert_eq!(rt; length.representative(Model::Lp64), lp64, "{length:?}");
         assert_eq!(rt; length.representative(Model::Ilp32), ilp32, "{length:?}");
+        assert_eq!(rt; length.representative(Model::Llp64), llp64, "{length:?}");
     }
 }
 
@@ -342,6 +352,16 @@ static MAX_DIGITS_IN_ILP32: [[u8; 8]; 7] = [
     [32, 8, 16, 32, 64, 64, 32, 32], // b
 ];
 
+static MAX_DIGITS_IN_LLP64: [[u8; 8]; 7] = [
+    [10, 3, 5, 10, 19, 19, 19, 19], // d
+    [10, 3, 5, 10, 19, 19, 19, 19], // i
+    [10, 3, 5, 10, 20, 20, 20, 20], // u
+    [11, 3, 6, 11, 22, 22, 22, 22], // o
+    [8, 2, 4, 8, 16, 16, 16, 16], // x
+    [8, 2, 4, 8, 16, 16, 16, 16], // X
+    [32, 8, 16, 32, 64, 64, 64, 64], // b
+];
+
 fn max_digits_of(model: Model, length: Length, conv: Conv) -> Result<u8, RefusalKind> {
     Directive::new(FlagSet::empty(), None, None, length, conv).map(|d| d.max_digits(model))
 }
@@ -360,6 +380,9 @@ fn each_value_has_so_many_digits_at_most(rt: HostRuntime) {
     }
     for (conv, row) in Conv::ALL.iter().zip(MAX_DIGITS_IN_ILP32.iter()) {
         check_max_digits(&rt, Model::Ilp32, *conv, row);
+    }
+    for (conv, row) in Conv::ALL.iter().zip(MAX_DIGITS_IN_LLP64.iter()) {
+        check_max_digits(&rt, Model::Llp64, *conv, row);
     }
     for model in Model::ALL {
         assert_eq!(rt; max_digits_of(model, Length::None, Conv::C), Ok(0));

@@ -2,8 +2,9 @@
 
 Usage: fmtcanon-po [OPTION].. FILE..
 
-  --model MODEL  in which data models the types have to be the same: lp64, ilp32 or both; both where
-                 it isn't given, so that a catalog serves on any machine: %zu is no translation of %lu
+  --model MODEL  in which data models the types have to be the same: lp64, ilp32, llp64, both for the
+                 first two, or all; all where it isn't given, so that a catalog serves on any
+                 machine: %zu is no translation of %lu
   --c-format     takes each message for a C format that has a %, but for those with no-c-format
   --strict       the exit status is 1, too, where something couldn't be judged
   --help         prints this text
@@ -34,7 +35,9 @@ from .checking import Checker
 MODELS = {
     "lp64": [fmtcanon.Model.LP64],
     "ilp32": [fmtcanon.Model.ILP32],
-    "both": list(fmtcanon.Model),
+    "llp64": [fmtcanon.Model.LLP64],
+    "both": [fmtcanon.Model.LP64, fmtcanon.Model.ILP32],
+    "all": list(fmtcanon.Model),
 }
 
 
@@ -42,7 +45,7 @@ class Options:
     """What the words of the command ask for."""
 
     def __init__(self):
-        self.models = MODELS["both"]
+        self.models = MODELS["all"]
         self.is_all = False
         self.is_strict = False
 

@@ -3,9 +3,9 @@
 Usage: fmtcanon-replace [OPTION].. OLD NEW FILE.c..
 
   --dry-run              tells what would be done, and changes no file
-  --model MODEL          in which data models the two have to mean the same: lp64, ilp32 or both;
-                         both where it isn't given, so that the source means the same wherever it
-                         is compiled
+  --model MODEL          in which data models the two have to mean the same: lp64, ilp32, llp64,
+                         both for the first two, or all; all where it isn't given, so that the
+                         source means the same wherever it is compiled
   --posix-locale         the program prints in the POSIX locale alone; without it a format with the
                          flag ' is left, since that groups digits in other locales
   --function NAME:INDEX  NAME takes a format as the argument INDEX, counted from 0
@@ -51,7 +51,9 @@ FUNCTIONS = {
 MODELS = {
     "lp64": [fmtcanon.Model.LP64],
     "ilp32": [fmtcanon.Model.ILP32],
-    "both": list(fmtcanon.Model),
+    "llp64": [fmtcanon.Model.LLP64],
+    "both": [fmtcanon.Model.LP64, fmtcanon.Model.ILP32],
+    "all": list(fmtcanon.Model),
 }
 READERS = ["libclang", "pattern"]
 # The flags of each conversion specification of a format that is accepted.
@@ -66,7 +68,7 @@ class Options:
         self.chosen = set()
         self.is_dry = False
         self.is_posix = False
-        self.models = MODELS["both"]
+        self.models = MODELS["all"]
         self.reader = None
         self.flags = []
 
