@@ -1,0 +1,82 @@
+-- What a run over records holds in memory, for private functions. This project's own.
+use Rattle.std.specs.Prelude.{◌≡◌, ℕ, ◌-◌, ◌^◌, ◌<◌, ◌≤◌, List, [], ◌∷◌, ◌++◌, drop, length, min, take, Option, None, Some}
+use Rattle.pf_values.specs.declared.counting.Counted.{Counted}
+use Rattle.pf_values.specs.Counting.{Known, WritesAll, WritesFirst}
+use Rattle.pf_values.specs.Text.{Text}
+use Rattle.fmtcanon.specs.Questions.{formats_wanted}
+use Rattle.fmtcanon.specs.Records.{AreReplies, IsCut, Reply, bytes_of, greatest_of, last_record}
+use Rattle.fmtcanon.specs.declared.questions.RecordQuestion.{RecordQuestion}
+use Rattle.fmtcanon.specs.declared.records.Coming.{Coming}
+use Rattle.fmtcanon.specs.declared.records.Conversation.{Conversation}
+use Rattle.fmtcanon.specs.declared.replies.Replies.{Replies}
+use Rattle.fmtcanon.specs.declared.records.Stop.{Stop}
+use Rattle.fmtcanon.specs.declared.records.Stop.TheVariants.{Memory, Write}
+
+-- the count of bytes that went out
+abbrev pub count_of : ℕ → ℕ
+count_of written = min written (2 ^ 128 - 1)
+
+-- the bytes that wait
+abbrev pub waiting_of : Replies → Text
+waiting_of r = r.waiting.items
+
+-- These replies came, and those bytes of them that don't wait went out.
+pub record HasReplies (r : Replies) (sent : Text) (replies : List Reply) : Type 0 where
+  pub bytes : bytes_of replies ≡ sent ++ waiting_of r
+  pub greatest : r.greatest ≡ greatest_of replies
+  pub count : r.written ≡ count_of (length sent)
+
+module _ {W : Type 0} (contents : W → Known) where
+  -- the same of a writer that began so
+  pub record HasSaid (r : Replies) (start now : Counted W) (replies : List Reply) : Type 0 where
+    pub sent : Text
+    pub writes : WritesAll contents start now sent
+    pub has : HasReplies r sent replies
+
+  -- just the first bytes of them went out
+  pub record HasSaidFirst (start now : Counted W) (replies : List Reply) (count : ℕ) : Type 0 where
+    pub written : ℕ
+    pub writes : WritesFirst contents start now (bytes_of replies) written
+    pub count_is : count ≡ count_of written
+
+-- where the first format of two ends, in the bytes that are held of both
+abbrev pub IsPlaced : Option ℕ → Text → List Text → Text → Type 0
+IsPlaced None text first rest = (first ≡ []) × (rest ≡ text)
+IsPlaced (Some len) text first rest =
+    (first ≡ take len text ∷ []) × (rest ≡ drop len text) × (len ≤ length text)
+
+-- This has come of a question: the first format, where two are wanted, and the rest of a record.
+pub record HasCome (c : Coming) (kind : RecordQuestion) (first : List Text) (rest : Text)
+    : Type 0 where
+  pub kind_is : c.kind ≡ kind
+  pub few : length first < formats_wanted kind
+  pub placed : IsPlaced c.first_len c.text.items first rest
+
+module _ (kind : RecordQuestion) {W : Type 0} (contents : W → Known) where
+  -- Replies were made to these whole records, and a rest has come after them.
+  pub record IsAt (c : Conversation) (start now : Counted W) (whole : List Text) (rest : Text)
+      : Type 0 where
+    pub first : List Text
+    pub replies : List Reply
+    pub are : AreReplies kind whole replies first
+    pub come : HasCome c.coming kind first rest
+    pub said : HasSaid contents c.replies start now replies
+
+  -- Replies were made to the first of some records, and then memory was refused, or a write failed.
+  abbrev pub HasStopped : Conversation → Counted W → Counted W → List Text → Stop → Type 0
+  HasStopped c start now records Memory =
+      (replies : List Reply) × (others : List Text) × AreReplies kind records replies others
+      × HasSaid contents c.replies start now replies
+  HasStopped c start now records (Write count) =
+      (replies : List Reply) × (others : List Text) × AreReplies kind records replies others
+      × HasSaidFirst contents start now replies count
+
+  -- the same of what was taken
+  abbrev pub IsAtText : Conversation → Counted W → Counted W → Text → Type 0
+  IsAtText c start now taken =
+      (whole : List Text) × (rest : Text) × IsCut taken whole rest × IsAt c start now whole rest
+
+  abbrev pub HasStoppedAt : Conversation → Counted W → Counted W → Text → Stop → Type 0
+  HasStoppedAt c start now taken stop =
+      (whole : List Text) × (rest : Text) × IsCut taken whole rest
+      × HasStopped c start now (whole ++ last_record rest) stop
