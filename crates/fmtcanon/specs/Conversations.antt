@@ -1,10 +1,13 @@
 -- What a run over records holds in memory, for private functions. This project's own.
-use Rattle.std.specs.Prelude.{◌≡◌, ℕ, ◌-◌, ◌^◌, ◌<◌, ◌≤◌, List, [], ◌∷◌, ◌++◌, drop, length, min, take, Option, None, Some}
+use Rattle.std.specs.Prelude.{◌≡◌, ℕ, ◌-◌, ◌^◌, ◌<◌, ◌≤◌, Bool, true, false, List, [], ◌∷◌, ◌++◌, drop, length, min, take, Option, None, Some, Result, Ok, Err}
+use Rattle.std.specs.declared.alloc.AllocError.{AllocError}
 use Rattle.pf_values.specs.declared.counting.Counted.{Counted}
 use Rattle.pf_values.specs.Counting.{Known, WritesAll, WritesFirst}
 use Rattle.pf_values.specs.Text.{Text}
 use Rattle.fmtcanon.specs.Questions.{formats_wanted}
-use Rattle.fmtcanon.specs.Records.{AreReplies, IsCut, Reply, bytes_of, greatest_of, last_record}
+use Rattle.fmtcanon.specs.Records.{AreReplies, IsCut, IsReply, RepliesAll, RepliesFirst, Reply, bytes_of, greatest_of, last_record}
+use Rattle.fmtcanon.specs.declared.outcome.Outcome.{Outcome}
+use Rattle.fmtcanon.specs.declared.outcome.Outcome.TheVariants as outcomes
 use Rattle.fmtcanon.specs.declared.questions.RecordQuestion.{RecordQuestion}
 use Rattle.fmtcanon.specs.declared.records.Coming.{Coming}
 use Rattle.fmtcanon.specs.declared.records.Conversation.{Conversation}
@@ -80,3 +83,41 @@ module _ (kind : RecordQuestion) {W : Type 0} (contents : W → Known) where
   HasStoppedAt c start now taken stop =
       (whole : List Text) × (rest : Text) × IsCut taken whole rest
       × HasStopped c start now (whole ++ last_record rest) stop
+
+-- whether the reply to these formats was added: all was, they are too few, or memory was refused
+abbrev pub Answers : RecordQuestion → List Text → Text → List Reply → Replies → Replies
+    → Result Bool AllocError → Type 0
+Answers kind formats sent replies old new (Ok true) =
+    (reply : Reply) × IsReply kind reply × (reply.formats ≡ formats)
+    × HasReplies new sent (replies ++ reply ∷ [])
+Answers kind formats sent replies old new (Ok false) =
+    (length formats < formats_wanted kind) × (new ≡ old)
+Answers kind formats sent replies old new (Err e) = HasReplies new sent replies
+
+module _ {W : Type 0} (contents : W → Known) where
+  -- a write of replies that wait, or of none
+  abbrev pub WritesReplies : Replies → Counted W → Counted W → List Reply
+      → Result (Unit {0}) Stop → Type 0
+  WritesReplies r start now replies (Ok done) = HasSaid contents r start now replies
+  WritesReplies r start now replies (Err Memory) = ⊥
+  WritesReplies r start now replies (Err (Write count)) =
+      HasSaidFirst contents start now replies count
+
+module _ (kind : RecordQuestion) {W : Type 0} (contents : W → Known) (old new : Counted W) where
+  -- what is written where it ends early, of replies to the first of these records
+  abbrev pub LeavesStopped : List Text → Outcome → Type 0
+  LeavesStopped records outcomes.Memory =
+      (others : List Text) × (greatest : ℕ)
+      × RepliesAll kind contents old new records others greatest
+  LeavesStopped records (outcomes.Write count) =
+      RepliesFirst kind contents old new records count
+  LeavesStopped records outcome = ⊥
+
+  -- what is written at the end, of these records
+  abbrev pub LeavesAtEnd : List Text → Outcome → Type 0
+  LeavesAtEnd records (outcomes.Answered greatest) =
+      RepliesAll kind contents old new records [] greatest
+  LeavesAtEnd records outcomes.NoSecond =
+      (first : Text) × (greatest : ℕ) × (1 < formats_wanted kind)
+      × RepliesAll kind contents old new records (first ∷ []) greatest
+  LeavesAtEnd records outcome = LeavesStopped records outcome

@@ -1,11 +1,13 @@
 //! Formats that come as records, each with a zero byte after it, and the replies to them.
-ghost use Rattle.std.specs.Prelude.{◌≡◌, ◌++◌, ◌∷◌, [], List, MatchOption, MatchResult, OnOk, true};
+ghost use Rattle.std.specs.Prelude.{◌≡◌, ◌<◌, ◌++◌, ◌∷◌, [], IfErr, List, MatchOption, MatchResult, OnOk, is_err, length, nat_lt, true};
 ghost use Rattle.std.specs.Io.{ReadsAtMost};
-ghost use Rattle.pf_values.specs.Counting.{is_flushed};
+ghost use Rattle.std.specs.Io.KnownBytes.{ReadConsumes};
+ghost use Rattle.pf_values.specs.Counting.{calls_after, calls_of, device_of, failures_after, failures_of, is_flushed};
 ghost use Rattle.pf_values.specs.Text.{Text};
-ghost use Rattle.fmtcanon.specs.Conversations.{HasCome, HasStopped, HasStoppedAt, IsAt, IsAtText, waiting_of};
+ghost use Rattle.fmtcanon.specs.Conversations.{Answers, HasCome, HasReplies, HasSaid, HasStopped, HasStoppedAt, IsAt, IsAtText, LeavesAtEnd, LeavesStopped, WritesReplies, waiting_of};
 ghost use Rattle.fmtcanon.specs.Questions.{IsAbout, formats_wanted};
-ghost use Rattle.fmtcanon.specs.Records.{IsBare, IsCut, LeavesRecords};
+ghost use Rattle.fmtcanon.specs.Records.{LeavesRecords, Reply, last_record};
+ghost use Rattle.fmtcanon.specs.declared.records.Stop.TheVariants.{Memory};
 
 use crate::outcome::Outcome;
 use crate::questions::{Question, RecordQuestion};
@@ -52,7 +54,10 @@ pub fn answer_records<R: Read, W: Write>(
     kind: RecordQuestion,
     reader: &mut Counted<R>,
     writer: &mut Counted<W>,
-) -> Outcome {
+) -> Outcome
+    ensures { LeavesRecords kind R.remaining W.contents reader.old reader.new writer.old writer.new
+        result }
+{
     let mut conversation = Conversation::new(alloc, kind);
     let mut block = [0u8; BLOCK];
     for _ in 0..u64::MAX {
@@ -78,12 +83,24 @@ fn read_block<R: Read, W: Write>(
     _writer: &Counted<W>,
     _replies: &Replies,
     block: &mut [u8],
-) -> io::Result<usize> {
+) -> io::Result<usize>
+    requires none { waiting_of _replies.now ≡ [] }
+    requires flushed { is_flushed _writer.now ≡ true }
+    ensures bound { ReadsAtMost result block.new }
+    ensures bytes { ReadConsumes (R.remaining (device_of reader.old))
+        (R.remaining (device_of reader.new)) result block.new }
+    ensures calls { calls_of reader.new ≡ calls_after (calls_of reader.old) }
+    ensures failures { failures_of reader.new
+        ≡ failures_after (failures_of reader.old) (is_err result) }
+{
     reader.read(block)
 }
 
 impl Conversation {
-    fn new(alloc: Global, kind: RecordQuestion) -> Conversation {
+    fn new(alloc: Global, kind: RecordQuestion) -> Conversation
+        ensures come { HasCome result.coming kind [] [] }
+        ensures none { HasReplies result.replies [] [] }
+    {
         Conversation {
             coming: Coming::new(alloc, kind),
             replies: Replies::new(alloc),
@@ -96,7 +113,13 @@ impl Conversation {
         alloc: Global,
         block: &[u8],
         writer: &mut Counted<W>,
-    ) -> Result<(), Stop> {
+    ) -> Result<(), Stop>
+        ensures { (kind : RecordQuestion) (start : Counted W) (taken : Text)
+            → IsAtText kind W.contents self.old start writer.old taken
+            → MatchResult result
+            (λ _. IsAtText kind W.contents self.new start writer.new (taken ++ block.now))
+            (HasStoppedAt kind W.contents self.new start writer.new (taken ++ block.now)) }
+    {
         let mut at = 0;
         while let Some(len) = memchr(0, &block[at..]) {
             self.take_record(alloc, &block[at..at + len], writer)?;
@@ -111,13 +134,27 @@ impl Conversation {
         alloc: Global,
         bytes: &[u8],
         writer: &mut Counted<W>,
-    ) -> Result<(), Stop> {
+    ) -> Result<(), Stop>
+        ensures { (kind : RecordQuestion) (start : Counted W) (whole : List Text) (rest : Text)
+            → IsAt kind W.contents self.old start writer.old whole rest
+            → MatchResult result
+            (λ _. IsAt kind W.contents self.new start writer.new
+            (whole ++ (rest ++ bytes.now) ∷ []) [])
+            (HasStopped kind W.contents self.new start writer.new
+            (whole ++ (rest ++ bytes.now) ∷ [])) }
+    {
         self.take_part(bytes)?;
         self.end_record(alloc, writer)
     }
 
     // Bytes of a record.
-    fn take_part(&mut self, bytes: &[u8]) -> Result<(), Stop> {
+    fn take_part(&mut self, bytes: &[u8]) -> Result<(), Stop>
+        ensures replies { self.new.replies ≡ self.old.replies }
+        ensures come { (kind : RecordQuestion) (first : List Text) (rest : Text)
+            → HasCome self.old.coming kind first rest
+            → OnOk result (HasCome self.new.coming kind first (rest ++ bytes.now)) }
+        ensures memory { IfErr result (λ stop. stop ≡ Memory) }
+    {
         match self.coming.extend(bytes) {
             Ok(()) => Ok(()),
             Err(AllocError) => Err(Stop::Memory),
@@ -129,7 +166,13 @@ impl Conversation {
         &mut self,
         alloc: Global,
         writer: &mut Counted<W>,
-    ) -> Result<(), Stop> {
+    ) -> Result<(), Stop>
+        ensures { (kind : RecordQuestion) (start : Counted W) (whole : List Text) (rest : Text)
+            → IsAt kind W.contents self.old start writer.old whole rest
+            → MatchResult result
+            (λ _. IsAt kind W.contents self.new start writer.new (whole ++ rest ∷ []) [])
+            (HasStopped kind W.contents self.new start writer.new (whole ++ rest ∷ [])) }
+    {
         match self.answer(alloc) {
             Ok(false) => {
                 self.coming.keep_first();
@@ -144,7 +187,15 @@ impl Conversation {
     }
 
     // Whether all of a question has come, which is answered then.
-    fn answer(&mut self, alloc: Global) -> Result<bool, AllocError> {
+    fn answer(&mut self, alloc: Global) -> Result<bool, AllocError>
+        ensures coming { self.new.coming ≡ self.old.coming }
+        ensures said { (kind : RecordQuestion) (first : List Text) (rest sent : Text)
+            (replies : List Reply)
+            → HasCome self.old.coming kind first rest
+            → HasReplies self.old.replies sent replies
+            → Answers kind (first ++ rest ∷ []) sent replies self.old.replies self.new.replies
+            result }
+    {
         match self.coming.question() {
             None => Ok(false),
             Some(question) => {
@@ -154,7 +205,12 @@ impl Conversation {
         }
     }
 
-    fn write_block<W: Write>(&mut self, writer: &mut Counted<W>) -> Result<(), Stop> {
+    fn write_block<W: Write>(&mut self, writer: &mut Counted<W>) -> Result<(), Stop>
+        ensures coming { self.new.coming ≡ self.old.coming }
+        ensures said { (start : Counted W) (replies : List Reply)
+            → HasSaid W.contents self.old.replies start writer.old replies
+            → WritesReplies W.contents self.new.replies start writer.new replies result }
+    {
         match self.replies.write_block(writer) {
             Ok(()) => Ok(()),
             Err(count) => Err(Stop::Write(count)),
@@ -162,7 +218,11 @@ impl Conversation {
     }
 
     // The end of what was read: a part of a record is one, too, if it isn't empty.
-    fn end<W: Write>(&mut self, alloc: Global, writer: &mut Counted<W>) -> Outcome {
+    fn end<W: Write>(&mut self, alloc: Global, writer: &mut Counted<W>) -> Outcome
+        ensures { (kind : RecordQuestion) (start : Counted W) (whole : List Text) (rest : Text)
+            → IsAt kind W.contents self.old start writer.old whole rest
+            → LeavesAtEnd kind W.contents start writer.new (whole ++ last_record rest) result }
+    {
         if self.coming.has_part() {
             if let Err(stop) = self.end_record(alloc, writer) {
                 return self.stop(stop, writer);
@@ -178,7 +238,11 @@ impl Conversation {
     }
 
     // Where memory was refused, the replies that wait still go out.
-    fn stop<W: Write>(&mut self, stop: Stop, writer: &mut Counted<W>) -> Outcome {
+    fn stop<W: Write>(&mut self, stop: Stop, writer: &mut Counted<W>) -> Outcome
+        ensures { (kind : RecordQuestion) (start : Counted W) (records : List Text)
+            → HasStopped kind W.contents self.old start writer.old records stop
+            → LeavesStopped kind W.contents start writer.new records result }
+    {
         match stop {
             Stop::Write(count) => Outcome::Write(count),
             Stop::Memory => match self.replies.flush(writer) {
@@ -191,7 +255,9 @@ impl Conversation {
 
 impl Coming {
     // Nothing has come.
-    fn new(alloc: Global, kind: RecordQuestion) -> Coming {
+    fn new(alloc: Global, kind: RecordQuestion) -> Coming
+        ensures { HasCome result kind [] [] }
+    {
         Coming {
             kind,
             text: Vec::new(alloc),
@@ -200,12 +266,21 @@ impl Coming {
     }
 
     // Bytes of a record.
-    fn extend(&mut self, bytes: &[u8]) -> Result<(), AllocError> {
+    fn extend(&mut self, bytes: &[u8]) -> Result<(), AllocError>
+        ensures { (kind : RecordQuestion) (first : List Text) (rest : Text)
+            → HasCome self.old kind first rest
+            → OnOk result (HasCome self.new kind first (rest ++ bytes.now)) }
+    {
         self.text.extend_from_slice(bytes)
     }
 
     // The question, if all is there of it once the record is whole.
-    fn question(&self) -> Option<Question<'_>> {
+    fn question(&self) -> Option<Question<'_>>
+        ensures { (kind : RecordQuestion) (first : List Text) (rest : Text)
+            → HasCome self.now kind first rest
+            → MatchOption result (length (first ++ rest ∷ []) < formats_wanted kind)
+            (λ question. IsAbout question kind (first ++ rest ∷ [])) }
+    {
         match self.first_len {
             None => self.kind.about(&self.text, None),
             Some(len) => {
@@ -216,18 +291,29 @@ impl Coming {
     }
 
     // The record is whole, and the first of two.
-    fn keep_first(&mut self) {
+    fn keep_first(&mut self)
+        ensures { (kind : RecordQuestion) (first : List Text) (rest : Text)
+            → HasCome self.old kind first rest
+            → length (first ++ rest ∷ []) < formats_wanted kind
+            → HasCome self.new kind (first ++ rest ∷ []) [] }
+    {
         self.first_len = Some(self.text.len());
     }
 
     // The question was answered. The memory is kept.
-    fn clear(&mut self) {
+    fn clear(&mut self)
+        ensures { (kind : RecordQuestion) (first : List Text) (rest : Text)
+            → HasCome self.old kind first rest → HasCome self.new kind [] [] }
+    {
         self.text.clear();
         self.first_len = None;
     }
 
     // Whether a part of a record has come.
-    fn has_part(&self) -> bool {
+    fn has_part(&self) -> bool
+        ensures { (kind : RecordQuestion) (first : List Text) (rest : Text)
+            → HasCome self.now kind first rest → result ≡ nat_lt 0 (length rest) }
+    {
         match self.first_len {
             None => !self.text.is_empty(),
             Some(len) => len < self.text.len(),
