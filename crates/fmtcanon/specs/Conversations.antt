@@ -1,5 +1,5 @@
 -- What a run over records holds in memory, for private functions. This project's own.
-use Rattle.std.specs.Prelude.{◌≡◌, ℕ, ◌-◌, ◌^◌, ◌<◌, ◌≤◌, Bool, true, false, List, [], ◌∷◌, ◌++◌, drop, length, min, take, Option, None, Some, Result, Ok, Err}
+use Rattle.std.specs.Prelude.{◌≡◌, ℕ, ◌-◌, ◌^◌, ◌<◌, Bool, true, false, List, [], ◌∷◌, ◌++◌, length, min, Result, Ok, Err}
 use Rattle.std.specs.declared.alloc.AllocError.{AllocError}
 use Rattle.pf_values.specs.declared.counting.Counted.{Counted}
 use Rattle.pf_values.specs.Counting.{Known, WritesAll, WritesFirst}
@@ -42,18 +42,18 @@ module _ {W : Type 0} (contents : W → Known) where
     pub writes : WritesFirst contents start now (bytes_of replies) written
     pub count_is : count ≡ count_of written
 
--- where the first format of two ends, in the bytes that are held of both
-abbrev pub IsPlaced : Option ℕ → Text → List Text → Text → Type 0
-IsPlaced None text first rest = (first ≡ []) × (rest ≡ text)
-IsPlaced (Some len) text first rest =
-    (first ≡ take len text ∷ []) × (rest ≡ drop len text) × (len ≤ length text)
+-- the first format of two, if it has come
+abbrev pub first_of : Bool → Text → List Text
+first_of false text = []
+first_of true text = text ∷ []
 
 -- This has come of a question: the first format, where two are wanted, and the rest of a record.
 pub record HasCome (c : Coming) (kind : RecordQuestion) (first : List Text) (rest : Text)
     : Type 0 where
   pub kind_is : c.kind ≡ kind
   pub few : length first < formats_wanted kind
-  pub placed : IsPlaced c.first_len c.text.items first rest
+  pub first_is : first ≡ first_of c.has_first c.first.items
+  pub part_is : rest ≡ c.part.items
 
 module _ (kind : RecordQuestion) {W : Type 0} (contents : W → Known) where
   -- Replies were made to these whole records, and a rest has come after them.

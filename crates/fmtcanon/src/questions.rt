@@ -1,5 +1,5 @@
 //! What a command asks about formats.
-ghost use Rattle.std.specs.Prelude.{◌≢◌, MatchOption, length, option_map};
+ghost use Rattle.std.specs.Prelude.{◌≢◌, ◌∷◌, [], MatchOption, length, option_map};
 ghost use Rattle.fmtcanon.specs.Questions.{IsAbout, formats_of, formats_wanted};
 
 use crate::models::Models;
@@ -53,9 +53,9 @@ impl RecordQuestion {
     /// them.
     pub fn about<'a>(self, first: &'a [u8], second: Option<&'a [u8]>) -> Option<Question<'a>>
         ensures { MatchOption result
-            (length (formats_of first.now (option_map (λ s. s.now) second)) ≢ formats_wanted self)
+            (length (formats_of first.now (option_map (λ s. s.now) second.entry)) ≢ formats_wanted self)
             (λ question. IsAbout question self
-            (formats_of first.now (option_map (λ s. s.now) second))) }
+            (formats_of first.now (option_map (λ s. s.now) second.entry))) }
     {
         match second {
             None => self.about_one(first),

@@ -1,5 +1,5 @@
 //! Formats that come as records, each with a zero byte after it, and the replies to them.
-ghost use Rattle.std.specs.Prelude.{◌≡◌, ◌<◌, ◌++◌, ◌∷◌, [], IfErr, List, MatchOption, MatchResult, OnOk, is_err, length, nat_lt, true};
+ghost use Rattle.std.specs.Prelude.{◌≡◌, ◌≢◌, ◌<◌, ◌++◌, ◌∷◌, [], IfErr, List, MatchOption, MatchResult, OnOk, MatchBool, is_err, length, true};
 ghost use Rattle.std.specs.Io.{ReadsAtMost};
 ghost use Rattle.std.specs.Io.KnownBytes.{ReadConsumes};
 ghost use Rattle.pf_values.specs.Counting.{calls_after, calls_of, device_of, failures_after, failures_of, is_flushed};
@@ -17,6 +17,7 @@ use pf_values::Counted;
 use std::alloc::{AllocError, Global};
 use std::io;
 use std::io::{Read, Write};
+use std::mem;
 
 // How many bytes are read at a time.
 const BLOCK: usize = 65_536;
@@ -25,10 +26,9 @@ const BLOCK: usize = 65_536;
 #[derive(Drop)]
 struct Coming {
     kind: RecordQuestion,
-    // The bytes of both.
-    text: Vec<u8>,
-    // Where the first one ends.
-    first_len: Option<usize>,
+    part: Vec<u8>,
+    first: Vec<u8>,
+    has_first: bool,
 }
 
 // A run over records.
@@ -231,10 +231,10 @@ impl Conversation {
         if let Err(count) = self.replies.flush(writer) {
             return Outcome::Write(count);
         }
-        match self.coming.first_len {
-            None => Outcome::Answered(self.replies.greatest()),
-            Some(_) => Outcome::NoSecond,
+        if self.coming.has_first {
+            return Outcome::NoSecond;
         }
+        Outcome::Answered(self.replies.greatest())
     }
 
     // Where memory was refused, the replies that wait still go out.
@@ -260,8 +260,9 @@ impl Coming {
     {
         Coming {
             kind,
-            text: Vec::new(alloc),
-            first_len: None,
+            part: Vec::new(alloc),
+            first: Vec::new(alloc),
+            has_first: false,
         }
     }
 
@@ -271,7 +272,7 @@ impl Coming {
             → HasCome self.old kind first rest
             → OnOk result (HasCome self.new kind first (rest ++ bytes.now)) }
     {
-        self.text.extend_from_slice(bytes)
+        self.part.extend_from_slice(bytes)
     }
 
     // The question, if all is there of it once the record is whole.
@@ -281,12 +282,10 @@ impl Coming {
             → MatchOption result (length (first ++ rest ∷ []) < formats_wanted kind)
             (λ question. IsAbout question kind (first ++ rest ∷ [])) }
     {
-        match self.first_len {
-            None => self.kind.about(&self.text, None),
-            Some(len) => {
-                let (first, second) = self.text.split_at(len);
-                self.kind.about(first, Some(second))
-            }
+        if self.has_first {
+            self.kind.about(&self.first, Some(&self.part))
+        } else {
+            self.kind.about(&self.part, None)
         }
     }
 
@@ -297,7 +296,9 @@ impl Coming {
             → length (first ++ rest ∷ []) < formats_wanted kind
             → HasCome self.new kind (first ++ rest ∷ []) [] }
     {
-        self.first_len = Some(self.text.len());
+        mem::swap(&mut self.first, &mut self.part);
+        self.part.clear();
+        self.has_first = true;
     }
 
     // The question was answered. The memory is kept.
@@ -305,18 +306,15 @@ impl Coming {
         ensures { (kind : RecordQuestion) (first : List Text) (rest : Text)
             → HasCome self.old kind first rest → HasCome self.new kind [] [] }
     {
-        self.text.clear();
-        self.first_len = None;
+        self.part.clear();
+        self.has_first = false;
     }
 
     // Whether a part of a record has come.
     fn has_part(&self) -> bool
         ensures { (kind : RecordQuestion) (first : List Text) (rest : Text)
-            → HasCome self.now kind first rest → result ≡ nat_lt 0 (length rest) }
+            → HasCome self.now kind first rest → MatchBool result (rest ≢ []) (rest ≡ []) }
     {
-        match self.first_len {
-            None => !self.text.is_empty(),
-            Some(len) => len < self.text.len(),
-        }
+        !self.part.is_empty()
     }
 }
