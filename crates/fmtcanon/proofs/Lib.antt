@@ -9,3 +9,4 @@ mod ReductionLemmas
 mod RunLemmas
 mod ReportLemmas
 mod StreamLemmas
+mod ReplyLemmas
