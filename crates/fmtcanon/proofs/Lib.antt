@@ -10,3 +10,5 @@ mod RunLemmas
 mod ReportLemmas
 mod StreamLemmas
 mod ReplyLemmas
+mod RecordTexts
+mod RecordLemmas

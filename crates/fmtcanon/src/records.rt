@@ -1,5 +1,5 @@
 //! Formats that come as records, each with a zero byte after it, and the replies to them.
-ghost use Rattle.std.specs.Prelude.{◌≡◌, ◌≢◌, ◌<◌, ◌++◌, ◌∷◌, [], IfErr, List, MatchOption, MatchResult, OnOk, MatchBool, is_err, length, true};
+ghost use Rattle.std.specs.Prelude.{◌≡◌, ◌≢◌, ◌<◌, ◌++◌, ◌∷◌, [], List, MatchOption, MatchResult, OnOk, MatchBool, is_err, length, true};
 ghost use Rattle.std.specs.Io.{ReadsAtMost};
 ghost use Rattle.std.specs.Io.KnownBytes.{ReadConsumes};
 ghost use Rattle.pf_values.specs.Counting.{calls_after, calls_of, device_of, failures_after, failures_of, is_flushed};
@@ -7,7 +7,6 @@ ghost use Rattle.pf_values.specs.Text.{Text};
 ghost use Rattle.fmtcanon.specs.Conversations.{Answers, HasCome, HasReplies, HasSaid, HasStopped, HasStoppedAt, IsAt, IsAtText, LeavesAtEnd, LeavesStopped, WritesReplies, waiting_of};
 ghost use Rattle.fmtcanon.specs.Questions.{IsAbout, formats_wanted};
 ghost use Rattle.fmtcanon.specs.Records.{LeavesRecords, Reply, last_record};
-ghost use Rattle.fmtcanon.specs.declared.records.Stop.TheVariants.{Memory};
 
 use crate::outcome::Outcome;
 use crate::questions::{Question, RecordQuestion};
@@ -125,7 +124,10 @@ impl Conversation {
             self.take_record(alloc, &block[at..at + len], writer)?;
             at += len + 1;
         }
-        self.take_part(&block[at..])
+        match self.coming.extend(&block[at..]) {
+            Ok(()) => Ok(()),
+            Err(AllocError) => Err(Stop::Memory),
+        }
     }
 
     // The last bytes of a record. A zero byte stands after them.
@@ -143,20 +145,8 @@ impl Conversation {
             (HasStopped kind W.contents self.new start writer.new
             (whole ++ (rest ++ bytes.now) ∷ [])) }
     {
-        self.take_part(bytes)?;
-        self.end_record(alloc, writer)
-    }
-
-    // Bytes of a record.
-    fn take_part(&mut self, bytes: &[u8]) -> Result<(), Stop>
-        ensures replies { self.new.replies ≡ self.old.replies }
-        ensures come { (kind : RecordQuestion) (first : List Text) (rest : Text)
-            → HasCome self.old.coming kind first rest
-            → OnOk result (HasCome self.new.coming kind first (rest ++ bytes.now)) }
-        ensures memory { IfErr result (λ stop. stop ≡ Memory) }
-    {
         match self.coming.extend(bytes) {
-            Ok(()) => Ok(()),
+            Ok(()) => self.end_record(alloc, writer),
             Err(AllocError) => Err(Stop::Memory),
         }
     }
@@ -198,10 +188,7 @@ impl Conversation {
     {
         match self.coming.question() {
             None => Ok(false),
-            Some(question) => {
-                self.replies.add(alloc, &question)?;
-                Ok(true)
-            }
+            Some(question) => added(alloc, question, &mut self.replies),
         }
     }
 
@@ -217,17 +204,38 @@ impl Conversation {
         }
     }
 
-    // The end of what was read: a part of a record is one, too, if it isn't empty.
+    // The end of what was read.
     fn end<W: Write>(&mut self, alloc: Global, writer: &mut Counted<W>) -> Outcome
         ensures { (kind : RecordQuestion) (start : Counted W) (whole : List Text) (rest : Text)
             → IsAt kind W.contents self.old start writer.old whole rest
             → LeavesAtEnd kind W.contents start writer.new (whole ++ last_record rest) result }
     {
-        if self.coming.has_part() {
-            if let Err(stop) = self.end_record(alloc, writer) {
-                return self.stop(stop, writer);
-            }
+        match self.end_last(alloc, writer) {
+            Ok(()) => self.finish(writer),
+            Err(stop) => self.stop(stop, writer),
         }
+    }
+
+    // A part of a record is the last one, if it isn't empty.
+    fn end_last<W: Write>(&mut self, alloc: Global, writer: &mut Counted<W>) -> Result<(), Stop>
+        ensures { (kind : RecordQuestion) (start : Counted W) (whole : List Text) (rest : Text)
+            → IsAt kind W.contents self.old start writer.old whole rest
+            → MatchResult result
+            (λ _. IsAt kind W.contents self.new start writer.new (whole ++ last_record rest) [])
+            (HasStopped kind W.contents self.new start writer.new (whole ++ last_record rest)) }
+    {
+        if !self.coming.has_part() {
+            return Ok(());
+        }
+        self.end_record(alloc, writer)
+    }
+
+    // All records are whole, and have their replies.
+    fn finish<W: Write>(&mut self, writer: &mut Counted<W>) -> Outcome
+        ensures { (kind : RecordQuestion) (start : Counted W) (whole : List Text)
+            → IsAt kind W.contents self.old start writer.old whole []
+            → LeavesAtEnd kind W.contents start writer.new whole result }
+    {
         if let Err(count) = self.replies.flush(writer) {
             return Outcome::Write(count);
         }
@@ -250,6 +258,22 @@ impl Conversation {
                 Err(count) => Outcome::Write(count),
             },
         }
+    }
+}
+
+// Adds the reply to a question.
+fn added(
+    alloc: Global,
+    question: Question<'_>,
+    replies: &mut Replies,
+) -> Result<bool, AllocError>
+    ensures { (kind : RecordQuestion) (formats : List Text) (sent : Text) (had : List Reply)
+        → IsAbout question.entry kind formats → HasReplies replies.old sent had
+        → Answers kind formats sent had replies.old replies.new result }
+{
+    match replies.add(alloc, &question) {
+        Ok(()) => Ok(true),
+        Err(AllocError) => Err(AllocError),
     }
 }
 
