@@ -10,5 +10,7 @@ mod RunLemmas
 mod ReportLemmas
 mod StreamLemmas
 mod ReplyLemmas
+mod RecordEnds
+mod RecordSteps
 mod RecordTexts
 mod RecordLemmas

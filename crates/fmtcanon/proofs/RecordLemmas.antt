@@ -76,6 +76,13 @@ module _ (kind : RecordQuestion) where
     pub refused : (new : Conversation) (more : List Text) → HasReplies new.replies h.said.sent h.replies → HasStopped kind contents new start now (whole ++ more) Memory
     refused new more has = (h.replies, h.first ++ more, are_more whole more h.replies h.first h.are, record { sent = h.said.sent; writes = h.said.writes; has = has })
 
+    -- what waited went out, or the first bytes of it
+    pub written : (r : Result (Unit {0}) ℕ) (new : Conversation) (w : Counted W) → new.coming ≡ c.coming
+        → ((replies : List Reply) → HasSaid contents c.replies start now replies → MatchResult r (λ _. HasSaid contents new.replies start w replies) (HasSaidFirst contents start w replies))
+        → MatchResult r (λ _. IsAt kind contents new start w whole rest) (RepliesFirst kind contents start w (whole ++ last_record rest))
+    written (Ok done) new w e writes = record { first = h.first; replies = h.replies; are = h.are; come = subst (λ x. HasCome x kind h.first rest) (sym e) h.come; said = writes h.replies h.said }
+    written (Err count) new w e writes = out_first contents start w _ h.replies _ (are_more whole (last_record rest) h.replies h.first h.are) count (writes h.replies h.said)
+
     -- a part of a record came
     pub longer : (new : Conversation) (rest' : Text) → new.replies ≡ c.replies → ((first : List Text) → HasCome c.coming kind first rest → HasCome new.coming kind first rest') → IsAt kind contents new start now whole rest'
     longer new rest' e come = record { first = h.first; replies = h.replies; are = h.are; come = come h.first h.come; said = subst (λ r. HasSaid contents r start now h.replies) (sym e) h.said }

@@ -1,5 +1,5 @@
 -- How a text is cut into records, as more of it comes.
-use Rattle.std.proofs.Common.{◌≡◌, ◌∙◌, ℕ, zero, suc, ◌+◌, ◌<◌, ◌≤◌, ◌≢◌, Bool, true, false, List, [], ◌∷◌, ◌++◌, Option, None, Some, append-nil, append_assoc, ap, ap₂, arith, drop, get_or, length, length-drop, refl, subst, sym, take, take-append-drop}
+use Rattle.std.proofs.Common.{◌≡◌, ◌∙◌, ℕ, zero, suc, ◌+◌, ◌<◌, ◌≤◌, ◌≢◌, Bool, true, false, List, [], ◌∷◌, ◌++◌, Option, None, Some, add-one, append-nil, append_assoc, ap, ap₂, arith, drop, get_or, length, length-drop, refl, subst, sym, take, take-append-drop}
 use Rattle.std.specs.Prelude.{◌==◌, flat_map}
 use Rattle.std.specs.List.{AllByRecursion}
 use Rattle.std.proofs.Math.Seq.{take-add, take-suc}
@@ -38,14 +38,17 @@ no_zero b h = λ e. grind (arith, nat_tests)
 -- each text is cut, whatever came before
 pub cut_more : (more t : Text) (whole : List Text) (rest : Text) → IsCut t whole rest → (w : List Text) × (r : Text) × IsCut (t ++ more) (whole ++ w) r
 cut_more [] t whole rest h = ([], rest, subst (λ u. IsCut u (whole ++ []) rest) (sym (append-nil t)) (subst (λ w. IsCut t w rest) (sym (append-nil whole)) h))
-cut_more (b ∷ more) t whole rest h = go (b == 0) refl
+cut_more (b ∷ more) t whole rest h = go (b == 0) refl (cut_more more (t ++ b ∷ []) (whole ++ rest ∷ []) []) (cut_more more (t ++ b ∷ []) whole (rest ++ b ∷ []))
   where
-    go : (z : Bool) → (b == 0) ≡ z → (w : List Text) × (r : Text) × IsCut (t ++ b ∷ more) (whole ++ w) r
-    go true e =
-        let next = cut_more more (t ++ b ∷ []) (whole ++ rest ∷ []) [] (subst (λ k. IsCut (t ++ k ∷ []) (whole ++ rest ∷ []) []) (sym (is_zero b e)) (cut_end t whole rest h)) in
+    go : (z : Bool) → (b == 0) ≡ z
+        → (IsCut (t ++ b ∷ []) (whole ++ rest ∷ []) [] → (w : List Text) × (r : Text) × IsCut ((t ++ b ∷ []) ++ more) ((whole ++ rest ∷ []) ++ w) r)
+        → (IsCut (t ++ b ∷ []) whole (rest ++ b ∷ []) → (w : List Text) × (r : Text) × IsCut ((t ++ b ∷ []) ++ more) (whole ++ w) r)
+        → (w : List Text) × (r : Text) × IsCut (t ++ b ∷ more) (whole ++ w) r
+    go true e ended part =
+        let next = ended (subst (λ k. IsCut (t ++ k ∷ []) (whole ++ rest ∷ []) []) (sym (is_zero b e)) (cut_end t whole rest h)) in
         (rest ∷ next.0, next.1, subst (λ u. IsCut u (whole ++ rest ∷ next.0) next.1) (append_assoc t (b ∷ []) more) (subst (λ w. IsCut ((t ++ b ∷ []) ++ more) w next.1) (append_assoc whole (rest ∷ []) next.0) next.2))
-    go false e =
-        let next = cut_more more (t ++ b ∷ []) whole (rest ++ b ∷ []) (cut_part t whole rest (b ∷ []) (no_zero b e, tt) h) in
+    go false e ended part =
+        let next = part (cut_part t whole rest (b ∷ []) (no_zero b e, tt) h) in
         (next.0, next.1, subst (λ u. IsCut u (whole ++ next.0) next.1) (append_assoc t (b ∷ []) more) next.2)
 
 -- nothing is cut of no text
@@ -74,7 +77,7 @@ module _ (taken block : Text) (whole : List Text) (rest : Text) (at : ℕ) (h : 
   cut_found len found =
       let bytes = take len (drop at block) in
       let zero_here : get_or (drop at block) len 0 ≡ 0 = is_zero (get_or (drop at block) len 0) found.1 in
-      let split : take (at + (len + 1)) block ≡ take at block ++ (bytes ++ 0 ∷ []) = take-add at (len + 1) block ∙ ap (λ u. take at block ++ u) (take-suc (drop at block) len 0 found.0.high ∙ ap (λ z. bytes ++ z ∷ []) zero_here) in
+      let split : take (at + (len + 1)) block ≡ take at block ++ (bytes ++ 0 ∷ []) = take-add at (len + 1) block ∙ ap (λ u. take at block ++ u) (ap (λ n. take n (drop at block)) (add-one len) ∙ take-suc (drop at block) len 0 found.0.high ∙ ap (λ z. bytes ++ z ∷ []) zero_here) in
       let same : ((taken ++ take at block) ++ bytes) ++ 0 ∷ [] ≡ taken ++ take (at + (len + 1)) block = append_assoc (taken ++ take at block) bytes (0 ∷ []) ∙ append_assoc taken (take at block) (bytes ++ 0 ∷ []) ∙ ap (λ u. taken ++ u) (sym split) in
       subst (λ u. IsCut u (whole ++ (rest ++ bytes) ∷ []) []) same (cut_end _ whole (rest ++ bytes) (cut_part (taken ++ take at block) whole rest bytes (bare_below (drop at block) len found.0.before) h))
 

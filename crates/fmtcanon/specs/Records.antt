@@ -1,5 +1,5 @@
 -- Formats that come as records, their replies, and what a run over them leaves. This project's own.
-use Rattle.std.specs.Prelude.{◌≡◌, ◌≢◌, ℕ, ◌+◌, ◌-◌, ◌^◌, ◌<◌, List, [], ◌∷◌, ◌++◌, flat_map, length, max, min, take, None, Some, true, ◌⊎◌}
+use Rattle.std.specs.Prelude.{◌≡◌, ◌≢◌, ℕ, ◌+◌, ◌-◌, ◌^◌, ◌<◌, ◌≤◌, List, [], ◌∷◌, ◌++◌, flat_map, length, max, min, take, None, Some, true, ◌⊎◌}
 use Rattle.std.specs.List.{AllByRecursion, fold}
 use Rattle.std.specs.Io.KnownBytes.{Consumes, IsAtEnd}
 use Rattle.pf_values.specs.declared.counting.Counted.{Counted}
@@ -113,7 +113,7 @@ module _ (kind : RecordQuestion) {R W : Type 0} (remaining : R → Known) (conte
 
   -- it failed, or was called as often as can be counted
   abbrev pub ReadFails : Type 0
-  ReadFails = HasFailed reader left ⊎ (calls_of left ≡ max_count)
+  ReadFails = HasFailed reader left ⊎ (max_count ≤ calls_of left)
 
   -- What a run over records leaves. At Read each whole record has its reply, but one that wants a
   -- second. At Memory those before the record have theirs for which memory was refused.

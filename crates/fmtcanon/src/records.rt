@@ -6,7 +6,7 @@ ghost use Rattle.pf_values.specs.Counting.{calls_after, calls_of, device_of, fai
 ghost use Rattle.pf_values.specs.Text.{Text};
 ghost use Rattle.fmtcanon.specs.Conversations.{Answers, HasCome, HasReplies, HasSaid, HasStopped, HasStoppedAt, IsAt, IsAtText, LeavesAtEnd, LeavesStopped, WritesReplies, waiting_of};
 ghost use Rattle.fmtcanon.specs.Questions.{IsAbout, formats_wanted};
-ghost use Rattle.fmtcanon.specs.Records.{LeavesRecords, Reply, last_record};
+ghost use Rattle.fmtcanon.specs.Records.{LeavesRecords, RepliesFirst, Reply, last_record};
 
 use crate::outcome::Outcome;
 use crate::questions::{Question, RecordQuestion};
@@ -59,11 +59,11 @@ pub fn answer_records<R: Read, W: Write>(
 {
     let mut conversation = Conversation::new(alloc, kind);
     let mut block = [0u8; BLOCK];
-    for _ in 0..u64::MAX {
-        if let Err(count) = conversation.replies.flush(writer) {
+    for _turn in 0..u64::MAX {
+        if let Err(count) = conversation.flush(writer) {
             return Outcome::Write(count);
         }
-        match read_block(reader, writer, &conversation.replies, &mut block) {
+        match read_block(reader, writer, &conversation, &mut block) {
             Ok(0) => return conversation.end(alloc, writer),
             Ok(len) => {
                 if let Err(stop) = conversation.take(alloc, &block[..len], writer) {
@@ -73,17 +73,20 @@ pub fn answer_records<R: Read, W: Write>(
             Err(_) => return Outcome::Read,
         }
     }
-    Outcome::Read
+    match conversation.flush(writer) {
+        Ok(()) => Outcome::Read,
+        Err(count) => Outcome::Write(count),
+    }
 }
 
 // Reads a block. No reply waits then, and the writer's last call was a flush.
 fn read_block<R: Read, W: Write>(
     reader: &mut Counted<R>,
     _writer: &Counted<W>,
-    _replies: &Replies,
+    _conversation: &Conversation,
     block: &mut [u8],
 ) -> io::Result<usize>
-    requires none { waiting_of _replies.now ≡ [] }
+    requires none { waiting_of _conversation.now.replies ≡ [] }
     requires flushed { is_flushed _writer.now ≡ true }
     ensures bound { ReadsAtMost result block.new }
     ensures bytes { ReadConsumes (R.remaining (device_of reader.old))
@@ -106,6 +109,20 @@ impl Conversation {
         }
     }
 
+    // Writes the replies that wait, and flushes.
+    fn flush<W: Write>(&mut self, writer: &mut Counted<W>) -> Result<(), u128>
+        ensures said { (kind : RecordQuestion) (start : Counted W) (whole : List Text)
+            (rest : Text)
+            → IsAt kind W.contents self.old start writer.old whole rest
+            → MatchResult result
+            (λ _. IsAt kind W.contents self.new start writer.new whole rest)
+            (RepliesFirst kind W.contents start writer.new (whole ++ last_record rest)) }
+        ensures none { OnOk result (waiting_of self.new.replies ≡ []) }
+        ensures flushed { OnOk result (is_flushed writer.new ≡ true) }
+    {
+        self.replies.flush(writer)
+    }
+
     // A block of bytes that were read.
     fn take<W: Write>(
         &mut self,
@@ -121,7 +138,9 @@ impl Conversation {
     {
         let mut at = 0;
         while let Some(len) = memchr(0, &block[at..]) {
-            self.take_record(alloc, &block[at..at + len], writer)?;
+            if let Err(stop) = self.take_record(alloc, &block[at..at + len], writer) {
+                return Err(stop);
+            }
             at += len + 1;
         }
         match self.coming.extend(&block[at..]) {
