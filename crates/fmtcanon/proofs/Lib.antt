@@ -10,6 +10,7 @@ mod RunLemmas
 mod ReportLemmas
 mod StreamLemmas
 mod ReplyLemmas
+mod TaskLemmas
 mod RecordEnds
 mod RecordSteps
 mod RecordTexts

@@ -1,5 +1,6 @@
 //! What the words ask for.
 ghost use Rattle.std.specs.Prelude.{◌≡◌, ◌≢◌, [], IfOk, IfErr, List, MatchOption, Some, codes, is_some, length, map, option_map, true, unwrap_or};
+ghost use Rattle.std.specs.Str.{bytes_eq};
 ghost use Rattle.clap.specs.Matches.{first_value};
 ghost use Rattle.clap.specs.Words.{found_of, kind_of, matched_of, raw_values};
 ghost use Rattle.pf_values.specs.Text.{Text};
@@ -104,8 +105,17 @@ fn is_null(inner: &ArgMatches<'_>) -> bool
     ensures { result ≡ is_null (rows_in inner.now) }
 {
     match inner.get_str("null") {
-        Some(value) => value == "true",
+        Some(value) => is_true(value),
         None => false,
+    }
+}
+
+fn is_true(value: &str) -> bool
+    ensures { result ≡ bytes_eq value.now (codes "true") }
+{
+    match value {
+        "true" => true,
+        _ => false,
     }
 }
 
@@ -115,10 +125,12 @@ fn question_in<'a>(inner: &ArgMatches<'a>, kind: RecordQuestion) -> Option<Quest
         (length (formats_in (rows_in inner.now)) ≢ formats_wanted kind)
         (λ question. IsAbout question kind (formats_in (rows_in inner.now))) }
 {
-    let first = inner.get_str("F")?.as_bytes();
+    let Some(first) = inner.get_str("F") else {
+        return None;
+    };
     match inner.get_str("G") {
-        None => kind.about(first, None),
-        Some(second) => kind.about(first, Some(second.as_bytes())),
+        None => kind.about(first.as_bytes(), None),
+        Some(second) => kind.about(first.as_bytes(), Some(second.as_bytes())),
     }
 }
 
