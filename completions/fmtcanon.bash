@@ -30,7 +30,9 @@ _fmtcanon() {
     elif [[ $word == --model=* ]]; then
         _fmtcanon_models "$command" "${word#*=}" --model=
     elif [[ $word == -* ]]; then
-        mapfile -t COMPREPLY < <(compgen -W '--model -h --help' -- "$word")
+        local null=' -z --null'
+        [[ $command == format || $command == stream ]] && null=''
+        mapfile -t COMPREPLY < <(compgen -W "--model$null -h --help" -- "$word")
     elif [[ $command == format ]] && ((COMP_CWORD > 2)); then
         mapfile -t COMPREPLY < <(compgen -W 'n: s:' -- "$word")
         # The value follows at once.

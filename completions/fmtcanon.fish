@@ -13,3 +13,4 @@ complete -c fmtcanon -n "not __fish_seen_subcommand_from $commands" -a stream -d
 complete -c fmtcanon -n '__fish_seen_subcommand_from format; and not contains -- -- (commandline -opc)' -a 'n: s:' -d 'An argument: `n:` and a decimal number, or `s:` and a string'
 complete -c fmtcanon -n '__fish_seen_subcommand_from types canon show format stream' -l model -x -a 'lp64 ilp32 llp64' -d 'The data model'
 complete -c fmtcanon -n '__fish_seen_subcommand_from same' -l model -x -a 'lp64 ilp32 llp64 both all' -d 'The data model'
+complete -c fmtcanon -n '__fish_seen_subcommand_from types canon show same' -s z -l null -d 'Takes formats from standard input, with a zero byte after each'

@@ -25,7 +25,7 @@ MODEL_COMMANDS = ["canon", "same", "format", "show", "stream", "types"]
 # words that stand for others.
 FOREIGN_NAMES = set("""
     cents errno memset intmax_t ptrdiff_t strerror uintmax_t I64
-    msgfmt msgunfmt pipefail fix fmt imports plant PYTHONPATH PKG_CONFIG_PATH ldconfig pip pkg config cflags libs pkgconfig sudo
+    xargs git msgfmt msgunfmt pipefail fix fmt imports plant PYTHONPATH PKG_CONFIG_PATH ldconfig pip pkg config cflags libs pkgconfig sudo
     AllocFailed Display WHAT logic dac8208d650f15bf ed8637e01fc3206ec782c5daf8d913b1fcd4ddf4efb850537416d13256281534 the_type write_all
     NAME PATH TEXT allow lemma is_left_justified
 """.split())
@@ -90,12 +90,17 @@ def told_counts():
     longest = max(sum(times for _, times in parts) for row in data_rows("long_comparisons.jsonl") for parts in row[:2])
     yield r"formats of up to (\d+) directives", [longest]
     yield r"of the version and of (\d+) faults", [sum("error:" in text for _, text in usage_texts())]
+    records = data_rows("records.jsonl")
+    yield r"(\d+) rows of `tests/rows/records.jsonl`, (\d+) of them", [len(records), len(records) - HAND_RECORDS]
     yield r"(\d+) runs worked out by hand, (\d+) worked reductions and (\d+) calls", [data_count(name) for name in ["commands.jsonl", "reduced.txt", "calls.jsonl"]]
 
 
+# The rows of records that were worked out by hand, which come first.
+HAND_RECORDS = 11
 # Numbers of docs/TESTED.md that count no rows, tests or wrong bodies.
 PLAIN_NUMBERS = [
     r"each of the 256 bytes after 7 beginnings", r"16 shapes", r"take 1, 2, 3 or 7 bytes a call and then fail in one of 5 ways", r"40000 arguments",
+    r"conversations of 1000 records and 1000 pairs", r"one record of 100 million bytes", r"3 records into each room",
     r"UTF-8", r"\d+ runs and comparisons", r"no 2 normal directives", r"every 2 of", r"what the 2 say",
 ]
 NUMBER_WORDS = dict(zip("two three four five six seven eight nine ten eleven twelve".split(), range(2, 13)))

@@ -43,7 +43,7 @@ def page_section(page, name):
 def plain_lines(page, name):
     """The lines of a section that is set as it stands, or of the synopsis."""
     body = re.search(rf"^\.SH {name}\n(.*?)(?=^\.SH |\Z)", page, flags=re.DOTALL | re.MULTILINE).group(1)
-    body = re.sub(r"\n\.(I|RI) ", " ", body).replace("\\(aq", "'").replace("\\-", "-")
+    body = re.sub(r"\n\.(I|RI) ", " ", body).replace("\\(aq", "'").replace("\\-", "-").replace("\\e", "\\")
     for line in body.splitlines():
         line = re.sub(r"^\.B ", "", line)
         if not line.startswith("."):
@@ -74,7 +74,8 @@ def try_page(program, trials):
     wider = re.search(r"possible values: .*(?=\])", model_option(helps["same"])[1]).group()
     # One command takes more values than the others.
     model = [(name, text[:-1] + wider.replace("possible values", "; under same") + "]")]
-    trials.expect("options of the manual page", list(page_section(page, "OPTIONS")), model + top["Options"])
+    null = [option for option in helps["canon"]["Options"] if "--null" in option[0]]
+    trials.expect("options of the manual page", list(page_section(page, "OPTIONS")), model + null + top["Options"])
     trials.expect("statuses of the manual page", list(page_section(page, "EXIT STATUS")), top["Exit status"])
     examples = {example for one in [top, *helps.values()] for example in one["Example"]}
     trials.expect("examples of the manual page", {line for line in plain_lines(page, "EXAMPLES") if line}, examples)

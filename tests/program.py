@@ -38,7 +38,7 @@ def try_examples(program, trials):
         for command, output in examples(TOP / name):
             found += 1
             done = subprocess.run(
-                ["bash", "-c", command], timeout=TIMEOUT, check=False, env=environment,
+                ["bash", "-c", command], timeout=TIMEOUT, check=False, env=environment, cwd=TOP,
                 stdin=subprocess.DEVNULL, stdout=subprocess.PIPE, stderr=subprocess.STDOUT,
             )
             got = done.stdout.decode()

@@ -1,7 +1,8 @@
 """Canonical texts of printf formats, and whether one may stand for another.
 
 A binding of the C library `libfmtcanon` by ctypes, with no code of its own but the conversions.
-`format` and `show` run the program instead, once for each call: the library has no such calls.
+`format` and `show` run the program instead, once for each call: the library has no such calls. A
+`Session` keeps one process of the program and asks it about many formats; it needs no library.
 
 A format is a `str` or bytes. A `str` is handed over in UTF-8, and all places are counted in bytes.
 Give bytes where a format isn't UTF-8. Each call raises `Refused` for a format that the library
@@ -14,7 +15,8 @@ what is no data model.
 A `str` with a lone surrogate, as the names of files may have it, has no UTF-8: each call raises
 `UnicodeEncodeError` for it. Hand over bytes there, as `os.fsencode` makes them.
 
-The library is the one that the environment's FMTCANON_LIBRARY names; else the one that lies beside
+The library is loaded at the first call that needs it, which raises `ImportError` where it isn't
+there. It is the one that the environment's FMTCANON_LIBRARY names; else the one that lies beside
 this module, where an installation put it; else `libfmtcanon.so.0`, where the system looks.
 
     >>> import fmtcanon
@@ -38,12 +40,14 @@ from __future__ import annotations
 
 import ctypes
 import enum
+import functools
 import os
 import re
 from pathlib import Path
 from typing import Any, Callable, List, NamedTuple, NoReturn, Optional, Tuple, TypeVar, Union
 
 from .printing import REFUSED, UNFIT, Directive, Failed, Percent, Shown, Text, printed, shown
+from .sessions import Reply, Session
 
 __all__ = [
     "Comparison",
@@ -52,6 +56,8 @@ __all__ = [
     "Model",
     "Percent",
     "Refused",
+    "Reply",
+    "Session",
     "Text",
     "Type",
     "Verdict",
@@ -208,7 +214,8 @@ def _library_name() -> str:
     return os.environ.get("FMTCANON_LIBRARY") or (str(beside) if beside.exists() else beside.name)
 
 
-def _load() -> ctypes.CDLL:
+@functools.lru_cache(maxsize=None)
+def _library() -> ctypes.CDLL:
     name = _library_name()
     try:
         library = ctypes.CDLL(name)
@@ -228,9 +235,6 @@ def _load() -> ctypes.CDLL:
 
 def _parts(version: int) -> Tuple[int, int, int]:
     return version >> 16, version >> 8 & 255, version & 255
-
-
-_library = _load()
 
 
 def _bytes(format: Format) -> bytes:
@@ -253,7 +257,7 @@ def _number(model: DataModel) -> Model:
 
 def _name(kind: int) -> str:
     out = ctypes.create_string_buffer(_LONGEST_NAME + 1)
-    _library.fmtcanon_kind_name(kind, out, len(out))
+    _library().fmtcanon_kind_name(kind, out, len(out))
     return out.value.decode()
 
 
@@ -278,13 +282,13 @@ def _filled(call: Callable[..., int], room: int, *arguments: Any) -> bytes:
 def check(format: Format) -> None:
     """Returns where the format is accepted, and raises Refused where it isn't."""
     text, error = _bytes(format), _Error()
-    _answer(_library.fmtcanon_check(text, len(text), error), error)
+    _answer(_library().fmtcanon_check(text, len(text), error), error)
 
 
 def is_canonical(format: Format, *, model: DataModel = Model.LP64) -> bool:
     """Whether the format is its own canonical text."""
     text, error = _bytes(format), _Error()
-    return _answer(_library.fmtcanon_is_canonical(_number(model), text, len(text), error), error) == 1
+    return _answer(_library().fmtcanon_is_canonical(_number(model), text, len(text), error), error) == 1
 
 
 def canonical(format: _Text, *, model: DataModel = Model.LP64) -> _Text:
@@ -294,9 +298,9 @@ def canonical(format: _Text, *, model: DataModel = Model.LP64) -> _Text:
     the same bytes for all of them.
     """
     text, error, number = _bytes(format), _Error(), _number(model)
-    size = _answer(_library.fmtcanon_canonical_length(number, text, len(text), error), error)
+    size = _answer(_library().fmtcanon_canonical_length(number, text, len(text), error), error)
     out = ctypes.create_string_buffer(size + 1)
-    _answer(_library.fmtcanon_canonical(number, text, len(text), out, len(out), error), error)
+    _answer(_library().fmtcanon_canonical(number, text, len(text), out, len(out), error), error)
     # Bytes that print themselves stay as they are, so UTF-8 stays UTF-8.
     return out.raw[:size].decode() if isinstance(format, str) else out.raw[:size]
 
@@ -305,21 +309,21 @@ def types(format: Format, *, model: DataModel = Model.LP64) -> List[Type]:
     """The types of the arguments, in order."""
     text = _bytes(format)
     room = text.count(b"%") + 1
-    codes = _filled(_library.fmtcanon_types, room, _number(model), text, len(text))
+    codes = _filled(_library().fmtcanon_types, room, _number(model), text, len(text))
     return [Type(code) for code in codes]
 
 
 def same(first: Format, second: Format, *, model: DataModel = Model.LP64) -> bool:
     """Whether two formats take the same types and print the same bytes for all arguments."""
     f, g, error = _bytes(first), _bytes(second), _Error()
-    result = _library.fmtcanon_same(_number(model), f, len(f), g, len(g), error)
+    result = _library().fmtcanon_same(_number(model), f, len(f), g, len(g), error)
     return _answer(result, error) == 1
 
 
 def same_in(first: Format, second: Format) -> List[Model]:
     """The data models in which two formats are the same: none to all, LP64 first."""
     f, g, error = _bytes(first), _bytes(second), _Error()
-    found = _answer(_library.fmtcanon_same_models(f, len(f), g, len(g), error), error)
+    found = _answer(_library().fmtcanon_same_models(f, len(f), g, len(g), error), error)
     return [model for model in Model if found & 1 << model]
 
 
@@ -333,7 +337,7 @@ def compare(first: Format, second: Format, *, model: DataModel = Model.LP64) -> 
 
     def call(*arguments: Any) -> int:
         *texts, out, room, error = arguments
-        return _library.fmtcanon_compare(*texts, out, room, told, error)
+        return _library().fmtcanon_compare(*texts, out, room, told, error)
 
     words = _filled(call, 4096, _number(model), f, len(f), g, len(g))
     verdict = Verdict(told.verdict)
@@ -385,4 +389,4 @@ def show(format: Format, *, model: DataModel = Model.LP64) -> List[Shown]:
 
 def version() -> Tuple[int, int, int]:
     """The version of the library: major, minor and patch."""
-    return _parts(_library.fmtcanon_version())
+    return _parts(_library().fmtcanon_version())

@@ -59,7 +59,8 @@ class Failed(Exception):
         self.line = line
 
 
-def _program() -> str:
+def program() -> str:
+    """The program: where FMTCANON_PROGRAM names it, beside this module, or on the search path."""
     beside = Path(__file__).parent / "program"
     return os.environ.get("FMTCANON_PROGRAM") or (str(beside) if beside.exists() else "fmtcanon")
 
@@ -84,7 +85,7 @@ def _argument(argument: Any) -> str:
 
 def _answer(words: List[str]) -> bytes:
     done = subprocess.run(
-        [_program(), *words], stdin=subprocess.DEVNULL, stdout=subprocess.PIPE, stderr=subprocess.PIPE, check=False
+        [program(), *words], stdin=subprocess.DEVNULL, stdout=subprocess.PIPE, stderr=subprocess.PIPE, check=False
     )
     if done.returncode == 0:
         return done.stdout

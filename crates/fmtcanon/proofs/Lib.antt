@@ -10,3 +10,9 @@ mod ReductionLemmas
 mod RunLemmas
 mod ReportLemmas
 mod StreamLemmas
+mod ReplyLemmas
+mod TaskLemmas
+mod RecordEnds
+mod RecordSteps
+mod RecordTexts
+mod RecordLemmas

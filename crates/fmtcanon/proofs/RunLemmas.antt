@@ -7,7 +7,7 @@ use Rattle.fmtcanon.specs.Outcomes.{outcome_of_fault}
 use Rattle.fmtcanon.specs.Runs.{LeavesAnswer}
 use Rattle.fmtcanon.specs.declared.fault.Fault.{Fault}
 use Rattle.fmtcanon.specs.declared.fault.Fault.TheVariants.{Refused, BadWord, WrongCount, WrongType, Memory}
-use Rattle.fmtcanon.specs.declared.task.Question.{Question}
+use Rattle.fmtcanon.specs.declared.questions.Question.{Question}
 
 module _ {W : Type 0} (contents : W → Known) (old new : Counted W) (question : Question) (same : new ≡ old) where
   pub leaves_nothing : (fault : Fault) → IsHindered question fault → LeavesAnswer contents old new question (outcome_of_fault fault)

@@ -10,8 +10,8 @@ use Rattle.fmtcanon.specs.declared.answer.Ending.{Ending}
 use Rattle.fmtcanon.specs.declared.answer.Ending.TheVariants as endings
 use Rattle.fmtcanon.specs.declared.fault.Fault.{Fault}
 use Rattle.fmtcanon.specs.declared.fault.Fault.TheVariants.{Refused, BadWord, WrongCount, WrongType, Memory}
-use Rattle.fmtcanon.specs.declared.task.Question.{Question}
-use Rattle.fmtcanon.specs.declared.task.Question.TheVariants.{Types, Canon, Show, Format, Same}
+use Rattle.fmtcanon.specs.declared.questions.Question.{Question}
+use Rattle.fmtcanon.specs.declared.questions.Question.TheVariants.{Types, Canon, Show, Format, Same}
 use Rattle.fmtcanon.specs.Comparisons.{IsComparisonIn}
 use Rattle.fmtcanon.specs.FormatArguments.{HindersArguments, IsPrinted}
 use Rattle.fmtcanon.specs.Lines.{line}

@@ -1,6 +1,7 @@
 pub mod Lines
 pub mod Models
 pub mod Words
+pub mod Questions
 pub mod Tasks
 pub mod Faults
 pub mod TypeLines
@@ -13,4 +14,6 @@ pub mod Answers
 pub mod Outcomes
 pub mod Reports
 pub mod Streams
+pub mod Records
+pub mod Conversations
 pub mod Runs

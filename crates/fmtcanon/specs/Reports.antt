@@ -9,7 +9,7 @@ use Rattle.pf_canon.specs.declared.sides.Side.{Side}
 use Rattle.pf_canon.specs.declared.sides.Side.TheVariants as sides
 use Rattle.fmtcanon.specs.Lines.{line}
 use Rattle.fmtcanon.specs.declared.outcome.Outcome.{Outcome}
-use Rattle.fmtcanon.specs.declared.outcome.Outcome.TheVariants.{Done, Same, Different, Refused, BadWord, WrongCount, WrongType, Usage, Read, Write, Memory}
+use Rattle.fmtcanon.specs.declared.outcome.Outcome.TheVariants.{Done, Same, Different, Refused, BadWord, WrongCount, WrongType, Answered, NoSecond, Usage, Read, Write, Memory}
 
 -- which format is refused, where there are two
 abbrev pub side_told : Option Side → Text
@@ -23,7 +23,7 @@ refusal_told side refusal =
     side_told side ++ codes "refused " ++ decimal (number refusal.kind) ++ codes " "
     ++ name refusal.kind ++ codes " at byte " ++ decimal refusal.at
 
--- What is said of an outcome: nothing of an answer that was written, the text of clap as it is, and
+-- What is said of an outcome: nothing of answers that were written, a text on the words as it is, and
 -- else a line.
 abbrev pub told : Outcome → Text
 told Done = []
@@ -36,6 +36,8 @@ told (WrongCount wanted given) =
     line (codes "argument count: wanted " ++ decimal wanted ++ codes ", given " ++ decimal given)
 told (WrongType index) =
     line (codes "argument " ++ decimal index ++ codes ": " ++ codes "wrong type")
+told (Answered status) = []
+told NoSecond = line (codes "a second format is wanted")
 told (Usage text) = string_bytes text
 told Read = line (codes "read failed")
 told (Write written) = line (codes "write failed")

@@ -1,21 +1,22 @@
 -- What a run leaves, by its outcome. This project's own.
-use Rattle.std.specs.Prelude.{◌≡◌, ℕ, List, true}
+use Rattle.std.specs.Prelude.{◌≡◌, ℕ, List, true, ◌⊎◌}
 use Rattle.pf_values.specs.declared.counting.Counted.{Counted}
 use Rattle.pf_values.specs.Counting.{Known, WritesAll, WritesFirst, is_flushed}
 use Rattle.pf_values.specs.Text.{Text}
 use Rattle.fmtcanon.specs.Answers.{IsAnswer, IsHindered}
 use Rattle.fmtcanon.specs.Streams.{LeavesCopy}
-use Rattle.fmtcanon.specs.Tasks.{Asks, HasFault}
-use Rattle.fmtcanon.specs.Words.{IsTaken}
+use Rattle.fmtcanon.specs.Records.{LeavesRecords}
+use Rattle.fmtcanon.specs.Tasks.{Asks, AreWrong}
 use Rattle.fmtcanon.specs.declared.answer.Ending.{Ending}
 use Rattle.fmtcanon.specs.declared.answer.Ending.TheVariants as endings
 use Rattle.fmtcanon.specs.declared.fault.Fault.{Fault}
 use Rattle.fmtcanon.specs.declared.fault.Fault.TheVariants as faults
 use Rattle.fmtcanon.specs.declared.outcome.Outcome.{Outcome}
-use Rattle.fmtcanon.specs.declared.outcome.Outcome.TheVariants.{Done, Same, Different, Refused, BadWord, WrongCount, WrongType, Usage, Read, Write, Memory}
-use Rattle.fmtcanon.specs.declared.task.Question.{Question}
+use Rattle.fmtcanon.specs.declared.outcome.Outcome.TheVariants.{Done, Same, Different, Refused, BadWord, WrongCount, WrongType, Answered, NoSecond, Usage, Read, Write, Memory}
+use Rattle.fmtcanon.specs.declared.questions.Question.{Question}
+use Rattle.fmtcanon.specs.declared.questions.RecordQuestion.{RecordQuestion}
 use Rattle.fmtcanon.specs.declared.task.Task.{Task}
-use Rattle.fmtcanon.specs.declared.task.Task.TheVariants.{Answer, Stream}
+use Rattle.fmtcanon.specs.declared.task.Task.TheVariants.{Answer, Records, Stream}
 
 module _ {W : Type 0} (contents : W → Known) (old new : Counted W) where
   -- all bytes went out and were flushed, and the run ends so; or the first of them and a call
@@ -58,6 +59,8 @@ module _ {W : Type 0} (contents : W → Known) (old new : Counted W) where
   LeavesAnswer question (WrongType index) = AnswersNothing question (faults.WrongType index)
   LeavesAnswer question Memory = AnswersNothing question faults.Memory
   LeavesAnswer question Read = ⊥
+  LeavesAnswer question (Answered status) = ⊥
+  LeavesAnswer question NoSecond = ⊥
   LeavesAnswer question (Usage text) = ⊥
 
 -- neither the reader nor the writer was called
@@ -70,13 +73,15 @@ module _ {R W : Type 0} (remaining : R → Known) (contents : W → Known)
   abbrev pub LeavesTask : Task → Outcome → Type 0
   LeavesTask (Answer question) outcome =
       LeavesAnswer contents old new question outcome × (left ≡ reader)
+  LeavesTask (Records kind) outcome =
+      LeavesRecords kind remaining contents reader left old new outcome
   LeavesTask (Stream model) outcome =
       LeavesCopy model remaining contents reader left old new outcome
 
-  -- Usage is answered for a fault that clap finds in the words, never for want of memory or for
-  -- words that it takes. For want of memory nothing goes out.
+  -- Usage is answered for words that are wrong, never for want of memory. For want of memory
+  -- nothing goes out, but answers to records before the one that it was wanted for.
   abbrev pub Leaves : List Text → Outcome → Type 0
-  Leaves words (Usage text) =
-      (¬ IsTaken words) × HasFault words × LeavesNothing reader left old new
+  Leaves words (Usage text) = AreWrong words × LeavesNothing reader left old new
   Leaves words Memory = LeavesNothing reader left old new
+      ⊎ ((kind : RecordQuestion) × Asks words (Records kind) × LeavesTask (Records kind) Memory)
   Leaves words outcome = (task : Task) × Asks words task × LeavesTask task outcome

@@ -7,7 +7,7 @@ use Rattle.pf_canon.specs.Copying.{CopiesAll, CopyStops}
 use Rattle.pf_canon.specs.declared.faults.CopyFault.{CopyFault}
 use Rattle.pf_canon.specs.declared.faults.CopyFault.TheVariants as faults
 use Rattle.fmtcanon.specs.declared.outcome.Outcome.{Outcome}
-use Rattle.fmtcanon.specs.declared.outcome.Outcome.TheVariants.{Done, Same, Different, Refused, BadWord, WrongCount, WrongType, Usage, Read, Write, Memory}
+use Rattle.fmtcanon.specs.declared.outcome.Outcome.TheVariants.{Done, Same, Different, Refused, BadWord, WrongCount, WrongType, Answered, NoSecond, Usage, Read, Write, Memory}
 
 module _ (model : Model) {R W : Type 0} (remaining : R → Known) (contents : W → Known)
     (reader left : Counted R) (old new : Counted W) where
@@ -45,5 +45,7 @@ module _ (model : Model) {R W : Type 0} (remaining : R → Known) (contents : W 
   LeavesCopy (BadWord index) = ⊥
   LeavesCopy (WrongCount wanted given) = ⊥
   LeavesCopy (WrongType index) = ⊥
+  LeavesCopy (Answered status) = ⊥
+  LeavesCopy NoSecond = ⊥
   LeavesCopy (Usage text) = ⊥
   LeavesCopy Memory = ⊥

@@ -1,5 +1,7 @@
 -- What the words ask for, as a task. This project's own.
-use Rattle.std.specs.Prelude.{◌≡◌, ◌≢◌, List, [], Some, codes, map, unwrap_or, ⊤}
+use Rattle.std.specs.Prelude.{◌≡◌, ◌≢◌, Bool, true, false, List, [], Option, None, Some, codes, if◌then◌else◌, length, map, unwrap_or, ⊤, ◌⊎◌}
+use Rattle.std.specs.Option.{option_map_or}
+use Rattle.std.specs.Str.{bytes_eq}
 use Rattle.clap.specs.Faults.{fault_of}
 use Rattle.clap.specs.Kinds.{IsAmong}
 use Rattle.clap.specs.Matches.{found_of}
@@ -12,10 +14,13 @@ use Rattle.pf_values.specs.Text.{Text}
 use Rattle.fmtcanon.specs.declared.task.NoTask.{NoTask}
 use Rattle.fmtcanon.specs.declared.task.NoTask.TheVariants.{Usage, Memory}
 use Rattle.fmtcanon.specs.declared.task.Task.{Task}
-use Rattle.fmtcanon.specs.declared.task.Task.TheVariants.{Answer, Stream}
-use Rattle.fmtcanon.specs.declared.task.Question.{Question}
-use Rattle.fmtcanon.specs.declared.task.Question.TheVariants.{Types, Canon, Show, Format, Same}
+use Rattle.fmtcanon.specs.declared.task.Task.TheVariants.{Answer, Records, Stream}
+use Rattle.fmtcanon.specs.declared.questions.Question.{Question}
+use Rattle.fmtcanon.specs.declared.questions.Question.TheVariants.{Types, Canon, Show, Format, Same}
+use Rattle.fmtcanon.specs.declared.questions.RecordQuestion.{RecordQuestion}
+use Rattle.fmtcanon.specs.declared.questions.RecordQuestion.TheVariants as asked
 use Rattle.fmtcanon.specs.Models.{model_in, models_in}
+use Rattle.fmtcanon.specs.Questions.{IsAbout, formats_of, formats_wanted}
 use Rattle.fmtcanon.specs.Words.{IsCommand, IsTaken}
 
 -- clap finds no fault in the words: they name a command, and have these values for its arguments
@@ -33,26 +38,51 @@ HasValue rows id text = first_of id rows ≡ Some text
 abbrev pub HasAllValues : List Row → Text → List Text → Type 0
 HasAllValues rows id texts = texts ≡ unwrap_or (all_of id rows) []
 
+-- the option `--null` stands among the words: the formats come as records
+abbrev pub is_null : List Row → Bool
+is_null rows = option_map_or (λ value. bytes_eq value (codes "true"))
+    (first_of (codes "null") rows) false
+
+-- the formats that stand among the words
+abbrev pub formats_given : Option Text → Option Text → List Text
+formats_given None second = []
+formats_given (Some first) second = formats_of first second
+
+abbrev pub formats_in : List Row → List Text
+formats_in rows = formats_given (first_of (codes "F") rows) (first_of (codes "G") rows)
+
+-- a command asks this about formats
+abbrev pub IsAsked : Text → List Row → RecordQuestion → Type 0
+IsAsked command rows (asked.Types model) = (command ≡ codes "types") × (model ≡ model_in rows)
+IsAsked command rows (asked.Canon model) = (command ≡ codes "canon") × (model ≡ model_in rows)
+IsAsked command rows (asked.Show model) = (command ≡ codes "show") × (model ≡ model_in rows)
+IsAsked command rows (asked.Same models) = (command ≡ codes "same") × (models ≡ models_in rows)
+
+-- a command asks it about the formats that stand among the words
+abbrev pub IsAskedOf : Text → List Row → Question → Type 0
+IsAskedOf command rows question =
+    (kind : RecordQuestion) × IsAsked command rows kind × (is_null rows ≡ false)
+    × IsAbout question kind (formats_in rows)
+
 -- a command asks a question about the values of its arguments
 abbrev pub IsQuestion : Text → List Row → Question → Type 0
-IsQuestion command rows (Types model format) =
-    (command ≡ codes "types") × (model ≡ model_in rows) × HasValue rows (codes "F") format.now
-IsQuestion command rows (Canon model format) =
-    (command ≡ codes "canon") × (model ≡ model_in rows) × HasValue rows (codes "F") format.now
-IsQuestion command rows (Show model format) =
-    (command ≡ codes "show") × (model ≡ model_in rows) × HasValue rows (codes "F") format.now
+IsQuestion command rows (Types model format) = IsAskedOf command rows (Types model format)
+IsQuestion command rows (Canon model format) = IsAskedOf command rows (Canon model format)
+IsQuestion command rows (Show model format) = IsAskedOf command rows (Show model format)
 IsQuestion command rows (Format model format given) =
     (command ≡ codes "format") × (model ≡ model_in rows) × HasValue rows (codes "F") format.now
     × HasAllValues rows (codes "ARG") (map (λ s. s.now) given.items)
 IsQuestion command rows (Same models first second) =
-    (command ≡ codes "same") × (models ≡ models_in rows) × HasValue rows (codes "F") first.now
-    × HasValue rows (codes "G") second.now
+    IsAskedOf command rows (Same models first second)
 
 -- the words name a command which does that
 abbrev pub Asks : List Text → Task → Type 0
 Asks words (Answer question) =
     (command : Text) × (rows : List Row) × Names words command rows
     × IsQuestion command rows question
+Asks words (Records kind) =
+    (command : Text) × (rows : List Row) × Names words command rows
+    × IsAsked command rows kind × (is_null rows ≡ true) × (formats_in rows ≡ [])
 Asks words (Stream model) =
     (rows : List Row) × Names words (codes "stream") rows × (model ≡ model_in rows)
 
@@ -66,10 +96,38 @@ HasFault words =
     (app : App) × IsCommand app × (k : ErrorKind) × (k ≢ kind.OutOfMemory)
     × IsAmong k (fault_of app words)
 
--- words that clap takes have no task for want of memory alone
+-- so many formats don't stand among the words: none beside `--null`, else as many as are wanted
+abbrev pub IsMisplaced : RecordQuestion → List Row → Type 0
+IsMisplaced kind rows =
+    length (formats_in rows) ≢ (if is_null rows then 0 else formats_wanted kind)
+
+-- the words name a command about formats, which are missing or misplaced
+abbrev pub MisplacesFormats : List Text → Type 0
+MisplacesFormats words =
+    (command : Text) × (rows : List Row) × Names words command rows
+    × (kind : RecordQuestion) × IsAsked command rows kind × IsMisplaced kind rows
+
+-- clap finds a fault in the words, and doesn't take them; or formats are missing or misplaced
+abbrev pub AreWrong : List Text → Type 0
+AreWrong words = ((¬ IsTaken words) × HasFault words) ⊎ MisplacesFormats words
+
+-- words that are not wrong have no task for want of memory alone
 abbrev pub IsNoTaskOf : List Text → NoTask → Type 0
-IsNoTaskOf words (Usage message) = (¬ IsTaken words) × HasFault words
+IsNoTaskOf words (Usage message) = AreWrong words
 IsNoTaskOf words Memory = ⊤
+
+-- the task of a command that asks this about formats
+abbrev pub IsTaskOn : RecordQuestion → List Row → Task → Type 0
+IsTaskOn kind rows (Answer question) =
+    (is_null rows ≡ false) × IsAbout question kind (formats_in rows)
+IsTaskOn kind rows (Records asked) =
+    (asked ≡ kind) × (is_null rows ≡ true) × (formats_in rows ≡ [])
+IsTaskOn kind rows (Stream model) = ⊥
+
+-- why it has none
+abbrev pub IsNoTaskOn : RecordQuestion → List Row → NoTask → Type 0
+IsNoTaskOn kind rows (Usage message) = IsMisplaced kind rows
+IsNoTaskOn kind rows Memory = ⊤
 
 -- want of memory is answered as such, and may be answered for anything else
 abbrev pub IsAnsweredBy : ErrorKind → NoTask → Type 0

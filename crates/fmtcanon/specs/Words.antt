@@ -5,6 +5,7 @@ use Rattle.clap.specs.Lexer.{usize_max}
 use Rattle.clap.specs.Simple.{App, new_app, new_rule, on_top, with_rule, with_subcommand}
 use Rattle.clap.specs.Takes.{takes}
 use Rattle.clap.specs.Walk.{Rule, texts}
+use Rattle.clap.specs.declared.builder.action.ArgAction.TheVariants.{SetTrue}
 use Rattle.clap.specs.declared.builder.value_parser.ValueParser.{ValueParser}
 use Rattle.clap.specs.declared.builder.value_parser.ValueParser.TheVariants.{Names}
 use Rattle.pf_values.specs.Text.{Text}
@@ -31,9 +32,22 @@ on_nothing name models = with_rule (new_app name) (model_option models)
 abbrev pub on_format : Text → ValueParser → App
 on_format name models = with_rule (on_nothing name models) (wanted (codes "F"))
 
--- a subcommand with the arguments F and G
-abbrev pub on_formats : Text → ValueParser → App
-on_formats name models = with_rule (on_format name models) (wanted (codes "G"))
+-- the option `--null`, or `-z`
+abbrev pub null_option : Rule
+null_option = record (new_rule (codes "null")) {
+  long = Some (codes "null");
+  short = Some 122;
+  action = Some SetTrue;
+}
+
+-- a subcommand with the option `--null` and the argument F, which may be left out
+abbrev pub on_records : Text → ValueParser → App
+on_records name models =
+    with_rule (with_rule (on_nothing name models) null_option) (new_rule (codes "F"))
+
+-- the same with the argument G, which may be left out, too
+abbrev pub on_pairs : Text → ValueParser → App
+on_pairs name models = with_rule (on_records name models) (new_rule (codes "G"))
 
 -- any number of arguments
 abbrev pub any_arguments : Rule
@@ -58,11 +72,11 @@ top_app = on_top (λ s. record s {
 -- the command, with how clap tests the name of one data model, and that of one or both
 unfoldable pub the_command : ValueParser → ValueParser → App
 the_command one both =
-    let with_types = with_subcommand top_app (on_format (codes "types") one).top in
-    let with_canon = with_subcommand with_types (on_format (codes "canon") one).top in
-    let with_show = with_subcommand with_canon (on_format (codes "show") one).top in
+    let with_types = with_subcommand top_app (on_records (codes "types") one).top in
+    let with_canon = with_subcommand with_types (on_records (codes "canon") one).top in
+    let with_show = with_subcommand with_canon (on_records (codes "show") one).top in
     let with_format = with_subcommand with_show (on_arguments (codes "format") one).top in
-    let with_same = with_subcommand with_format (on_formats (codes "same") both).top in
+    let with_same = with_subcommand with_format (on_pairs (codes "same") both).top in
     with_subcommand with_same (on_nothing (codes "stream") one).top
 
 -- clap's definition of the command, wherever in memory the names of the data models lie

@@ -7,8 +7,8 @@ ghost use Rattle.fmtcanon.specs.declared.answer.Ending.TheVariants.{Done};
 use crate::comparison::comparison_answer;
 use crate::fault::Fault;
 use crate::printing::print_format;
+use crate::questions::Question;
 use crate::show_lines::show_lines;
-use crate::task::Question;
 use crate::type_lines::type_lines;
 use pf_canon::canonical;
 use pf_values::Model;
@@ -41,19 +41,19 @@ pub fn answer_to(alloc: Global, question: &Question<'_>) -> Result<Answer, Fault
         (IsHindered question.now) }
 {
     match question {
-        Question::Types(model, format) => done(type_lines(alloc, *model, format.as_bytes())),
-        Question::Canon(model, format) => done(canonical_line(alloc, *model, format.as_bytes())),
-        Question::Show(model, format) => done(show_lines(alloc, *model, format.as_bytes())),
+        Question::Types(model, format) => done(type_lines(alloc, *model, format)),
+        Question::Canon(model, format) => done(canonical_line(alloc, *model, format)),
+        Question::Show(model, format) => done(show_lines(alloc, *model, format)),
         Question::Format {
             model,
             format,
             words,
-        } => done(print_format(alloc, *model, format.as_bytes(), words)),
+        } => done(print_format(alloc, *model, format, words)),
         Question::Same {
             models,
             first,
             second,
-        } => comparison_answer(alloc, *models, first.as_bytes(), second.as_bytes()),
+        } => comparison_answer(alloc, *models, first, second),
     }
 }
 

@@ -1,14 +1,14 @@
 //! The definition of the command for `clap`.
 ghost use Rattle.std.specs.Prelude.{◌≡◌, IfOk, codes, false};
-ghost use Rattle.clap.specs.Simple.{App, with_rule, with_subcommand};
+ghost use Rattle.clap.specs.Simple.{App, new_rule, with_rule, with_subcommand};
 ghost use Rattle.clap.specs.Words.{app_of};
 ghost use Rattle.clap.specs.declared.builder.command.Command.TheViews.{out-Command as fields_of};
 ghost use Rattle.clap.specs.declared.builder.value_parser.ValueParser.TheVariants.{Names};
-ghost use Rattle.fmtcanon.specs.Words.{IsCommand, any_arguments, on_format, on_nothing, the_command, top_app, wanted};
+ghost use Rattle.fmtcanon.specs.Words.{IsCommand, any_arguments, on_format, on_nothing, on_records, the_command, top_app};
 
 use crate::command_texts as texts;
 use crate::models::{NAMES, NAMES_OR_MORE};
-use clap::{Arg, Command};
+use clap::{Arg, ArgAction, Command};
 use std::alloc::{AllocError, Global};
 
 /// The command, as `clap` sees it.
@@ -35,20 +35,20 @@ fn definition_with<'a>(
     let stream = "Writes the canonical string of standard input";
     let with_types = joined(
         top(alloc),
-        on_format(alloc, "types", types, texts::TYPES, one),
+        on_records(alloc, "types", types, texts::TYPES, one),
     );
     let with_canon = joined(
         with_types,
-        on_format(alloc, "canon", canon, texts::CANON, one),
+        on_records(alloc, "canon", canon, texts::CANON, one),
     );
-    let with_show = joined(with_canon, on_format(alloc, "show", show, texts::SHOW, one));
+    let with_show = joined(with_canon, on_records(alloc, "show", show, texts::SHOW, one));
     let on_arguments = taking_arguments(
         alloc,
         on_format(alloc, "format", format, texts::FORMAT, one),
     );
     let with_format = joined(with_show, on_arguments);
-    let on_formats = taking_second(alloc, on_format(alloc, "same", same, texts::SAME, both));
-    let with_same = joined(with_format, on_formats);
+    let on_pairs = taking_second(alloc, on_records(alloc, "same", same, texts::SAME, both));
+    let with_same = joined(with_format, on_pairs);
     joined(
         with_same,
         on_nothing(alloc, "stream", stream, texts::STREAM, one),
@@ -107,6 +107,28 @@ fn on_format<'a>(
     on_nothing(alloc, name, about, below, models)?.arg(format)
 }
 
+// A subcommand with a format, or with the option `--null`: `task` sees that it is one of them.
+fn on_records<'a>(
+    alloc: Global,
+    name: &'a str,
+    about: &'a str,
+    below: &'a str,
+    models: &'a [&'a str],
+) -> Result<Command<'a>, AllocError>
+    ensures { IfOk result (λ command. (app_of command ≡ on_records name.now (Names models.entry))
+        × ((fields_of command).has_globals ≡ false)) }
+{
+    let null = Arg::new(alloc, "null")
+        .long("null")
+        .short('z')
+        .action(ArgAction::SetTrue)
+        .help("Takes formats from standard input, with a zero byte after each");
+    let format = Arg::new(alloc, "F").help("A printf format");
+    on_nothing(alloc, name, about, below, models)?
+        .arg(null)?
+        .arg(format)
+}
+
 // The subcommand with a second format besides.
 fn taking_second<'a>(
     alloc: Global,
@@ -114,13 +136,10 @@ fn taking_second<'a>(
 ) -> Result<Command<'a>, AllocError>
     requires { IfOk command (λ c. (fields_of c).has_globals ≡ false) }
     ensures value { (a : App) → IfOk command.entry (λ c. app_of c ≡ a)
-        → IfOk result (λ r. app_of r ≡ with_rule a (wanted (codes "G"))) }
+        → IfOk result (λ r. app_of r ≡ with_rule a (new_rule (codes "G"))) }
     ensures plain { IfOk result (λ r. (fields_of r).has_globals ≡ false) }
 {
-    let format = Arg::new(alloc, "G")
-        .required(true)
-        .help("Another printf format");
-    command?.arg(format)
+    command?.arg(Arg::new(alloc, "G").help("Another printf format"))
 }
 
 // The subcommand with any number of arguments besides.

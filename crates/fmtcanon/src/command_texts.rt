@@ -20,9 +20,13 @@ docs/REFUSALS.md of the source says what each refusal means, and what to write i
 pub const TYPES: &str = "\
 Example:
   fmtcanon types '%s: %u files'
+  printf '%s\\0' %i %5c | fmtcanon types --null
 
 A format that begins with - stands after --, as in: fmtcanon types -- '-%i'
 Where that is forgotten, the tip may name a part of the format. Give the whole of it after --.
+
+With --null formats come from standard input, each with a zero byte after it. A reply is a status, a
+space, what is written or the line of the refusal, and a zero byte. The exit status is the greatest.
 
 Exit status: 0 written, 2 refused, 3 wrong words, 4 a write failed or memory ran out
 Refusals: docs/REFUSALS.md of the source says what each means, and what to write instead.";
@@ -30,9 +34,13 @@ Refusals: docs/REFUSALS.md of the source says what each means, and what to write
 pub const CANON: &str = "\
 Example:
   fmtcanon canon 'Total: %i of %u%%'
+  printf '%s\\0' %i %5c | fmtcanon canon --null
 
 A format that begins with - stands after --, as in: fmtcanon canon -- '-%i'
 Where that is forgotten, the tip may name a part of the format. Give the whole of it after --.
+
+With --null formats come from standard input, each with a zero byte after it. A reply is a status, a
+space, what is written or the line of the refusal, and a zero byte. The exit status is the greatest.
 
 Exit status: 0 written, 2 refused, 3 wrong words, 4 a write failed or memory ran out
 Refusals: docs/REFUSALS.md of the source says what each means, and what to write instead.";
@@ -40,9 +48,13 @@ Refusals: docs/REFUSALS.md of the source says what each means, and what to write
 pub const SHOW: &str = "\
 Example:
   fmtcanon show 'x%20d%%'
+  printf '%s\\0' %i %5c | fmtcanon show --null
 
 A format that begins with - stands after --, as in: fmtcanon show -- '-%i'
 Where that is forgotten, the tip may name a part of the format. Give the whole of it after --.
+
+With --null formats come from standard input, each with a zero byte after it. A reply is a status, a
+space, what is written or the line of the refusal, and a zero byte. The exit status is the greatest.
 
 Exit status: 0 written, 2 refused, 3 wrong words, 4 a write failed or memory ran out
 Refusals: docs/REFUSALS.md of the source says what each means, and what to write instead.";
@@ -63,11 +75,16 @@ pub const SAME: &str = "\
 Example:
   fmtcanon same '%05d' '%.5d'
   fmtcanon same --model both '%zu' '%lu'
+  printf '%s\\0' %i %d %5c %-5c | fmtcanon same --null
 
 A format that begins with - stands after --, as in: fmtcanon same -- '-%i' '-%d'
 Where that is forgotten, the tip may name a part of the format. Give the whole of it after --.
 
-Exit status: 0 same, 1 different, 2 one of the two is refused, 3 wrong words,
+With --null formats come two by two from standard input, each with a zero byte after it. A reply is a
+status, a space, what is written or the line of the refusal, and a zero byte. The exit status is the
+greatest.
+
+Exit status: 0 same, 1 different, 2 one of the two is refused, 3 wrong words or a format too few,
 4 a write failed or memory ran out
 Refusals: docs/REFUSALS.md of the source says what each means, and what to write instead.";
 

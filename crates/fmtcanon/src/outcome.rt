@@ -1,5 +1,5 @@
 //! How a run ended.
-ghost use Rattle.std.specs.Prelude.{◌≡◌};
+ghost use Rattle.std.specs.Prelude.{◌≡◌, ◌≤◌};
 ghost use Rattle.fmtcanon.specs.Outcomes.{outcome_of_fault, outcome_of, status_of};
 
 use crate::answer::Ending;
@@ -34,7 +34,11 @@ pub enum Outcome {
     },
     /// The argument with this index is not of its type, and nothing was written.
     WrongType(u64),
-    /// The words are no command; the text is `clap`'s.
+    /// All records were answered; the greatest status of their answers.
+    Answered(u8),
+    /// A record is left over that wants a second one, and all before it were answered.
+    NoSecond,
+    /// The words are no command, or formats are misplaced among them; the text says so.
     Usage(String),
     /// A read failed.
     Read,
@@ -47,7 +51,8 @@ pub enum Outcome {
 impl Outcome {
     /// That of an answer which was written.
     pub fn of_ending(ending: Ending) -> Outcome
-        ensures { result ≡ outcome_of ending }
+        ensures value { result ≡ outcome_of ending }
+        ensures digit { status_of result ≤ 9 }
     {
         match ending {
             Ending::Done => Outcome::Done,
@@ -58,7 +63,8 @@ impl Outcome {
 
     /// That of a question without an answer.
     pub fn of_fault(fault: Fault) -> Outcome
-        ensures { result ≡ outcome_of_fault fault }
+        ensures value { result ≡ outcome_of_fault fault }
+        ensures digit { status_of result ≤ 9 }
     {
         match fault {
             Fault::Refused { side, refusal } => Outcome::Refused { side, refusal },
@@ -70,7 +76,8 @@ impl Outcome {
     }
 
     /// The exit status: 0 where all was written, 1 for formats that differ, 2 for a refused format,
-    /// 3 for wrong words or arguments, and 4 for a device that failed or want of memory.
+    /// 3 for wrong words or arguments or a record too few, and 4 for a device that failed or want
+    /// of memory. Of records that were answered it is the greatest of theirs.
     pub fn status(&self) -> u8
         ensures { result ≡ status_of self.now }
     {
@@ -79,7 +86,8 @@ impl Outcome {
             Outcome::Different => 1,
             Outcome::Refused { .. } => 2,
             Outcome::BadWord(_) | Outcome::WrongCount { .. } | Outcome::WrongType(_) => 3,
-            Outcome::Usage(_) => 3,
+            Outcome::NoSecond | Outcome::Usage(_) => 3,
+            Outcome::Answered(status) => *status,
             Outcome::Read | Outcome::Write(_) | Outcome::Memory => 4,
         }
     }

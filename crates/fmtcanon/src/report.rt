@@ -4,8 +4,10 @@ ghost use Rattle.arrayvec.specs.ArrayString.{array_string_len};
 ghost use Rattle.pf_values.specs.Counting.{Writes};
 ghost use Rattle.pf_values.specs.RefusalKinds.{name};
 ghost use Rattle.fmtcanon.specs.Lines.{line};
+ghost use Rattle.fmtcanon.specs.Outcomes.{outcome_of_fault};
 ghost use Rattle.fmtcanon.specs.Reports.{Tells, refusal_told, side_told, told};
 
+use crate::fault::Fault;
 use crate::outcome::Outcome;
 use arrayvec::ArrayString;
 use itoa::Buffer;
@@ -16,9 +18,9 @@ use std::io::Write;
 
 // A line. One of the longest is `second: refused 16 PrecisionUndefined at byte
 // 18446744073709551615`.
-type Line = ArrayString<96>;
+pub type Line = ArrayString<96>;
 
-/// Writes the line of an outcome that has one, or the text of `clap` as it is. A write that fails
+/// Writes the line of an outcome that has one, or a text on the words as it is. A write that fails
 /// ends it.
 pub fn report<E: Write>(outcome: &Outcome, errors: &mut Counted<E>)
     ensures { Tells E.contents errors.old errors.new (told outcome.now) }
@@ -31,6 +33,8 @@ fn tell<E: Write>(outcome: &Outcome, errors: &mut Counted<E>) -> Result<(), Shor
 {
     match outcome {
         Outcome::Done | Outcome::Same | Outcome::Different => write_bytes(errors, b""),
+        Outcome::Answered(_) => write_bytes(errors, b""),
+        Outcome::NoSecond => write_bytes(errors, b"a second format is wanted\n"),
         Outcome::Refused { side, refusal } => write_line(errors, &refusal_line(*side, refusal)),
         Outcome::BadWord(index) => write_line(errors, &argument_line(*index, "not an argument")),
         Outcome::WrongCount { wanted, given } => write_line(errors, &count_line(*wanted, *given)),
@@ -46,6 +50,27 @@ fn write_line<E: Write>(errors: &mut Counted<E>, line: &Line) -> Result<(), Shor
     ensures { Writes E.contents errors.old errors.new line.now.bytes result }
 {
     write_bytes(errors, line.as_str().as_bytes())
+}
+
+/// The line of a fault.
+pub fn fault_line(fault: &Fault) -> Line
+    ensures { result.bytes ≡ told (outcome_of_fault fault.now) }
+{
+    match fault {
+        Fault::Refused { side, refusal } => refusal_line(*side, refusal),
+        Fault::BadWord(index) => argument_line(*index, "not an argument"),
+        Fault::WrongCount { wanted, given } => count_line(*wanted, *given),
+        Fault::WrongType(index) => argument_line(*index, "wrong type"),
+        Fault::Memory => memory_line(),
+    }
+}
+
+fn memory_line() -> Line
+    ensures { result.bytes ≡ line (codes "out of memory") }
+{
+    let mut line = Line::new();
+    line.push_str("out of memory\n");
+    line
 }
 
 fn refusal_line(side: Option<Side>, refusal: &Refusal) -> Line

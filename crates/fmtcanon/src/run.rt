@@ -5,16 +5,19 @@ ghost use Rattle.fmtcanon.specs.Runs.{Leaves, LeavesAnswer, LeavesBytes};
 
 use crate::answer::{Answer, answer_to};
 use crate::outcome::Outcome;
+use crate::questions::Question;
+use crate::records::answer_records;
 use crate::stream::copy;
-use crate::task::{NoTask, Question, Task, task_of};
+use crate::task::{NoTask, Task, task_of};
 use pf_values::{Counted, write_bytes};
 use std::alloc::Global;
 use std::io::{Read, Write};
 
 /// Runs the command that the words name; the program's name isn't among them. What a command reads
 /// comes from `reader`, and what it writes goes to `writer`. Its last call is a flush before
-/// `Done`, `Same` and `Different`, and by `stream` also before `Refused` and `Read`. Any other
-/// refusal, and wrong words, come before the first call of the writer.
+/// `Done`, `Same` and `Different`, by `stream` also before `Refused` and `Read`, and over records
+/// before all but `Write`. Any other refusal, and wrong words, come before the first call of the
+/// writer.
 pub fn run<R: Read, W: Write>(
     alloc: Global,
     words: &[&str],
@@ -26,6 +29,7 @@ pub fn run<R: Read, W: Write>(
 {
     match task_of(alloc, words) {
         Ok(Task::Answer(question)) => answer(alloc, &question, writer),
+        Ok(Task::Records(kind)) => answer_records(alloc, kind, reader, writer),
         Ok(Task::Stream(model)) => copy(model, reader, writer),
         Err(NoTask::Usage(text)) => Outcome::Usage(text),
         Err(NoTask::Memory) => Outcome::Memory,

@@ -1,12 +1,15 @@
 //! What the words ask for.
-ghost use Rattle.std.specs.Prelude.{◌≡◌, [], IfOk, IfErr, List, Some, codes, is_some, map, option_map, true, unwrap_or};
+ghost use Rattle.std.specs.Prelude.{◌≡◌, ◌≢◌, [], IfOk, IfErr, List, MatchOption, Some, codes, is_some, length, map, option_map, true, unwrap_or};
+ghost use Rattle.std.specs.Str.{bytes_eq};
 ghost use Rattle.clap.specs.Matches.{first_value};
 ghost use Rattle.clap.specs.Words.{found_of, kind_of, matched_of, raw_values};
 ghost use Rattle.pf_values.specs.Text.{Text};
-ghost use Rattle.fmtcanon.specs.Tasks.{Asks, IsAnsweredBy, IsNoTaskOf, Names, rows_in};
+ghost use Rattle.fmtcanon.specs.Questions.{IsAbout, formats_wanted};
+ghost use Rattle.fmtcanon.specs.Tasks.{Asks, IsAnsweredBy, IsNoTaskOf, IsNoTaskOn, IsTaskOn, Names, formats_in, is_null, rows_in};
 
 use crate::command::definition;
-use crate::models::{Models, model_of, models_of};
+use crate::models::{model_of, models_of};
+use crate::questions::{Question, RecordQuestion};
 use clap::error::ErrorKind;
 use clap::{ArgMatches, Error};
 use pf_values::Model;
@@ -17,43 +20,16 @@ use std::alloc::{AllocError, Global};
 pub enum Task<'a> {
     /// It answers a question about formats that stand in the words.
     Answer(Question<'a>),
+    /// It answers the same question about each record that the reader hands out, or each two.
+    Records(RecordQuestion),
     /// It copies the canonical string of what the reader hands out, in this data model.
     Stream(Model),
-}
-
-/// A question about formats in a data model.
-#[derive(Debug, Drop)]
-pub enum Question<'a> {
-    /// The types of the arguments of a format.
-    Types(Model, &'a str),
-    /// The canonical string of a format.
-    Canon(Model, &'a str),
-    /// What a format is made of.
-    Show(Model, &'a str),
-    /// What a format prints for arguments.
-    Format {
-        /// The data model.
-        model: Model,
-        /// The format.
-        format: &'a str,
-        /// The words of the arguments.
-        words: Vec<&'a str>,
-    },
-    /// Whether one format may stand for another.
-    Same {
-        /// The data models.
-        models: Models,
-        /// The one.
-        first: &'a str,
-        /// The other.
-        second: &'a str,
-    },
 }
 
 /// Why there is no task.
 #[derive(Debug, Drop)]
 pub enum NoTask {
-    /// What `clap` answers in place of a command, help included.
+    /// What is wrong with the words, or what `clap` answers in place of a command, help included.
     Usage(String),
     /// A growth was refused.
     Memory,
@@ -74,37 +50,95 @@ pub fn task_of<'a>(alloc: Global, words: &'a [&'a str]) -> Result<Task<'a>, NoTa
     let Some((name, inner)) = matches.subcommand() else {
         unreachable!();
     };
-    match named_task(alloc, name, inner) {
-        Ok(task) => Ok(task),
-        Err(AllocError) => Err(NoTask::Memory),
-    }
+    named_task(alloc, name, inner)
 }
 
 // The task of a subcommand.
-fn named_task<'a>(alloc: Global, name: &str, inner: &ArgMatches<'a>) -> Result<Task<'a>, AllocError>
+fn named_task<'a>(alloc: Global, name: &str, inner: &ArgMatches<'a>) -> Result<Task<'a>, NoTask>
     requires { (words : List Text) × Names words name.now (rows_in inner.now) }
-    ensures { IfOk result
+    ensures ok { IfOk result
         (λ task. (words : List Text) → Names words name.now (rows_in inner.now) → Asks words task) }
+    ensures err { IfErr result (λ fault. (words : List Text)
+        → Names words name.now (rows_in inner.now) → IsNoTaskOf words fault) }
 {
     match name {
-        "types" => Ok(Task::Answer(Question::Types(model_of(inner), value_of(inner, "F")))),
-        "canon" => Ok(Task::Answer(Question::Canon(model_of(inner), value_of(inner, "F")))),
-        "show" => Ok(Task::Answer(Question::Show(model_of(inner), value_of(inner, "F")))),
-        "format" => {
-            let words = given_words(alloc, inner)?;
-            Ok(Task::Answer(Question::Format {
+        "types" => formats_task(alloc, inner, RecordQuestion::Types(model_of(inner))),
+        "canon" => formats_task(alloc, inner, RecordQuestion::Canon(model_of(inner))),
+        "show" => formats_task(alloc, inner, RecordQuestion::Show(model_of(inner))),
+        "format" => match given_words(alloc, inner) {
+            Ok(words) => Ok(Task::Answer(Question::Format {
                 model: model_of(inner),
-                format: value_of(inner, "F"),
+                format: value_of(inner, "F").as_bytes(),
                 words,
-            }))
-        }
-        "same" => Ok(Task::Answer(Question::Same {
-            models: models_of(inner),
-            first: value_of(inner, "F"),
-            second: value_of(inner, "G"),
-        })),
+            })),
+            Err(AllocError) => Err(NoTask::Memory),
+        },
+        "same" => formats_task(alloc, inner, RecordQuestion::Same(models_of(inner))),
         "stream" => Ok(Task::Stream(model_of(inner))),
         _ => unreachable!(),
+    }
+}
+
+// The task of a command about formats, which stand among its arguments or come as records.
+fn formats_task<'a>(
+    alloc: Global,
+    inner: &ArgMatches<'a>,
+    kind: RecordQuestion,
+) -> Result<Task<'a>, NoTask>
+    ensures ok { IfOk result (IsTaskOn kind (rows_in inner.now)) }
+    ensures err { IfErr result (IsNoTaskOn kind (rows_in inner.now)) }
+{
+    if is_null(inner) {
+        return match inner.get_str("F") {
+            None => Ok(Task::Records(kind)),
+            Some(_) => Err(misplaced(alloc, "error: formats stand beside --null\n")),
+        };
+    }
+    match question_in(inner, kind) {
+        Some(question) => Ok(Task::Answer(question)),
+        None => Err(misplaced(alloc, "error: a format is wanted, or --null\n")),
+    }
+}
+
+// Whether the formats come as records.
+fn is_null(inner: &ArgMatches<'_>) -> bool
+    ensures { result ≡ is_null (rows_in inner.now) }
+{
+    match inner.get_str("null") {
+        Some(value) => is_true(value),
+        None => false,
+    }
+}
+
+fn is_true(value: &str) -> bool
+    ensures { result ≡ bytes_eq value.now (codes "true") }
+{
+    match value {
+        "true" => true,
+        _ => false,
+    }
+}
+
+// The question about the formats among the arguments, if there are so many as it is about.
+fn question_in<'a>(inner: &ArgMatches<'a>, kind: RecordQuestion) -> Option<Question<'a>>
+    ensures { MatchOption result
+        (length (formats_in (rows_in inner.now)) ≢ formats_wanted kind)
+        (λ question. IsAbout question kind (formats_in (rows_in inner.now))) }
+{
+    let Some(first) = inner.get_str("F") else {
+        return None;
+    };
+    match inner.get_str("G") {
+        None => kind.about(first.as_bytes(), None),
+        Some(second) => kind.about(first.as_bytes(), Some(second.as_bytes())),
+    }
+}
+
+// What is told of formats that are missing, or that stand where none is wanted.
+fn misplaced(alloc: Global, text: &str) -> NoTask {
+    match String::from_str(alloc, text) {
+        Ok(text) => NoTask::Usage(text),
+        Err(AllocError) => NoTask::Memory,
     }
 }
 

@@ -5,6 +5,7 @@ mod devices;
 mod exhaustion;
 mod growths;
 mod memory;
+mod records;
 mod rooms;
 mod sizes;
 mod streams;
@@ -174,6 +175,8 @@ fn each_outcome_has_its_status_and_line(rt: HostRuntime) -> Result<(), AllocErro
     assert!(rt; is_reported(alloc, Outcome::Done, 0, ""));
     assert!(rt; is_reported(alloc, Outcome::Same, 0, ""));
     assert!(rt; is_reported(alloc, Outcome::Different, 1, ""));
+    assert!(rt; is_reported(alloc, Outcome::Answered(2), 2, ""));
+    assert!(rt; is_reported(alloc, Outcome::NoSecond, 3, "a second format is wanted\n"));
     assert!(rt; is_reported(alloc, Outcome::Read, 4, "read failed\n"));
     assert!(rt; is_reported(alloc, Outcome::Write(7), 4, "write failed\n"));
     assert!(rt; is_reported(alloc, Outcome::Memory, 4, "out of memory\n"));

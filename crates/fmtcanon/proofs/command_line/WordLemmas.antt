@@ -64,29 +64,9 @@ subcommand_given app words h = required_is_named app words (ap (λ a. (built a).
 abbrev pub IsWanted : Text → Text → Type 0
 IsWanted name id = (one both : ValueParser) → list_all (requires_value name id) (built (the_command one both)).subs ≡ true
 
-pub types_wants : IsWanted (codes "types") (codes "F")
-unfolding the_command clap_on_literals
-types_wants one both = refl
-
-pub canon_wants : IsWanted (codes "canon") (codes "F")
-unfolding the_command clap_on_literals
-canon_wants one both = refl
-
-pub show_wants : IsWanted (codes "show") (codes "F")
-unfolding the_command clap_on_literals
-show_wants one both = refl
-
 pub format_wants : IsWanted (codes "format") (codes "F")
 unfolding the_command clap_on_literals
 format_wants one both = refl
-
-pub same_wants_first : IsWanted (codes "same") (codes "F")
-unfolding the_command clap_on_literals
-same_wants_first one both = refl
-
-pub same_wants_second : IsWanted (codes "same") (codes "G")
-unfolding the_command clap_on_literals
-same_wants_second one both = refl
 
 -- where no fault is found, such an argument has a value
 pub value_given : (words : List Text) (name command id : Text) (rows : List Row) → Names words name rows → name ≡ command → IsWanted command id

@@ -10,7 +10,7 @@ use std::io::{Error, ErrorKind, Write};
 #[derive(Drop)]
 pub(super) struct Watched {
     pub(super) taken: usize,
-    writes: u32,
+    pub(super) writes: u32,
     pub(super) flushes: u32,
     pub(super) taken_at_flush: usize,
     fails_at_flush: bool,

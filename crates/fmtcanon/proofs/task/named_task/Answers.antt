@@ -5,7 +5,9 @@ use Rattle.clap.specs.declared.parser.matches.ArgMatches.{ArgMatches}
 use Rattle.clap.proofs.WalkLemmas.{first_value-rows, raw_values-rows}
 use Rattle.fmtcanon.specs.Tasks.{HasAllValues, HasValue, Names, rows_in}
 use Rattle.fmtcanon.specs.Words.{the_command}
-use Rattle.fmtcanon.proofs.command_line.WordLemmas.{IsWanted, at_asked, canon_wants, format_wants, same_wants_first, same_wants_second, show_wants, types_wants, value_given}
+use Rattle.fmtcanon.proofs.command_line.WordLemmas.{IsWanted, at_asked, format_wants, value_given}
+use Rattle.fmtcanon.specs.declared.questions.RecordQuestion.TheVariants as asked
+use Rattle.fmtcanon.proofs.TaskLemmas.{asks_if, lacks_if}
 use Rattle.fmtcanon.proofs.task.named_task.Goals as goal
 
 -- the argument that the command wants is there
@@ -20,22 +22,7 @@ values : (inner : ArgMatches) (id : Text) (texts : List Text) → texts ≡ unwr
 values inner id texts e = e ∙ ap (λ o. unwrap_or o []) (raw_values-rows (found_of inner) id)
 
 pub value_of-requires : goal.value_of-requires
-value_of-requires c = let names = c.requires in present names.0 _ _ _ c.args.inner.now names.1 c.in-types.is types_wants
-
-pub value_of-requires-in-canon : goal.value_of-requires-in-canon
-value_of-requires-in-canon c = let names = c.requires in present names.0 _ _ _ c.args.inner.now names.1 c.in-canon.is canon_wants
-
-pub value_of-requires-in-show : goal.value_of-requires-in-show
-value_of-requires-in-show c = let names = c.requires in present names.0 _ _ _ c.args.inner.now names.1 c.in-show.is show_wants
-
-pub value_of-requires-in-format : goal.value_of-requires-in-format
-value_of-requires-in-format c = let names = c.requires in present names.0 _ _ _ c.args.inner.now names.1 c.in-format.is format_wants
-
-pub value_of-requires-in-same : goal.value_of-requires-in-same
-value_of-requires-in-same c = let names = c.requires in present names.0 _ _ _ c.args.inner.now names.1 c.in-same.is same_wants_first
-
-pub value_of-requires-in-same-2 : goal.value_of-requires-in-same-2
-value_of-requires-in-same-2 c = let names = c.requires in present names.0 _ _ _ c.args.inner.now names.1 c.in-same.is same_wants_second
+value_of-requires c = let names = c.requires in present names.0 _ _ _ c.args.inner.now names.1 c.in-format.is format_wants
 
 pub unreachable-requires : goal.unreachable-requires
 unfolding the_command
@@ -45,22 +32,38 @@ unreachable-requires c =
     let other = c.in_default in
     at_asked (λ n. name ≡ n → ⊥) names.1.app names.0 name _ (λ one both. (other.not-types, (other.not-canon, (other.not-show, (other.not-format, (other.not-same, (other.not-stream, tt))))))) names.1.is_command names.1.named refl
 
-pub returns-in-types : goal.returns-in-types
-returns-in-types c = λ words names. (_, rows_in c.args.inner.now, names, (c.in-types.is, c.model_of.ensures, value c.args.inner.now _ _ c.value_of.ensures))
+pub returns-in-types-clause-ok : goal.returns-in-types-clause-ok
+returns-in-types-clause-ok c = asks_if c.args.name.now (rows_in c.args.inner.now) (asked.Types c.model_of.result) (c.in-types.is, c.model_of.ensures) c.formats_task.result c.formats_task.ensures.ok
 
-pub returns-in-canon : goal.returns-in-canon
-returns-in-canon c = λ words names. (_, rows_in c.args.inner.now, names, (c.in-canon.is, c.model_of-in-canon.ensures, value c.args.inner.now _ _ c.value_of-in-canon.ensures))
+pub returns-in-types-clause-err : goal.returns-in-types-clause-err
+returns-in-types-clause-err c = lacks_if c.args.name.now (rows_in c.args.inner.now) (asked.Types c.model_of.result) (c.in-types.is, c.model_of.ensures) c.formats_task.result c.formats_task.ensures.err
 
-pub returns-in-show : goal.returns-in-show
-returns-in-show c = λ words names. (_, rows_in c.args.inner.now, names, (c.in-show.is, c.model_of-in-show.ensures, value c.args.inner.now _ _ c.value_of-in-show.ensures))
+pub returns-in-canon-clause-ok : goal.returns-in-canon-clause-ok
+returns-in-canon-clause-ok c = asks_if c.args.name.now (rows_in c.args.inner.now) (asked.Canon c.model_of-in-canon.result) (c.in-canon.is, c.model_of-in-canon.ensures) c.formats_task-in-canon.result c.formats_task-in-canon.ensures.ok
 
-pub returns-in_ok-words-in-format : goal.returns-in_ok-words-in-format
-returns-in_ok-words-in-format c =
-    λ words names. (_, rows_in c.args.inner.now, names, (c.in-format.is, c.model_of-in-format.ensures, value c.args.inner.now _ _ c.value_of-in-format.ensures, values c.args.inner.now _ _ c.in_ok-words-in-format.ensures))
+pub returns-in-canon-clause-err : goal.returns-in-canon-clause-err
+returns-in-canon-clause-err c = lacks_if c.args.name.now (rows_in c.args.inner.now) (asked.Canon c.model_of-in-canon.result) (c.in-canon.is, c.model_of-in-canon.ensures) c.formats_task-in-canon.result c.formats_task-in-canon.ensures.err
 
-pub returns-in-same : goal.returns-in-same
-returns-in-same c =
-    λ words names. (_, rows_in c.args.inner.now, names, (c.in-same.is, c.models_of.ensures, value c.args.inner.now _ _ c.value_of-in-same.ensures, value c.args.inner.now _ _ c.value_of-in-same-2.ensures))
+pub returns-in-show-clause-ok : goal.returns-in-show-clause-ok
+returns-in-show-clause-ok c = asks_if c.args.name.now (rows_in c.args.inner.now) (asked.Show c.model_of-in-show.result) (c.in-show.is, c.model_of-in-show.ensures) c.formats_task-in-show.result c.formats_task-in-show.ensures.ok
+
+pub returns-in-show-clause-err : goal.returns-in-show-clause-err
+returns-in-show-clause-err c = lacks_if c.args.name.now (rows_in c.args.inner.now) (asked.Show c.model_of-in-show.result) (c.in-show.is, c.model_of-in-show.ensures) c.formats_task-in-show.result c.formats_task-in-show.ensures.err
+
+pub returns-in-same-clause-ok : goal.returns-in-same-clause-ok
+returns-in-same-clause-ok c = asks_if c.args.name.now (rows_in c.args.inner.now) (asked.Same c.models_of.result) (c.in-same.is, c.models_of.ensures) c.formats_task-in-same.result c.formats_task-in-same.ensures.ok
+
+pub returns-in-same-clause-err : goal.returns-in-same-clause-err
+returns-in-same-clause-err c = lacks_if c.args.name.now (rows_in c.args.inner.now) (asked.Same c.models_of.result) (c.in-same.is, c.models_of.ensures) c.formats_task-in-same.result c.formats_task-in-same.ensures.err
+
+pub returns-in-Ok : goal.returns-in-Ok
+returns-in-Ok c = record {
+  ok = λ words names. (_, rows_in c.args.inner.now, names, (c.in-format.is, c.model_of-in-Ok.ensures, value c.args.inner.now _ _ (ap (λ t. Some t) c.as_bytes.ensures.value ∙ c.value_of.ensures), values c.args.inner.now _ _ c.in-Ok.ensures));
+  err = tt;
+}
 
 pub returns-in-stream : goal.returns-in-stream
-returns-in-stream c = λ words names. (rows_in c.args.inner.now, subst (λ n. Names words n (rows_in c.args.inner.now)) c.in-stream.is names, c.model_of-in-stream.ensures)
+returns-in-stream c = record {
+  ok = λ words names. (rows_in c.args.inner.now, subst (λ n. Names words n (rows_in c.args.inner.now)) c.in-stream.is names, c.model_of-in-stream.ensures);
+  err = tt;
+}

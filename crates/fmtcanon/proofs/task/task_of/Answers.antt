@@ -15,10 +15,11 @@ use Rattle.fmtcanon.specs.Tasks.{IsAnsweredBy, IsNoTaskOf, Names, rows_in}
 use Rattle.fmtcanon.specs.declared.task.NoTask.{NoTask}
 use Rattle.fmtcanon.specs.declared.task.NoTask.TheVariants.{Usage, Memory}
 use Rattle.fmtcanon.proofs.command_line.WordLemmas.{free_command, simple_command, subcommand_given}
+use Rattle.std.proofs.lemmas.Result.{IfErr-weaker, IfOk-weaker}
 use Rattle.fmtcanon.proofs.task.task_of.Goals as goal
 
 answered : (app : App) (words : List Text) (k : ErrorKind) (r : NoTask) → IsCommand app → (takes app words ≡ true → k ≡ kind.OutOfMemory) → (k ≡ kind.OutOfMemory) ⊎ IsAmong k (fault_of app words) → IsAnsweredBy k r → IsNoTaskOf words r
-answered app words k (Usage m) is f g h = (λ taken. h (f (taken app is)), (app, is, k, h, elim g [ inl none ↦ absurd (h none) | inr among ↦ among ]))
+answered app words k (Usage m) is f g h = inl (λ taken. h (f (taken app is)), (app, is, k, h, elim g [ inl none ↦ absurd (h none) | inr among ↦ among ]))
 answered app words k Memory is f g h = tt
 
 abbrev texts : List (Bor Text) → List Text
@@ -64,7 +65,12 @@ named_task-requires c =
     let ok = c.in-Ok-try_get_matches_from in
     (texts c.args.words.now, named _ _ ok.matches _ c.in-Some.inner.now c.in-Ok.ensures ok.ensures.matches ok.ensures.kinds c.in-Some.ensures.name c.in-Some.ensures.rows)
 
-pub returns-in-Ok-named_task-clause-ok : goal.returns-in-Ok-named_task-clause-ok
-returns-in-Ok-named_task-clause-ok c =
+pub returns-clause-ok : goal.returns-clause-ok
+returns-clause-ok c =
     let ok = c.in-Ok-try_get_matches_from in
-    c.in-Ok-named_task.ensures _ (named _ _ ok.matches _ c.in-Some.inner.now c.in-Ok.ensures ok.ensures.matches ok.ensures.kinds c.in-Some.ensures.name c.in-Some.ensures.rows)
+    IfOk-weaker c.named_task.result _ _ (λ task h. h _ (named _ _ ok.matches _ c.in-Some.inner.now c.in-Ok.ensures ok.ensures.matches ok.ensures.kinds c.in-Some.ensures.name c.in-Some.ensures.rows)) c.named_task.ensures.ok
+
+pub returns-clause-err : goal.returns-clause-err
+returns-clause-err c =
+    let ok = c.in-Ok-try_get_matches_from in
+    IfErr-weaker c.named_task.result _ _ (λ fault h. h _ (named _ _ ok.matches _ c.in-Some.inner.now c.in-Ok.ensures ok.ensures.matches ok.ensures.kinds c.in-Some.ensures.name c.in-Some.ensures.rows)) c.named_task.ensures.err

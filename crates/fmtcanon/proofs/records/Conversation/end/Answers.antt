@@ -1,0 +1,8 @@
+use Rattle.std.proofs.Common.{◌++◌}
+use Rattle.fmtcanon.specs.Records.{last_record}
+use Rattle.fmtcanon.proofs.RecordLemmas.{stopped_at_end}
+use Rattle.fmtcanon.proofs.records.Conversation.end.Goals as goal
+
+pub returns-in-Err : goal.returns-in-Err
+returns-in-Err g c =
+    λ kind start whole rest h. stopped_at_end kind g.W.Write.contents start _ (whole ++ last_record rest) c.stop.result (c.stop.ensures kind start (whole ++ last_record rest) (c.in-Err.ensures kind start whole rest h))

@@ -1,0 +1,123 @@
+-- What a run over records holds in memory, for private functions. This project's own.
+use Rattle.std.specs.Prelude.{◌≡◌, ℕ, ◌-◌, ◌^◌, ◌<◌, Bool, true, false, List, [], ◌∷◌, ◌++◌, length, min, Result, Ok, Err}
+use Rattle.std.specs.declared.alloc.AllocError.{AllocError}
+use Rattle.pf_values.specs.declared.counting.Counted.{Counted}
+use Rattle.pf_values.specs.Counting.{Known, WritesAll, WritesFirst}
+use Rattle.pf_values.specs.Text.{Text}
+use Rattle.fmtcanon.specs.Questions.{formats_wanted}
+use Rattle.fmtcanon.specs.Records.{AreReplies, IsCut, IsReply, RepliesAll, RepliesFirst, Reply, bytes_of, greatest_of, last_record}
+use Rattle.fmtcanon.specs.declared.outcome.Outcome.{Outcome}
+use Rattle.fmtcanon.specs.declared.outcome.Outcome.TheVariants as outcomes
+use Rattle.fmtcanon.specs.declared.questions.RecordQuestion.{RecordQuestion}
+use Rattle.fmtcanon.specs.declared.records.Coming.{Coming}
+use Rattle.fmtcanon.specs.declared.records.Conversation.{Conversation}
+use Rattle.fmtcanon.specs.declared.replies.Replies.{Replies}
+use Rattle.fmtcanon.specs.declared.records.Stop.{Stop}
+use Rattle.fmtcanon.specs.declared.records.Stop.TheVariants.{Memory, Write}
+
+-- the count of bytes that went out
+abbrev pub count_of : ℕ → ℕ
+count_of written = min written (2 ^ 128 - 1)
+
+-- the bytes that wait
+abbrev pub waiting_of : Replies → Text
+waiting_of r = r.waiting.items
+
+-- These replies came, and those bytes of them that don't wait went out.
+pub record HasReplies (r : Replies) (sent : Text) (replies : List Reply) : Type 0 where
+  pub bytes : bytes_of replies ≡ sent ++ waiting_of r
+  pub greatest : r.greatest ≡ greatest_of replies
+  pub count : r.written ≡ count_of (length sent)
+
+module _ {W : Type 0} (contents : W → Known) where
+  -- the same of a writer that began so
+  pub record HasSaid (r : Replies) (start now : Counted W) (replies : List Reply) : Type 0 where
+    pub sent : Text
+    pub writes : WritesAll contents start now sent
+    pub has : HasReplies r sent replies
+
+  -- just the first bytes of them went out
+  pub record HasSaidFirst (start now : Counted W) (replies : List Reply) (count : ℕ) : Type 0 where
+    pub written : ℕ
+    pub writes : WritesFirst contents start now (bytes_of replies) written
+    pub count_is : count ≡ count_of written
+
+-- the first format of two, if it has come
+abbrev pub first_of : Bool → Text → List Text
+first_of false text = []
+first_of true text = text ∷ []
+
+-- This has come of a question: the first format, where two are wanted, and the rest of a record.
+pub record HasCome (c : Coming) (kind : RecordQuestion) (first : List Text) (rest : Text)
+    : Type 0 where
+  pub kind_is : c.kind ≡ kind
+  pub few : length first < formats_wanted kind
+  pub first_is : first ≡ first_of c.has_first c.first.items
+  pub part_is : rest ≡ c.part.items
+
+module _ (kind : RecordQuestion) {W : Type 0} (contents : W → Known) where
+  -- Replies were made to these whole records, and a rest has come after them.
+  pub record IsAt (c : Conversation) (start now : Counted W) (whole : List Text) (rest : Text)
+      : Type 0 where
+    pub first : List Text
+    pub replies : List Reply
+    pub are : AreReplies kind whole replies first
+    pub come : HasCome c.coming kind first rest
+    pub said : HasSaid contents c.replies start now replies
+
+  -- Replies were made to the first of some records, and then memory was refused, or a write failed.
+  abbrev pub HasStopped : Conversation → Counted W → Counted W → List Text → Stop → Type 0
+  HasStopped c start now records Memory =
+      (replies : List Reply) × (others : List Text) × AreReplies kind records replies others
+      × HasSaid contents c.replies start now replies
+  HasStopped c start now records (Write count) =
+      (replies : List Reply) × (others : List Text) × AreReplies kind records replies others
+      × HasSaidFirst contents start now replies count
+
+  -- the same of what was taken
+  abbrev pub IsAtText : Conversation → Counted W → Counted W → Text → Type 0
+  IsAtText c start now taken =
+      (whole : List Text) × (rest : Text) × IsCut taken whole rest × IsAt c start now whole rest
+
+  abbrev pub HasStoppedAt : Conversation → Counted W → Counted W → Text → Stop → Type 0
+  HasStoppedAt c start now taken stop =
+      (whole : List Text) × (rest : Text) × IsCut taken whole rest
+      × HasStopped c start now (whole ++ last_record rest) stop
+
+-- whether the reply to these formats was added: all was, they are too few, or memory was refused
+abbrev pub Answers : RecordQuestion → List Text → Text → List Reply → Replies → Replies
+    → Result Bool AllocError → Type 0
+Answers kind formats sent replies old new (Ok true) =
+    (reply : Reply) × IsReply kind reply × (reply.formats ≡ formats)
+    × HasReplies new sent (replies ++ reply ∷ [])
+Answers kind formats sent replies old new (Ok false) =
+    (length formats < formats_wanted kind) × (new ≡ old)
+Answers kind formats sent replies old new (Err e) = HasReplies new sent replies
+
+module _ {W : Type 0} (contents : W → Known) where
+  -- a write of replies that wait, or of none
+  abbrev pub WritesReplies : Replies → Counted W → Counted W → List Reply
+      → Result (Unit {0}) Stop → Type 0
+  WritesReplies r start now replies (Ok done) = HasSaid contents r start now replies
+  WritesReplies r start now replies (Err Memory) = ⊥
+  WritesReplies r start now replies (Err (Write count)) =
+      HasSaidFirst contents start now replies count
+
+module _ (kind : RecordQuestion) {W : Type 0} (contents : W → Known) (old new : Counted W) where
+  -- what is written where it ends early, of replies to the first of these records
+  abbrev pub LeavesStopped : List Text → Outcome → Type 0
+  LeavesStopped records outcomes.Memory =
+      (others : List Text) × (greatest : ℕ)
+      × RepliesAll kind contents old new records others greatest
+  LeavesStopped records (outcomes.Write count) =
+      RepliesFirst kind contents old new records count
+  LeavesStopped records outcome = ⊥
+
+  -- what is written at the end, of these records
+  abbrev pub LeavesAtEnd : List Text → Outcome → Type 0
+  LeavesAtEnd records (outcomes.Answered greatest) =
+      RepliesAll kind contents old new records [] greatest
+  LeavesAtEnd records outcomes.NoSecond =
+      (first : Text) × (greatest : ℕ) × (1 < formats_wanted kind)
+      × RepliesAll kind contents old new records (first ∷ []) greatest
+  LeavesAtEnd records outcome = LeavesStopped records outcome

@@ -1,0 +1,146 @@
+-- Formats that come as records, their replies, and what a run over them leaves. This project's own.
+use Rattle.std.specs.Prelude.{◌≡◌, ◌≢◌, ℕ, ◌+◌, ◌-◌, ◌^◌, ◌<◌, ◌≤◌, List, [], ◌∷◌, ◌++◌, flat_map, length, max, min, take, None, Some, true, ◌⊎◌}
+use Rattle.std.specs.List.{AllByRecursion, fold}
+use Rattle.std.specs.Io.KnownBytes.{Consumes, IsAtEnd}
+use Rattle.pf_values.specs.declared.counting.Counted.{Counted}
+use Rattle.pf_values.specs.Counting.{HasFailed, Known, WritesAll, WritesFirst, calls_of, device_of, failures_of, is_flushed, max_count}
+use Rattle.pf_values.specs.Text.{Text}
+use Rattle.fmtcanon.specs.Answers.{IsAnswer, IsHindered}
+use Rattle.fmtcanon.specs.Outcomes.{outcome_of, outcome_of_fault, status_of}
+use Rattle.fmtcanon.specs.Questions.{IsAbout, formats_wanted}
+use Rattle.fmtcanon.specs.Reports.{told}
+use Rattle.fmtcanon.specs.declared.answer.Ending.{Ending}
+use Rattle.fmtcanon.specs.declared.fault.Fault.{Fault}
+use Rattle.fmtcanon.specs.declared.fault.Fault.TheVariants as faults
+use Rattle.fmtcanon.specs.declared.outcome.Outcome.{Outcome}
+use Rattle.fmtcanon.specs.declared.outcome.Outcome.TheVariants.{Done, Same, Different, Refused, BadWord, WrongCount, WrongType, Answered, NoSecond, Usage, Read, Write, Memory}
+use Rattle.fmtcanon.specs.declared.questions.Question.{Question}
+use Rattle.fmtcanon.specs.declared.questions.RecordQuestion.{RecordQuestion}
+
+-- a text has no zero byte
+abbrev pub IsBare : Text → Type 0
+IsBare text = AllByRecursion (λ byte. byte ≢ 0) text
+
+-- These whole records stand in a text, each with a zero byte after it, and then the rest of it.
+pub record IsCut (text : Text) (whole : List Text) (rest : Text) : Type 0 where
+  pub bare : AllByRecursion IsBare whole × IsBare rest
+  pub is : text ≡ flat_map (λ r. r ++ 0 ∷ []) whole ++ rest
+
+-- at the end the rest of a text is one more record, if it isn't empty
+abbrev pub last_record : Text → List Text
+last_record [] = []
+last_record (byte ∷ bytes) = (byte ∷ bytes) ∷ []
+
+-- What a run of the command says to a question, and how it ends: it writes the answer to standard
+-- output, or a line about the fault to standard error.
+abbrev pub Says : Question → Text → Outcome → Type 0
+Says question said outcome =
+    ((ending : Ending) × IsAnswer question said ending × (outcome ≡ outcome_of ending))
+    ⊎ ((fault : Fault) × IsHindered question fault × (fault ≢ faults.Memory)
+    × (outcome ≡ outcome_of_fault fault) × (said ≡ told outcome))
+
+-- a reply: the digit of the status, a space, what is said but for its last newline, a zero byte
+abbrev pub reply_bytes : ℕ → Text → Text
+reply_bytes status said =
+    (48 + status) ∷ 32 ∷ take (length said - 1) said ++ 0 ∷ []
+
+-- a reply with the formats that it is about, and its status
+pub record Reply : Type 0 where
+  pub formats : List Text
+  pub status : ℕ
+  pub bytes : Text
+
+-- This is a reply to what is asked about its formats.
+pub record IsReply (kind : RecordQuestion) (reply : Reply) : Type 0 where
+  pub question : Question
+  pub about : IsAbout question kind reply.formats
+  pub said : Text
+  pub outcome : Outcome
+  pub says : Says question said outcome
+  pub status : reply.status ≡ status_of outcome
+  pub bytes : reply.bytes ≡ reply_bytes reply.status said
+
+-- the bytes of replies, one after another
+abbrev pub bytes_of : List Reply → Text
+bytes_of replies = flat_map (λ r. r.bytes) replies
+
+-- the greatest of their statuses, and 0 where there are none
+abbrev pub greatest_of : List Reply → ℕ
+greatest_of replies = fold (λ greatest r. max greatest r.status) 0 replies
+
+-- These are the replies to the first of some records, in order, and the others have none.
+pub record AreReplies (kind : RecordQuestion) (records : List Text) (replies : List Reply)
+    (others : List Text) : Type 0 where
+  pub each : AllByRecursion (IsReply kind) replies
+  pub to : records ≡ flat_map (λ r. r.formats) replies ++ others
+
+module _ (kind : RecordQuestion) {W : Type 0} (contents : W → Known) (old new : Counted W) where
+  -- The replies to all records but the others went out, and were flushed.
+  pub record RepliesAll (records others : List Text) (greatest : ℕ) : Type 0 where
+    pub replies : List Reply
+    pub are : AreReplies kind records replies others
+    pub greatest_is : greatest ≡ greatest_of replies
+    pub writes : WritesAll contents old new (bytes_of replies)
+    pub flushed : is_flushed new ≡ true
+
+  -- Just the first bytes of replies went out, and a call failed. The count stays at the greatest
+  -- `u128`.
+  pub record RepliesFirst (records : List Text) (count : ℕ) : Type 0 where
+    pub replies : List Reply
+    pub others : List Text
+    pub are : AreReplies kind records replies others
+    pub written : ℕ
+    pub writes : WritesFirst contents old new (bytes_of replies) written
+    pub count_is : count ≡ min written (2 ^ 128 - 1)
+
+module _ (kind : RecordQuestion) {R W : Type 0} (remaining : R → Known) (contents : W → Known)
+    (reader left : Counted R) (old new : Counted W) where
+  -- the reader handed out these whole records, and a rest after them
+  abbrev pub Takes : List Text → Text → Type 0
+  Takes whole rest =
+      (taken : Text) × IsCut taken whole rest
+      × Consumes (remaining (device_of reader)) (remaining (device_of left)) taken
+
+  -- it handed out all that it had, and these are its records
+  abbrev pub TakesAll : List Text → Type 0
+  TakesAll records =
+      (whole : List Text) × (rest : Text) × Takes whole rest
+      × IsAtEnd (remaining (device_of left)) × (records ≡ whole ++ last_record rest)
+
+  -- it did not fail
+  abbrev pub ReadWell : Type 0
+  ReadWell = failures_of left ≡ failures_of reader
+
+  -- it failed, or was called as often as can be counted
+  abbrev pub ReadFails : Type 0
+  ReadFails = HasFailed reader left ⊎ (max_count ≤ calls_of left)
+
+  -- What a run over records leaves. At Read each whole record has its reply, but one that wants a
+  -- second. At Memory those before the record have theirs for which memory was refused.
+  abbrev pub LeavesRecords : Outcome → Type 0
+  LeavesRecords (Answered greatest) =
+      (records : List Text) × TakesAll records × ReadWell
+      × RepliesAll kind contents old new records [] greatest
+  LeavesRecords NoSecond =
+      (records : List Text) × (first : Text) × (greatest : ℕ) × TakesAll records × ReadWell
+      × (1 < formats_wanted kind)
+      × RepliesAll kind contents old new records (first ∷ []) greatest
+  LeavesRecords Read =
+      (whole : List Text) × (rest : Text) × (first : List Text) × (greatest : ℕ)
+      × Takes whole rest × ReadFails × (length first < formats_wanted kind)
+      × RepliesAll kind contents old new whole first greatest
+  LeavesRecords Memory =
+      (whole : List Text) × (rest : Text) × (others : List Text) × (greatest : ℕ)
+      × Takes whole rest × ReadWell
+      × RepliesAll kind contents old new (whole ++ last_record rest) others greatest
+  LeavesRecords (Write count) =
+      (whole : List Text) × (rest : Text) × Takes whole rest × ReadWell
+      × RepliesFirst kind contents old new (whole ++ last_record rest) count
+  LeavesRecords Done = ⊥
+  LeavesRecords Same = ⊥
+  LeavesRecords Different = ⊥
+  LeavesRecords (Refused side refusal) = ⊥
+  LeavesRecords (BadWord index) = ⊥
+  LeavesRecords (WrongCount wanted given) = ⊥
+  LeavesRecords (WrongType index) = ⊥
+  LeavesRecords (Usage text) = ⊥
