@@ -17,7 +17,7 @@ sys.dont_write_bytecode = True
 sys.path.insert(0, str(Path(__file__).resolve().parent))
 
 from devices import READ_FAILED, SOON, WRITE_FAILED, calls_of, library_of  # noqa: E402
-from program import TIMEOUT, Trials, run  # noqa: E402
+from harness import TIMEOUT, Trials, run  # noqa: E402
 
 TIMES = 1_000
 MANY = 1_000_000
