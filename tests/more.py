@@ -20,6 +20,7 @@ sys.path.insert(0, str(Path(__file__).resolve().parent))
 
 import roots  # noqa: E402
 from library import TIMEOUT, TOP, Trials, compile_with, lines_of, load_module, python_lines, shapes, try_compiler  # noqa: E402
+from models import try_models  # noqa: E402
 from replacing import try_parsing  # noqa: E402
 from translations import try_msgfmt  # noqa: E402
 
@@ -148,6 +149,7 @@ def main():
         try_valgrind(folder, tools, module, trials, Path(work))
         try_second(folder, module, trials, Path(work))
         try_random(folder, trials, Path(work))
+        try_models(os.path.abspath(sys.argv[1]), tools, trials, Path(work))
     try_gettext(folder, tools, trials)
     try_libclang(folder, trials)
     try_shells(tools, trials)
