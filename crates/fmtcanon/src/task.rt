@@ -8,6 +8,7 @@ ghost use Rattle.fmtcanon.specs.Questions.{IsAbout, formats_wanted};
 ghost use Rattle.fmtcanon.specs.Tasks.{Asks, IsAnsweredBy, IsNoTaskOf, IsNoTaskOn, IsTaskOn, Names, formats_in, is_null, rows_in};
 
 use crate::command::definition;
+use crate::command_texts as texts;
 use crate::models::{model_of, models_of};
 use crate::questions::{Question, RecordQuestion};
 use clap::error::ErrorKind;
@@ -91,12 +92,12 @@ fn formats_task<'a>(
     if is_null(inner) {
         return match inner.get_str("F") {
             None => Ok(Task::Records(kind)),
-            Some(_) => Err(misplaced(alloc, "error: formats stand beside --null\n")),
+            Some(_) => Err(misplaced(alloc)),
         };
     }
     match question_in(inner, kind) {
         Some(question) => Ok(Task::Answer(question)),
-        None => Err(misplaced(alloc, "error: a format is wanted, or --null\n")),
+        None => Err(misplaced(alloc)),
     }
 }
 
@@ -135,8 +136,8 @@ fn question_in<'a>(inner: &ArgMatches<'a>, kind: RecordQuestion) -> Option<Quest
 }
 
 // What is told of formats that are missing, or that stand where none is wanted.
-fn misplaced(alloc: Global, text: &str) -> NoTask {
-    match String::from_str(alloc, text) {
+fn misplaced(alloc: Global) -> NoTask {
+    match String::from_str(alloc, texts::MISPLACED) {
         Ok(text) => NoTask::Usage(text),
         Err(AllocError) => NoTask::Memory,
     }
