@@ -5,4 +5,13 @@ mod kinds;
 mod notations;
 mod turns;
 
+ghost use Rattle.std.specs.Prelude.{◌≡◌};
+
 pub use kinds::LiteralKind;
+
+/// nothing
+pub fn nothing() -> u8
+    ensures { result ≡ 3 }
+{
+    3
+}

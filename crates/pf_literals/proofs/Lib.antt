@@ -1,0 +1,4 @@
+pub mod Numbers
+pub mod Turning
+pub mod Judging
+pub mod Complete

@@ -1,0 +1,90 @@
+-- Digits of numeric escape sequences, and what the code makes of them.
+use Rattle.std.proofs.Common.{◌≡◌, ◌≢◌, ℕ, suc, ◌+◌, ◌*◌, ◌<◌, ◌≤◌, Bool, true, false, List, [], ◌∷◌, ◌++◌, length, refl, sym, ap, ◌∙◌, arith, inl, inr}
+use Rattle.std.specs.Prelude.{◌&&◌, ◌==◌, not, nat_lt, if◌then◌else◌}
+use Rattle.std.specs.List.{AllByRecursion}
+use Rattle.std.proofs.lemmas.Bool.{and_from, cases_lt, not_from_false}
+use Rattle.std.proofs.lemmas.Bool.Decides.{nat_tests}
+use Rattle.pf_literals.specs.declared.kinds.LiteralKind.TheVariants.{EscapeTooLarge}
+use Rattle.pf_literals.specs.declared.notations.Notation.{Notation}
+use Rattle.pf_literals.specs.declared.notations.Notation.TheVariants.{Octal, Hexadecimal}
+use Rattle.pf_literals.specs.declared.turns.Turn.{Turn}
+use Rattle.pf_literals.specs.declared.turns.Turn.TheVariants.{Gives, Stops}
+use Rattle.pf_literals.specs.Elements.{Bytes, HasRoom, base, digit_value, goes_on, is_digit, is_full, number_after}
+use Rattle.pf_literals.specs.Turns.{at_end, before_digits, numeric, settled}
+
+-- digits of a notation
+abbrev pub Each : Notation → Bytes → Type 0
+Each notation digits = AllByRecursion (λ digit. is_digit notation digit ≡ true) digits
+
+-- more digits make no smaller number
+pub number_after-ge : (notation : Notation) (digits : Bytes) (number : ℕ) → number ≤ number_after notation number digits
+number_after-ge notation [] number = omega arith
+number_after-ge Octal (d ∷ ds) number = let more = number_after-ge Octal ds (8 * number + digit_value d) in omega arith
+number_after-ge Hexadecimal (d ∷ ds) number = let more = number_after-ge Hexadecimal ds (16 * number + digit_value d) in omega arith
+
+pub number_after-push : (notation : Notation) (digits : Bytes) (number d : ℕ)
+    → number_after notation number (digits ++ d ∷ []) ≡ base notation * number_after notation number digits + digit_value d
+number_after-push notation [] number d = refl
+number_after-push notation (e ∷ digits) number d = number_after-push notation digits (base notation * number + digit_value e) d
+
+pub not_full : (notation : Notation) (count more : ℕ) → HasRoom notation (count + suc more) → is_full notation count ≡ false
+not_full Octal count more room = grind (arith, nat_tests)
+not_full Hexadecimal count more room = refl
+
+pub same_room : (notation : Notation) (count other : ℕ) → count ≡ other → HasRoom notation count → HasRoom notation other
+same_room Octal count other e room = omega (arith, e, room)
+same_room Hexadecimal count other e room = tt
+
+pub small : (n : ℕ) → n ≤ 255 → nat_lt 255 n ≡ false
+small n h = grind (arith, nat_tests)
+
+pub large : (n : ℕ) → 255 < n → nat_lt 255 n ≡ true
+large n h = grind (arith, nat_tests)
+
+pub some_count : (n : ℕ) → 0 < n → (n == 0) ≡ false
+some_count n h = grind (arith, nat_tests)
+
+module _ (notation : Notation) where
+  -- one more digit
+  pub goes : (count d : ℕ) (rest : Bytes) → is_full notation count ≡ false → is_digit notation d ≡ true → goes_on notation count (d ∷ rest) ≡ true
+  goes count d rest room digit = and_from _ _ (not_from_false _ room) digit
+
+  numeric-one : (count number d : ℕ) (rest : Bytes) → goes_on notation count (d ∷ rest) ≡ true → base notation * number + digit_value d ≤ 255
+      → numeric notation count number (d ∷ rest) ≡ numeric notation (count + 1) (base notation * number + digit_value d) rest
+  numeric-one count number d rest on few = let fits = small (base notation * number + digit_value d) few in rw (on, fits) refl
+
+  -- digits of a number that fits
+  pub numeric-digits : (digits rest : Bytes) (count number : ℕ) → Each notation digits → HasRoom notation (count + length digits)
+      → number_after notation number digits ≤ 255 → numeric notation count number (digits ++ rest) ≡ numeric notation (count + length digits) (number_after notation number digits) rest
+  numeric-digits [] rest count number h room few = let same : count ≡ count + 0 = omega arith in ap (λ c. numeric notation c number rest) same
+  numeric-digits (d ∷ ds) rest count number h room few =
+      let more = number_after-ge notation ds (base notation * number + digit_value d) in
+      let on = goes count d (ds ++ rest) (not_full notation count (length ds) room) h.0 in
+      let same : count + 1 + length ds ≡ count + suc (length ds) = omega arith in
+      numeric-one count number d (ds ++ rest) on (omega arith)
+      ∙ numeric-digits ds rest (count + 1) (base notation * number + digit_value d) h.1 (same_room notation _ _ (sym same) room) few
+      ∙ ap (λ c. numeric notation c (number_after notation (base notation * number + digit_value d) ds) rest) same
+
+  -- digits of one that doesn't
+  pub numeric-large : (digits rest : Bytes) (count number : ℕ) → Each notation digits → HasRoom notation (count + length digits)
+      → number ≤ 255 → 255 < number_after notation number digits → numeric notation count number (digits ++ rest) ≡ Stops EscapeTooLarge 0
+  numeric-large [] rest count number h room few many = absurd (omega arith)
+  numeric-large (d ∷ ds) rest count number h room few many =
+      let on = goes count d (ds ++ rest) (not_full notation count (length ds) room) h.0 in
+      let next = base notation * number + digit_value d in
+      let same : count + 1 + length ds ≡ count + suc (length ds) = omega arith in
+      elim (cases_lt 255 next) [
+        | inl more ↦ let over = large next more in rw (on, over) refl
+        | inr le ↦ numeric-one count number d (ds ++ rest) on le ∙ numeric-large ds rest (count + 1) next h.1 (same_room notation _ _ (sym same) room) le many
+      ]
+
+  -- no more digits
+  pub numeric-ends : (rest : Bytes) (count number : ℕ) → goes_on notation count rest ≡ false → 0 < count → 0 < number → numeric notation count number rest ≡ Gives number (before_digits notation + count)
+  numeric-ends [] count number none some value =
+      let a = some_count count some in
+      let b = some_count number value in
+      rw (b, a) refl
+  numeric-ends (byte ∷ rest) count number none some value =
+      let a = some_count count some in
+      let b = some_count number value in
+      rw (none, b, a) refl
