@@ -68,18 +68,18 @@ read-elements (element ∷ elements) rest at h =
     ∙ ap (λ n. prefixed (map value (element ∷ elements)) (element_places at (element ∷ elements)) (read Inside 0 n rest)) long
 
 -- behind a quote nothing matters
-stands_quote : (element : Element) (before rest : Bytes) → stands_before element (before ++ (quote ∷ [])) ≡ true → stands_before element (before ++ (quote ∷ rest)) ≡ true
-stands_quote (Plain byte) [] [] h = h
-stands_quote (Plain byte) [] (c ∷ rest) h = h
-stands_quote (Plain byte) (a ∷ []) rest h = h
-stands_quote (Plain byte) (a ∷ b ∷ before) rest h = h
-stands_quote (Simple letter byte) before rest h = refl
-stands_quote (Numeric notation digits) [] rest h = h
-stands_quote (Numeric notation digits) (a ∷ before) rest h = h
+pub stands_quote : (element : Element) (before rest : Bytes) → stands_before element (before ++ (quote ∷ [])) ≡ stands_before element (before ++ (quote ∷ rest))
+stands_quote (Plain byte) [] [] = refl
+stands_quote (Plain byte) [] (c ∷ rest) = refl
+stands_quote (Plain byte) (a ∷ []) rest = refl
+stands_quote (Plain byte) (a ∷ b ∷ before) rest = refl
+stands_quote (Simple letter byte) before rest = refl
+stands_quote (Numeric notation digits) [] rest = refl
+stands_quote (Numeric notation digits) (a ∷ before) rest = refl
 
-pub closed_elements : (elements : List Element) (rest : Bytes) → AreElements elements (quote ∷ []) → AreElements elements (quote ∷ rest)
+closed_elements : (elements : List Element) (rest : Bytes) → AreElements elements (quote ∷ []) → AreElements elements (quote ∷ rest)
 closed_elements [] rest h = tt
-closed_elements (element ∷ elements) rest h = (h.0, stands_quote element (flat_map written elements) rest h.1, closed_elements elements rest h.2)
+closed_elements (element ∷ elements) rest h = (h.0, sym (stands_quote element (flat_map written elements) rest) ∙ h.1, closed_elements elements rest h.2)
 
 no_quote : (byte : ℕ) → is_white byte ≡ true → (byte == 34) ≡ false
 no_quote byte h = grind (arith, nat_tests)
@@ -166,3 +166,56 @@ read-source t literals s =
     ∙ read-front s.front [] literals s.front_white s.each
     ∙ ap (prefixed (bytes_of literals) (places (length s.front) literals)) (closed_some literals (length s.front) (length (s.front ++ flat_map literal_text literals)) s.some)
     ∙ ap₂ (λ b p. Whole b p (close_of 0 (length s.front) literals)) (append-nil (bytes_of literals)) (append-nil (places (length s.front) literals))
+
+-- a place behind white space, literals, or an open literal is outside of one, or in it
+outside_behind : (literals : List Literal) (place : Place) (at : ℕ) → ((t : Bytes) → turn place t ≡ outside t) → (t : Bytes) → turn (place_behind place at literals) t ≡ outside t
+outside_behind [] place at out = out
+outside_behind (l ∷ literals) place at out = outside_behind literals _ _ (λ t. refl)
+
+fault_by : ℕ → Turn → Reading
+fault_by at (Stops kind on) = Fault kind (at + on)
+fault_by at _ = Fault NoLiteral at
+
+stopped : (rest : Bytes) (kind : LiteralKind) (on at : ℕ) → inside rest ≡ Stops kind on → read Inside 0 at rest ≡ Fault kind (at + on)
+unfolding fault_by
+stopped [] kind on at h = let same : at ≡ at + 0 = omega arith in ap (Fault Unterminated) same ∙ ap (fault_by at) h
+stopped (byte ∷ rest) kind on at h = ap (λ t. taken at Inside t (λ p skip. read p skip (at + 1) rest)) h
+
+stray : (byte : ℕ) (after : Bytes) (place : Place) (at : ℕ) → ((t : Bytes) → turn place t ≡ outside t) → byte ≢ quote → is_white byte ≡ false → read place 0 at (byte ∷ after) ≡ Fault NoLiteral (at + 0)
+stray byte after place at out other black =
+    let no = ne_eqb byte 34 other in
+    let is : outside (byte ∷ after) ≡ Stops NoLiteral 0 = rw (no, black) refl in
+    ap (λ t. taken at place t (λ p skip. read p skip (at + 1) after)) (out (byte ∷ after) ∙ is)
+
+-- what is read of a fault's rest
+cause : (literals : List Literal) (begun : Option (List Element)) (rest : Bytes) (kind : LiteralKind) (on at from : ℕ) → AreOpen begun rest → HasCause literals begun rest kind on
+    → (bytes found : List ℕ) → prefixed bytes found (read (place_behind Before from literals) 0 at (open_text begun ++ rest)) ≡ Fault kind (at + length (open_text begun) + on)
+cause literals (Some elements) rest kind on at from open_ h bytes found =
+    let place = place_behind Before from literals in
+    let text = flat_map written elements in
+    let same : at + 1 + length text + on ≡ at + suc (length text) + on = omega arith in
+    ap (prefixed bytes found) (
+      read-opens place (outside_behind literals Before from (λ t. refl)) (text ++ rest) at
+      ∙ read-elements elements rest (at + 1) open_
+      ∙ ap (prefixed (map value elements) (element_places (at + 1) elements)) (stopped rest kind on (at + 1 + length text) (inside-stopped kind rest on h))
+    ) ∙ ap (Fault kind) same
+cause literals None rest kind on at from open_ (is, none, inl (e, empty)) bytes found =
+    let same : at ≡ at + 0 + on = omega (arith, none) in
+    ap (λ ls. prefixed bytes found (read (place_behind Before from ls) 0 at rest)) empty
+    ∙ ap (λ t. prefixed bytes found (read Before 0 at t)) e
+    ∙ ap₂ Fault (sym is) same
+cause literals None rest kind on at from open_ (is, none, inr (byte, after, e, other, black)) bytes found =
+    let place = place_behind Before from literals in
+    let same : at + 0 ≡ at + 0 + on = omega (arith, none) in
+    ap (prefixed bytes found) (ap (read place 0 at) e ∙ stray byte after place at (outside_behind literals Before from (λ t. refl)) other black)
+    ∙ ap₂ Fault (sym is) same
+
+pub read-fault : (t : Bytes) (kind : LiteralKind) (at : ℕ) → IsFaultAt t kind at → read Before 0 0 t ≡ Fault kind at
+read-fault t kind at f =
+    let front = f.front ++ flat_map literal_text f.literals in
+    let begun = open_text f.begun in
+    let there : length front + length begun + f.on ≡ at = omega (arith, f.place, length-append front begun) in
+    ap (read Before 0 0) (f.whole ∙ append_assoc front begun f.rest)
+    ∙ read-front f.front (begun ++ f.rest) f.literals f.front_white f.each
+    ∙ cause f.literals f.begun f.rest kind f.on (length front) (length f.front) f.elements_are f.cause (bytes_of f.literals) (places (length f.front) f.literals)
+    ∙ ap (Fault kind) there

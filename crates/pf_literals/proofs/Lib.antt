@@ -2,3 +2,5 @@ pub mod Numbers
 pub mod Turning
 pub mod Judging
 pub mod Complete
+pub mod Total
+pub mod Unique
