@@ -1,8 +1,9 @@
 -- Digits of numeric escape sequences, and what the code makes of them.
-use Rattle.std.proofs.Common.{◌≡◌, ◌≢◌, ℕ, suc, ◌+◌, ◌*◌, ◌<◌, ◌≤◌, Bool, true, false, List, [], ◌∷◌, ◌++◌, length, refl, sym, ap, ◌∙◌, arith, inl, inr}
+use Rattle.std.proofs.Common.{◌≡◌, ◌≢◌, ℕ, suc, ◌+◌, ◌*◌, ◌<◌, ◌≤◌, Bool, true, false, List, [], ◌∷◌, ◌++◌, length, drop, get_or, refl, sym, ap, ◌∙◌, arith, inl, inr}
 use Rattle.std.specs.Prelude.{◌&&◌, ◌==◌, not, nat_lt, if◌then◌else◌}
 use Rattle.std.specs.List.{AllByRecursion}
-use Rattle.std.proofs.lemmas.Bool.{and_from, cases_lt, not_from_false}
+use Rattle.std.proofs.lemmas.Bool.{and_from, and_left, and_right, cases_lt, not_from_false, not_from_true}
+use Rattle.std.proofs.lemmas.List.{drop_all, drop_more}
 use Rattle.std.proofs.lemmas.Bool.Decides.{nat_tests}
 use Rattle.pf_literals.specs.declared.kinds.LiteralKind.TheVariants.{EscapeTooLarge}
 use Rattle.pf_literals.specs.declared.notations.Notation.{Notation}
@@ -34,6 +35,9 @@ not_full Hexadecimal count more room = refl
 pub same_room : (notation : Notation) (count other : ℕ) → count ≡ other → HasRoom notation count → HasRoom notation other
 same_room Octal count other e room = omega (arith, e, room)
 same_room Hexadecimal count other e room = tt
+
+cons_some : (byte : ℕ) (rest : Bytes) → byte ∷ rest ≢ []
+cons_some byte rest e = cc
 
 pub small : (n : ℕ) → n ≤ 255 → nat_lt 255 n ≡ false
 small n h = grind (arith, nat_tests)
@@ -88,3 +92,39 @@ module _ (notation : Notation) where
       let a = some_count count some in
       let b = some_count number value in
       rw (none, b, a) refl
+
+  numeric-off : (rest : Bytes) (count number : ℕ) → goes_on notation count rest ≡ false → rest ≢ [] → numeric notation count number rest ≡ settled notation count number
+  numeric-off [] count number none some = absurd (some refl)
+  numeric-off (byte ∷ rest) count number none some = rw none refl
+
+  end_full : (count number : ℕ) → is_full notation count ≡ true → at_end notation count number ≡ settled notation count number
+  end_full count number full = let none = and_right (number == 0) (not (is_full notation count)) (not_from_true _ full) in rw none refl
+
+  -- The text, of whose digits so many have been read.
+  module _ (text : Bytes) (count number : ℕ) (so_far : numeric notation 0 0 text ≡ numeric notation count number (drop count text)) where
+    pub stops_full : is_full notation count ≡ true → numeric notation 0 0 text ≡ settled notation count number
+    stops_full full = so_far ∙ go (drop count text) where
+      go : (rest : Bytes) → numeric notation count number rest ≡ settled notation count number
+      go [] = end_full count number full
+      go (byte ∷ rest) = numeric-off (byte ∷ rest) count number (and_left (not (is_full notation count)) (is_digit notation byte) (not_from_true _ full)) (cons_some byte rest)
+
+    pub stops_at_end : length text ≤ count → numeric notation 0 0 text ≡ at_end notation count number
+    stops_at_end all = so_far ∙ ap (numeric notation count number) (drop_all count text all)
+
+    module _ (less : count < length text) where
+      next_is : numeric notation 0 0 text ≡ numeric notation count number (get_or text count 0 ∷ drop (count + 1) text)
+      next_is = so_far ∙ ap (numeric notation count number) (drop_more text count 0 less)
+
+      pub stops_off : is_digit notation (get_or text count 0) ≡ false → numeric notation 0 0 text ≡ settled notation count number
+      stops_off none = next_is ∙ numeric-off _ count number (and_right (not (is_full notation count)) (is_digit notation (get_or text count 0)) none) (cons_some _ _)
+
+      module _ (room : is_full notation count ≡ false) (digit : is_digit notation (get_or text count 0) ≡ true) where
+        pub stops_large : 255 < base notation * number + digit_value (get_or text count 0) → numeric notation 0 0 text ≡ Stops EscapeTooLarge 0
+        stops_large many =
+            let on = goes count (get_or text count 0) (drop (count + 1) text) room digit in
+            let over = large (base notation * number + digit_value (get_or text count 0)) many in
+            next_is ∙ rw (on, over) refl
+
+        pub goes_further : base notation * number + digit_value (get_or text count 0) ≤ 255
+            → numeric notation 0 0 text ≡ numeric notation (count + 1) (base notation * number + digit_value (get_or text count 0)) (drop (count + 1) text)
+        goes_further few = next_is ∙ numeric-one count number (get_or text count 0) (drop (count + 1) text) (goes count (get_or text count 0) (drop (count + 1) text) room digit) few

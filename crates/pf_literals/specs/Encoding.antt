@@ -1,5 +1,5 @@
 -- The one literal of some bytes. The choice of elements is this project's own.
-use Rattle.std.specs.Prelude.{ℕ, ◌+◌, ◌/◌, ◌%◌, Bool, ◌&&◌, ◌||◌, nat_le, ◌==◌, List, [], ◌∷◌, ◌++◌, flat_map, Option, Some, None, if◌then◌else◌}
+use Rattle.std.specs.Prelude.{ℕ, ◌+◌, ◌/◌, ◌%◌, Bool, ◌&&◌, ◌||◌, false, nat_le, ◌==◌, List, [], ◌∷◌, ◌++◌, flat_map, Option, Some, None, if◌then◌else◌}
 use Rattle.pf_literals.specs.declared.notations.Notation.TheVariants.{Octal}
 use Rattle.pf_literals.specs.Elements.{Bytes, Element, Plain, Simple, Numeric, question, quote, written}
 
@@ -30,18 +30,23 @@ element_by (Some letter) byte = Simple letter byte
 element_by None byte =
     if is_printed byte then Plain byte else Numeric Octal (octal_digits byte)
 
--- the element for a byte behind another one: a second `?` side by side has a `\`, so that there is
+-- the element for a byte, behind a `?` or not: a second `?` side by side has a `\`, so that there is
 -- no trigraph
-abbrev pub element_for : ℕ → ℕ → Element
-element_for before byte =
-    if before == question && byte == question then Simple question question else
+abbrev pub element_for : Bool → ℕ → Element
+element_for after byte =
+    if after && byte == question then Simple question question else
     element_by (simple_letter byte) byte
 
--- the elements for some bytes behind another one
-abbrev pub elements_for : ℕ → Bytes → List Element
-elements_for before [] = []
-elements_for before (byte ∷ bytes) = element_for before byte ∷ elements_for byte bytes
+-- the elements for some bytes, behind a `?` or not
+abbrev pub elements_for : Bool → Bytes → List Element
+elements_for after [] = []
+elements_for after (byte ∷ bytes) =
+    element_for after byte ∷ elements_for (byte == question) bytes
 
--- the one literal of some bytes, behind whose opening quote the first one stands
+-- how they are written
+abbrev pub spelled : Bool → Bytes → Bytes
+spelled after bytes = flat_map written (elements_for after bytes)
+
+-- the one literal of some bytes
 abbrev pub encoding : Bytes → Bytes
-encoding bytes = quote ∷ flat_map written (elements_for quote bytes) ++ quote ∷ []
+encoding bytes = quote ∷ spelled false bytes ++ quote ∷ []

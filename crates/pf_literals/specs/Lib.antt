@@ -5,3 +5,5 @@ pub mod Faults
 pub mod Encoding
 pub mod Turns
 pub mod Readings
+pub mod Runs
+pub mod Answers
