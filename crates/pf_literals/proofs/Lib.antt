@@ -1,4 +1,5 @@
 pub mod Numbers
+pub mod RunLemmas
 pub mod Turning
 pub mod Judging
 pub mod Complete

@@ -1,5 +1,5 @@
 -- Runs of bytes that stand for themselves, as the code takes them.
-use Rattle.std.specs.Prelude.{◌≡◌, ℕ, false, Bool, ◌||◌, nat_lt, ◌==◌}
+use Rattle.std.specs.Prelude.{◌≡◌, ℕ, ◌<◌, ◌≤◌, false, Bool, ◌||◌, nat_lt, ◌==◌, slice_index}
 use Rattle.std.specs.List.{AllByRecursion}
 use Rattle.pf_literals.specs.Elements.{Bytes}
 
@@ -12,3 +12,8 @@ is_special byte =
 -- bytes that stand for themselves in a literal, and are encoded as themselves
 abbrev pub IsRun : Bytes → Type 0
 IsRun bytes = AllByRecursion (λ byte. is_special byte ≡ false) bytes
+
+-- such bytes stand in a text from one place up to another
+abbrev pub StandsRun : Bytes → ℕ → ℕ → Type 0
+StandsRun text from to =
+    (k : ℕ) → from ≤ k → k < to → is_special (slice_index text k) ≡ false

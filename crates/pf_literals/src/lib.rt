@@ -5,6 +5,7 @@ mod cursors;
 mod faults;
 mod kinds;
 mod notations;
+mod search;
 mod turns;
 
 pub use faults::{LiteralFault, LiteralRefusal};
