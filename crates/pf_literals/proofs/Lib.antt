@@ -5,3 +5,5 @@ pub mod Judging
 pub mod Complete
 pub mod Total
 pub mod Unique
+pub mod WalkLemmas
+pub mod DecodingLemmas

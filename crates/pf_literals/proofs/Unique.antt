@@ -7,13 +7,9 @@ use Rattle.pf_literals.specs.declared.turns.Place.TheVariants.{Before}
 use Rattle.pf_literals.specs.Elements.{Bytes}
 use Rattle.pf_literals.specs.Sources.{HasPlaces, IsSource, IsSourceOf, Literal, bytes_of, close_of, places}
 use Rattle.pf_literals.specs.Faults.{IsFaultAt}
-use Rattle.pf_literals.specs.Readings.{Fault, Reading, Whole, read}
+use Rattle.pf_literals.specs.Readings.{Fault, Reading, Whole, reading}
 use Rattle.pf_literals.proofs.Complete.{read-fault, read-source}
 use Rattle.pf_literals.proofs.Total.{IsSettled, settled}
-
--- what a text is read as
-abbrev pub reading : Bytes → Reading
-reading t = read Before 0 0 t
 
 bytes_in : Reading → Bytes
 bytes_in (Whole bytes places close) = bytes

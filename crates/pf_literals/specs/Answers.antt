@@ -1,32 +1,21 @@
 -- What the calls answer.
-use Rattle.std.specs.Prelude.{◌≡◌, ◌≢◌, ℕ, ◌+◌, ◌<◌, ◌≤◌, List, [], ◌∷◌, ◌++◌, length, drop, Option, Some, None, MatchOption, slice_get}
-use Rattle.std.specs.List.{range_with_len}
+use Rattle.std.specs.Prelude.{◌≡◌, ◌≢◌, ℕ, List, [], ◌∷◌, ◌++◌, Some, slice_get}
 use Rattle.pf_literals.specs.declared.faults.LiteralFault.{LiteralFault}
-use Rattle.pf_literals.specs.declared.faults.LiteralFault.TheVariants as faults
-use Rattle.pf_literals.specs.declared.cursors.Cursor.{Cursor}
-use Rattle.pf_literals.specs.declared.cursors.Part.{Part}
-use Rattle.pf_literals.specs.declared.cursors.Part.TheVariants.{Run, Byte}
-use Rattle.pf_literals.specs.declared.cursors.Next.{Next}
-use Rattle.pf_literals.specs.declared.cursors.Next.TheVariants.{Given, End, Stop}
+use Rattle.pf_literals.specs.declared.faults.LiteralFault.TheVariants.{Refused, Memory}
 use Rattle.pf_literals.specs.Elements.{Bytes}
 use Rattle.pf_literals.specs.Faults.{IsFaultAt}
-use Rattle.pf_literals.specs.Readings.{Fault, Reading, Whole, prefixed, read}
 use Rattle.pf_literals.specs.Sources.{HasPlaces, IsSourceOf}
 
 -- why there are no bytes: memory may want only where the text is a source, and of some bytes
 abbrev pub HindersDecoding : Bytes → LiteralFault → Type 0
-HindersDecoding t (faults.Refused refusal) = IsFaultAt t refusal.kind refusal.at
-HindersDecoding t faults.Memory = (bytes : Bytes) × IsSourceOf t bytes × (bytes ≢ [])
+HindersDecoding t (Refused refusal) = IsFaultAt t refusal.kind refusal.at
+HindersDecoding t Memory = (bytes : Bytes) × IsSourceOf t bytes × (bytes ≢ [])
 
--- what is read from a cursor on
-abbrev pub left : Bytes → Cursor → Reading
-left t cursor = read cursor.place 0 cursor.at (drop cursor.at t)
+-- the place of a byte of a source; behind its bytes, that of the last closing quote
+abbrev pub IsPlaceOf : Bytes → ℕ → ℕ → Type 0
+IsPlaceOf t index at = (found : List ℕ) × (close : ℕ) × HasPlaces t found close
+    × (slice_get (found ++ close ∷ []) index ≡ Some at)
 
--- the bytes of a part, and where each comes from
-abbrev pub part_bytes : Part → Bytes
-part_bytes (Run run at) = run.now
-part_bytes (Byte value at) = value ∷ []
-
-abbrev pub part_places : Part → List ℕ
-part_places (Run run at) = range_with_len at (length run.now)
-part_places (Byte value at) = at ∷ []
+-- the text is no source, or one of fewer bytes
+abbrev pub HasNoPlace : Bytes → ℕ → Type 0
+HasNoPlace t index = (at : ℕ) → ¬ IsPlaceOf t index at

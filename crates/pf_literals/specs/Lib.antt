@@ -6,4 +6,5 @@ pub mod Encoding
 pub mod Turns
 pub mod Readings
 pub mod Runs
+pub mod Walks
 pub mod Answers

@@ -1,5 +1,5 @@
 -- What a text is read as, as the code reads it. No public contract speaks of it.
-use Rattle.std.specs.Prelude.{ℕ, zero, suc, ◌+◌, ◌-◌, List, [], ◌∷◌, ◌++◌}
+use Rattle.std.specs.Prelude.{◌≡◌, ℕ, zero, suc, ◌+◌, ◌-◌, List, [], ◌∷◌, ◌++◌}
 use Rattle.pf_literals.specs.declared.kinds.LiteralKind.{LiteralKind}
 use Rattle.pf_literals.specs.declared.kinds.LiteralKind.TheVariants.{NoLiteral, Unterminated}
 use Rattle.pf_literals.specs.declared.turns.Place.{Place}
@@ -40,3 +40,11 @@ read place skip at [] = ended place at
 read place (suc skip) at (byte ∷ text) = read place skip (at + 1) text
 read place zero at (byte ∷ text) =
     taken at place (turn place (byte ∷ text)) (λ p skip. read p skip (at + 1) text)
+
+-- what a text is read as
+abbrev pub reading : Bytes → Reading
+reading text = read Before 0 0 text
+
+-- bytes are read, and no fault
+abbrev pub IsWhole : Reading → Type 0
+IsWhole r = (bytes places : List ℕ) × (close : ℕ) × (r ≡ Whole bytes places close)

@@ -2,11 +2,15 @@
 #![tactic(auto)]
 
 mod cursors;
+mod decoding;
 mod faults;
 mod kinds;
 mod notations;
+mod places;
 mod search;
 mod turns;
 
+pub use decoding::decode;
 pub use faults::{LiteralFault, LiteralRefusal};
+pub use places::source_offset;
 pub use kinds::LiteralKind;
