@@ -7,3 +7,4 @@ pub mod Total
 pub mod Unique
 pub mod WalkLemmas
 pub mod DecodingLemmas
+pub mod PlaceLemmas

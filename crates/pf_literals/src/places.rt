@@ -16,12 +16,10 @@ pub fn source_offset(source: &[u8], index: u64) -> Option<u64>
     let mut left = index;
     loop {
         match cursor.next_part(source) {
-            Next::Given(part) => {
-                if let Some(at) = place_in(part, left) {
-                    return if_whole(cursor, source, at);
-                }
-                left -= len_of(part);
-            }
+            Next::Given(part) => match place_in(part, left) {
+                Some(at) => return if_whole(cursor, source, at),
+                None => left -= len_of(part),
+            },
             Next::End(close) => return last_place(close, left),
             Next::Stop(_) => return None,
         }
@@ -30,7 +28,7 @@ pub fn source_offset(source: &[u8], index: u64) -> Option<u64>
 
 // The place of a byte of a part.
 fn place_in(part: Part, index: u64) -> Option<u64>
-    requires { IsWithin part.entry usize.MAX }
+    requires { IsWithin part usize.MAX }
     ensures { result ≡ slice_get (part_places part.entry) index }
 {
     if index >= len_of(part) {
