@@ -8,3 +8,5 @@ pub mod Unique
 pub mod WalkLemmas
 pub mod DecodingLemmas
 pub mod PlaceLemmas
+pub mod EncodingLemmas
+pub mod EncodingReadLemmas

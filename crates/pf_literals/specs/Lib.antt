@@ -6,5 +6,7 @@ pub mod Encoding
 pub mod Turns
 pub mod Readings
 pub mod Runs
+pub mod Spellings
 pub mod Walks
 pub mod Answers
+pub mod Laws

@@ -3,14 +3,19 @@
 
 mod cursors;
 mod decoding;
+mod encoding;
 mod faults;
+mod fronts;
 mod kinds;
+pub mod laws;
 mod notations;
 mod places;
 mod search;
+mod spellings;
 mod turns;
 
 pub use decoding::decode;
+pub use encoding::{encode, encoded_len};
 pub use faults::{LiteralFault, LiteralRefusal};
 pub use places::source_offset;
 pub use kinds::LiteralKind;
