@@ -39,8 +39,14 @@ places_read t found close h = (
   read-source t h.literals h.source ∙ ap₂ (λ p c. Whole (bytes_of h.literals) p c) (sym h.places_are) (sym h.close_is),
 )
 
-same_places : (bytes found : List ℕ) (close : ℕ) (others there : List ℕ) (last : ℕ) → Whole bytes found close ≡ Whole others there last → found ≡ there
-same_places bytes found close others there last e = cc
+same_places : (bytes found : List ℕ) (close : ℕ) (others there : List ℕ) (last : ℕ) → Whole bytes found close ≡ Whole others there last → (found ≡ there) × (close ≡ last)
+same_places bytes found close others there last e = (cc, cc)
+
+pub one_place : (t found others : List ℕ) (close last : ℕ) → HasPlaces t found close → HasPlaces t others last → (found ≡ others) × (close ≡ last)
+one_place t found others close last h g =
+    let a = places_read t found close h in
+    let b = places_read t others last g in
+    same_places a.0 found close b.0 others last (sym a.1 ∙ b.1)
 
 pub no_place : (t : Bytes) (index at : ℕ) (kind : LiteralKind) → reading t ≡ Fault kind at → HasNoPlace t index
 no_place t index at kind e there (found, close, h, is) = let whole = sym e ∙ (places_read t found close h).1 in absurd (cc)
@@ -62,9 +68,7 @@ module _ (t : Bytes) (bytes found : List ℕ) (old : Reading) (so_far : reading 
 
     none_at_end : (index left : ℕ) → index ≡ length found + left → 0 < left → HasNoPlace t index
     none_at_end index left all some at (others, last, h, is) =
-        let a = places_read t others last h in
-        let b = places_read t found close known in
-        let same = same_places a.0 others last b.0 found close (sym a.1 ∙ b.1) in
+        let same = (one_place t others found last close h known).0 in
         let few = slice_get_within (others ++ last ∷ []) index at is in
         let long = length-append others (last ∷ []) in
         let as_long = ap length same in

@@ -45,6 +45,12 @@ whole_no_fault bytes found close kind at e = cc
 pub never_both : (t bytes : Bytes) (kind : LiteralKind) (at : ℕ) → IsSourceOf t bytes → IsFaultAt t kind at → ⊥
 never_both t bytes kind at (ls, s, e) h = whole_no_fault _ _ _ kind at (sym (read-source t ls s) ∙ read-fault t kind at h)
 
+pub source_or_fault : (t : Bytes) → ((bytes : Bytes) × IsSourceOf t bytes) ⊎ ((kind : LiteralKind) × (at : ℕ) × IsFaultAt t kind at)
+source_or_fault t = go (settled t) where
+  go : IsSettled t → ((bytes : Bytes) × IsSourceOf t bytes) ⊎ ((kind : LiteralKind) × (at : ℕ) × IsFaultAt t kind at)
+  go (inl (ls, s)) = inl (bytes_of ls, (ls, s, refl))
+  go (inr h) = inr h
+
 -- what is read says which it is
 pub read_whole : (t bytes found : Bytes) (close : ℕ) → reading t ≡ Whole bytes found close → IsSourceOf t bytes × HasPlaces t found close
 unfolding bytes_in places_in close_in
