@@ -110,8 +110,8 @@ read-behind elements white rest at h clear =
     ap (read Inside 0 at) (append_assoc text (quote ∷ white) rest)
     ∙ read-elements elements (quote ∷ (white ++ rest)) at (closed_elements elements (white ++ rest) h)
     ∙ ap (prefixed (map value elements) (element_places at elements)) (
-      read-white (Behind (at + length text)) (λ t. refl) white rest (at + length text + 1) clear
-      ∙ ap (λ n. read (Behind (at + length text)) 0 n rest) long
+    read-white (Behind (at + length text)) (λ t. refl) white rest (at + length text + 1) clear
+    ∙ ap (λ n. read (Behind (at + length text)) 0 n rest) long
     )
 
 -- where a text goes on behind some literals
@@ -195,9 +195,9 @@ cause literals (Some elements) rest kind on at from open_ h bytes found =
     let text = flat_map written elements in
     let same : at + 1 + length text + on ≡ at + suc (length text) + on = omega arith in
     ap (prefixed bytes found) (
-      read-opens place (outside_behind literals Before from (λ t. refl)) (text ++ rest) at
-      ∙ read-elements elements rest (at + 1) open_
-      ∙ ap (prefixed (map value elements) (element_places (at + 1) elements)) (stopped rest kind on (at + 1 + length text) (inside-stopped kind rest on h))
+    read-opens place (outside_behind literals Before from (λ t. refl)) (text ++ rest) at
+    ∙ read-elements elements rest (at + 1) open_
+    ∙ ap (prefixed (map value elements) (element_places (at + 1) elements)) (stopped rest kind on (at + 1 + length text) (inside-stopped kind rest on h))
     ) ∙ ap (Fault kind) same
 cause literals None rest kind on at from open_ (is, none, inl (e, empty)) bytes found =
     let same : at ≡ at + 0 + on = omega (arith, none) in

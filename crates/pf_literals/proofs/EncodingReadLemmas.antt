@@ -19,16 +19,18 @@ octal_number byte h =
     let b : (byte / 8 % 8) < 8 = omega arith in
     let c : (byte % 8) < 8 = omega arith in
     worth (byte / 64) (byte / 8 % 8) (byte % 8) (omega (arith, a)) b c ∙ split byte h where
-  split : (n : ℕ) → n < 256 → 8 * (8 * (n / 64) + n / 8 % 8) + n % 8 ≡ n
-  split n h = omega arith
-  digit : (d : ℕ) → d < 8 → digit_value (d + 48) ≡ d
-  digit d h = grind (arith, nat_tests)
-  worth : (a b c : ℕ) → a < 8 → b < 8 → c < 8 → number_of Octal ((a + 48) ∷ (b + 48) ∷ (c + 48) ∷ []) ≡ 8 * (8 * a + b) + c
-  worth a b c p q r =
-      let x = digit a p in
-      let y = digit b q in
-      let z = digit c r in
-      omega (arith, x, y, z)
+      split : (n : ℕ) → n < 256 → 8 * (8 * (n / 64) + n / 8 % 8) + n % 8 ≡ n
+      split n h = omega arith
+
+      digit : (d : ℕ) → d < 8 → digit_value (d + 48) ≡ d
+      digit d h = grind (arith, nat_tests)
+
+      worth : (a b c : ℕ) → a < 8 → b < 8 → c < 8 → number_of Octal ((a + 48) ∷ (b + 48) ∷ (c + 48) ∷ []) ≡ 8 * (8 * a + b) + c
+      worth a b c p q r =
+          let x = digit a p in
+          let y = digit b q in
+          let z = digit c r in
+          omega (arith, x, y, z)
 
 octal_each : (byte : ℕ) → byte < 256 → AreDigits Octal (octal_digits byte)
 octal_each byte h =
@@ -36,8 +38,8 @@ octal_each byte h =
     let b : (byte / 8 % 8) < 8 = omega arith in
     let c : (byte % 8) < 8 = omega arith in
     record { each = (is (byte / 64) a, (is (byte / 8 % 8) b, (is (byte % 8) c, tt))); room = omega arith } where
-  is : (d : ℕ) → d < 8 → is_digit Octal (d + 48) ≡ true
-  is d h = grind (arith, nat_tests)
+      is : (d : ℕ) → d < 8 → is_digit Octal (d + 48) ≡ true
+      is d h = grind (arith, nat_tests)
 
 -- an element stands for its byte
 record IsFor (element : Element) (byte : ℕ) : Type 0 where
@@ -110,6 +112,7 @@ stands_by byte bytes None = go (is_printed byte) where
   plain : (b : Bool) → not (b && ends_trigraph (spelled b bytes ++ (quote ∷ []))) ≡ true
   plain true = not_from_false _ (question_stands bytes)
   plain false = refl
+
   go : (b : Bool) → stands_before (if b then Plain byte else Numeric Octal (octal_digits byte)) (spelled (byte == question) bytes ++ (quote ∷ [])) ≡ true
   go true = plain (byte == question)
   go false = full_stands byte _

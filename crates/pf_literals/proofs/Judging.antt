@@ -112,6 +112,7 @@ judge_escape byte after = go (simple_byte byte) refl where
   octal none other false no_digit = Stuck BadEscape 0 ((byte, after, inl (refl, none, other, no_digit)), refl)
   octal none other true digit =
       judge_digits Octal after (byte ∷ []) (λ e. absurd (cc)) (record { each = (digit, tt); room = omega arith }) (one_octal byte digit)
+
   go : (o : Option ℕ) → simple_byte byte ≡ o → Judgement (92 ∷ byte ∷ after)
   go (Some v) is = Found (Simple byte v) after is refl refl
   go None none = elim (cases_eq byte 120) [

@@ -62,7 +62,9 @@ module _ (t : Bytes) (bytes found : List ℕ) (old : Reading) (so_far : reading 
 
     last_is : (index left at : ℕ) → index ≡ length found + left → left ≡ 0 → at ≡ close → IsPlaceOf t index at
     last_is index left at all none there = (
-      found, close, known,
+      found,
+      close,
+      known,
       ap (slice_get (found ++ close ∷ [])) (all ∙ ap (λ n. length found + n) none) ∙ get_behind found (close ∷ []) 0 ∙ ap Some (sym there),
     )
 

@@ -34,10 +34,10 @@ highest false = refl
 lane_set : (byte : ℕ) → top 7 (lane byte) ≡ is_special byte
 lane_set byte =
     ap (top 7) (
-      ap (λ l. bit_or (bit_or (bit_or l (cond (byte == 34) 255 0)) (cond (byte == 92) 255 0)) (cond (byte == 63) 255 0)) (either (nat_lt byte 32) (byte == 127))
-      ∙ ap (λ l. bit_or (bit_or l (cond (byte == 92) 255 0)) (cond (byte == 63) 255 0)) (either (nat_lt byte 32 || byte == 127) (byte == 34))
-      ∙ ap (λ l. bit_or l (cond (byte == 63) 255 0)) (either (nat_lt byte 32 || byte == 127 || byte == 34) (byte == 92))
-      ∙ either (nat_lt byte 32 || byte == 127 || byte == 34 || byte == 92) (byte == 63)
+    ap (λ l. bit_or (bit_or (bit_or l (cond (byte == 34) 255 0)) (cond (byte == 92) 255 0)) (cond (byte == 63) 255 0)) (either (nat_lt byte 32) (byte == 127))
+    ∙ ap (λ l. bit_or (bit_or l (cond (byte == 92) 255 0)) (cond (byte == 63) 255 0)) (either (nat_lt byte 32 || byte == 127) (byte == 34))
+    ∙ ap (λ l. bit_or l (cond (byte == 63) 255 0)) (either (nat_lt byte 32 || byte == 127 || byte == 34) (byte == 92))
+    ∙ either (nat_lt byte 32 || byte == 127 || byte == 34 || byte == 92) (byte == 63)
     ) ∙ highest (is_special byte)
 
 lanes_set : (bytes : Bytes) → map (top 7) (map lane bytes) ≡ map is_special bytes

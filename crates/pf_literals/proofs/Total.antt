@@ -46,9 +46,9 @@ side_by_side : (text front more begun rest : Bytes) → text ++ (quote ∷ (fron
 side_by_side text front more begun rest =
     let behind = quote ∷ front in
     sym (
-      ap (λ r. r ++ begun ++ rest) (append_assoc text behind more)
-      ∙ ap (λ r. r ++ rest) (append_assoc text (behind ++ more) begun)
-      ∙ append_assoc text (behind ++ more ++ begun) rest
+    ap (λ r. r ++ begun ++ rest) (append_assoc text behind more)
+    ∙ ap (λ r. r ++ rest) (append_assoc text (behind ++ more) begun)
+    ∙ append_assoc text (behind ++ more ++ begun) rest
     )
 
 -- a quote in front of what stands in a literal
@@ -108,35 +108,43 @@ IsSettled t = ((literals : List Literal) × IsSource t literals) ⊎ ((kind : Li
 
 by_outside : (t : Bytes) → Outside t → IsSettled t
 by_outside t (Good front [] clear each e) =
-    inr (NoLiteral, length (front ++ [] ++ []) + 0, record {
-      front = front;
-      literals = [];
-      begun = None;
-      rest = [];
-      on = 0;
-      front_white = clear;
-      each = tt;
-      elements_are = tt;
-      whole = e ∙ sym (append-nil (front ++ [])) ∙ sym (append-nil (front ++ [] ++ []));
-      cause = (refl, refl, inl (refl, refl));
-      place = refl;
-    })
+    inr (
+      NoLiteral,
+      length (front ++ [] ++ []) + 0,
+      record {
+        front = front;
+        literals = [];
+        begun = None;
+        rest = [];
+        on = 0;
+        front_white = clear;
+        each = tt;
+        elements_are = tt;
+        whole = e ∙ sym (append-nil (front ++ [])) ∙ sym (append-nil (front ++ [] ++ []));
+        cause = (refl, refl, inl (refl, refl));
+        place = refl;
+      },
+    )
 by_outside t (Good front (l ∷ literals) clear each e) =
     inl (l ∷ literals, record { front = front; front_white = clear; each = each; some = λ none. cc; whole = e })
 by_outside t (Bad front literals begun rest kind on clear each open_ cause e) =
-    inr (kind, length (front ++ flat_map literal_text literals ++ open_text begun) + on, record {
-      front = front;
-      literals = literals;
-      begun = begun;
-      rest = rest;
-      on = on;
-      front_white = clear;
-      each = each;
-      elements_are = open_;
-      whole = e;
-      cause = cause literals;
-      place = refl;
-    })
+    inr (
+      kind,
+      length (front ++ flat_map literal_text literals ++ open_text begun) + on,
+      record {
+        front = front;
+        literals = literals;
+        begun = begun;
+        rest = rest;
+        on = on;
+        front_white = clear;
+        each = each;
+        elements_are = open_;
+        whole = e;
+        cause = cause literals;
+        place = refl;
+      },
+    )
 
 pub settled : (t : Bytes) → IsSettled t
 settled t = by_outside t (both (length t) t (omega arith)).1

@@ -113,6 +113,7 @@ inside-zero rest (after, inl h) = ap inside h
 inside-zero rest (after, inr h) = ap inside h.5 ∙ go h.1 h.2 h.3 h.4 where
   notation : Notation
   notation = h.0
+
   go : (digits : Bytes) → digits ≢ [] → IsEnded notation digits after → number_of notation digits ≡ 0 → inside (escape notation digits ++ after) ≡ Stops ZeroByte 0
   go [] some are none = absurd (some refl)
   go (d ∷ digits) some are none =

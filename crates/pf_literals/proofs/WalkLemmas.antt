@@ -55,13 +55,13 @@ inside-fits [] = omega arith
 inside-fits (byte ∷ rest) =
     let n = suc (length rest) in
     fits-if n (byte == 34) _ _ tt (
-      fits-if n (byte == 92) _ _ (escaped-fits rest n (omega arith)) (
-        fits-if n (is_line_end byte) _ _ (omega arith) (
-          fits-if n (byte == 0) _ _ (omega arith) (
-            fits-if n (byte == 63 && ends_trigraph rest) _ _ (omega arith) (omega arith, omega arith)
-          )
-        )
-      )
+    fits-if n (byte == 92) _ _ (escaped-fits rest n (omega arith)) (
+    fits-if n (is_line_end byte) _ _ (omega arith) (
+    fits-if n (byte == 0) _ _ (omega arith) (
+    fits-if n (byte == 63 && ends_trigraph rest) _ _ (omega arith) (omega arith, omega arith)
+    )
+    )
+    )
     )
 
 outside-fits : (text : Bytes) → Fits (length text) (outside text)
@@ -104,9 +104,9 @@ module _ (t : Bytes) (place : Place) (at : ℕ) (less : at < length t) where
       let there : at + 1 + (len - 1) ≡ at + len = omega (arith, fits.0) in
       turned (Gives value len) e
       ∙ ap (prefixed (value ∷ []) (at ∷ [])) (
-        read-past place (len - 1) (at + 1) (drop (at + 1) t) (omega (arith, fits.1, long, rest))
-        ∙ ap (read place 0 (at + 1 + (len - 1))) (drop-drop (len - 1) (at + 1) t)
-        ∙ ap (λ n. from t place n) there
+      read-past place (len - 1) (at + 1) (drop (at + 1) t) (omega (arith, fits.1, long, rest))
+      ∙ ap (read place 0 (at + 1 + (len - 1))) (drop-drop (len - 1) (at + 1) t)
+      ∙ ap (λ n. from t place n) there
       )
 
 pub over : (t : Bytes) (place : Place) (at : ℕ) → length t ≤ at → from t place at ≡ ended place at
@@ -139,8 +139,8 @@ ran t at len few run =
     ap (read Inside 0 at) (sym (take-append-drop len (drop at t)))
     ∙ read-run (take len (drop at t)) (drop len (drop at t)) at run
     ∙ ap (λ r. prefixed (take len (drop at t)) (range_with_len at (length (take len (drop at t)))) r) (
-      ap (λ n. read Inside 0 (at + n) (drop len (drop at t))) long
-      ∙ ap (read Inside 0 (at + len)) (drop-drop len at t)
+    ap (λ n. read Inside 0 (at + n) (drop len (drop at t))) long
+    ∙ ap (read Inside 0 (at + len)) (drop-drop len at t)
     )
 
 -- what a turn takes is there, in the whole text

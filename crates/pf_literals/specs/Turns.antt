@@ -34,8 +34,8 @@ abbrev pub numeric : Notation → ℕ → ℕ → Bytes → Turn
 numeric notation count number [] = at_end notation count number
 numeric notation count number (byte ∷ rest) =
     if goes_on notation count (byte ∷ rest) then (
-      if nat_lt 255 (base notation * number + digit_value byte) then Stops EscapeTooLarge 0 else
-      numeric notation (count + 1) (base notation * number + digit_value byte) rest
+    if nat_lt 255 (base notation * number + digit_value byte) then Stops EscapeTooLarge 0 else
+    numeric notation (count + 1) (base notation * number + digit_value byte) rest
     ) else settled notation count number
 
 -- a letter behind `\`, if it makes a simple escape sequence

@@ -8,6 +8,9 @@ use crate::cursors::{Cursor, Next, Part};
 use crate::faults::LiteralFault;
 use std::alloc::{AllocError, Allocator, Global};
 
+#[cfg(test)]
+mod tests;
+
 /// The bytes that a source of string literals stands for (C11 6.4.5, paragraphs 4 to 6), without
 /// the zero byte behind them. Their room is taken by one growth of the source's length, and none is
 /// taken where there are no bytes.
@@ -19,10 +22,7 @@ pub fn decode(alloc: Global, source: &[u8]) -> Result<Vec<u8>, LiteralFault>
 }
 
 // The same, on any allocator.
-pub(crate) fn decode_in<A: Allocator>(
-    alloc: A,
-    source: &[u8],
-) -> Result<Vec<u8, A>, LiteralFault>
+pub(crate) fn decode_in<A: Allocator>(alloc: A, source: &[u8]) -> Result<Vec<u8, A>, LiteralFault>
     ensures { MatchResult result
         (λ v. IsSourceOf source.now v.items) (HindersDecoding source.now) }
 {

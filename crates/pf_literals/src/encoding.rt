@@ -6,6 +6,9 @@ use crate::fronts::Front;
 use crate::search::run_len;
 use std::alloc::{AllocError, Allocator, Global};
 
+#[cfg(test)]
+mod tests;
+
 /// The one string literal of some bytes. A zero byte is written as `\000`, and of what has one no C
 /// string is made: `decode` refuses that literal. The room for it is taken by one growth of its
 /// length.

@@ -1,12 +1,19 @@
 //! Laws of the definitions: a text is a source of one list of bytes, or has one fault; and a text
 //! is the bytes of its encoding.
-ghost use Rattle.std.specs.Prelude.{◌≡◌, ℕ};
+ghost use Rattle.std.specs.Prelude.{◌≡◌, ◌-◌, ℕ, Some, slice_get};
 ghost use Rattle.pf_literals.specs.declared.kinds.LiteralKind.{LiteralKind};
+ghost use Rattle.pf_literals.specs.declared.kinds.TheConstants.LiteralKind.{ALL as kinds};
 ghost use Rattle.pf_literals.specs.Elements.{Bytes};
 ghost use Rattle.pf_literals.specs.Encoding.{encoding};
 ghost use Rattle.pf_literals.specs.Faults.{IsFaultAt};
+ghost use Rattle.pf_literals.specs.Kinds.{number};
 ghost use Rattle.pf_literals.specs.Laws.{IsSettled, IsString};
 ghost use Rattle.pf_literals.specs.Sources.{HasPlaces, IsSourceOf};
+
+/// The kinds stand in the order of their numbers.
+pub fn kinds_in_order()
+    ensures { (kind : LiteralKind) → slice_get kinds (number kind - 1) ≡ Some kind }
+{}
 
 /// A source has one list of bytes.
 pub fn bytes_once()

@@ -12,10 +12,12 @@ mod notations;
 mod places;
 mod search;
 mod spellings;
+#[cfg(test)]
+mod tests;
 mod turns;
 
 pub use decoding::decode;
 pub use encoding::{encode, encoded_len};
 pub use faults::{LiteralFault, LiteralRefusal};
-pub use places::source_offset;
 pub use kinds::LiteralKind;
+pub use places::source_offset;

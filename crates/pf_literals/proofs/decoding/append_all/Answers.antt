@@ -11,7 +11,7 @@ loop-part-preserved g c =
     let part = c.in-Given.part in (
       i.0 ++ part_places part,
       moved t c.loop-part.out.items i.0 _ i.1 (part_bytes part) (part_places part) _ c.in-Given.ensures.next
-      ∙ ap (λ out. prefixed out (i.0 ++ part_places part) (left t c.next_part.new.self)) (sym c.in-Ok.ensures),
+          ∙ ap (λ out. prefixed out (i.0 ++ part_places part) (left t c.next_part.new.self)) (sym c.in-Ok.ensures),
     )
 
 pub returns-in-End : goal.returns-in-End
