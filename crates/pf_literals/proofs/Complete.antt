@@ -1,6 +1,6 @@
 -- A source is read as its bytes, and a text that is none as its fault.
-use Rattle.std.proofs.Common.{◌≡◌, ◌≢◌, ℕ, zero, suc, ◌+◌, ◌-◌, ◌<◌, ◌≤◌, Bool, true, false, List, [], ◌∷◌, ◌++◌, length, map, refl, sym, ap, ap₂, ◌∙◌, subst, arith, inl, inr, length-append}
-use Rattle.std.specs.Prelude.{◌⊎◌, ◌&&◌, ◌==◌, flat_map, not, Option, Some, None}
+use Rattle.std.proofs.Common.{◌≡◌, ◌≢◌, ℕ, suc, ◌+◌, ◌-◌, true, false, List, [], ◌∷◌, ◌++◌, length, map, refl, sym, ap, ap₂, ◌∙◌, arith, inl, inr, length-append}
+use Rattle.std.specs.Prelude.{◌==◌, flat_map, Option, Some, None}
 use Rattle.std.specs.List.{AllByRecursion}
 use Rattle.std.proofs.lemmas.Bool.{ne_eqb}
 use Rattle.std.proofs.lemmas.Bool.Decides.{nat_tests}
@@ -11,10 +11,10 @@ use Rattle.pf_literals.specs.declared.notations.Notation.TheVariants.{Octal, Hex
 use Rattle.pf_literals.specs.declared.turns.Place.{Place}
 use Rattle.pf_literals.specs.declared.turns.Place.TheVariants.{Before, Inside, Behind}
 use Rattle.pf_literals.specs.declared.turns.Turn.{Turn}
-use Rattle.pf_literals.specs.declared.turns.Turn.TheVariants.{White, Opens, Closes, Gives, Stops}
-use Rattle.pf_literals.specs.Elements.{AreElements, Bytes, Element, IsElement, Numeric, Plain, Simple, goes_on, quote, stands_before, value, written}
+use Rattle.pf_literals.specs.declared.turns.Turn.TheVariants.{White, Gives, Stops}
+use Rattle.pf_literals.specs.Elements.{AreElements, Bytes, Element, Numeric, Plain, Simple, quote, stands_before, value, written}
 use Rattle.pf_literals.specs.Sources.{AreWhite, IsLiteral, IsSource, Literal, bytes_of, close_of, element_places, is_white, literal_text, places}
-use Rattle.pf_literals.specs.Faults.{AreOpen, HasCause, IsFaultAt, IsStopped, open_text}
+use Rattle.pf_literals.specs.Faults.{AreOpen, HasCause, IsFaultAt, open_text}
 use Rattle.pf_literals.specs.Turns.{inside, outside, turn}
 use Rattle.pf_literals.specs.Readings.{Fault, Reading, Whole, ended, prefixed, read, taken}
 use Rattle.pf_literals.proofs.Turning.{inside-element, inside-stopped}

@@ -1,5 +1,5 @@
 -- The bytes of a source, part by part.
-use Rattle.std.proofs.Common.{◌≡◌, ◌≢◌, ℕ, ◌+◌, ◌<◌, List, [], ◌∷◌, ◌++◌, length, refl, sym, ap, ap₂, ◌∙◌, subst, arith, length-append}
+use Rattle.std.proofs.Common.{◌≡◌, ◌≢◌, ℕ, ◌<◌, List, [], ◌++◌, length, ap, ap₂, ◌∙◌, arith, length-append}
 use Rattle.std.proofs.lemmas.List.{append-nil}
 use Rattle.pf_literals.specs.declared.cursors.Cursor.{Cursor}
 use Rattle.pf_literals.specs.declared.faults.LiteralFault.{LiteralFault}
@@ -17,6 +17,9 @@ use Rattle.pf_literals.proofs.Unique.{read_faulty, read_whole}
 module _ (t : Bytes) (out places : List ℕ) (old : Reading) (so_far : reading t ≡ prefixed out places old) where
   pub moved : (more others : List ℕ) (new : Reading) → old ≡ prefixed more others new → reading t ≡ prefixed (out ++ more) (places ++ others) new
   moved more others new e = so_far ∙ ap (prefixed out places) e ∙ prefixed-prefixed out more places others new
+
+  pub appended : (more others grown : List ℕ) (new : Reading) → old ≡ prefixed more others new → grown ≡ out ++ more → reading t ≡ prefixed grown (places ++ others) new
+  appended more others grown new e g = moved more others new e ∙ ap (λ bytes. prefixed bytes (places ++ others) new) (sym g)
 
   pub all_read : (close : ℕ) → old ≡ Whole [] [] close → IsSourceOf t out × HasPlaces t places close
   all_read close e = read_whole t out places close (so_far ∙ ap (prefixed out places) e ∙ ap₂ (λ b p. Whole b p close) (append-nil out) (append-nil places))

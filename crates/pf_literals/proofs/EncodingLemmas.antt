@@ -1,13 +1,12 @@
 -- What is written of some bytes.
-use Rattle.std.proofs.Common.{◌≡◌, ◌≢◌, ℕ, zero, suc, ◌+◌, ◌-◌, ◌*◌, ◌<◌, ◌≤◌, Bool, true, false, List, [], ◌∷◌, ◌++◌, length, take, drop, get_or, refl, sym, ap, ◌∙◌, subst, arith, length-append}
-use Rattle.std.specs.Prelude.{◌&&◌, ◌==◌, Option, Some, None, flat_map, if◌then◌else◌}
-use Rattle.std.specs.List.{AllByRecursion}
+use Rattle.std.proofs.Common.{◌≡◌, ℕ, ◌+◌, ◌<◌, ◌≤◌, Bool, true, false, [], ◌∷◌, ◌++◌, length, take, drop, refl, sym, ap, ◌∙◌, arith, length-append}
+use Rattle.std.specs.Prelude.{◌==◌, None}
 use Rattle.std.proofs.lemmas.Bool.{and_right}
 use Rattle.std.proofs.lemmas.Bool.Decides.{nat_tests}
-use Rattle.std.proofs.lemmas.List.{append-nil, append_assoc, drop-drop, drop_all, drop_more, length-drop, length-take-le, take-append-drop}
+use Rattle.std.proofs.lemmas.List.{append-nil, append_assoc, drop-drop, drop_all, length-drop, length-take-le, take-append-drop}
 use Rattle.pf_literals.specs.declared.fronts.Front.{Front}
 use Rattle.pf_literals.specs.Elements.{Bytes, Plain, quote, written}
-use Rattle.pf_literals.specs.Encoding.{element_for, elements_for, encoding, is_printed, simple_letter, spelled}
+use Rattle.pf_literals.specs.Encoding.{element_for, encoding, is_printed, simple_letter, spelled}
 use Rattle.pf_literals.specs.Runs.{IsRun, is_special}
 use Rattle.pf_literals.specs.Spellings.{IsFront, ends_in_question, front_text, taken_by}
 

@@ -1,17 +1,16 @@
 -- In a literal a text goes on with a quote or an element, or it can't.
-use Rattle.std.proofs.Common.{◌≡◌, ◌≢◌, ℕ, suc, ◌+◌, ◌*◌, ◌<◌, ◌≤◌, Bool, true, false, List, [], ◌∷◌, ◌++◌, length, refl, sym, ap, ◌∙◌, subst, arith, inl, inr}
-use Rattle.std.specs.Prelude.{◌⊎◌, ◌&&◌, ◌==◌, not, Option, Some, None}
-use Rattle.std.specs.List.{AllByRecursion}
-use Rattle.std.proofs.lemmas.Bool.{and_parts, cases_Bool, cases_eq, cases_lt, eqb-true, not-true, not_from_false, true≢false}
+use Rattle.std.proofs.Common.{◌≡◌, ◌≢◌, ℕ, ◌≤◌, Bool, true, false, [], ◌∷◌, ◌++◌, length, refl, sym, ap, ◌∙◌, subst, arith, inl, inr}
+use Rattle.std.specs.Prelude.{◌⊎◌, ◌&&◌, ◌==◌, Option, Some, None}
+use Rattle.std.proofs.lemmas.Bool.{and_parts, cases_eq, cases_lt, eqb-true, not-true, not_from_false}
 use Rattle.std.proofs.lemmas.Bool.Decides.{nat_tests}
 use Rattle.std.proofs.lemmas.List.{append-nil, append_assoc, length_push}
 use Rattle.pf_literals.specs.declared.kinds.LiteralKind.{LiteralKind}
-use Rattle.pf_literals.specs.declared.kinds.LiteralKind.TheVariants.{NoLiteral, Unterminated, BadEscape, EscapeTooLarge, ZeroByte, Trigraph}
+use Rattle.pf_literals.specs.declared.kinds.LiteralKind.TheVariants.{Unterminated, BadEscape, EscapeTooLarge, ZeroByte, Trigraph}
 use Rattle.pf_literals.specs.declared.notations.Notation.{Notation}
 use Rattle.pf_literals.specs.declared.notations.Notation.TheVariants.{Octal, Hexadecimal}
-use Rattle.pf_literals.specs.Elements.{AreDigits, Bytes, Element, HasRoom, IsElement, Numeric, Plain, Simple, base, digit_value, ends_trigraph, escape, goes_on, is_digit, is_full, is_line_end, is_third, number_after, number_of, question, simple_byte, stands_before, value, written}
-use Rattle.pf_literals.specs.Faults.{IsBegun, IsEnded, IsNoEscape, IsStopped, IsTooLarge, IsZero}
-use Rattle.pf_literals.proofs.Numbers.{Each, number_after-push}
+use Rattle.pf_literals.specs.Elements.{AreDigits, Bytes, Element, HasRoom, IsElement, Numeric, Plain, Simple, ends_trigraph, escape, goes_on, is_digit, is_full, is_line_end, number_of, question, simple_byte, stands_before, written}
+use Rattle.pf_literals.specs.Faults.{IsStopped}
+use Rattle.pf_literals.proofs.Numbers.{Each}
 
 pub data Judgement (rest : Bytes) : Type 0 where
   Quote : (after : Bytes) → rest ≡ 34 ∷ after → Judgement rest

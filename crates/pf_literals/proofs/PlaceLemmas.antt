@@ -1,9 +1,8 @@
 -- Where the bytes of a source come from.
-use Rattle.std.proofs.Common.{◌≡◌, ◌≢◌, ℕ, zero, suc, ◌+◌, ◌-◌, ◌<◌, ◌≤◌, List, [], ◌∷◌, ◌++◌, length, refl, sym, ap, ap₂, ◌∙◌, subst, arith, inl, inr, length-append}
+use Rattle.std.proofs.Common.{◌≡◌, ℕ, zero, suc, ◌+◌, ◌-◌, ◌<◌, ◌≤◌, List, [], ◌∷◌, ◌++◌, length, sym, ap, ap₂, ◌∙◌, arith, inl, inr, length-append}
 use Rattle.std.specs.Prelude.{MatchOption, Option, Some, None, slice_get}
 use Rattle.std.specs.List.{range_with_len}
 use Rattle.std.proofs.lemmas.Bool.{cases_lt}
-use Rattle.std.proofs.lemmas.List.{append_assoc}
 use Rattle.std.proofs.lemmas.List.FromFn.{get_or-range_with_len, length-range_with_len}
 use Rattle.std.proofs.lemmas.Option.{slice_get-get_or, slice_get_within}
 use Rattle.pf_literals.specs.declared.cursors.Cursor.{Cursor}
@@ -11,7 +10,7 @@ use Rattle.pf_literals.specs.declared.kinds.LiteralKind.{LiteralKind}
 use Rattle.pf_literals.specs.Answers.{HasNoPlace, IsPlaceOf}
 use Rattle.pf_literals.specs.Elements.{Bytes}
 use Rattle.pf_literals.specs.Readings.{Fault, IsWhole, Reading, Whole, prefixed, reading}
-use Rattle.pf_literals.specs.Sources.{HasPlaces, bytes_of, close_of, places}
+use Rattle.pf_literals.specs.Sources.{HasPlaces, bytes_of}
 use Rattle.pf_literals.specs.Walks.{IsThere}
 use Rattle.pf_literals.specs.Walks.{left as rest_of}
 use Rattle.pf_literals.proofs.Complete.{read-source}

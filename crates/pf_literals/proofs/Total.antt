@@ -9,7 +9,7 @@ use Rattle.pf_literals.specs.declared.kinds.LiteralKind.TheVariants.{NoLiteral, 
 use Rattle.pf_literals.specs.declared.notations.Notation.TheVariants.{Octal, Hexadecimal}
 use Rattle.pf_literals.specs.Elements.{AreElements, Bytes, Element, IsElement, Numeric, Plain, Simple, quote, stands_before, written}
 use Rattle.pf_literals.specs.Sources.{AreWhite, IsLiteral, IsSource, Literal, is_white, literal_text}
-use Rattle.pf_literals.specs.Faults.{AreOpen, HasCause, IsFaultAt, IsStopped, IsStray, open_text}
+use Rattle.pf_literals.specs.Faults.{AreOpen, HasCause, IsFaultAt, IsStopped, open_text}
 use Rattle.pf_literals.proofs.Complete.{stands_quote}
 use Rattle.pf_literals.proofs.Judging.{Judgement, Quote, Found, Stuck, judge}
 

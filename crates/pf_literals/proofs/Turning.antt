@@ -1,20 +1,18 @@
 -- What begins a text in a literal.
-use Rattle.std.proofs.Common.{◌≡◌, ◌≢◌, ℕ, suc, ◌+◌, ◌*◌, ◌<◌, ◌≤◌, Bool, true, false, List, [], ◌∷◌, ◌++◌, length, refl, sym, ap, ◌∙◌, subst, arith, inl, inr}
-use Rattle.std.specs.Prelude.{◌⊎◌, ◌&&◌, ◌==◌, not, Option, Some, None, nat_lt, if◌then◌else◌}
-use Rattle.std.specs.List.{AllByRecursion}
-use Rattle.std.proofs.lemmas.Bool.{and_cases, and_left, and_right, cases_Bool, cases_eq, cases_lt, eq-eqb, eqb-true, eqb-false, ne_eqb, not-true, true≢false}
+use Rattle.std.proofs.Common.{◌≡◌, ◌≢◌, ℕ, ◌+◌, ◌<◌, true, false, [], ◌∷◌, ◌++◌, length, refl, sym, ap, ◌∙◌, subst, arith, inl, inr}
+use Rattle.std.specs.Prelude.{◌⊎◌, ◌==◌, None}
+use Rattle.std.proofs.lemmas.Bool.{ne_eqb, not-true}
 use Rattle.std.proofs.lemmas.Bool.Decides.{nat_tests}
-use Rattle.std.proofs.lemmas.List.{append-nil, append_assoc, length_push}
+use Rattle.std.proofs.lemmas.List.{append-nil}
 use Rattle.pf_literals.specs.declared.kinds.LiteralKind.{LiteralKind}
 use Rattle.pf_literals.specs.declared.kinds.LiteralKind.TheVariants.{NoLiteral, Unterminated, BadEscape, EscapeTooLarge, ZeroByte, Trigraph}
 use Rattle.pf_literals.specs.declared.notations.Notation.{Notation}
 use Rattle.pf_literals.specs.declared.notations.Notation.TheVariants.{Octal, Hexadecimal}
-use Rattle.pf_literals.specs.declared.turns.Turn.{Turn}
-use Rattle.pf_literals.specs.declared.turns.Turn.TheVariants.{Closes, Gives, Stops}
-use Rattle.pf_literals.specs.Elements.{AreDigits, Bytes, Element, HasRoom, IsElement, Numeric, Plain, Simple, base, digit_value, ends_trigraph, escape, goes_on, is_digit, is_full, is_line_end, is_third, number_after, number_of, question, simple_byte, stands_before, value, written}
+use Rattle.pf_literals.specs.declared.turns.Turn.TheVariants.{Gives, Stops}
+use Rattle.pf_literals.specs.Elements.{AreDigits, Bytes, Element, HasRoom, IsElement, Numeric, Plain, Simple, escape, goes_on, is_digit, is_full, is_line_end, number_of, simple_byte, stands_before, value, written}
 use Rattle.pf_literals.specs.Faults.{IsBegun, IsEnded, IsNoEscape, IsStopped, IsTooLarge, IsZero}
-use Rattle.pf_literals.specs.Turns.{at_end, before_digits, by_letter, escaped, inside, numeric, settled}
-use Rattle.pf_literals.proofs.Numbers.{Each, goes, number_after-push, numeric-digits, numeric-ends, numeric-large, some_count}
+use Rattle.pf_literals.specs.Turns.{before_digits, inside, numeric, settled}
+use Rattle.pf_literals.proofs.Numbers.{numeric-digits, numeric-ends, numeric-large, some_count}
 
 -- a digit isn't the letter of another escape sequence
 pub octal_letter : (d : ℕ) → is_digit Octal d ≡ true → (simple_byte d ≡ None) × ((d == 120) ≡ false)

@@ -1,11 +1,10 @@
 -- A text is a source of one list of bytes, or has one fault.
-use Rattle.std.proofs.Common.{◌≡◌, ℕ, List, [], ◌∷◌, length, refl, sym, ap, ◌∙◌, subst, inl, inr}
+use Rattle.std.proofs.Common.{◌≡◌, ℕ, List, [], refl, sym, ap, ◌∙◌, subst, inl, inr}
 use Rattle.std.specs.Prelude.{◌⊎◌}
 use Rattle.pf_literals.specs.declared.kinds.LiteralKind.{LiteralKind}
 use Rattle.pf_literals.specs.declared.kinds.LiteralKind.TheVariants.{NoLiteral}
-use Rattle.pf_literals.specs.declared.turns.Place.TheVariants.{Before}
 use Rattle.pf_literals.specs.Elements.{Bytes}
-use Rattle.pf_literals.specs.Sources.{HasPlaces, IsSource, IsSourceOf, Literal, bytes_of, close_of, places}
+use Rattle.pf_literals.specs.Sources.{HasPlaces, IsSourceOf, bytes_of, places}
 use Rattle.pf_literals.specs.Faults.{IsFaultAt}
 use Rattle.pf_literals.specs.Readings.{Fault, Reading, Whole, reading}
 use Rattle.pf_literals.proofs.Complete.{read-fault, read-source}

@@ -1,20 +1,20 @@
 -- A walk through a source.
-use Rattle.std.proofs.Common.{◌≡◌, ◌≢◌, ℕ, zero, suc, ◌+◌, ◌-◌, ◌*◌, ◌<◌, ◌≤◌, Bool, true, false, List, [], ◌∷◌, ◌++◌, length, take, drop, get_or, refl, sym, ap, ◌∙◌, subst, arith, inl, inr}
-use Rattle.std.specs.Prelude.{◌&&◌, ◌||◌, ◌==◌, nat_lt, not, Option, Some, None, if◌then◌else◌}
-use Rattle.std.specs.List.{AllByRecursion, range_with_len}
+use Rattle.std.proofs.Common.{◌≡◌, ℕ, suc, ◌+◌, ◌-◌, ◌*◌, ◌<◌, ◌≤◌, Bool, true, false, [], ◌∷◌, ◌++◌, length, take, drop, refl, sym, ap, ◌∙◌, subst, arith}
+use Rattle.std.specs.Prelude.{◌&&◌, ◌==◌, nat_lt, not, Option, Some, None, if◌then◌else◌}
+use Rattle.std.specs.List.{range_with_len}
 use Rattle.std.proofs.lemmas.Bool.{and_left}
 use Rattle.std.proofs.lemmas.Bool.Decides.{nat_tests}
-use Rattle.std.proofs.lemmas.List.{append-nil, drop-drop, drop_all, drop_more, length-drop, length-take-le, take-append-drop}
+use Rattle.std.proofs.lemmas.List.{drop-drop, drop_all, drop_more, length-drop, length-take-le, take-append-drop}
 use Rattle.pf_literals.specs.declared.kinds.LiteralKind.{LiteralKind}
 use Rattle.pf_literals.specs.declared.notations.Notation.{Notation}
 use Rattle.pf_literals.specs.declared.notations.Notation.TheVariants.{Octal, Hexadecimal}
 use Rattle.pf_literals.specs.declared.turns.Place.{Place}
 use Rattle.pf_literals.specs.declared.turns.Place.TheVariants.{Before, Inside, Behind}
 use Rattle.pf_literals.specs.declared.turns.Turn.{Turn}
-use Rattle.pf_literals.specs.declared.turns.Turn.TheVariants.{White, Opens, Closes, Gives, Stops}
+use Rattle.pf_literals.specs.declared.turns.Turn.TheVariants.{Gives, Stops}
 use Rattle.pf_literals.specs.Elements.{Bytes, base, digit_value, ends_trigraph, goes_on, is_full, is_line_end, simple_byte}
 use Rattle.pf_literals.specs.Sources.{is_white}
-use Rattle.pf_literals.specs.Turns.{at_end, before_digits, by_letter, escaped, inside, numeric, outside, settled, turn}
+use Rattle.pf_literals.specs.Turns.{before_digits, by_letter, escaped, inside, numeric, outside, settled, turn}
 use Rattle.pf_literals.specs.Readings.{Reading, ended, prefixed, read, taken}
 use Rattle.pf_literals.specs.Runs.{IsRun, is_special}
 use Rattle.pf_literals.proofs.Complete.{prefixed-none, prefixed-prefixed, read-skip}

@@ -1,9 +1,6 @@
 //! Why a text has no bytes.
-ghost use Rattle.std.specs.Prelude.{◌≡◌};
-ghost use Rattle.pf_literals.specs.declared.faults.LiteralFault.TheVariants.{Memory};
 
 use crate::kinds::LiteralKind;
-use std::alloc::AllocError;
 use thiserror::Error;
 
 /// The kind, and the byte at which a text is refused that is no source, counted from 0.
@@ -25,12 +22,4 @@ pub enum LiteralFault {
     /// A growth was refused.
     #[error("out of memory")]
     Memory,
-}
-
-impl From<AllocError> for LiteralFault {
-    ghost from_gives = { λ _ fault. fault ≡ Memory };
-
-    fn from(_error: AllocError) -> LiteralFault {
-        LiteralFault::Memory
-    }
 }

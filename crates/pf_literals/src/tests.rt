@@ -216,7 +216,7 @@ fn kinds_and_what_they_say(rt: HostRuntime) -> Result<(), Fail> {
         at: 4,
     };
     let fault = LiteralFault::Refused(refusal);
-    let memory = LiteralFault::from(AllocError);
+    let memory = LiteralFault::Memory;
     assert!(rt; format!(in rt.alloc(); "{fault}")?.as_str() == "no source (BadEscape) at byte 4");
     assert!(rt; format!(in rt.alloc(); "{memory}")?.as_str() == "out of memory");
     kinds_in_order();

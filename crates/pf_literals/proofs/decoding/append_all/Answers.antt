@@ -1,7 +1,7 @@
 use Rattle.std.proofs.Common.{◌++◌, ap, sym, ◌∙◌}
-use Rattle.pf_literals.specs.Readings.{prefixed, reading}
+use Rattle.pf_literals.specs.Readings.{prefixed}
 use Rattle.pf_literals.specs.Walks.{left, part_bytes, part_places}
-use Rattle.pf_literals.proofs.DecodingLemmas.{all_read, hindered, moved, refused}
+use Rattle.pf_literals.proofs.DecodingLemmas.{all_read, appended, hindered, refused}
 use Rattle.pf_literals.proofs.decoding.append_all.Goals as goal
 
 pub loop-part-preserved : goal.loop-part-preserved
@@ -10,8 +10,7 @@ loop-part-preserved g c =
     let i = c.loop-part.invariant in
     let part = c.in-Given.part in (
       i.0 ++ part_places part,
-      moved t c.loop-part.out.items i.0 _ i.1 (part_bytes part) (part_places part) _ c.in-Given.ensures.next
-          ∙ ap (λ out. prefixed out (i.0 ++ part_places part) (left t c.next_part.new.self)) (sym c.in-Ok.ensures),
+      appended t c.loop-part.out.items i.0 _ i.1 (part_bytes part) (part_places part) c.append.new.out.items _ c.in-Given.ensures.next c.in-Ok.ensures,
     )
 
 pub returns-in-End : goal.returns-in-End

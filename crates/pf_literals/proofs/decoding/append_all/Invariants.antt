@@ -1,4 +1,4 @@
-use Rattle.std.proofs.Common.{◌≡◌, ◌≤◌, ◌-◌, List, ℕ, length}
+use Rattle.std.proofs.Common.{◌≡◌, ◌-◌, List, ℕ, length}
 use Rattle.pf_literals.specs.Readings.{prefixed, reading}
 use Rattle.pf_literals.specs.Walks.{left}
 use Rattle.pf_literals.proofs.decoding.append_all.Given as goal

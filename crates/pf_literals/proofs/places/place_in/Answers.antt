@@ -1,7 +1,7 @@
-use Rattle.std.proofs.Common.{arith, length, ap, sym, ◌∙◌, ◌≡◌, ◌+◌, ◌≤◌, subst}
+use Rattle.std.proofs.Common.{arith, length, ap, sym, ◌∙◌, ◌≡◌}
 use Rattle.std.specs.Prelude.{slice_get}
 use Rattle.std.proofs.lemmas.List.FromFn.{length-range_with_len}
-use Rattle.pf_literals.specs.Walks.{IsWithin, part_places}
+use Rattle.pf_literals.specs.Walks.{part_places}
 use Rattle.pf_literals.proofs.PlaceLemmas.{range_at}
 use Rattle.pf_literals.proofs.places.place_in.Goals as goal
 

@@ -1,4 +1,4 @@
-use Rattle.std.proofs.Common.{[], arith, ap, sym, ◌∙◌}
+use Rattle.std.proofs.Common.{[], arith, sym, ◌∙◌}
 use Rattle.pf_literals.specs.Walks.{part_bytes, part_places}
 use Rattle.pf_literals.proofs.Complete.{prefixed-none}
 use Rattle.pf_literals.proofs.PlaceLemmas.{at_end, further, none_behind, none_past, there_or_not}

@@ -1,5 +1,5 @@
 use Rattle.std.proofs.Common.{sym, ◌∙◌}
-use Rattle.pf_literals.proofs.Numbers.{goes_further, stops_at_end, stops_full, stops_large, stops_off}
+use Rattle.pf_literals.proofs.Numbers.{stops_full}
 use Rattle.pf_literals.proofs.turns.numeric.Goals as goal
 
 pub returns-then-is_full : goal.returns-then-is_full

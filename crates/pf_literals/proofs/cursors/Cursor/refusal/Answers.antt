@@ -1,6 +1,6 @@
 use Rattle.std.proofs.Common.{◌++◌, [], ap, sym, ◌∙◌}
 use Rattle.pf_literals.specs.Readings.{prefixed}
-use Rattle.pf_literals.specs.Walks.{left, part_bytes, part_places}
+use Rattle.pf_literals.specs.Walks.{part_bytes, part_places}
 use Rattle.pf_literals.proofs.Complete.{prefixed-none, prefixed-prefixed}
 use Rattle.pf_literals.proofs.cursors.Cursor.refusal.Goals as goal
 

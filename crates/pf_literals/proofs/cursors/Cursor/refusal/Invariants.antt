@@ -1,4 +1,4 @@
-use Rattle.std.proofs.Common.{◌≡◌, ◌≤◌, ◌-◌, List, ℕ, length}
+use Rattle.std.proofs.Common.{◌≡◌, ◌-◌, List, ℕ, length}
 use Rattle.pf_literals.specs.Readings.{prefixed}
 use Rattle.pf_literals.specs.Walks.{left}
 use Rattle.pf_literals.proofs.cursors.Cursor.refusal.Given as goal

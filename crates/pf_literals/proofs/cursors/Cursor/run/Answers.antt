@@ -1,6 +1,4 @@
-use Rattle.std.proofs.Common.{◌≤◌, drop, length}
 use Rattle.std.proofs.lemmas.List.{take_rest}
-use Rattle.pf_literals.specs.Runs.{IsRun}
 use Rattle.pf_literals.proofs.WalkLemmas.{ran}
 use Rattle.pf_literals.proofs.cursors.Cursor.run.Goals as goal
 

@@ -1,4 +1,4 @@
-use Rattle.std.proofs.Common.{◌≡◌, arith, drop, sym}
+use Rattle.std.proofs.Common.{arith, sym}
 use Rattle.std.proofs.lemmas.List.{take_rest}
 use Rattle.pf_literals.proofs.WalkLemmas.{gave, gives_within, stops_within, turned}
 use Rattle.pf_literals.proofs.cursors.Cursor.turn.Goals as goal
