@@ -1,5 +1,5 @@
 -- The bytes of a source, part by part.
-use Rattle.std.proofs.Common.{◌≡◌, ◌≢◌, ℕ, ◌<◌, List, [], ◌++◌, length, ap, ap₂, ◌∙◌, arith, length-append}
+use Rattle.std.proofs.Common.{sym, ◌≡◌, ◌≢◌, ℕ, ◌<◌, List, [], ◌++◌, length, ap, ap₂, ◌∙◌, arith, length-append}
 use Rattle.std.proofs.lemmas.List.{append-nil}
 use Rattle.pf_literals.specs.declared.cursors.Cursor.{Cursor}
 use Rattle.pf_literals.specs.declared.faults.LiteralFault.{LiteralFault}

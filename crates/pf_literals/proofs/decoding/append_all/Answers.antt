@@ -1,6 +1,5 @@
-use Rattle.std.proofs.Common.{◌++◌, ap, sym, ◌∙◌}
-use Rattle.pf_literals.specs.Readings.{prefixed}
-use Rattle.pf_literals.specs.Walks.{left, part_bytes, part_places}
+use Rattle.std.proofs.Common.{◌++◌}
+use Rattle.pf_literals.specs.Walks.{part_bytes, part_places}
 use Rattle.pf_literals.proofs.DecodingLemmas.{all_read, appended, hindered, refused}
 use Rattle.pf_literals.proofs.decoding.append_all.Goals as goal
 
