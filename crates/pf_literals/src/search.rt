@@ -1,15 +1,33 @@
 //! The search for the end of a run of bytes that stand for themselves.
-ghost use Rattle.std.specs.Prelude.{◌≡◌, ◌+◌, ◌-◌, ◌<◌, ◌≤◌, ℕ, true, false, length, slice_index, take};
+ghost use Rattle.std.specs.Prelude.{◌≡◌, ◌+◌, ◌-◌, ◌<◌, ◌≤◌, true, length, slice_index, take, IsTrue};
 ghost use Rattle.pf_literals.specs.Runs.{IsRun, StandsRun, is_special};
 
 use std::simd::prelude::*;
 
 const LANES: usize = 16;
 
-/// How many bytes at the front of a text stand for themselves, in a literal and as it is encoded. It
-/// is never inlined, so that the search stands in the program once.
-#[inline(never)]
+// How many bytes the search goes on by, where there are so many.
+const BLOCK: usize = 64;
+
+/// How many bytes at the front of a text stand for themselves, in a literal and as it is encoded.
+#[inline(always)]
 pub(crate) fn run_len(text: &[u8]) -> usize
+    ensures within { result ≤ length text.now }
+    ensures run { IsRun (take result text.now) }
+    ensures ended { result < length text.now → is_special (slice_index text.now result) ≡ true }
+{
+    if text.is_empty() {
+        return 0;
+    }
+    if is_special(text[0]) {
+        return 0;
+    }
+    search(text)
+}
+
+// The same. It is never inlined, so that the search stands in the program once.
+#[inline(never)]
+fn search(text: &[u8]) -> usize
     ensures within { result ≤ length text.now }
     ensures run { IsRun (take result text.now) }
     ensures ended { result < length text.now → is_special (slice_index text.now result) ≡ true }
@@ -18,6 +36,25 @@ pub(crate) fn run_len(text: &[u8]) -> usize
         return run_by_one(text);
     }
     let mut at = 0;
+    while text.len() - at >= BLOCK {
+        if !is_run(text, at) {
+            return run_behind(text, at);
+        }
+        at += BLOCK;
+    }
+    run_behind(text, at)
+}
+
+// Of a text whose first bytes are a run.
+fn run_behind(text: &[u8], seen: usize) -> usize
+    requires room { LANES ≤ length text.now }
+    requires within { seen ≤ length text.now }
+    requires run { StandsRun text.now 0 seen }
+    ensures within { result ≤ length text.now }
+    ensures run { IsRun (take result text.now) }
+    ensures ended { result < length text.now → is_special (slice_index text.now result) ≡ true }
+{
+    let mut at = seen;
     while text.len() - at >= LANES {
         let run = run_at(text, at);
         if run < LANES {
@@ -64,6 +101,19 @@ fn run_at_end(text: &[u8], seen: usize) -> usize
     at + run_at(text, at)
 }
 
+// Whether a block is a run.
+#[inline(always)]
+fn is_run(text: &[u8], at: usize) -> bool
+    requires { at + BLOCK ≤ length text.now }
+    ensures { IsTrue result → StandsRun text.now at (at + BLOCK) }
+{
+    let bytes = u8x64::from_slice(&text[at..]);
+    let special = (bytes ^ u8x64::splat(2)).simd_lt(u8x64::splat(33))
+        | (bytes | u8x64::splat(64)).simd_eq(u8x64::splat(127))
+        | bytes.simd_eq(u8x64::splat(b'\\'));
+    special.to_bitmask() == 0
+}
+
 // How many bytes of a vector are of the run that begins it.
 #[inline(always)]
 fn run_at(text: &[u8], at: usize) -> usize
@@ -73,11 +123,10 @@ fn run_at(text: &[u8], at: usize) -> usize
     ensures ended { result < LANES → is_special (slice_index text.now (at + result)) ≡ true }
 {
     let bytes = u8x16::from_slice(&text[at..]);
-    let special = bytes.simd_lt(u8x16::splat(b' '))
-        | bytes.simd_eq(u8x16::splat(127))
-        | bytes.simd_eq(u8x16::splat(b'"'))
-        | bytes.simd_eq(u8x16::splat(b'\\'))
-        | bytes.simd_eq(u8x16::splat(b'?'));
+    // Of 0 to 31 and `"` alone the first is below 33, and of `?` and 127 alone the second is 127.
+    let special = (bytes ^ u8x16::splat(2)).simd_lt(u8x16::splat(33))
+        | (bytes | u8x16::splat(64)).simd_eq(u8x16::splat(127))
+        | bytes.simd_eq(u8x16::splat(b'\\'));
     let places = special.to_bitmask();
     if places == 0 {
         return LANES;
