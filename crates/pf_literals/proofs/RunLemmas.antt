@@ -42,8 +42,8 @@ highest false = refl
 lane_set : (byte : ℕ) → byte < 256 → top 7 (lane byte) ≡ is_special byte
 lane_set byte few =
     ap (top 7) (
-      ap (λ l. bit_or l (cond (byte == 92) 255 0)) (either (nat_lt (bit_xor byte 2) 33) (bit_or byte 64 == 127))
-      ∙ either (nat_lt (bit_xor byte 2) 33 || bit_or byte 64 == 127) (byte == 92)
+    ap (λ l. bit_or l (cond (byte == 92) 255 0)) (either (nat_lt (bit_xor byte 2) 33) (bit_or byte 64 == 127))
+    ∙ either (nat_lt (bit_xor byte 2) 33 || bit_or byte 64 == 127) (byte == 92)
     ) ∙ highest (is_found byte) ∙ found_is byte few
 
 lanes_set : (bytes : Bytes) → Each1 (Fits w8) bytes → map (top 7) (map lane bytes) ≡ map is_special bytes

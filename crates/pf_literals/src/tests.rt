@@ -9,6 +9,8 @@ use crate::{
 use std::alloc::{AllocError, Global};
 use std::test::Fail;
 
+mod callers;
+
 // A source and its bytes.
 #[rattlefmt::skip]
 static SOURCES: [(&str, &str); 24] = [
