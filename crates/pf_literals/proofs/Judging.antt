@@ -28,14 +28,14 @@ room-push Octal digits d room open_ =
     omega (arith, room, long, other)
 room-push Hexadecimal digits d room open_ = tt
 
-AreDigits-push : (notation : Notation) (digits : Bytes) (d : ℕ) → AreDigits notation digits → is_full notation (length digits) ≡ false → is_digit notation d ≡ true → AreDigits notation (digits ++ d ∷ [])
+pub AreDigits-push : (notation : Notation) (digits : Bytes) (d : ℕ) → AreDigits notation digits → is_full notation (length digits) ≡ false → is_digit notation d ≡ true → AreDigits notation (digits ++ d ∷ [])
 AreDigits-push notation digits d h open_ digit = record { each = each-push notation digits d h.each digit; room = room-push notation digits d h.room open_ }
 
 escape-append : (notation : Notation) (digits more : Bytes) → escape notation digits ++ more ≡ escape notation (digits ++ more)
 escape-append Octal digits more = refl
 escape-append Hexadecimal digits more = refl
 
-escape-push : (notation : Notation) (digits rest : Bytes) (d : ℕ) → escape notation digits ++ (d ∷ rest) ≡ escape notation (digits ++ d ∷ []) ++ rest
+pub escape-push : (notation : Notation) (digits rest : Bytes) (d : ℕ) → escape notation digits ++ (d ∷ rest) ≡ escape notation (digits ++ d ∷ []) ++ rest
 escape-push notation digits rest d =
     escape-append notation digits (d ∷ rest) ∙ ap (escape notation) (sym (append_assoc digits (d ∷ []) rest)) ∙ sym (escape-append notation (digits ++ d ∷ []) rest)
 

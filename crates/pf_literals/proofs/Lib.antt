@@ -5,6 +5,7 @@ pub mod Judging
 pub mod Complete
 pub mod Total
 pub mod Unique
+pub mod FaultLemmas
 pub mod WalkLemmas
 pub mod DecodingLemmas
 pub mod PlaceLemmas

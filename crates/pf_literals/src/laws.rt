@@ -1,13 +1,13 @@
-//! Laws of the definitions: a text is a source of one list of bytes, or has one fault; and a text
-//! is the bytes of its encoding.
-ghost use Rattle.std.specs.Prelude.{◌≡◌, ◌-◌, ℕ, Some, slice_get};
+//! Laws of the definitions: a text is a source of one list of bytes, or has one fault, where it can't
+//! go on; and a text is the bytes of its encoding.
+ghost use Rattle.std.specs.Prelude.{◌≡◌, ◌++◌, ◌-◌, ◌<◌, ℕ, Some, length, slice_get};
 ghost use Rattle.pf_literals.specs.declared.kinds.LiteralKind.{LiteralKind};
 ghost use Rattle.pf_literals.specs.declared.kinds.TheConstants.LiteralKind.{ALL as kinds};
 ghost use Rattle.pf_literals.specs.Elements.{Bytes};
 ghost use Rattle.pf_literals.specs.Encoding.{encoding};
 ghost use Rattle.pf_literals.specs.Faults.{IsFaultAt};
 ghost use Rattle.pf_literals.specs.Kinds.{number};
-ghost use Rattle.pf_literals.specs.Laws.{IsSettled, IsString};
+ghost use Rattle.pf_literals.specs.Laws.{CanGoOn, IsSettled, IsString};
 ghost use Rattle.pf_literals.specs.Sources.{HasPlaces, IsSourceOf};
 
 /// The kinds stand in the order of their numbers.
@@ -42,6 +42,18 @@ pub fn read_or_refused()
 pub fn never_both()
     ensures { (t bytes : Bytes) (kind : LiteralKind) (at : ℕ) → IsSourceOf t bytes
         → IsFaultAt t kind at → ⊥ }
+{}
+
+/// A text that is refused before its end is refused so however it goes on.
+pub fn refused_for_good()
+    ensures { (t more : Bytes) (kind : LiteralKind) (at : ℕ) → IsFaultAt t kind at
+        → at < length t → IsFaultAt (t ++ more) kind at }
+{}
+
+/// And one that is refused at its end can go on to be a source.
+pub fn end_goes_on()
+    ensures { (t : Bytes) (kind : LiteralKind) (at : ℕ) → IsFaultAt t kind at
+        → at ≡ length t → CanGoOn t }
 {}
 
 /// A text without a zero byte is the bytes of its encoding.
