@@ -1,7 +1,7 @@
 //! What the calls answer, by rows from outside.
 use crate::laws::{
-    bytes_once, encoded_is_read, encoded_once, kinds_in_order, never_both, places_once,
-    read_or_refused, refused_once,
+    bytes_once, encoded_is_read, encoded_once, end_goes_on, kinds_in_order, never_both,
+    places_once, read_or_refused, refused_for_good, refused_once,
 };
 use crate::{
     LiteralFault, LiteralKind, LiteralRefusal, decode, encode, encoded_len, source_offset,
@@ -161,6 +161,8 @@ fn each_fault_at_its_byte(rt: HostRuntime) {
         assert!(rt; is_refused(rt.alloc(), text, *kind, *at), "{text}");
     }
     refused_once();
+    refused_for_good();
+    end_goes_on();
 }
 
 #[test]
