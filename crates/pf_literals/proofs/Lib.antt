@@ -11,3 +11,4 @@ pub mod DecodingLemmas
 pub mod PlaceLemmas
 pub mod EncodingLemmas
 pub mod EncodingReadLemmas
+mod Examples
