@@ -36,7 +36,7 @@ pub data Element : Type 0 where
   Simple : (letter byte : ℕ) → Element
   Numeric : (notation : Notation) (digits : Bytes) → Element
 
--- the byte that a letter stands for after `\` (C11 6.4.4.4 p3 and p4, 5.2.2 p2; ASCII)
+-- the byte that a letter stands for after `\` (C11 6.4.4.4 p3 and p8, 5.2.2 p2; ASCII)
 abbrev pub simple_byte : ℕ → Option ℕ
 simple_byte letter =
     if letter == 34 then Some 34 else
@@ -105,7 +105,7 @@ written (Plain byte) = byte ∷ []
 written (Simple letter byte) = backslash ∷ letter ∷ []
 written (Numeric notation digits) = escape notation digits
 
--- the byte that it stands for (C11 6.4.4.4 p3 to p6)
+-- the byte that it stands for (C11 6.4.4.4 p3 to p8)
 abbrev pub value : Element → ℕ
 value (Plain byte) = byte
 value (Simple letter byte) = byte

@@ -101,7 +101,7 @@ fn run_at_end(text: &[u8], seen: usize) -> usize
     at + run_at(text, at)
 }
 
-// Whether a block is a run.
+// Whether a block is a run, by the tests of `run_at`.
 #[inline(always)]
 fn is_run(text: &[u8], at: usize) -> bool
     requires { at + BLOCK ≤ length text.now }

@@ -53,6 +53,7 @@ fn outside(text: &[u8]) -> Turn
     }
 }
 
+// A byte outside of a literal.
 fn between(byte: u8) -> Turn
     ensures { result ≡ outside (byte ∷ []) }
 {
@@ -80,6 +81,7 @@ fn inside(text: &[u8]) -> Turn
     }
 }
 
+// A byte in a literal, and what follows it.
 fn element(byte: u8, rest: &[u8]) -> Turn
     ensures { result ≡ inside (byte ∷ rest.now) }
 {
@@ -135,6 +137,7 @@ fn escaped(text: &[u8]) -> Turn
     }
 }
 
+// The same where the byte is no letter of a simple escape sequence.
 fn numeric_escape(byte: u8, text: &[u8], rest: &[u8]) -> Turn
     requires { text.now ≡ byte ∷ rest.now }
     ensures { result ≡ by_letter None byte rest.now }
