@@ -1,0 +1,14 @@
+pub mod Numbers
+pub mod RunLemmas
+pub mod Turning
+pub mod Judging
+pub mod Complete
+pub mod Total
+pub mod Unique
+pub mod FaultLemmas
+pub mod WalkLemmas
+pub mod DecodingLemmas
+pub mod PlaceLemmas
+pub mod EncodingLemmas
+pub mod EncodingReadLemmas
+mod Examples

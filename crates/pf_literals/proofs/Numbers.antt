@@ -1,0 +1,129 @@
+-- Digits of numeric escape sequences, and what the code makes of them.
+use Rattle.std.proofs.Common.{◌≡◌, ◌≢◌, ℕ, suc, ◌+◌, ◌*◌, ◌<◌, ◌≤◌, true, false, [], ◌∷◌, ◌++◌, length, drop, get_or, refl, sym, ap, ◌∙◌, arith, inl, inr}
+use Rattle.std.specs.Prelude.{◌==◌, not, nat_lt}
+use Rattle.std.specs.List.{AllByRecursion}
+use Rattle.std.proofs.lemmas.Bool.{and_from, and_left, and_right, cases_lt, not_from_false, not_from_true}
+use Rattle.std.proofs.lemmas.List.{drop_all, drop_more}
+use Rattle.std.proofs.lemmas.Bool.Decides.{nat_tests}
+use Rattle.pf_literals.specs.declared.kinds.LiteralKind.TheVariants.{EscapeTooLarge}
+use Rattle.pf_literals.specs.declared.notations.Notation.{Notation}
+use Rattle.pf_literals.specs.declared.notations.Notation.TheVariants.{Octal, Hexadecimal}
+use Rattle.pf_literals.specs.declared.turns.Turn.TheVariants.{Gives, Stops}
+use Rattle.pf_literals.specs.Elements.{Bytes, HasRoom, base, digit_value, goes_on, is_digit, is_full, number_after}
+use Rattle.pf_literals.specs.Turns.{at_end, before_digits, numeric, settled}
+
+-- digits of a notation
+abbrev pub Each : Notation → Bytes → Type 0
+Each notation digits = AllByRecursion (λ digit. is_digit notation digit ≡ true) digits
+
+-- more digits make no smaller number
+pub number_after-ge : (notation : Notation) (digits : Bytes) (number : ℕ) → number ≤ number_after notation number digits
+number_after-ge notation [] number = omega arith
+number_after-ge Octal (d ∷ ds) number = let more = number_after-ge Octal ds (8 * number + digit_value d) in omega arith
+number_after-ge Hexadecimal (d ∷ ds) number = let more = number_after-ge Hexadecimal ds (16 * number + digit_value d) in omega arith
+
+pub number_after-push : (notation : Notation) (digits : Bytes) (number d : ℕ)
+    → number_after notation number (digits ++ d ∷ []) ≡ base notation * number_after notation number digits + digit_value d
+number_after-push notation [] number d = refl
+number_after-push notation (e ∷ digits) number d = number_after-push notation digits (base notation * number + digit_value e) d
+
+pub not_full : (notation : Notation) (count more : ℕ) → HasRoom notation (count + suc more) → is_full notation count ≡ false
+not_full Octal count more room = grind (arith, nat_tests)
+not_full Hexadecimal count more room = refl
+
+pub same_room : (notation : Notation) (count other : ℕ) → count ≡ other → HasRoom notation count → HasRoom notation other
+same_room Octal count other e room = omega (arith, e, room)
+same_room Hexadecimal count other e room = tt
+
+cons_some : (byte : ℕ) (rest : Bytes) → byte ∷ rest ≢ []
+cons_some byte rest e = cc
+
+pub small : (n : ℕ) → n ≤ 255 → nat_lt 255 n ≡ false
+small n h = grind (arith, nat_tests)
+
+pub large : (n : ℕ) → 255 < n → nat_lt 255 n ≡ true
+large n h = grind (arith, nat_tests)
+
+pub some_count : (n : ℕ) → 0 < n → (n == 0) ≡ false
+some_count n h = grind (arith, nat_tests)
+
+module _ (notation : Notation) where
+  -- one more digit
+  pub goes : (count d : ℕ) (rest : Bytes) → is_full notation count ≡ false → is_digit notation d ≡ true → goes_on notation count (d ∷ rest) ≡ true
+  goes count d rest room digit = and_from _ _ (not_from_false _ room) digit
+
+  numeric-one : (count number d : ℕ) (rest : Bytes) → goes_on notation count (d ∷ rest) ≡ true → base notation * number + digit_value d ≤ 255
+      → numeric notation count number (d ∷ rest) ≡ numeric notation (count + 1) (base notation * number + digit_value d) rest
+  numeric-one count number d rest on few = let fits = small (base notation * number + digit_value d) few in rw (on, fits) refl
+
+  -- digits of a number that fits
+  pub numeric-digits : (digits rest : Bytes) (count number : ℕ) → Each notation digits → HasRoom notation (count + length digits)
+      → number_after notation number digits ≤ 255 → numeric notation count number (digits ++ rest) ≡ numeric notation (count + length digits) (number_after notation number digits) rest
+  numeric-digits [] rest count number h room few = let same : count ≡ count + 0 = omega arith in ap (λ c. numeric notation c number rest) same
+  numeric-digits (d ∷ ds) rest count number h room few =
+      let more = number_after-ge notation ds (base notation * number + digit_value d) in
+      let on = goes count d (ds ++ rest) (not_full notation count (length ds) room) h.0 in
+      let same : count + 1 + length ds ≡ count + suc (length ds) = omega arith in
+      numeric-one count number d (ds ++ rest) on (omega arith)
+      ∙ numeric-digits ds rest (count + 1) (base notation * number + digit_value d) h.1 (same_room notation _ _ (sym same) room) few
+      ∙ ap (λ c. numeric notation c (number_after notation (base notation * number + digit_value d) ds) rest) same
+
+  -- digits of one that doesn't
+  pub numeric-large : (digits rest : Bytes) (count number : ℕ) → Each notation digits → HasRoom notation (count + length digits)
+      → number ≤ 255 → 255 < number_after notation number digits → numeric notation count number (digits ++ rest) ≡ Stops EscapeTooLarge 0
+  numeric-large [] rest count number h room few many = absurd (omega arith)
+  numeric-large (d ∷ ds) rest count number h room few many =
+      let on = goes count d (ds ++ rest) (not_full notation count (length ds) room) h.0 in
+      let next = base notation * number + digit_value d in
+      let same : count + 1 + length ds ≡ count + suc (length ds) = omega arith in
+      elim (cases_lt 255 next) [
+        | inl more ↦ let over = large next more in rw (on, over) refl
+        | inr le ↦ numeric-one count number d (ds ++ rest) on le ∙ numeric-large ds rest (count + 1) next h.1 (same_room notation _ _ (sym same) room) le many
+      ]
+
+  -- no more digits
+  pub numeric-ends : (rest : Bytes) (count number : ℕ) → goes_on notation count rest ≡ false → 0 < count → 0 < number → numeric notation count number rest ≡ Gives number (before_digits notation + count)
+  numeric-ends [] count number none some value =
+      let a = some_count count some in
+      let b = some_count number value in
+      rw (b, a) refl
+  numeric-ends (byte ∷ rest) count number none some value =
+      let a = some_count count some in
+      let b = some_count number value in
+      rw (none, b, a) refl
+
+  numeric-off : (rest : Bytes) (count number : ℕ) → goes_on notation count rest ≡ false → rest ≢ [] → numeric notation count number rest ≡ settled notation count number
+  numeric-off [] count number none some = absurd (some refl)
+  numeric-off (byte ∷ rest) count number none some = rw none refl
+
+  end_full : (count number : ℕ) → is_full notation count ≡ true → at_end notation count number ≡ settled notation count number
+  end_full count number full = let none = and_right (number == 0) (not (is_full notation count)) (not_from_true _ full) in rw none refl
+
+  -- The text, of whose digits so many have been read.
+  module _ (text : Bytes) (count number : ℕ) (so_far : numeric notation 0 0 text ≡ numeric notation count number (drop count text)) where
+    pub stops_full : is_full notation count ≡ true → numeric notation 0 0 text ≡ settled notation count number
+    stops_full full = so_far ∙ go (drop count text) where
+      go : (rest : Bytes) → numeric notation count number rest ≡ settled notation count number
+      go [] = end_full count number full
+      go (byte ∷ rest) = numeric-off (byte ∷ rest) count number (and_left (not (is_full notation count)) (is_digit notation byte) (not_from_true _ full)) (cons_some byte rest)
+
+    pub stops_at_end : length text ≤ count → numeric notation 0 0 text ≡ at_end notation count number
+    stops_at_end all = so_far ∙ ap (numeric notation count number) (drop_all count text all)
+
+    module _ (less : count < length text) where
+      next_is : numeric notation 0 0 text ≡ numeric notation count number (get_or text count 0 ∷ drop (count + 1) text)
+      next_is = so_far ∙ ap (numeric notation count number) (drop_more text count 0 less)
+
+      pub stops_off : is_digit notation (get_or text count 0) ≡ false → numeric notation 0 0 text ≡ settled notation count number
+      stops_off none = next_is ∙ numeric-off _ count number (and_right (not (is_full notation count)) (is_digit notation (get_or text count 0)) none) (cons_some _ _)
+
+      module _ (room : is_full notation count ≡ false) (digit : is_digit notation (get_or text count 0) ≡ true) where
+        pub stops_large : 255 < base notation * number + digit_value (get_or text count 0) → numeric notation 0 0 text ≡ Stops EscapeTooLarge 0
+        stops_large many =
+            let on = goes count (get_or text count 0) (drop (count + 1) text) room digit in
+            let over = large (base notation * number + digit_value (get_or text count 0)) many in
+            next_is ∙ rw (on, over) refl
+
+        pub goes_further : base notation * number + digit_value (get_or text count 0) ≤ 255
+            → numeric notation 0 0 text ≡ numeric notation (count + 1) (base notation * number + digit_value (get_or text count 0)) (drop (count + 1) text)
+        goes_further few = next_is ∙ numeric-one count number (get_or text count 0) (drop (count + 1) text) (goes count (get_or text count 0) (drop (count + 1) text) room digit) few

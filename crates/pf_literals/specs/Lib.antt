@@ -1,0 +1,12 @@
+pub mod Elements
+pub mod Sources
+pub mod Kinds
+pub mod Faults
+pub mod Encoding
+pub mod Turns
+pub mod Readings
+pub mod Runs
+pub mod Spellings
+pub mod Walks
+pub mod Answers
+pub mod Laws

@@ -1,0 +1,74 @@
+//! The bytes of a source.
+ghost use Rattle.std.specs.Prelude.{◌≡◌, ◌++◌, [], IfOk, MatchResult};
+ghost use Rattle.pf_literals.specs.Answers.{HindersDecoding};
+ghost use Rattle.pf_literals.specs.Sources.{IsSourceOf};
+ghost use Rattle.pf_literals.specs.Walks.{Stops, part_bytes};
+
+use crate::cursors::{Cursor, Next, Part};
+use crate::faults::LiteralFault;
+use std::alloc::{AllocError, Allocator, Global};
+
+#[cfg(test)]
+mod tests;
+
+/// The bytes that a source of string literals stands for (C11 6.4.5, paragraphs 4 to 6), without
+/// the zero byte behind them. Their room is taken by one growth of the source's length, and none is
+/// taken where there are no bytes.
+pub fn decode(alloc: Global, source: &[u8]) -> Result<Vec<u8>, LiteralFault>
+    ensures { MatchResult result
+        (λ v. IsSourceOf source.now v.items) (HindersDecoding source.now) }
+{
+    decode_in(alloc, source)
+}
+
+// The same, on any allocator.
+pub(crate) fn decode_in<A: Allocator>(alloc: A, source: &[u8]) -> Result<Vec<u8, A>, LiteralFault>
+    ensures { MatchResult result
+        (λ v. IsSourceOf source.now v.items) (HindersDecoding source.now) }
+{
+    let mut out = Vec::new(alloc);
+    append_all(source, &mut out)?;
+    Ok(out)
+}
+
+// Appends the bytes of a source.
+fn append_all<A: Allocator>(source: &[u8], out: &mut Vec<u8, A>) -> Result<(), LiteralFault>
+    requires { out.old.items ≡ [] }
+    ensures { MatchResult result
+        (λ _. IsSourceOf source.now out.new.items) (HindersDecoding source.now) }
+{
+    let mut cursor = Cursor::new();
+    loop {
+        match cursor.next_part(source) {
+            Next::Given(part) => match append(out, part, source.len()) {
+                Ok(()) => {}
+                Err(_) => return Err(fault_of(cursor, source)),
+            },
+            Next::End(_) => return Ok(()),
+            Next::Stop(refusal) => return Err(LiteralFault::Refused(refusal)),
+        }
+    }
+}
+
+// Appends the bytes of a part. The room for all that may come is taken with the first.
+fn append<A: Allocator>(out: &mut Vec<u8, A>, part: Part, room: usize) -> Result<(), AllocError>
+    ensures { IfOk result (λ _. out.new.items ≡ out.old.items ++ part_bytes part.entry) }
+{
+    if out.is_empty() {
+        out.reserve_exact(room)?;
+    }
+    match part {
+        Part::Run(run, _) => out.extend_from_slice(run),
+        Part::Byte(value, _) => out.extend_from_slice(&[value]),
+    }
+}
+
+// Why there are no bytes where memory wants: the rest of the text may be refused.
+fn fault_of(cursor: Cursor, source: &[u8]) -> LiteralFault
+    ensures { Stops source.now cursor result }
+{
+    match cursor.refusal(source) {
+        Some(refusal) => LiteralFault::Refused(refusal),
+        None => LiteralFault::Memory,
+    }
+}

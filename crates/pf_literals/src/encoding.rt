@@ -1,0 +1,80 @@
+//! The literal of some bytes.
+ghost use Rattle.std.specs.Prelude.{◌≡◌, ◌≤◌, ◌*◌, ◌++◌, false, drop, length, IfOk};
+ghost use Rattle.pf_literals.specs.Encoding.{encoding, spelled};
+
+use crate::fronts::Front;
+use crate::search::run_len;
+use std::alloc::{AllocError, Allocator, Global};
+
+#[cfg(test)]
+mod tests;
+
+/// The one string literal of some bytes. A zero byte is written as `\000`, and of what has one no C
+/// string is made: `decode` refuses that literal. The room for it is taken by one growth of its
+/// length.
+pub fn encode(alloc: Global, text: &[u8]) -> Result<Vec<u8>, AllocError>
+    ensures { IfOk result (λ v. v.items ≡ encoding text.now) }
+{
+    encode_in(alloc, text)
+}
+
+/// How many bytes that literal has, with its quotes.
+pub fn encoded_len(text: &[u8]) -> u128
+    ensures { result ≡ length (encoding text.now) }
+{
+    written_len(text, 0) + 2
+}
+
+// The same as `encode`, on any allocator.
+pub(crate) fn encode_in<A: Allocator>(alloc: A, text: &[u8]) -> Result<Vec<u8, A>, AllocError>
+    ensures { IfOk result (λ v. v.items ≡ encoding text.now) }
+{
+    // Most texts are one run, which is gone over once.
+    let run = run_len(text);
+    let len = run as u128 + written_len(text, run) + 2;
+    let room = usize::try_from(len).unwrap_or(usize::MAX);
+    let mut out = Vec::with_capacity(alloc, room)?;
+    out.extend_from_slice(b"\"")?;
+    out.extend_from_slice(&text[..run])?;
+    append_from(text, run, &mut out)?;
+    out.extend_from_slice(b"\"")?;
+    Ok(out)
+}
+
+// How many bytes are written of a text from a byte on that doesn't stand behind a `?`.
+fn written_len(text: &[u8], from: usize) -> u128
+    requires { from ≤ length text.now }
+    ensures len { result ≡ length (spelled false (drop from text.now)) }
+    ensures few { result ≤ 4 * length text.now }
+{
+    let mut len: u128 = 0;
+    let mut at = from;
+    let mut after = false;
+    while at < text.len() {
+        let front = Front::of(after, &text[at..]);
+        len += front.written_len() as u128;
+        at += front.taken();
+        after = front.ends_in_question();
+    }
+    len
+}
+
+// Appends what is written of it.
+fn append_from<A: Allocator>(
+    text: &[u8],
+    from: usize,
+    out: &mut Vec<u8, A>,
+) -> Result<(), AllocError>
+    requires { from ≤ length text.now }
+    ensures { IfOk result (λ _. out.new.items ≡ out.old.items ++ spelled false (drop from text.now)) }
+{
+    let mut at = from;
+    let mut after = false;
+    while at < text.len() {
+        let front = Front::of(after, &text[at..]);
+        front.append(out)?;
+        at += front.taken();
+        after = front.ends_in_question();
+    }
+    Ok(())
+}

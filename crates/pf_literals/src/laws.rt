@@ -1,0 +1,68 @@
+//! Laws of the definitions: a text is a source of one list of bytes, or has one fault, where it can't
+//! go on; and a text is the bytes of its encoding.
+ghost use Rattle.std.specs.Prelude.{◌≡◌, ◌++◌, ◌-◌, ◌<◌, ℕ, Some, length, slice_get};
+ghost use Rattle.pf_literals.specs.declared.kinds.LiteralKind.{LiteralKind};
+ghost use Rattle.pf_literals.specs.declared.kinds.TheConstants.LiteralKind.{ALL as kinds};
+ghost use Rattle.pf_literals.specs.Elements.{Bytes};
+ghost use Rattle.pf_literals.specs.Encoding.{encoding};
+ghost use Rattle.pf_literals.specs.Faults.{IsFaultAt};
+ghost use Rattle.pf_literals.specs.Kinds.{number};
+ghost use Rattle.pf_literals.specs.Laws.{CanGoOn, IsSettled, IsString};
+ghost use Rattle.pf_literals.specs.Sources.{HasPlaces, IsSourceOf};
+
+/// The kinds stand in the order of their numbers.
+pub fn kinds_in_order()
+    ensures { (kind : LiteralKind) → slice_get kinds (number kind - 1) ≡ Some kind }
+{}
+
+/// A source has one list of bytes.
+pub fn bytes_once()
+    ensures { (t bytes others : Bytes) → IsSourceOf t bytes → IsSourceOf t others
+        → bytes ≡ others }
+{}
+
+/// The bytes of a source come from one list of places, and behind them stands one last quote.
+pub fn places_once()
+    ensures { (t found others : Bytes) (close last : ℕ) → HasPlaces t found close
+        → HasPlaces t others last → (found ≡ others) × (close ≡ last) }
+{}
+
+/// A text that is no source is refused for one reason and at one place.
+pub fn refused_once()
+    ensures { (t : Bytes) (kind other : LiteralKind) (p q : ℕ) → IsFaultAt t kind p
+        → IsFaultAt t other q → (kind ≡ other) × (p ≡ q) }
+{}
+
+/// A text is a source, or it is refused.
+pub fn read_or_refused()
+    ensures { (t : Bytes) → IsSettled t }
+{}
+
+/// And never both.
+pub fn never_both()
+    ensures { (t bytes : Bytes) (kind : LiteralKind) (at : ℕ) → IsSourceOf t bytes
+        → IsFaultAt t kind at → ⊥ }
+{}
+
+/// A text that is refused before its end is refused so however it goes on.
+pub fn refused_for_good()
+    ensures { (t more : Bytes) (kind : LiteralKind) (at : ℕ) → IsFaultAt t kind at
+        → at < length t → IsFaultAt (t ++ more) kind at }
+{}
+
+/// And one that is refused at its end can go on to be a source.
+pub fn end_goes_on()
+    ensures { (t : Bytes) (kind : LiteralKind) (at : ℕ) → IsFaultAt t kind at
+        → at ≡ length t → CanGoOn t }
+{}
+
+/// A text without a zero byte is the bytes of its encoding.
+pub fn encoded_is_read()
+    ensures { (t : Bytes) → IsString t → IsSourceOf (encoding t) t }
+{}
+
+/// The encoding of the bytes of an encoding is that encoding.
+pub fn encoded_once()
+    ensures { (t bytes : Bytes) → IsString t → IsSourceOf (encoding t) bytes
+        → encoding bytes ≡ encoding t }
+{}

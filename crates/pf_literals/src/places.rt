@@ -1,0 +1,70 @@
+//! Where in a source its bytes come from.
+ghost use Rattle.std.specs.Prelude.{◌≡◌, ◌<◌, length, MatchOption, slice_get};
+ghost use Rattle.pf_literals.specs.Answers.{HasNoPlace, IsPlaceOf};
+ghost use Rattle.pf_literals.specs.Readings.{IsWhole};
+ghost use Rattle.pf_literals.specs.Walks.{IsThere, IsWithin, left, part_places};
+
+use crate::cursors::{Cursor, Next, Part};
+
+/// The place in a source where the element begins that gives the byte of this index; at the count of
+/// the bytes, the place of the last closing quote. There is none for a greater index, and where the
+/// text is no source.
+pub fn source_offset(source: &[u8], index: u64) -> Option<u64>
+    ensures { MatchOption result (HasNoPlace source.now index) (IsPlaceOf source.now index) }
+{
+    let mut cursor = Cursor::new();
+    let mut left = index;
+    loop {
+        match cursor.next_part(source) {
+            Next::Given(part) => match place_in(part, left) {
+                Some(at) => return if_whole(cursor, source, at),
+                None => left -= len_of(part),
+            },
+            Next::End(close) => return last_place(close, left),
+            Next::Stop(_) => return None,
+        }
+    }
+}
+
+// The place of a byte of a part.
+fn place_in(part: Part, index: u64) -> Option<u64>
+    requires { IsWithin part usize.MAX }
+    ensures { result ≡ slice_get (part_places part.entry) index }
+{
+    if index >= len_of(part) {
+        return None;
+    }
+    match part {
+        Part::Run(_, at) => Some(at as u64 + index),
+        Part::Byte(_, at) => Some(at as u64),
+    }
+}
+
+fn len_of(part: Part) -> u64
+    ensures { result ≡ length (part_places part.entry) }
+{
+    match part {
+        Part::Run(run, _) => run.len() as u64,
+        Part::Byte(_, _) => 1,
+    }
+}
+
+// Behind the bytes stands the closing quote.
+fn last_place(close: usize, index: u64) -> Option<u64>
+    ensures { MatchOption result (0 < index) (λ at. (index ≡ 0) × (at ≡ close)) }
+{
+    if index == 0 {
+        return Some(close as u64);
+    }
+    None
+}
+
+// The place, if the rest of the text is not refused.
+fn if_whole(cursor: Cursor, source: &[u8], at: u64) -> Option<u64>
+    ensures { IsThere source.now cursor at result }
+{
+    match cursor.refusal(source) {
+        Some(_) => None,
+        None => Some(at),
+    }
+}

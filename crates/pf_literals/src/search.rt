@@ -1,0 +1,135 @@
+//! The search for the end of a run of bytes that stand for themselves.
+ghost use Rattle.std.specs.Prelude.{◌≡◌, ◌+◌, ◌-◌, ◌<◌, ◌≤◌, true, length, slice_index, take, IsTrue};
+ghost use Rattle.pf_literals.specs.Runs.{IsRun, StandsRun, is_special};
+
+use std::simd::prelude::*;
+
+const LANES: usize = 16;
+
+// How many bytes the search goes on by, where there are so many.
+const BLOCK: usize = 64;
+
+/// How many bytes at the front of a text stand for themselves, in a literal and as it is encoded.
+#[inline(always)]
+pub(crate) fn run_len(text: &[u8]) -> usize
+    ensures within { result ≤ length text.now }
+    ensures run { IsRun (take result text.now) }
+    ensures ended { result < length text.now → is_special (slice_index text.now result) ≡ true }
+{
+    if text.is_empty() {
+        return 0;
+    }
+    if is_special(text[0]) {
+        return 0;
+    }
+    search(text)
+}
+
+// The same. It is never inlined, so that the search stands in the program once.
+#[inline(never)]
+fn search(text: &[u8]) -> usize
+    ensures within { result ≤ length text.now }
+    ensures run { IsRun (take result text.now) }
+    ensures ended { result < length text.now → is_special (slice_index text.now result) ≡ true }
+{
+    if text.len() < LANES {
+        return run_by_one(text);
+    }
+    let mut at = 0;
+    while text.len() - at >= BLOCK {
+        if !is_run(text, at) {
+            return run_behind(text, at);
+        }
+        at += BLOCK;
+    }
+    run_behind(text, at)
+}
+
+// Of a text whose first bytes are a run.
+fn run_behind(text: &[u8], seen: usize) -> usize
+    requires room { LANES ≤ length text.now }
+    requires within { seen ≤ length text.now }
+    requires run { StandsRun text.now 0 seen }
+    ensures within { result ≤ length text.now }
+    ensures run { IsRun (take result text.now) }
+    ensures ended { result < length text.now → is_special (slice_index text.now result) ≡ true }
+{
+    let mut at = seen;
+    while text.len() - at >= LANES {
+        let run = run_at(text, at);
+        if run < LANES {
+            return at + run;
+        }
+        at += LANES;
+    }
+    run_at_end(text, at)
+}
+
+fn run_by_one(text: &[u8]) -> usize
+    ensures within { result ≤ length text.now }
+    ensures run { IsRun (take result text.now) }
+    ensures ended { result < length text.now → is_special (slice_index text.now result) ≡ true }
+{
+    let mut at = 0;
+    while at < text.len() {
+        if is_special(text[at]) {
+            return at;
+        }
+        at += 1;
+    }
+    at
+}
+
+#[inline(always)]
+fn is_special(byte: u8) -> bool
+    ensures { result ≡ is_special byte }
+{
+    byte < b' ' || byte == 127 || byte == b'"' || byte == b'\\' || byte == b'?'
+}
+
+// Of a text whose first bytes are a run, all but the last few: the last vector overlaps those.
+#[inline(always)]
+fn run_at_end(text: &[u8], seen: usize) -> usize
+    requires room { LANES ≤ length text.now }
+    requires few { length text.now - LANES ≤ seen }
+    requires run { StandsRun text.now 0 seen }
+    ensures within { result ≤ length text.now }
+    ensures run { IsRun (take result text.now) }
+    ensures ended { result < length text.now → is_special (slice_index text.now result) ≡ true }
+{
+    let at = text.len() - LANES;
+    at + run_at(text, at)
+}
+
+// Whether a block is a run, by the tests of `run_at`.
+#[inline(always)]
+fn is_run(text: &[u8], at: usize) -> bool
+    requires { at + BLOCK ≤ length text.now }
+    ensures { IsTrue result → StandsRun text.now at (at + BLOCK) }
+{
+    let bytes = u8x64::from_slice(&text[at..]);
+    let special = (bytes ^ u8x64::splat(2)).simd_lt(u8x64::splat(33))
+        | (bytes | u8x64::splat(64)).simd_eq(u8x64::splat(127))
+        | bytes.simd_eq(u8x64::splat(b'\\'));
+    special.to_bitmask() == 0
+}
+
+// How many bytes of a vector are of the run that begins it.
+#[inline(always)]
+fn run_at(text: &[u8], at: usize) -> usize
+    requires { at + LANES ≤ length text.now }
+    ensures few { result ≤ LANES }
+    ensures run { StandsRun text.now at (at + result) }
+    ensures ended { result < LANES → is_special (slice_index text.now (at + result)) ≡ true }
+{
+    let bytes = u8x16::from_slice(&text[at..]);
+    // Of 0 to 31 and `"` alone the first is below 33, and of `?` and 127 alone the second is 127.
+    let special = (bytes ^ u8x16::splat(2)).simd_lt(u8x16::splat(33))
+        | (bytes | u8x16::splat(64)).simd_eq(u8x16::splat(127))
+        | bytes.simd_eq(u8x16::splat(b'\\'));
+    let places = special.to_bitmask();
+    if places == 0 {
+        return LANES;
+    }
+    places.trailing_zeros() as usize
+}
