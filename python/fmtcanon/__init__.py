@@ -81,7 +81,7 @@ Format = Union[str, bytes, bytearray, memoryview]
 _Text = TypeVar("_Text", str, bytes)
 
 # The versions of the library that the module is for: any patch of this one.
-_VERSION = (0, 1)
+_VERSION = (0, 2)
 _NO_MEMORY = -100
 _LONGEST_NAME = 18
 

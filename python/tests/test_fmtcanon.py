@@ -128,7 +128,7 @@ class Calls(unittest.TestCase):
             fmtcanon.same("%d", "%d", Model.LP64)
 
     def test_version(self):
-        self.assertEqual(fmtcanon.version()[:2], (0, 1))
+        self.assertEqual(fmtcanon.version()[:2], (0, 2))
         self.assertEqual(fmtcanon.__version__, ".".join(map(str, fmtcanon.version())))
 
     def test_examples(self):
