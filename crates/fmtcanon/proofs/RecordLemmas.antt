@@ -1,5 +1,5 @@
 -- What a run over records has come to.
-use Rattle.std.proofs.Common.{◌≡◌, ◌∙◌, ℕ, ◌<◌, ◌++◌, [], ◌∷◌, List, Bool, true, false, append-nil, append_assoc, ap, refl, subst, sym, length, Result, Ok, Err}
+use Rattle.std.proofs.Common.{◌≡◌, ◌∙◌, ℕ, ◌<◌, ◌++◌, [], ◌∷◌, List, true, false, append-nil, append_assoc, ap, refl, subst, sym, length, Result, Ok, Err}
 use Rattle.std.specs.Prelude.{MatchResult, flat_map}
 use Rattle.std.proofs.lemmas.List.{flat_map_more}
 use Rattle.pf_values.specs.declared.counting.Counted.{Counted}
@@ -7,7 +7,7 @@ use Rattle.pf_values.specs.Counting.{Known, WritesAll, is_flushed}
 use Rattle.pf_values.specs.Text.{Text}
 use Rattle.fmtcanon.specs.Conversations.{Answers, HasCome, HasReplies, HasSaid, HasSaidFirst, HasStopped, IsAt, LeavesAtEnd, LeavesStopped, WritesReplies, first_of, waiting_of}
 use Rattle.fmtcanon.specs.Questions.{formats_wanted}
-use Rattle.fmtcanon.specs.Records.{AreReplies, IsReply, RepliesAll, RepliesFirst, Reply, bytes_of, greatest_of, last_record}
+use Rattle.fmtcanon.specs.Records.{AreReplies, IsReply, RepliesAll, RepliesFirst, Reply, last_record}
 use Rattle.fmtcanon.specs.declared.questions.RecordQuestion.{RecordQuestion}
 use Rattle.fmtcanon.specs.declared.records.Coming.{Coming}
 use Rattle.fmtcanon.specs.declared.records.Conversation.{Conversation}

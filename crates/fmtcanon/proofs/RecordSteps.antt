@@ -1,5 +1,5 @@
 -- One step of a run over records through a block.
-use Rattle.std.proofs.Common.{◌≡◌, ◌∙◌, ℕ, ◌+◌, ◌++◌, [], ◌∷◌, List, None, Some, append_assoc, ap, drop, refl, subst, sym, take}
+use Rattle.std.proofs.Common.{◌≡◌, ℕ, ◌+◌, ◌++◌, [], ◌∷◌, List, None, Some, append_assoc, drop, subst, sym, take}
 use Rattle.memchr.specs.Find.{IsFirstByte, is_byte}
 use Rattle.pf_values.specs.declared.counting.Counted.{Counted}
 use Rattle.pf_values.specs.Counting.{Known}

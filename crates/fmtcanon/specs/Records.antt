@@ -1,5 +1,5 @@
 -- Formats that come as records, their replies, and what a run over them leaves. This project's own.
-use Rattle.std.specs.Prelude.{◌≡◌, ◌≢◌, ℕ, ◌+◌, ◌-◌, ◌^◌, ◌<◌, ◌≤◌, List, [], ◌∷◌, ◌++◌, flat_map, length, max, min, take, None, Some, true, ◌⊎◌}
+use Rattle.std.specs.Prelude.{◌≡◌, ◌≢◌, ℕ, ◌+◌, ◌-◌, ◌^◌, ◌<◌, ◌≤◌, List, [], ◌∷◌, ◌++◌, flat_map, length, max, min, take, true, ◌⊎◌}
 use Rattle.std.specs.List.{AllByRecursion, fold}
 use Rattle.std.specs.Io.KnownBytes.{Consumes, IsAtEnd}
 use Rattle.pf_values.specs.declared.counting.Counted.{Counted}

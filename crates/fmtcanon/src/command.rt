@@ -41,7 +41,10 @@ fn definition_with<'a>(
         with_types,
         on_records(alloc, "canon", canon, texts::CANON, one),
     );
-    let with_show = joined(with_canon, on_records(alloc, "show", show, texts::SHOW, one));
+    let with_show = joined(
+        with_canon,
+        on_records(alloc, "show", show, texts::SHOW, one),
+    );
     let on_arguments = taking_arguments(
         alloc,
         on_format(alloc, "format", format, texts::FORMAT, one),

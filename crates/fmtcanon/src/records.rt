@@ -14,9 +14,8 @@ use crate::replies::Replies;
 use memchr::memchr;
 use pf_values::Counted;
 use std::alloc::{AllocError, Global};
-use std::io;
 use std::io::{Read, Write};
-use std::mem;
+use std::{io, mem};
 
 // How many bytes are read at a time.
 const BLOCK: usize = 65_536;
@@ -171,11 +170,7 @@ impl Conversation {
     }
 
     // The record is whole.
-    fn end_record<W: Write>(
-        &mut self,
-        alloc: Global,
-        writer: &mut Counted<W>,
-    ) -> Result<(), Stop>
+    fn end_record<W: Write>(&mut self, alloc: Global, writer: &mut Counted<W>) -> Result<(), Stop>
         ensures { (kind : RecordQuestion) (start : Counted W) (whole : List Text) (rest : Text)
             → IsAt kind W.contents self.old start writer.old whole rest
             → MatchResult result
@@ -281,11 +276,7 @@ impl Conversation {
 }
 
 // Adds the reply to a question.
-fn added(
-    alloc: Global,
-    question: Question<'_>,
-    replies: &mut Replies,
-) -> Result<bool, AllocError>
+fn added(alloc: Global, question: Question<'_>, replies: &mut Replies) -> Result<bool, AllocError>
     ensures { (kind : RecordQuestion) (formats : List Text) (sent : Text) (had : List Reply)
         → IsAbout question.entry kind formats → HasReplies replies.old sent had
         → Answers kind formats sent had replies.old replies.new result }

@@ -1,4 +1,4 @@
-use Rattle.std.proofs.Common.{◌≡◌, ◌∙◌, ◌++◌, ◌<◌, ℕ, [], arith, inl, inr, length, refl, rules, subst, take}
+use Rattle.std.proofs.Common.{◌≡◌, ◌∙◌, ◌++◌, ◌<◌, [], arith, inl, inr, length, refl, rules, subst, take}
 use Rattle.std.specs.Prelude.{true}
 use Rattle.std.proofs.KnownBytes.{Consumes-kept, Consumes-nil, Consumes-trans}
 use Rattle.pf_values.specs.Counting.{failures_after, failures_of}

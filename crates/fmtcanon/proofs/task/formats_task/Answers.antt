@@ -1,4 +1,4 @@
-use Rattle.std.proofs.Common.{◌≡◌, ◌≢◌, ◌∙◌, Bool, Option, codes, length, refl, subst, sym, true}
+use Rattle.std.proofs.Common.{◌≢◌, Bool, Option, codes, length, refl, subst, sym}
 use Rattle.std.specs.Prelude.{if◌then◌else◌}
 use Rattle.pf_values.specs.Text.{Text}
 use Rattle.fmtcanon.specs.Questions.{formats_wanted}

@@ -1,4 +1,4 @@
-use Rattle.std.proofs.Common.{◌++◌, [], refl, sym, subst}
+use Rattle.std.proofs.Common.{◌++◌, [], sym, subst}
 use Rattle.std.specs.Prelude.{MatchResult}
 use Rattle.fmtcanon.specs.Conversations.{HasStopped, IsAt}
 use Rattle.fmtcanon.proofs.RecordLemmas.{last_none, last_some}

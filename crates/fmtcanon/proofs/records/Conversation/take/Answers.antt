@@ -1,4 +1,4 @@
-use Rattle.std.proofs.Common.{◌≡◌, ◌+◌, ◌-◌, ◌++◌, None, Some, ap, arith, drop, length, length-drop, refl, subst, take}
+use Rattle.std.proofs.Common.{◌≡◌, ◌+◌, ◌-◌, ◌++◌, None, Some, ap, arith, drop, length-drop, refl, subst, take}
 use Rattle.std.proofs.lemmas.List.{take_rest}
 use Rattle.memchr.specs.Find.{IsFirstByte, is_byte}
 use Rattle.fmtcanon.specs.Conversations.{HasCome}
@@ -31,7 +31,7 @@ returns-in-Ok g c =
     let at = c.loop-len.at in
     let none = subst (λ t. IsFirstByte (is_byte 0) t None) (take_rest block at) c.in_default.ensures in
     λ kind start taken h. part_taken kind g.W.Write.contents c.loop-len.self start c.loop-len.writer taken block at (c.loop-len.invariant.at kind start taken h) none _ refl
-        (λ first rest come. subst (λ t. HasCome c.extend.new.self kind first (rest ++ t)) (take_rest block at) (c.in-Ok.ensures kind first rest come))
+    (λ first rest come. subst (λ t. HasCome c.extend.new.self kind first (rest ++ t)) (take_rest block at) (c.in-Ok.ensures kind first rest come))
 
 pub returns-in-Err-extend : goal.returns-in-Err-extend
 returns-in-Err-extend g c =

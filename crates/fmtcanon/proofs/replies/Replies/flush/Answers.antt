@@ -1,4 +1,3 @@
-use Rattle.std.proofs.Common.{rules}
 use Rattle.fmtcanon.proofs.ReplyLemmas.{said_unflushed}
 use Rattle.fmtcanon.proofs.replies.Replies.flush.Goals as goal
 
