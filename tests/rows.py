@@ -403,7 +403,7 @@ def compared(module, model, first, second):
     texts = [text.encode() for text in (first, second)]
     told, error = module._Comparison(), module._Error()
     sized = [part for text in texts for part in (text, len(text))]
-    call = module._library.fmtcanon_compare
+    call = module._library().fmtcanon_compare
     size = max(0, call(module.Model[model.upper()], *sized, None, 0, told, error))
     out = ctypes.create_string_buffer(size + 1)
     call(module.Model[model.upper()], *sized, out, len(out), told, error)
@@ -541,7 +541,7 @@ def called(module, row):
     words += [] if room is None else [out, room]
     words += [told] if call == "compare" else []
     words += [] if call in ("kind_name", "version") else [error]
-    result = getattr(module._library, f"fmtcanon_{call}")(*words)
+    result = getattr(module._library(), f"fmtcanon_{call}")(*words)
     return {
         "result": result,
         "out": out.raw[:len(row["out"])].decode("latin-1"),
