@@ -17,8 +17,8 @@ use std::alloc::{AllocError, Global};
 use std::io::{Read, Write};
 use std::{io, mem};
 
-// How many bytes are read at a time.
-const BLOCK: usize = 65_536;
+// How many bytes are read at a time. They lie on the stack, which can't grow where memory is used up.
+const BLOCK: usize = 8_192;
 
 // What has come of the next question: the first format, where two are wanted, and a part of a record.
 #[derive(Drop)]
@@ -47,6 +47,7 @@ enum Stop {
 
 /// Answers each record that the reader hands out, or each two of them, where two are wanted. Before
 /// each read all replies to records that are whole have been written and flushed.
+#[inline(never)]
 pub fn answer_records<R: Read, W: Write>(
     alloc: Global,
     kind: RecordQuestion,
