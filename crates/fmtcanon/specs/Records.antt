@@ -116,7 +116,7 @@ module _ (kind : RecordQuestion) {R W : Type 0} (remaining : R → Known) (conte
   ReadFails = HasFailed reader left ⊎ (max_count ≤ calls_of left)
 
   -- What a run over records leaves. At Read each whole record has its reply, but one that wants a
-  -- second. At Memory those before the record have theirs for which memory was refused.
+  -- second. At Memory the first of them have theirs: for which one it was wanted, this doesn't say.
   abbrev pub LeavesRecords : Outcome → Type 0
   LeavesRecords (Answered greatest) =
       (records : List Text) × TakesAll records × ReadWell

@@ -79,7 +79,7 @@ module _ {R W : Type 0} (remaining : R → Known) (contents : W → Known)
       LeavesCopy model remaining contents reader left old new outcome
 
   -- Usage is answered for words that are wrong, never for want of memory. For want of memory
-  -- nothing goes out, but answers to records before the one that it was wanted for.
+  -- nothing goes out, but replies to the first records, where the formats come so.
   abbrev pub Leaves : List Text → Outcome → Type 0
   Leaves words (Usage text) = AreWrong words × LeavesNothing reader left old new
   Leaves words Memory = LeavesNothing reader left old new

@@ -59,6 +59,7 @@ pub fn answer_records<R: Read, W: Write>(
 {
     let mut conversation = Conversation::new(alloc, kind);
     let mut block = [0u8; BLOCK];
+    // So many reads are never made. A reader may always have more, and each run returns.
     for _turn in 0..u64::MAX {
         if let Err(count) = conversation.flush(writer) {
             return Outcome::Write(count);
