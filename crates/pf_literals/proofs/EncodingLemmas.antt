@@ -1,9 +1,9 @@
 -- What is written of some bytes.
-use Rattle.std.proofs.Common.{◌≡◌, ℕ, ◌+◌, ◌<◌, ◌≤◌, Bool, true, false, [], ◌∷◌, ◌++◌, length, take, drop, refl, sym, ap, ◌∙◌, arith, length-append}
+use Rattle.std.proofs.Common.{◌≡◌, ℕ, ◌+◌, ◌<◌, ◌≤◌, Bool, true, false, [], ◌∷◌, ◌++◌, length, take, drop, refl, sym, ap, ◌∙◌, arith}
 use Rattle.std.specs.Prelude.{◌==◌, None}
 use Rattle.std.proofs.lemmas.Bool.{and_right}
 use Rattle.std.proofs.lemmas.Bool.Decides.{nat_tests}
-use Rattle.std.proofs.lemmas.List.{append-nil, append_assoc, drop-drop, drop_all, length-drop, length-take-le, take-append-drop}
+use Rattle.std.proofs.lemmas.List.{drop-drop, length-take-le, take-append-drop}
 use Rattle.pf_literals.specs.declared.fronts.Front.{Front}
 use Rattle.pf_literals.specs.Elements.{Bytes, Plain, quote, written}
 use Rattle.pf_literals.specs.Encoding.{element_for, encoding, is_printed, simple_letter, spelled}
@@ -48,27 +48,6 @@ module _ (t : Bytes) (at : ℕ) (after : Bool) (front : Front) (is : IsFront aft
 
   pub written_there : spelled after (drop at t) ≡ front_text front ++ spelled (ends_in_question front) (drop (at + taken_by front) t)
   written_there = is.text ∙ ap (λ r. front_text front ++ spelled (ends_in_question front) r) (drop-drop (taken_by front) at t)
-
-  pub within_there : at ≤ length t → at + taken_by front ≤ length t
-  within_there few = let long = length-drop at t in let part = is.within in omega (arith, long, part, few)
-
-  pub longer_there : (len whole : ℕ) → len + length (spelled after (drop at t)) ≡ whole
-      → len + length (front_text front) + length (spelled (ends_in_question front) (drop (at + taken_by front) t)) ≡ whole
-  longer_there len whole e =
-      let both = ap length written_there in
-      let long = length-append (front_text front) (spelled (ends_in_question front) (drop (at + taken_by front) t)) in
-      omega (arith, both, long, e)
-
-  pub appended_there : (out whole : Bytes) → out ++ spelled after (drop at t) ≡ whole → out ++ front_text front ++ spelled (ends_in_question front) (drop (at + taken_by front) t) ≡ whole
-  appended_there out whole e =
-      append_assoc out (front_text front) (spelled (ends_in_question front) (drop (at + taken_by front) t)) ∙ ap (λ r. out ++ r) (sym written_there) ∙ e
-
--- nothing is left at the end
-pub ended_len : (t : Bytes) (at : ℕ) (after : Bool) (len whole : ℕ) → length t ≤ at → len + length (spelled after (drop at t)) ≡ whole → len ≡ whole
-ended_len t at after len whole all e = let none = ap (λ r. length (spelled after r)) (drop_all at t all) in omega (arith, none, e)
-
-pub ended_text : (t : Bytes) (at : ℕ) (after : Bool) (out whole : Bytes) → length t ≤ at → out ++ spelled after (drop at t) ≡ whole → out ≡ whole
-ended_text t at after out whole all e = sym (append-nil out) ∙ ap (λ r. out ++ spelled after r) (sym (drop_all at t all)) ∙ e
 
 -- a run at the front, and what is behind it
 pub encoded_run : (t : Bytes) (run : ℕ) → run ≤ length t → IsRun (take run t) → spelled false t ≡ take run t ++ spelled false (drop run t)

@@ -3,7 +3,7 @@ use Rattle.std.proofs.Common.{◌≡◌, ◌≢◌, ℕ, suc, ◌+◌, ◌*◌, 
 use Rattle.std.specs.Prelude.{◌==◌, not, nat_lt}
 use Rattle.std.specs.List.{AllByRecursion}
 use Rattle.std.proofs.lemmas.Bool.{and_from, and_left, and_right, cases_lt, not_from_false, not_from_true}
-use Rattle.std.proofs.lemmas.List.{drop_all, drop_more}
+use Rattle.std.proofs.lemmas.List.{drop_more}
 use Rattle.std.proofs.lemmas.Bool.Decides.{nat_tests}
 use Rattle.pf_literals.specs.declared.kinds.LiteralKind.TheVariants.{EscapeTooLarge}
 use Rattle.pf_literals.specs.declared.notations.Notation.{Notation}
@@ -107,15 +107,9 @@ module _ (notation : Notation) where
       go [] = end_full count number full
       go (byte ∷ rest) = numeric-off (byte ∷ rest) count number (and_left (not (is_full notation count)) (is_digit notation byte) (not_from_true _ full)) (cons_some byte rest)
 
-    pub stops_at_end : length text ≤ count → numeric notation 0 0 text ≡ at_end notation count number
-    stops_at_end all = so_far ∙ ap (numeric notation count number) (drop_all count text all)
-
     module _ (less : count < length text) where
       next_is : numeric notation 0 0 text ≡ numeric notation count number (get_or text count 0 ∷ drop (count + 1) text)
       next_is = so_far ∙ ap (numeric notation count number) (drop_more text count 0 less)
-
-      pub stops_off : is_digit notation (get_or text count 0) ≡ false → numeric notation 0 0 text ≡ settled notation count number
-      stops_off none = next_is ∙ numeric-off _ count number (and_right (not (is_full notation count)) (is_digit notation (get_or text count 0)) none) (cons_some _ _)
 
       module _ (room : is_full notation count ≡ false) (digit : is_digit notation (get_or text count 0) ≡ true) where
         pub stops_large : 255 < base notation * number + digit_value (get_or text count 0) → numeric notation 0 0 text ≡ Stops EscapeTooLarge 0
@@ -123,7 +117,3 @@ module _ (notation : Notation) where
             let on = goes count (get_or text count 0) (drop (count + 1) text) room digit in
             let over = large (base notation * number + digit_value (get_or text count 0)) many in
             next_is ∙ rw (on, over) refl
-
-        pub goes_further : base notation * number + digit_value (get_or text count 0) ≤ 255
-            → numeric notation 0 0 text ≡ numeric notation (count + 1) (base notation * number + digit_value (get_or text count 0)) (drop (count + 1) text)
-        goes_further few = next_is ∙ numeric-one count number (get_or text count 0) (drop (count + 1) text) (goes count (get_or text count 0) (drop (count + 1) text) room digit) few
