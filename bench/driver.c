@@ -15,6 +15,8 @@
 bool bench_check(const char *text, size_t len);
 uint64_t bench_pieces(const char *text, size_t len);
 uint64_t bench_signature(const char *text, size_t len);
+uint64_t bench_arguments(const char *text, size_t len);
+bool bench_fits(const char *first, size_t first_len, const char *second, size_t second_len);
 uint64_t bench_canonical(const char *text, size_t len);
 bool bench_is_canonical(const char *text, size_t len);
 uint64_t bench_canonical_len(const char *text, size_t len);
@@ -34,6 +36,7 @@ static uint64_t call_check(const char *text, size_t len) { return bench_check(te
 static uint64_t call_is_canonical(const char *text, size_t len) { return bench_is_canonical(text, len); }
 
 /* The text beside itself, and beside one that differs at once. */
+static uint64_t call_fits(const char *text, size_t len) { return bench_fits(text, len, text, len); }
 static uint64_t call_same(const char *text, size_t len) { return bench_same_text(text, len, text, len); }
 static uint64_t call_other(const char *text, size_t len) { return bench_same_text(text, len, "\t", 1); }
 
@@ -108,6 +111,8 @@ static const struct {
     {"check", call_check},
     {"Pieces", bench_pieces},
     {"signature", bench_signature},
+    {"arguments", bench_arguments},
+    {"fits", call_fits},
     {"canonical", bench_canonical},
     {"is_canonical", call_is_canonical},
     {"canonical_len", bench_canonical_len},

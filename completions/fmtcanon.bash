@@ -11,11 +11,11 @@ _fmtcanon() {
     local word=${COMP_WORDS[COMP_CWORD]} before=${COMP_WORDS[COMP_CWORD - 1]} command=${COMP_WORDS[1]} at
     COMPREPLY=()
     if ((COMP_CWORD == 1)); then
-        mapfile -t COMPREPLY < <(compgen -W 'types canon show format same stream -h --help -V --version' -- "$word")
+        mapfile -t COMPREPLY < <(compgen -W 'types canon show format same fits stream -h --help -V --version' -- "$word")
         return
     fi
     case $command in
-        types | canon | show | format | same | stream) ;;
+        types | canon | show | format | same | fits | stream) ;;
         *) return ;;
     esac
     # What stands after -- is a format or an argument, and nothing of it is known.
@@ -30,9 +30,11 @@ _fmtcanon() {
     elif [[ $word == --model=* ]]; then
         _fmtcanon_models "$command" "${word#*=}" --model=
     elif [[ $word == -* ]]; then
-        local null=' -z --null'
-        [[ $command == format || $command == stream ]] && null=''
-        mapfile -t COMPREPLY < <(compgen -W "--model$null -h --help" -- "$word")
+        local more=' --literal -z --null'
+        [[ $command == types ]] && more=' --literal -z --null --whole'
+        [[ $command == format ]] && more=' --literal'
+        [[ $command == stream ]] && more=''
+        mapfile -t COMPREPLY < <(compgen -W "--model$more -h --help" -- "$word")
     elif [[ $command == format ]] && ((COMP_CWORD > 2)); then
         mapfile -t COMPREPLY < <(compgen -W 'n: s:' -- "$word")
         # The value follows at once.

@@ -8,8 +8,8 @@
  * LLP64 `%llu`. `model` is an enum fmtcanon_model, that of the machine on which the format is to be
  * used, whatever the library runs on. Which formats are accepted is the same in all.
  *
- * Results. Below zero is an error: -1 to -18 where a format is refused, and then `*error` says
- * why, where, and which format; FMTCANON_ERROR_NOMEMORY; or FMTCANON_ERROR_MODEL, which is the only
+ * Results. Below zero is an error: -1 to -22 where a format is refused, -201 to -206 where string
+ * literals are, and then `*error` says why, where, and which format; FMTCANON_ERROR_NOMEMORY; or FMTCANON_ERROR_MODEL, which is the only
  * answer to a `model` that is none, and then nothing is written. Anything else is the answer.
  * Only a refusal changes `*error`.
  *
@@ -48,6 +48,9 @@ extern "C" {
 /* The caller's `model` is no enum fmtcanon_model. */
 #define FMTCANON_ERROR_MODEL (-101)
 
+/* There is no such byte, or the text is no source. */
+#define FMTCANON_ERROR_NOPLACE (-102)
+
 /* How many bits the integer types have, and which types the length modifiers name. */
 enum fmtcanon_model {
     FMTCANON_LP64 = 0, /* `long` has 64 bits, as have `z`, `t` and `j`, which are `l` */
@@ -85,7 +88,22 @@ enum fmtcanon_kind {
     FMTCANON_GROUP_UNDEFINED = 15,     /* `'` with one of `o x X b c s` */
     FMTCANON_PRECISION_UNDEFINED = 16, /* a precision with `c` */
     FMTCANON_LENGTH_UNDEFINED = 17,    /* a length modifier other than `l`, with `c s` */
-    FMTCANON_TOO_LONG = 18             /* more than 2^62 bytes */
+    FMTCANON_TOO_LONG = 18,            /* more than 2^62 bytes */
+    /* These are for the whole language alone, which knows no 5, 6 and 9 to 12. */
+    FMTCANON_COUNT_UNDEFINED = 19,     /* `%n` with a flag, a width or a precision */
+    FMTCANON_MIXED = 20,               /* numbered arguments and others in one format */
+    FMTCANON_MISSING_ARGUMENT = 21,    /* a numbered argument isn't used, and a later one is */
+    FMTCANON_TWO_TYPES = 22            /* one argument with two types */
+};
+
+/* Why a text is no source of string literals, told in the same way. */
+enum fmtcanon_literal_kind {
+    FMTCANON_NO_LITERAL = 201,       /* a byte outside of a literal that is no white space, or no literal */
+    FMTCANON_UNTERMINATED = 202,     /* a line, or the text, ends in a literal */
+    FMTCANON_BAD_ESCAPE = 203,       /* `\` and what it makes no escape sequence with */
+    FMTCANON_ESCAPE_TOO_LARGE = 204, /* a number above 255 */
+    FMTCANON_ZERO_BYTE = 205,        /* a zero byte, as such or by its number: a C string would end */
+    FMTCANON_TRIGRAPH = 206          /* `??` and a third byte that compilers read in two ways */
 };
 
 /* The type of an argument after the default promotions. */
@@ -96,7 +114,18 @@ enum fmtcanon_type {
     FMTCANON_ULONG = 4,
     FMTCANON_LONG_LONG = 5,
     FMTCANON_ULONG_LONG = 6,
-    FMTCANON_STRING = 7
+    FMTCANON_STRING = 7,
+    /* These are for the whole language alone. */
+    FMTCANON_DOUBLE = 8,
+    FMTCANON_LONG_DOUBLE = 9,
+    FMTCANON_WIDE_CHAR = 10,
+    FMTCANON_WIDE_STRING = 11,
+    FMTCANON_POINTER_TO_VOID = 12,
+    FMTCANON_POINTER_TO_SCHAR = 13,
+    FMTCANON_POINTER_TO_SHORT = 14,
+    FMTCANON_POINTER_TO_INT = 15,
+    FMTCANON_POINTER_TO_LONG = 16,
+    FMTCANON_POINTER_TO_LONG_LONG = 17
 };
 
 /* What two formats are to each other. */
@@ -109,7 +138,7 @@ enum fmtcanon_verdict {
 /* Why and where a format is refused. */
 typedef struct fmtcanon_error {
     uint64_t at;   /* the byte, counted from 0; the length of a text that ends too early */
-    uint32_t kind; /* an enum fmtcanon_kind */
+    uint32_t kind; /* an enum fmtcanon_kind, or an enum fmtcanon_literal_kind */
     uint32_t side; /* which format: 0 for the first or only one, 1 for the second */
 } fmtcanon_error;
 
@@ -163,6 +192,36 @@ int64_t fmtcanon_same_models(const char *first, size_t first_len, const char *se
 int64_t fmtcanon_compare(int model, const char *first, size_t first_len, const char *second,
                          size_t second_len, char *out, size_t cap,
                          fmtcanon_comparison *comparison, fmtcanon_error *error);
+
+/* How many arguments the format takes, which may be of the whole language of POSIX `fprintf`: numbered
+ * arguments, `*`, floating and wide conversions, `%p` and `%n`, which the calls above refuse. The type of
+ * each, an enum fmtcanon_type in one byte, is put into `out`. Takes memory of one byte an argument. */
+int64_t fmtcanon_arguments(int model, const char *text, size_t len, unsigned char *out, size_t cap,
+                           fmtcanon_error *error);
+
+/* 1 where the second format takes arguments of just the types of the first, 0 where it doesn't; both may
+ * be of the whole language. It is the question to ask of a translation. Takes no memory. */
+int64_t fmtcanon_fits(int model, const char *first, size_t first_len, const char *second,
+                      size_t second_len, fmtcanon_error *error);
+
+/* The number of bytes that a source stands for, which are put into `out` with a zero after them. A
+ * source is one or more string literals of C with white space or none before, between and behind
+ * them, as `"Total:\t%i" "\n"`, quotes and all (C11 6.4.5). There is room where the number is below
+ * `cap`; it is at most `len`. Takes memory of the length of the source. */
+int64_t fmtcanon_decode_literal(const char *source, size_t len, char *out, size_t cap,
+                                fmtcanon_error *error);
+
+/* The length of the one string literal of some bytes, quotes and all, which is put into `out` with a
+ * zero after it. There is room where the length is below `cap`; it is at most 4 `len` + 2. A zero
+ * byte is written as `\000`, which is no source. Takes memory of that length. */
+int64_t fmtcanon_encode_literal(const char *text, size_t len, char *out, size_t cap);
+
+/* The place in a source where the byte of this index comes from: where the character or the escape
+ * sequence begins that stands for it; at the number of the bytes, the last closing quote. So a
+ * refusal of the bytes at `error.at` is a refusal of the source at
+ * fmtcanon_source_offset(source, len, error.at). FMTCANON_ERROR_NOPLACE where there is no such byte,
+ * and where the text is no source. Takes no memory. */
+int64_t fmtcanon_source_offset(const char *source, size_t len, uint64_t index);
 
 /* The length of the name of a kind, as `Star`, which is put into `out` with a zero after it; 0 for
  * a number that is no kind's. No name is longer than 18 bytes. Takes no memory. */

@@ -14,6 +14,8 @@ from pathlib import Path
 sys.dont_write_bytecode = True
 sys.path.insert(0, str(Path(__file__).resolve().parent))
 
+import arguments  # noqa: E402
+import literals  # noqa: E402
 import turned  # noqa: E402
 from harness import TOP, Trials, fences, model_rows, usage_texts  # noqa: E402
 
@@ -90,13 +92,24 @@ def told_counts():
     longest = max(sum(times for _, times in parts) for row in data_rows("long_comparisons.jsonl") for parts in row[:2])
     yield r"formats of up to (\d+) directives", [longest]
     yield r"of the version and of (\d+) faults", [sum("error:" in text for _, text in usage_texts())]
+    given = data_rows("literals.jsonl")
+    yield r"(\d+) rows of `tests/rows/literals.jsonl`, (\d+) of them", [len(given), len(given) - HAND_LITERALS]
+    count = literals.COUNT
+    yield r"(\d+) sources, with each byte .* and (\d+) made by a fixed generator", [sum(1 for _ in literals.sources()), count]
+    yield r"(\d+) texts with all bytes", [sum(1 for _ in literals.texts())]
+    yield r"(\d+) formats of `tests/arguments.py`", [sum(1 for _ in arguments.formats())]
+    yield r"(\d+) arguments in reverse, and texts of (\d+) million bytes", [arguments.GREATEST, arguments.MANY // 1_000_000]
+    whole = data_rows("whole.jsonl")
+    yield r"(\d+) rows of `tests/rows/whole.jsonl`, (\d+) of them", [len(whole), len(whole) - HAND_WHOLE]
     records = data_rows("records.jsonl")
     yield r"(\d+) rows of `tests/rows/records.jsonl`, (\d+) of them", [len(records), len(records) - HAND_RECORDS]
     yield r"(\d+) runs worked out by hand, (\d+) worked reductions and (\d+) calls", [data_count(name) for name in ["commands.jsonl", "reduced.txt", "calls.jsonl"]]
 
 
-# The rows of records that were worked out by hand, which come first.
+# The rows that were worked out by hand, which come first.
 HAND_RECORDS = 11
+HAND_LITERALS = 27
+HAND_WHOLE = 29
 # Numbers of docs/TESTED.md that count no rows, tests or wrong bodies.
 PLAIN_NUMBERS = [
     r"each of the 256 bytes after 7 beginnings", r"16 shapes", r"take 1, 2, 3 or 7 bytes a call and then fail in one of 5 ways", r"40000 arguments",
@@ -173,8 +186,8 @@ def try_names(trials):
     foreign = set(FOREIGN_NAMES)
     for document, text in documents():
         prose = re.sub(r"^(```.*?^```|    .*?)$", "", text, flags=re.DOTALL | re.MULTILINE)
-        # A span with a percent sign is a format, or has one.
-        spans = [span for span in re.findall(r"`([^`\n]+)`", prose) if "%" not in span]
+        # A span with a percent sign is a format, or has one; one in quotes is a string literal.
+        spans = [span for span in re.findall(r"`([^`\n]+)`", prose) if "%" not in span and not span.startswith('"')]
         names = {name for span in spans for name in re.findall(r"\b[A-Za-z_]\w\w+", span)}
         # A block has words of English, too.
         blocks = " ".join(re.sub(r'"[^"\n]*"|//[^\n]*', "", block) for _, block in fences(text))

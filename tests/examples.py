@@ -74,8 +74,8 @@ def try_page(program, trials):
     wider = re.search(r"possible values: .*(?=\])", model_option(helps["same"])[1]).group()
     # One command takes more values than the others.
     model = [(name, text[:-1] + wider.replace("possible values", "; under same") + "]")]
-    null = [option for option in helps["canon"]["Options"] if "--null" in option[0]]
-    trials.expect("options of the manual page", list(page_section(page, "OPTIONS")), model + null + top["Options"])
+    given = [option for option in helps["types"]["Options"] if re.search("--(literal|null|whole)", option[0])]
+    trials.expect("options of the manual page", list(page_section(page, "OPTIONS")), model + given + top["Options"])
     trials.expect("statuses of the manual page", list(page_section(page, "EXIT STATUS")), top["Exit status"])
     examples = {example for one in [top, *helps.values()] for example in one["Example"]}
     trials.expect("examples of the manual page", {line for line in plain_lines(page, "EXAMPLES") if line}, examples)

@@ -34,6 +34,7 @@ PARAMETERS = {
     "&mut CError": ["fmtcanon_error *"],
     "&mut CComparison": ["fmtcanon_comparison *"],
     "u32": ["uint32_t"],
+    "u64": ["uint64_t"],
     "i32": ["int"],
     "Global": [],
 }
@@ -85,9 +86,20 @@ def try_header(trials):
     plain = {name: (result, [kind.replace("unsigned ", "") for kind in kinds]) for name, (result, kinds) in calls.items()}
     trials.expect("functions of the header", plain, dict(source_calls()))
     kinds = source_numbers("pf_values/src/refusals.rt", r"RefusalKind::(\w+) => (\d+),", {})
-    trials.expect("kinds of refusals", header_numbers("fmtcanon_kind"), kinds)
+    whole = source_numbers("pf_signatures/src/kinds.rt", r"SignatureRefusalKind::(\w+) => (\d+),", {})
+    trials.expect("kinds that both languages have", {name: kinds[name] for name in whole if name in kinds}, {name: whole[name] for name in whole if name in kinds})
+    trials.expect("kinds of refusals", header_numbers("fmtcanon_kind"), {**kinds, **whole})
+    text = (SOURCES / "errors.rt").read_text(encoding="utf-8")
+    front = int(re.search(r"LITERAL_KINDS: u32 = (\d+);", text).group(1))
+    kinds = source_numbers("pf_literals/src/kinds.rt", r"LiteralKind::(\w+) => (\d+),", {})
+    wanted = {name: front + number for name, number in kinds.items()}
+    trials.expect("kinds of faults of literals", header_numbers("fmtcanon_literal_kind"), wanted)
     names = {"UInt": "UINT", "ULong": "ULONG", "ULongLong": "ULONG_LONG", "Str": "STRING"}
     types = source_numbers("fmtcanon_c/src/types.rt", r"ArgType::(\w+) => (\d+),", names)
+    names = {**names, "PointerToSChar": "POINTER_TO_SCHAR", "Pointer": "POINTER_TO_VOID"}
+    whole = source_numbers("pf_signatures/src/types.rt", r"ArgumentType::(\w+) => (\d+),", names)
+    trials.expect("types that both languages have", {name: whole[name] for name in types}, types)
+    types = whole
     trials.expect("types", header_numbers("fmtcanon_type"), types)
     # The number of a data model is its place in the list of all.
     text = (TOP / "crates/pf_values/src/models.rt").read_text(encoding="utf-8")
@@ -107,7 +119,7 @@ def try_header(trials):
         trials.expect(f"fields of {name}", re.findall(r"(\w+) (\w+);", told), wanted)
     told = dict(re.findall(r"FMTCANON_ERROR_(\w+) \((-\d+)\)", header_text()))
     code = dict(re.findall(r"NO_(\w+): i64 = (-\d+);", (SOURCES / "errors.rt").read_text(encoding="utf-8")))
-    trials.expect("errors that are no refusal", told, {"NOMEMORY": code["MEMORY"], "MODEL": code["MODEL"]})
+    trials.expect("errors that are no refusal", told, {"NOMEMORY": code["MEMORY"], "MODEL": code["MODEL"], "NOPLACE": code["PLACE"]})
     version = ".".join(re.findall(r"FMTCANON_VERSION_\w+ (\d+)", header_text()))
     told = re.search(r"^## (\S+),", (TOP / "CHANGELOG.md").read_text(encoding="utf-8"), flags=re.MULTILINE).group(1)
     trials.expect("the version of the header", version, told)

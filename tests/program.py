@@ -54,14 +54,51 @@ def try_usage(program, trials):
     for words, text in usage_texts():
         found += 1
         trials.expect(f"usage of {words}", run(program, words), (3, b"", text.encode()))
-    trials.expect("texts of usage", found, 19)
+    trials.expect("texts of usage", found, 20)
     told = re.search(r"^## (\S+),", (TOP / "CHANGELOG.md").read_text(encoding="utf-8"), flags=re.MULTILINE)
     trials.expect("the version at the top of CHANGELOG.md", run(program, ["--version"])[2].decode(), f"fmtcanon {told and told.group(1)}\n")
 
 
+WHOLE = "## In the whole language\n"
+LITERALS = "## String literals\n"
+LITERAL_KINDS = ["NoLiteral", "Unterminated", "BadEscape", "EscapeTooLarge", "ZeroByte", "Trigraph"]
+
+
+def literal_rows():
+    """The rows of REFUSALS.md on string literals: the literal, the number and the place of its fault, and what to write instead."""
+    part = (TOP / "docs/REFUSALS.md").read_text(encoding="utf-8").split(LITERALS)[1]
+    return re.findall(r"^\| `(.+?)` \| (\d) at (\d+) \| `(.+?)` \|", part, flags=re.MULTILINE)
+
+
+def try_literals(program, trials):
+    """Each row of REFUSALS.md on string literals is told so, and the one to write instead is accepted."""
+    rows = literal_rows()
+    trials.expect("kinds of faults of literals in REFUSALS.md", sorted({int(row[1]) for row in rows}), list(range(1, 7)))
+    for literal, number, at, instead in rows:
+        line = f"literal {number} {LITERAL_KINDS[int(number) - 1]} at byte {at}\n".encode()
+        trials.expect(f"canon --literal {literal}", run(program, ["canon", "--literal", "--", literal]), (2, b"", line))
+        status, _, stderr = run(program, ["canon", "--literal", "--", instead])
+        trials.expect(f"{instead} is accepted, in the place of {literal}", (status, stderr), (0, b""))
+
+
+def try_whole(program, trials):
+    """Each row of REFUSALS.md on the whole language is refused there, and the one to write instead is accepted."""
+    part = (TOP / "docs/REFUSALS.md").read_text(encoding="utf-8").split(WHOLE)[1].split(LITERALS)[0]
+    rows = re.findall(r"^\| `(.+?)` \| (\d+) at (\d+) \| `(.+?)` \|", part, flags=re.MULTILINE)
+    kinds = {int(number) for _, number, _, _ in rows}
+    trials.expect("kinds of the whole language alone in REFUSALS.md", kinds >= {19, 20, 21, 22}, True)
+    for format, number, at, instead in rows:
+        status, stdout, stderr = run(program, ["types", "--whole", "--", format])
+        told = re.fullmatch(rb"refused (\d+) \w+ at byte (\d+)\n", stderr)
+        trials.expect(f"types --whole {format}", (status, stdout, told and told.groups()), (2, b"", (number.encode(), at.encode())))
+        status, _, stderr = run(program, ["types", "--whole", "--", instead])
+        trials.expect(f"{instead} is accepted, in the place of {format}", (status, stderr), (0, b""))
+
+
 def refusal_rows():
     """The rows of REFUSALS.md: the format, the number and the place of its refusal, and the format to write instead."""
-    for line in (TOP / "docs/REFUSALS.md").read_text(encoding="utf-8").splitlines():
+    text = (TOP / "docs/REFUSALS.md").read_text(encoding="utf-8").split(WHOLE)[0]
+    for line in text.splitlines():
         if not line.startswith("| ") or line.startswith(("| Format ", "| No. ")):
             continue
         kind, row = re.search(r"^\| (\d+) \| (\w+) \|", line), re.search(r" `([^`]+)` \| (\d+) at (\d+) \| `([^`]+)` \|", line)
@@ -160,6 +197,8 @@ def main():
     try_examples(program, trials)
     try_usage(program, trials)
     try_refusals(program, trials)
+    try_whole(program, trials)
+    try_literals(program, trials)
     try_words(program, trials)
     try_sizes(program, trials)
     try_devices(program, trials)

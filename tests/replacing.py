@@ -54,7 +54,7 @@ SOURCES = [
     (["a%i", "a%d"], 'printf("\\x61" "%i", n);', "a.c:1: replaced\n", 'printf("a%d", n);'),
     (['\\"%i\\\\', '\\"%d\\\\'], 'printf("\\"%i\\\\", n);', "a.c:1: replaced\n", 'printf("\\"%d\\\\", n);'),
     (["%i??\\?", "%d??\\?"], 'printf("%i?\\??", n);', "a.c:1: replaced\n", 'printf("%d?\\?\\?", n);'),
-    (["\\303\\251%i", "\\303\\251%d"], 'printf("\u00e9%i", n);', "a.c:1: replaced\n", 'printf("\\303\\251%d", n);'),
+    (["\\303\\251%i", "\\303\\251%d"], 'printf("\u00e9%i", n);', "a.c:1: replaced\n", 'printf("\u00e9%d", n);'),
     (["%5c", "    %c"], 'printf ("%5c", n);', "a.c:1: replaced\n", 'printf ("    %c", n);'),
     (["--function", "tell:1", "%i", "%d"], 'tell(f(a, b), "%i");', "a.c:1: replaced\n", 'tell(f(a, b), "%d");'),
     # The two don't mean the same.

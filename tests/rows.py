@@ -75,9 +75,9 @@ def try_commands(program, trials):
         trials.expect(row["words"], run(program, row["words"]), wanted)
 
 
-def try_records(program, trials):
-    """Runs over records answer each with its status, and end with the greatest."""
-    for row in rows_of("records.jsonl"):
+def try_streams(program, trials, name):
+    """Runs over words and over records, by all that they leave."""
+    for row in rows_of(name):
         status, stdout, stderr = run(program, row["words"], row.get("stdin", "").encode("latin-1"))
         wanted_err = stderr if row["stderr"] is None else row["stderr"].encode()
         trials.expect(row["words"], (status, stdout, stderr), (row["status"], row["stdout"].encode("latin-1"), wanted_err))
@@ -568,7 +568,9 @@ def main():
     program, folder = os.path.abspath(sys.argv[1]), Path(sys.argv[2]).resolve()
     module, trials = load_module(program, folder), Trials()
     try_commands(program, trials)
-    try_records(program, trials)
+    try_streams(program, trials, "records.jsonl")
+    try_streams(program, trials, "literals.jsonl")
+    try_streams(program, trials, "whole.jsonl")
     try_usages(program, trials)
     try_refused(program, module, trials)
     try_bytes(program, module, trials)

@@ -19,7 +19,7 @@ CHECKED = [
     ("right.po", 0, "2 messages judged, 0 not judged\n"),
     ("empty.po", 0, "0 messages judged, 0 not judged\n"),
     ("singular.po", 1, """\
-singular.po:9: warning: 'msgid' isn't checked: refused 6 Numbered at byte 14 ["one file in %2$s"]
+singular.po:9: warning: 'msgid' isn't checked: refused 21 MissingArgument at byte 16 ["one file in %2$s"]
 singular.po:15: number of format specifications in 'msgid_plural' and 'msgstr[1]' does not match: 1 and 0 ["one file"]
 1 messages judged, 1 not judged
 found 1 fatal error
@@ -29,10 +29,20 @@ wrong.po:7: format specifications in 'msgid' and 'msgstr' for argument 1 are not
 wrong.po:11: format specifications in 'msgid' and 'msgstr' for argument 1 are not the same: int and long ["%d items"]
 wrong.po:15: number of format specifications in 'msgid' and 'msgstr' does not match: 2 and 1 ["%d of %d"]
 wrong.po:19: 'msgstr' is not a valid C format string, unlike 'msgid'. Reason: refused 2 Truncated at byte 3 ["%d%%"]
-wrong.po:23: warning: 'msgstr' isn't checked, since 'msgid' is refused 9 Float at byte 10 ["%s is %5.1f"]
-wrong.po:27: warning: 'msgstr' isn't checked: refused 6 Numbered at byte 2 ["%s in %s"]
-4 messages judged, 2 not judged
-found 4 fatal errors
+wrong.po:23: format specifications in 'msgid' and 'msgstr' for argument 2 are not the same: double and string ["%s is %5.1f"]
+6 messages judged, 0 not judged
+found 5 fatal errors
+"""),
+    ("whole.po", 1, """\
+whole.po:16: number of format specifications in 'msgid' and 'msgstr' does not match: 2 and 3 ["%*d"]
+whole.po:20: format specifications in 'msgid' and 'msgstr' for argument 2 are not the same: string and double ["%.2f of %s"]
+whole.po:28: format specifications in 'msgid' and 'msgstr' for argument 2 are not the same: <PRIu64> and <PRId64> ["%s: %<PRIu64>"]
+whole.po:32: format specifications in 'msgid' and 'msgstr' for argument 1 are not the same: <PRIuMAX> and ulong ["%<PRIuMAX>"]
+whole.po:36: 'msgstr' is not a valid C format string, unlike 'msgid'. Reason: refused 20 Mixed at byte 15 ["%s: %<PRIu64>%s"]
+whole.po:40: 'msgstr' is not a valid C format string, unlike 'msgid'. Reason: refused 21 MissingArgument at byte 4 ["%s %s"]
+whole.po:44: warning: 'msgstr' isn't checked: refused 20 Mixed at byte 6 ["%s"]
+10 messages judged, 1 not judged
+found 6 fatal errors
 """),
     ("digits.po", 0, """\
 digits.po:11: warning: 'msgstr' isn't checked: refused 3 Unexpected at byte 9 ["%s in %d"]

@@ -12,6 +12,10 @@ What a format means hangs on the data model of the machine on which it is used: 
 a `Model` or its name, "lp64", "ilp32" or "llp64", and is LP64 where it isn't given. `ValueError` is raised for
 what is no data model.
 
+A format of C source stands in string literals: `decode_literal` gives the bytes that they stand for,
+`encode_literal` the one literal of some bytes, and `source_offset` the place in the literals of a
+byte. What is no string literal raises `BadLiteral`.
+
 A `str` with a lone surrogate, as the names of files may have it, has no UTF-8: each call raises
 `UnicodeEncodeError` for it. Hand over bytes there, as `os.fsencode` makes them.
 
@@ -32,6 +36,12 @@ this module, where an installation put it; else `libfmtcanon.so.0`, where the sy
     ['LP64']
     >>> fmtcanon.format("%-4s|%+05d", "ab", 42)
     b'ab  |+0042'
+    >>> fmtcanon.fits("%.2f of %s", "%2$s: %1$.2f")
+    True
+    >>> fmtcanon.decode_literal('"Total: %i" "\\\\n"')
+    b'Total: %i\\n'
+    >>> fmtcanon.encode_literal(fmtcanon.canonical(b"\\x01%#o"))
+    b'"\\\\0010%.0o"'
     >>> fmtcanon.show("%20d")
     [Directive(spelling='%20d', type='int', spaces=9, zeros=0, core='%11d', trail=0)]
 """
@@ -50,9 +60,11 @@ from .printing import REFUSED, UNFIT, Directive, Failed, Percent, Shown, Text, p
 from .sessions import Reply, Session
 
 __all__ = [
+    "BadLiteral",
     "Comparison",
     "Directive",
     "Kind",
+    "LiteralKind",
     "Model",
     "Percent",
     "Refused",
@@ -62,14 +74,19 @@ __all__ = [
     "Type",
     "Verdict",
     "__version__",
+    "arguments",
     "canonical",
     "check",
     "compare",
+    "decode_literal",
+    "encode_literal",
+    "fits",
     "format",
     "is_canonical",
     "same",
     "same_in",
     "show",
+    "source_offset",
     "types",
     "version",
 ]
@@ -83,6 +100,7 @@ _Text = TypeVar("_Text", str, bytes)
 # The versions of the library that the module is for: any patch of this one.
 _VERSION = (0, 2)
 _NO_MEMORY = -100
+_NO_PLACE = -102
 _LONGEST_NAME = 18
 
 
@@ -107,6 +125,22 @@ class Kind(enum.IntEnum):
     PRECISION_UNDEFINED = 16
     LENGTH_UNDEFINED = 17
     TOO_LONG = 18
+    # Of the whole language alone.
+    COUNT_UNDEFINED = 19
+    MIXED = 20
+    MISSING_ARGUMENT = 21
+    TWO_TYPES = 22
+
+
+class LiteralKind(enum.IntEnum):
+    """Why a text is no string literals of C source."""
+
+    NO_LITERAL = 201
+    UNTERMINATED = 202
+    BAD_ESCAPE = 203
+    ESCAPE_TOO_LARGE = 204
+    ZERO_BYTE = 205
+    TRIGRAPH = 206
 
 
 class Model(enum.IntEnum):
@@ -136,6 +170,17 @@ class Type(enum.IntEnum):
     LONG_LONG = 5
     ULONG_LONG = 6
     STRING = 7
+    # Of the whole language alone.
+    DOUBLE = 8
+    LONG_DOUBLE = 9
+    WIDE_CHAR = 10
+    WIDE_STRING = 11
+    POINTER_TO_VOID = 12
+    POINTER_TO_SCHAR = 13
+    POINTER_TO_SHORT = 14
+    POINTER_TO_INT = 15
+    POINTER_TO_LONG = 16
+    POINTER_TO_LONG_LONG = 17
 
 
 class Verdict(enum.IntEnum):
@@ -162,6 +207,23 @@ class Refused(ValueError):
 
     def __str__(self) -> str:
         return f"refused {int(self.kind)} {self.name} at byte {self.byte}"
+
+
+class BadLiteral(ValueError):
+    """A text is no string literals of C source.
+
+    `kind` says why, `name` is the name of the kind as the program writes it, and `byte` is the place,
+    counted from 0.
+    """
+
+    def __init__(self, kind: LiteralKind, name: str, byte: int) -> None:
+        super().__init__(kind, name, byte)
+        self.kind = kind
+        self.name = name
+        self.byte = byte
+
+    def __str__(self) -> str:
+        return f"literal {int(self.kind) - 200} {self.name} at byte {self.byte}"
 
 
 class Comparison(NamedTuple):
@@ -204,6 +266,11 @@ _CALLS = {
         (*_MODEL, *_TEXT, *_TEXT, *_TEXT, ctypes.POINTER(_Comparison), *_ERROR),
         ctypes.c_int64,
     ),
+    "arguments": ((*_MODEL, *_TEXT, *_TEXT, *_ERROR), ctypes.c_int64),
+    "fits": ((*_MODEL, *_TEXT, *_TEXT, *_ERROR), ctypes.c_int64),
+    "decode_literal": ((*_TEXT, *_TEXT, *_ERROR), ctypes.c_int64),
+    "encode_literal": ((*_TEXT, *_TEXT), ctypes.c_int64),
+    "source_offset": ((*_TEXT, ctypes.c_uint64), ctypes.c_int64),
     "kind_name": ((ctypes.c_uint32, *_TEXT), ctypes.c_uint64),
     "version": ((), ctypes.c_uint32),
 }
@@ -266,6 +333,8 @@ def _answer(result: int, error: _Error) -> int:
         return result
     if result == _NO_MEMORY:
         raise MemoryError("fmtcanon is out of memory")
+    if error.kind in LiteralKind.__members__.values():
+        raise BadLiteral(LiteralKind(error.kind), _name(error.kind), error.at)
     raise Refused(Kind(error.kind), _name(error.kind), error.at, error.side)
 
 
@@ -313,6 +382,29 @@ def types(format: Format, *, model: DataModel = Model.LP64) -> List[Type]:
     return [Type(code) for code in codes]
 
 
+def arguments(format: Format, *, model: DataModel = Model.LP64) -> List[Type]:
+    """The types of the arguments of a format of the whole language, in order.
+
+    That is POSIX `fprintf` with the `b` of C23: numbered arguments, `*`, floating and wide conversions,
+    `p` and `n`, too.
+    """
+    text = _bytes(format)
+    # A specification takes three arguments at most.
+    room = 3 * text.count(b"%") + 1
+    codes = _filled(_library().fmtcanon_arguments, room, _number(model), text, len(text))
+    return [Type(code) for code in codes]
+
+
+def fits(first: Format, second: Format, *, model: DataModel = Model.LP64) -> bool:
+    """Whether the second format takes just the arguments of the first, by their types.
+
+    Both may be of the whole language. It is the question to ask of a translation.
+    """
+    f, g, error = _bytes(first), _bytes(second), _Error()
+    result = _library().fmtcanon_fits(_number(model), f, len(f), g, len(g), error)
+    return _answer(result, error) == 1
+
+
 def same(first: Format, second: Format, *, model: DataModel = Model.LP64) -> bool:
     """Whether two formats take the same types and print the same bytes for all arguments."""
     f, g, error = _bytes(first), _bytes(second), _Error()
@@ -346,6 +438,41 @@ def compare(first: Format, second: Format, *, model: DataModel = Model.LP64) -> 
     if verdict is Verdict.DIFFERENT:
         return Comparison(verdict, arguments=tuple(map(_argument, words.split(b"\0")[:-1])))
     return Comparison(verdict)
+
+
+def decode_literal(source: Format) -> bytes:
+    """The bytes that one or more string literals of C source stand for (C11 6.4.5).
+
+    White space may stand before, between and behind them. Raises BadLiteral for anything else.
+    """
+    text, error = _bytes(source), _Error()
+    # No element stands for more bytes than it has.
+    out = ctypes.create_string_buffer(len(text) + 1)
+    size = _answer(_library().fmtcanon_decode_literal(text, len(text), out, len(out), error), error)
+    return out.raw[:size]
+
+
+def encode_literal(format: _Text) -> _Text:
+    """The one string literal of a text, with its quotes: a `str` where the text is one, else bytes.
+
+    A zero byte is written as `\\000`; of what has one no C string is made.
+    """
+    text = _bytes(format)
+    # No byte is written with more than four.
+    out = ctypes.create_string_buffer(4 * len(text) + 3)
+    size = _answer(_library().fmtcanon_encode_literal(text, len(text), out, len(out)), _Error())
+    return out.raw[:size].decode() if isinstance(format, str) else out.raw[:size]
+
+
+def source_offset(source: Format, index: int) -> Optional[int]:
+    """The place in string literals where the element begins that gives the byte of this index.
+
+    At the count of their bytes it is the last closing quote. None where there is no such byte, and
+    where the text is no string literals.
+    """
+    text = _bytes(source)
+    place = _library().fmtcanon_source_offset(text, len(text), index)
+    return None if place == _NO_PLACE else place
 
 
 def _raise(fault: Failed) -> NoReturn:

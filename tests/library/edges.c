@@ -99,7 +99,7 @@ static void numbers(void)
         WANT(!strcmp(name, KINDS[i].name) && strlen(name) <= 18);
     }
     WANT(fmtcanon_kind_name(FMTCANON_TOO_LONG, name, sizeof name) && !strcmp(name, "TooLong"));
-    WANT(fmtcanon_kind_name(0, name, 1) == 0 && fmtcanon_kind_name(19, NULL, 0) == 0);
+    WANT(fmtcanon_kind_name(0, name, 1) == 0 && fmtcanon_kind_name(23, NULL, 0) == 0);
     WANT(fmtcanon_kind_name(0xffffffff, NULL, 0) == 0);
     WANT(fmtcanon_types(LP64, "%d%u%ld%lu%lld%llu%s", 20, found, sizeof found, &e) == 7);
     WANT(!memcmp(found, types, sizeof types));
@@ -160,12 +160,146 @@ static void two_texts(void)
     WANT(!memcmp(out, "n:-1\0s:\0", 8));
 }
 
+/* The kinds that the whole language alone has, with a text for each, and where. */
+static const struct {
+    int kind;
+    const char *name, *text;
+    uint64_t at;
+} WHOLE[] = {
+    {FMTCANON_COUNT_UNDEFINED, "CountUndefined", "%5n", 2},
+    {FMTCANON_MIXED, "Mixed", "%d%1$d", 4},
+    {FMTCANON_MISSING_ARGUMENT, "MissingArgument", "%2$d", 4},
+    {FMTCANON_TWO_TYPES, "TwoTypes", "%1$d%1$s", 7},
+};
+
+static void whole_language(void)
+{
+    static const unsigned char types[] = {
+        FMTCANON_INT, FMTCANON_DOUBLE, FMTCANON_LONG_DOUBLE, FMTCANON_WIDE_CHAR, FMTCANON_WIDE_STRING,
+        FMTCANON_POINTER_TO_VOID, FMTCANON_POINTER_TO_SCHAR, FMTCANON_POINTER_TO_SHORT,
+        FMTCANON_POINTER_TO_INT, FMTCANON_POINTER_TO_LONG, FMTCANON_POINTER_TO_LONG_LONG};
+    static const char all[] = "%*f%Lf%lc%ls%p%hhn%hn%n%ln%lln";
+    fmtcanon_error e = {77, 78, 79};
+    unsigned char out[16];
+    char name[32];
+    size_t i;
+    memset(out, 'Z', sizeof out);
+    WANT(fmtcanon_arguments(LP64, all, strlen(all), out, 10, &e) == 11 && out[0] == 'Z');
+    WANT(fmtcanon_arguments(LP64, all, strlen(all), out, 11, &e) == 11 && out[11] == 'Z');
+    WANT(!memcmp(out, types, sizeof types));
+    WANT(fmtcanon_arguments(LP64, NULL, 0, NULL, 0, &e) == 0);
+    WANT(fmtcanon_arguments(LLP64, "%zn", 3, out, 16, &e) == 1 && out[0] == FMTCANON_POINTER_TO_LONG_LONG);
+    WANT(fmtcanon_fits(LP64, "%s of %d", 8, "%2$d/%1$s", 9, &e) == 1);
+    WANT(fmtcanon_fits(LP64, "%.2f of %s", 10, "%.2f von %d", 11, &e) == 0);
+    WANT(fmtcanon_fits(LP64, NULL, 0, NULL, 0, &e) == 1);
+    WANT(fmtcanon_fits(LP64, "%zu", 3, "%lu", 3, &e) == 1 && fmtcanon_fits(ILP32, "%zu", 3, "%lu", 3, &e) == 0);
+    WANT(e.at == 77 && e.kind == 78 && e.side == 79);
+    WANT(fmtcanon_fits(3, "%d", 2, "%d", 2, &e) == FMTCANON_ERROR_MODEL);
+    WANT(fmtcanon_arguments(-1, "%d", 2, out, 16, &e) == FMTCANON_ERROR_MODEL && e.at == 77);
+    for (i = 0; i < COUNT(WHOLE); i++) {
+        size_t len = strlen(WHOLE[i].text);
+        fmtcanon_error f = {77, 78, 79};
+        WANT(WHOLE[i].kind == (int)i + 19);
+        WANT(fmtcanon_arguments(LP64, WHOLE[i].text, len, out, 16, &f) == -WHOLE[i].kind);
+        WANT(f.at == WHOLE[i].at && f.kind == (uint32_t)WHOLE[i].kind && f.side == 0);
+        WANT(fmtcanon_fits(LP64, WHOLE[i].text, len, "%y", 2, &f) == -WHOLE[i].kind && f.side == 0);
+        WANT(fmtcanon_fits(LP64, "%d", 2, WHOLE[i].text, len, &f) == -WHOLE[i].kind && f.side == 1);
+        WANT(fmtcanon_fits(LP64, "%d", 2, WHOLE[i].text, len, NULL) == -WHOLE[i].kind);
+        WANT(fmtcanon_arguments(LP64, WHOLE[i].text, len, out, 16, NULL) == -WHOLE[i].kind);
+        WANT(fmtcanon_kind_name(f.kind, name, sizeof name) == strlen(WHOLE[i].name));
+        WANT(!strcmp(name, WHOLE[i].name));
+    }
+}
+
+/* Each fault of string literals, with a text that has it, and where. */
+static const struct {
+    int kind;
+    const char *name, *text;
+    size_t len;
+    uint64_t at;
+} FAULTS[] = {
+    {FMTCANON_NO_LITERAL, "NoLiteral", "L\"%d\"", 5, 0},
+    {FMTCANON_UNTERMINATED, "Unterminated", "\"%d", 3, 3},
+    {FMTCANON_BAD_ESCAPE, "BadEscape", "\"a\\q\"", 5, 2},
+    {FMTCANON_ESCAPE_TOO_LARGE, "EscapeTooLarge", "\"\\x25d\"", 7, 1},
+    {FMTCANON_ZERO_BYTE, "ZeroByte", "\"a\\0b\"", 6, 2},
+    {FMTCANON_TRIGRAPH, "Trigraph", "\"a?" "?/n\"", 7, 2},
+};
+
+static void literals(void)
+{
+    static const char source[] = " \"Total:\\t%i\" \"\\x9\" \"1\" ";
+    static const char text[] = "Total:\t%i\t1";
+    fmtcanon_error e = {77, 78, 79};
+    char out[64], name[32];
+    size_t i, len = strlen(text);
+    memset(out, 'Z', sizeof out);
+    WANT(fmtcanon_decode_literal(source, sizeof source - 1, out, len, &e) == (int64_t)len && out[0] == 'Z');
+    WANT(fmtcanon_decode_literal(source, sizeof source - 1, out, len + 1, &e) == (int64_t)len);
+    WANT(!strcmp(out, text) && out[len + 1] == 'Z');
+    WANT(e.at == 77 && e.kind == 78 && e.side == 79);
+    WANT(fmtcanon_encode_literal(text, len, NULL, 0) == 15);
+    memset(out, 'Z', sizeof out);
+    WANT(fmtcanon_encode_literal(text, len, out, 15) == 15 && out[0] == 'Z');
+    WANT(fmtcanon_encode_literal(text, len, out, 16) == 15 && out[16] == 'Z');
+    WANT(!strcmp(out, "\"Total:\\t%i\\t1\""));
+    WANT(fmtcanon_encode_literal("\1?" "?=\377\0", 6, out, sizeof out) == 15);
+    WANT(!strcmp(out, "\"\\001?\\?=\377\\000\""));
+    WANT(fmtcanon_encode_literal(NULL, 0, out, sizeof out) == 2 && !strcmp(out, "\"\""));
+    WANT(fmtcanon_decode_literal("\"\"", 2, out, 1, &e) == 0 && out[0] == 0);
+    /* The places of `T`, of the tab, of the second tab, of the `1`, and of the last quote. */
+    WANT(fmtcanon_source_offset(source, sizeof source - 1, 0) == 2);
+    WANT(fmtcanon_source_offset(source, sizeof source - 1, 6) == 8);
+    WANT(fmtcanon_source_offset(source, sizeof source - 1, 9) == 15);
+    WANT(fmtcanon_source_offset(source, sizeof source - 1, 10) == 21);
+    WANT(fmtcanon_source_offset(source, sizeof source - 1, 11) == 22);
+    WANT(fmtcanon_source_offset(source, sizeof source - 1, 12) == FMTCANON_ERROR_NOPLACE);
+    WANT(fmtcanon_source_offset(source, sizeof source - 1, (uint64_t)-1) == FMTCANON_ERROR_NOPLACE);
+    WANT(fmtcanon_source_offset("x", 1, 0) == FMTCANON_ERROR_NOPLACE);
+    WANT(fmtcanon_source_offset(NULL, 0, 0) == FMTCANON_ERROR_NOPLACE);
+    WANT(fmtcanon_decode_literal(NULL, 0, NULL, 0, &e) == -FMTCANON_NO_LITERAL && e.at == 0);
+    for (i = 0; i < COUNT(FAULTS); i++) {
+        fmtcanon_error f = {77, 78, 79};
+        out[0] = 'Z';
+        WANT(FAULTS[i].kind == (int)i + 201);
+        WANT(fmtcanon_decode_literal(FAULTS[i].text, FAULTS[i].len, out, sizeof out, &f) == -FAULTS[i].kind);
+        WANT(f.at == FAULTS[i].at && f.kind == (uint32_t)FAULTS[i].kind && f.side == 0 && out[0] == 'Z');
+        WANT(fmtcanon_decode_literal(FAULTS[i].text, FAULTS[i].len, out, 0, NULL) == -FAULTS[i].kind);
+        WANT(fmtcanon_kind_name(f.kind, name, sizeof name) == strlen(FAULTS[i].name));
+        WANT(!strcmp(name, FAULTS[i].name));
+    }
+    WANT(fmtcanon_kind_name(200, NULL, 0) == 0 && fmtcanon_kind_name(207, NULL, 0) == 0);
+}
+
 /* So many bytes just before a page that can't be touched. */
 static char *at_end(size_t len)
 {
     char *p = mmap(NULL, 8192, PROT_READ | PROT_WRITE, MAP_PRIVATE | MAP_ANONYMOUS, -1, 0);
     WANT(p != MAP_FAILED && !mprotect(p + 4096, 4096, PROT_NONE));
     return p + 4096 - len;
+}
+
+/* Texts that end at a page that can't be touched, and rooms that do. */
+static void literal_pages(void)
+{
+    static const char *const sources[] = {
+        "\"\"", "\"abc\\n%d and a run that is longer than sixteen bytes\"", "\"\\", "\"\\x", "\"?" "?", "\"", " ", "\"\\101\" \"\\7",
+    };
+    fmtcanon_error e;
+    size_t i, cap;
+    for (i = 0; i < COUNT(sources); i++) {
+        size_t len = strlen(sources[i]);
+        char *text = at_end(len);
+        int64_t n, m;
+        memcpy(text, sources[i], len);
+        fmtcanon_source_offset(text, len, 3);
+        n = fmtcanon_decode_literal(text, len, NULL, 0, &e);
+        m = fmtcanon_encode_literal(text, len, NULL, 0);
+        for (cap = 0; n >= 0 && cap < (size_t)n + 3; cap++)
+            WANT(fmtcanon_decode_literal(text, len, at_end(cap), cap, &e) == n);
+        for (cap = 0; cap < (size_t)m + 3; cap++)
+            WANT(fmtcanon_encode_literal(text, len, at_end(cap), cap) == m);
+    }
 }
 
 static void pages(void)
@@ -225,6 +359,9 @@ static int64_t growing(int call, char *out, size_t cap, fmtcanon_comparison *tol
     static const char many[] = "%d%d%d%d%d%d%d%d%d%d%4095d%4095d";
     if (call == 0) return fmtcanon_canonical(LP64, many, sizeof many - 1, out, cap, e);
     if (call == 1) return fmtcanon_types(LP64, many, sizeof many - 1, (unsigned char *)out, cap, e);
+    if (call == 2) return fmtcanon_decode_literal("\"a\\n\"", 5, out, cap, e);
+    if (call == 3) return fmtcanon_encode_literal("a\n", 2, out, cap);
+    if (call == 4) return fmtcanon_arguments(LP64, "%*.*f", 5, (unsigned char *)out, cap, e);
     return fmtcanon_compare(LP64, "%d%s", 4, "%d%.4095s", 9, out, cap, told, e);
 }
 
@@ -232,7 +369,7 @@ static void refusals_of_memory(void)
 {
     static char out[16384];
     int call, n;
-    for (call = 0; call < 3; call++) {
+    for (call = 0; call < 6; call++) {
         for (n = 0;; n++) {
             fmtcanon_error e = {77, 78, 79};
             fmtcanon_comparison told = {77, 78, 79};
@@ -255,7 +392,8 @@ static void refusals_of_memory(void)
     }
 }
 
-/* All of it is given back, whatever the room, and the canonical text takes one growth. */
+/* All of it is given back, whatever the room, and the canonical text, the bytes of a source and a
+ * literal take one growth. */
 static void memory_given_back(void)
 {
     static char out[16384];
@@ -265,10 +403,10 @@ static void memory_given_back(void)
     size_t i;
     int call;
     for (i = 0; i < COUNT(rooms); i++) {
-        for (call = 0; call < 3; call++) {
+        for (call = 0; call < 6; call++) {
             growths = held = 0;
             WANT(growing(call, out, rooms[i], &told, &e) > 0);
-            WANT(growths > 0 && held == 0 && (call != 0 || growths == 1));
+            WANT(growths > 0 && held == 0 && (call == 1 || call == 5 || growths == 1));
         }
         growths = held = 0;
         WANT(fmtcanon_canonical(LP64, "%d%y", 4, out, rooms[i], &e) == -FMTCANON_UNEXPECTED);
@@ -293,6 +431,11 @@ static void without_memory(void)
     fmtcanon_compare(LP64, "%i", 2, "%d", 2, NULL, 0, &told, &e);
     fmtcanon_compare(LP64, "%i", 2, "%s", 2, NULL, 0, &told, &e);
     fmtcanon_canonical(LP64, "%y", 2, NULL, 0, &e);
+    fmtcanon_decode_literal("\"\" \"\"", 5, NULL, 0, &e);
+    fmtcanon_decode_literal("\"\\q", 3, NULL, 0, &e);
+    fmtcanon_source_offset("\"a\\n\"", 5, 1);
+    fmtcanon_fits(LP64, "%2$s%1$d", 8, "%d%s", 4, &e);
+    fmtcanon_fits(LP64, "%d%s", 4, "%d%f", 4, &e);
     WANT(growths == 0);
 }
 
@@ -341,6 +484,9 @@ int main(void)
     numbers();
     models();
     two_texts();
+    whole_language();
+    literals();
+    literal_pages();
     pages();
     nothing();
     no_place_for_an_error();

@@ -12,6 +12,7 @@ mod ReportLemmas
 mod StreamLemmas
 mod ReplyLemmas
 mod TaskLemmas
+mod GivenLemmas
 mod RecordEnds
 mod RecordSteps
 mod RecordTexts

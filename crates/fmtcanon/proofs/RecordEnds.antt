@@ -26,6 +26,8 @@ module _ (kind : RecordQuestion) {R W : Type 0} (remaining : R → Known) (conte
   left_stopped well outcomes.Same h = absurd h
   left_stopped well outcomes.Different h = absurd h
   left_stopped well (outcomes.Refused side refusal) h = absurd h
+  left_stopped well (outcomes.RefusedWhole side refusal) h = absurd h
+  left_stopped well (outcomes.BadLiteral side refusal) h = absurd h
   left_stopped well (outcomes.BadWord index) h = absurd h
   left_stopped well (outcomes.WrongCount wanted given) h = absurd h
   left_stopped well (outcomes.WrongType index) h = absurd h
@@ -42,6 +44,8 @@ module _ (kind : RecordQuestion) {R W : Type 0} (remaining : R → Known) (conte
   left_at_end well end outcomes.Same h = absurd h
   left_at_end well end outcomes.Different h = absurd h
   left_at_end well end (outcomes.Refused side refusal) h = absurd h
+  left_at_end well end (outcomes.RefusedWhole side refusal) h = absurd h
+  left_at_end well end (outcomes.BadLiteral side refusal) h = absurd h
   left_at_end well end (outcomes.BadWord index) h = absurd h
   left_at_end well end (outcomes.WrongCount wanted given) h = absurd h
   left_at_end well end (outcomes.WrongType index) h = absurd h

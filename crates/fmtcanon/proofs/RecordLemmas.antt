@@ -114,6 +114,8 @@ module _ (kind : RecordQuestion) where
     stopped_at_end records outcomes.Same h = absurd h
     stopped_at_end records outcomes.Different h = absurd h
     stopped_at_end records (outcomes.Refused side refusal) h = absurd h
+    stopped_at_end records (outcomes.RefusedWhole side refusal) h = absurd h
+    stopped_at_end records (outcomes.BadLiteral side refusal) h = absurd h
     stopped_at_end records (outcomes.BadWord index) h = absurd h
     stopped_at_end records (outcomes.WrongCount wanted given) h = absurd h
     stopped_at_end records (outcomes.WrongType index) h = absurd h

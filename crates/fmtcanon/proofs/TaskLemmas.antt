@@ -7,7 +7,7 @@ use Rattle.pf_values.specs.Text.{Text}
 use Rattle.fmtcanon.specs.Questions.{formats_of, formats_wanted}
 use Rattle.fmtcanon.specs.Tasks.{Asks, IsAsked, IsAskedOf, IsMisplaced, IsNoTaskOf, IsNoTaskOn, IsQuestion, IsTaskOn, Names, formats_given, formats_in}
 use Rattle.fmtcanon.specs.declared.questions.Question.{Question}
-use Rattle.fmtcanon.specs.declared.questions.Question.TheVariants.{Types, Canon, Show, Format, Same}
+use Rattle.fmtcanon.specs.declared.questions.Question.TheVariants.{Types, Arguments, Canon, Show, Format, Fits, Same}
 use Rattle.fmtcanon.specs.declared.questions.RecordQuestion.{RecordQuestion}
 use Rattle.fmtcanon.specs.declared.questions.RecordQuestion.TheVariants as asked
 use Rattle.fmtcanon.specs.declared.task.NoTask.{NoTask}
@@ -17,9 +17,11 @@ use Rattle.fmtcanon.specs.declared.task.Task.TheVariants.{Answer, Records, Strea
 
 is_question : (command : Text) (rows : List Row) (question : Question) → IsAskedOf command rows question → IsQuestion command rows question
 is_question command rows (Types model format) h = h
+is_question command rows (Arguments model format) h = h
 is_question command rows (Canon model format) h = h
 is_question command rows (Show model format) h = h
 is_question command rows (Format model format given) h = absurd h.3
+is_question command rows (Fits model first second) h = h
 is_question command rows (Same models first second) h = h
 
 module _ (command : Text) (rows : List Row) (kind : RecordQuestion) (is : IsAsked command rows kind) where
@@ -55,10 +57,12 @@ module _ (rows : List Row) where
       some (Some second) = λ e. absurd (omega (arith, e))
 
 pub none_wanted : (kind : RecordQuestion) → 0 ≢ formats_wanted kind
-none_wanted (asked.Types model) = λ e. absurd (omega (arith, e))
-none_wanted (asked.Canon model) = λ e. absurd (omega (arith, e))
-none_wanted (asked.Show model) = λ e. absurd (omega (arith, e))
-none_wanted (asked.Same models) = λ e. absurd (omega (arith, e))
+none_wanted (asked.Types notation model) = λ e. absurd (omega (arith, e))
+none_wanted (asked.Arguments notation model) = λ e. absurd (omega (arith, e))
+none_wanted (asked.Canon notation model) = λ e. absurd (omega (arith, e))
+none_wanted (asked.Show notation model) = λ e. absurd (omega (arith, e))
+none_wanted (asked.Fits notation model) = λ e. absurd (omega (arith, e))
+none_wanted (asked.Same notation models) = λ e. absurd (omega (arith, e))
 
 pub misplaced_any : (kind : RecordQuestion) (rows : List Row) (fault : NoTask) → IsMisplaced kind rows → IsNoTaskOn kind rows fault
 misplaced_any kind rows (Usage message) h = h

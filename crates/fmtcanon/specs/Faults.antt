@@ -1,13 +1,18 @@
 -- The faults of the crates below, as faults of a question. This project's own.
-use Rattle.std.specs.Prelude.{None, Some}
+use Rattle.std.specs.Prelude.{Option, None, Some}
+use Rattle.pf_literals.specs.declared.faults.LiteralFault.{LiteralFault}
+use Rattle.pf_literals.specs.declared.faults.LiteralFault.TheVariants as literal
+use Rattle.pf_signatures.specs.declared.refusals.SignatureFault.{SignatureFault}
+use Rattle.pf_signatures.specs.declared.refusals.SignatureFault.TheVariants as signature
 use Rattle.pf_text.specs.declared.faults.TextFault.{TextFault}
 use Rattle.pf_text.specs.declared.faults.TextFault.TheVariants as text
+use Rattle.pf_canon.specs.declared.sides.Side.{Side}
 use Rattle.pf_canon.specs.declared.faults.CanonFault.{CanonFault}
 use Rattle.pf_canon.specs.declared.faults.CanonFault.TheVariants as canonical
 use Rattle.pf_compare.specs.declared.faults.CompareFault.{CompareFault}
 use Rattle.pf_compare.specs.declared.faults.CompareFault.TheVariants as comparison
 use Rattle.fmtcanon.specs.declared.fault.Fault.{Fault}
-use Rattle.fmtcanon.specs.declared.fault.Fault.TheVariants.{Refused, Memory}
+use Rattle.fmtcanon.specs.declared.fault.Fault.TheVariants.{Refused, RefusedWhole, BadLiteral, Memory}
 
 -- a fault of reading one format
 abbrev pub of_text : TextFault → Fault
@@ -23,3 +28,13 @@ of_canonical canonical.Memory = Memory
 abbrev pub of_comparison : CompareFault → Fault
 of_comparison (comparison.Refused side refusal) = Refused (Some side) refusal
 of_comparison comparison.Memory = Memory
+
+-- a fault of reading one format of the whole language
+abbrev pub of_signature : SignatureFault → Fault
+of_signature (signature.Refused refusal) = RefusedWhole None refusal
+of_signature signature.Memory = Memory
+
+-- a fault of the literals that give a format, of one or of this one of two
+abbrev pub of_literal : Option Side → LiteralFault → Fault
+of_literal side (literal.Refused refusal) = BadLiteral side refusal
+of_literal side literal.Memory = Memory

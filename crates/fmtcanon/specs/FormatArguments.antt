@@ -12,7 +12,7 @@ use Rattle.pf_values.specs.Printing.{PrintsAll}
 use Rattle.pf_values.specs.Refusals.{IsRefusedAt}
 use Rattle.pf_values.specs.Text.{Text}
 use Rattle.fmtcanon.specs.declared.fault.Fault.{Fault}
-use Rattle.fmtcanon.specs.declared.fault.Fault.TheVariants.{Refused, BadWord, WrongCount, WrongType, Memory}
+use Rattle.fmtcanon.specs.declared.fault.Fault.TheVariants.{Refused, RefusedWhole, BadLiteral, BadWord, WrongCount, WrongType, Memory}
 use Rattle.fmtcanon.specs.ArgumentWords.{SpellsArgument}
 
 -- each word gives an argument, in order
@@ -71,6 +71,8 @@ abbrev pub HindersArguments : Model → Text → List Text → Fault → Type 0
 HindersArguments model format words (Refused (Some side) refusal) = ⊥
 HindersArguments model format words (Refused None refusal) =
     IsRefusedAt format refusal.kind refusal.at
+HindersArguments model format words (RefusedWhole side refusal) = ⊥
+HindersArguments model format words (BadLiteral side refusal) = ⊥
 HindersArguments model format words (BadWord index) = IsAccepted format × IsFirstBadWord words index
 HindersArguments model format words (WrongCount wanted given) =
     (items : List Item) × (arguments : List Argument) × IsGiven format words items arguments

@@ -1,10 +1,12 @@
 pub mod Lines
 pub mod Models
 pub mod Words
+pub mod Formats
 pub mod Questions
 pub mod Tasks
 pub mod Faults
 pub mod TypeLines
+pub mod ArgumentLines
 pub mod Shows
 pub mod ArgumentWords
 pub mod UntypedArgs

@@ -5,7 +5,7 @@ use Rattle.fmtcanon.specs.declared.answer.Ending.TheVariants as endings
 use Rattle.fmtcanon.specs.declared.fault.Fault.{Fault}
 use Rattle.fmtcanon.specs.declared.fault.Fault.TheVariants as faults
 use Rattle.fmtcanon.specs.declared.outcome.Outcome.{Outcome}
-use Rattle.fmtcanon.specs.declared.outcome.Outcome.TheVariants.{Done, Same, Different, Refused, BadWord, WrongCount, WrongType, Answered, NoSecond, Usage, Read, Write, Memory}
+use Rattle.fmtcanon.specs.declared.outcome.Outcome.TheVariants.{Done, Same, Different, Refused, RefusedWhole, BadLiteral, BadWord, WrongCount, WrongType, Answered, NoSecond, Usage, Read, Write, Memory}
 
 -- all of the answer was written
 abbrev pub outcome_of : Ending → Outcome
@@ -16,19 +16,23 @@ outcome_of endings.Different = Different
 -- there was no answer
 abbrev pub outcome_of_fault : Fault → Outcome
 outcome_of_fault (faults.Refused side refusal) = Refused side refusal
+outcome_of_fault (faults.RefusedWhole side refusal) = RefusedWhole side refusal
+outcome_of_fault (faults.BadLiteral side refusal) = BadLiteral side refusal
 outcome_of_fault (faults.BadWord index) = BadWord index
 outcome_of_fault (faults.WrongCount wanted given) = WrongCount wanted given
 outcome_of_fault (faults.WrongType index) = WrongType index
 outcome_of_fault faults.Memory = Memory
 
--- 0 where all was written and nothing differs, 1 for formats that differ, 2 for a refused format, 3
--- for wrong words or arguments or a record too few, 4 where reading, writing or memory failed; of
+-- 0 where all was written and nothing differs, 1 for formats that differ, 2 for a refused format
+-- or wrong literals, 3 for wrong words or arguments or a record too few, 4 where reading, writing or memory failed; of
 -- records that were answered, the greatest of theirs
 abbrev pub status_of : Outcome → ℕ
 status_of Done = 0
 status_of Same = 0
 status_of Different = 1
 status_of (Refused side refusal) = 2
+status_of (RefusedWhole side refusal) = 2
+status_of (BadLiteral side refusal) = 2
 status_of (BadWord index) = 3
 status_of (WrongCount wanted given) = 3
 status_of (WrongType index) = 3

@@ -13,7 +13,7 @@ use Rattle.fmtcanon.specs.declared.answer.Ending.{Ending}
 use Rattle.fmtcanon.specs.declared.fault.Fault.{Fault}
 use Rattle.fmtcanon.specs.declared.fault.Fault.TheVariants as faults
 use Rattle.fmtcanon.specs.declared.outcome.Outcome.{Outcome}
-use Rattle.fmtcanon.specs.declared.outcome.Outcome.TheVariants.{Done, Same, Different, Refused, BadWord, WrongCount, WrongType, Answered, NoSecond, Usage, Read, Write, Memory}
+use Rattle.fmtcanon.specs.declared.outcome.Outcome.TheVariants.{Done, Same, Different, Refused, RefusedWhole, BadLiteral, BadWord, WrongCount, WrongType, Answered, NoSecond, Usage, Read, Write, Memory}
 use Rattle.fmtcanon.specs.declared.questions.Question.{Question}
 use Rattle.fmtcanon.specs.declared.questions.RecordQuestion.{RecordQuestion}
 
@@ -140,6 +140,8 @@ module _ (kind : RecordQuestion) {R W : Type 0} (remaining : R → Known) (conte
   LeavesRecords Same = ⊥
   LeavesRecords Different = ⊥
   LeavesRecords (Refused side refusal) = ⊥
+  LeavesRecords (RefusedWhole side refusal) = ⊥
+  LeavesRecords (BadLiteral side refusal) = ⊥
   LeavesRecords (BadWord index) = ⊥
   LeavesRecords (WrongCount wanted given) = ⊥
   LeavesRecords (WrongType index) = ⊥

@@ -4,12 +4,16 @@ use Rattle.pf_values.specs.declared.counting.Counted.{Counted}
 use Rattle.pf_values.specs.Counting.{Known, WritesAll, WritesFirst}
 use Rattle.pf_values.specs.RefusalKinds.{name, number}
 use Rattle.pf_values.specs.Text.{Text}
+use Rattle.pf_literals.specs.declared.faults.LiteralRefusal.{LiteralRefusal}
+use Rattle.pf_literals.specs.Kinds as literals
+use Rattle.pf_signatures.specs.declared.refusals.SignatureRefusal.{SignatureRefusal}
+use Rattle.pf_signatures.specs.Kinds as signatures
 use Rattle.pf_text.specs.declared.refusal.Refusal.{Refusal}
 use Rattle.pf_canon.specs.declared.sides.Side.{Side}
 use Rattle.pf_canon.specs.declared.sides.Side.TheVariants as sides
 use Rattle.fmtcanon.specs.Lines.{line}
 use Rattle.fmtcanon.specs.declared.outcome.Outcome.{Outcome}
-use Rattle.fmtcanon.specs.declared.outcome.Outcome.TheVariants.{Done, Same, Different, Refused, BadWord, WrongCount, WrongType, Answered, NoSecond, Usage, Read, Write, Memory}
+use Rattle.fmtcanon.specs.declared.outcome.Outcome.TheVariants.{Done, Same, Different, Refused, RefusedWhole, BadLiteral, BadWord, WrongCount, WrongType, Answered, NoSecond, Usage, Read, Write, Memory}
 
 -- which format is refused, where there are two
 abbrev pub side_told : Option Side → Text
@@ -17,11 +21,22 @@ side_told None = []
 side_told (Some sides.First) = codes "first: "
 side_told (Some sides.Second) = codes "second: "
 
--- a refusal with its number, its name and its place
+-- what is wrong with it, with its number, its name and its place
+abbrev pub fault_told : Option Side → Text → ℕ → Text → ℕ → Text
+fault_told side what number name at =
+    side_told side ++ what ++ decimal number ++ codes " " ++ name ++ codes " at byte " ++ decimal at
+
 abbrev pub refusal_told : Option Side → Refusal → Text
 refusal_told side refusal =
-    side_told side ++ codes "refused " ++ decimal (number refusal.kind) ++ codes " "
-    ++ name refusal.kind ++ codes " at byte " ++ decimal refusal.at
+    fault_told side (codes "refused ") (number refusal.kind) (name refusal.kind) refusal.at
+
+abbrev pub whole_told : Option Side → SignatureRefusal → Text
+whole_told side refusal = fault_told side (codes "refused ")
+    (signatures.number refusal.kind) (signatures.name refusal.kind) refusal.at
+
+abbrev pub literal_told : Option Side → LiteralRefusal → Text
+literal_told side refusal = fault_told side (codes "literal ")
+    (literals.number refusal.kind) (literals.name refusal.kind) refusal.at
 
 -- What is said of an outcome: nothing of answers that were written, a text on the words as it is, and
 -- else a line.
@@ -30,6 +45,8 @@ told Done = []
 told Same = []
 told Different = []
 told (Refused side refusal) = line (refusal_told side refusal)
+told (RefusedWhole side refusal) = line (whole_told side refusal)
+told (BadLiteral side refusal) = line (literal_told side refusal)
 told (BadWord index) =
     line (codes "argument " ++ decimal index ++ codes ": " ++ codes "not an argument")
 told (WrongCount wanted given) =

@@ -12,7 +12,7 @@ use Rattle.fmtcanon.specs.declared.answer.Ending.TheVariants as endings
 use Rattle.fmtcanon.specs.declared.fault.Fault.{Fault}
 use Rattle.fmtcanon.specs.declared.fault.Fault.TheVariants as faults
 use Rattle.fmtcanon.specs.declared.outcome.Outcome.{Outcome}
-use Rattle.fmtcanon.specs.declared.outcome.Outcome.TheVariants.{Done, Same, Different, Refused, BadWord, WrongCount, WrongType, Answered, NoSecond, Usage, Read, Write, Memory}
+use Rattle.fmtcanon.specs.declared.outcome.Outcome.TheVariants.{Done, Same, Different, Refused, RefusedWhole, BadLiteral, BadWord, WrongCount, WrongType, Answered, NoSecond, Usage, Read, Write, Memory}
 use Rattle.fmtcanon.specs.declared.questions.Question.{Question}
 use Rattle.fmtcanon.specs.declared.questions.RecordQuestion.{RecordQuestion}
 use Rattle.fmtcanon.specs.declared.task.Task.{Task}
@@ -53,6 +53,10 @@ module _ {W : Type 0} (contents : W → Known) (old new : Counted W) where
   LeavesAnswer question (Write count) = AnswersFirst question count
   LeavesAnswer question (Refused side refusal) =
       AnswersNothing question (faults.Refused side refusal)
+  LeavesAnswer question (RefusedWhole side refusal) =
+      AnswersNothing question (faults.RefusedWhole side refusal)
+  LeavesAnswer question (BadLiteral side refusal) =
+      AnswersNothing question (faults.BadLiteral side refusal)
   LeavesAnswer question (BadWord index) = AnswersNothing question (faults.BadWord index)
   LeavesAnswer question (WrongCount wanted given) =
       AnswersNothing question (faults.WrongCount wanted given)

@@ -7,7 +7,7 @@ use Rattle.pf_canon.specs.Copying.{CopiesAll, CopyStops}
 use Rattle.pf_canon.specs.declared.faults.CopyFault.{CopyFault}
 use Rattle.pf_canon.specs.declared.faults.CopyFault.TheVariants as faults
 use Rattle.fmtcanon.specs.declared.outcome.Outcome.{Outcome}
-use Rattle.fmtcanon.specs.declared.outcome.Outcome.TheVariants.{Done, Same, Different, Refused, BadWord, WrongCount, WrongType, Answered, NoSecond, Usage, Read, Write, Memory}
+use Rattle.fmtcanon.specs.declared.outcome.Outcome.TheVariants.{Done, Same, Different, Refused, RefusedWhole, BadLiteral, BadWord, WrongCount, WrongType, Answered, NoSecond, Usage, Read, Write, Memory}
 
 module _ (model : Model) {R W : Type 0} (remaining : R → Known) (contents : W → Known)
     (reader left : Counted R) (old new : Counted W) where
@@ -36,6 +36,8 @@ module _ (model : Model) {R W : Type 0} (remaining : R → Known) (contents : W 
   LeavesCopy (Refused None refusal) =
       CopyStopped (faults.Refused refusal) × ReadWell × (is_flushed new ≡ true)
   LeavesCopy (Refused (Some side) refusal) = ⊥
+  LeavesCopy (RefusedWhole side refusal) = ⊥
+  LeavesCopy (BadLiteral side refusal) = ⊥
   LeavesCopy Read =
       CopyStopped faults.Read × HasFailed reader left × (is_flushed new ≡ true)
   LeavesCopy (Write count) =

@@ -16,9 +16,11 @@ use Rattle.fmtcanon.specs.declared.task.NoTask.TheVariants.{Usage, Memory}
 use Rattle.fmtcanon.specs.declared.task.Task.{Task}
 use Rattle.fmtcanon.specs.declared.task.Task.TheVariants.{Answer, Records, Stream}
 use Rattle.fmtcanon.specs.declared.questions.Question.{Question}
-use Rattle.fmtcanon.specs.declared.questions.Question.TheVariants.{Types, Canon, Show, Format, Same}
+use Rattle.fmtcanon.specs.declared.questions.Question.TheVariants.{Types, Arguments, Canon, Show, Format, Fits, Same}
 use Rattle.fmtcanon.specs.declared.questions.RecordQuestion.{RecordQuestion}
 use Rattle.fmtcanon.specs.declared.questions.RecordQuestion.TheVariants as asked
+use Rattle.fmtcanon.specs.declared.formats.Notation.{Notation}
+use Rattle.fmtcanon.specs.declared.formats.Notation.TheVariants.{Bytes, Literals}
 use Rattle.fmtcanon.specs.Models.{model_in, models_in}
 use Rattle.fmtcanon.specs.Questions.{IsAbout, formats_of, formats_wanted}
 use Rattle.fmtcanon.specs.Words.{IsCommand, IsTaken}
@@ -38,10 +40,21 @@ HasValue rows id text = first_of id rows ≡ Some text
 abbrev pub HasAllValues : List Row → Text → List Text → Type 0
 HasAllValues rows id texts = texts ≡ unwrap_or (all_of id rows) []
 
--- the option `--null` stands among the words: the formats come as records
+-- an option without a value stands among the words
+abbrev pub is_set : Text → List Row → Bool
+is_set id rows = option_map_or (λ value. bytes_eq value (codes "true")) (first_of id rows) false
+
+-- `--null`: the formats come as records
 abbrev pub is_null : List Row → Bool
-is_null rows = option_map_or (λ value. bytes_eq value (codes "true"))
-    (first_of (codes "null") rows) false
+is_null rows = is_set (codes "null") rows
+
+-- `--whole`: they may be of the whole language
+abbrev pub is_whole : List Row → Bool
+is_whole rows = is_set (codes "whole") rows
+
+-- `--literal`: they are given by string literals
+abbrev pub notation_in : List Row → Notation
+notation_in rows = if is_set (codes "literal") rows then Literals else Bytes
 
 -- the formats that stand among the words
 abbrev pub formats_given : Option Text → Option Text → List Text
@@ -53,10 +66,18 @@ formats_in rows = formats_given (first_of (codes "F") rows) (first_of (codes "G"
 
 -- a command asks this about formats
 abbrev pub IsAsked : Text → List Row → RecordQuestion → Type 0
-IsAsked command rows (asked.Types model) = (command ≡ codes "types") × (model ≡ model_in rows)
-IsAsked command rows (asked.Canon model) = (command ≡ codes "canon") × (model ≡ model_in rows)
-IsAsked command rows (asked.Show model) = (command ≡ codes "show") × (model ≡ model_in rows)
-IsAsked command rows (asked.Same models) = (command ≡ codes "same") × (models ≡ models_in rows)
+IsAsked command rows (asked.Types notation model) = (command ≡ codes "types")
+    × (is_whole rows ≡ false) × (notation ≡ notation_in rows) × (model ≡ model_in rows)
+IsAsked command rows (asked.Arguments notation model) = (command ≡ codes "types")
+    × (is_whole rows ≡ true) × (notation ≡ notation_in rows) × (model ≡ model_in rows)
+IsAsked command rows (asked.Canon notation model) =
+    (command ≡ codes "canon") × (notation ≡ notation_in rows) × (model ≡ model_in rows)
+IsAsked command rows (asked.Show notation model) =
+    (command ≡ codes "show") × (notation ≡ notation_in rows) × (model ≡ model_in rows)
+IsAsked command rows (asked.Fits notation model) =
+    (command ≡ codes "fits") × (notation ≡ notation_in rows) × (model ≡ model_in rows)
+IsAsked command rows (asked.Same notation models) =
+    (command ≡ codes "same") × (notation ≡ notation_in rows) × (models ≡ models_in rows)
 
 -- a command asks it about the formats that stand among the words
 abbrev pub IsAskedOf : Text → List Row → Question → Type 0
@@ -67,11 +88,15 @@ IsAskedOf command rows question =
 -- a command asks a question about the values of its arguments
 abbrev pub IsQuestion : Text → List Row → Question → Type 0
 IsQuestion command rows (Types model format) = IsAskedOf command rows (Types model format)
+IsQuestion command rows (Arguments model format) = IsAskedOf command rows (Arguments model format)
 IsQuestion command rows (Canon model format) = IsAskedOf command rows (Canon model format)
 IsQuestion command rows (Show model format) = IsAskedOf command rows (Show model format)
 IsQuestion command rows (Format model format given) =
-    (command ≡ codes "format") × (model ≡ model_in rows) × HasValue rows (codes "F") format.now
+    (command ≡ codes "format") × (format.notation ≡ notation_in rows) × (model ≡ model_in rows)
+    × HasValue rows (codes "F") format.text.now
     × HasAllValues rows (codes "ARG") (map (λ s. s.now) given.items)
+IsQuestion command rows (Fits model first second) =
+    IsAskedOf command rows (Fits model first second)
 IsQuestion command rows (Same models first second) =
     IsAskedOf command rows (Same models first second)
 

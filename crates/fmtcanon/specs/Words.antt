@@ -28,9 +28,20 @@ model_option models = record (new_rule (codes "model")) {
 abbrev pub on_nothing : Text → ValueParser → App
 on_nothing name models = with_rule (new_app name) (model_option models)
 
--- a subcommand with the argument F
+-- the option `--literal`
+abbrev pub literal_option : Rule
+literal_option = record (new_rule (codes "literal")) {
+  long = Some (codes "literal");
+  action = Some SetTrue;
+}
+
+-- a subcommand about formats that may be given by string literals
+abbrev pub on_literals : Text → ValueParser → App
+on_literals name models = with_rule (on_nothing name models) literal_option
+
+-- the same with the argument F
 abbrev pub on_format : Text → ValueParser → App
-on_format name models = with_rule (on_nothing name models) (wanted (codes "F"))
+on_format name models = with_rule (on_literals name models) (wanted (codes "F"))
 
 -- the option `--null`, or `-z`
 abbrev pub null_option : Rule
@@ -43,9 +54,20 @@ null_option = record (new_rule (codes "null")) {
 -- a subcommand with the option `--null` and the argument F, which may be left out
 abbrev pub on_records : Text → ValueParser → App
 on_records name models =
-    with_rule (with_rule (on_nothing name models) null_option) (new_rule (codes "F"))
+    with_rule (with_rule (on_literals name models) null_option) (new_rule (codes "F"))
 
--- the same with the argument G, which may be left out, too
+-- the option `--whole`
+abbrev pub whole_option : Rule
+whole_option = record (new_rule (codes "whole")) {
+  long = Some (codes "whole");
+  action = Some SetTrue;
+}
+
+-- the same with the option `--whole`
+abbrev pub on_types : Text → ValueParser → App
+on_types name models = with_rule (on_records name models) whole_option
+
+-- a subcommand about records with the argument G, which may be left out, too
 abbrev pub on_pairs : Text → ValueParser → App
 on_pairs name models = with_rule (on_records name models) (new_rule (codes "G"))
 
@@ -72,12 +94,13 @@ top_app = on_top (λ s. record s {
 -- the command, with how clap tests the name of one data model, and that of one or both
 unfoldable pub the_command : ValueParser → ValueParser → App
 the_command one both =
-    let with_types = with_subcommand top_app (on_records (codes "types") one).top in
+    let with_types = with_subcommand top_app (on_types (codes "types") one).top in
     let with_canon = with_subcommand with_types (on_records (codes "canon") one).top in
     let with_show = with_subcommand with_canon (on_records (codes "show") one).top in
     let with_format = with_subcommand with_show (on_arguments (codes "format") one).top in
     let with_same = with_subcommand with_format (on_pairs (codes "same") both).top in
-    with_subcommand with_same (on_nothing (codes "stream") one).top
+    let with_fits = with_subcommand with_same (on_pairs (codes "fits") one).top in
+    with_subcommand with_fits (on_nothing (codes "stream") one).top
 
 -- clap's definition of the command, wherever in memory the names of the data models lie
 pub record IsCommand (app : App) : Type 0 where

@@ -1,25 +1,22 @@
 //! The answer to a question.
-ghost use Rattle.std.specs.Prelude.{◌≡◌, Err, IfOk, MatchResult, Ok};
-ghost use Rattle.fmtcanon.specs.Answers.{HasCanonicalLine, HindersFormat, IsAnswer, IsHindered};
-ghost use Rattle.fmtcanon.specs.Lines.{line};
+ghost use Rattle.std.specs.Prelude.{◌≡◌, Err, MatchResult, Ok};
+ghost use Rattle.fmtcanon.specs.Answers.{IsAnswer, IsHindered};
 ghost use Rattle.fmtcanon.specs.declared.answer.Ending.TheVariants.{Done};
 
-use crate::comparison::comparison_answer;
 use crate::fault::Fault;
-use crate::printing::print_format;
+use crate::given_answers::{
+    arguments_of_given, canonical_of_given, comparison_of_given, fit_of_given, parts_of_given,
+    printed_by_given, types_of_given,
+};
 use crate::questions::Question;
-use crate::show_lines::show_lines;
-use crate::type_lines::type_lines;
-use pf_canon::canonical;
-use pf_values::Model;
-use std::alloc::{AllocError, Global};
+use std::alloc::Global;
 
 /// How a run ends that writes all of an answer.
 #[derive(Clone, Copy, Debug, PartialEq, Eq)]
 pub enum Ending {
     /// Nothing but the answer is told.
     Done,
-    /// The formats mean the same.
+    /// The formats mean the same, or take the same arguments.
     Same,
     /// They differ, in types or in bytes.
     Different,
@@ -41,19 +38,25 @@ pub fn answer_to(alloc: Global, question: &Question<'_>) -> Result<Answer, Fault
         (IsHindered question.now) }
 {
     match question {
-        Question::Types(model, format) => done(type_lines(alloc, *model, format)),
-        Question::Canon(model, format) => done(canonical_line(alloc, *model, format)),
-        Question::Show(model, format) => done(show_lines(alloc, *model, format)),
+        Question::Types(model, format) => done(types_of_given(alloc, *model, format)),
+        Question::Arguments(model, format) => done(arguments_of_given(alloc, *model, format)),
+        Question::Canon(model, format) => done(canonical_of_given(alloc, *model, format)),
+        Question::Show(model, format) => done(parts_of_given(alloc, *model, format)),
         Question::Format {
             model,
             format,
             words,
-        } => done(print_format(alloc, *model, format, words)),
+        } => done(printed_by_given(alloc, *model, format, words)),
+        Question::Fits {
+            model,
+            first,
+            second,
+        } => fit_of_given(alloc, *model, first, second),
         Question::Same {
             models,
             first,
             second,
-        } => comparison_answer(alloc, *models, first, second),
+        } => comparison_of_given(alloc, *models, first, second),
     }
 }
 
@@ -66,21 +69,4 @@ fn done(bytes: Result<Vec<u8>, Fault>) -> Result<Answer, Fault>
         bytes: bytes?,
         ending: Ending::Done,
     })
-}
-
-// The canonical string of a format and a newline.
-fn canonical_line(alloc: Global, model: Model, format: &[u8]) -> Result<Vec<u8>, Fault>
-    ensures { MatchResult result (λ out. HasCanonicalLine model format.now out.items)
-        (HindersFormat format.now) }
-{
-    let canonical = canonical(alloc, model, format)?;
-    Ok(with_newline(canonical)?)
-}
-
-// A text with a newline after it.
-fn with_newline(mut text: Vec<u8>) -> Result<Vec<u8>, AllocError>
-    ensures { IfOk result (λ out. out.items ≡ line text.items) }
-{
-    text.push(b'\n')?;
-    Ok(text)
 }

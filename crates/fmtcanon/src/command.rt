@@ -4,7 +4,7 @@ ghost use Rattle.clap.specs.Simple.{App, new_rule, with_rule, with_subcommand};
 ghost use Rattle.clap.specs.Words.{app_of};
 ghost use Rattle.clap.specs.declared.builder.command.Command.TheViews.{out-Command as fields_of};
 ghost use Rattle.clap.specs.declared.builder.value_parser.ValueParser.TheVariants.{Names};
-ghost use Rattle.fmtcanon.specs.Words.{IsCommand, any_arguments, on_format, on_nothing, on_records, the_command, top_app};
+ghost use Rattle.fmtcanon.specs.Words.{IsCommand, any_arguments, on_format, on_literals, on_nothing, on_records, the_command, top_app, whole_option};
 
 use crate::command_texts as texts;
 use crate::models::{NAMES, NAMES_OR_MORE};
@@ -32,11 +32,11 @@ fn definition_with<'a>(
     let show = "Writes the parts of a format, and what its directives are reduced to, a line each";
     let format = "Writes what a format prints for arguments, and nothing else";
     let same = "Tells whether one format may stand for another; if not, in what they differ";
+    let fits =
+        "Tells whether one format takes just the arguments of another, in the whole language";
     let stream = "Writes the canonical string of standard input";
-    let with_types = joined(
-        top(alloc),
-        on_records(alloc, "types", types, texts::TYPES, one),
-    );
+    let on_types = taking_whole(alloc, on_records(alloc, "types", types, texts::TYPES, one));
+    let with_types = joined(top(alloc), on_types);
     let with_canon = joined(
         with_types,
         on_records(alloc, "canon", canon, texts::CANON, one),
@@ -52,8 +52,10 @@ fn definition_with<'a>(
     let with_format = joined(with_show, on_arguments);
     let on_pairs = taking_second(alloc, on_records(alloc, "same", same, texts::SAME, both));
     let with_same = joined(with_format, on_pairs);
+    let on_fits = taking_second(alloc, on_records(alloc, "fits", fits, texts::FITS, one));
+    let with_fits = joined(with_same, on_fits);
     joined(
-        with_same,
+        with_fits,
         on_nothing(alloc, "stream", stream, texts::STREAM, one),
     )
 }
@@ -95,6 +97,24 @@ fn on_nothing<'a>(
         .arg(option)
 }
 
+// The same with the option `--literal`.
+fn on_literals<'a>(
+    alloc: Global,
+    name: &'a str,
+    about: &'a str,
+    below: &'a str,
+    models: &'a [&'a str],
+) -> Result<Command<'a>, AllocError>
+    ensures { IfOk result (λ command. (app_of command ≡ on_literals name.now (Names models.entry))
+        × ((fields_of command).has_globals ≡ false)) }
+{
+    let option = Arg::new(alloc, "literal")
+        .long("literal")
+        .action(ArgAction::SetTrue)
+        .help("Takes formats as string literals of C source, with their quotes");
+    on_nothing(alloc, name, about, below, models)?.arg(option)
+}
+
 // The same with a format.
 fn on_format<'a>(
     alloc: Global,
@@ -107,7 +127,7 @@ fn on_format<'a>(
         × ((fields_of command).has_globals ≡ false)) }
 {
     let format = Arg::new(alloc, "F").required(true).help("A printf format");
-    on_nothing(alloc, name, about, below, models)?.arg(format)
+    on_literals(alloc, name, about, below, models)?.arg(format)
 }
 
 // A subcommand with a format, or with the option `--null`: `task` sees that it is one of them.
@@ -127,9 +147,26 @@ fn on_records<'a>(
         .action(ArgAction::SetTrue)
         .help("Takes formats from standard input, with a zero byte after each");
     let format = Arg::new(alloc, "F").help("A printf format");
-    on_nothing(alloc, name, about, below, models)?
+    on_literals(alloc, name, about, below, models)?
         .arg(null)?
         .arg(format)
+}
+
+// The subcommand with the option `--whole` besides.
+fn taking_whole<'a>(
+    alloc: Global,
+    command: Result<Command<'a>, AllocError>,
+) -> Result<Command<'a>, AllocError>
+    requires { IfOk command (λ c. (fields_of c).has_globals ≡ false) }
+    ensures value { (a : App) → IfOk command.entry (λ c. app_of c ≡ a)
+        → IfOk result (λ r. app_of r ≡ with_rule a whole_option) }
+    ensures plain { IfOk result (λ r. (fields_of r).has_globals ≡ false) }
+{
+    let option = Arg::new(alloc, "whole")
+        .long("whole")
+        .action(ArgAction::SetTrue)
+        .help("Takes the whole language of printf, with its arguments by number too");
+    command?.arg(option)
 }
 
 // The subcommand with a second format besides.

@@ -26,6 +26,7 @@ docs/REFUSALS.md of the source says what each refusal means, and what to write i
 pub const TYPES: &str = "\
 Example:
   fmtcanon types '%s: %u files'
+  fmtcanon types --whole '%2$s of %1$.2f'
   printf '%s\\0' %i %5c | fmtcanon types --null
 
 A format that begins with - stands after --, as in: fmtcanon types -- '-%i'
@@ -40,6 +41,7 @@ Refusals: docs/REFUSALS.md of the source says what each means, and what to write
 pub const CANON: &str = "\
 Example:
   fmtcanon canon 'Total: %i of %u%%'
+  fmtcanon canon --literal '\"Total:\\t%i\" \"\\n\"'
   printf '%s\\0' %i %5c | fmtcanon canon --null
 
 A format that begins with - stands after --, as in: fmtcanon canon -- '-%i'
@@ -92,6 +94,25 @@ greatest.
 
 Exit status: 0 same, 1 different, 2 one of the two is refused, 3 wrong words or a format too few,
 4 a write failed or memory ran out
+Refusals: docs/REFUSALS.md of the source says what each means, and what to write instead.";
+
+pub const FITS: &str = "\
+Example:
+  fmtcanon fits '%s of %d' '%2$d/%1$s'
+  printf '%s\\0' %d %i %.2f %d | fmtcanon fits --null
+
+A format that begins with - stands after --, as in: fmtcanon fits -- '-%d' '-%i'
+Where that is forgotten, the tip may name a part of the format. Give the whole of it after --.
+
+It is about the types of arguments alone, as for translations. same tells whether the bytes are the
+same, too.
+
+With --null formats come two by two from standard input, each with a zero byte after it. A reply is a
+status, a space, what is written or the line of the refusal, and a zero byte. The exit status is the
+greatest.
+
+Exit status: 0 fits, 1 the types differ, 2 one of the two is refused, 3 wrong words or a format too
+few, 4 a write failed or memory ran out
 Refusals: docs/REFUSALS.md of the source says what each means, and what to write instead.";
 
 pub const STREAM: &str = "\

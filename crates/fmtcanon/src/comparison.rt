@@ -5,9 +5,9 @@ ghost use Rattle.fmtcanon.specs.Comparisons.{IsComparisonAnswer, IsComparisonIn,
 ghost use Rattle.fmtcanon.specs.Lines.{line};
 
 use crate::answer::{Answer, Ending};
+use crate::argument_lines::types_line;
 use crate::fault::Fault;
 use crate::models::{Models, name_of};
-use itoa::Buffer;
 use pf_compare::{OwnedArg, Verdict, compare};
 use pf_values::Model;
 use std::alloc::{AllocError, Global};
@@ -105,17 +105,6 @@ fn verdict_lines(alloc: Global, verdict: &Verdict) -> Result<Vec<u8>, AllocError
         Verdict::Types(index) => types_line(alloc, *index),
         Verdict::Args(args) => argument_lines(alloc, args),
     }
-}
-
-fn types_line(alloc: Global, index: u64) -> Result<Vec<u8>, AllocError>
-    ensures { IfOk result
-        (λ out. out.items ≡ line (codes "types differ at argument " ++ decimal index)) }
-{
-    let mut digits = Buffer::new();
-    let mut out = Vec::from_slice(alloc, b"types differ at argument ")?;
-    out.extend_from_slice(digits.format(index).as_bytes())?;
-    out.push(b'\n')?;
-    Ok(out)
 }
 
 fn argument_lines(alloc: Global, args: &[OwnedArg]) -> Result<Vec<u8>, AllocError>

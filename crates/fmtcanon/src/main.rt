@@ -2,12 +2,15 @@
 #![tactic(auto)]
 
 mod answer;
+mod argument_lines;
 mod argument_words;
 mod command;
 mod command_texts;
 mod comparison;
 mod fault;
 mod format_arguments;
+mod formats;
+mod given_answers;
 mod laws;
 mod models;
 mod outcome;

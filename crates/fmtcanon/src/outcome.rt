@@ -5,6 +5,8 @@ ghost use Rattle.fmtcanon.specs.Outcomes.{outcome_of_fault, outcome_of, status_o
 use crate::answer::Ending;
 use crate::fault::Fault;
 use pf_canon::Side;
+use pf_literals::LiteralRefusal;
+use pf_signatures::SignatureRefusal;
 use pf_text::Refusal;
 
 /// How a run ended.
@@ -12,7 +14,7 @@ use pf_text::Refusal;
 pub enum Outcome {
     /// All was written.
     Done,
-    /// The formats mean the same, and that was written.
+    /// The formats mean the same, or take the same arguments, and that was written.
     Same,
     /// They differ, in types or in bytes, and that was written.
     Different,
@@ -22,6 +24,20 @@ pub enum Outcome {
         side: Option<Side>,
         /// Why, and where.
         refusal: Refusal,
+    },
+    /// A format of the whole language is refused, and nothing was written.
+    RefusedWhole {
+        /// Which one, where there are two.
+        side: Option<Side>,
+        /// Why, and where.
+        refusal: SignatureRefusal,
+    },
+    /// The literals that give a format are wrong, and nothing was written.
+    BadLiteral {
+        /// Which format, where there are two.
+        side: Option<Side>,
+        /// What is wrong, and where.
+        refusal: LiteralRefusal,
     },
     /// The word of the argument with this index gives no argument, and nothing was written.
     BadWord(u64),
@@ -68,6 +84,8 @@ impl Outcome {
     {
         match fault {
             Fault::Refused { side, refusal } => Outcome::Refused { side, refusal },
+            Fault::RefusedWhole { side, refusal } => Outcome::RefusedWhole { side, refusal },
+            Fault::BadLiteral { side, refusal } => Outcome::BadLiteral { side, refusal },
             Fault::BadWord(index) => Outcome::BadWord(index),
             Fault::WrongCount { wanted, given } => Outcome::WrongCount { wanted, given },
             Fault::WrongType(index) => Outcome::WrongType(index),
@@ -75,8 +93,8 @@ impl Outcome {
         }
     }
 
-    /// The exit status: 0 where all was written, 1 for formats that differ, 2 for a refused format,
-    /// 3 for wrong words or arguments or a record too few, and 4 for a device that failed or want
+    /// The exit status: 0 where all was written, 1 for formats that differ, 2 for a refused format
+    /// or wrong literals, 3 for wrong words or arguments or a record too few, and 4 for a device that failed or want
     /// of memory. Of records that were answered it is the greatest of theirs.
     pub fn status(&self) -> u8
         ensures { result ≡ status_of self.now }
@@ -84,7 +102,8 @@ impl Outcome {
         match self {
             Outcome::Done | Outcome::Same => 0,
             Outcome::Different => 1,
-            Outcome::Refused { .. } => 2,
+            Outcome::Refused { .. } | Outcome::RefusedWhole { .. } => 2,
+            Outcome::BadLiteral { .. } => 2,
             Outcome::BadWord(_) | Outcome::WrongCount { .. } | Outcome::WrongType(_) => 3,
             Outcome::NoSecond | Outcome::Usage(_) => 3,
             Outcome::Answered(status) => *status,

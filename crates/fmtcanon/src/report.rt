@@ -2,16 +2,20 @@
 ghost use Rattle.std.specs.Prelude.{◌≡◌, ◌≤◌, ◌+◌, ◌++◌, codes, decimal, length};
 ghost use Rattle.arrayvec.specs.ArrayString.{array_string_len};
 ghost use Rattle.pf_values.specs.Counting.{Writes};
+ghost use Rattle.pf_literals.specs.Kinds as literals;
+ghost use Rattle.pf_signatures.specs.Kinds as signatures;
 ghost use Rattle.pf_values.specs.RefusalKinds.{name};
 ghost use Rattle.fmtcanon.specs.Lines.{line};
 ghost use Rattle.fmtcanon.specs.Outcomes.{outcome_of_fault};
-ghost use Rattle.fmtcanon.specs.Reports.{Tells, refusal_told, side_told, told};
+ghost use Rattle.fmtcanon.specs.Reports.{Tells, fault_told, literal_told, refusal_told, side_told, told, whole_told};
 
 use crate::fault::Fault;
 use crate::outcome::Outcome;
 use arrayvec::ArrayString;
 use itoa::Buffer;
 use pf_canon::Side;
+use pf_literals::{LiteralKind, LiteralRefusal};
+use pf_signatures::{SignatureRefusal, SignatureRefusalKind};
 use pf_text::Refusal;
 use pf_values::{Counted, RefusalKind, ShortWrite, write_bytes};
 use std::io::Write;
@@ -36,6 +40,8 @@ fn tell<E: Write>(outcome: &Outcome, errors: &mut Counted<E>) -> Result<(), Shor
         Outcome::Answered(_) => write_bytes(errors, b""),
         Outcome::NoSecond => write_bytes(errors, b"a second format is wanted\n"),
         Outcome::Refused { side, refusal } => write_line(errors, &refusal_line(*side, refusal)),
+        Outcome::RefusedWhole { side, refusal } => write_line(errors, &whole_line(*side, refusal)),
+        Outcome::BadLiteral { side, refusal } => write_line(errors, &literal_line(*side, refusal)),
         Outcome::BadWord(index) => write_line(errors, &argument_line(*index, "not an argument")),
         Outcome::WrongCount { wanted, given } => write_line(errors, &count_line(*wanted, *given)),
         Outcome::WrongType(index) => write_line(errors, &argument_line(*index, "wrong type")),
@@ -58,6 +64,8 @@ pub fn fault_line(fault: &Fault) -> Line
 {
     match fault {
         Fault::Refused { side, refusal } => refusal_line(*side, refusal),
+        Fault::RefusedWhole { side, refusal } => whole_line(*side, refusal),
+        Fault::BadLiteral { side, refusal } => literal_line(*side, refusal),
         Fault::BadWord(index) => argument_line(*index, "not an argument"),
         Fault::WrongCount { wanted, given } => count_line(*wanted, *given),
         Fault::WrongType(index) => argument_line(*index, "wrong type"),
@@ -76,14 +84,56 @@ fn memory_line() -> Line
 fn refusal_line(side: Option<Side>, refusal: &Refusal) -> Line
     ensures { result.bytes ≡ line (refusal_told side refusal.now) }
 {
+    let number = refusal.kind.number();
+    fault_line_of(
+        side,
+        "refused ",
+        number,
+        kind_name(refusal.kind),
+        refusal.at,
+    )
+}
+
+fn whole_line(side: Option<Side>, refusal: &SignatureRefusal) -> Line
+    ensures { result.bytes ≡ line (whole_told side refusal.now) }
+{
+    let number = refusal.kind.number();
+    fault_line_of(
+        side,
+        "refused ",
+        number,
+        whole_name(refusal.kind),
+        refusal.at,
+    )
+}
+
+fn literal_line(side: Option<Side>, refusal: &LiteralRefusal) -> Line
+    ensures { result.bytes ≡ line (literal_told side refusal.now) }
+{
+    let number = refusal.kind.number();
+    fault_line_of(
+        side,
+        "literal ",
+        number,
+        literal_name(refusal.kind),
+        refusal.at,
+    )
+}
+
+// The line of what is wrong with a format, or with the literals that give it.
+fn fault_line_of(side: Option<Side>, what: &str, number: u8, name: &str, at: u64) -> Line
+    requires what { length what.now ≤ 8 }
+    requires name { length name.now ≤ 18 }
+    ensures { result.bytes ≡ line (fault_told side what.now number name.now at) }
+{
     let mut line = Line::new();
     line.push_str(side_name(side));
-    line.push_str("refused ");
-    push_number(&mut line, u64::from(refusal.kind.number()));
+    line.push_str(what);
+    push_number(&mut line, u64::from(number));
     line.push_str(" ");
-    line.push_str(kind_name(refusal.kind));
+    line.push_str(name);
     line.push_str(" at byte ");
-    push_number(&mut line, refusal.at);
+    push_number(&mut line, at);
     line.push_str("\n");
     line
 }
@@ -141,6 +191,20 @@ fn side_name(side: Option<Side>) -> &'static str
 
 fn kind_name(kind: RefusalKind) -> &'static str
     ensures name { result.now ≡ name kind }
+    ensures short { length result.now ≤ 18 }
+{
+    kind.name()
+}
+
+fn whole_name(kind: SignatureRefusalKind) -> &'static str
+    ensures name { result.now ≡ signatures.name kind }
+    ensures short { length result.now ≤ 18 }
+{
+    kind.name()
+}
+
+fn literal_name(kind: LiteralKind) -> &'static str
+    ensures name { result.now ≡ literals.name kind }
     ensures short { length result.now ≤ 18 }
 {
     kind.name()

@@ -5,10 +5,11 @@ ghost use Rattle.clap.specs.Matches.{first_value};
 ghost use Rattle.clap.specs.Words.{found_of, kind_of, matched_of, raw_values};
 ghost use Rattle.pf_values.specs.Text.{Text};
 ghost use Rattle.fmtcanon.specs.Questions.{IsAbout, formats_wanted};
-ghost use Rattle.fmtcanon.specs.Tasks.{Asks, IsAnsweredBy, IsNoTaskOf, IsNoTaskOn, IsTaskOn, Names, formats_in, is_null, rows_in};
+ghost use Rattle.fmtcanon.specs.Tasks.{Asks, IsAnsweredBy, IsAsked, IsNoTaskOf, IsNoTaskOn, IsTaskOn, Names, formats_in, is_set, notation_in, rows_in};
 
 use crate::command::definition;
 use crate::command_texts as texts;
+use crate::formats::{GivenFormat, Notation};
 use crate::models::{model_of, models_of};
 use crate::questions::{Question, RecordQuestion};
 use clap::error::ErrorKind;
@@ -62,21 +63,55 @@ fn named_task<'a>(alloc: Global, name: &str, inner: &ArgMatches<'a>) -> Result<T
     ensures err { IfErr result (λ fault. (words : List Text)
         → Names words name.now (rows_in inner.now) → IsNoTaskOf words fault) }
 {
+    let notation = notation_of(inner);
     match name {
-        "types" => formats_task(alloc, inner, RecordQuestion::Types(model_of(inner))),
-        "canon" => formats_task(alloc, inner, RecordQuestion::Canon(model_of(inner))),
-        "show" => formats_task(alloc, inner, RecordQuestion::Show(model_of(inner))),
+        "types" => formats_task(alloc, inner, about_types(inner, notation)),
+        "canon" => formats_task(
+            alloc,
+            inner,
+            RecordQuestion::Canon(notation, model_of(inner)),
+        ),
+        "show" => formats_task(
+            alloc,
+            inner,
+            RecordQuestion::Show(notation, model_of(inner)),
+        ),
         "format" => match given_words(alloc, inner) {
             Ok(words) => Ok(Task::Answer(Question::Format {
                 model: model_of(inner),
-                format: value_of(inner, "F").as_bytes(),
+                format: GivenFormat {
+                    notation,
+                    text: value_of(inner, "F").as_bytes(),
+                },
                 words,
             })),
             Err(AllocError) => Err(NoTask::Memory),
         },
-        "same" => formats_task(alloc, inner, RecordQuestion::Same(models_of(inner))),
+        "fits" => formats_task(
+            alloc,
+            inner,
+            RecordQuestion::Fits(notation, model_of(inner)),
+        ),
+        "same" => formats_task(
+            alloc,
+            inner,
+            RecordQuestion::Same(notation, models_of(inner)),
+        ),
         "stream" => Ok(Task::Stream(model_of(inner))),
         _ => unreachable!(),
+    }
+}
+
+// What the command about types asks: in the profile, or in the whole language.
+fn about_types(inner: &ArgMatches<'_>, notation: Notation) -> RecordQuestion
+    ensures { notation ≡ notation_in (rows_in inner.now)
+        → IsAsked (codes "types") (rows_in inner.now) result }
+{
+    let model = model_of(inner);
+    if is_set(inner, "whole") {
+        RecordQuestion::Arguments(notation, model)
+    } else {
+        RecordQuestion::Types(notation, model)
     }
 }
 
@@ -89,7 +124,7 @@ fn formats_task<'a>(
     ensures ok { IfOk result (IsTaskOn kind (rows_in inner.now)) }
     ensures err { IfErr result (IsNoTaskOn kind (rows_in inner.now)) }
 {
-    if is_null(inner) {
+    if is_set(inner, "null") {
         return match inner.get_str("F") {
             None => Ok(Task::Records(kind)),
             Some(_) => Err(misplaced(alloc)),
@@ -101,11 +136,22 @@ fn formats_task<'a>(
     }
 }
 
-// Whether the formats come as records.
-fn is_null(inner: &ArgMatches<'_>) -> bool
-    ensures { result ≡ is_null (rows_in inner.now) }
+// How the formats are given.
+fn notation_of(inner: &ArgMatches<'_>) -> Notation
+    ensures { result ≡ notation_in (rows_in inner.now) }
 {
-    match inner.get_str("null") {
+    if is_set(inner, "literal") {
+        Notation::Literals
+    } else {
+        Notation::Bytes
+    }
+}
+
+// Whether an option without a value stands among the words.
+fn is_set(inner: &ArgMatches<'_>, id: &str) -> bool
+    ensures { result ≡ is_set id.now (rows_in inner.now) }
+{
+    match inner.get_str(id) {
         Some(value) => is_true(value),
         None => false,
     }

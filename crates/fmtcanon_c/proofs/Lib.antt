@@ -1,3 +1,4 @@
 pub mod CodeLemmas
 pub mod ComparingLemmas
 mod SamenessLemmas
+mod SignatureLemmas

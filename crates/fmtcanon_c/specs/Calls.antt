@@ -1,13 +1,11 @@
 -- What the calls answer. This project's own.
-use Rattle.std.specs.Prelude.{◌≡◌, ◌≤◌, ◌<◌, ◌^◌, ◌⊎◌, ⊤, ℕ, ◌+◌, ◌*◌, ℤ, pos, List, [], ◌∷◌, ◌++◌, length, map}
+use Rattle.std.specs.Prelude.{◌≡◌, ◌≤◌, ◌<◌, ◌^◌, ◌⊎◌, ⊤, ℕ, ◌+◌, ◌*◌, ℤ, pos, List, [], ◌∷◌, ◌++◌, length, map, None, Some}
 use Rattle.pf_values.specs.declared.models.Model.{Model}
 use Rattle.pf_values.specs.declared.models.TheConstants.Model.{ALL}
-use Rattle.pf_values.specs.declared.refusals.RefusalKind.{RefusalKind}
 use Rattle.pf_values.specs.declared.types.ArgType.{ArgType}
 use Rattle.pf_values.specs.Canonical.{IsCanonicalText}
 use Rattle.pf_values.specs.Items.{IsAccepted}
 use Rattle.pf_values.specs.Printing.{AreEquivalent}
-use Rattle.pf_values.specs.RefusalKinds.{name, number}
 use Rattle.pf_values.specs.Text.{Text}
 use Rattle.pf_text.specs.Signatures.{TakesManyArguments, TakesTypes}
 use Rattle.pf_canon.specs.Answers.{HindersCanonical, IsCanonicalFor}
@@ -23,7 +21,7 @@ use Rattle.fmtcanon_c.specs.declared.errors.CError.{CError}
 use Rattle.fmtcanon_c.specs.declared.errors.TheConstants.{NO_MEMORY}
 use Rattle.fmtcanon_c.specs.declared.comparing.CComparison.{CComparison}
 use Rattle.fmtcanon_c.specs.Buffers.{put, type_code}
-use Rattle.fmtcanon_c.specs.Errors.{IsRefusalTold, IsRefusedBy}
+use Rattle.fmtcanon_c.specs.Errors.{IsNameOf, IsRefusalTold, IsRefusedBy}
 use Rattle.fmtcanon_c.specs.Words.{ended_words}
 
 -- accepted, with the error untouched, or refused
@@ -172,6 +170,6 @@ IsFaultTold compare_faults.Memory error code error_now = (code ≡ NO_MEMORY) ×
 -- answered
 abbrev pub PutsName : ℕ → Text → ℕ → Text → Type 0
 PutsName n out len out_now =
-    ((kind : RefusalKind) × (n ≡ number kind) × (len ≡ length (name kind))
-    × (out_now ≡ put (name kind ++ 0 ∷ []) out))
-    ⊎ (((kind : RefusalKind) → n ≡ number kind → ⊥) × (len ≡ 0) × (out_now ≡ out))
+    ((name : Text) × IsNameOf n (Some name) × (len ≡ length name)
+    × (out_now ≡ put (name ++ 0 ∷ []) out))
+    ⊎ (IsNameOf n None × (len ≡ 0) × (out_now ≡ out))

@@ -1,13 +1,18 @@
 -- How a refusal is told. This project's own.
-use Rattle.std.specs.Prelude.{◌≡◌, ℕ, ℤ, pos, neg_ℤ, Option, Some, None}
+use Rattle.std.specs.Prelude.{◌≡◌, ◌⊎◌, ℕ, ◌+◌, Bool, true, false, ◌&&◌, nat_le, ℤ, pos, neg_ℤ, Option, Some, None}
+use Rattle.pf_literals.specs.declared.kinds.LiteralKind.{LiteralKind}
+use Rattle.pf_literals.specs.Kinds as literals
+use Rattle.pf_signatures.specs.declared.kinds.SignatureRefusalKind.{SignatureRefusalKind}
+use Rattle.pf_signatures.specs.Kinds as whole
 use Rattle.pf_values.specs.declared.refusals.RefusalKind.{RefusalKind}
-use Rattle.pf_values.specs.RefusalKinds.{number}
+use Rattle.pf_values.specs.RefusalKinds.{name, number}
 use Rattle.pf_values.specs.Refusals.{IsRefusedAt}
 use Rattle.pf_values.specs.Text.{Text}
 use Rattle.pf_text.specs.declared.refusal.Refusal.{Refusal}
 use Rattle.pf_canon.specs.declared.sides.Side.{Side}
 use Rattle.pf_canon.specs.declared.sides.Side.TheVariants.{First, Second}
 use Rattle.fmtcanon_c.specs.declared.errors.CError.{CError}
+use Rattle.fmtcanon_c.specs.declared.errors.TheConstants.{LITERAL_KINDS}
 
 -- which text it is
 abbrev pub side_number : Side → ℕ
@@ -29,6 +34,38 @@ pub record IsRefusalTold (side : Side) (refusal : Refusal) (code : ℤ) (error :
     pub code_is : code ≡ neg_ℤ (pos (number refusal.kind))
     pub kind_is : error.kind ≡ number refusal.kind
     pub side_is : error.side ≡ side_number side
+
+-- the kind of faults of literals with the number, if there is one
+abbrev pub IsLiteralKindOf : ℕ → Option LiteralKind → Type 0
+IsLiteralKindOf n (Some kind) = n ≡ literals.number kind
+IsLiteralKindOf n None = (kind : LiteralKind) → n ≡ literals.number kind → ⊥
+
+-- its name, by the number with what is added to it
+abbrev pub IsLiteralNameOf : ℕ → Option Text → Type 0
+IsLiteralNameOf n (Some name) = (kind : LiteralKind)
+    × (n ≡ LITERAL_KINDS + literals.number kind) × (name ≡ literals.name kind)
+IsLiteralNameOf n None = (kind : LiteralKind) → n ≡ LITERAL_KINDS + literals.number kind → ⊥
+
+-- the kinds that only the whole language has, by their numbers
+abbrev pub is_whole_alone : ℕ → Bool
+is_whole_alone n = nat_le 19 n && nat_le n 22
+
+-- the kind with the number that only the whole language has, if there is one
+abbrev pub IsWholeKindOf : ℕ → Option SignatureRefusalKind → Type 0
+IsWholeKindOf n (Some kind) = (n ≡ whole.number kind) × (is_whole_alone n ≡ true)
+IsWholeKindOf n None = is_whole_alone n ≡ false
+
+-- the name of a kind with the number that only the whole language or literals have
+abbrev pub IsOtherNameOf : ℕ → Option Text → Type 0
+IsOtherNameOf n (Some t) = ((kind : SignatureRefusalKind) × (n ≡ whole.number kind)
+    × (is_whole_alone n ≡ true) × (t ≡ whole.name kind)) ⊎ IsLiteralNameOf n (Some t)
+IsOtherNameOf n None = (is_whole_alone n ≡ false) × IsLiteralNameOf n None
+
+-- the name of a kind of refusals with the number, of formats or of literals, if there is one
+abbrev pub IsNameOf : ℕ → Option Text → Type 0
+IsNameOf n (Some t) =
+    ((kind : RefusalKind) × (n ≡ number kind) × (t ≡ name kind)) ⊎ IsOtherNameOf n (Some t)
+IsNameOf n None = ((kind : RefusalKind) → n ≡ number kind → ⊥) × IsOtherNameOf n None
 
 -- the kind with the number, if there is one
 abbrev pub IsKindOf : ℕ → Option RefusalKind → Type 0

@@ -3,3 +3,5 @@ pub mod Errors
 pub mod Models
 pub mod Words
 pub mod Calls
+pub mod Literals
+pub mod Signatures

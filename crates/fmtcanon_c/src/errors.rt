@@ -12,13 +12,20 @@ pub(crate) const NO_MEMORY: i64 = -100;
 /// `FMTCANON_ERROR_MODEL`
 pub(crate) const NO_MODEL: i64 = -101;
 
+/// `FMTCANON_ERROR_NOPLACE`
+pub(crate) const NO_PLACE: i64 = -102;
+
+/// What is added to the number of a kind of faults of literals, so that it is no number of a kind of
+/// refusals of formats.
+pub(crate) const LITERAL_KINDS: u32 = 200;
+
 /// `fmtcanon_error`: where and why a text is refused.
 #[repr(C)]
 #[derive(Clone, Copy)]
 pub struct CError {
     /// The byte, counted from 0.
     pub at: u64,
-    /// The number of the kind, from 1 to 18.
+    /// The number of the kind: from 1 to 22 of a format, from 201 to 206 of literals.
     pub kind: u32,
     /// Which text: 0 for the first or only one, 1 for the second.
     pub side: u32,
@@ -40,7 +47,8 @@ pub(crate) fn put_refusal(error: &mut CError, side: Side, refusal: Refusal) -> i
     -i64::from(number)
 }
 
-fn side_number(side: Side) -> u32
+/// Which text it is.
+pub(crate) fn side_number(side: Side) -> u32
     ensures { result ≡ side_number side }
 {
     match side {

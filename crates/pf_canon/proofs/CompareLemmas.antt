@@ -1,11 +1,12 @@
 -- Two texts that are compared in step.
-use Rattle.std.proofs.Common.{◌≡◌, ◌≢◌, ℕ, ◌<◌, Bool, true, false, [], ◌∷◌, ◌++◌, length, Option, Some, None, Result, Ok, Err, refl, sym, ◌∙◌, subst, arith, inl, inr, take, drop, ap}
+use Rattle.std.proofs.Common.{◌≡◌, ◌≢◌, ℕ, ◌<◌, ◌≤◌, Bool, true, false, [], ◌∷◌, ◌++◌, length, List, Option, Some, None, Result, Ok, Err, refl, sym, ◌∙◌, subst, arith, inl, inr, take, drop, ap}
 use Rattle.std.specs.Prelude.{MatchBool}
 use Rattle.std.specs.Io.KnownBytes.{Consumes}
-use Rattle.std.proofs.lemmas.List.{append-nil, append_assoc, append_cancel_left, length-append, take-append-drop, take-append-le}
+use Rattle.std.proofs.lemmas.List.{append-nil, append_assoc, append_cancel_left, length-append, length-take, take-append-drop, take-append-le, take-take}
 use Rattle.pf_values.specs.declared.models.Model.{Model}
 use Rattle.pf_values.specs.Canonical.{IsCanonicalOf}
 use Rattle.pf_values.specs.Counting.{Known}
+use Rattle.pf_values.specs.Items.{Item}
 use Rattle.pf_values.specs.Text.{Text}
 use Rattle.pf_probes.proofs.Unique.{equivalent_formats_one}
 use Rattle.pf_canon.specs.Comparing.{BeginsWith, CountsBehind, CountsSides, CountsStop, Drained, DrainsTo, EndsBoth, FailsOnceAtMost, FaultCounts, Gave, HasPace, IsPaced, PacesTo, StopsBy, StopsOn, AreTextsSame}
@@ -21,7 +22,7 @@ use Rattle.pf_canon.specs.Due.{due_text}
 use Rattle.pf_canon.specs.Sources.{CountsFault, History, IsEnding, IsOver, IsReadFor, IsReading, Leaves, StepsBy}
 use Rattle.pf_canon.proofs.EquivalentTexts.{equivalent_by}
 use Rattle.pf_canon.specs.declared.transducing.Transducer.{Transducer}
-use Rattle.pf_canon.specs.Through.{IsUpTo}
+use Rattle.pf_canon.specs.Through.{IsThrough, IsUpTo}
 use Rattle.pf_canon.specs.Walks.{AreApart, GoInStep, IsMidway, IsWalkedWhole, IsWhole, waits}
 use Rattle.pf_canon.specs.Prefixes.{AreCommon}
 use Rattle.pf_canon.specs.declared.walks.Walk.{Walk}
@@ -231,6 +232,33 @@ begun model r f p out common at e same h =
 pub begun_both : (model : Model) (r : Transducer) (f g out : Text) (common at : ℕ) → AreCommon f g common → r.model ≡ model → IsUpTo r (take common f) at out → IsMidway model r (drop at f) [] f out × IsMidway model r (drop at g) [] g out
 begun_both model r f g out common at both same h = (begun model r f (take common f) out common at refl same h, begun model r g (take common f) out common at (sym both.same) same h)
 
+pub told_other : (A B : Type 0) (b : Bool) → b ≡ false → MatchBool b A B → B
+told_other A B false e h = h
+told_other A B true e h = absurd cc
+
+-- the transducer took a run, which settled itself
+pub after_run : (model : Model) (r : Transducer) (t : Text) (n : ℕ) → r.model ≡ model → IsUpTo r t n (take n t) → (items : List Item) × IsThrough model r (take n t) items (take n t)
+after_run model r t n e h = (h.1, subst (λ m. IsThrough m r (take n t) h.1 (take n t)) e h.2)
+
+run_front : (t more : Text) (n both : ℕ) → both ≤ n → n ≤ length t → take both (take n t ++ more) ≡ take both t
+run_front t more n both h within =
+    take-append-le both (take n t) more (omega (arith, h, within, length-take n t)) ∙ take-take both n t h
+
+-- their canonical texts differ
+unlike_told : (model : Model) (f g c d : Text) → c ≢ d → IsWhole model f c → IsWhole model g d → AreTextsSame model f g false
+unlike_told model f g c d unlike h k = record {
+  first = h.0;
+  second = k.0;
+  first_canonical = (c, h.1);
+  second_canonical = (d, k.1);
+  same = (λ is. absurd (cc), λ e. absurd (unlike (equivalent_formats_one model f g c d e h.1 k.1)));
+}
+
+-- they begin with unequal runs
+pub runs_told : (model : Model) (f g more other : Text) (n m both : ℕ) → both ≤ n → both ≤ m → n ≤ length f → m ≤ length g → take both f ≢ take both g → IsWhole model f (take n f ++ more) → IsWhole model g (take m g ++ other) → AreTextsSame model f g false
+runs_told model f g more other n m both first second within also apart h k =
+    unlike_told model f g (take n f ++ more) (take m g ++ other) (λ e. apart (sym (run_front f more n both first within) ∙ ap (take both) e ∙ run_front g other m both second also)) h k
+
 module _ (model : Model) (f g given w v : Text) where
   -- both canonical texts are the same
   pub same_told : (x y : Text) → w ≡ [] → x ≡ [] → v ≡ [] → y ≡ [] → IsWhole model f (given ++ (w ++ x)) → IsWhole model g (given ++ (v ++ y)) → AreTextsSame model f g true
@@ -247,16 +275,7 @@ module _ (model : Model) (f g given w v : Text) where
 
   -- they go on with other bytes
   pub apart_told : (x y : Text) → AreApart w v → (w ≡ [] → x ≡ []) → (v ≡ [] → y ≡ []) → IsWhole model f (given ++ (w ++ x)) → IsWhole model g (given ++ (v ++ y)) → AreTextsSame model f g false
-  apart_told x y apart no_x no_y h k = record {
-    first = h.0;
-    second = k.0;
-    first_canonical = (_, h.1);
-    second_canonical = (_, k.1);
-    same = (
-      λ is. absurd (cc),
-      λ e. absurd (apart x y no_x no_y (append_cancel_left given (w ++ x) (v ++ y) (equivalent_formats_one model f g (given ++ (w ++ x)) (given ++ (v ++ y)) e h.1 k.1))),
-    );
-  }
+  apart_told x y apart no_x no_y h k = unlike_told model f g (given ++ (w ++ x)) (given ++ (v ++ y)) (λ e. apart x y no_x no_y (append_cancel_left given (w ++ x) (v ++ y) e)) h k
 
 -- both texts were walked to their ends
 pub told : (model : Model) (first second : Walk) (f g : Text) (is : Bool) (step : GoInStep model first f second g is) → IsWalkedWhole model first f step.given → IsWalkedWhole model second g step.given → AreTextsSame model f g is
@@ -265,3 +284,13 @@ told model first second f g true step h k =
     same_told model f g step.given (waits first) (waits second) h.more k.more none.0 (h.ended (step.one_ended none.0)) none.1 (k.ended (step.two_ended none.1)) h.whole k.whole
 told model first second f g false step h k =
     apart_told model f g step.given (waits first) (waits second) h.more k.more step.so (λ none. h.ended (step.one_ended none)) (λ none. k.ended (step.two_ended none)) h.whole k.whole
+
+-- a text and itself
+pub told_itself : (model : Model) (t c : Text) → IsWhole model t c → AreTextsSame model t t true
+told_itself model t c h = record {
+  first = h.0;
+  second = h.0;
+  first_canonical = (c, h.1);
+  second_canonical = (c, h.1);
+  same = (λ _. equivalent_by model t t c h.1.equivalent h.1.equivalent, λ _. refl);
+}

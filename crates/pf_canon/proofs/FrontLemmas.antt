@@ -1,10 +1,11 @@
 -- How a transducer takes the front of a text.
 use Rattle.std.proofs.Common.{◌≡◌, ◌≢◌, ℕ, zero, suc, ◌<◌, ◌+◌, ◌-◌, ◌*◌, ◌^◌, ◌≤◌, List, [], ◌∷◌, ◌++◌, length, map, take, drop, refl, sym, ap, ◌∙◌, subst, arith, Result, Ok, Err, ◌⊎◌, inl, inr}
 use Rattle.std.proofs.Math.Seq.{take-add}
-use Rattle.std.proofs.lemmas.List.{append-nil, append_assoc, length-append, length-take-le, take_all, take-append-drop}
+use Rattle.std.proofs.lemmas.List.{append-nil, append_assoc, length-append, length-drop, length-take, length-take-le, take_all, take-append-drop}
 use Rattle.pf_values.specs.declared.models.Model.{Model}
 use Rattle.pf_values.specs.declared.refusals.RefusalKind.{RefusalKind}
-use Rattle.pf_values.specs.Items.{Item, Byte, Reads}
+use Rattle.pf_values.specs.Items.{Item, Byte, Directive, Reads}
+use Rattle.pf_values.specs.Specification.{Specification}
 use Rattle.pf_values.specs.Refusals.{IsRefusedAt}
 use Rattle.pf_values.specs.Text.{Text}
 use Rattle.pf_text.specs.declared.refusal.Refusal.{Refusal}
@@ -12,18 +13,20 @@ use Rattle.pf_text.specs.declared.scanner.Step.{Step}
 use Rattle.pf_text.specs.declared.scanner.Step.TheVariants as steps
 use Rattle.pf_text.specs.History as scanned
 use Rattle.pf_canon.specs.Answers.{most_len}
+use Rattle.pf_canon.specs.declared.parts.Parts.{Parts}
 use Rattle.pf_canon.specs.declared.transducing.Front.{Front}
 use Rattle.pf_canon.specs.declared.transducing.Made.{Made}
 use Rattle.pf_canon.specs.declared.transducing.Stop.{Stop}
 use Rattle.pf_canon.specs.declared.transducing.Made.TheVariants as mades
 use Rattle.pf_canon.specs.declared.transducing.Transducer.{Transducer}
 use Rattle.pf_canon.specs.Making.{IsMaking}
-use Rattle.pf_canon.specs.Through.{GrowsBy, IsFed, IsThrough, Keeps, Passes, RefusesIn, Settles, SettlesTo, SettlesWhole, front_text, made_text, more_of, run_text}
+use Rattle.pf_canon.specs.Parts.{parts_text}
+use Rattle.pf_canon.specs.Through.{GrowsBy, HasTaken, IsFed, IsThrough, Keeps, Passes, RefusesIn, Settles, SettlesTo, SettlesWhole, TakesDirective, front_text, made_text, more_of, run_text}
 use Rattle.pf_text.specs.Plain.{PassesPlain, PassesSilents, silents}
 use Rattle.pf_canon.proofs.BuildingLemmas.{most_len-append}
 use Rattle.pf_canon.proofs.MakingLemmas.{made_more, made_settled, made_silents}
 use Rattle.pf_canon.proofs.RefusedLemmas.{not_truncated}
-use Rattle.pf_canon.proofs.ThroughLemmas.{grown, passed, passed_plain, through_few}
+use Rattle.pf_canon.proofs.ThroughLemmas.{directive_grown, grown, passed, passed_plain, through_few}
 
 pub through_settles : (model : Model) (r : Transducer) (t out : Text) (items : List Item) → IsThrough model r t items out → SettlesTo model t out
 through_settles model r t out items h =
@@ -81,6 +84,21 @@ fed_made model r new t out text items run at step made f same scanner settles on
           (subst (λ u. IsThrough model new u (items ++ g.more) (o ++ last)) (one_more t text at f.byte f.first)
           (subst (λ u. IsThrough model new ((t ++ take at text) ++ f.byte ∷ []) (items ++ g.more) (o ++ run_text made u)) (sym (first_alone text at f.byte f.first)) g.through));
     }
+
+-- and so has a directive that was taken whole
+pub directive_made : (model : Model) (r new : Transducer) (t out text : Text) (items : List Item) (run at len : ℕ) (d : Specification) (parts : Parts) → 0 < len → at + len ≤ length text → (f : HasTaken model r t items (out ++ take run text) text at len d) → new.model ≡ r.model → new.scanner ≡ r.scanner
+    → ((out : Text) (items rest : List Item) → TakesDirective r.model d items rest out r.waiting parts new.waiting) → new.waiting ≤ r.waiting + 1 → length (parts_text parts) + 4 * new.waiting ≤ 4 * r.waiting + most_len (Directive d ∷ [])
+    → GrowsBy model t out text (record { run = run; start = at; len = at + len; made = mades.Parts parts }) new
+directive_made model r new t out text items run at len d parts some within f same scanner settles one short =
+    let w = f.waiting in
+    let o = out ++ take run text in
+    let bytes = take len (drop at text) in
+    let more = items ++ Directive d ∷ [] in
+    let long : 1 ≤ length bytes = omega (arith, some, within, length-drop at text, length-take len (drop at text)) in
+    let whole : (t ++ take at text) ++ bytes ≡ t ++ take (at + len) text = append_assoc t (take at text) bytes ∙ ap (λ u. t ++ u) (sym (take-add at len text)) in
+    let g = directive_grown model f.before new (t ++ take at text) bytes o (parts_text parts) items d f.through (same ∙ f.model_is) (rw scanner f.takes.after) long
+    (rw (f.model_is ∙ f.through.model_is, w) at settles o more []) (omega (arith, one, w)) (rw w at short) in
+    record { items = more; through = subst (IsThrough model new (t ++ take (at + len) text) more) (append_assoc out (take run text) (parts_text parts)) (subst (λ u. IsThrough model new u more (o ++ parts_text parts)) whole g) }
 
 most_silents : (count : ℕ) → most_len (silents count) ≡ 4120 * count
 most_silents zero = omega arith

@@ -1,18 +1,19 @@
 //! Two texts, compared in step.
-ghost use Rattle.std.specs.Prelude.{◌≡◌, ℕ, Option, Some, None, Err, IfOk, MatchResult};
+ghost use Rattle.std.specs.Prelude.{◌≡◌, ℕ, Option, Some, None, Err, IfOk, IfSome, MatchResult};
 ghost use Rattle.pf_values.specs.Counting.{HasFailed, Known, device_of, failures_of};
 ghost use Rattle.pf_values.specs.Text.{Text};
 ghost use Rattle.pf_canon.specs.Comparing.{AreTextsSame, CountsBehind, CountsDrain, CountsSides, DrainsTo, EndsBoth, Gave, GoesOnlyWith, HasPace, IsApart, IsInStep, Lowers, PacesTo, StopsSide, TextStops};
+ghost use Rattle.pf_canon.specs.Prefixes.{AreCommon};
 ghost use Rattle.pf_canon.specs.Sources.{History, Leaves};
 ghost use Rattle.pf_canon.specs.Walks.{GoInStep, HasGiven};
 
 use crate::faults::{SideFault, StreamFault};
-use crate::prefixes::{common_front, common_len};
+use crate::prefixes::{are_equal, common_front, common_len};
 use crate::reading::Bytes;
 use crate::sides::Side;
 use crate::sources::Source;
 use crate::transducing::Transducer;
-use crate::walks::Walk;
+use crate::walks::{Walk, finish_rest};
 use pf_text::Refusal;
 use pf_values::{Counted, Model};
 use std::io::Read;
@@ -43,7 +44,55 @@ pub fn same_stream<R: Read, S: Read>(
 pub fn same_text(model: Model, f: &[u8], g: &[u8]) -> Result<bool, (Side, Refusal)>
     ensures { MatchResult result (AreTextsSame model f.now g.now) (TextStops f.now g.now) }
 {
-    let (mut first, mut second) = walks_of(model, f, g);
+    if are_equal(f, g) {
+        return same_itself(model, f);
+    }
+    let common = common_len(f, g);
+    if common == 0 && f.first() != g.first() {
+        if let Some(told) = tell_by_runs(model, f, g) {
+            return told;
+        }
+    }
+    same_behind(model, f, g, common)
+}
+
+// The same of a text and itself. It is read once.
+fn same_itself(model: Model, text: &[u8]) -> Result<bool, (Side, Refusal)>
+    ensures { MatchResult result (AreTextsSame model text.now text.now)
+        (TextStops text.now text.now) }
+{
+    match finish_rest(Transducer::new(model), text) {
+        Ok(()) => Ok(true),
+        Err(refusal) => Err((Side::First, refusal)),
+    }
+}
+
+// The same of two texts that begin with unequal runs, each of which settles itself.
+fn tell_by_runs(model: Model, f: &[u8], g: &[u8]) -> Option<Result<bool, (Side, Refusal)>>
+    ensures { IfSome result (λ told.
+        MatchResult told (AreTextsSame model f.now g.now) (TextStops f.now g.now)) }
+{
+    let (first, first_run) = Transducer::after_run(model, f);
+    let (second, second_run) = Transducer::after_run(model, g);
+    let both = first_run.min(second_run);
+    if are_equal(&f[..both], &g[..both]) {
+        return None;
+    }
+    if let Err(refusal) = finish_rest(first, &f[first_run..]) {
+        return Some(Err((Side::First, refusal)));
+    }
+    if let Err(refusal) = finish_rest(second, &g[second_run..]) {
+        return Some(Err((Side::Second, refusal)));
+    }
+    Some(Ok(false))
+}
+
+// The same of two texts that begin with so many equal bytes, which are read once.
+fn same_behind(model: Model, f: &[u8], g: &[u8], common: usize) -> Result<bool, (Side, Refusal)>
+    requires { AreCommon f.now g.now common }
+    ensures { MatchResult result (AreTextsSame model f.now g.now) (TextStops f.now g.now) }
+{
+    let (mut first, mut second) = walks_of(model, f, g, common);
     let same = go_in_step(&mut first, &mut second);
     if let Err(refusal) = first.finish() {
         return Err((Side::First, refusal));
@@ -54,13 +103,13 @@ pub fn same_text(model: Model, f: &[u8], g: &[u8]) -> Result<bool, (Side, Refusa
     Ok(same)
 }
 
-// A walk through each of two texts. What both begin with is read once.
+// A walk through each of two texts that begin with so many equal bytes.
 #[inline(always)]
-fn walks_of<'a>(model: Model, f: &'a [u8], g: &'a [u8]) -> (Walk<'a>, Walk<'a>)
+fn walks_of<'a>(model: Model, f: &'a [u8], g: &'a [u8], common: usize) -> (Walk<'a>, Walk<'a>)
+    requires { AreCommon f.now g.now common }
     ensures { (given : Text) × HasGiven model result.0 f.now given
         × HasGiven model result.1 g.now given }
 {
-    let common = common_len(f, g);
     let (transducer, at) = Transducer::after_front(model, &f[..common]);
     let first = Walk::new(transducer, &f[at..]);
     let second = Walk::new(transducer, &g[at..]);

@@ -36,6 +36,7 @@ impl Front {
 }
 
 /// What is left after some bytes.
+#[inline(always)]
 fn cut<'a>(front: &[u8], left: Option<&'a [u8]>) -> Option<&'a [u8]>
     ensures { IsCutOff left.entry front.now result }
 {
@@ -46,6 +47,7 @@ fn cut<'a>(front: &[u8], left: Option<&'a [u8]>) -> Option<&'a [u8]>
 }
 
 /// What is left after the bytes of an item.
+#[inline(always)]
 pub(crate) fn cut_parts<'a>(parts: &Parts, left: Option<&'a [u8]>) -> Option<&'a [u8]>
     ensures { IsCutOff left.entry (parts_text parts.now) result }
 {
@@ -56,6 +58,7 @@ pub(crate) fn cut_parts<'a>(parts: &Parts, left: Option<&'a [u8]>) -> Option<&'a
     cut_repeated(b' ', parts.trail, left)
 }
 
+#[inline(always)]
 fn cut_repeated<'a>(byte: u8, count: u16, left: Option<&'a [u8]>) -> Option<&'a [u8]>
     ensures { IsCutOff left.entry (replicate count byte) result }
 {
@@ -69,6 +72,7 @@ fn cut_repeated<'a>(byte: u8, count: u16, left: Option<&'a [u8]>) -> Option<&'a 
     left
 }
 
+#[inline(always)]
 fn cut_silents<'a>(count: u64, left: Option<&'a [u8]>) -> Option<&'a [u8]>
     ensures { IsCutOff left.entry (flat_map item_spelling (silents count)) result }
 {

@@ -74,7 +74,8 @@ fn both_empty(y: &[u8]) -> Option<usize>
     None
 }
 
-fn are_equal(x: &[u8], y: &[u8]) -> bool
+/// Whether two texts are equal.
+pub(crate) fn are_equal(x: &[u8], y: &[u8]) -> bool
     ensures { MatchBool result (x.now ≡ y.now) (x.now ≢ y.now) }
 {
     x == y

@@ -191,6 +191,7 @@ impl<'a> Walk<'a> {
         true
     }
 
+    // Takes an item, where no run stands before it.
     #[inline(always)]
     fn take_front(&mut self)
         requires cleared { IsClear self.old }
@@ -203,7 +204,7 @@ impl<'a> Walk<'a> {
     {
         // A copy, which lies in registers.
         let mut transducer = self.transducer;
-        match transducer.feed_front(self.rest) {
+        match transducer.feed_behind(self.rest, 0) {
             Ok(front) => {
                 self.transducer = transducer;
                 self.keep(front);
@@ -239,8 +240,8 @@ impl<'a> Walk<'a> {
     }
 }
 
-// Whether a text is accepted of which this is left.
-fn finish_rest(transducer: Transducer, rest: &[u8]) -> Result<(), Refusal>
+/// Whether a text is accepted of which this is left.
+pub(crate) fn finish_rest(transducer: Transducer, rest: &[u8]) -> Result<(), Refusal>
     ensures { (model : Model) (t out : Text) (items : List Item)
         → IsThrough model transducer t items out
         → MatchResult result (λ _. (more : Text) × IsWhole model (t ++ rest.now) (out ++ more))

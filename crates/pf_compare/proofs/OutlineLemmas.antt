@@ -72,7 +72,7 @@ under_number model (kinds.Unsigned base capitals) s n body e h = h
 under_number model kinds.Char s n body e h = absurd cc
 under_number model kinds.String s n body e h = absurd h
 
-printed_number : (model : Model) (s : Specification) (n v : ℤ) (out : Text) → IsFalse (is_text s.conv) → IsValue model s n v → Prints model s (Number n) out → out ≡ field s (value_text s v)
+pub printed_number : (model : Model) (s : Specification) (n v : ℤ) (out : Text) → IsFalse (is_text s.conv) → IsValue model s n v → Prints model s (Number n) out → out ≡ field s (value_text s v)
 printed_number model s n v out e h g =
     let number = under_number model (kind_of s.conv) s n g.0 e g.1 in
     let same : number.value ≡ v = IsConverted-unique (bits_under model s.length) (is_signed s.conv) n number.value v number.value_is h in

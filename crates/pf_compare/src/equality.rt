@@ -1,5 +1,6 @@
 //! Whether two directives are one, part by part.
 ghost use Rattle.std.specs.Prelude.{◌≡◌, IsTrue};
+ghost use Rattle.pf_compare.specs.Spaces.{with_space};
 
 use pf_values::{Conv, Directive, Flag, FlagSet, Length};
 
@@ -9,6 +10,19 @@ pub(crate) fn are_equal(first: &Directive, second: &Directive) -> bool
 {
     same_flags(first.flags(), second.flags())
         && same_number(first.width(), second.width())
+        && same_number(first.precision(), second.precision())
+        && same_length(first.length(), second.length())
+        && same_conv(first.conv(), second.conv())
+}
+
+/// The same but for the flag ` `.
+pub(crate) fn are_equal_beside_space(first: &Directive, second: &Directive) -> bool
+    ensures { IsTrue result → with_space first.now ≡ with_space second.now }
+{
+    same_flags(
+        first.flags().with(Flag::Space),
+        second.flags().with(Flag::Space),
+    ) && same_number(first.width(), second.width())
         && same_number(first.precision(), second.precision())
         && same_length(first.length(), second.length())
         && same_conv(first.conv(), second.conv())

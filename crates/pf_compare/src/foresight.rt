@@ -1,31 +1,36 @@
 //! Whether two directives print otherwise for a candidate, where that is seen without printing.
-ghost use Rattle.std.specs.Prelude.{◌≡◌, ℕ, IfSome, IsFalse, IsTrue, replicate};
+ghost use Rattle.std.specs.Prelude.{◌≡◌, ℕ, false, IfSome, IsFalse, IsTrue, replicate};
 ghost use Rattle.pf_values.specs.declared.models.Model.{Model};
 ghost use Rattle.pf_values.specs.Arguments.{Number, String};
 ghost use Rattle.pf_values.specs.Conversions.{base_of, base_under, has_capitals, is_string, is_text, is_upper};
 ghost use Rattle.pf_values.specs.Bases.{number_of};
+ghost use Rattle.pf_values.specs.Specification.{Specification};
 ghost use Rattle.pf_probes.specs.Candidate.{argument_of};
 ghost use Rattle.pf_compare.specs.Outlines.{Foretells, digit_below_ten, digits_under};
+ghost use Rattle.pf_compare.specs.Spaces.{AreAlikeFor};
 
 use crate::equality::same_conv;
 use crate::outlines::Outline;
 use crate::runs::Run;
-use crate::values::Counted;
+use crate::spaces::Alike;
+use crate::values::{Counted, Value};
 use pf_probes::Candidate;
 use pf_values::{Conv, Directive, Kind, Model};
 
 /// Whether two directives print different bytes for a candidate; none where they have to be printed
-/// to tell.
+/// to tell. What is known of both serves for all candidates.
 pub(crate) fn foretell(
     model: Model,
     first: &Directive,
     second: &Directive,
+    known: Option<Alike>,
     candidate: Candidate,
 ) -> Option<bool>
+    requires { IfSome known (AreAlikeFor first.now second.now) }
     ensures { IfSome result (Foretells model first.now second.now (argument_of candidate)) }
 {
     match candidate {
-        Candidate::Number(number) => foretell_number(model, first, second, number),
+        Candidate::Number(number) => foretell_number(model, first, second, known, number),
         Candidate::Repeat { byte: _, count } => foretell_repeat(first, second, count),
     }
 }
@@ -78,12 +83,17 @@ fn foretell_number(
     model: Model,
     first: &Directive,
     second: &Directive,
+    known: Option<Alike>,
     number: i128,
 ) -> Option<bool>
+    requires { IfSome known (AreAlikeFor first.now second.now) }
     ensures { IfSome result (Foretells model first.now second.now (Number number)) }
 {
     if is_integer(first) {
         if is_integer(second) {
+            if is_known(model, first, known, number) {
+                return Some(false);
+            }
             return foretell_integer(model, first, second, number);
         }
     }
@@ -97,6 +107,20 @@ fn is_integer(directive: &Directive) -> bool
     match directive.conv().kind() {
         Kind::Signed | Kind::Unsigned(_, _) => true,
         Kind::Char | Kind::String => false,
+    }
+}
+
+// Whether a number is one of those that a directive is known to print as another one does.
+#[inline(always)]
+fn is_known(model: Model, directive: &Directive, known: Option<Alike>, number: i128) -> bool
+    requires integer { IsFalse (is_text directive.now.conv) }
+    ensures { IsTrue result → (other : Specification)
+        → IfSome known (AreAlikeFor directive.now other)
+        → Foretells model directive.now other (Number number) false }
+{
+    match known {
+        Some(alike) => alike.has(Value::of(model, directive, number)),
+        None => false,
     }
 }
 

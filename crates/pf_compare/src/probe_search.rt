@@ -1,5 +1,5 @@
 //! The first argument that tells two formats apart, where they print the same for neutral ones.
-ghost use Rattle.std.specs.Prelude.{◌≡◌, ◌≢◌, ◌≤◌, ◌+◌, ◌-◌, ◌++◌, IfOk, IsTrue, List, MatchBool, drop, length, take};
+ghost use Rattle.std.specs.Prelude.{◌≡◌, ◌≢◌, ◌≤◌, ◌+◌, ◌-◌, ◌++◌, IfOk, IfSome, IsTrue, List, MatchBool, drop, length, take};
 ghost use Rattle.pf_values.specs.Arg.{argument_of};
 ghost use Rattle.pf_values.specs.Arguments.{HasType};
 ghost use Rattle.pf_values.specs.Candidates.{neutral};
@@ -9,11 +9,13 @@ ghost use Rattle.pf_values.specs.declared.models.Model.TheVariants.{Lp64};
 ghost use Rattle.pf_probes.specs.Candidate as probes;
 ghost use Rattle.pf_compare.specs.Answers.{FindsProbe};
 ghost use Rattle.pf_compare.specs.Layouts.{AreLevel, FillAlike, FillUnlike, FindsUnlike, IsInside, IsLayoutOf, fill};
+ghost use Rattle.pf_compare.specs.Spaces.{AreAlikeFor};
 
 use crate::equality::are_equal;
 use crate::foresight::foretell;
 use crate::layouts::{Hole, Layout, print};
 use crate::owned_args::OwnedArg;
+use crate::spaces::Alike;
 use pf_probes::{Candidate, candidate_row};
 use pf_values::{Arg, ArgType, Model};
 use std::alloc::{AllocError, Global};
@@ -117,9 +119,12 @@ fn first_of(
     ensures { IfOk result (FindsUnlike model whole.now first.now second.now wanted) }
 {
     let row = candidate_row(model, wanted);
+    let known = Alike::of(&first.directive, &second.directive);
     let mut place = 1;
     while place < row.len() {
-        if tell_apart(alloc, model, whole, first, second, wanted, row[place])? {
+        if tell_apart(
+            alloc, model, whole, first, second, known, wanted, row[place],
+        )? {
             return Ok(Some(place));
         }
         place += 1;
@@ -134,9 +139,11 @@ fn tell_apart(
     whole: &[u8],
     first: &Hole,
     second: &Hole,
+    known: Option<Alike>,
     wanted: ArgType,
     candidate: Candidate,
 ) -> Result<bool, AllocError>
+    requires known { IfSome known (AreAlikeFor first.now.directive second.now.directive) }
     requires first_type { arg_type model first.now.directive ≡ wanted }
     requires second_type { arg_type model second.now.directive ≡ wanted }
     requires typed { HasType model (probes.argument_of candidate) wanted }
@@ -148,7 +155,7 @@ fn tell_apart(
         (FillAlike model whole.now first.now second.now (probes.argument_of candidate))) }
 {
     if have_one_place(first, second) {
-        if let Some(told) = foretell(model, &first.directive, &second.directive, candidate) {
+        if let Some(told) = foretell(model, &first.directive, &second.directive, known, candidate) {
             return Ok(told);
         }
     }

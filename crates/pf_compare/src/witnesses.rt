@@ -50,7 +50,7 @@ pub(crate) fn first_witness(
 fn neutrals(alloc: Global, model: Model, holes: &[Hole]) -> Result<Vec<OwnedArg>, AllocError>
     ensures { IfOk result (λ args. AreNeutral (hole_types model holes.now) args.items) }
 {
-    let mut args = Vec::new(alloc);
+    let mut args = Vec::with_capacity(alloc, holes.len())?;
     for hole in holes {
         args.push(OwnedArg::neutral(alloc, hole.directive.arg_type(model)))?;
     }

@@ -9,6 +9,7 @@ pub mod FaultLemmas
 pub mod WalkLemmas
 pub mod DecodingLemmas
 pub mod PlaceLemmas
+pub mod HasPlaceLemmas
 pub mod EncodingLemmas
 pub mod EncodingReadLemmas
 mod Examples

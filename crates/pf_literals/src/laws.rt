@@ -1,8 +1,9 @@
 //! Laws of the definitions: a text is a source of one list of bytes, or has one fault, where it can't
 //! go on; and a text is the bytes of its encoding.
-ghost use Rattle.std.specs.Prelude.{◌≡◌, ◌++◌, ◌-◌, ◌<◌, ℕ, Some, length, slice_get};
+ghost use Rattle.std.specs.Prelude.{◌≡◌, ◌++◌, ◌-◌, ◌<◌, ◌≤◌, ℕ, Some, length, slice_get};
 ghost use Rattle.pf_literals.specs.declared.kinds.LiteralKind.{LiteralKind};
 ghost use Rattle.pf_literals.specs.declared.kinds.TheConstants.LiteralKind.{ALL as kinds};
+ghost use Rattle.pf_literals.specs.Answers.{IsPlaceOf};
 ghost use Rattle.pf_literals.specs.Elements.{Bytes};
 ghost use Rattle.pf_literals.specs.Encoding.{encoding};
 ghost use Rattle.pf_literals.specs.Faults.{IsFaultAt};
@@ -25,6 +26,13 @@ pub fn bytes_once()
 pub fn places_once()
     ensures { (t found others : Bytes) (close last : ℕ) → HasPlaces t found close
         → HasPlaces t others last → (found ≡ others) × (close ≡ last) }
+{}
+
+/// A source has a place for each of its bytes, and one behind them, and these lie in it.
+pub fn places_there()
+    ensures there { (t bytes : Bytes) (index : ℕ) → IsSourceOf t bytes → index ≤ length bytes
+        → (at : ℕ) × IsPlaceOf t index at }
+    ensures within { (t : Bytes) (index at : ℕ) → IsPlaceOf t index at → at ≤ length t }
 {}
 
 /// A text that is no source is refused for one reason and at one place.

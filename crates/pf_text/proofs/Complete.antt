@@ -68,7 +68,7 @@ digit_is d h = (grind (arith, nat_tests), grind (arith, nat_tests))
 no_flag : (d : ℕ) → 0 < d → d < 10 → (flag_of (digit_glyph false d) ≡ None) × ((digit_glyph false d == 37) ≡ false)
 no_flag d low high = (grind (arith, nat_tests), grind (arith, nat_tests))
 
-small : (n : ℕ) → n ≤ MAX_NUMBER → nat_lt MAX_NUMBER n ≡ false
+pub small : (n : ℕ) → n ≤ MAX_NUMBER → nat_lt MAX_NUMBER n ≡ false
 small n h = grind (arith, nat_tests)
 
 pub large : (n : ℕ) → MAX_NUMBER < n → nat_lt MAX_NUMBER n ≡ true

@@ -11,7 +11,8 @@ pub mod LiteralLemmas
 pub mod PlainLemmas
 mod SearchLemmas
 pub mod PieceLemmas
-pub mod BareLemmas
+pub mod DirectiveLemmas
+pub mod SpecificationLemmas
 pub mod PieceTexts
 pub mod SignatureLemmas
 pub mod WholeRunLemmas

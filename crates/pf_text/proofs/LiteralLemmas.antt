@@ -1,12 +1,13 @@
 -- Runs of literal bytes.
-use Rattle.std.proofs.Common.{◌≡◌, ℕ, zero, suc, ◌+◌, ◌-◌, ◌<◌, ◌≤◌, min, false, true, List, [], ◌∷◌, ◌++◌, length, get_or, map, take, drop, refl, sym, subst, arith, inl, inr, drop-cons}
-use Rattle.std.specs.Prelude.{Option, Some, None, unwrap_or, ◌⊎◌, ◌==◌}
+use Rattle.std.proofs.Common.{◌≡◌, ℕ, zero, suc, ◌+◌, ◌-◌, ◌%◌, ◌^◌, ◌<◌, ◌≤◌, min, false, true, List, [], ◌∷◌, ◌++◌, length, get_or, map, take, drop, refl, sym, ◌∙◌, subst, arith, inl, inr, drop-cons}
+use Rattle.std.specs.Prelude.{None, ◌⊎◌, ◌==◌}
 use Rattle.std.specs.List.{AllByRecursion}
 use Rattle.std.proofs.Math.ListN.{drop_of_length-le}
 use Rattle.std.proofs.lemmas.Bool.{cases_lt}
 use Rattle.std.proofs.lemmas.Bool.Decides.{nat_tests}
 use Rattle.std.proofs.lemmas.List.{append_assoc, append-nil, length-append, length-take}
-use Rattle.memchr.specs.Find.{IsFirstByte, is_byte2}
+use Rattle.memchr.specs.Find.{Nowhere, is_byte2}
+use Rattle.memchr.specs.Find as find
 use Rattle.pf_values.specs.declared.limits.TheConstants.{MAX_TEXT_LEN}
 use Rattle.pf_values.specs.Items.{Item, Byte, IsReadAs, Reads}
 use Rattle.pf_values.specs.Text.{Text}
@@ -33,14 +34,9 @@ stopped b (inr e) = grind (arith, nat_tests)
 goes_on : (b : ℕ) → (is_byte2 37 0 b ≡ true → ⊥) → IsLiteral b
 goes_on b h = (λ e. h (stopped b (inl e)), λ e. h (stopped b (inr e)))
 
-pub run_found : (text : Text) (r : Option ℕ) → IsFirstByte (is_byte2 37 0) text r → IsRun text (unwrap_or r (length text))
-run_found text None h = record { within = omega arith; literal = λ k less. goes_on (get_or text k 0) (h k (omega arith) less); ends = λ less. absurd (omega arith) }
-run_found text (Some n) h =
-    record {
-      within = omega (arith, h.0.high);
-      literal = λ k less. goes_on (get_or text k 0) (h.0.before k (omega arith) less);
-      ends = λ less. stops (get_or text n 0) h.1;
-    }
+pub run_found : (text : Text) (n : ℕ) → n ≤ length text → Nowhere (find.Passes (is_byte2 37 0) text) 0 n → (n < length text → find.Passes (is_byte2 37 0) text n) → IsRun text n
+run_found text n within none ended =
+    record { within = within; literal = λ k less. goes_on (get_or text k 0) (none k (omega arith) less); ends = λ less. stops (get_or text n 0) (ended less) }
 
 pub literal_take : (text : Text) (n : ℕ) → n ≤ length text → ((k : ℕ) → k < n → IsLiteral (get_or text k 0)) → AllByRecursion IsLiteral (take n text)
 literal_take text zero few h = tt
@@ -80,6 +76,21 @@ run_ends t text run room h full =
 pub no_part : (scanner : Scanner) (t : Text) (items : List Item) (h : IsAfter scanner t items) → Reads t items → h.part ≡ []
 no_part scanner t items h reads = same_whole items h.good.splits.whole t h.part h.good.splits.reads reads h.good.splits.split
 
+-- so the state counts for nothing
+pub after_restart : (scanner new : Scanner) (t : Text) (items : List Item) → state_of new.automaton ≡ Between → new.offset ≡ scanner.offset → new.refused ≡ None → IsAfter scanner t items → Reads t items → IsAfter new t items
+after_restart scanner new t items between offset none h reads =
+    record {
+      part = [];
+      good = record {
+        splits = record { whole = t; reads = reads; split = sym (append-nil t) };
+        begun = begun Between [] refl;
+      };
+      state = rw between refl;
+      offset = offset ∙ h.offset;
+      limit = h.limit;
+      no_refusal = none;
+    }
+
 -- such a text was taken with the items after it
 pub after_read : (scanner : Scanner) (t run : Text) (items more : List Item) → IsAfter scanner t items → Reads t items
     → Reads (t ++ run) (items ++ more) → length (t ++ run) ≤ MAX_TEXT_LEN
@@ -96,6 +107,13 @@ after_read scanner t run items more h reads now few =
       limit = few;
       no_refusal = h.no_refusal;
     }
+
+-- no offset is above the limit
+pub room_left : (offset : ℕ) → offset ≤ MAX_TEXT_LEN → (MAX_TEXT_LEN + (2 ^ 64 - offset)) % 2 ^ 64 ≡ MAX_TEXT_LEN - offset
+room_left offset few = omega (arith, few)
+
+pub not_wrapped : (offset n : ℕ) → offset + n ≤ MAX_TEXT_LEN → (offset + n) % 2 ^ 64 ≡ offset + n
+not_wrapped offset n few = omega (arith, few)
 
 pub passed : (scanner : Scanner) (t text : Text) (items : List Item) (n run room : ℕ) → IsAfter scanner t items → Reads t items → IsRun text run
     → room ≡ MAX_TEXT_LEN - scanner.offset → n ≡ min run room → Passes t items text n (record scanner { offset = scanner.offset + n })

@@ -28,6 +28,10 @@ nothing_fed now t read items h none =
       scanned = subst (λ u. IsAfter now.scanner u items) (sym (append-nil read)) h.scanned;
     }
 
+-- the scanner has let go of the items before
+pub restarted : (old : Pieces) (scanner : Scanner) (t read : Text) (items : List Item) → (IsAfter old.scanner read items → Reads read items → IsAfter scanner read items) → HasGiven old t read items → HasGiven (record old { scanner = scanner }) t read items
+restarted old scanner t read items still h = record { going = h.going; split = h.split; reads = h.reads; scanned = still h.scanned h.reads }
+
 -- a run of literal bytes was taken
 module _ (old new : Pieces) (t read : Text) (items : List Item) (n : ℕ) (h : HasGiven old t read items) (over : new.is_over ≡ old.is_over) (p : Passes read items old.rest.now n new.scanner) where
   -- of no byte

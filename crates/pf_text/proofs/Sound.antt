@@ -47,7 +47,7 @@ abbrev pub Judges : Text → ℕ → Next → Type 0
 Judges part byte (Ok p) = LeadsTo part byte p.0 p.1
 Judges part byte (Err kind) = HasReason part byte kind
 
-byte_of_flag : (byte : ℕ) (flag : Flag) → flag_of byte ≡ Some flag → byte ≡ flag_byte flag
+pub byte_of_flag : (byte : ℕ) (flag : Flag) → flag_of byte ≡ Some flag → byte ≡ flag_byte flag
 byte_of_flag byte flag e = grind (arith, nat_tests)
 
 pub byte_of_conv : (byte : ℕ) (conv : Conv) → conv_of byte ≡ Some conv → byte ≡ conv_letter conv
@@ -78,7 +78,7 @@ place_sum-push base (x ∷ ds) d =
     let rest = place_sum-push base ds d in
     rw (longer, rest, add-one, pow-suc) (carried x (base ^ length ds) (place_sum base ds) base d)
 
-below-push : (ds : List ℕ) (d : ℕ) → AllByRecursion (λ x. x < 10) ds → d < 10 → AllByRecursion (λ x. x < 10) (ds ++ d ∷ [])
+pub below-push : (ds : List ℕ) (d : ℕ) → AllByRecursion (λ x. x < 10) ds → d < 10 → AllByRecursion (λ x. x < 10) (ds ++ d ∷ [])
 below-push [] d h small = (small, tt)
 below-push (x ∷ ds) d h small = (h.0, below-push ds d h.1 small)
 
@@ -100,16 +100,16 @@ another_digit n d ds some small h =
 one_digit : (n : ℕ) → 0 < n → n < 10 → AreLeastDigits 10 1 n (n ∷ [])
 one_digit n some small = let one = pow-zero 10 in record { digits = record { below = (small, tt); sum = omega arith }; enough = omega arith; no_more = λ _. some }
 
-digit_of : (byte : ℕ) → is_digit byte ≡ true → (byte - 48 < 10) × (digit_glyph false (byte - 48) ≡ byte)
+pub digit_of : (byte : ℕ) → is_digit byte ≡ true → (byte - 48 < 10) × (digit_glyph false (byte - 48) ≡ byte)
 digit_of byte h = (grind (arith, nat_tests), grind (arith, nat_tests))
 
 no_flag_zero : (byte : ℕ) → flag_of byte ≡ None → is_digit byte ≡ true → 48 < byte
 no_flag_zero byte h e = grind (arith, nat_tests)
 
-glyph_push : (ds : List ℕ) (byte : ℕ) → is_digit byte ≡ true → map (digit_glyph false) ds ++ byte ∷ [] ≡ map (digit_glyph false) (ds ++ (byte - 48) ∷ [])
+pub glyph_push : (ds : List ℕ) (byte : ℕ) → is_digit byte ≡ true → map (digit_glyph false) ds ++ byte ∷ [] ≡ map (digit_glyph false) (ds ++ (byte - 48) ∷ [])
 glyph_push ds byte d = let digit = digit_of byte d in ap (λ b. map (digit_glyph false) ds ++ b ∷ []) (sym digit.1) ∙ sym (map_push (digit_glyph false) ds (byte - 48))
 
-SpellsWidth-push : (t : Text) (n byte : ℕ) → is_digit byte ≡ true → SpellsWidth t (Some n) → SpellsWidth (t ++ byte ∷ []) (Some (10 * n + (byte - 48)))
+pub SpellsWidth-push : (t : Text) (n byte : ℕ) → is_digit byte ≡ true → SpellsWidth t (Some n) → SpellsWidth (t ++ byte ∷ []) (Some (10 * n + (byte - 48)))
 SpellsWidth-push t n byte d h =
     let digit = digit_of byte d in
     let ds = h.1.0 in (
@@ -117,17 +117,17 @@ SpellsWidth-push t n byte d h =
       (ds ++ (byte - 48) ∷ [], another_digit n (byte - 48) ds h.0 digit.0 h.1.1, ap (λ u. u ++ byte ∷ []) h.1.2 ∙ glyph_push ds byte d),
     )
 
-SpellsWidth-one : (byte : ℕ) → is_digit byte ≡ true → 48 < byte → SpellsWidth (byte ∷ []) (Some (byte - 48))
+pub SpellsWidth-one : (byte : ℕ) → is_digit byte ≡ true → 48 < byte → SpellsWidth (byte ∷ []) (Some (byte - 48))
 SpellsWidth-one byte d low =
     let digit = digit_of byte d in
     let some : 0 < byte - 48 = omega arith in (some, ((byte - 48) ∷ [], one_digit (byte - 48) some digit.0, ap (λ b. b ∷ []) (sym digit.1)))
 
-SpellsPrecision-push : (t : Text) (n byte : ℕ) → is_digit byte ≡ true → SpellsPrecision t (Some n) → SpellsPrecision (t ++ byte ∷ []) (Some (10 * n + (byte - 48)))
+pub SpellsPrecision-push : (t : Text) (n byte : ℕ) → is_digit byte ≡ true → SpellsPrecision t (Some n) → SpellsPrecision (t ++ byte ∷ []) (Some (10 * n + (byte - 48)))
 SpellsPrecision-push t n byte d h =
     let digit = digit_of byte d in
     let ds = h.0 in (ds ++ (byte - 48) ∷ [], AreDigits-push n (byte - 48) ds digit.0 h.1, ap (λ u. u ++ byte ∷ []) h.2 ∙ ap (λ u. 46 ∷ u) (glyph_push ds byte d))
 
-SpellsPrecision-point : SpellsPrecision (46 ∷ []) (Some 0)
+pub SpellsPrecision-point : SpellsPrecision (46 ∷ []) (Some 0)
 SpellsPrecision-point = ([], record { below = tt; sum = refl }, refl)
 
 -- a text that ends after flags, after a width, after a precision

@@ -92,12 +92,12 @@ pub record Passes (t : Text) (items : List Item) (following : Text) (len : ℕ)
   pub literal : AllByRecursion IsLiteral (take len following)
   pub longest : EndsRun (t ++ take len following) (drop len following)
 
--- after a text that is read, the two bytes at the front of what follows were taken, which are a
+-- after a text that is read, so many bytes at the front of what follows were taken, which are a
 -- directive
-pub record TakesDirective (t : Text) (items : List Item) (following : Text) (new : Scanner)
-    (d : Specification) : Type 0 where
-  pub after : IsAfter new (t ++ take 2 following) (items ++ Directive d ∷ [])
-  pub reads : Reads (t ++ take 2 following) (items ++ Directive d ∷ [])
+pub record TakesDirective (t : Text) (items : List Item) (following : Text) (len : ℕ)
+    (new : Scanner) (d : Specification) : Type 0 where
+  pub after : IsAfter new (t ++ take len following) (items ++ Directive d ∷ [])
+  pub reads : Reads (t ++ take len following) (items ++ Directive d ∷ [])
 
 -- whether the text so far is whole
 abbrev pub Finishes : Text → List Item → Result (Unit {0}) Refusal → Type 0

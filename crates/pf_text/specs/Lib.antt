@@ -2,6 +2,7 @@ pub mod Stages
 pub mod Moves
 pub mod Fronts
 pub mod Letters
+pub mod Places
 pub mod States
 pub mod History
 pub mod Plain

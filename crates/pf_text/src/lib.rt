@@ -13,6 +13,7 @@ mod refusal;
 mod scanner;
 mod search;
 mod signatures;
+mod specification;
 mod spelling;
 mod state;
 #[cfg(test)]

@@ -42,17 +42,17 @@ impl<'a> Pieces<'a> {
         }
     }
 
-    // The directive that is spelled by its conversion alone, if the rest begins with one.
+    // The directive that stands whole at the front of the rest, if one does.
     #[inline(always)]
-    fn take_bare(&mut self) -> Option<Directive>
+    fn take_directive(&mut self) -> Option<Directive>
         ensures given { (t read : Text) (items : List Item) → HasGiven self.old t read items
             → MatchOption result ⊤ (λ d. GivesPiece self.new t read items (Piece.Directive d)) }
         ensures shorter { MatchOption result (self.new ≡ self.old)
             (λ _. length self.new.rest.now < length self.old.rest.now) }
         ensures going { self.new.is_over ≡ self.old.is_over }
     {
-        let directive = self.scanner.take_bare(self.rest)?;
-        self.rest = &self.rest[2..];
+        let (directive, len) = self.scanner.take_directive(self.rest)?;
+        self.rest = &self.rest[len..];
         Some(directive)
     }
 
@@ -126,7 +126,8 @@ impl<'a> Iterator for Pieces<'a> {
         if self.is_over {
             return None;
         }
-        if let Some(directive) = self.take_bare() {
+        self.scanner.restart();
+        if let Some(directive) = self.take_directive() {
             return Some(Ok(Piece::Directive(directive)));
         }
         if let Some(run) = self.take_run() {

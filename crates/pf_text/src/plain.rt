@@ -6,11 +6,11 @@ ghost use Rattle.pf_values.specs.declared.models.Model.{Model};
 ghost use Rattle.pf_text.specs.Plain.{BeginsSilent, IsPlainText, silents};
 
 use crate::letters::conv_of;
-use crate::search::first_other;
+use crate::search::literal_len;
 
 /// How many bytes of the text are literal bytes, `%%`, and directives that are normal and spelled
 /// by their conversion alone, up to the first other item. Those are normal in each data model. It
-/// makes no directive, sees no scanner, and is never inlined, as `first_other`.
+/// makes no directive, sees no scanner, and is never inlined, as `literal_len`.
 #[inline(never)]
 pub(crate) fn plain_len(text: &[u8]) -> usize
     ensures within { result ≤ length text.now }
@@ -39,7 +39,7 @@ fn plain_front(text: &[u8]) -> usize
     ensures ended { result ≡ 0 → Passes (is_byte2 37 0) text.now 0 }
 {
     if text[0] != b'%' {
-        return first_other(text).unwrap_or(text.len());
+        return literal_len(text);
     }
     if text.len() < 2 {
         return 0;

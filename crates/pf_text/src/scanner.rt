@@ -1,7 +1,6 @@
 //! A reader of a format, byte by byte.
-ghost use Rattle.std.specs.Prelude.{◌≡◌, ◌+◌, ◌*◌, ◌≤◌, ◌<◌, ◌∷◌, false, length, take, List, [], MatchBool, MatchOption, MatchResult, OnOk, Ok, Err};
+ghost use Rattle.std.specs.Prelude.{◌≡◌, ◌+◌, ◌*◌, ◌≤◌, ◌<◌, ◌∷◌, false, length, take, List, [], None, MatchBool, MatchOption, MatchResult, OnOk, Ok, Err, ⊤};
 ghost use Rattle.pf_values.specs.declared.limits.TheConstants.{MAX_TEXT_LEN};
-ghost use Rattle.pf_values.specs.Conversions.{conv_letter};
 ghost use Rattle.pf_values.specs.Items.{Item, Reads};
 ghost use Rattle.pf_values.specs.Text.{Text};
 ghost use Rattle.pf_values.specs.declared.models.Model.{Model};
@@ -10,13 +9,13 @@ ghost use Rattle.pf_text.specs.Stages.{state_of};
 ghost use Rattle.pf_text.specs.States.{next};
 ghost use Rattle.pf_text.specs.History.{IsAfter, HasRefused, Feeds, Finishes, Passes, TakesDirective, offset_of, refusal_by, refused_by, refusing};
 
-use crate::letters::conv_of;
 use crate::plain::{count_silents, plain_len};
 use crate::refusal::Refusal;
-use crate::search::first_other;
+use crate::search::literal_len;
+use crate::specification::directive_at_front;
 use crate::state::{Automaton, Move};
 use pf_values::limits::MAX_TEXT_LEN;
-use pf_values::{Conv, Directive, FlagSet, Length, RefusalKind};
+use pf_values::{Directive, RefusalKind};
 
 #[cfg(test)]
 mod tests;
@@ -135,6 +134,17 @@ impl Scanner {
         }
     }
 
+    /// Lets go of what came of the items before, of which nothing counts between items. So a loop
+    /// over items keeps none of it from one item to the next.
+    #[inline(always)]
+    pub(crate) fn restart(&mut self)
+        ensures { (t : Text) (items : List Item) → IsAfter self.old t items → Reads t items
+            → IsAfter self.new t items }
+    {
+        self.automaton = Automaton::new();
+        self.refused = None;
+    }
+
     /// Takes the longest run of literal bytes at the front of `text`, and tells how many there are.
     /// One call of `feed` for each of them would do the same. Inside an item, and after a refusal,
     /// it takes none.
@@ -162,10 +172,11 @@ impl Scanner {
             → Reads t items → Passes t items text.now result self.new }
         ensures idle { result ≡ 0 → self.new ≡ self.old }
     {
-        let run = first_other(text).unwrap_or(text.len());
-        let room = MAX_TEXT_LEN.saturating_sub(self.offset);
+        let run = literal_len(text);
+        // The offset is never above the limit, so nothing wraps.
+        let room = MAX_TEXT_LEN.wrapping_sub(self.offset);
         let taken = (run as u64).min(room);
-        self.offset += taken;
+        self.offset = self.offset.wrapping_add(taken);
         taken as usize
     }
 
@@ -216,25 +227,41 @@ impl Scanner {
         count
     }
 
-    /// Takes the directive that is spelled by its conversion alone, if `text` begins with one. The
-    /// automaton would come to the same by way of flags, numbers and a modifier that are not there.
+    /// Takes the directive that stands whole at the front of `text`, if one does, and tells how
+    /// many bytes it has. One call of `feed` for each of them would do the same. Where the text
+    /// begins otherwise, where a specification is cut off or refused, inside an item, and after a
+    /// refusal, it takes none.
     #[inline(always)]
-    pub(crate) fn take_bare(&mut self, text: &[u8]) -> Option<Directive>
-        ensures within { MatchOption result (self.new ≡ self.old) (λ _. 2 ≤ length text.now) }
-        ensures taken { (t : Text) (items : List Item) → IsAfter self.old t items → Reads t items
-            → MatchOption result (Unit {0}) (TakesDirective t items text.now self.new) }
+    pub fn pass_directive(&mut self, text: &[u8]) -> Option<(Directive, usize)>
+        ensures within { MatchOption result (self.new ≡ self.old)
+            (λ front. (0 < front.1) × (front.1 ≤ length text.now)) }
+        ensures passed { (t : Text) (items : List Item) → IsAfter self.old t items
+            → MatchOption result ⊤
+            (λ front. TakesDirective t items text.now front.1 self.new front.0) }
+        ensures stays { (refusal : Refusal) → HasRefused self.old refusal → result ≡ None }
     {
-        let conv = bare_conv(text)?;
-        if self.offset >= MAX_TEXT_LEN - 1 {
+        if !self.is_between() {
             return None;
         }
-        match Directive::new(FlagSet::empty(), None, None, Length::None, conv) {
-            Ok(directive) => {
-                self.offset += 2;
-                Some(directive)
-            }
-            Err(_) => None,
+        self.take_directive(text)
+    }
+
+    /// The same of a reader that stands between items.
+    #[inline(always)]
+    pub(crate) fn take_directive(&mut self, text: &[u8]) -> Option<(Directive, usize)>
+        ensures within { MatchOption result (self.new ≡ self.old)
+            (λ front. (0 < front.1) × (front.1 ≤ length text.now)) }
+        ensures taken { (t : Text) (items : List Item) → IsAfter self.old t items → Reads t items
+            → MatchOption result ⊤
+            (λ front. TakesDirective t items text.now front.1 self.new front.0) }
+    {
+        let (directive, len) = directive_at_front(text)?;
+        // The offset is never above the limit, so nothing wraps.
+        if len as u64 > MAX_TEXT_LEN.wrapping_sub(self.offset) {
+            return None;
         }
+        self.offset = self.offset.wrapping_add(len as u64);
+        Some((directive, len))
     }
 
     fn refuse(&mut self, kind: RefusalKind) -> Result<Step, Refusal>
@@ -275,21 +302,6 @@ impl Scanner {
     {
         self.offset
     }
-}
-
-// The conversion that ends the first two bytes of a text, where these are a directive.
-#[inline(always)]
-fn bare_conv(text: &[u8]) -> Option<Conv>
-    ensures { MatchOption result (Unit {0}) (λ conv. (2 ≤ length text.now)
-        × (take 2 text.now ≡ 37 ∷ conv_letter conv ∷ [])) }
-{
-    if text.len() < 2 {
-        return None;
-    }
-    if text[0] != b'%' {
-        return None;
-    }
-    conv_of(text[1])
 }
 
 // Never inlined: so the offset of a reader is never part of an answer, and stays whole in its

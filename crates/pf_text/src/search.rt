@@ -1,6 +1,6 @@
 //! The search for the end of a run of literal bytes: a byte that is `%` or 0.
 ghost use Rattle.std.specs.Prelude.{◌≡◌, ◌+◌, ◌-◌, ◌<◌, ◌≤◌, length};
-ghost use Rattle.memchr.specs.Find.{IsFirstByte, Nowhere, Passes, is_byte2};
+ghost use Rattle.memchr.specs.Find.{Nowhere, Passes, is_byte2};
 
 use memchr::memchr2;
 use std::simd::prelude::*;
@@ -11,40 +11,45 @@ const LANES: usize = 16;
 // after it.
 const NEAR: usize = 64;
 
-/// Where the first byte stands that isn't literal. It sees no scanner, so that a reader's scanner
-/// can lie in registers, and is never inlined, so that the search stands in the program once.
+/// How many literal bytes begin a text. It sees no scanner, so that a reader's scanner can lie in
+/// registers, and is never inlined, so that the search stands in the program once.
 #[inline(never)]
-pub(crate) fn first_other(text: &[u8]) -> Option<usize>
-    ensures { IsFirstByte (is_byte2 37 0) text.now result }
+pub(crate) fn literal_len(text: &[u8]) -> usize
+    ensures within { result ≤ length text.now }
+    ensures none { Nowhere (Passes (is_byte2 37 0) text.now) 0 result }
+    ensures ended { result < length text.now → Passes (is_byte2 37 0) text.now result }
 {
     if text.len() < LANES {
-        return first_by_one(text);
+        return len_by_one(text);
     }
     let mut at = 0;
     while at < NEAR {
         if text.len() - at < LANES {
-            return first_at_end(text, at);
+            return len_at_end(text, at);
         }
         let run = literals_at(text, at);
         if run < LANES {
-            return Some(at + run);
+            return at + run;
         }
         at += LANES;
     }
-    first_behind(text, at)
+    len_behind(text, at)
 }
 
-fn first_by_one(text: &[u8]) -> Option<usize>
-    ensures { IsFirstByte (is_byte2 37 0) text.now result }
+#[inline(always)]
+fn len_by_one(text: &[u8]) -> usize
+    ensures within { result ≤ length text.now }
+    ensures none { Nowhere (Passes (is_byte2 37 0) text.now) 0 result }
+    ensures ended { result < length text.now → Passes (is_byte2 37 0) text.now result }
 {
     let mut at = 0;
     while at < text.len() {
         if is_other(text[at]) {
-            return Some(at);
+            return at;
         }
         at += 1;
     }
-    None
+    at
 }
 
 #[inline(always)]
@@ -56,30 +61,30 @@ fn is_other(byte: u8) -> bool
 
 // Of a text whose first bytes are literal, all but the last few: the last vector overlaps those.
 #[inline(always)]
-fn first_at_end(text: &[u8], seen: usize) -> Option<usize>
+fn len_at_end(text: &[u8], seen: usize) -> usize
     requires room { LANES ≤ length text.now }
     requires few { length text.now - LANES ≤ seen }
     requires none { Nowhere (Passes (is_byte2 37 0) text.now) 0 seen }
-    ensures { IsFirstByte (is_byte2 37 0) text.now result }
+    ensures within { result ≤ length text.now }
+    ensures none { Nowhere (Passes (is_byte2 37 0) text.now) 0 result }
+    ensures ended { result < length text.now → Passes (is_byte2 37 0) text.now result }
 {
     let at = text.len() - LANES;
-    let run = literals_at(text, at);
-    if run < LANES {
-        return Some(at + run);
-    }
-    None
+    at + literals_at(text, at)
 }
 
 // Of a text whose first bytes are literal.
 #[inline(never)]
-fn first_behind(text: &[u8], seen: usize) -> Option<usize>
+fn len_behind(text: &[u8], seen: usize) -> usize
     requires within { seen ≤ length text.now }
     requires none { Nowhere (Passes (is_byte2 37 0) text.now) 0 seen }
-    ensures { IsFirstByte (is_byte2 37 0) text.now result }
+    ensures within { result ≤ length text.now }
+    ensures none { Nowhere (Passes (is_byte2 37 0) text.now) 0 result }
+    ensures ended { result < length text.now → Passes (is_byte2 37 0) text.now result }
 {
     match memchr2(b'%', 0, &text[seen..]) {
-        Some(more) => Some(seen + more),
-        None => None,
+        Some(more) => seen + more,
+        None => text.len(),
     }
 }
 

@@ -5,18 +5,16 @@ import re
 
 import fmtcanon
 
+from .formats import shown_type, types_of
 from .plurals import rule_of
 from .reading import Unreadable, read_catalog
 
 # Refusals of formats that C defines: such a translation may be right.
-UNJUDGED = {
-    fmtcanon.Kind.STAR,
-    fmtcanon.Kind.NUMBERED,
-    fmtcanon.Kind.WIDTH_TOO_LARGE,
-    fmtcanon.Kind.PRECISION_TOO_LARGE,
-}
+UNJUDGED = {fmtcanon.Kind.WIDTH_TOO_LARGE, fmtcanon.Kind.PRECISION_TOO_LARGE}
 # What the GNU C library takes beside C, by the byte at which a format with it is refused.
-GNU_BYTES = b"mqZIw<"
+GNU_BYTES = b"mqZIw"
+# In a numbered format such a byte is one by which a specification isn't numbered.
+GNU_KINDS = {fmtcanon.Kind.UNEXPECTED, fmtcanon.Kind.MIXED}
 # The flag I of the GNU C library, other digits, stands in translations and changes no type.
 OTHER_DIGITS = re.compile(r"%%|%([-+ #0'I]*I[-+ #0'I]*)(?=[0-9]*(?:\.[0-9]*)?(?:hh|h|ll|l|j|z|t)?[diu])")
 # So much of a message is shown.
@@ -41,7 +39,7 @@ def difference(wanted, found, may_be_fewer):
         return f"number of format specifications in '{{}}' and '{{}}' does not match: {counts}"
     for at, (one, other) in enumerate(zip(wanted, found), 1):
         if one != other:
-            names = " and ".join(kind.name.lower().replace("_", " ") for kind in (one, other))
+            names = f"{shown_type(one)} and {shown_type(other)}"
             told = f"format specifications in '{{}}' and '{{}}' for argument {at} are not the same"
             return f"{told}: {names}"
     return None
@@ -136,15 +134,17 @@ class Checker:
         """Checks one text against another, and answers whether that other one is known."""
         (known, original), (name, text) = first, second
         try:
-            wanted = [fmtcanon.types(original, model=model) for model in self.models]
+            wanted = types_of(original, self.models)
         except fmtcanon.Refused as refusal:
             self.warn_of(file, message, f"'{name}' isn't checked, since '{known}' is {refusal}")
             return False
         text = without_other_digits(text) if name != "msgid" else text
         try:
-            found = [fmtcanon.types(text, model=model) for model in self.models]
+            found = types_of(text, self.models)
         except fmtcanon.Refused as refusal:
-            if refusal.kind in UNJUDGED or is_gnu(text, refusal):
+            # The message for one may leave out arguments that no list of arguments may.
+            is_short = name == "msgid" and refusal.kind is fmtcanon.Kind.MISSING_ARGUMENT
+            if is_short or refusal.kind in UNJUDGED or is_gnu(text, refusal):
                 self.warn_of(file, message, f"'{name}' isn't checked: {refusal}")
             else:
                 reason = f"'{name}' is not a valid C format string, unlike '{known}'. Reason: {refusal}"
@@ -163,4 +163,4 @@ class Checker:
 def is_gnu(text, refusal):
     """Whether a format is refused for what the GNU C library takes."""
     at = text.encode()[refusal.byte : refusal.byte + 1]
-    return refusal.kind is fmtcanon.Kind.UNEXPECTED and at != b"" and at in GNU_BYTES
+    return refusal.kind in GNU_KINDS and at != b"" and at in GNU_BYTES

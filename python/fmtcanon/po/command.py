@@ -19,8 +19,11 @@ A .mo file doesn't say which messages are C formats. So each one with a % is che
 be a fault of a C format is a warning there, unless --c-format is given. Its messages have numbers,
 and no lines.
 
+Formats are those of POSIX fprintf, with numbered arguments, *, floating conversions, %p and %n. A
+macro of <inttypes.h>, as %<PRIu64>, stands for a type of its own.
+
 A fault is told as by `msgfmt -c`: the file, the line, the message and the reason. What can't be
-judged (a floating conversion in the message, numbered arguments) is told as a warning. The last lines
+judged, as it is no C format (%m and others of the GNU C library), is told as a warning. The last lines
 say how many messages with formats were judged, how many were not, and how many faults there are.
 
 The exit status is 1 where there is a fault, or where a file can't be read, 2 for wrong words, else 0.

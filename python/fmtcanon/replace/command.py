@@ -39,7 +39,7 @@ import fmtcanon
 from .parsed import Parsed, Unparsed
 from .pattern import Pattern
 from .places import Reading
-from .tokens import Unclear, decoded, doubt_in, encoded
+from .tokens import Unclear, decoded, doubt_in
 
 # Where the format stands among the arguments of a call, counted from 0.
 FUNCTIONS = {
@@ -190,7 +190,7 @@ class Replacer:
                 self.leave(file, place.line, why)
                 continue
             print(f"{file}:{place.line}: replaced")
-            parts += [source[done : place.start], encoded(self.new)]
+            parts += [source[done : place.start], fmtcanon.encode_literal(self.new)]
             done = place.end
         return b"".join([*parts, source[done:]])
 
@@ -229,7 +229,7 @@ def format_of(word):
     inside = os.fsencode(word)
     if re.search(rb'(?<!\\)(?:\\\\)*"|(?<!\\)(?:\\\\)*\\$', inside):
         raise Unclear("a format is given as it stands between the quotes")
-    return decoded(inside)
+    return decoded(b'"' + inside + b'"')
 
 
 def main(words=None):

@@ -38,7 +38,7 @@ class Place:
             self.unclear = "it has a prefix"
             literal = literal[literal.index(b'"') :]
         try:
-            self.parts.append(decoded(literal[1:-1]))
+            self.parts.append(decoded(literal))
         except Unclear as unclear:
             self.unclear = self.unclear or str(unclear)
             self.parts.append(literal[1:-1])

@@ -2,6 +2,8 @@
 
 import re
 
+import fmtcanon
+
 SPLICE = rb"(?:\\\r?\n)"
 # Compilers read these in two ways, by their options or each by itself.
 TRIGRAPH = re.compile(rb"\?\?[=/'()!<>-]")
@@ -26,9 +28,17 @@ TOKEN = re.compile(
 DIGRAPHS = {b"%:": b"#", b"<%": b"{", b"%>": b"}", b"<:": b"[", b":>": b"]"}
 # What may go on in the next line, where a line is spliced just after it.
 BROKEN = re.compile(rb"(?<=[-/%<:.])" + SPLICE)
-ESCAPE = re.compile(rb"\\([0-7]{1,3}|x[0-9A-Fa-f]+|.)", re.DOTALL)
-SIMPLE = dict(zip(b"abfnrtv\\'\"?", b"\a\b\f\n\r\t\v\\'\"?"))
-NAMED = {0x07: "a", 0x08: "b", 0x0C: "f", 0x0A: "n", 0x0D: "r", 0x09: "t", 0x0B: "v"}
+
+
+# Why a literal isn't taken.
+REASONS = {
+    fmtcanon.LiteralKind.NO_LITERAL: "it is no string literal",
+    fmtcanon.LiteralKind.UNTERMINATED: "a literal doesn't end in its line",
+    fmtcanon.LiteralKind.BAD_ESCAPE: "an escape in it isn't known, or a line goes on inside it",
+    fmtcanon.LiteralKind.ESCAPE_TOO_LARGE: "an escape in it is no byte",
+    fmtcanon.LiteralKind.ZERO_BYTE: "there is a zero byte in it",
+    fmtcanon.LiteralKind.TRIGRAPH: "there is a trigraph in it",
+}
 
 
 class Unclear(Exception):
@@ -44,44 +54,12 @@ def doubt_in(source):
     return next((name for pattern, name in DOUBTS if pattern.search(source)), None)
 
 
-def byte_of(match):
-    """The byte of an escape."""
-    escape = match.group(1)
-    if escape[:1].isdigit():
-        number = int(escape, 8)
-    elif escape[:1] == b"x" and len(escape) > 1:
-        number = int(escape[1:], 16)
-    elif escape[0] in SIMPLE:
-        number = SIMPLE[escape[0]]
-    else:
-        raise Unclear(f"the escape \\{escape.decode('latin-1')} isn't known")
-    if number > 255:
-        raise Unclear("an escape in it is no byte")
-    return bytes([number])
-
-
-def decoded(inside):
-    """The bytes of a literal that has this between its quotes."""
-    if re.search(SPLICE, inside):
-        raise Unclear("a line goes on inside the literal")
-    if TRIGRAPH.search(inside):
-        raise Unclear("there is a trigraph in it")
-    return ESCAPE.sub(byte_of, inside)
-
-
-def encoded(text):
-    """The literal of these bytes. An octal escape has three digits, so that no digit joins it."""
-    out = []
-    for at, byte in enumerate(text):
-        if byte in NAMED:
-            out.append("\\" + NAMED[byte])
-        elif byte in b'"\\' or (byte == ord("?") and text[at - 1 : at] == b"?"):
-            out.append("\\" + chr(byte))
-        elif 32 <= byte < 127:
-            out.append(chr(byte))
-        else:
-            out.append(f"\\{byte:03o}")
-    return f'"{"".join(out)}"'.encode()
+def decoded(literal):
+    """The bytes that a string literal stands for."""
+    try:
+        return fmtcanon.decode_literal(literal)
+    except fmtcanon.BadLiteral as fault:
+        raise Unclear(REASONS[fault.kind]) from fault
 
 
 def tokens(source):

@@ -11,10 +11,10 @@ abbrev same : Option Text → Option Text
 same o = o
 
 pub returns-in-None-clause-ok : goal.returns-in-None-clause-ok
-returns-in-None-clause-ok c = (refl, sym c.if-is_null.ensures, none_there (rows_in c.args.inner.now) (value_of_row same (codes "F") c.args.inner.now c.get_str.result _ c.get_str.ensures c.in-None.is))
+returns-in-None-clause-ok c = (refl, sym c.if-is_set.ensures, none_there (rows_in c.args.inner.now) (value_of_row same (codes "F") c.args.inner.now c.get_str.result _ c.get_str.ensures c.in-None.is))
 
 pub returns-in-Some-clause-err : goal.returns-in-Some-clause-err
 returns-in-Some-clause-err c =
     let rows = rows_in c.args.inner.now in
     let there = some_there rows c.in-Some.field-0.now (value_of_row same (codes "F") c.args.inner.now c.get_str.result _ c.get_str.ensures c.in-Some.is) in
-    misplaced_any c.args.kind rows c.misplaced.result (subst (λ (b : Bool). length (formats_in rows) ≢ (if b then 0 else formats_wanted c.args.kind)) c.if-is_null.ensures there)
+    misplaced_any c.args.kind rows c.misplaced.result (subst (λ (b : Bool). length (formats_in rows) ≢ (if b then 0 else formats_wanted c.args.kind)) c.if-is_set.ensures there)

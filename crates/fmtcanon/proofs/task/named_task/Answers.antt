@@ -3,7 +3,7 @@ use Rattle.clap.specs.Matches.{first_value, found_of, matched_of, raw_values}
 use Rattle.clap.specs.Walk.{Text}
 use Rattle.clap.specs.declared.parser.matches.ArgMatches.{ArgMatches}
 use Rattle.clap.proofs.WalkLemmas.{first_value-rows, raw_values-rows}
-use Rattle.fmtcanon.specs.Tasks.{HasAllValues, HasValue, Names, rows_in}
+use Rattle.fmtcanon.specs.Tasks.{HasAllValues, HasValue, IsAsked, Names, rows_in}
 use Rattle.fmtcanon.specs.Words.{the_command}
 use Rattle.fmtcanon.proofs.command_line.WordLemmas.{IsWanted, at_asked, format_wants, value_given}
 use Rattle.fmtcanon.specs.declared.questions.RecordQuestion.TheVariants as asked
@@ -30,35 +30,41 @@ unreachable-requires c =
     let names = c.requires in
     let name = c.args.name.now in
     let other = c.in_default in
-    at_asked (λ n. name ≡ n → ⊥) names.1.app names.0 name _ (λ one both. (other.not-types, (other.not-canon, (other.not-show, (other.not-format, (other.not-same, (other.not-stream, tt))))))) names.1.is_command names.1.named refl
+    at_asked (λ n. name ≡ n → ⊥) names.1.app names.0 name _ (λ one both. (other.not-types, (other.not-canon, (other.not-show, (other.not-format, (other.not-same, (other.not-fits, (other.not-stream, tt)))))))) names.1.is_command names.1.named refl
 
 pub returns-in-types-clause-ok : goal.returns-in-types-clause-ok
-returns-in-types-clause-ok c = asks_if c.args.name.now (rows_in c.args.inner.now) (asked.Types c.model_of.result) (c.in-types.is, c.model_of.ensures) c.formats_task.result c.formats_task.ensures.ok
+returns-in-types-clause-ok c = asks_if c.args.name.now (rows_in c.args.inner.now) c.about_types.result (subst (λ n. IsAsked n (rows_in c.args.inner.now) c.about_types.result) (sym c.in-types.is) (c.about_types.ensures c.notation_of-notation.ensures)) c.formats_task.result c.formats_task.ensures.ok
 
 pub returns-in-types-clause-err : goal.returns-in-types-clause-err
-returns-in-types-clause-err c = lacks_if c.args.name.now (rows_in c.args.inner.now) (asked.Types c.model_of.result) (c.in-types.is, c.model_of.ensures) c.formats_task.result c.formats_task.ensures.err
+returns-in-types-clause-err c = lacks_if c.args.name.now (rows_in c.args.inner.now) c.about_types.result (subst (λ n. IsAsked n (rows_in c.args.inner.now) c.about_types.result) (sym c.in-types.is) (c.about_types.ensures c.notation_of-notation.ensures)) c.formats_task.result c.formats_task.ensures.err
 
 pub returns-in-canon-clause-ok : goal.returns-in-canon-clause-ok
-returns-in-canon-clause-ok c = asks_if c.args.name.now (rows_in c.args.inner.now) (asked.Canon c.model_of-in-canon.result) (c.in-canon.is, c.model_of-in-canon.ensures) c.formats_task-in-canon.result c.formats_task-in-canon.ensures.ok
+returns-in-canon-clause-ok c = asks_if c.args.name.now (rows_in c.args.inner.now) (asked.Canon c.notation_of-notation.result c.model_of.result) (c.in-canon.is, c.notation_of-notation.ensures, c.model_of.ensures) c.formats_task-in-canon.result c.formats_task-in-canon.ensures.ok
 
 pub returns-in-canon-clause-err : goal.returns-in-canon-clause-err
-returns-in-canon-clause-err c = lacks_if c.args.name.now (rows_in c.args.inner.now) (asked.Canon c.model_of-in-canon.result) (c.in-canon.is, c.model_of-in-canon.ensures) c.formats_task-in-canon.result c.formats_task-in-canon.ensures.err
+returns-in-canon-clause-err c = lacks_if c.args.name.now (rows_in c.args.inner.now) (asked.Canon c.notation_of-notation.result c.model_of.result) (c.in-canon.is, c.notation_of-notation.ensures, c.model_of.ensures) c.formats_task-in-canon.result c.formats_task-in-canon.ensures.err
 
 pub returns-in-show-clause-ok : goal.returns-in-show-clause-ok
-returns-in-show-clause-ok c = asks_if c.args.name.now (rows_in c.args.inner.now) (asked.Show c.model_of-in-show.result) (c.in-show.is, c.model_of-in-show.ensures) c.formats_task-in-show.result c.formats_task-in-show.ensures.ok
+returns-in-show-clause-ok c = asks_if c.args.name.now (rows_in c.args.inner.now) (asked.Show c.notation_of-notation.result c.model_of-in-show.result) (c.in-show.is, c.notation_of-notation.ensures, c.model_of-in-show.ensures) c.formats_task-in-show.result c.formats_task-in-show.ensures.ok
 
 pub returns-in-show-clause-err : goal.returns-in-show-clause-err
-returns-in-show-clause-err c = lacks_if c.args.name.now (rows_in c.args.inner.now) (asked.Show c.model_of-in-show.result) (c.in-show.is, c.model_of-in-show.ensures) c.formats_task-in-show.result c.formats_task-in-show.ensures.err
+returns-in-show-clause-err c = lacks_if c.args.name.now (rows_in c.args.inner.now) (asked.Show c.notation_of-notation.result c.model_of-in-show.result) (c.in-show.is, c.notation_of-notation.ensures, c.model_of-in-show.ensures) c.formats_task-in-show.result c.formats_task-in-show.ensures.err
+
+pub returns-in-fits-clause-ok : goal.returns-in-fits-clause-ok
+returns-in-fits-clause-ok c = asks_if c.args.name.now (rows_in c.args.inner.now) (asked.Fits c.notation_of-notation.result c.model_of-in-fits.result) (c.in-fits.is, c.notation_of-notation.ensures, c.model_of-in-fits.ensures) c.formats_task-in-fits.result c.formats_task-in-fits.ensures.ok
+
+pub returns-in-fits-clause-err : goal.returns-in-fits-clause-err
+returns-in-fits-clause-err c = lacks_if c.args.name.now (rows_in c.args.inner.now) (asked.Fits c.notation_of-notation.result c.model_of-in-fits.result) (c.in-fits.is, c.notation_of-notation.ensures, c.model_of-in-fits.ensures) c.formats_task-in-fits.result c.formats_task-in-fits.ensures.err
 
 pub returns-in-same-clause-ok : goal.returns-in-same-clause-ok
-returns-in-same-clause-ok c = asks_if c.args.name.now (rows_in c.args.inner.now) (asked.Same c.models_of.result) (c.in-same.is, c.models_of.ensures) c.formats_task-in-same.result c.formats_task-in-same.ensures.ok
+returns-in-same-clause-ok c = asks_if c.args.name.now (rows_in c.args.inner.now) (asked.Same c.notation_of-notation.result c.models_of.result) (c.in-same.is, c.notation_of-notation.ensures, c.models_of.ensures) c.formats_task-in-same.result c.formats_task-in-same.ensures.ok
 
 pub returns-in-same-clause-err : goal.returns-in-same-clause-err
-returns-in-same-clause-err c = lacks_if c.args.name.now (rows_in c.args.inner.now) (asked.Same c.models_of.result) (c.in-same.is, c.models_of.ensures) c.formats_task-in-same.result c.formats_task-in-same.ensures.err
+returns-in-same-clause-err c = lacks_if c.args.name.now (rows_in c.args.inner.now) (asked.Same c.notation_of-notation.result c.models_of.result) (c.in-same.is, c.notation_of-notation.ensures, c.models_of.ensures) c.formats_task-in-same.result c.formats_task-in-same.ensures.err
 
 pub returns-in-Ok : goal.returns-in-Ok
 returns-in-Ok c = record {
-  ok = λ words names. (_, rows_in c.args.inner.now, names, (c.in-format.is, c.model_of-in-Ok.ensures, value c.args.inner.now _ _ (ap (λ t. Some t) c.as_bytes.ensures.value ∙ c.value_of.ensures), values c.args.inner.now _ _ c.in-Ok.ensures));
+  ok = λ words names. (_, rows_in c.args.inner.now, names, (c.in-format.is, c.notation_of-notation.ensures, c.model_of-in-Ok.ensures, value c.args.inner.now _ _ (ap (λ t. Some t) c.as_bytes.ensures.value ∙ c.value_of.ensures), values c.args.inner.now _ _ c.in-Ok.ensures));
   err = tt;
 }
 

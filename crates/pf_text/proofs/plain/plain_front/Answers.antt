@@ -1,6 +1,6 @@
 use Rattle.std.proofs.Common.{◌∷◌, ◌∙◌, [], ap, arith, get_or, map, take, subst, sym}
 use Rattle.pf_values.specs.Items.{Byte}
-use Rattle.pf_text.proofs.LiteralLemmas.{IsRun, literal_take, run_found}
+use Rattle.pf_text.proofs.LiteralLemmas.{literal_take, run_found}
 use Rattle.pf_text.specs.Plain.{IsPlainText}
 use Rattle.pf_text.proofs.PlainLemmas.{first_two, literals_plain}
 use Rattle.pf_text.proofs.plain.plain_front.Goals as goal
@@ -8,8 +8,8 @@ use Rattle.pf_text.proofs.plain.plain_front.Goals as goal
 pub returns-then-text-ne37-clause-plain : goal.returns-then-text-ne37-clause-plain
 returns-then-text-ne37-clause-plain c model =
     let text = c.args.text.now in
-    let len = c.unwrap_or.result in
-    let found = subst (IsRun text) (sym c.unwrap_or.ensures) (run_found text c.first_other.result c.first_other.ensures) in
+    let len = c.literal_len.result in
+    let found = run_found text len c.literal_len.ensures.within c.literal_len.ensures.none c.literal_len.ensures.ended in
     (map Byte (take len text), literals_plain model (take len text) (literal_take text len found.within found.literal))
 
 pub returns-then-ends_plain-clause-plain : goal.returns-then-ends_plain-clause-plain

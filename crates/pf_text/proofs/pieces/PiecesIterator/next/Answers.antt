@@ -1,22 +1,22 @@
 use Rattle.std.proofs.Common.{arith, ap, refl, sym, subst, drop, length, Err, ◌∙◌}
 use Rattle.pf_text.specs.History.{refused_by}
 use Rattle.pf_text.specs.PieceHistory.{HasGiven}
-use Rattle.pf_text.proofs.PieceLemmas.{first_cut, gives_end, gives_piece, gives_refused, gives_truncated, is_fed, nothing_left}
+use Rattle.pf_text.proofs.PieceLemmas.{first_cut, gives_end, gives_piece, gives_refused, gives_truncated, is_fed, nothing_left, restarted}
 use Rattle.pf_text.proofs.pieces.PiecesIterator.next.Goals as goal
 
 pub loop-byte-init : goal.loop-byte-init
 loop-byte-init c =
     let same = c.in_default.ensures.shorter in
     record {
-      inside = λ t read items h. c.in_default-take_run.ensures.given t read items (subst (λ p. HasGiven p t read items) (sym same) h);
-      going = c.take_run.ensures.going ∙ c.take_bare.ensures.going ∙ c.if-self.false;
+      inside = λ t read items h. c.in_default-take_run.ensures.given t read items (subst (λ p. HasGiven p t read items) (sym same) (restarted c.args.self.now c.restart.new.self t read items (c.restart.ensures read items) h));
+      going = c.take_run.ensures.going ∙ c.take_directive.ensures.going ∙ c.if-self.false;
       shorter = omega (arith, ap (λ p. length p.rest.now) same, c.in_default-take_run.ensures.shorter);
     }
 
 pub returns-in-Some-take_run-clause-steps : goal.returns-in-Some-take_run-clause-steps
 returns-in-Some-take_run-clause-steps c =
     let same = c.in_default.ensures.shorter in
-    gives_piece c.args.self.now c.take_run.new.self _ c.if-self.false (λ t read items h. c.in-Some-take_run.ensures.given t read items (subst (λ p. HasGiven p t read items) (sym same) h))
+    gives_piece c.args.self.now c.take_run.new.self _ c.if-self.false (λ t read items h. c.in-Some-take_run.ensures.given t read items (subst (λ p. HasGiven p t read items) (sym same) (restarted c.args.self.now c.restart.new.self t read items (c.restart.ensures read items) h)))
 
 pub returns-in-Some-advance-clause-steps : goal.returns-in-Some-advance-clause-steps
 returns-in-Some-advance-clause-steps c =

@@ -1,0 +1,57 @@
+-- Formats as they are given, and what is told of their bytes. This project's own.
+use Rattle.std.specs.Prelude.{◌≡◌, ℕ, ⊤}
+use Rattle.pf_literals.specs.declared.faults.LiteralFault.{LiteralFault}
+use Rattle.pf_literals.specs.declared.faults.LiteralFault.TheVariants.{Refused, Memory}
+use Rattle.pf_literals.specs.declared.faults.LiteralRefusal.{LiteralRefusal}
+use Rattle.pf_literals.specs.Answers.{IsPlaceOf}
+use Rattle.pf_literals.specs.Encoding.{encoding}
+use Rattle.pf_literals.specs.Faults.{IsFaultAt}
+use Rattle.pf_literals.specs.Sources.{IsSourceOf}
+use Rattle.pf_values.specs.Text.{Text}
+use Rattle.fmtcanon.specs.declared.formats.GivenFormat.{GivenFormat}
+use Rattle.fmtcanon.specs.declared.formats.Notation.{Notation}
+use Rattle.fmtcanon.specs.declared.formats.Notation.TheVariants.{Bytes, Literals}
+
+-- a text gives these bytes: it is them, or string literals that stand for them
+abbrev pub Gives : Notation → Text → Text → Type 0
+Gives Bytes text bytes = bytes ≡ text
+Gives Literals text bytes = IsSourceOf text bytes
+
+-- the place in the text that is told in the place of a byte, or of the end of the bytes
+abbrev pub IsToldAt : Notation → Text → ℕ → ℕ → Type 0
+IsToldAt Bytes text index at = at ≡ index
+IsToldAt Literals text index at = IsPlaceOf text index at
+
+-- the text gives no bytes, for this reason
+abbrev pub GivesNone : Notation → Text → LiteralRefusal → Type 0
+GivesNone Bytes text refusal = ⊥
+GivesNone Literals text refusal = IsFaultAt text refusal.kind refusal.at
+
+-- how bytes are written
+abbrev pub written_in : Notation → Text → Text
+written_in Bytes bytes = bytes
+written_in Literals bytes = encoding bytes
+
+-- the same of a format that is given
+abbrev pub IsFormat : GivenFormat → Text → Type 0
+IsFormat given bytes = Gives given.notation given.text.now bytes
+
+abbrev pub IsNoFormat : GivenFormat → LiteralRefusal → Type 0
+IsNoFormat given refusal = GivesNone given.notation given.text.now refusal
+
+-- why it has no bytes
+abbrev pub HindersBytes : GivenFormat → LiteralFault → Type 0
+HindersBytes given (Refused refusal) = IsNoFormat given refusal
+HindersBytes given Memory = ⊤
+
+-- something holds of its bytes
+abbrev pub HoldsOf : GivenFormat → (Text → Type 0) → Type 0
+HoldsOf given Holds = (bytes : Text) × IsFormat given bytes × Holds bytes
+
+-- something holds of its bytes at a place in them, which is told by a place of the text
+pub record HoldsAt (given : GivenFormat) (Holds : Text → ℕ → Type 0) (told : ℕ) : Type 0 where
+  pub bytes : Text
+  pub gives : IsFormat given bytes
+  pub at : ℕ
+  pub holds : Holds bytes at
+  pub told_at : IsToldAt given.notation given.text.now at told

@@ -1,0 +1,85 @@
+//! Formats as they are given: by their bytes, or by string literals of C source that stand for them.
+ghost use Rattle.std.specs.Prelude.{◌≡◌, ◌≤◌, IfOk, MatchResult, length};
+ghost use Rattle.std.specs.Cow.{cow_slice_items};
+ghost use Rattle.pf_literals.specs.Answers.{HindersDecoding};
+ghost use Rattle.pf_literals.specs.Sources.{IsSourceOf};
+ghost use Rattle.pf_values.specs.Text.{Text};
+ghost use Rattle.fmtcanon.specs.Formats.{HindersBytes, IsFormat, IsToldAt, written_in};
+
+use pf_literals::{LiteralFault, decode, encode, source_offset};
+use std::alloc::{AllocError, Global};
+use std::borrow::CowSlice;
+
+/// How formats are given, among the words and as records.
+#[derive(Clone, Copy, Debug)]
+pub enum Notation {
+    /// By their bytes.
+    Bytes,
+    /// By string literals that stand for them.
+    Literals,
+}
+
+impl Notation {
+    /// Some bytes as this notation gives them.
+    pub fn write(self, alloc: Global, bytes: Vec<u8>) -> Result<Vec<u8>, AllocError>
+        ensures { IfOk result (λ out. out.items ≡ written_in self bytes.items) }
+    {
+        match self {
+            Notation::Bytes => Ok(bytes),
+            Notation::Literals => encode(alloc, &bytes),
+        }
+    }
+}
+
+/// A format as it is given.
+#[derive(Clone, Copy, Debug)]
+pub struct GivenFormat<'a> {
+    /// How it is given.
+    pub notation: Notation,
+    /// The text that gives it.
+    pub text: &'a [u8],
+}
+
+impl<'a> GivenFormat<'a> {
+    /// The format that a text gives.
+    pub fn new(notation: Notation, text: &'a [u8]) -> GivenFormat<'a>
+        ensures notation { result.notation ≡ notation }
+        ensures text { result.text.now ≡ text.now }
+    {
+        GivenFormat { notation, text }
+    }
+
+    /// The bytes of the format.
+    pub fn bytes(&self, alloc: Global) -> Result<CowSlice<'a, u8>, LiteralFault>
+        ensures { MatchResult result (λ bytes. IsFormat self.now (cow_slice_items bytes))
+            (HindersBytes self.now) }
+    {
+        match self.notation {
+            Notation::Bytes => Ok(CowSlice::Borrowed(self.text)),
+            Notation::Literals => decoded(alloc, self.text),
+        }
+    }
+
+    /// The place in the text that gives the byte of this index, or their end.
+    pub fn place_of(&self, index: u64) -> u64
+        ensures { (bytes : Text) → IsFormat self.now bytes → index ≤ length bytes
+            → IsToldAt self.now.notation self.now.text.now index result }
+    {
+        match self.notation {
+            Notation::Bytes => index,
+            // Each byte of a source has a place, and their end has one.
+            Notation::Literals => source_offset(self.text, index).unwrap_or(index),
+        }
+    }
+}
+
+// The bytes that literals stand for.
+fn decoded<'a>(alloc: Global, source: &'a [u8]) -> Result<CowSlice<'a, u8>, LiteralFault>
+    ensures { MatchResult result (λ bytes. IsSourceOf source.now (cow_slice_items bytes))
+        (HindersDecoding source.now) }
+{
+    match decode(alloc, source) {
+        Ok(bytes) => Ok(CowSlice::Owned(bytes)),
+        Err(fault) => Err(fault),
+    }
+}

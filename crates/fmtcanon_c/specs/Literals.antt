@@ -1,0 +1,49 @@
+-- What the calls about string literals answer. This project's own.
+use Rattle.std.specs.Prelude.{◌≡◌, ◌≢◌, ◌⊎◌, ◌≤◌, ◌<◌, ◌^◌, ℕ, ◌+◌, ℤ, pos, neg_ℤ, [], ◌∷◌, ◌++◌, length}
+use Rattle.pf_literals.specs.declared.kinds.LiteralKind.{LiteralKind}
+use Rattle.pf_literals.specs.Answers.{HasNoPlace, IsPlaceOf}
+use Rattle.pf_literals.specs.Elements.{Bytes}
+use Rattle.pf_literals.specs.Encoding.{encoding}
+use Rattle.pf_literals.specs.Faults.{IsFaultAt}
+use Rattle.pf_literals.specs.Kinds.{number}
+use Rattle.pf_literals.specs.Sources.{IsSourceOf}
+use Rattle.pf_values.specs.Text.{Text}
+use Rattle.fmtcanon_c.specs.declared.errors.CError.{CError}
+use Rattle.fmtcanon_c.specs.declared.errors.TheConstants.{LITERAL_KINDS, NO_MEMORY, NO_PLACE}
+use Rattle.fmtcanon_c.specs.Buffers.{put}
+use Rattle.fmtcanon_c.specs.Calls.{IsOut}
+
+-- a text is no source, and the error says why and where
+pub record IsNoSource (t : Text) (code : ℤ) (error : CError) : Type 0 where
+  pub kind : LiteralKind
+  pub fault : IsFaultAt t kind error.at
+  pub code_is : code ≡ neg_ℤ (pos (LITERAL_KINDS + number kind))
+  pub kind_is : error.kind ≡ LITERAL_KINDS + number kind
+  pub side_is : error.side ≡ 0
+
+-- the bytes of a source and a zero are put, where the buffer has room for them, and their number is
+-- answered; or the text is no source; or memory is out
+abbrev pub PutsDecoded : Text → Text → CError → ℤ → Text → CError → Type 0
+PutsDecoded t out error code out_now error_now =
+    ((bytes : Bytes) × IsSourceOf t bytes × (code ≡ pos (length bytes))
+    × (out_now ≡ put (bytes ++ 0 ∷ []) out) × (error_now ≡ error))
+    ⊎ ((out_now ≡ out) × (IsNoSource t code error_now
+    ⊎ IsOut ((bytes : Bytes) × IsSourceOf t bytes × (bytes ≢ [])) code error error_now))
+
+-- the literal of some bytes and a zero are put, where the buffer has room for them, and its length is
+-- answered; or memory is out
+abbrev pub PutsEncoded : Text → Text → ℤ → Text → Type 0
+PutsEncoded t out code out_now =
+    ((code ≡ pos (length (encoding t))) × (out_now ≡ put (encoding t ++ 0 ∷ []) out))
+    ⊎ ((code ≡ NO_MEMORY) × (out_now ≡ out))
+
+-- a place as an answer; a text that a caller owes has none from 2^63 on
+abbrev pub IsPlaceCode : ℕ → ℤ → Type 0
+IsPlaceCode at code =
+    ((at < 2 ^ 63) × (code ≡ pos at)) ⊎ ((2 ^ 63 ≤ at) × (code ≡ NO_PLACE))
+
+-- the place of a byte, or of the last closing quote behind them; or there is none
+abbrev pub TellsPlace : Text → ℕ → ℤ → Type 0
+TellsPlace t index code =
+    ((at : ℕ) × IsPlaceOf t index at × IsPlaceCode at code)
+    ⊎ (HasNoPlace t index × (code ≡ NO_PLACE))

@@ -1,0 +1,48 @@
+-- What the calls about the types of the whole language answer. This project's own.
+use Rattle.std.specs.Prelude.{◌≡◌, ◌⊎◌, ⊤, ℤ, pos, neg_ℤ, List, length, map}
+use Rattle.pf_canon.specs.declared.sides.Side.{Side}
+use Rattle.pf_canon.specs.declared.sides.Side.TheVariants.{First, Second}
+use Rattle.pf_signatures.specs.declared.kinds.SignatureRefusalKind.{SignatureRefusalKind}
+use Rattle.pf_signatures.specs.declared.types.ArgumentType.{ArgumentType}
+use Rattle.pf_signatures.specs.Items.{HasArguments}
+use Rattle.pf_signatures.specs.Kinds.{number, type_number}
+use Rattle.pf_signatures.specs.Refusals.{IsRefusedAt}
+use Rattle.pf_values.specs.declared.models.Model.{Model}
+use Rattle.pf_values.specs.Text.{Text}
+use Rattle.fmtcanon_c.specs.declared.errors.CError.{CError}
+use Rattle.fmtcanon_c.specs.Buffers.{put}
+use Rattle.fmtcanon_c.specs.Calls.{IsOut, Tells}
+use Rattle.fmtcanon_c.specs.Errors.{side_number}
+
+-- a text of the whole language is refused, and the error says why and where
+pub record IsRefusedWhole (model : Model) (side : Side) (t : Text) (code : ℤ)
+    (error : CError) : Type 0 where
+  pub kind : SignatureRefusalKind
+  pub refused : IsRefusedAt model t kind error.at
+  pub code_is : code ≡ neg_ℤ (pos (number kind))
+  pub kind_is : error.kind ≡ number kind
+  pub side_is : error.side ≡ side_number side
+
+-- the numbers of the types are put, where the buffer has room for them, and how many they are is
+-- answered; or the text is refused, or memory is out
+abbrev pub PutsArguments : Model → Text → Text → CError → ℤ → Text → CError → Type 0
+PutsArguments model t out error code out_now error_now =
+    ((types : List ArgumentType) × HasArguments model t types × (code ≡ pos (length types))
+    × (out_now ≡ put (map type_number types) out) × (error_now ≡ error))
+    ⊎ ((out_now ≡ out) × (IsRefusedWhole model First t code error_now
+    ⊎ IsOut ⊤ code error error_now))
+
+-- the types of two accepted texts are equal
+abbrev pub Fit : Model → Text → Text → Type 0
+Fit model f g = (types : List ArgumentType) × HasArguments model f types × HasArguments model g types
+
+abbrev pub IsAcceptedWhole : Model → Text → Type 0
+IsAcceptedWhole model t = (types : List ArgumentType) × HasArguments model t types
+
+-- 1 where they are, 0 where they aren't, with the error untouched; or one text is refused
+abbrev pub TellsFit : Model → Text → Text → CError → ℤ → CError → Type 0
+TellsFit model f g error code error_now =
+    (IsAcceptedWhole model f × IsAcceptedWhole model g × Tells (Fit model f g) code
+    × (error_now ≡ error))
+    ⊎ (IsRefusedWhole model First f code error_now
+    ⊎ (IsAcceptedWhole model f × IsRefusedWhole model Second g code error_now))

@@ -1,0 +1,17 @@
+pub mod Specifications
+pub mod Spelling
+pub mod Types
+pub mod Defined
+pub mod Items
+pub mod Stages
+pub mod Letters
+pub mod States
+pub mod Moves
+pub mod Fronts
+pub mod Refusals
+pub mod Kinds
+pub mod Readings
+pub mod Walks
+pub mod Tabled
+pub mod Laws
+pub mod Steps

@@ -1,0 +1,110 @@
+-- The types of the arguments that specifications fetch.
+use Rattle.std.specs.Prelude.{◌≡◌, ◌<◌, ◌+◌, ℕ, List, [], ◌∷◌, ◌++◌, length, map, slice_get, Option, Some, None, ◌⊎◌, if◌then◌else◌}
+use Rattle.std.specs.List.{AllByRecursion}
+use Rattle.pf_values.specs.declared.conversions.Kind.{Kind}
+use Rattle.pf_values.specs.declared.conversions.Kind.TheVariants as kinds
+use Rattle.pf_values.specs.declared.lengths.Length.{Length}
+use Rattle.pf_values.specs.declared.lengths.Length.TheVariants as lengths
+use Rattle.pf_values.specs.declared.models.Model.{Model}
+use Rattle.pf_values.specs.declared.types.ArgType.{ArgType}
+use Rattle.pf_values.specs.declared.types.ArgType.TheVariants as profile
+use Rattle.pf_values.specs.Conversions.{kind_of}
+use Rattle.pf_values.specs.DataModel.{signed_type, unsigned_type}
+use Rattle.pf_values.specs.Lengths.{is_long}
+use Rattle.pf_signatures.specs.declared.conversions.Conversion.{Conversion}
+use Rattle.pf_signatures.specs.declared.conversions.Conversion.TheVariants as conversions
+use Rattle.pf_signatures.specs.declared.conversions.Modifier.{Modifier}
+use Rattle.pf_signatures.specs.declared.conversions.Modifier.TheVariants.{Plain, LongDouble as long_double}
+use Rattle.pf_signatures.specs.declared.fetches.Fetch.{Fetch}
+use Rattle.pf_signatures.specs.declared.types.ArgumentType.{ArgumentType}
+use Rattle.pf_signatures.specs.declared.types.ArgumentType.TheVariants.{Int, UInt, Long, ULong, LongLong, ULongLong, Str, Double, LongDouble, WideChar, WideString, Pointer, PointerToSChar, PointerToShort, PointerToInt, PointerToLong, PointerToLongLong}
+use Rattle.pf_signatures.specs.Specifications.{Amount, Given, Fetched, WholeSpecification}
+
+-- the types of the profile are the same here
+abbrev pub widened : ArgType → ArgumentType
+widened profile.Int = Int
+widened profile.UInt = UInt
+widened profile.Long = Long
+widened profile.ULong = ULong
+widened profile.LongLong = LongLong
+widened profile.ULongLong = ULongLong
+widened profile.Str = Str
+
+-- a pointer to a signed type, of which there are three
+abbrev pub pointer_to : ArgType → ArgumentType
+pointer_to profile.Long = PointerToLong
+pointer_to profile.LongLong = PointerToLongLong
+pointer_to _ = PointerToInt
+
+-- what `n` points to (C11 7.21.6.1 p7 and p8)
+abbrev pub counted_type : Model → Length → ArgumentType
+counted_type model lengths.Hh = PointerToSChar
+counted_type model lengths.H = PointerToShort
+counted_type model length = pointer_to (signed_type model length)
+
+-- the argument of a conversion of the profile, where `lc` and `ls` are wide (C11 7.21.6.1 p7, p8)
+abbrev pub kind_type : Model → Kind → Length → ArgumentType
+kind_type model kinds.Signed length = widened (signed_type model length)
+kind_type model (kinds.Unsigned base capitals) length = widened (unsigned_type model length)
+kind_type model kinds.Char length = if is_long length then WideChar else Int
+kind_type model kinds.String length = if is_long length then WideString else Str
+
+-- the length that a modifier of integers names
+abbrev pub plain_length : Modifier → Length
+plain_length (Plain length) = length
+plain_length long_double = lengths.None
+
+abbrev pub floating_type : Modifier → ArgumentType
+floating_type (Plain length) = Double
+floating_type long_double = LongDouble
+
+-- the type of a conversion's argument (C11 7.21.6.1 p7 and p8; POSIX fprintf on `C` and `S`)
+abbrev pub type_of : Model → Modifier → Conversion → ArgumentType
+type_of model modifier (conversions.Profile conv) =
+    kind_type model (kind_of conv) (plain_length modifier)
+type_of model modifier (conversions.Float floating) = floating_type modifier
+type_of model modifier conversions.UpperC = WideChar
+type_of model modifier conversions.UpperS = WideString
+type_of model modifier conversions.Pointer = Pointer
+type_of model modifier conversions.Count = counted_type model (plain_length modifier)
+
+abbrev pub fetch : Option ℕ → ArgumentType → Fetch
+fetch number wanted = record { number = number; wanted = wanted }
+
+-- an int for each `*` (C11 7.21.6.1 p5)
+abbrev pub star_fetches : Option Amount → List Fetch
+star_fetches None = []
+star_fetches (Some (Given n)) = []
+star_fetches (Some (Fetched number)) = fetch number Int ∷ []
+
+-- what a specification fetches: the width before the precision, and then the conversion's argument
+-- (C11 7.21.6.1 p5)
+abbrev pub fetches : Model → WholeSpecification → List Fetch
+fetches model s =
+    star_fetches s.width ++ star_fetches s.precision
+    ++ fetch s.position (type_of model s.modifier s.conversion) ∷ []
+
+-- the argument that is fetched has its type in a list
+abbrev pub IsOfType : List ArgumentType → Fetch → Type 0
+IsOfType types f =
+    (place : ℕ) × (f.number ≡ Some (place + 1)) × (slice_get types place ≡ Some f.wanted)
+
+-- an argument is fetched, before which so many stand
+abbrev pub IsFetched : ℕ → List Fetch → Type 0
+IsFetched place [] = ⊥
+IsFetched place (f ∷ fetched) = (f.number ≡ Some (place + 1)) ⊎ IsFetched place fetched
+
+-- unnumbered specifications fetch the next argument each time (C11 7.21.6.1 p3)
+pub record AreInOrder (fetched : List Fetch) (types : List ArgumentType) : Type 0 where
+  pub unnumbered : AllByRecursion (λ f. f.number ≡ None) fetched
+  pub types_are : types ≡ map (λ f. f.wanted) fetched
+
+-- numbered ones fetch each argument at least once, always with one type (POSIX fprintf on `%n$`)
+pub record AreNumbered (fetched : List Fetch) (types : List ArgumentType) : Type 0 where
+  pub each : AllByRecursion (IsOfType types) fetched
+  pub all : (place : ℕ) → place < length types → IsFetched place fetched
+
+-- the types of the arguments that are fetched; both kinds of specifications never stand in one
+-- format (POSIX fprintf)
+abbrev pub HaveTypes : List Fetch → List ArgumentType → Type 0
+HaveTypes fetched types = AreInOrder fetched types ⊎ AreNumbered fetched types

@@ -1,0 +1,98 @@
+//! The argument types of a format.
+ghost use Rattle.std.specs.Prelude.{◌≡◌, ◌<◌, ◌≤◌, ℕ, None, length, MatchResult, ◌+◌, IsTrue, is_some};
+ghost use Rattle.pf_signatures.specs.Laws.{HasCount};
+ghost use Rattle.pf_signatures.specs.Readings.{Fetches, reading};
+ghost use Rattle.pf_signatures.specs.Refusals.{IsRefusedAt};
+ghost use Rattle.pf_signatures.specs.Types.{fetch};
+ghost use Rattle.pf_signatures.specs.Walks.{left};
+
+use crate::fetches::Fetch;
+use crate::filling::put;
+use crate::reader::{Next, Reader};
+use crate::refusals::SignatureRefusal;
+use crate::tables::Table;
+use crate::types::ArgumentType;
+use pf_values::Model;
+
+/// The types of the arguments that a format of the whole language takes in a data model (C11
+/// 7.21.6.1, paragraphs 3 to 9; POSIX fprintf on numbered arguments), of which there are `count`.
+/// The first of them, as many as `out` has room for, stand at its front, and what is behind them
+/// in `out` is as it was. Where the format is refused, `out` is of the same length, and nothing is
+/// said of what it holds.
+pub fn arguments(
+    model: Model,
+    text: &[u8],
+    out: &mut [ArgumentType],
+) -> Result<u64, SignatureRefusal>
+    ensures types { MatchResult result
+        (λ count. HasCount model text.now out.old out.new count)
+        (λ refusal. IsRefusedAt model text.now refusal.kind refusal.at) }
+    ensures length { length out.new ≡ length out.old }
+{
+    let mut reader = Reader::new();
+    match reader.next_fetch(model, text) {
+        Next::End => Ok(0),
+        Next::Stop(refusal) => Err(refusal),
+        Next::Fetched(first) => match first.number {
+            None => in_order(model, text, reader, first.wanted, out),
+            Some(_) => by_number(model, text, reader, first, out),
+        },
+    }
+}
+
+// The rest of a format that isn't numbered.
+fn in_order(
+    model: Model,
+    text: &[u8],
+    after_first: Reader,
+    first: ArgumentType,
+    out: &mut [ArgumentType],
+) -> Result<u64, SignatureRefusal>
+    requires within { after_first.at ≤ length text.now }
+    requires some { 0 < after_first.at }
+    requires first { (at : ℕ)
+        × (reading model text.now ≡ Fetches (fetch None first) at (left model text.now after_first)) }
+    ensures types { MatchResult result
+        (λ count. HasCount model text.now out.old out.new count)
+        (λ refusal. IsRefusedAt model text.now refusal.kind refusal.at) }
+    ensures length { length out.new ≡ length out.old }
+{
+    let mut reader = after_first;
+    put(out, 0, first);
+    let mut count: usize = 1;
+    loop {
+        match reader.next_fetch(model, text) {
+            Next::Fetched(fetch) => {
+                put(out, count, fetch.wanted);
+                count += 1;
+            }
+            Next::End => return Ok(count as u64),
+            Next::Stop(refusal) => return Err(refusal),
+        }
+    }
+}
+
+// The rest of a numbered format.
+#[inline(never)]
+fn by_number(
+    model: Model,
+    text: &[u8],
+    after_first: Reader,
+    first: Fetch,
+    out: &mut [ArgumentType],
+) -> Result<u64, SignatureRefusal>
+    requires within { after_first.at ≤ length text.now }
+    requires number { IsTrue (is_some first.number) }
+    requires first { (at : ℕ) × (after_first.at ≡ at + 1)
+        × (reading model text.now ≡ Fetches first at (left model text.now after_first)) }
+    ensures types { MatchResult result
+        (λ count. HasCount model text.now out.old out.new count)
+        (λ refusal. IsRefusedAt model text.now refusal.kind refusal.at) }
+    ensures length { length out.new ≡ length out.old }
+{
+    let mut table = Table::new();
+    table.fill(model, text, after_first, first)?;
+    table.copy_front(out);
+    let count = table.count();
+    Ok(count as u64)
+}

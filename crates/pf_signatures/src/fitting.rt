@@ -1,0 +1,105 @@
+//! Whether two formats take the same arguments.
+ghost use Rattle.std.specs.Prelude.{◌≡◌, ◌≤◌, List, length, ◌⊎◌, MatchResult};
+ghost use Rattle.pf_signatures.specs.declared.tables.TheConstants.{ROOM as MOST};
+ghost use Rattle.pf_signatures.specs.declared.types.ArgumentType.{ArgumentType as ArgumentTypeOf};
+ghost use Rattle.pf_signatures.specs.Items.{HasArguments};
+ghost use Rattle.pf_signatures.specs.Laws.{Compares, HindersFitting, IsFirstDifference, filled};
+ghost use Rattle.pf_signatures.specs.Steps.{AreFew, Differ};
+
+use crate::argument_types::arguments;
+use crate::refusals::SignatureRefusal;
+use crate::stepping::{Stepped, in_step};
+use crate::tables::ROOM;
+use crate::types::ArgumentType;
+use pf_values::Model;
+use thiserror::Error;
+
+/// Which of two formats is refused, and why.
+#[derive(Clone, Copy, Debug, PartialEq, Eq, Error)]
+pub enum FitsRefusal {
+    /// The first one.
+    #[error("first: {0}")]
+    First(SignatureRefusal),
+    /// The second one, and the first isn't.
+    #[error("second: {0}")]
+    Second(SignatureRefusal),
+}
+
+/// Whether the second format takes just the arguments of the first (C11 7.21.6.1, paragraph 3;
+/// POSIX fprintf on numbered arguments): `None` where the lists of their types are equal, else the
+/// least index from 0 at which they differ, which is the length of the shorter one where that is a
+/// front of the other. The first format is read whole before the second.
+pub fn fits(model: Model, first: &[u8], second: &[u8]) -> Result<Option<u64>, FitsRefusal>
+    ensures { MatchResult result (Compares model first.now second.now)
+        (HindersFitting model first.now second.now) }
+{
+    match in_step(model, first, second) {
+        Stepped::Equal => Ok(None),
+        Stepped::Differ(index) => by_step(model, first, second, index),
+        Stepped::Other => by_tables(model, first, second),
+    }
+}
+
+// Where two formats differ, unless one is refused.
+fn by_step(
+    model: Model,
+    first: &[u8],
+    second: &[u8],
+    index: u64,
+) -> Result<Option<u64>, FitsRefusal>
+    requires { Differ model first.now second.now index }
+    ensures { MatchResult result (Compares model first.now second.now)
+        (HindersFitting model first.now second.now) }
+{
+    match arguments(model, first, &mut []) {
+        Err(refusal) => Err(FitsRefusal::First(refusal)),
+        Ok(_) => match arguments(model, second, &mut []) {
+            Err(refusal) => Err(FitsRefusal::Second(refusal)),
+            Ok(_) => Ok(Some(index)),
+        },
+    }
+}
+
+// The same where one is refused or numbered, by the lists of their types.
+#[inline(never)]
+fn by_tables(model: Model, first: &[u8], second: &[u8]) -> Result<Option<u64>, FitsRefusal>
+    requires { AreFew model first.now second.now }
+    ensures { MatchResult result (Compares model first.now second.now)
+        (HindersFitting model first.now second.now) }
+{
+    let mut types = [ArgumentType::Int; ROOM];
+    let mut others = [ArgumentType::Int; ROOM];
+    match arguments(model, first, &mut types) {
+        Err(refusal) => Err(FitsRefusal::First(refusal)),
+        Ok(count) => match arguments(model, second, &mut others) {
+            Err(refusal) => Err(FitsRefusal::Second(refusal)),
+            Ok(beside) => Ok(difference(&types, count, &others, beside)),
+        },
+    }
+}
+
+// Where two lists differ, of which the first types stand in slices, and one has no more than these.
+fn difference(
+    types: &[ArgumentType],
+    count: u64,
+    others: &[ArgumentType],
+    beside: u64,
+) -> Option<u64>
+    requires room { length types.now ≡ MOST }
+    requires same_room { length others.now ≡ MOST }
+    ensures { (a b start from : List ArgumentTypeOf) → types.now ≡ filled start a
+        → others.now ≡ filled from b → count ≡ length a → beside ≡ length b
+        → (length a ≤ MOST) ⊎ (length b ≤ MOST) → IsFirstDifference a b result }
+{
+    let mut index: usize = 0;
+    while index < ROOM && (index as u64) < count && (index as u64) < beside {
+        if types[index].number() != others[index].number() {
+            return Some(index as u64);
+        }
+        index += 1;
+    }
+    if count == beside {
+        return None;
+    }
+    Some(index as u64)
+}

@@ -1,0 +1,44 @@
+//! The argument types of a format, in memory.
+ghost use Rattle.std.specs.Prelude.{◌≡◌, IfOk, MatchResult, length};
+ghost use Rattle.pf_signatures.specs.Items.{HasArguments};
+ghost use Rattle.pf_signatures.specs.Laws.{HindersList};
+
+use crate::argument_types::arguments;
+use crate::refusals::SignatureFault;
+use crate::types::ArgumentType;
+use pf_values::Model;
+use std::alloc::{AllocError, Global};
+
+/// The types of the arguments that a format of the whole language takes in a data model, as
+/// `arguments` has them. The format is read twice: the room is taken by one growth, of their number.
+pub fn arguments_vec(
+    alloc: Global,
+    model: Model,
+    text: &[u8],
+) -> Result<Vec<ArgumentType>, SignatureFault>
+    ensures { MatchResult result (λ types. HasArguments model text.now types.items)
+        (HindersList model text.now) }
+{
+    let count = match arguments(model, text, &mut []) {
+        Ok(count) => count,
+        Err(refusal) => return Err(SignatureFault::Refused(refusal)),
+    };
+    let mut types = match room_for(alloc, count) {
+        Ok(types) => types,
+        Err(AllocError) => return Err(SignatureFault::Memory),
+    };
+    match arguments(model, text, &mut types) {
+        Ok(_) => Ok(types),
+        Err(refusal) => Err(SignatureFault::Refused(refusal)),
+    }
+}
+
+// Room for so many types.
+fn room_for(alloc: Global, count: u64) -> Result<Vec<ArgumentType>, AllocError>
+    ensures { IfOk result (λ types. length types.items ≡ count) }
+{
+    match usize::try_from(count) {
+        Ok(count) => Vec::from_elem(alloc, ArgumentType::Int, count),
+        Err(_) => Err(AllocError),
+    }
+}

@@ -1,0 +1,67 @@
+//! What single bytes stand for in a specification (C11 7.21.6.1, paragraphs 4 to 8).
+ghost use Rattle.std.specs.Prelude.{◌≡◌};
+ghost use Rattle.pf_signatures.specs.Letters.{conversion_of, flag_of, modifier_of};
+
+use crate::conversions::{Conversion, Floating, Modifier};
+use pf_values::{Conv, Flag, Length};
+
+#[inline(always)]
+pub(crate) fn flag_of(byte: u8) -> Option<Flag>
+    ensures { result ≡ flag_of byte }
+{
+    match byte {
+        b'-' => Some(Flag::Minus),
+        b'+' => Some(Flag::Plus),
+        b' ' => Some(Flag::Space),
+        b'#' => Some(Flag::Alt),
+        b'0' => Some(Flag::Zero),
+        b'\'' => Some(Flag::Group),
+        _ => None,
+    }
+}
+
+/// The modifier that a letter is or begins.
+#[inline(always)]
+pub(crate) fn modifier_of(byte: u8) -> Option<Modifier>
+    ensures { result ≡ modifier_of byte }
+{
+    match byte {
+        b'h' => Some(Modifier::Plain(Length::H)),
+        b'l' => Some(Modifier::Plain(Length::L)),
+        b'j' => Some(Modifier::Plain(Length::J)),
+        b'z' => Some(Modifier::Plain(Length::Z)),
+        b't' => Some(Modifier::Plain(Length::T)),
+        b'L' => Some(Modifier::LongDouble),
+        _ => None,
+    }
+}
+
+#[inline(always)]
+pub(crate) fn conversion_of(byte: u8) -> Option<Conversion>
+    ensures { result ≡ conversion_of byte }
+{
+    match byte {
+        b'd' => Some(Conversion::Profile(Conv::D)),
+        b'i' => Some(Conversion::Profile(Conv::I)),
+        b'u' => Some(Conversion::Profile(Conv::U)),
+        b'o' => Some(Conversion::Profile(Conv::O)),
+        b'x' => Some(Conversion::Profile(Conv::X)),
+        b'X' => Some(Conversion::Profile(Conv::UpperX)),
+        b'b' => Some(Conversion::Profile(Conv::B)),
+        b'c' => Some(Conversion::Profile(Conv::C)),
+        b's' => Some(Conversion::Profile(Conv::S)),
+        b'f' => Some(Conversion::Float(Floating::F)),
+        b'F' => Some(Conversion::Float(Floating::UpperF)),
+        b'e' => Some(Conversion::Float(Floating::E)),
+        b'E' => Some(Conversion::Float(Floating::UpperE)),
+        b'g' => Some(Conversion::Float(Floating::G)),
+        b'G' => Some(Conversion::Float(Floating::UpperG)),
+        b'a' => Some(Conversion::Float(Floating::A)),
+        b'A' => Some(Conversion::Float(Floating::UpperA)),
+        b'C' => Some(Conversion::UpperC),
+        b'S' => Some(Conversion::UpperS),
+        b'p' => Some(Conversion::Pointer),
+        b'n' => Some(Conversion::Count),
+        _ => None,
+    }
+}

@@ -1,0 +1,146 @@
+//! The types of numbered arguments.
+ghost use Rattle.std.specs.Prelude.{◌≡◌, ◌<◌, ◌≤◌, ◌++◌, ◌∷◌, ◌+◌, [], ℕ, max, length, is_some, IsTrue, List, Some, MatchBool, MatchResult, true, false};
+ghost use Rattle.pf_signatures.specs.declared.fetches.Fetch.{Fetch as FetchOf};
+ghost use Rattle.pf_signatures.specs.declared.kinds.SignatureRefusalKind.TheVariants.{MissingArgument};
+ghost use Rattle.pf_signatures.specs.Laws.{filled};
+ghost use Rattle.pf_signatures.specs.Readings.{Fetches, conflicts, listed, reading};
+ghost use Rattle.pf_signatures.specs.Refusals.{HasGap, IsRefusedAt};
+ghost use Rattle.pf_signatures.specs.Walks.{left};
+ghost use Rattle.pf_signatures.specs.Tabled.{IsTabled, Keeps};
+ghost use Rattle.pf_signatures.specs.Types.{IsFetched, fetch};
+
+use crate::fetches::Fetch;
+use crate::filling::put;
+use crate::kinds::SignatureRefusalKind;
+use crate::reader::{Next, Reader};
+use crate::refusals::SignatureRefusal;
+use crate::types::ArgumentType;
+use pf_values::Model;
+
+/// As many arguments as a numbered format can have.
+pub(crate) const ROOM: usize = 4095;
+
+/// The type of each argument that is fetched, at its place, and the number of the greatest.
+#[derive(Drop)]
+pub(crate) struct Table {
+    types: [Option<ArgumentType>; ROOM],
+    count: usize,
+}
+
+impl Table {
+    /// No argument is fetched.
+    pub(crate) fn new() -> Table
+        ensures { Keeps result [] }
+    {
+        Table {
+            types: [None; ROOM],
+            count: 0,
+        }
+    }
+
+    /// How many arguments there are.
+    pub(crate) fn count(&self) -> usize
+        ensures { result ≡ self.now.count }
+    {
+        self.count
+    }
+
+    /// Fetches the rest of a text, and before it one argument.
+    pub(crate) fn fill(
+        &mut self,
+        model: Model,
+        text: &[u8],
+        after_first: Reader,
+        first: Fetch,
+    ) -> Result<(), SignatureRefusal>
+        requires empty { Keeps self.old [] }
+        requires within { after_first.at ≤ length text.now }
+        requires number { IsTrue (is_some first.number) }
+        requires first { (at : ℕ) × (after_first.at ≡ at + 1)
+            × (reading model text.now ≡ Fetches first at (left model text.now after_first)) }
+        ensures { MatchResult result (λ _. IsTabled model text.now self.new)
+            (λ refusal. IsRefusedAt model text.now refusal.kind refusal.at) }
+    {
+        let mut reader = after_first;
+        let mut fetch = first;
+        loop {
+            let number = usize::from(fetch.number.unwrap_or(1));
+            if !self.take(number - 1, fetch.wanted) {
+                return Err(refusal(SignatureRefusalKind::TwoTypes, reader.at() - 1));
+            }
+            match reader.next_fetch(model, text) {
+                Next::Fetched(next) => fetch = next,
+                Next::End => return self.finish(text.len()),
+                Next::Stop(refusal) => return Err(refusal),
+            }
+        }
+    }
+
+    // Fetches an argument, unless it has another type.
+    fn take(&mut self, place: usize, wanted: ArgumentType) -> bool
+        requires { place < ROOM }
+        ensures { (seen : List FetchOf) → Keeps self.old seen
+            → MatchBool result
+            ((conflicts seen (fetch (Some (place + 1)) wanted) ≡ false)
+            × Keeps self.new (seen ++ fetch (Some (place + 1)) wanted ∷ []))
+            (conflicts seen (fetch (Some (place + 1)) wanted) ≡ true) }
+    {
+        self.count = larger(self.count, place + 1);
+        match self.types[place] {
+            Some(there) => there.number() == wanted.number(),
+            None => {
+                self.types[place] = Some(wanted);
+                true
+            }
+        }
+    }
+
+    // Whether each argument is fetched, at the end of a text.
+    fn finish(&self, at: usize) -> Result<(), SignatureRefusal>
+        requires room { self.now.count ≤ ROOM }
+        ensures { (seen : List FetchOf) → Keeps self.now seen → MatchResult result
+            (λ _. (place : ℕ) → place < self.now.count → IsFetched place seen)
+            (λ refusal. (refusal ≡ record { kind = MissingArgument; at = at }) × HasGap seen) }
+    {
+        let mut place = 0;
+        while place < self.count {
+            if self.types[place].is_none() {
+                return Err(refusal(SignatureRefusalKind::MissingArgument, at));
+            }
+            place += 1;
+        }
+        Ok(())
+    }
+
+    /// Puts the first types at the front of a slice.
+    pub(crate) fn copy_front(&self, out: &mut [ArgumentType])
+        requires room { self.now.count ≤ ROOM }
+        ensures types { (seen : List FetchOf) → Keeps self.now seen
+            → out.new ≡ filled out.old (listed seen 0 self.now.count) }
+        ensures length { length out.new ≡ length out.old }
+    {
+        let mut place = 0;
+        while place < self.count {
+            put(out, place, self.types[place].unwrap_or(ArgumentType::Int));
+            place += 1;
+        }
+    }
+}
+
+fn larger(one: usize, other: usize) -> usize
+    ensures { result ≡ max one other }
+{
+    if one < other {
+        return other;
+    }
+    one
+}
+
+fn refusal(kind: SignatureRefusalKind, at: usize) -> SignatureRefusal
+    ensures { result ≡ record { kind = kind; at = at } }
+{
+    SignatureRefusal {
+        kind,
+        at: at as u64,
+    }
+}

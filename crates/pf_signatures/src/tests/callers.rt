@@ -1,0 +1,41 @@
+//! The callers in CALLING.md.
+ghost use Rattle.std.specs.Prelude.{◌≡◌, IsTrue, List};
+ghost use Rattle.pf_signatures.specs.declared.types.ArgumentType.{ArgumentType as ArgumentTypeOf};
+ghost use Rattle.pf_signatures.specs.Items.{HasArguments};
+
+use crate::{ArgumentType, arguments, fits};
+use pf_values::Model;
+
+/// Whether a translated format is known to take just the arguments of the one in the program.
+fn may_translate(model: Model, original: &[u8], translated: &[u8]) -> bool
+    ensures { IsTrue result → (types others : List ArgumentTypeOf)
+        × HasArguments model original.now types × HasArguments model translated.now others
+        × (types ≡ others) }
+{
+    match fits(model, original, translated) {
+        Ok(None) => true,
+        Ok(Some(_)) => false,
+        Err(_) => false,
+    }
+}
+
+/// The type of the first argument of a format, if it takes one.
+fn first_type(model: Model, format: &[u8]) -> Option<ArgumentType> {
+    let mut types = [ArgumentType::Int];
+    match arguments(model, format, &mut types) {
+        Ok(0) => None,
+        Ok(_) => Some(types[0]),
+        Err(_) => None,
+    }
+}
+
+#[test]
+fn callers_of_signatures(rt: HostRuntime) {
+    let model = Model::Lp64;
+    assert!(rt; may_translate(model, b"%s of %d", b"%2$d/%1$s"));
+    assert!(rt; !may_translate(model, b"%.2f of %s", b"%.2f von %d"));
+    assert!(rt; !may_translate(model, b"%d", b"%1$d%d"));
+    assert!(rt; first_type(model, b"%2$s %1$lc") == Some(ArgumentType::WideChar));
+    assert!(rt; first_type(model, b"100%%") == None);
+    assert!(rt; first_type(model, b"%") == None);
+}

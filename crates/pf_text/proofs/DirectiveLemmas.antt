@@ -1,0 +1,47 @@
+-- Directives that stand whole at the front of what follows.
+use Rattle.std.proofs.Common.{◌≡◌, ℕ, ◌+◌, ◌≤◌, List, [], ◌∷◌, ◌++◌, length, take, drop, sym, ap, ◌∙◌, subst, arith}
+use Rattle.std.proofs.lemmas.List.{append_assoc, length-append, length-take-le, take-append-drop}
+use Rattle.pf_values.specs.declared.limits.TheConstants.{MAX_TEXT_LEN}
+use Rattle.pf_values.specs.declared.conversions.Conv.{Conv}
+use Rattle.pf_values.specs.Conversions.{conv_letter}
+use Rattle.pf_values.specs.Items.{Item, Directive, IsReadAs, Reads}
+use Rattle.pf_values.specs.Specification.{Specification}
+use Rattle.pf_values.specs.Text.{Text, percent}
+use Rattle.pf_text.specs.declared.pieces.Piece.TheVariants as pieces
+use Rattle.pf_text.specs.declared.pieces.Pieces.{Pieces}
+use Rattle.pf_text.specs.declared.scanner.Scanner.{Scanner}
+use Rattle.pf_text.specs.History.{IsAfter, TakesDirective}
+use Rattle.pf_text.specs.PieceHistory.{GivesPiece, HasGiven}
+use Rattle.pf_text.proofs.LiteralLemmas.{after_read}
+use Rattle.pf_text.proofs.PlainLemmas.{bare, bare_defined}
+use Rattle.pf_text.proofs.ReadBack.{spelled_read}
+use Rattle.pf_text.proofs.Texts.{Reads-push}
+
+-- what is spelled by its conversion alone
+pub bare_read : (conv : Conv) (d : Specification) → d ≡ bare conv → IsReadAs (percent ∷ conv_letter conv ∷ []) (Directive d)
+bare_read conv d e = subst (λ s. IsReadAs (percent ∷ conv_letter conv ∷ []) (Directive s)) (sym e) (spelled_read (bare conv) (bare_defined conv), bare_defined conv)
+
+-- one was taken
+pub directive_taken : (scanner : Scanner) (t text : Text) (items : List Item) (len : ℕ) (d : Specification) → IsAfter scanner t items → Reads t items
+    → len ≤ length text → IsReadAs (take len text) (Directive d) → scanner.offset + len ≤ MAX_TEXT_LEN → TakesDirective t items text len (record scanner { offset = scanner.offset + len }) d
+directive_taken scanner t text items len d h reads within read few =
+    let whole = t ++ take len text in
+    let now = Reads-push items t (take len text) (Directive d) reads read in
+    let long : length (take len text) ≡ len = length-take-le len text within in
+    record {
+      after = subst (λ k. IsAfter (record scanner { offset = scanner.offset + k }) whole (items ++ Directive d ∷ [])) long
+          (after_read scanner t (take len text) items (Directive d ∷ []) h reads now (omega (arith, h.offset, few, long, length-append t (take len text))));
+      reads = now;
+    }
+
+-- and given
+pub directive_given : (old new : Pieces) (t read : Text) (items : List Item) (len : ℕ) (d : Specification) → HasGiven old t read items → new.is_over ≡ old.is_over → new.rest.now ≡ drop len old.rest.now → TakesDirective read items old.rest.now len new.scanner d
+    → GivesPiece new t read items (pieces.Directive d)
+directive_given old new t read items len d h over rest takes =
+    let front = take len old.rest.now in
+    let cut : old.rest.now ≡ front ++ new.rest.now = sym (take-append-drop len old.rest.now) ∙ ap (λ r. front ++ r) (sym rest) in
+    record {
+      more = front;
+      given = record { going = over ∙ h.going; split = h.split ∙ ap (λ r. read ++ r) cut ∙ sym (append_assoc read front new.rest.now); reads = takes.reads; scanned = takes.after };
+      whole = tt;
+    }

@@ -1,0 +1,8 @@
+use Rattle.std.proofs.Common.{arith}
+use Rattle.pf_text.proofs.SpecificationLemmas.{precision_read}
+use Rattle.pf_text.proofs.specification.precision_at.Goals as goal
+
+pub returns : goal.returns
+returns c =
+    let digits = c.digits_at-number in
+    precision_read c.args.text.now c.args.start digits.result.1 digits.result.0 (omega (arith, c.if-start-text.false)) c.if-text-start-ne46.false digits.ensures.small digits.ensures.digits

@@ -1,0 +1,193 @@
+//! A conversion specification that stands whole at the front of a text, read in one go. The
+//! automaton comes to the same byte by byte, and tells why a text has none.
+ghost use Rattle.std.specs.Prelude.{◌≡◌, ◌+◌, ◌<◌, ◌≤◌, List, [], ◌∷◌, ◌++◌, false, length, map, take, MatchOption, ⊤};
+ghost use Rattle.pf_values.specs.declared.flags.Flag.{Flag};
+ghost use Rattle.pf_values.specs.declared.limits.TheConstants.{MAX_NUMBER};
+ghost use Rattle.pf_values.specs.Conversions.{conv_letter};
+ghost use Rattle.pf_values.specs.Defined.{is_above_limit};
+ghost use Rattle.pf_values.specs.Flags.{flag_byte, flag_set};
+ghost use Rattle.pf_values.specs.Items.{IsReadAs};
+ghost use Rattle.pf_values.specs.Items as items;
+ghost use Rattle.pf_values.specs.Lengths.{length_letters};
+ghost use Rattle.pf_values.specs.Spelling.{SpellsPrecision, SpellsWidth};
+ghost use Rattle.pf_values.specs.Text.{Text, percent};
+ghost use Rattle.pf_text.specs.Places.{GoesOn, Stands};
+
+use crate::letters::{conv_of, flag_of, modifier_of};
+use pf_values::limits::MAX_NUMBER;
+use pf_values::{Conv, Directive, FlagSet, Length};
+
+/// The directive at the front of a text, and how many bytes it has. None where the text begins
+/// otherwise, or its specification is cut off or refused.
+#[inline(always)]
+pub(crate) fn directive_at_front(text: &[u8]) -> Option<(Directive, usize)>
+    ensures { MatchOption result ⊤ (λ front. (0 < front.1) × (front.1 ≤ length text.now)
+        × IsReadAs (take front.1 text.now) (items.Directive front.0)) }
+{
+    if text.len() < 2 {
+        return None;
+    }
+    if text[0] != b'%' {
+        return None;
+    }
+    match conv_of(text[1]) {
+        Some(conv) => bare_directive(conv),
+        None => directive_of_parts(text),
+    }
+}
+
+// The directive that is spelled by its conversion alone, as most are.
+#[inline(always)]
+fn bare_directive(conv: Conv) -> Option<(Directive, usize)>
+    ensures { MatchOption result ⊤ (λ front. (front.1 ≡ 2)
+        × IsReadAs (percent ∷ conv_letter conv ∷ []) (items.Directive front.0)) }
+{
+    match Directive::new(FlagSet::empty(), None, None, Length::None, conv) {
+        Ok(directive) => Some((directive, 2)),
+        Err(_) => None,
+    }
+}
+
+// The same as of any text that begins with `%`.
+#[inline(always)]
+fn directive_of_parts(text: &[u8]) -> Option<(Directive, usize)>
+    requires { (1 ≤ length text.now) × (take 1 text.now ≡ percent ∷ []) }
+    ensures { MatchOption result ⊤ (λ front. (0 < front.1) × (front.1 ≤ length text.now)
+        × IsReadAs (take front.1 text.now) (items.Directive front.0)) }
+{
+    let (flags, at) = flags_at(text, 1);
+    let (width, at) = width_at(text, at);
+    let (precision, at) = precision_at(text, at);
+    let (length, at) = modifier_at(text, at);
+    let conv = conv_at(text, at)?;
+    match Directive::new(flags, width, precision, length, conv) {
+        Ok(directive) => Some((directive, at + 1)),
+        Err(_) => None,
+    }
+}
+
+// The flags from a place on, and where they end (C11 7.21.6.1, paragraph 6).
+#[inline(always)]
+fn flags_at(text: &[u8], start: usize) -> (FlagSet, usize)
+    requires { start ≤ length text.now }
+    ensures { (flags : List Flag) × (result.0 ≡ flag_set flags)
+        × Stands text.now start result.1 (map flag_byte flags) }
+{
+    let mut flags = FlagSet::empty();
+    let mut at = start;
+    while at < text.len() {
+        match flag_of(text[at]) {
+            Some(flag) => flags = flags.with(flag),
+            None => return (flags, at),
+        }
+        at += 1;
+    }
+    (flags, at)
+}
+
+// The field width at a place, and where it ends (C11 7.21.6.1, paragraph 4).
+#[inline(always)]
+fn width_at(text: &[u8], start: usize) -> (Option<u16>, usize)
+    requires { start ≤ length text.now }
+    ensures { (bytes : Text) × SpellsWidth bytes result.0 × (is_above_limit result.0 ≡ false)
+        × Stands text.now start result.1 bytes }
+{
+    if start >= text.len() {
+        return (None, start);
+    }
+    match text[start] {
+        b'1'..=b'9' => {
+            let (number, stop) = digits_at(text, start + 1, u16::from(text[start] - b'0'));
+            (Some(number), stop)
+        }
+        _ => (None, start),
+    }
+}
+
+// The precision at a place, and where it ends (C11 7.21.6.1, paragraph 4).
+#[inline(always)]
+fn precision_at(text: &[u8], start: usize) -> (Option<u16>, usize)
+    requires { start ≤ length text.now }
+    ensures { (bytes : Text) × SpellsPrecision bytes result.0 × (is_above_limit result.0 ≡ false)
+        × Stands text.now start result.1 bytes }
+{
+    if start >= text.len() {
+        return (None, start);
+    }
+    if text[start] != b'.' {
+        return (None, start);
+    }
+    let (number, stop) = digits_at(text, start + 1, 0);
+    (Some(number), stop)
+}
+
+// The number whose first digits make `first`, with the digits from a place on behind them, and
+// where they end: before a digit with which it would pass the limit.
+#[inline(always)]
+fn digits_at(text: &[u8], start: usize, first: u16) -> (u16, usize)
+    requires within { start ≤ length text.now }
+    requires small { first ≤ MAX_NUMBER }
+    ensures small { result.0 ≤ MAX_NUMBER }
+    ensures digits { (bytes : Text) × GoesOn first bytes result.0
+        × Stands text.now start result.1 bytes }
+{
+    let mut number = first;
+    let mut at = start;
+    while at < text.len() {
+        let byte = text[at];
+        if !byte.is_ascii_digit() {
+            return (number, at);
+        }
+        let longer = 10 * number + u16::from(byte - b'0');
+        if longer > MAX_NUMBER {
+            return (number, at);
+        }
+        number = longer;
+        at += 1;
+    }
+    (number, at)
+}
+
+// The length modifier at a place, and where it ends (C11 7.21.6.1, paragraph 7).
+#[inline(always)]
+fn modifier_at(text: &[u8], start: usize) -> (Length, usize)
+    requires { start ≤ length text.now }
+    ensures { Stands text.now start result.1 (length_letters result.0) }
+{
+    if start >= text.len() {
+        return (Length::None, start);
+    }
+    match modifier_of(text[start]) {
+        Some(first) => modifier_with(text, start + 1, first),
+        None => (Length::None, start),
+    }
+}
+
+// The modifier that begins with one of one letter, and where it ends.
+#[inline(always)]
+fn modifier_with(text: &[u8], start: usize, first: Length) -> (Length, usize)
+    requires { start ≤ length text.now }
+    ensures { (bytes : Text) × (length_letters result.0 ≡ length_letters first ++ bytes)
+        × Stands text.now start result.1 bytes }
+{
+    if start >= text.len() {
+        return (first, start);
+    }
+    match (first, text[start]) {
+        (Length::H, b'h') => (Length::Hh, start + 1),
+        (Length::L, b'l') => (Length::Ll, start + 1),
+        _ => (first, start),
+    }
+}
+
+// The conversion at a place (C11 7.21.6.1, paragraph 8).
+#[inline(always)]
+fn conv_at(text: &[u8], at: usize) -> Option<Conv>
+    requires { at ≤ length text.now }
+    ensures { MatchOption result ⊤ (λ conv. Stands text.now at (at + 1) (conv_letter conv ∷ [])) }
+{
+    if at >= text.len() {
+        return None;
+    }
+    conv_of(text[at])
+}

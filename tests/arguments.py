@@ -1,0 +1,206 @@
+#!/usr/bin/env python3
+"""Holds the types of arguments in the whole language to `parse_printf_format` of the GNU C library, and to gcc's warnings.
+
+Usage: tests/arguments.py PROGRAM FOLDER
+
+FOLDER has libfmtcanon.so, as `make library` leaves it. It needs gcc, and the GNU C library that Python runs on. Its last
+line is 'N passed, M failed', and it exits with 1 where M isn't 0.
+
+`parse_printf_format` tells how many arguments there are, where each is, and its kind; it tells no signs, takes `ll` for `l`
+and `%lc` for `%c`, and gives each pointer of `%n` one code. What is left is gcc's, whose warnings know all of a type.
+"""
+
+import ctypes
+import re
+import subprocess
+import sys
+import tempfile
+from itertools import product
+from pathlib import Path
+
+sys.dont_write_bytecode = True
+sys.path.insert(0, str(Path(__file__).resolve().parent))
+
+from harness import TIMEOUT, Trials  # noqa: E402
+from library import load_module  # noqa: E402
+
+INTEGER_LENGTHS = ["", "hh", "h", "l", "ll", "j", "z", "t"]
+# The length modifiers that each conversion takes (C11 7.21.6.1, paragraphs 7 and 8; POSIX for C and S).
+LENGTHS = {
+    **dict.fromkeys("dioxXub", INTEGER_LENGTHS),
+    **dict.fromkeys("aAeEfFgG", ["", "l", "L"]),
+    **dict.fromkeys("cs", ["", "l"]),
+    **dict.fromkeys("CSp", [""]),
+    "n": INTEGER_LENGTHS,
+}
+# What stands between the percent sign and the length modifier, without numbers and with them.
+FORMS = ["", "*", ".*", "*.*", "5.*", "*.3", "*."]
+NUMBERED = ["1$", "2$*1$", "2$.*1$", "3$*2$.*1$", "1$*3$.*2$", "2$*1$.*1$", "1$5", "1$.3"]
+# The codes of <printf.h>: PA_INT, PA_CHAR, PA_WCHAR, PA_STRING, PA_WSTRING, PA_POINTER and PA_DOUBLE, and its flags.
+INTEGERS = {0, 1, 1 << 10}
+LONGS = {1 << 9}
+CODES = {
+    "INT": INTEGERS,
+    "UINT": INTEGERS,
+    "LONG": LONGS,
+    "ULONG": LONGS,
+    "LONG_LONG": LONGS,
+    "ULONG_LONG": LONGS,
+    "STRING": {3},
+    "DOUBLE": {7},
+    "LONG_DOUBLE": {7 | 1 << 8},
+    "WIDE_CHAR": {1, 2},
+    "WIDE_STRING": {3, 4},
+    "POINTER_TO_VOID": {5},
+    **dict.fromkeys(["POINTER_TO_SCHAR", "POINTER_TO_SHORT", "POINTER_TO_INT"], {1 << 11}),
+    **dict.fromkeys(["POINTER_TO_LONG", "POINTER_TO_LONG_LONG"], {1 << 11}),
+}
+# The types of C, in LP64.
+NAMED = {
+    "INT": "int",
+    "UINT": "unsigned int",
+    "LONG": "long",
+    "ULONG": "unsigned long",
+    "LONG_LONG": "long long",
+    "ULONG_LONG": "unsigned long long",
+    "STRING": "char *",
+    "DOUBLE": "double",
+    "LONG_DOUBLE": "long double",
+    "WIDE_CHAR": "wint_t",
+    "WIDE_STRING": "wchar_t *",
+    "POINTER_TO_VOID": "void *",
+    "POINTER_TO_SCHAR": "signed char *",
+    "POINTER_TO_SHORT": "short *",
+    "POINTER_TO_INT": "int *",
+    "POINTER_TO_LONG": "long *",
+    "POINTER_TO_LONG_LONG": "long long *",
+}
+WARNINGS = ["-Wformat", "-Wformat-signedness"]
+# Types that gcc takes for one another in silence: the same ones by other names, and what it warns of only when it is pedantic.
+ALIKE = [{"UINT", "WIDE_CHAR"}, {"WIDE_STRING", "POINTER_TO_INT"}, {"STRING", "POINTER_TO_SCHAR"}]
+POINTERS = {name for name, named in NAMED.items() if named.endswith("*")}
+MOST = 64
+# The greatest number of an argument here.
+GREATEST = 4095
+MANY = 10_000_000
+
+
+def specifications():
+    """Each conversion with each of its length modifiers."""
+    return [(length, conversion) for conversion, lengths in LENGTHS.items() for length in lengths]
+
+
+def takes(form, conversion):
+    """Whether a form may stand before a conversion: no precision of characters and pointers, and nothing before n."""
+    if conversion == "n":
+        return form in ("", "1$")
+    return "." not in form or conversion not in "cCp"
+
+
+def formats():
+    """One specification in each form, two in a row, and two whose numbers turn them round."""
+    for length, conversion in specifications():
+        for form in FORMS + NUMBERED:
+            if takes(form, conversion):
+                yield f"%{form}{length}{conversion}"
+    for (first, one), (second, other) in product(specifications(), repeat=2):
+        yield f"%{first}{one} %% %{second}{other}"
+        yield f"%2${first}{one} %1${second}{other}"
+
+
+def parsed(library, format):
+    """The codes of the arguments, by the C library."""
+    found = (ctypes.c_int * MOST)()
+    count = library.parse_printf_format(format.encode(), ctypes.c_size_t(MOST), found)
+    return found[:count]
+
+
+def try_parsed(module, library, trials):
+    """As many arguments as the C library tells, and each of a type of its code."""
+    for format in formats():
+        types = [kind.name for kind in module.arguments(format)]
+        codes = parsed(library, format)
+        fits = len(codes) == len(types) and all(code in CODES[name] for code, name in zip(codes, types))
+        trials.expect(f"parse_printf_format of {format!r}, {types} and {codes}", fits, True)
+
+
+def try_lengths(module, trials):
+    """Every other length modifier is refused."""
+    for conversion, lengths in LENGTHS.items():
+        for length in [*INTEGER_LENGTHS, "L"]:
+            try:
+                is_taken = bool(module.arguments(f"%{length}{conversion}"))
+            except module.Refused:
+                is_taken = False
+            trials.expect(f"%{length}{conversion} is taken", is_taken, length in lengths)
+
+
+def call_of(format, types):
+    # No pointer may be null.
+    values = [f", ({NAMED[name]}){'place' if name in POINTERS else '0'}" for name in types]
+    return f'printf("{format}"{"".join(values)});'
+
+
+def warned(calls, work):
+    """Which of these calls gcc warns of."""
+    source = work / "formats.c"
+    head = "#include <stdio.h>\n#include <wchar.h>\nvoid all(char *place) {"
+    source.write_text("\n".join([head, *calls, "}", ""]))
+    words = ["gcc", "-std=gnu2x", *WARNINGS, "-fsyntax-only", source]
+    done = subprocess.run(words, stdout=subprocess.PIPE, stderr=subprocess.STDOUT, timeout=TIMEOUT, check=True)
+    return {calls[int(line) - 4] for line in re.findall(r"formats\.c:(\d+):\d+: warning", done.stdout.decode())}
+
+
+def try_compiled(module, trials, work):
+    """gcc has no warning for arguments of these types, and one where an argument is of another type."""
+    calls = [call_of(format, [kind.name for kind in module.arguments(format)]) for format in formats()]
+    found = warned(calls, work)
+    for call in calls:
+        trials.expect(f"gcc warns of {call}", call in found, False)
+    others = []
+    for length, conversion in specifications():
+        format = f"%{length}{conversion}"
+        name = module.arguments(format)[0].name
+        alike = {name}.union(*[both for both in ALIKE if name in both], POINTERS if conversion == "p" else ())
+        others += [call_of(format, [other]) for other in NAMED if other not in alike]
+    found = warned(others, work)
+    for call in others:
+        trials.expect(f"gcc warns of {call}", call in found, True)
+
+
+def try_hostile(module, trials):
+    """Texts that are long, or as far from the order of their arguments as may be."""
+    letters = ["d", "s", "f", "lu"]
+    names = [module.arguments(f"%{letter}")[0] for letter in letters]
+    numbers = range(GREATEST, 0, -1)
+    reverse = "".join(f"%{number}${letters[number % 4]}" for number in numbers)
+    trials.expect("numbers in reverse", module.arguments(reverse), [names[number % 4] for number in reversed(numbers)])
+    trials.expect("numbers in reverse fit", module.fits(reverse, reverse), True)
+    trials.expect("zeros of a precision", module.arguments(f"%.{'0' * MANY}5d"), module.arguments("%d"))
+    refused = [
+        # Four digits make 1111; the fifth is too many.
+        (f"%{'1' * MANY}d", "WidthTooLarge", 5),
+        (f"%{GREATEST}$n", "MissingArgument", len(f"%{GREATEST}$n")),
+        (f"%{GREATEST}$d{'%1$d' * (MANY // 4)}", "MissingArgument", len(f"%{GREATEST}$d") + MANY),
+    ]
+    for text, name, byte in refused:
+        try:
+            found = module.arguments(text)
+        except module.Refused as refusal:
+            found = (refusal.name, refusal.byte)
+        trials.expect(f"{text[:10]}..", found, (name, byte))
+
+
+def main():
+    program, folder, trials = sys.argv[1], Path(sys.argv[2]).resolve(), Trials()
+    module = load_module(program, folder)
+    try_lengths(module, trials)
+    try_hostile(module, trials)
+    try_parsed(module, ctypes.CDLL("libc.so.6"), trials)
+    with tempfile.TemporaryDirectory() as name:
+        try_compiled(module, trials, Path(name))
+    return trials.end()
+
+
+if __name__ == "__main__":
+    sys.exit(main())
