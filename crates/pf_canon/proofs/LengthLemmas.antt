@@ -14,10 +14,6 @@ use Rattle.pf_canon.specs.Through.{Ends, GrowsBy, IsThrough, front_text}
 use Rattle.pf_canon.proofs.BuildingLemmas.{all_built, built_more}
 use Rattle.pf_canon.proofs.ThroughLemmas.{through_few}
 
--- the limit
-max_directive_len : MAX_DIRECTIVE_LEN ≡ 4120
-max_directive_len = refl
-
 module _ (model : Model) (t out : Text) (at len n : ℕ) (len_is : len ≡ length out) where
   -- the front of the rest of the text was taken
   module _ (front : Front) (new : Transducer) (g : GrowsBy model (take at t) out (drop at t) front new) (n_is : n ≡ length (front_text front (drop at t))) where

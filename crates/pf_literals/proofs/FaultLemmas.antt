@@ -57,9 +57,6 @@ escape_sure Hexadecimal digits after = record { byte = 92; after = 120 ∷ (digi
 sure_as : (t u : Bytes) → t ≡ u → IsSure u → IsSure t
 sure_as t u e h = subst IsSure (sym e) h
 
-none_less : (on : ℕ) → on < 0 → ⊥
-none_less on h = omega arith
-
 -- what stops before the end of the text
 stopped_sure : (rest : Bytes) (kind : LiteralKind) (on : ℕ) → IsStopped rest kind on → on < length rest → IsSure rest
 stopped_sure rest NoLiteral on h less = absurd h

@@ -17,7 +17,7 @@ use Rattle.pf_signatures.specs.declared.types.ArgumentType.{ArgumentType}
 use Rattle.pf_signatures.specs.declared.types.ArgumentType.TheVariants.{Int}
 use Rattle.pf_signatures.specs.Fronts.{IsAt, IsBefore, at_star}
 use Rattle.pf_signatures.specs.Items.{Byte, Reads, Specification, WholeItem, fetched}
-use Rattle.pf_signatures.specs.Readings.{Fault, IsBounded, IsWithin, moved, read, reading}
+use Rattle.pf_signatures.specs.Readings.{Fault, moved, read, reading}
 use Rattle.pf_signatures.specs.Refusals.{Follows, style_by, style_in}
 use Rattle.pf_signatures.specs.Specifications.{Amount, Given, Fetched, WholeSpecification}
 use Rattle.pf_signatures.specs.Spelling.{IsToPrecision, SpellsAmount, SpellsNumber, SpellsPosition, SpellsWhole, SpellsWidth}
@@ -26,6 +26,7 @@ use Rattle.pf_signatures.specs.States.{Next, next}
 use Rattle.pf_signatures.specs.Types.{fetch, fetches, star_fetches, type_of}
 use Rattle.pf_signatures.proofs.Agreeing.{all_back, all_push}
 use Rattle.pf_signatures.proofs.Judging.{Arrives, Brings, Judges, judge}
+use Rattle.pf_signatures.proofs.Within.{IsBounded, IsWithin}
 
 all_append : {X : Type 0} (P : X → Type 0) (xs ys : List X) → AllByRecursion P xs → AllByRecursion P ys → AllByRecursion P (xs ++ ys)
 all_append P [] ys h g = g

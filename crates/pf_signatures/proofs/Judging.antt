@@ -119,10 +119,6 @@ behind_none t parts own h =
       own_is = h.4 ∙ sym (append-nil _);
     }
 
--- no width
-behind_flags : (t : Text) (parts : Parts) → IsToFlags t parts.position parts.flags → parts.width ≡ false → parts.precision ≡ false → IsBehind Width t parts []
-behind_flags t parts h w p = (None, record { before = t; text = []; before_is = h; width_is = refl; whole = sym (append-nil t) }, w, p, refl)
-
 module _ (model : Model) (style : Style) (part : Text) (own : List Fetch) (byte : ℕ) where
   -- a state that a byte leads to with nothing fetched
   abbrev pub Arrives : State → Type 0

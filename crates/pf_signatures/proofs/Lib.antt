@@ -2,6 +2,7 @@ pub mod Digits
 pub mod Judging
 pub mod Agreeing
 pub mod Soundness
+pub mod Within
 pub mod Bounds
 pub mod TypeLists
 pub mod Telling

@@ -10,13 +10,14 @@ use Rattle.pf_signatures.specs.declared.parts.Style.TheVariants.{Undecided, Unnu
 use Rattle.pf_signatures.specs.declared.types.ArgumentType.{ArgumentType}
 use Rattle.pf_signatures.specs.Items.{HasArguments}
 use Rattle.pf_signatures.specs.Laws.{filled}
-use Rattle.pf_signatures.specs.Readings.{Fault, Fetches, IsBounded, Reading, Whole, conflicts, differs, reading, settled, verdict, wanted}
+use Rattle.pf_signatures.specs.Readings.{Fault, Fetches, Reading, Whole, conflicts, differs, reading, settled, verdict, wanted}
 use Rattle.pf_signatures.specs.Refusals.{Follows, IsRefusedAt, style_by}
 use Rattle.pf_signatures.specs.Types.{fetch}
 use Rattle.pf_signatures.proofs.Agreeing.{all_push}
 use Rattle.pf_signatures.proofs.Bounds.{reading_bounded}
 use Rattle.pf_signatures.proofs.Soundness.{Tells, told}
 use Rattle.pf_signatures.proofs.Telling.{accepted, told_taken}
+use Rattle.pf_signatures.proofs.Within.{IsBounded}
 
 -- what was fetched has no numbers, and what is left is read so
 pub record IsInOrder (model : Model) (t : Text) (seen : List Fetch) (left : Reading) : Type 0 where

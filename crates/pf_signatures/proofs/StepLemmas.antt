@@ -21,7 +21,7 @@ use Rattle.pf_signatures.specs.declared.types.ArgumentType.{ArgumentType}
 use Rattle.pf_signatures.specs.Items.{HasArguments}
 use Rattle.pf_signatures.specs.Kinds.{type_number}
 use Rattle.pf_signatures.specs.Laws.{Compares, IsFirstDifference}
-use Rattle.pf_signatures.specs.Readings.{Fault, Fetches, IsWithin, Reading, Refused, Takes, Whole, conflicts, reading, settled, verdict, wanted}
+use Rattle.pf_signatures.specs.Readings.{Fault, Fetches, Reading, Refused, Takes, Whole, conflicts, reading, settled, verdict, wanted}
 use Rattle.pf_signatures.specs.Steps.{AreFew, Differ, paired, plain_fetch, plain_of}
 use Rattle.pf_signatures.specs.Types.{HaveTypes, IsFetched, IsOfType}
 use Rattle.pf_signatures.specs.Walks.{GoesFurther, IsNext, left}
@@ -29,6 +29,7 @@ use Rattle.pf_signatures.proofs.Agreeing.{all_back, all_push, same_type}
 use Rattle.pf_signatures.proofs.OrderLemmas.{no_conflict}
 use Rattle.pf_signatures.proofs.Telling.{accepted, seen_within, told_taken}
 use Rattle.pf_signatures.proofs.Unique.{one_list, types_of_verdict, arguments_verdict}
+use Rattle.pf_signatures.proofs.Within.{IsWithin}
 
 -- what was fetched has no numbers
 pub record IsOrdered (model : Model) (t : Text) (seen : List Fetch) (left : Reading) : Type 0 where

@@ -17,7 +17,7 @@ use Rattle.pf_signatures.specs.declared.tables.TheConstants.{ROOM}
 use Rattle.pf_signatures.specs.declared.types.ArgumentType.{ArgumentType}
 use Rattle.pf_signatures.specs.declared.types.ArgumentType.TheVariants.{Int}
 use Rattle.pf_signatures.specs.Kinds.{type_number}
-use Rattle.pf_signatures.specs.Readings.{Fault, Fetches, IsBounded, IsWithin, Reading, Refused, Takes, Whole, conflicts, greatest, is_number, listed, reading, settled, verdict, wanted_at}
+use Rattle.pf_signatures.specs.Readings.{Fault, Fetches, Reading, Refused, Takes, Whole, conflicts, greatest, is_number, listed, reading, settled, verdict, wanted_at}
 use Rattle.pf_signatures.specs.Refusals.{Follows, HasGap, IsOneType, IsRefusedAt, style_by}
 use Rattle.pf_signatures.specs.Tabled.{IsTabled, Keeps}
 use Rattle.pf_signatures.specs.Types.{AreNumbered, IsFetched, fetch}
@@ -27,6 +27,7 @@ use Rattle.pf_signatures.proofs.Bounds.{reading_bounded}
 use Rattle.pf_signatures.proofs.Soundness.{Tells, told}
 use Rattle.pf_signatures.proofs.Telling.{accepted, missing, seen_within, told_taken}
 use Rattle.pf_signatures.proofs.TypeLists.{fetched_none, fetched_some, gap_is, length_listed, numbered_types, wanted_one}
+use Rattle.pf_signatures.proofs.Within.{IsBounded, IsWithin}
 
 wanted_push : (place : ℕ) (seen : List Fetch) (f : Fetch) (type : ArgumentType) → wanted_at place seen ≡ Some type → wanted_at place (seen ++ f ∷ []) ≡ Some type
 wanted_push place [] f type e = cc

@@ -9,13 +9,14 @@ use Rattle.pf_signatures.specs.declared.kinds.SignatureRefusalKind.TheVariants.{
 use Rattle.pf_signatures.specs.declared.types.ArgumentType.{ArgumentType}
 use Rattle.pf_signatures.specs.Items.{HasArguments}
 use Rattle.pf_signatures.specs.Laws.{IsSettled}
-use Rattle.pf_signatures.specs.Readings.{IsWithin, Refused, Takes, Verdict, verdict}
+use Rattle.pf_signatures.specs.Readings.{Refused, Takes, Verdict, verdict}
 use Rattle.pf_signatures.specs.Refusals.{HasGap, IsRefusedAt}
 use Rattle.pf_signatures.specs.Stages.{Between}
 use Rattle.pf_signatures.specs.Types.{HaveTypes}
 use Rattle.pf_signatures.proofs.Bounds.{items_within}
 use Rattle.pf_signatures.proofs.Soundness.{Taken, Tells, told}
 use Rattle.pf_signatures.proofs.TypeLists.{types_or_gap}
+use Rattle.pf_signatures.proofs.Within.{IsWithin}
 
 module _ (model : Model) (t : Text) (fs : List Fetch) (h : Taken model t fs) where
   pub accepted : (types : List ArgumentType) → HaveTypes fs types → HasArguments model t types

@@ -9,10 +9,11 @@ use Rattle.pf_signatures.specs.declared.fetches.Fetch.{Fetch}
 use Rattle.pf_signatures.specs.declared.parts.Style.TheVariants.{Unnumbered, Numbered}
 use Rattle.pf_signatures.specs.declared.types.ArgumentType.{ArgumentType}
 use Rattle.pf_signatures.specs.declared.types.ArgumentType.TheVariants.{Int}
-use Rattle.pf_signatures.specs.Readings.{IsWithin, greatest, is_number, listed, wanted, wanted_at}
+use Rattle.pf_signatures.specs.Readings.{greatest, is_number, listed, wanted, wanted_at}
 use Rattle.pf_signatures.specs.Refusals.{AreAgreed, HasGap, IsOneType, style_by}
 use Rattle.pf_signatures.specs.Types.{AreInOrder, AreNumbered, HaveTypes, IsFetched, IsOfType}
 use Rattle.pf_signatures.proofs.Agreeing.{all_map}
+use Rattle.pf_signatures.proofs.Within.{IsWithin}
 
 eqb-refl : (n : ℕ) → (n == n) ≡ true
 eqb-refl n = grind (arith, nat_tests)
@@ -24,9 +25,6 @@ number_is (Some m) n e = ap Some (eqb-true m n e)
 number_is_not : (o : Option ℕ) (n : ℕ) → is_number o n ≡ false → o ≢ Some n
 number_is_not None n e g = cc
 number_is_not (Some m) n e g = let same : m ≡ n = cc in let yes : (m == n) ≡ true = subst (λ k. (m == k) ≡ true) same (eqb-refl m) in cc
-
-number_tested : (o : Option ℕ) (n : ℕ) → o ≡ Some n → is_number o n ≡ true
-number_tested o n e = ap (λ p. is_number p n) e ∙ eqb-refl n
 
 -- an argument is fetched exactly if it has a first fetch
 pub fetched_some : (place : ℕ) (fs : List Fetch) (type : ArgumentType) → wanted_at place fs ≡ Some type → IsFetched place fs

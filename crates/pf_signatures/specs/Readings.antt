@@ -97,14 +97,3 @@ abbrev pub listed : List Fetch → ℕ → ℕ → List ArgumentType
 listed fetched place zero = []
 listed fetched place (suc n) =
     unwrap_or (wanted_at place fetched) Int ∷ listed fetched (place + 1) n
-
--- the number of an argument is one of those that there are
-abbrev pub IsWithin : Fetch → Type 0
-IsWithin f = (n : ℕ) → f.number ≡ Some n → (0 < n) × (n ≤ MAX_NUMBER)
-
--- each number that is read is, and all fetches are of one style, that of those before them
-abbrev pub IsBounded : Style → Reading → Type 0
-IsBounded style Whole = ⊤
-IsBounded style (Fault kind at) = ⊤
-IsBounded style (Fetches f at rest) =
-    IsWithin f × Follows style (Some (style_by f.number)) × IsBounded (style_by f.number) rest

@@ -15,7 +15,6 @@ mod letters;
 mod parts;
 mod reader;
 mod refusals;
-mod search;
 mod stepping;
 mod tables;
 #[cfg(test)]

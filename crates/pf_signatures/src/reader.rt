@@ -18,8 +18,8 @@ use crate::kinds::SignatureRefusalKind;
 use crate::letters::conversion_of;
 use crate::parts::Style;
 use crate::refusals::SignatureRefusal;
-use crate::search::first_other;
 use crate::wanted::type_of;
+use pf_text::literal_len;
 use pf_values::limits::MAX_TEXT_LEN;
 use pf_values::{Length, Model};
 
@@ -209,7 +209,7 @@ fn run_len(rest: &[u8], at: usize) -> usize
     ensures ended { result ≡ 0 → 0 < length rest.now → Passes (is_byte2 37 0) rest.now 0 }
 {
     let room = MAX_TEXT_LEN as usize - at;
-    let len = first_other(rest).unwrap_or(rest.len());
+    let len = literal_len(rest);
     if len > room {
         return room;
     }

@@ -25,5 +25,6 @@ pub use faults::TextFault;
 pub use pieces::{Piece, Pieces};
 pub use refusal::Refusal;
 pub use scanner::{Scanner, Step};
+pub use search::literal_len;
 pub use signatures::Signature;
 pub use spelling::{Spelling, spell};

@@ -227,10 +227,10 @@ impl Scanner {
         count
     }
 
-    /// Takes the directive that stands whole at the front of `text`, if one does, and tells how
-    /// many bytes it has. One call of `feed` for each of them would do the same. Where the text
-    /// begins otherwise, where a specification is cut off or refused, inside an item, and after a
-    /// refusal, it takes none.
+    /// Takes a directive that stands whole at the front of `text`, and tells how many bytes it has.
+    /// One call of `feed` for each of them would do the same. Where no defined directive stands
+    /// whole, inside an item, and after a refusal, it takes none. It may take none where one stands,
+    /// and so its caller goes on with `feed`.
     #[inline(always)]
     pub fn pass_directive(&mut self, text: &[u8]) -> Option<(Directive, usize)>
         ensures within { MatchOption result (self.new ≡ self.old)

@@ -11,10 +11,11 @@ const LANES: usize = 16;
 // after it.
 const NEAR: usize = 64;
 
-/// How many literal bytes begin a text. It sees no scanner, so that a reader's scanner can lie in
-/// registers, and is never inlined, so that the search stands in the program once.
+/// How many literal bytes begin `text`: those before its first `%` and before its first zero byte.
+// It sees no reader, so that a reader's state can lie in registers, and is never inlined, so that
+// the search stands in the program once.
 #[inline(never)]
-pub(crate) fn literal_len(text: &[u8]) -> usize
+pub fn literal_len(text: &[u8]) -> usize
     ensures within { result ≤ length text.now }
     ensures none { Nowhere (Passes (is_byte2 37 0) text.now) 0 result }
     ensures ended { result < length text.now → Passes (is_byte2 37 0) text.now result }
