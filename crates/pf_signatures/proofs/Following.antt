@@ -14,14 +14,15 @@ use Rattle.pf_signatures.specs.declared.parts.Style.{Style}
 use Rattle.pf_signatures.specs.declared.parts.Style.TheVariants.{Undecided}
 use Rattle.pf_signatures.specs.Items.{Byte, IsReadAs, Reads, Specification, WholeItem, fetched}
 use Rattle.pf_signatures.specs.Readings.{Refused, Takes, conflicts, ended, moved, read, settled, verdict}
-use Rattle.pf_signatures.specs.Refusals.{AreAgreed, Follows, HasCause, HasGap, IsOneType, IsRefusedAt, style_by, style_in, style_of}
+use Rattle.pf_signatures.specs.Refusals.{AreAgreed, Follows, HasCause, HasGap, IsOneType, IsRefusedAt, IsRefusedByte, style_by, style_in, style_of}
 use Rattle.pf_signatures.specs.Specifications.{WholeSpecification}
 use Rattle.pf_signatures.specs.Stages.{State, Between, Opened, First, Flags, Digits, Star, StarDigits, Placed, Point, Modified}
 use Rattle.pf_signatures.specs.States.{Next, next}
 use Rattle.pf_signatures.specs.Types.{fetch, fetches, star_fetches, type_of}
 use Rattle.pf_signatures.proofs.Agreeing.{agreed_clear, agreed_follows, agreed_front, all_back, all_map, conflicts_no, style_push}
-use Rattle.pf_signatures.proofs.Reaching.{came, spelled_run}
+use Rattle.pf_signatures.proofs.Reaching.{Came, came, spelled_run}
 use Rattle.pf_signatures.proofs.Running.{Stand, run, stand, went}
+use Rattle.pf_signatures.proofs.Wording.{IsTurnedDown, words_refuse}
 
 within_limit : (n : ℕ) → n < MAX_TEXT_LEN → nat_le MAX_TEXT_LEN n ≡ false
 within_limit n h = grind (arith, nat_tests)
@@ -139,49 +140,45 @@ module _ (model : Model) where
   abbrev pub IsSaid : Text → SignatureRefusalKind → ℕ → Type 0
   IsSaid t kind at = (verdict model t ≡ Refused kind at) ⊎ ((kind ≡ MissingArgument) × (at ≡ length t) × (fs : List Fetch) × (verdict model t ≡ Takes fs) × HasGap fs)
 
-  at_front : (t : Text) (kind : SignatureRefusalKind) (at : ℕ) (h : IsRefusedAt model t kind at) → verdict model t ≡ settled h.fetches (read model (style_of h.fetches) h.state at h.rest)
-  at_front t kind at h = go where
-    items : List WholeItem
-    items = h.good.items
+  module _ (t : Text) (kind : SignatureRefusalKind) (at : ℕ) (h : IsRefusedAt model t kind at) where
+    abbrev base : List Fetch
+    base = fetched model h.good.items
 
-    whole : Text
-    whole = h.good.whole
-
-    part : Text
-    part = h.good.part
-
-    own : List Fetch
-    own = h.good.own
-
-    base : List Fetch
-    base = fetched model items
-
-    agreed : AreAgreed (base ++ own)
+    agreed : AreAgreed (base ++ h.good.own)
     agreed = subst AreAgreed h.good.fetches_are h.good.agreed
 
-    long : length h.front ≡ length whole + length part
-    long = ap length h.good.split ∙ length-append whole part
+    long : length h.front ≡ length h.good.whole + length h.good.part
+    long = ap length h.good.split ∙ length-append h.good.whole h.good.part
 
-    text : t ≡ whole ++ (part ++ h.rest)
-    text = h.split ∙ ap (λ u. u ++ h.rest) h.good.split ∙ append_assoc whole part h.rest
+    text : t ≡ h.good.whole ++ (h.good.part ++ h.rest)
+    text = h.split ∙ ap (λ u. u ++ h.rest) h.good.split ∙ append_assoc h.good.whole h.good.part h.rest
 
-    follows : Follows (style_of base) (style_in h.state)
-    follows = go base own (style_in h.state) (subst (λ f. Follows (style_of f) (style_in h.state)) h.good.fetches_are h.good.style) where
+    -- what follows all that was fetched follows what whole items fetched
+    followed : (o : Option Style) → Follows (style_of h.fetches) o → Follows (style_of base) o
+    followed o f = go base h.good.own o (subst (λ g. Follows (style_of g) o) h.good.fetches_are f) where
       go : (base own : List Fetch) (o : Option Style) → Follows (style_of (base ++ own)) o → Follows (style_of base) o
       go [] own None f = tt
       go [] own (Some s) f = inl refl
       go (x ∷ base) own None f = tt
       go (x ∷ base) own (Some s) f = f
 
-    go : verdict model t ≡ settled h.fetches (read model (style_of h.fetches) h.state at h.rest)
-    go =
-        let c = came model (style_of base) h.state part own h.good.at follows in
-        let two = follow model base h.rest part (0 + length whole) (stand (style_of base) Between []) (stand c.behind h.state own) (ap style_of (sym (append-nil base))) c.run_is agreed (omega (arith, long, h.place, h.limit)) in
-        let there : 0 + length whole + length part ≡ at = omega (arith, long, h.place) in
-        ap (λ u. settled [] (read model Undecided Between 0 u)) text ∙ reads_on items [] whole (part ++ h.rest) 0 h.good.reads (agreed_front base own agreed) (omega (arith, long, h.place, h.limit))
-        ∙ ap (λ f. settled f (read model (style_of base) Between (0 + length whole) (part ++ h.rest))) (sym (append-nil base)) ∙ two.0
-        ∙ ap (λ s. settled (base ++ own) (read model s h.state (0 + length whole + length part) h.rest)) two.1
-        ∙ ap (λ n. settled (base ++ own) (read model (style_of (base ++ own)) h.state n h.rest)) there
+    c : Came model (style_of base) h.state h.good.part h.good.own
+    c = came model (style_of base) h.state h.good.part h.good.own h.good.at (followed (style_in h.state) h.good.style)
+
+    part_follows : Follow model base h.rest h.good.part (0 + length h.good.whole) (stand (style_of base) Between []) (stand c.behind h.state h.good.own)
+    part_follows = follow model base h.rest h.good.part (0 + length h.good.whole) (stand (style_of base) Between []) (stand c.behind h.state h.good.own) (ap style_of (sym (append-nil base))) c.run_is agreed (omega (arith, long, h.place, h.limit))
+
+    -- the walk through the part of a specification comes to its state
+    came_here : run model (Ok (stand (style_of base) Between [])) h.good.part ≡ Ok (stand (style_of h.fetches) h.state h.good.own)
+    came_here = c.run_is ∙ ap (λ s. Ok (stand s h.state h.good.own)) (part_follows.1 ∙ ap style_of (sym h.good.fetches_are))
+
+    at_front : verdict model t ≡ settled h.fetches (read model (style_of h.fetches) h.state at h.rest)
+    at_front =
+        let there : 0 + length h.good.whole + length h.good.part ≡ at = omega (arith, long, h.place) in
+        ap (λ u. settled [] (read model Undecided Between 0 u)) text ∙ reads_on h.good.items [] h.good.whole (h.good.part ++ h.rest) 0 h.good.reads (agreed_front base h.good.own agreed) (omega (arith, long, h.place, h.limit))
+        ∙ ap (λ f. settled f (read model (style_of base) Between (0 + length h.good.whole) (h.good.part ++ h.rest))) (sym (append-nil base)) ∙ part_follows.0
+        ∙ ap (λ s. settled (base ++ h.good.own) (read model s h.state (0 + length h.good.whole + length h.good.part) h.rest)) part_follows.1
+        ∙ ap (λ n. settled (base ++ h.good.own) (read model (style_of (base ++ h.good.own)) h.state n h.rest)) there
         ∙ ap (λ f. settled f (read model (style_of f) h.state at h.rest)) (sym h.good.fetches_are)
 
   ended_open : (fs : List Fetch) (state : State) (at : ℕ) → state ≢ Between → settled fs (ended state at) ≡ Refused Truncated at
@@ -197,7 +194,7 @@ module _ (model : Model) where
   ended_open fs (Modified parts modifier) at some = refl
 
   -- what a byte makes that is refused
-  byte_refused : (fs : List Fetch) (state : State) (at byte : ℕ) (rest : Text) (kind : SignatureRefusalKind) → at ≤ MAX_TEXT_LEN → HasCause model fs state at (byte ∷ rest) kind → settled fs (read model (style_of fs) state at (byte ∷ rest)) ≡ Refused kind at
+  byte_refused : (fs : List Fetch) (state : State) (at byte : ℕ) (rest : Text) (kind : SignatureRefusalKind) → at ≤ MAX_TEXT_LEN → MatchBool (at == MAX_TEXT_LEN) (kind ≡ TooLong) (IsTurnedDown model fs state byte kind) → settled fs (read model (style_of fs) state at (byte ∷ rest)) ≡ Refused kind at
   byte_refused fs state at byte rest kind few h = go (at == MAX_TEXT_LEN) refl h where
     full : (n : ℕ) → (n == MAX_TEXT_LEN) ≡ true → nat_le MAX_TEXT_LEN n ≡ true
     full n e = grind (arith, nat_tests)
@@ -205,7 +202,7 @@ module _ (model : Model) where
     short : (n : ℕ) → n ≤ MAX_TEXT_LEN → (n == MAX_TEXT_LEN) ≡ false → nat_le MAX_TEXT_LEN n ≡ false
     short n few e = grind (arith, nat_tests)
 
-    go : (b : Bool) → (at == MAX_TEXT_LEN) ≡ b → MatchBool b (kind ≡ TooLong) ((next model (style_of fs) state byte ≡ Err kind) ⊎ ((kind ≡ TwoTypes) × (to : State) × (f : Fetch) × (next model (style_of fs) state byte ≡ Ok (to, Some f)) × ¬ AllByRecursion (IsOneType f) fs))
+    go : (b : Bool) → (at == MAX_TEXT_LEN) ≡ b → MatchBool b (kind ≡ TooLong) (IsTurnedDown model fs state byte kind)
         → settled fs (read model (style_of fs) state at (byte ∷ rest)) ≡ Refused kind at
     go true e h = let room = full at e in rw room (ap (λ k. Refused k at) (sym h))
     go false e (inl h) = let room = short at few e in rw (room, h) refl
@@ -218,9 +215,13 @@ module _ (model : Model) where
 
   pub said : (t : Text) (kind : SignatureRefusalKind) (at : ℕ) → IsRefusedAt model t kind at → IsSaid t kind at
   said t kind at h = go h.rest refl h.cause where
-    go : (rest : Text) → h.rest ≡ rest → HasCause model h.fetches h.state at rest kind → IsSaid t kind at
+    turned_down : (byte : ℕ) (b : Bool) → MatchBool b (kind ≡ TooLong) (IsRefusedByte model h.fetches h.good.part h.state byte kind) → MatchBool b (kind ≡ TooLong) (IsTurnedDown model h.fetches h.state byte kind)
+    turned_down byte true long = long
+    turned_down byte false c = words_refuse model h.fetches h.good.part h.good.own h.state h.good.at byte h.good.style _ (came_here t kind at h) (followed t kind at h) kind c
+
+    go : (rest : Text) → h.rest ≡ rest → HasCause model h.fetches h.good.part h.state at rest kind → IsSaid t kind at
     go [] e (inl c) = inl (at_front t kind at h ∙ ap (λ r. settled h.fetches (read model (style_of h.fetches) h.state at r)) e ∙ ended_open h.fetches h.state at c.1 ∙ ap (λ k. Refused k at) (sym c.0))
     go [] e (inr c) =
         let there : at ≡ length t = omega (arith, h.place, ap length h.split, length-append h.front h.rest, ap length e) in
         inr (c.0, there, h.fetches, at_front t kind at h ∙ ap (λ r. settled h.fetches (read model (style_of h.fetches) h.state at r)) e ∙ ap (λ s. settled h.fetches (ended s at)) c.1, c.2)
-    go (byte ∷ rest) e c = inl (at_front t kind at h ∙ ap (λ r. settled h.fetches (read model (style_of h.fetches) h.state at r)) e ∙ byte_refused h.fetches h.state at byte rest kind h.limit c)
+    go (byte ∷ rest) e c = inl (at_front t kind at h ∙ ap (λ r. settled h.fetches (read model (style_of h.fetches) h.state at r)) e ∙ byte_refused h.fetches h.state at byte rest kind h.limit (turned_down byte (at == MAX_TEXT_LEN) c))

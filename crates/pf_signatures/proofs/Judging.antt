@@ -1,6 +1,6 @@
 -- What one more byte makes of each state is what has come then.
 use Rattle.std.proofs.Common.{◌≡◌, ◌≢◌, ℕ, ◌+◌, ◌-◌, ◌*◌, ◌<◌, ◌≤◌, Bool, true, false, List, [], ◌∷◌, ◌++◌, map, length, refl, sym, ap, ◌∙◌, arith, subst, inl, inr, Ok, Err}
-use Rattle.std.specs.Prelude.{Option, Some, None, is_some, nat_lt, ◌==◌, if◌then◌else◌, ⊤}
+use Rattle.std.specs.Prelude.{Option, Some, None, is_some, nat_lt, ◌==◌, if◌then◌else◌, ◌⊎◌}
 use Rattle.std.specs.Fmt.{digit_glyph}
 use Rattle.std.proofs.lemmas.Bool.{eqb-true}
 use Rattle.std.proofs.lemmas.Bool.Decides.{nat_tests}
@@ -17,21 +17,22 @@ use Rattle.pf_signatures.specs.declared.conversions.Modifier.{Modifier}
 use Rattle.pf_signatures.specs.declared.conversions.Modifier.TheVariants.{Plain, LongDouble}
 use Rattle.pf_signatures.specs.declared.fetches.Fetch.{Fetch}
 use Rattle.pf_signatures.specs.declared.kinds.SignatureRefusalKind.{SignatureRefusalKind}
+use Rattle.pf_signatures.specs.declared.kinds.SignatureRefusalKind.TheVariants.{NulByte, Unexpected, BadPercent, AltUndefined, ZeroUndefined, GroupUndefined, PrecisionUndefined, LengthUndefined, Mixed, CountUndefined}
 use Rattle.pf_signatures.specs.declared.parts.Parts.{Parts}
 use Rattle.pf_signatures.specs.declared.parts.Slot.{Slot}
 use Rattle.pf_signatures.specs.declared.parts.Slot.TheVariants.{Width, Precision}
 use Rattle.pf_signatures.specs.declared.parts.Style.{Style}
 use Rattle.pf_signatures.specs.declared.parts.Style.TheVariants.{Undecided, Unnumbered, Numbered}
 use Rattle.pf_signatures.specs.declared.types.ArgumentType.TheVariants.{Int}
-use Rattle.pf_signatures.specs.Defined.{IsDefined, undefined_as}
+use Rattle.pf_signatures.specs.Defined.{IsDefined, undefined_as, undefined_of}
 use Rattle.pf_signatures.specs.Fronts.{HasNumbers, IsAt, IsBefore, SpellsDigits, at_star}
 use Rattle.pf_signatures.specs.Items.{Byte, IsReadAs}
 use Rattle.pf_signatures.specs.Letters.{conversion_of, flag_of, is_digit, is_first_digit, modifier_of}
-use Rattle.pf_signatures.specs.Refusals.{Follows, style_by, style_in}
+use Rattle.pf_signatures.specs.Refusals.{EndsUndefined, Follows, style_by, style_in, too_large}
 use Rattle.pf_signatures.specs.Specifications.{Amount, Given, Fetched, WholeSpecification, conversion_letter, modifier_letters}
 use Rattle.pf_signatures.specs.Spelling.{IsToFlags, IsToWidth, SpellsNumber, SpellsStar, SpellsWhole}
 use Rattle.pf_signatures.specs.Stages.{State, Between, Opened, First, Flags, Digits, Star, StarDigits, Placed, Point, Modified}
-use Rattle.pf_signatures.specs.States.{Next, after_amount, after_first, after_flags, after_modifier, after_numbers, after_percent, after_star, dollar_after, end_at, end_by, flag_or_after, judgement, modifier_or_end, next, parts_at, star_at, with_digit, with_width}
+use Rattle.pf_signatures.specs.States.{Next, after_amount, after_first, after_flags, after_modifier, after_numbers, after_percent, after_star, dollar_after, end_at, end_by, flag_or_after, judgement, modifier_or_end, next, parts_at, star_at, stray, with_digit, with_width}
 use Rattle.pf_signatures.specs.Types.{fetch, fetches, star_fetches, type_of}
 use Rattle.pf_signatures.proofs.Digits.{digits_more, number_one, number_push, precision_one}
 
@@ -51,6 +52,20 @@ byte_of_modifier byte (Plain lengths.L) e = let same : byte ≡ 108 = grind (ari
 byte_of_modifier byte (Plain lengths.J) e = let same : byte ≡ 106 = grind (arith, nat_tests) in (ap (λ b. b ∷ []) same, λ other. cc)
 byte_of_modifier byte (Plain lengths.Z) e = let same : byte ≡ 122 = grind (arith, nat_tests) in (ap (λ b. b ∷ []) same, λ other. cc)
 byte_of_modifier byte (Plain lengths.T) e = let same : byte ≡ 116 = grind (arith, nat_tests) in (ap (λ b. b ∷ []) same, λ other. cc)
+
+-- the kinds of specifications that aren't defined
+abbrev pub is_undefined_kind : SignatureRefusalKind → Bool
+is_undefined_kind AltUndefined = true
+is_undefined_kind ZeroUndefined = true
+is_undefined_kind GroupUndefined = true
+is_undefined_kind PrecisionUndefined = true
+is_undefined_kind LengthUndefined = true
+is_undefined_kind CountUndefined = true
+is_undefined_kind _ = false
+
+too_large_defined : (slot : Slot) → is_undefined_kind (too_large slot) ≡ false
+too_large_defined Width = refl
+too_large_defined Precision = refl
 
 -- what stands up to a width or a precision, with it
 abbrev pub IsBehind : Slot → Text → Parts → List Fetch → Type 0
@@ -133,7 +148,14 @@ module _ (model : Model) (style : Style) (part : Text) (own : List Fetch) (byte 
   abbrev pub Judges : Next → Type 0
   Judges (Ok (to, None)) = Arrives to
   Judges (Ok (to, Some f)) = Brings f to
-  Judges (Err kind) = ⊤
+  Judges (Err kind) = (is_undefined_kind kind ≡ false) ⊎ EndsUndefined style part byte kind
+
+  judge_stray : (kind : SignatureRefusalKind) → is_undefined_kind kind ≡ false → Judges (Err (stray byte kind))
+  judge_stray kind e = inl (go (byte == 0) (byte == 37)) where
+    go : (zero percent : Bool) → is_undefined_kind (if zero then NulByte else if percent then BadPercent else kind) ≡ false
+    go true percent = refl
+    go false true = refl
+    go false false = e
 
   choose : (c : Bool) (x y : Next) → (c ≡ true → Judges x) → (c ≡ false → Judges y) → Judges (if c then x else y)
   choose true x y f g = f refl
@@ -145,23 +167,33 @@ module _ (model : Model) (style : Style) (part : Text) (own : List Fetch) (byte 
   module _ (parts : Parts) (follows : Follows style (Some (style_by parts.position))) where
     judge_end : (before : Text) (modifier : Modifier) → HasNumbers before parts own → part ≡ before ++ modifier_letters modifier → Judges (end_at model parts modifier byte)
     judge_end before modifier h e = go (conversion_of byte) refl where
+      specification : Conversion → WholeSpecification
+      specification conversion = record { position = parts.position; flags = parts.flags; width = h.width; precision = h.precision; modifier = modifier; conversion = conversion }
+
+      spelled : (conversion : Conversion) → conversion_of byte ≡ Some conversion → SpellsWhole (part ++ byte ∷ []) (specification conversion)
+      spelled conversion c =
+          record {
+            before = before;
+            before_is = h.numbers;
+            whole = ap (λ t. t ++ byte ∷ []) e ∙ ap (λ b. before ++ modifier_letters modifier ++ b ∷ []) (byte_of_conversion byte conversion c);
+          }
+
+      defined : (conversion : Conversion) → undefined_of (specification conversion) ≡ undefined_as parts.flags parts.width parts.precision modifier conversion
+      defined conversion = ap (λ w. undefined_as parts.flags w (is_some h.precision) modifier conversion) (sym h.width_is) ∙ ap (λ p. undefined_as parts.flags parts.width p modifier conversion) (sym h.precision_is)
+
       ended : (conversion : Conversion) (o : Option SignatureRefusalKind) → conversion_of byte ≡ Some conversion → undefined_as parts.flags parts.width parts.precision modifier conversion ≡ o
           → Judges (judgement o (fetch parts.position (type_of model modifier conversion)))
       ended conversion None c u = (
-        record { position = parts.position; flags = parts.flags; width = h.width; precision = h.precision; modifier = modifier; conversion = conversion },
-        record {
-          before = before;
-          before_is = h.numbers;
-          whole = ap (λ t. t ++ byte ∷ []) e ∙ ap (λ b. before ++ modifier_letters modifier ++ b ∷ []) (byte_of_conversion byte conversion c);
-        },
-        ap (λ w. undefined_as parts.flags w (is_some h.precision) modifier conversion) (sym h.width_is) ∙ ap (λ p. undefined_as parts.flags parts.width p modifier conversion) (sym h.precision_is) ∙ u,
+        specification conversion,
+        spelled conversion c,
+        defined conversion ∙ u,
         ap (λ o. o ++ fetch parts.position (type_of model modifier conversion) ∷ []) h.own_is,
         follows,
       )
-      ended conversion (Some kind) c u = tt
+      ended conversion (Some kind) c u = inr (record { s = specification conversion; spelled = spelled conversion c; follows = follows }, defined conversion ∙ u)
 
       go : (o : Option Conversion) → conversion_of byte ≡ o → Judges (end_by model parts modifier byte o)
-      go None c = tt
+      go None c = judge_stray Unexpected refl
       go (Some conversion) c = ended conversion _ c refl
 
     judge_numbers : HasNumbers part parts own → Judges (after_numbers model parts byte)
@@ -216,7 +248,7 @@ module _ (model : Model) (style : Style) (part : Text) (own : List Fetch) (byte 
           (λ _. judge_amount parts follows Width (None, record { before = part; text = []; before_is = h; width_is = refl; whole = sym (append-nil part) }, w, p, o)))
 
   judge_digit : (slot : Slot) (state : ℕ → State) (n : ℕ) → (10 * n + (byte - 48) ≤ MAX_NUMBER → Arrives (state (10 * n + (byte - 48)))) → Judges (with_digit slot state n (byte - 48))
-  judge_digit slot state n f = choose (nat_lt MAX_NUMBER (10 * n + (byte - 48))) _ _ (λ _. tt) (λ e. judge_inside _ (f (grind (arith, nat_tests)))) where
+  judge_digit slot state n f = choose (nat_lt MAX_NUMBER (10 * n + (byte - 48))) _ _ (λ _. inl (too_large_defined slot)) (λ e. judge_inside _ (f (grind (arith, nat_tests)))) where
     judge_inside : (to : State) → Arrives to → Judges (Ok (to, None))
     judge_inside to h = h
 
@@ -232,7 +264,7 @@ module _ (model : Model) (style : Style) (part : Text) (own : List Fetch) (byte 
   first_digit h o e = ((byte ∷ [], number_one byte e, ap (λ t. t ++ byte ∷ []) h, o), tt)
 
   judge_percent : (known : Style) → style ≡ known → part ≡ 37 ∷ [] → own ≡ [] → Judges (after_percent model known byte)
-  judge_percent Numbered s h o = choose (is_first_digit byte) _ _ (first_digit h o) (λ _. tt)
+  judge_percent Numbered s h o = choose (is_first_digit byte) _ _ (first_digit h o) (λ _. judge_stray Mixed refl)
   judge_percent Unnumbered s h o = choose (is_first_digit byte) _ _ (first_digit h o) (judge_plain h o (inr s))
   judge_percent Undecided s h o = choose (is_first_digit byte) _ _ (first_digit h o) (judge_plain h o (inl s))
 
@@ -252,7 +284,7 @@ module _ (model : Model) (style : Style) (part : Text) (own : List Fetch) (byte 
       length_some t s = omega (arith, ap length s.numeral.2, s.numeral.1.enough, length-map s.numeral.0 (digit_glyph false))
 
     judge_dollar : (known : Style) → style ≡ known → (byte == 36) ≡ true → Judges (dollar_after known n)
-    judge_dollar Unnumbered s e = tt
+    judge_dollar Unnumbered s e = inl refl
     judge_dollar Numbered s e = numbered (inr s) e
     judge_dollar Undecided s e = numbered (inl s) e
 
@@ -262,7 +294,7 @@ module _ (model : Model) (style : Style) (part : Text) (own : List Fetch) (byte 
         (Some (Given n), record { before = 37 ∷ []; text = digits; before_is = record { place = []; flags = []; place_is = refl; set_is = refl; whole = refl }; width_is = number; whole = h }, refl, refl, o)
 
     judge_after_first : (known : Style) → style ≡ known → Judges (after_first model known byte)
-    judge_after_first Numbered s = tt
+    judge_after_first Numbered s = judge_stray Mixed refl
     judge_after_first Unnumbered s = wide (inr s)
     judge_after_first Undecided s = wide (inl s)
 
@@ -285,18 +317,18 @@ module _ (model : Model) (style : Style) (part : Text) (own : List Fetch) (byte 
     judge_star : IsAt (Star slot parts) part own → Judges (next model style (Star slot parts) byte)
     judge_star h = go parts.position refl where
       go : (o : Option ℕ) → parts.position ≡ o → Judges (after_star model slot parts o byte)
-      go None p = choose (is_digit byte) _ _ (λ _. tt) (λ _. judge_amount parts follows slot (star_alone h.0 h.1 h.2 h.3 h.4 p))
+      go None p = choose (is_digit byte) _ _ (λ _. inl refl) (λ _. judge_amount parts follows slot (star_alone h.0 h.1 h.2 h.3 h.4 p))
       go (Some n) p =
           choose (is_first_digit byte) _ _
           (λ e. ((h.0, byte ∷ [], subst (IsBefore slot h.0 parts) (sym (h.4 ∙ ap (λ q. h.1 ++ at_star q) p ∙ append-nil h.1)) h.2, number_one byte e, ap is_some p, ap (λ t. t ++ byte ∷ []) h.3 ∙ append_assoc h.0 (42 ∷ []) (byte ∷ [])), follows))
-          (λ _. tt)
+          (λ _. judge_stray Mixed refl)
 
     judge_star_digits : (n : ℕ) → IsAt (StarDigits slot parts n) part own → Judges (next model style (StarDigits slot parts n) byte)
     judge_star_digits n h =
         choose (is_digit byte) _ _ (λ d. judge_digit slot (StarDigits slot parts) n (λ few. ((h.0, h.1 ++ byte ∷ [], h.2, number_push h.1 n byte d few h.3, h.4, ap (λ t. t ++ byte ∷ []) h.5 ∙ append_assoc h.0 (42 ∷ h.1) (byte ∷ [])), follows)))
         (λ _. choose (byte == 36) _ _
         (λ e. let same = some_style parts.position h.4 in ((h.0, h.1, n, own, h.2, h.3, h.4, pushed 36 e ∙ ap (λ t. t ++ 36 ∷ []) h.5, refl), subst (λ k. Follows style (Some k)) same follows, ap Some same))
-        (λ _. tt)) where
+        (λ _. judge_stray Mixed refl)) where
           some_style : (o : Option ℕ) → is_some o ≡ true → style_by o ≡ Numbered
           some_style None e = cc
           some_style (Some m) e = refl
@@ -329,7 +361,7 @@ module _ (model : Model) (style : Style) (part : Text) (own : List Fetch) (byte 
 
   judge_between : part ≡ [] → own ≡ [] → Judges (next model style Between byte)
   judge_between h o =
-      choose (byte == 0) _ _ (λ _. tt) (λ some. choose (byte == 37) _ _ (λ e. ((ap (λ t. t ++ byte ∷ []) h ∙ ap (λ b. b ∷ []) (eqb-true byte 37 e), o), tt))
+      choose (byte == 0) _ _ (λ _. inl refl) (λ some. choose (byte == 37) _ _ (λ e. ((ap (λ t. t ++ byte ∷ []) h ∙ ap (λ b. b ∷ []) (eqb-true byte 37 e), o), tt))
       (λ no_percent. (byte, rw no_percent (eqb_no byte 0 some, ap (λ t. t ++ byte ∷ []) h), o)))
 
 -- what one more byte makes of each state

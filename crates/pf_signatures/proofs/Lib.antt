@@ -1,6 +1,8 @@
 pub mod Digits
 pub mod Judging
 pub mod Agreeing
+pub mod Reasons
+pub mod Wording
 pub mod Soundness
 pub mod Within
 pub mod Bounds
@@ -18,3 +20,5 @@ mod ListLemmas
 pub mod StepLemmas
 pub mod DifferenceLemmas
 pub mod Profile
+pub mod EachOnce
+mod Examples

@@ -18,14 +18,14 @@ use Rattle.pf_signatures.specs.declared.parts.Slot.{Slot}
 use Rattle.pf_signatures.specs.declared.parts.Slot.TheVariants.{Width, Precision}
 use Rattle.pf_signatures.specs.declared.parts.Style.{Style}
 use Rattle.pf_signatures.specs.declared.parts.Style.TheVariants.{Unnumbered, Numbered}
-use Rattle.pf_signatures.specs.Defined.{IsDefined}
+use Rattle.pf_signatures.specs.Defined.{IsDefined, undefined_of}
 use Rattle.pf_signatures.specs.Fronts.{IsAt, IsBefore, at_star}
 use Rattle.pf_signatures.specs.Letters.{conversion_of, modifier_of}
 use Rattle.pf_signatures.specs.Refusals.{Follows, style_by, style_in}
 use Rattle.pf_signatures.specs.Specifications.{WholeSpecification, conversion_letter, modifier_letters}
 use Rattle.pf_signatures.specs.Spelling.{SpellsWhole}
 use Rattle.pf_signatures.specs.Stages.{State, Between, Opened, First, Flags, Digits, Star, StarDigits, Placed, Point, Modified}
-use Rattle.pf_signatures.specs.States.{after_modifier, after_numbers, end_at, next}
+use Rattle.pf_signatures.specs.States.{after_modifier, after_numbers, end_at, judgement, next}
 use Rattle.pf_signatures.specs.Types.{fetch, fetches, star_fetches, type_of}
 use Rattle.pf_signatures.proofs.Running.{Finished, Ready, Reached, both_parts, digits_run, first_run, flags_run, not_opened, numbers_finished, ready_point, ready_width, run, run-append, stand, star_begun, star_numbered, star_open, star_placed, went, width_reached}
 
@@ -94,15 +94,21 @@ module _ (model : Model) (style : Style) (position : Option ℕ) (set : FlagSet)
     end_run LongDouble = some_end LongDouble (λ e. cc)
 
 module _ (model : Model) (style : Style) where
-  -- a whole specification
-  pub spelled_run : (t : Text) (s : WholeSpecification) → SpellsWhole t s → IsDefined s → Follows style (Some (style_by s.position)) → run model (Ok (stand style Between [])) t ≡ Ok (stand (style_by s.position) Between (fetches model s))
-  spelled_run t s h defined follows =
+  -- a whole specification, defined or not
+  pub spelled_ends : (t : Text) (s : WholeSpecification) → SpellsWhole t s → Follows style (Some (style_by s.position))
+      → (behind : Style) × (run model (Ok (stand style Between [])) t ≡ went behind (star_fetches s.width ++ star_fetches s.precision) (judgement (undefined_of s) (fetch s.position (type_of model s.modifier s.conversion))))
+  spelled_ends t s h follows =
       let numbers = numbers_finished model style s.position s.flags follows h.before s.width s.precision h.before_is in
       let parts = both_parts model style s.position s.flags follows s.width s.precision in
       let own = star_fetches s.width ++ star_fetches s.precision in
       let tests = letter_tests s.conversion in
-      let end : end_at model parts s.modifier (conversion_letter s.conversion) ≡ Ok (Between, Some (fetch s.position (type_of model s.modifier s.conversion))) = rw (tests.conversion_is, defined) refl in
-      ap (run model (Ok (stand style Between []))) h.whole ∙ end_run model style s.position s.flags follows h.before parts own numbers s.conversion s.modifier ∙ ap (went numbers.behind own) end
+      let end : end_at model parts s.modifier (conversion_letter s.conversion) ≡ judgement (undefined_of s) (fetch s.position (type_of model s.modifier s.conversion)) = rw (tests.conversion_is) refl in
+      (numbers.behind, ap (run model (Ok (stand style Between []))) h.whole ∙ end_run model style s.position s.flags follows h.before parts own numbers s.conversion s.modifier ∙ ap (went numbers.behind own) end)
+
+  pub spelled_run : (t : Text) (s : WholeSpecification) → SpellsWhole t s → IsDefined s → Follows style (Some (style_by s.position)) → run model (Ok (stand style Between [])) t ≡ Ok (stand (style_by s.position) Between (fetches model s))
+  spelled_run t s h defined follows =
+      let r = spelled_ends t s h follows in
+      r.1 ∙ ap (λ o. went r.0 (star_fetches s.width ++ star_fetches s.precision) (judgement o (fetch s.position (type_of model s.modifier s.conversion)))) defined
 
   -- what has come of one
   pub record Came (state : State) (part : Text) (own : List Fetch) : Type 0 where

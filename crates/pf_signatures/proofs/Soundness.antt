@@ -20,6 +20,7 @@ use Rattle.pf_signatures.specs.States.{Next, next}
 use Rattle.pf_signatures.specs.Types.{fetches}
 use Rattle.pf_signatures.proofs.Agreeing.{agreed_none, agreed_push, conflicts_not, style_push}
 use Rattle.pf_signatures.proofs.Judging.{Arrives, Brings, Judges, judge}
+use Rattle.pf_signatures.proofs.Wording.{conflict_in_words, refused_in_words}
 
 -- a text is read as items that fetch this
 pub record Taken (model : Model) (t : Text) (seen : List Fetch) : Type 0 where
@@ -147,7 +148,7 @@ module _ (model : Model) where
   sound_end front seen (Modified parts modifier) g few = at_end front seen (Modified parts modifier) g few (λ e. cc)
 
   module _ (front rest : Text) (seen : List Fetch) (state : State) (g : IsGoodFront model front seen state) (few : length front ≤ MAX_TEXT_LEN) (byte : ℕ) where
-    at_byte : (kind : SignatureRefusalKind) → HasCause model seen state (length front) (byte ∷ rest) kind → IsRefusedAt model (front ++ (byte ∷ rest)) kind (length front)
+    at_byte : (kind : SignatureRefusalKind) → HasCause model seen g.part state (length front) (byte ∷ rest) kind → IsRefusedAt model (front ++ (byte ∷ rest)) kind (length front)
     at_byte kind cause = record { front = front; rest = byte ∷ rest; fetches = seen; state = state; split = refl; place = refl; limit = few; good = g; cause = cause }
 
     no_conflict : (f : Fetch) → conflicts seen f ≡ true → ¬ AllByRecursion (IsOneType f) seen
@@ -166,7 +167,7 @@ module _ (model : Model) where
       by_conflict : (f : Fetch) (to : State) (c : Bool) → conflicts seen f ≡ c → length front < MAX_TEXT_LEN → (length front == MAX_TEXT_LEN) ≡ false → next model (style_of seen) state byte ≡ Ok (to, Some f) → Brings model (style_of seen) g.part g.own byte f to
           → Tells model (front ++ (byte ∷ rest)) (if c then Refused TwoTypes (length front) else settled (seen ++ f ∷ []) (read model (style_by f.number) to (length front + 1) rest))
       by_conflict f to true c less no_end e h =
-          at_byte TwoTypes (rw no_end (inr (refl, to, f, e, no_conflict f c)))
+          at_byte TwoTypes (rw no_end (conflict_in_words model seen g.part g.own state g.at byte g.style to f e (no_conflict f c)))
       by_conflict f to false c less no_end e h = later (seen ++ f ∷ []) to (style_by f.number) less (sym (style_push seen f (brought_follows to h))) (on_brought front seen state g byte f c to h) where
         brought_follows : (to : State) → Brings model (style_of seen) g.part g.own byte f to → Follows (style_of seen) (Some (style_by f.number))
         brought_follows Between h = h.4
@@ -182,7 +183,7 @@ module _ (model : Model) where
 
       by_next : (n : Next) → length front < MAX_TEXT_LEN → (length front == MAX_TEXT_LEN) ≡ false → next model (style_of seen) state byte ≡ n → Judges model (style_of seen) g.part g.own byte n
           → Tells model (front ++ (byte ∷ rest)) (settled seen (moved (style_of seen) (length front) n (λ s q. read model s q (length front + 1) rest)))
-      by_next (Err kind) less no_end e h = at_byte kind (rw no_end (inl e))
+      by_next (Err kind) less no_end e h = at_byte kind (rw no_end (refused_in_words model seen g.part g.own state g.at byte g.style kind e))
       by_next (Ok (to, None)) less no_end e h = later seen to (style_of seen) less refl (on_arrived front seen state g byte to h)
       by_next (Ok (to, Some f)) less no_end e h = by_conflict f to (conflicts seen f) refl less no_end e h
 

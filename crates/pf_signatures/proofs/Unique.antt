@@ -123,7 +123,7 @@ one_refusal model t kind other p q h k = go (said model t kind p h) (said model 
 
 pub refused_longer : (model : Model) (t more : Text) (kind : SignatureRefusalKind) (at : ℕ) → IsRefusedAt model t kind at → at < length t → IsRefusedAt model (t ++ more) kind at
 refused_longer model t more kind at h less = go h.rest h.split h.cause where
-  go : (rest : Text) → t ≡ h.front ++ rest → HasCause model h.fetches h.state at rest kind → IsRefusedAt model (t ++ more) kind at
+  go : (rest : Text) → t ≡ h.front ++ rest → HasCause model h.fetches h.good.part h.state at rest kind → IsRefusedAt model (t ++ more) kind at
   go [] e c = absurd (omega (arith, less, h.place, ap length e, length-append h.front []))
   go (byte ∷ rest) e c =
       record {

@@ -93,7 +93,11 @@ undefined_as set width precision modifier conversion =
     (AltUndefined ∷ ZeroUndefined ∷ GroupUndefined ∷ PrecisionUndefined ∷ LengthUndefined
     ∷ CountUndefined ∷ [])
 
+-- why a specification isn't defined, if it isn't
+abbrev pub undefined_of : WholeSpecification → Option SignatureRefusalKind
+undefined_of s =
+    undefined_as s.flags (is_some s.width) (is_some s.precision) s.modifier s.conversion
+
 -- (C11 7.21.6.1 p4 to p9)
 abbrev pub IsDefined : WholeSpecification → Type 0
-IsDefined s =
-    undefined_as s.flags (is_some s.width) (is_some s.precision) s.modifier s.conversion ≡ None
+IsDefined s = undefined_of s ≡ None

@@ -1,6 +1,7 @@
--- What one more byte makes of what has come of an item. The parts come in the order of
--- C11 7.21.6.1 p4; that a format mixes numbered specifications and others is undefined (POSIX
--- fprintf), and is told by the first byte that shows it.
+-- What one more byte makes of what has come of an item, as the code reads it; no public contract
+-- speaks of it. The parts come in the order of C11 7.21.6.1 p4; that a format mixes numbered
+-- specifications and others is undefined (POSIX fprintf), and is told by the first byte that shows
+-- it.
 use Rattle.std.specs.Prelude.{ℕ, ◌+◌, ◌-◌, ◌*◌, true, false, nat_lt, ◌==◌, Option, Some, None, Result, Ok, Err, if◌then◌else◌}
 use Rattle.pf_values.specs.declared.flags.Flag.{Flag}
 use Rattle.pf_values.specs.declared.lengths.Length.TheVariants as lengths
@@ -13,7 +14,7 @@ use Rattle.pf_signatures.specs.declared.conversions.Modifier.{Modifier}
 use Rattle.pf_signatures.specs.declared.conversions.Modifier.TheVariants.{Plain}
 use Rattle.pf_signatures.specs.declared.fetches.Fetch.{Fetch}
 use Rattle.pf_signatures.specs.declared.kinds.SignatureRefusalKind.{SignatureRefusalKind}
-use Rattle.pf_signatures.specs.declared.kinds.SignatureRefusalKind.TheVariants.{NulByte, Unexpected, BadPercent, WidthTooLarge, PrecisionTooLarge, Mixed}
+use Rattle.pf_signatures.specs.declared.kinds.SignatureRefusalKind.TheVariants.{NulByte, Unexpected, BadPercent, Mixed}
 use Rattle.pf_signatures.specs.declared.parts.Parts.{Parts}
 use Rattle.pf_signatures.specs.declared.parts.Slot.{Slot}
 use Rattle.pf_signatures.specs.declared.parts.Slot.TheVariants.{Width, Precision}
@@ -22,6 +23,7 @@ use Rattle.pf_signatures.specs.declared.parts.Style.TheVariants.{Unnumbered, Num
 use Rattle.pf_signatures.specs.declared.types.ArgumentType.TheVariants.{Int}
 use Rattle.pf_signatures.specs.Defined.{undefined_as}
 use Rattle.pf_signatures.specs.Letters.{conversion_of, flag_of, is_digit, is_first_digit, modifier_of}
+use Rattle.pf_signatures.specs.Refusals.{too_large}
 use Rattle.pf_signatures.specs.Stages.{State, Between, Opened, First, Flags, Digits, Star, StarDigits, Placed, Point, Modified}
 use Rattle.pf_signatures.specs.Types.{fetch, type_of}
 
@@ -92,11 +94,6 @@ flag_or_after model parts byte None =
 
 abbrev pub after_flags : Model → Parts → ℕ → Next
 after_flags model parts byte = flag_or_after model parts byte (flag_of byte)
-
--- the kind of a number above the limit
-abbrev pub too_large : Slot → SignatureRefusalKind
-too_large Width = WidthTooLarge
-too_large Precision = PrecisionTooLarge
 
 -- one more digit
 abbrev pub with_digit : Slot → (ℕ → State) → ℕ → ℕ → Next

@@ -3,8 +3,9 @@ ghost use Rattle.std.specs.Prelude.{◌≡◌, ◌<◌, ◌↔◌, ℕ, false, I
 ghost use Rattle.pf_signatures.specs.declared.types.ArgumentType.TheVariants.{Int};
 ghost use Rattle.pf_signatures.specs.Letters.{is_first_digit};
 ghost use Rattle.pf_signatures.specs.Moves.{next_by, numbered};
+ghost use Rattle.pf_signatures.specs.Refusals.{too_large};
 ghost use Rattle.pf_signatures.specs.Stages.{Between, Placed, state_in_phase, state_of};
-ghost use Rattle.pf_signatures.specs.States.{after_amount, after_first, after_flags, after_modifier, after_numbers, after_percent, after_star, dollar_after, end_at, flag_or_after, inside, next, star_at, stray, too_large, with_digit};
+ghost use Rattle.pf_signatures.specs.States.{after_amount, after_first, after_flags, after_modifier, after_numbers, after_percent, after_star, dollar_after, end_at, flag_or_after, inside, next, star_at, stray, with_digit};
 ghost use Rattle.pf_signatures.specs.Types.{fetch};
 
 use crate::conversions::Modifier;

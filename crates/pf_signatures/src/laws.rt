@@ -4,9 +4,12 @@ ghost use Rattle.std.specs.Prelude.{◌≡◌, ◌++◌, ◌<◌, ℕ, List, Non
 ghost use Rattle.pf_values.specs.declared.models.Model.{Model as model_of_data};
 ghost use Rattle.pf_values.specs.Items.{HasItems, IsAccepted, Item, types};
 ghost use Rattle.pf_values.specs.Printing.{AreEquivalent};
+ghost use Rattle.pf_values.specs.Tables.{HasEachOnce};
 ghost use Rattle.pf_values.specs.Text.{Text};
 ghost use Rattle.pf_signatures.specs.declared.kinds.SignatureRefusalKind.{SignatureRefusalKind};
+ghost use Rattle.pf_signatures.specs.declared.kinds.TheConstants.SignatureRefusalKind.{ALL as every_kind};
 ghost use Rattle.pf_signatures.specs.declared.types.ArgumentType.{ArgumentType};
+ghost use Rattle.pf_signatures.specs.declared.types.TheConstants.ArgumentType.{ALL as every_type};
 ghost use Rattle.pf_signatures.specs.Items.{HasArguments};
 ghost use Rattle.pf_signatures.specs.Laws.{Compares, IsSettled};
 ghost use Rattle.pf_signatures.specs.Refusals.{IsRefusedAt};
@@ -52,4 +55,10 @@ pub fn profile_types()
 pub fn same_fits()
     ensures { (model : model_of_data) (t u : Text) → IsAccepted t → IsAccepted u
         → AreEquivalent model t u → Compares model t u None }
+{}
+
+/// Each table `ALL` has each value of its type exactly once.
+pub fn tables_have_each_once()
+    ensures types { HasEachOnce every_type }
+    ensures kinds { HasEachOnce every_kind }
 {}

@@ -1,7 +1,7 @@
 //! What no run of the program shows: each public call once, and long formats.
 use crate::laws::{
     accepted_or_refused, never_both, profile_types, refused_for_good, refused_once, same_fits,
-    types_once,
+    tables_have_each_once, types_once,
 };
 use crate::{ArgumentType, FitsRefusal, SignatureRefusal, SignatureRefusalKind, arguments, fits};
 use pf_values::Model;
@@ -36,6 +36,7 @@ fn types_kinds_and_what_they_say(rt: HostRuntime) -> Result<(), Fail> {
     refused_for_good();
     profile_types();
     same_fits();
+    tables_have_each_once();
     Ok(())
 }
 

@@ -32,7 +32,7 @@ module _ {A : Type 0} (place : A → ℕ) where
         congr = λ v w x. nat_eq_equiv.congr (place v) (place w) (place x);
       }
 
-  once : (all : List A) (v : A) → all ≡ take (place v) all ++ (v ∷ drop (place v + 1) all)
+  pub once : (all : List A) (v : A) → all ≡ take (place v) all ++ (v ∷ drop (place v + 1) all)
       → list_any (λ w. nat_eq (place v) (place w)) (take (place v) all ++ drop (place v + 1) all) ≡ false → StandsOnce all v
   once all v there none =
       record {

@@ -9,5 +9,5 @@ pub mod Counts
 pub mod NumberTexts
 pub mod ValueKindLemmas
 pub mod WriteLemmas
-mod EachOnce
+pub mod EachOnce
 mod Examples
