@@ -1,21 +1,18 @@
 -- Examples of the definitions, each of which computes. docs/DEFINITIONS.md goes through them.
-use Rattle.std.proofs.Common.{◌≡◌, ℕ, true, false, List, [], ◌∷◌, codes, refl, subst, arith, inl, inr}
-use Rattle.std.specs.Prelude.{Option, Some, None}
-use Rattle.pf_values.specs.declared.conversions.Conv.TheVariants.{D}
-use Rattle.pf_values.specs.declared.flags.Flag.TheVariants.{Alt, Zero}
+use Rattle.std.proofs.Common.{◌≡◌, ℕ, false, [], ◌∷◌, codes, refl, subst, arith, inl, inr}
+use Rattle.std.specs.Prelude.{Some, None}
+use Rattle.pf_values.specs.declared.flags.Flag.TheVariants.{Alt}
 use Rattle.pf_values.specs.declared.lengths.Length.TheVariants as lengths
 use Rattle.pf_values.specs.declared.models.Model.{Model}
 use Rattle.pf_values.specs.declared.models.Model.TheVariants.{Lp64, Llp64}
-use Rattle.pf_values.specs.Flags.{flag_set, no_flags}
+use Rattle.pf_values.specs.Flags.{flag_set}
 use Rattle.pf_values.specs.Text.{Text}
-use Rattle.pf_signatures.specs.declared.conversions.Conversion.TheVariants.{Profile, Count, Pointer}
-use Rattle.pf_signatures.specs.declared.conversions.Floating.TheVariants as floats
-use Rattle.pf_signatures.specs.declared.conversions.Modifier.TheVariants.{Plain, LongDouble}
+use Rattle.pf_signatures.specs.declared.conversions.Conversion.TheVariants.{Count}
+use Rattle.pf_signatures.specs.declared.conversions.Modifier.TheVariants.{Plain}
 use Rattle.pf_signatures.specs.declared.kinds.SignatureRefusalKind.{SignatureRefusalKind}
 use Rattle.pf_signatures.specs.declared.kinds.SignatureRefusalKind.TheVariants.{NulByte, Truncated, Unexpected, BadPercent, WidthTooLarge, PrecisionTooLarge, AltUndefined, CountUndefined, Mixed, MissingArgument, TwoTypes}
-use Rattle.pf_signatures.specs.declared.types.ArgumentType.TheVariants.{Int, Str, Double, PointerToLong, PointerToLongLong}
+use Rattle.pf_signatures.specs.declared.types.ArgumentType.TheVariants.{Int, Double, PointerToLong, PointerToLongLong}
 use Rattle.pf_signatures.specs.Defined.{undefined_as}
-use Rattle.pf_signatures.specs.Items.{HasArguments}
 use Rattle.pf_signatures.specs.Readings.{Refused, Takes, verdict}
 use Rattle.pf_signatures.specs.Refusals.{IsRefusedAt}
 use Rattle.pf_signatures.specs.Types.{fetch, type_of}

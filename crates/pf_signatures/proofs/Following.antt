@@ -9,7 +9,7 @@ use Rattle.pf_values.specs.declared.models.Model.{Model}
 use Rattle.pf_values.specs.Text.{Text}
 use Rattle.pf_signatures.specs.declared.fetches.Fetch.{Fetch}
 use Rattle.pf_signatures.specs.declared.kinds.SignatureRefusalKind.{SignatureRefusalKind}
-use Rattle.pf_signatures.specs.declared.kinds.SignatureRefusalKind.TheVariants.{MissingArgument, TooLong, Truncated, TwoTypes}
+use Rattle.pf_signatures.specs.declared.kinds.SignatureRefusalKind.TheVariants.{MissingArgument, TooLong, Truncated}
 use Rattle.pf_signatures.specs.declared.parts.Style.{Style}
 use Rattle.pf_signatures.specs.declared.parts.Style.TheVariants.{Undecided}
 use Rattle.pf_signatures.specs.Items.{Byte, IsReadAs, Reads, Specification, WholeItem, fetched}

@@ -1,6 +1,6 @@
 -- Why the table refuses a byte, by what has come.
-use Rattle.std.proofs.Common.{◌≡◌, ◌≢◌, ℕ, ◌+◌, ◌-◌, ◌*◌, ◌<◌, Bool, true, false, List, refl, sym, ap, ◌∙◌, arith, subst, inl, inr, Ok, Err}
-use Rattle.std.specs.Prelude.{Option, Some, None, find, nat_lt, ◌==◌, if◌then◌else◌, MatchBool, ◌⊎◌, ⊤, [], ◌∷◌}
+use Rattle.std.proofs.Common.{◌≡◌, ◌≢◌, ℕ, ◌+◌, ◌-◌, ◌*◌, ◌<◌, Bool, true, false, refl, sym, ◌∙◌, arith, subst, inl, inr, Ok, Err}
+use Rattle.std.specs.Prelude.{Option, Some, None, nat_lt, ◌==◌, if◌then◌else◌, MatchBool, ◌⊎◌, ⊤, [], ◌∷◌}
 use Rattle.std.proofs.lemmas.Bool.{eqb-true}
 use Rattle.std.proofs.lemmas.Bool.Decides.{nat_tests}
 use Rattle.pf_values.specs.declared.flags.Flag.{Flag}
@@ -19,7 +19,6 @@ use Rattle.pf_signatures.specs.declared.parts.Slot.{Slot}
 use Rattle.pf_signatures.specs.declared.parts.Slot.TheVariants.{Width, Precision}
 use Rattle.pf_signatures.specs.declared.parts.Style.{Style}
 use Rattle.pf_signatures.specs.declared.parts.Style.TheVariants.{Undecided, Unnumbered, Numbered}
-use Rattle.pf_signatures.specs.declared.types.ArgumentType.TheVariants.{Int}
 use Rattle.pf_signatures.specs.Defined.{breaks, undefined_as}
 use Rattle.pf_signatures.specs.Letters.{conversion_of, flag_of, is_digit, is_first_digit, modifier_of}
 use Rattle.pf_signatures.specs.Refusals.{FetchesStar, IsBegun, IsInside, IsMixed, IsTooLarge, MixesStar, too_large}

@@ -1,6 +1,6 @@
 -- What a text is read as, as the code reads it. No public contract speaks of it.
-use Rattle.std.specs.Prelude.{◌≡◌, ℕ, zero, suc, ◌+◌, ◌<◌, ◌≤◌, Bool, false, ◌&&◌, ◌||◌, not, nat_le, ◌==◌, List, [], ◌∷◌, ◌++◌, Option, Some, None, Ok, Err, if◌then◌else◌, map, max, unwrap_or, ⊤}
-use Rattle.pf_values.specs.declared.limits.TheConstants.{MAX_NUMBER, MAX_TEXT_LEN}
+use Rattle.std.specs.Prelude.{ℕ, zero, suc, ◌+◌, Bool, false, ◌&&◌, ◌||◌, not, nat_le, ◌==◌, List, [], ◌∷◌, ◌++◌, Option, Some, None, Ok, Err, if◌then◌else◌, map, max, unwrap_or}
+use Rattle.pf_values.specs.declared.limits.TheConstants.{MAX_TEXT_LEN}
 use Rattle.pf_values.specs.declared.models.Model.{Model}
 use Rattle.pf_values.specs.Text.{Text}
 use Rattle.pf_signatures.specs.declared.fetches.Fetch.{Fetch}
@@ -11,7 +11,7 @@ use Rattle.pf_signatures.specs.declared.parts.Style.TheVariants.{Undecided}
 use Rattle.pf_signatures.specs.declared.types.ArgumentType.{ArgumentType}
 use Rattle.pf_signatures.specs.declared.types.ArgumentType.TheVariants.{Int}
 use Rattle.pf_signatures.specs.Kinds.{type_number}
-use Rattle.pf_signatures.specs.Refusals.{Follows, style_by}
+use Rattle.pf_signatures.specs.Refusals.{style_by}
 use Rattle.pf_signatures.specs.Stages.{State, Between}
 use Rattle.pf_signatures.specs.States.{Next, next}
 
