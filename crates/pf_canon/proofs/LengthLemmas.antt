@@ -4,7 +4,6 @@ use Rattle.std.proofs.lemmas.List.{length-append}
 use Rattle.pf_values.specs.declared.models.Model.{Model}
 use Rattle.pf_values.specs.Items.{Item}
 use Rattle.pf_values.specs.Text.{Text}
-use Rattle.pf_canon.specs.declared.limits.TheConstants.{MAX_DIRECTIVE_LEN}
 use Rattle.pf_canon.specs.declared.parts.Parts.{Parts}
 use Rattle.pf_canon.specs.declared.transducing.Front.{Front}
 use Rattle.pf_canon.specs.declared.transducing.Transducer.{Transducer}

@@ -1,13 +1,10 @@
 -- What two texts begin with in common.
-use Rattle.std.proofs.Common.{Some, None, ◌≡◌, ◌≢◌, ℕ, ◌+◌, ◌<◌, ◌≤◌, [], ◌++◌, length, min, take, drop, refl, sym, ap, ◌∙◌, arith, inl, inr}
-use Rattle.std.specs.Prelude.{◌⊎◌}
+use Rattle.std.proofs.Common.{Some, ◌≡◌, ℕ, ◌+◌, ◌≤◌, ◌++◌, length, take, drop, sym, ap, ◌∙◌}
 use Rattle.std.proofs.Math.Seq.{take-add}
-use Rattle.std.proofs.lemmas.List.{nil_from_length, append_assoc, length-append, take-append-le}
+use Rattle.std.proofs.lemmas.List.{take-append-le}
 use Rattle.pf_values.specs.Text.{Text}
 use Rattle.pf_canon.specs.Parts.{IsFrontOf}
-use Rattle.pf_canon.specs.Walks.{AreApart}
 use Rattle.pf_canon.specs.Prefixes.{AreCommon, HaveCommon}
-
 
 -- so many bytes more are the same
 pub common_more : (t u : Text) (at more : ℕ) → AreCommon t u at → at + more ≤ length t → at + more ≤ length u → take more (drop at t) ≡ take more (drop at u) → AreCommon t u (at + more)
