@@ -56,7 +56,8 @@ HindersFitting model first second (refusals.Second refusal) =
     ((types : List ArgumentType) × HasArguments model first types)
     × IsRefusedAt model second refusal.kind refusal.at
 
--- why there is no list of types
+-- why there is no list of types: want of memory only where a text is accepted and takes arguments
 abbrev pub HindersList : Model → Text → SignatureFault → Type 0
 HindersList model t (faults.Refused refusal) = IsRefusedAt model t refusal.kind refusal.at
-HindersList model t faults.Memory = ⊤
+HindersList model t faults.Memory =
+    (types : List ArgumentType) × HasArguments model t types × (types ≢ [])

@@ -1,5 +1,5 @@
 //! The argument types of a format, in memory.
-ghost use Rattle.std.specs.Prelude.{◌≡◌, IfOk, MatchResult, length};
+ghost use Rattle.std.specs.Prelude.{◌≡◌, ◌<◌, IfErr, IfOk, MatchResult, length};
 ghost use Rattle.pf_signatures.specs.Items.{HasArguments};
 ghost use Rattle.pf_signatures.specs.Laws.{HindersList};
 
@@ -10,7 +10,8 @@ use pf_values::Model;
 use std::alloc::{AllocError, Global};
 
 /// The types of the arguments that a format of the whole language takes in a data model, as
-/// `arguments` has them. The format is read twice: the room is taken by one growth, of their number.
+/// `arguments` has them. The format is read twice: the room is taken by one growth, of their
+/// number, and none is taken where it takes no argument.
 pub fn arguments_vec(
     alloc: Global,
     model: Model,
@@ -33,10 +34,14 @@ pub fn arguments_vec(
     }
 }
 
-// Room for so many types.
+// Room for so many types. None of them wants no memory.
 fn room_for(alloc: Global, count: u64) -> Result<Vec<ArgumentType>, AllocError>
-    ensures { IfOk result (λ types. length types.items ≡ count) }
+    ensures room { IfOk result (λ types. length types.items ≡ count) }
+    ensures some { IfErr result (λ _. 0 < count) }
 {
+    if count == 0 {
+        return Ok(Vec::new(alloc));
+    }
     match usize::try_from(count) {
         Ok(count) => Vec::from_elem(alloc, ArgumentType::Int, count),
         Err(_) => Err(AllocError),
