@@ -1,5 +1,5 @@
 -- What the calls about the types of the whole language answer. This project's own.
-use Rattle.std.specs.Prelude.{◌≡◌, ◌⊎◌, ⊤, ℤ, pos, neg_ℤ, List, length, map}
+use Rattle.std.specs.Prelude.{◌≡◌, ◌≢◌, ◌⊎◌, ℤ, pos, neg_ℤ, List, [], length, map}
 use Rattle.pf_canon.specs.declared.sides.Side.{Side}
 use Rattle.pf_canon.specs.declared.sides.Side.TheVariants.{First, Second}
 use Rattle.pf_signatures.specs.declared.kinds.SignatureRefusalKind.{SignatureRefusalKind}
@@ -24,13 +24,14 @@ pub record IsRefusedWhole (model : Model) (side : Side) (t : Text) (code : ℤ)
   pub side_is : error.side ≡ side_number side
 
 -- the numbers of the types are put, where the buffer has room for them, and how many they are is
--- answered; or the text is refused, or memory is out
+-- answered; or the text is refused, or memory for its types is out
 abbrev pub PutsArguments : Model → Text → Text → CError → ℤ → Text → CError → Type 0
 PutsArguments model t out error code out_now error_now =
     ((types : List ArgumentType) × HasArguments model t types × (code ≡ pos (length types))
     × (out_now ≡ put (map type_number types) out) × (error_now ≡ error))
     ⊎ ((out_now ≡ out) × (IsRefusedWhole model First t code error_now
-    ⊎ IsOut ⊤ code error error_now))
+    ⊎ IsOut ((types : List ArgumentType) × HasArguments model t types × (types ≢ []))
+    code error error_now))
 
 -- the types of two accepted texts are equal
 abbrev pub Fit : Model → Text → Text → Type 0
