@@ -1,5 +1,5 @@
 -- What a copy that met a refusal has left, where the writer was flushed after it.
-use Rattle.std.proofs.Common.{◌≡◌, ℕ, ◌⊎◌, Err, inl, inr, subst}
+use Rattle.std.proofs.Common.{◌≡◌, ℕ, Err, inl, inr, subst}
 use Rattle.std.specs.Io.KnownBytes.{Keeps}
 use Rattle.std.proofs.KnownBytes.{Appends-kept}
 use Rattle.pf_values.specs.declared.counting.Counted.{Counted}

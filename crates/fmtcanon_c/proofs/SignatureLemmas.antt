@@ -1,6 +1,5 @@
 -- Two formats that don't take the same arguments.
 use Rattle.std.proofs.Common.{◌∙◌, ℕ, Some, ap, slice_get, sym}
-use Rattle.pf_signatures.specs.Items.{HasArguments}
 use Rattle.pf_signatures.specs.Laws.{Compares}
 use Rattle.pf_signatures.proofs.Unique.{one_list}
 use Rattle.pf_values.specs.declared.models.Model.{Model}
