@@ -15,10 +15,10 @@ A format that begins with - stands after --, as in: fmtcanon canon -- '-%i'
 Where that is forgotten, the tip may name a part of the format. Give the whole of it after --.
 
 Exit status:
-  0  all was written; under same: one format may stand for the other
-  1  under same: the types or the bytes differ
+  0  all was written; under same: one format may stand for the other; under fits: the types agree
+  1  under same: the types or the bytes differ; under fits: the types do
   2  a format is refused
-  3  wrong words or arguments; also help and version, which go to standard error
+  3  wrong words or arguments, or a record too few; also help and version, on standard error
   4  a read or a write failed, or memory ran out
 
 docs/REFUSALS.md of the source says what each refusal means, and what to write instead.";
