@@ -26,6 +26,7 @@ import sys
 import tempfile
 import threading
 from concurrent.futures import ThreadPoolExecutor
+from contextlib import contextmanager
 from dataclasses import dataclass, field
 from enum import Enum
 from pathlib import Path
@@ -35,7 +36,8 @@ import rattle_functions
 TOP = Path(__file__).resolve().parent.parent
 FOLDERS = ["must-fail", "wrong-bodies"]
 PARTS = ["src", "specs", "proofs"]
-PRINTING = threading.Lock()
+# How many edits share a check at most: with more, the checks of a crate would not go side by side.
+MOST = 30
 # What is said of a proof file that names what the code no longer has.
 MISFITS = re.compile(r"has no field|is not in scope|has no `|was not admitted")
 
@@ -299,7 +301,7 @@ def batches(edits, crate):
     groups = []
     for edit in edits:
         for group in groups:
-            if any(edit.functions & it.functions for it in group[0]):
+            if len(group[0]) == MOST or any(edit.functions & it.functions for it in group[0]):
                 continue
             try:
                 group[1] = applied(edit.pairs, crate, group[1])
@@ -313,19 +315,44 @@ def batches(edits, crate):
 
 
 class Trial:
-    """The trial of the edits of one crate."""
+    """The trial of some edits of one crate, in copies of its own below a folder."""
 
-    def __init__(self, name, room):
-        self.room, self.source, self.verdicts = room, TOP / "crates" / name, {}
+    def __init__(self, name, edits, folder):
+        self.name, self.edits, self.folder = name, edits, Path(folder)
+        self.source, self.verdicts = TOP / "crates" / name, {}
+        self.lock, self.free_rooms = threading.Lock(), []
         # The tests that fail with no edit: some use up a memory that can't be used up before the proof.
         self.failing_anyway = None
+        for edit in edits:
+            if edit.why_broken:
+                self.verdicts[edit.name] = Verdict.BROKEN, edit.why_broken
+
+    @contextmanager
+    def room(self):
+        """A copy in which nothing else is checked meanwhile."""
+        with self.lock:
+            room = self.free_rooms.pop() if self.free_rooms else None
+        room = room or Room(self.name, Path(tempfile.mkdtemp(dir=self.folder)))
+        yield room
+        with self.lock:
+            self.free_rooms.append(room)
+
+    def batches(self):
+        """The edits of bodies, in groups that may share a check, and the texts of each group."""
+        return batches([it for it in self.edits if it.functions and not it.why_broken], self.source)
+
+    def left(self):
+        """The edits that no batch showed to be refused."""
+        judged = {name for name, (kind, _) in self.verdicts.items() if kind is Verdict.REFUSED}
+        return [it for it in self.edits if not it.why_broken and it.name not in judged]
 
     def judge(self, edits, texts):
         """Gives each of these edits, whose texts are these, its verdict by one check."""
         paths = {path for edit in edits for path in edit.functions}
-        self.room.write(texts)
-        report = Report(self.room.check(paths, "--allow-holes"), self.room.name)
-        self.room.put_back(texts)
+        with self.room() as room:
+            room.write(texts)
+            report = Report(room.check(paths, "--allow-holes"), self.name)
+            room.put_back(texts)
         for edit in edits:
             self.verdicts[edit.name] = verdict_of(report, edit)
 
@@ -347,68 +374,70 @@ class Trial:
 
     def failing_tests(self, texts):
         """The tests that fail with these texts."""
-        self.room.write(texts)
-        said, _ = self.room.tests()
-        self.room.put_back(texts)
+        with self.room() as room:
+            room.write(texts)
+            said, _ = room.tests()
+            room.put_back(texts)
         # One that only takes too long, without optimization and beside other work, says nothing.
         failed = re.findall(r"^test (\S+) \.\.\. FAILED\n((?: +.*\n)*)", said, re.MULTILINE)
         return [name for name, why in failed if "within the time limit" not in why]
 
-    def run(self, edits):
-        """Gives each edit its verdict: in a batch, and alone where that doesn't show it refused."""
-        whole = [it for it in edits if not it.why_broken]
-        for edit in edits:
-            if edit.why_broken:
-                self.verdicts[edit.name] = Verdict.BROKEN, edit.why_broken
-        for group, texts in batches([it for it in whole if it.functions], self.source):
-            self.judge(group, texts)
-        for edit in whole:
-            if self.verdicts.get(edit.name, [None])[0] is not Verdict.REFUSED:
-                self.alone(edit)
-
-    def is_proved(self, edits):
+    def is_proved(self):
         """Whether the functions that edits change are proved as they stand, over the same kept work."""
-        paths = {path for edit in edits for path in edit.functions}
-        return not paths or bool(re.search(r"^only=(\d+) proved=\1$", self.room.check(paths), re.MULTILINE))
+        paths = {path for edit in self.edits for path in edit.functions}
+        if not paths:
+            return True
+        with self.room() as room:
+            return bool(re.search(r"^only=(\d+) proved=\1$", room.check(paths), re.MULTILINE))
 
-
-def try_crate(name, wanted=()):
-    """Tries the edits of a crate, or those with a wanted name, and answers how many passed and failed."""
-    edits = [it for it in edits_of(TOP / "crates" / name) if not wanted or it.name.partition("/")[2] in wanted]
-    if not edits:
-        return 0, 0
-    with tempfile.TemporaryDirectory(prefix="wrong-bodies-") as folder:
-        trial = Trial(name, Room(name, Path(folder)))
-        trial.run(edits)
-        proved = trial.is_proved(edits)
-    passed = sum(kind.is_good() for kind, _ in trial.verdicts.values())
-    with PRINTING:
-        for edit in edits:
-            kind, why = trial.verdicts[edit.name]
+    def report(self, is_proved):
+        """Prints what became of each edit, and answers how many passed and failed."""
+        passed = sum(kind.is_good() for kind, _ in self.verdicts.values())
+        for edit in self.edits:
+            kind, why = self.verdicts[edit.name]
             print(f"{edit.name}: {kind.value}: {why}")
-        if not proved:
-            print(f"{name}: NOT PROVED as it stands, so its edits show nothing")
-        print(f"{name}: {passed} of {len(edits)} edits refused", flush=True)
-    return (passed, len(edits) - passed) if proved else (0, len(edits))
+        if not is_proved:
+            print(f"{self.name}: NOT PROVED as it stands, so its edits show nothing")
+        print(f"{self.name}: {passed} of {len(self.edits)} edits refused", flush=True)
+        return (passed, len(self.edits) - passed) if is_proved else (0, len(self.edits))
+
+
+def try_all(trials, jobs):
+    """Tries the edits of these trials, in batches and then alone where that doesn't show them refused; answers which crates are proved as they stand."""
+    batched = [(trial, *group) for trial in trials for group in trial.batches()]
+    # Those of a crate that stands on many come first, since each of their edits costs the most, so that none is left alone at the end.
+    batched.sort(key=lambda it: (-len(crates_below(it[0].name)), -len(it[1])))
+    with ThreadPoolExecutor(jobs) as pool:
+        list(pool.map(lambda it: it[0].judge(*it[1:]), batched))
+        list(pool.map(lambda it: it[0].alone(it[1]), [(trial, edit) for trial in trials for edit in trial.left()]))
+        return list(pool.map(Trial.is_proved, trials))
+
+
+def trials_of(names, wanted, folder):
+    """A trial of each crate that has edits, or edits with a wanted name."""
+    for name in names:
+        edits = [it for it in edits_of(TOP / "crates" / name) if not wanted or it.name.partition("/")[2] in wanted]
+        if edits:
+            yield Trial(name, edits, folder)
 
 
 def main():
     parser = argparse.ArgumentParser(description="Tries wrong bodies: the prover must refuse each.")
-    parser.add_argument("--jobs", type=int, default=1, help="how many crates are tried side by side")
+    parser.add_argument("--jobs", type=int, default=1, help="how many checks go side by side")
     parser.add_argument("words", nargs="*", metavar="CRATE | NAME", help="the crates and the edits to try, all where none is named")
     options = parser.parse_args()
     names = [it for it in options.words if it in crate_lines()] or list(crate_lines())
     wanted = [it for it in options.words if it not in crate_lines()]
-    # A crate's check builds what it stands on, in the tree itself, so those come first on which no other stands.
+    # A check keeps what it proved, and builds what the crate stands on: so those come first on which no other stands.
     for name in [it for it in names if not any(it in crates_below(other) for other in names)]:
-        said, status = run(TOP / "crates" / name, "check", "--only", "")
+        said, status = run(TOP / "crates" / name, "check")
         if status:
-            print(said, f"{name}: what it stands on is not proved", sep="\n")
+            print(said, f"{name}: it is not proved as it stands", sep="\n")
             return 1
-    with ThreadPoolExecutor(options.jobs) as pool:
-        # Those with the most edits come first, so that none is left alone at the end.
-        results = list(pool.map(try_crate, sorted(names, key=lambda it: -len(edits_of(TOP / "crates" / it))), [wanted] * len(names)))
-    passed, failed = (sum(it) for it in zip(*results))
+    with tempfile.TemporaryDirectory(prefix="wrong-bodies-") as folder:
+        trials = list(trials_of(names, wanted, folder))
+        results = [trial.report(proved) for trial, proved in zip(trials, try_all(trials, options.jobs))]
+    passed, failed = (sum(it) for it in zip(*results or [(0, 0)]))
     print(f"{passed} passed, {failed} failed")
     return 1 if failed or not passed else 0
 

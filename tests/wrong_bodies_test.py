@@ -9,10 +9,9 @@ The edits are of pf_values, which must be proved, as for that script.
 import sys
 import tempfile
 import unittest
-from pathlib import Path
 
 import rattle_functions
-from wrong_bodies import TOP, Pair, Report, Room, Trial, Verdict, functions_at, read_edit, read_pairs
+from wrong_bodies import TOP, Pair, Report, Trial, Verdict, functions_at, read_edit, read_pairs, try_all
 
 CRATE = TOP / "crates/pf_values"
 MODULUS = "file: src/value_kinds.rt\nold: argument.rem_euclid(1 << 16) as u16\nnew: "
@@ -129,9 +128,8 @@ class Kinds(unittest.TestCase):
     def expect(self, kinds):
         edits = [read_edit(name, text, CRATE) for name, text, _ in kinds]
         with tempfile.TemporaryDirectory(prefix="wrong-bodies-") as folder:
-            trial = Trial(CRATE.name, Room(CRATE.name, Path(folder)))
-            trial.run(edits)
-            self.assertTrue(trial.is_proved(edits))
+            trial = Trial(CRATE.name, edits, folder)
+            self.assertEqual(try_all([trial], 1), [True])
         told = {name: kind for name, (kind, _) in trial.verdicts.items()}
         self.assertEqual(told, {name: kind for name, _, kind in kinds})
 
