@@ -10,8 +10,8 @@ use Rattle.pf_compare.specs.declared.faults.CompareFault.TheVariants.{Refused, M
 use Rattle.pf_compare.specs.declared.verdicts.Comparison.{Comparison}
 use Rattle.pf_compare.specs.declared.verdicts.Verdict.{Verdict}
 use Rattle.pf_compare.specs.declared.verdicts.Verdict.TheVariants.{Same, Types, Args}
-use Rattle.fmtcanon_c.specs.declared.errors.CError.{CError}
-use Rattle.fmtcanon_c.specs.declared.comparing.CComparison.{CComparison}
+use Rattle.fmtcanon_c.specs.declared.interface.CError.{CError}
+use Rattle.fmtcanon_c.specs.declared.comparison.CComparison.{CComparison}
 use Rattle.fmtcanon_c.specs.Calls.{Compares, ComparesNot, Gives, GivesArguments, IsFaultTold}
 
 module _ (model : Model) (f g : Text) (c : Comparison) (is : IsComparisonOf model f g c) where

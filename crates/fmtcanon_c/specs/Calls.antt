@@ -17,9 +17,9 @@ use Rattle.pf_compare.specs.declared.faults.CompareFault.TheVariants as compare_
 use Rattle.pf_compare.specs.declared.verdicts.Comparison.{Comparison}
 use Rattle.pf_compare.specs.declared.verdicts.Verdict.{Verdict}
 use Rattle.pf_compare.specs.declared.verdicts.Verdict.TheVariants.{Same, Types, Args}
-use Rattle.fmtcanon_c.specs.declared.errors.CError.{CError}
-use Rattle.fmtcanon_c.specs.declared.errors.TheConstants.{NO_MEMORY}
-use Rattle.fmtcanon_c.specs.declared.comparing.CComparison.{CComparison}
+use Rattle.fmtcanon_c.specs.declared.interface.CError.{CError}
+use Rattle.fmtcanon_c.specs.declared.interface.TheConstants.{NO_MEMORY}
+use Rattle.fmtcanon_c.specs.declared.comparison.CComparison.{CComparison}
 use Rattle.fmtcanon_c.specs.Buffers.{put, type_code}
 use Rattle.fmtcanon_c.specs.Errors.{IsNameOf, IsRefusalTold, IsRefusedBy}
 use Rattle.fmtcanon_c.specs.Words.{ended_words}

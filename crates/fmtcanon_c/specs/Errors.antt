@@ -11,8 +11,8 @@ use Rattle.pf_values.specs.Text.{Text}
 use Rattle.pf_text.specs.declared.refusal.Refusal.{Refusal}
 use Rattle.pf_canon.specs.declared.sides.Side.{Side}
 use Rattle.pf_canon.specs.declared.sides.Side.TheVariants.{First, Second}
-use Rattle.fmtcanon_c.specs.declared.errors.CError.{CError}
-use Rattle.fmtcanon_c.specs.declared.errors.TheConstants.{LITERAL_KINDS}
+use Rattle.fmtcanon_c.specs.declared.interface.CError.{CError}
+use Rattle.fmtcanon_c.specs.declared.interface.TheConstants.{LITERAL_KINDS}
 
 -- which text it is
 abbrev pub side_number : Side → ℕ

@@ -8,8 +8,8 @@ use Rattle.pf_literals.specs.Faults.{IsFaultAt}
 use Rattle.pf_literals.specs.Kinds.{number}
 use Rattle.pf_literals.specs.Sources.{IsSourceOf}
 use Rattle.pf_values.specs.Text.{Text}
-use Rattle.fmtcanon_c.specs.declared.errors.CError.{CError}
-use Rattle.fmtcanon_c.specs.declared.errors.TheConstants.{LITERAL_KINDS, NO_MEMORY, NO_PLACE}
+use Rattle.fmtcanon_c.specs.declared.interface.CError.{CError}
+use Rattle.fmtcanon_c.specs.declared.interface.TheConstants.{LITERAL_KINDS, NO_MEMORY, NO_PLACE}
 use Rattle.fmtcanon_c.specs.Buffers.{put}
 use Rattle.fmtcanon_c.specs.Calls.{IsOut}
 

@@ -2,7 +2,7 @@
 use Rattle.std.specs.Prelude.{◌≡◌, ◌⊎◌, ℤ, pos, negsuc, Option, Some, None, slice_get}
 use Rattle.pf_values.specs.declared.models.Model.{Model}
 use Rattle.pf_values.specs.declared.models.TheConstants.Model.{ALL}
-use Rattle.fmtcanon_c.specs.declared.errors.TheConstants.{NO_MODEL}
+use Rattle.fmtcanon_c.specs.declared.interface.TheConstants.{NO_MODEL}
 
 -- the data model that stands there in the list of all, if there is one
 abbrev pub model_of : ℤ → Option Model

@@ -1,17 +1,9 @@
 //! The calls of the C library `libfmtcanon`. `include/fmtcanon.h` declares them.
 #![tactic(auto)]
 
-mod buffers;
-mod canonical;
-mod canonicity;
-mod checking;
-mod comparing;
-mod errors;
+mod argument_types;
+mod canonical_texts;
+mod comparison;
+mod interface;
 mod literals;
-mod models;
-mod refusal_names;
-mod sameness;
-mod signatures;
-mod types;
-mod version;
-mod words;
+mod names;

@@ -3,8 +3,7 @@ ghost use Rattle.std.specs.Prelude.{◌≡◌, ◌+◌, neg_ℤ, pos};
 ghost use Rattle.pf_literals.specs.Kinds.{number};
 ghost use Rattle.fmtcanon_c.specs.Literals.{IsPlaceCode, PutsDecoded, PutsEncoded, TellsPlace};
 
-use crate::buffers::put_string;
-use crate::errors::{CError, LITERAL_KINDS, NO_MEMORY, NO_PLACE};
+use crate::interface::{CError, LITERAL_KINDS, NO_MEMORY, NO_PLACE, put_string};
 use pf_literals::{LiteralFault, LiteralRefusal, decode, encode, source_offset};
 use std::alloc::{AllocError, Global};
 

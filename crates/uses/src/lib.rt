@@ -2,17 +2,10 @@
 //! alone, with no proof file.
 #![tactic(auto)]
 
-pub mod arguments;
-pub mod columns;
-pub mod copying;
-pub mod differences;
+pub mod argument_types;
+pub mod canonical_texts;
+pub mod directives;
+pub mod formats;
 pub mod meaning;
-pub mod padding;
-pub mod places;
-pub mod printing;
-pub mod replacing;
-pub mod room;
 #[cfg(test)]
 mod tests;
-pub mod tidiness;
-pub mod translations;

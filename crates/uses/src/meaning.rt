@@ -1,9 +1,14 @@
-//! Whether two formats mean the same.
-ghost use Rattle.std.specs.Prelude.{◌↔◌, IfSome, IsTrue};
+//! Whether one format may be put in the place of another, and arguments that show a difference.
+ghost use Rattle.std.specs.Prelude.{◌↔◌, IfSome, IsTrue, [], ◌∷◌};
 ghost use Rattle.pf_values.specs.Printing.{AreEquivalent};
+ghost use Rattle.pf_values.specs.declared.arguments.Arg.TheVariants as args;
+ghost use Rattle.pf_compare.specs.Answers.{TellApart};
 
-use pf_canon::same_text;
-use pf_values::Model;
+use pf_canon::laws::one_canonical_text_means_the_same;
+use pf_canon::{canonical, same_text};
+use pf_compare::confirms;
+use pf_values::{Arg, Model};
+use std::alloc::Global;
 
 /// Whether two formats take the same types and print the same bytes for all arguments; none where
 /// one of them is refused. It takes no memory.
@@ -13,5 +18,32 @@ pub fn are_equivalent(model: Model, first: &[u8], second: &[u8]) -> Option<bool>
     match same_text(model, first, second) {
         Ok(same) => Some(same),
         Err(_) => None,
+    }
+}
+
+/// Whether `new` may be put in the place of `old`, by their canonical strings. True only where both
+/// take the same types and print the same bytes for all arguments; so not for a refused format, nor
+/// for want of memory.
+pub fn may_replace(alloc: Global, model: Model, old: &[u8], new: &[u8]) -> bool
+    ensures { IsTrue result → AreEquivalent model old.now new.now }
+{
+    one_canonical_text_means_the_same();
+    let Ok(of_old) = canonical(alloc, model, old) else {
+        return false;
+    };
+    let Ok(of_new) = canonical(alloc, model, new) else {
+        return false;
+    };
+    of_old.as_slice() == of_new.as_slice()
+}
+
+/// Whether a number shows that two formats differ: both take an int and nothing else, and print
+/// different bytes for this one.
+pub fn shows_difference(alloc: Global, model: Model, old: &[u8], new: &[u8], number: i32) -> bool
+    ensures { IsTrue result → TellApart model old.now new.now (args.Int number ∷ []) }
+{
+    match confirms(alloc, model, old, new, &[Arg::Int(number)]) {
+        Ok(told) => told,
+        Err(_) => false,
     }
 }

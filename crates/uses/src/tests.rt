@@ -1,16 +1,9 @@
 //! Each use, where it says yes and where it says no.
-use crate::arguments::takes_one_int;
-use crate::columns::column;
-use crate::copying::copies_tidily;
-use crate::differences::shows_difference;
-use crate::meaning::are_equivalent;
-use crate::padding::spaces_in_front;
-use crate::places::fault_at;
-use crate::printing::print_count;
-use crate::replacing::may_replace;
-use crate::room::fits;
-use crate::tidiness::is_tidy;
-use crate::translations::other_type_at;
+use crate::argument_types::{other_type_at, takes_one_int};
+use crate::canonical_texts::{copies_tidily, fits, is_tidy};
+use crate::directives::{column, spaces_in_front};
+use crate::formats::{fault_at, print_count};
+use crate::meaning::{are_equivalent, may_replace, shows_difference};
 use pf_reduce::{Core, is_normal, reduce};
 use pf_render::RenderFault;
 use pf_values::{Conv, Counted, Directive, FlagSet, Length, Model, RefusalKind};

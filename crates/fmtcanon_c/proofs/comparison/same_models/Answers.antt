@@ -1,0 +1,26 @@
+use Rattle.std.proofs.Common.{◌≡◌, ◌+◌, ◌*◌, ◌^◌, suc, ap, ◌∙◌, arith}
+use Rattle.std.proofs.Math.Nat.{pow-succ'}
+use Rattle.pf_values.specs.declared.models.Model.TheVariants.{Lp64}
+use Rattle.pf_values.specs.declared.models.TheConstants.Model.{ALL}
+use Rattle.fmtcanon_c.proofs.SamenessLemmas.{counted, not_counted, one_more_weight}
+use Rattle.fmtcanon_c.proofs.comparison.same_models.Goals as goal
+use Rattle.fmtcanon_c.proofs.comparison.same_models.Goals.{then-branch, else-branch}
+
+pub loop-model-preserved : goal.loop-model-preserved
+loop-model-preserved c =
+    let before = c.loop-model.invariant in
+    let i = c.loop-model.model-index in
+    let doubled : 2 ^ (i + 1) ≡ 2 * 2 ^ i = (let plus : i + 1 ≡ suc i = omega arith in ap (λ n. 2 ^ n) plus) ∙ pow-succ' 2 i in
+    record {
+      same = elim c.if-branch.branch [
+        | then-branch w ↦ rw w.sum-is (counted c.args.first.now c.args.second.now ALL i _ c.loop-model-test.true c.loop-model.sum before.same c.loop-model.weight before.weight _ w.if-branch.true c.in_ok-same_text.ensures)
+        | else-branch w ↦ rw w.sum-is (not_counted c.args.first.now c.args.second.now ALL i _ c.loop-model-test.true c.loop-model.sum before.same c.loop-model.weight before.weight _ w.if-branch.false c.in_ok-same_text.ensures)
+      ];
+      weight = omega (arith, before.weight, one_more_weight c.args.first.now c.args.second.now ALL i Lp64 c.loop-model-test.true);
+      below = elim c.if-branch.branch [
+        | then-branch w ↦ omega (arith, before.below, w.sum-is)
+        | else-branch w ↦ omega (arith, before.below, w.sum-is)
+      ];
+      small = omega (arith, before.small, doubled);
+      accepted = λ some. (c.in_ok-same_text.ensures.first, c.in_ok-same_text.ensures.second);
+    }

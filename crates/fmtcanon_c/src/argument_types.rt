@@ -1,0 +1,170 @@
+//! The types of the arguments that a format takes, in the profile and in the whole language.
+ghost use Rattle.std.specs.Prelude.{◌≡◌, ◌≤◌, ◌++◌, length, drop, map, neg_ℤ, pos};
+ghost use Rattle.fmtcanon_c.specs.Buffers.{type_code};
+ghost use Rattle.fmtcanon_c.specs.Calls.{PutsTypes};
+ghost use Rattle.fmtcanon_c.specs.Models.{InModel};
+ghost use Rattle.pf_signatures.specs.Kinds.{number, type_number};
+ghost use Rattle.fmtcanon_c.specs.Errors.{side_number};
+ghost use Rattle.fmtcanon_c.specs.Signatures.{PutsArguments, TellsFit};
+
+use crate::interface::{CError, NO_MEMORY, NO_MODEL, model_of, put_refusal, side_number};
+use pf_canon::Side;
+use pf_signatures::{
+    ArgumentType, FitsRefusal, SignatureFault, SignatureRefusal, arguments_vec, fits,
+};
+use pf_text::{TextFault, signature};
+use pf_values::{ArgType, Model};
+use std::alloc::Global;
+
+/// Puts the codes of the types into a buffer that has room for them. The number of arguments, or
+/// the code of an error.
+#[unsafe(no_mangle)]
+pub extern "C" fn fmtcanon_types(
+    alloc: Global,
+    model: i32,
+    text: &[u8],
+    out: &mut [u8],
+    error: &mut CError,
+) -> i64
+    ensures { InModel model (λ m. PutsTypes m text.now out.old error.old result out.new error.new)
+        result ((out.new ≡ out.old) × (error.new ≡ error.old)) }
+{
+    match model_of(model) {
+        Some(model) => put_types(alloc, model, text, out, error),
+        None => NO_MODEL,
+    }
+}
+
+fn put_types(alloc: Global, model: Model, text: &[u8], out: &mut [u8], error: &mut CError) -> i64
+    ensures { PutsTypes model text.now out.old error.old result out.new error.new }
+{
+    match signature(alloc, model, text) {
+        Ok(signature) => {
+            let types = signature.as_slice();
+            if types.len() <= out.len() {
+                put_codes(out, types);
+            }
+            types.len() as i64
+        }
+        Err(TextFault::Refused(refusal)) => put_refusal(error, Side::First, refusal),
+        Err(TextFault::Memory) => NO_MEMORY,
+    }
+}
+
+fn put_codes(out: &mut [u8], types: &[ArgType])
+    requires { length types.now ≤ length out.old }
+    ensures { out.new ≡ map type_code types.now ++ drop (length types.now) out.old }
+{
+    let mut at = 0;
+    while at < types.len() {
+        out[at] = type_code(types[at]);
+        at += 1;
+    }
+}
+
+fn type_code(arg_type: ArgType) -> u8
+    ensures { result ≡ type_code arg_type }
+{
+    match arg_type {
+        ArgType::Int => 1,
+        ArgType::UInt => 2,
+        ArgType::Long => 3,
+        ArgType::ULong => 4,
+        ArgType::LongLong => 5,
+        ArgType::ULongLong => 6,
+        ArgType::Str => 7,
+    }
+}
+
+/// Puts the numbers of the types into a buffer that has room for them (POSIX `fprintf`). The number
+/// of arguments, or the code of an error.
+#[unsafe(no_mangle)]
+pub extern "C" fn fmtcanon_arguments(
+    alloc: Global,
+    model: i32,
+    text: &[u8],
+    out: &mut [u8],
+    error: &mut CError,
+) -> i64
+    ensures { InModel model
+        (λ m. PutsArguments m text.now out.old error.old result out.new error.new)
+        result ((out.new ≡ out.old) × (error.new ≡ error.old)) }
+{
+    match model_of(model) {
+        Some(model) => put_arguments(alloc, model, text, out, error),
+        None => NO_MODEL,
+    }
+}
+
+fn put_arguments(
+    alloc: Global,
+    model: Model,
+    text: &[u8],
+    out: &mut [u8],
+    error: &mut CError,
+) -> i64
+    ensures { PutsArguments model text.now out.old error.old result out.new error.new }
+{
+    match arguments_vec(alloc, model, text) {
+        Ok(types) => {
+            let types = types.as_slice();
+            if types.len() <= out.len() {
+                put_numbers(out, types);
+            }
+            types.len() as i64
+        }
+        Err(SignatureFault::Refused(refusal)) => put_signature(error, Side::First, refusal),
+        Err(SignatureFault::Memory) => NO_MEMORY,
+    }
+}
+
+fn put_numbers(out: &mut [u8], types: &[ArgumentType])
+    requires { length types.now ≤ length out.old }
+    ensures { out.new ≡ map type_number types.now ++ drop (length types.now) out.old }
+{
+    let mut at = 0;
+    while at < types.len() {
+        out[at] = types[at].number();
+        at += 1;
+    }
+}
+
+/// 1 where the second format takes just the arguments of the first, 0 where it doesn't, else the
+/// code of the refusal of one. It takes no memory.
+#[unsafe(no_mangle)]
+pub extern "C" fn fmtcanon_fits(model: i32, first: &[u8], second: &[u8], error: &mut CError) -> i64
+    ensures { InModel model (λ m. TellsFit m first.now second.now error.old result error.new)
+        result (error.new ≡ error.old) }
+{
+    match model_of(model) {
+        Some(model) => tell_fit(model, first, second, error),
+        None => NO_MODEL,
+    }
+}
+
+fn tell_fit(model: Model, first: &[u8], second: &[u8], error: &mut CError) -> i64
+    ensures { TellsFit model first.now second.now error.old result error.new }
+{
+    match fits(model, first, second) {
+        Ok(None) => 1,
+        Ok(Some(_)) => 0,
+        Err(FitsRefusal::First(refusal)) => put_signature(error, Side::First, refusal),
+        Err(FitsRefusal::Second(refusal)) => put_signature(error, Side::Second, refusal),
+    }
+}
+
+// Leaves a refusal there, and gives its code.
+fn put_signature(error: &mut CError, side: Side, refusal: SignatureRefusal) -> i64
+    ensures code { result ≡ neg_ℤ (pos (number refusal.kind)) }
+    ensures at { error.new.at ≡ refusal.at }
+    ensures kind { error.new.kind ≡ number refusal.kind }
+    ensures side { error.new.side ≡ side_number side }
+{
+    let number = refusal.kind.number();
+    *error = CError {
+        at: refusal.at,
+        kind: u32::from(number),
+        side: side_number(side),
+    };
+    -i64::from(number)
+}

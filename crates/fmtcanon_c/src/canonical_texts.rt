@@ -1,0 +1,110 @@
+//! Whether a text is a format, whether it is canonical, and its canonical text.
+ghost use Rattle.fmtcanon_c.specs.Calls.{Checks, TellsCanonical, IsLengthCode, PutsCanonical, TellsLength};
+ghost use Rattle.std.specs.Prelude.{◌≡◌};
+ghost use Rattle.fmtcanon_c.specs.Models.{InModel};
+
+use crate::interface::{CError, NO_MEMORY, NO_MODEL, model_of, put_refusal, put_string};
+use pf_canon::{CanonFault, Side, canonical, canonical_len, is_canonical};
+use pf_text::check;
+use pf_values::Model;
+use std::alloc::Global;
+
+/// 0 where the text is accepted, else the code of its refusal.
+#[unsafe(no_mangle)]
+pub extern "C" fn fmtcanon_check(text: &[u8], error: &mut CError) -> i64
+    ensures { Checks text.now error.old result error.new }
+{
+    match check(text) {
+        Ok(()) => 0,
+        Err(refusal) => put_refusal(error, Side::First, refusal),
+    }
+}
+
+/// 1 where an accepted text is canonical, 0 where it isn't, else the code of its refusal.
+#[unsafe(no_mangle)]
+pub extern "C" fn fmtcanon_is_canonical(model: i32, text: &[u8], error: &mut CError) -> i64
+    ensures { InModel model (λ m. TellsCanonical m text.now error.old result error.new)
+        result (error.new ≡ error.old) }
+{
+    match model_of(model) {
+        Some(model) => tell_canonical(model, text, error),
+        None => NO_MODEL,
+    }
+}
+
+fn tell_canonical(model: Model, text: &[u8], error: &mut CError) -> i64
+    ensures { TellsCanonical model text.now error.old result error.new }
+{
+    match is_canonical(model, text) {
+        Ok(true) => 1,
+        Ok(false) => 0,
+        Err(refusal) => put_refusal(error, Side::First, refusal),
+    }
+}
+
+/// Puts the canonical text and a zero into a buffer that has room for them. The length of the
+/// canonical text, or the code of an error.
+#[unsafe(no_mangle)]
+pub extern "C" fn fmtcanon_canonical(
+    alloc: Global,
+    model: i32,
+    text: &[u8],
+    out: &mut [u8],
+    error: &mut CError,
+) -> i64
+    ensures { InModel model
+        (λ m. PutsCanonical m text.now out.old error.old result out.new error.new)
+        result ((out.new ≡ out.old) × (error.new ≡ error.old)) }
+{
+    match model_of(model) {
+        Some(model) => put_canonical(alloc, model, text, out, error),
+        None => NO_MODEL,
+    }
+}
+
+fn put_canonical(
+    alloc: Global,
+    model: Model,
+    text: &[u8],
+    out: &mut [u8],
+    error: &mut CError,
+) -> i64
+    ensures { PutsCanonical model text.now out.old error.old result out.new error.new }
+{
+    match canonical(alloc, model, text) {
+        Ok(canonical) => {
+            put_string(out, &canonical);
+            canonical.len() as i64
+        }
+        Err(CanonFault::Refused(refusal)) => put_refusal(error, Side::First, refusal),
+        Err(CanonFault::Memory) => NO_MEMORY,
+    }
+}
+
+/// The length of the canonical text, or the code of an error: that of no memory where the length is
+/// 2^63 or more. It takes no memory.
+#[unsafe(no_mangle)]
+pub extern "C" fn fmtcanon_canonical_length(model: i32, text: &[u8], error: &mut CError) -> i64
+    ensures { InModel model (λ m. TellsLength m text.now error.old result error.new)
+        result (error.new ≡ error.old) }
+{
+    match model_of(model) {
+        Some(model) => tell_length(model, text, error),
+        None => NO_MODEL,
+    }
+}
+
+fn tell_length(model: Model, text: &[u8], error: &mut CError) -> i64
+    ensures { TellsLength model text.now error.old result error.new }
+{
+    match canonical_len(model, text) {
+        Ok(len) => length_code(len),
+        Err(refusal) => put_refusal(error, Side::First, refusal),
+    }
+}
+
+fn length_code(len: u128) -> i64
+    ensures { IsLengthCode len result }
+{
+    if len < 1 << 63 { len as i64 } else { NO_MEMORY }
+}

@@ -1,0 +1,47 @@
+//! Whether a format is its own canonical string, whether that fits, and a copy of it.
+ghost use Rattle.std.specs.Prelude.{IsTrue, ◌≤◌, length, ℕ};
+ghost use Rattle.pf_values.specs.Canonical.{IsCanonicalText};
+ghost use Rattle.pf_values.specs.Items.{IsAccepted};
+ghost use Rattle.pf_values.specs.Text.{Text};
+ghost use Rattle.pf_canon.specs.Answers.{IsCanonicalFor};
+ghost use Rattle.pf_values.specs.Counting.{device_of};
+ghost use Rattle.pf_canon.specs.Copying.{CopiesAll};
+
+use pf_canon::{canonical_len, canonical_stream, is_canonical};
+use pf_values::{Counted, Model};
+use std::io::{Read, Write};
+
+/// Whether a format is accepted, and is its own canonical string.
+pub fn is_tidy(model: Model, format: &[u8]) -> bool
+    ensures accepted { IsTrue result → IsAccepted format.now }
+    ensures canonical { IsTrue result → IsCanonicalText model format.now }
+{
+    match is_canonical(model, format) {
+        Ok(is) => is,
+        Err(_) => false,
+    }
+}
+
+/// Whether the canonical string of a format fits into so many bytes. It takes no memory.
+pub fn fits(model: Model, format: &[u8], room: u128) -> bool
+    ensures { IsTrue result → (c : Text) × IsCanonicalFor model format.now c × (length c ≤ room) }
+{
+    match canonical_len(model, format) {
+        Ok(len) => len <= room,
+        Err(_) => false,
+    }
+}
+
+/// Copies a format in canonical spelling, in memory of fixed size. True only where the reader was
+/// read to its end and the whole canonical string of what it handed out was written.
+pub fn copies_tidily<R: Read, W: Write>(
+    model: Model,
+    reader: &mut Counted<R>,
+    writer: &mut Counted<W>,
+) -> bool
+    ensures { IsTrue result → (count : ℕ) × CopiesAll model
+        (R.remaining (device_of reader.old)) (R.remaining (device_of reader.new))
+        (W.contents (device_of writer.old)) (W.contents (device_of writer.new)) count }
+{
+    canonical_stream(model, reader, writer).is_ok()
+}

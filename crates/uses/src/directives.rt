@@ -1,0 +1,33 @@
+//! A directive that is put together, and what one prints in any case.
+ghost use Rattle.std.specs.Prelude.{◌≡◌, IfSome, None, Some};
+ghost use Rattle.pf_values.specs.declared.conversions.Conv.TheVariants as conversions;
+ghost use Rattle.pf_values.specs.declared.flags.Flag.TheVariants as flags;
+ghost use Rattle.pf_values.specs.declared.lengths.Length.TheVariants as lengths;
+ghost use Rattle.pf_values.specs.Flags.{no_flags, with_flag};
+ghost use Rattle.pf_values.specs.Specification.{specification_of};
+ghost use Rattle.pf_reduce.specs.declared.results.Reduced.{Reduced};
+ghost use Rattle.pf_reduce.specs.Reducing.{IsReducedTo};
+
+use pf_reduce::reduce;
+use pf_values::{Conv, Directive, Flag, FlagSet, Length, Model};
+
+/// The directive of a column that holds strings, as `%-20s`; none for a width above the limit.
+pub fn column(width: u16) -> Option<Directive>
+    ensures { IfSome result (λ d.
+        d ≡ specification_of (with_flag no_flags flags.Minus) (Some width) None lengths.None
+        conversions.S) }
+{
+    let flags = FlagSet::empty().with(Flag::Minus);
+    match Directive::new(flags, Some(width), None, Length::None, Conv::S) {
+        Ok(directive) => Some(directive),
+        Err(_) => None,
+    }
+}
+
+/// How many spaces stand at the front of all that a directive prints, whatever its argument is.
+pub fn spaces_in_front(model: Model, directive: &Directive) -> u16
+    ensures { (reduced : Reduced) × IsReducedTo model directive.now reduced
+        × (result ≡ reduced.spaces) }
+{
+    reduce(model, directive).spaces
+}
