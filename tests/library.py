@@ -89,13 +89,13 @@ def try_header(trials):
     whole = source_numbers("pf_signatures/src/kinds.rt", r"SignatureRefusalKind::(\w+) => (\d+),", {})
     trials.expect("kinds that both languages have", {name: kinds[name] for name in whole if name in kinds}, {name: whole[name] for name in whole if name in kinds})
     trials.expect("kinds of refusals", header_numbers("fmtcanon_kind"), {**kinds, **whole})
-    text = (SOURCES / "errors.rt").read_text(encoding="utf-8")
+    text = (SOURCES / "interface.rt").read_text(encoding="utf-8")
     front = int(re.search(r"LITERAL_KINDS: u32 = (\d+);", text).group(1))
     kinds = source_numbers("pf_literals/src/kinds.rt", r"LiteralKind::(\w+) => (\d+),", {})
     wanted = {name: front + number for name, number in kinds.items()}
     trials.expect("kinds of faults of literals", header_numbers("fmtcanon_literal_kind"), wanted)
     names = {"UInt": "UINT", "ULong": "ULONG", "ULongLong": "ULONG_LONG", "Str": "STRING"}
-    types = source_numbers("fmtcanon_c/src/types.rt", r"ArgType::(\w+) => (\d+),", names)
+    types = source_numbers("fmtcanon_c/src/argument_types.rt", r"ArgType::(\w+) => (\d+),", names)
     names = {**names, "PointerToSChar": "POINTER_TO_SCHAR", "Pointer": "POINTER_TO_VOID"}
     whole = source_numbers("pf_signatures/src/types.rt", r"ArgumentType::(\w+) => (\d+),", names)
     trials.expect("types that both languages have", {name: whole[name] for name in types}, types)
@@ -109,7 +109,7 @@ def try_header(trials):
     sets = {f"IN_{name}": 1 << number for name, number in models.items()}
     sets = {**sets, "IN_NEITHER": 0, "IN_BOTH": sets["IN_LP64"] + sets["IN_ILP32"], "IN_ALL": sum(sets.values())}
     trials.expect("sets of data models", header_numbers("fmtcanon_models"), sets)
-    verdicts = source_numbers("fmtcanon_c/src/comparing.rt", r"Verdict::(\w+)[^=]*=> \((\d+),", {"Args": "DIFFERENT"})
+    verdicts = source_numbers("fmtcanon_c/src/comparison.rt", r"Verdict::(\w+)[^=]*=> \((\d+),", {"Args": "DIFFERENT"})
     trials.expect("verdicts", header_numbers("fmtcanon_verdict"), verdicts)
     for name, source, struct in [("fmtcanon_error", "errors", "CError"), ("fmtcanon_comparison", "comparing", "CComparison")]:
         told = re.search(rf"typedef struct {name} \{{(.*?)\}}", header_text(), flags=re.DOTALL).group(1)
@@ -118,7 +118,7 @@ def try_header(trials):
         wanted = [(NUMBERS[kind], field) for field, kind in re.findall(r"pub (\w+): (\w+),", code)]
         trials.expect(f"fields of {name}", re.findall(r"(\w+) (\w+);", told), wanted)
     told = dict(re.findall(r"FMTCANON_ERROR_(\w+) \((-\d+)\)", header_text()))
-    code = dict(re.findall(r"NO_(\w+): i64 = (-\d+);", (SOURCES / "errors.rt").read_text(encoding="utf-8")))
+    code = dict(re.findall(r"NO_(\w+): i64 = (-\d+);", (SOURCES / "interface.rt").read_text(encoding="utf-8")))
     trials.expect("errors that are no refusal", told, {"NOMEMORY": code["MEMORY"], "MODEL": code["MODEL"], "NOPLACE": code["PLACE"]})
     version = ".".join(re.findall(r"FMTCANON_VERSION_\w+ (\d+)", header_text()))
     told = re.search(r"^## (\S+),", (TOP / "CHANGELOG.md").read_text(encoding="utf-8"), flags=re.MULTILINE).group(1)

@@ -4,7 +4,7 @@ use Rattle.std.proofs.lemmas.List.{take_rest}
 use Rattle.pf_values.specs.Arguments.{Argument, Number, String}
 use Rattle.pf_values.specs.Text.{Text}
 use Rattle.fmtcanon.specs.ArgumentWords.{SpellsArgument, SpellsMagnitude, SpellsNumber, SpellsOneArgument, minus_if, negated_if}
-use Rattle.fmtcanon.specs.declared.untyped.UntypedArg.{UntypedArg}
+use Rattle.fmtcanon.specs.declared.arguments.UntypedArg.{UntypedArg}
 use Rattle.fmtcanon.proofs.MagnitudeLemmas.{read_only}
 
 -- the text after its first byte, and after its first two, as the code's patterns cut it

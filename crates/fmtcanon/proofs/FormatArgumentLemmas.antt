@@ -12,8 +12,8 @@ use Rattle.pf_values.specs.Arg.{argument_of, type_of}
 use Rattle.pf_values.specs.Arguments.{Argument, HasType, HasTypes}
 use Rattle.pf_values.specs.Text.{Text}
 use Rattle.fmtcanon.specs.ArgumentWords.{SpellsArgument}
-use Rattle.fmtcanon.specs.declared.fault.Fault.TheVariants.{WrongCount}
-use Rattle.fmtcanon.specs.declared.untyped.UntypedArg.{UntypedArg}
+use Rattle.fmtcanon.specs.declared.outcome.Fault.TheVariants.{WrongCount}
+use Rattle.fmtcanon.specs.declared.arguments.UntypedArg.{UntypedArg}
 use Rattle.fmtcanon.specs.FormatArguments.{GivesArgument, HindersArguments, IsFirstBadWord, IsFirstWrongType, SpellArguments}
 use Rattle.fmtcanon.specs.UntypedArgs.{argument_given}
 

@@ -15,8 +15,8 @@ use Rattle.pf_values.specs.Text.{Text}
 use Rattle.fmtcanon.specs.Answers.{HindersFit, HindersFormat, HindersFormats, HindersGiven, HindersPair, HindersWhole, IsAcceptedWhole, IsToldBySide, IsToldOf, side_of}
 use Rattle.fmtcanon.specs.FormatArguments.{HindersArguments}
 use Rattle.fmtcanon.specs.Formats.{Gives, IsFormat, IsToldAt}
-use Rattle.fmtcanon.specs.declared.fault.Fault.{Fault}
-use Rattle.fmtcanon.specs.declared.fault.Fault.TheVariants.{Refused, RefusedWhole, BadLiteral, BadWord, WrongCount, WrongType, Memory}
+use Rattle.fmtcanon.specs.declared.outcome.Fault.{Fault}
+use Rattle.fmtcanon.specs.declared.outcome.Fault.TheVariants.{Refused, RefusedWhole, BadLiteral, BadWord, WrongCount, WrongType, Memory}
 use Rattle.fmtcanon.specs.declared.formats.GivenFormat.{GivenFormat}
 use Rattle.fmtcanon.specs.declared.formats.Notation.TheVariants.{Literals}
 

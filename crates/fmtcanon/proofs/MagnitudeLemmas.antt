@@ -14,7 +14,7 @@ use Rattle.pf_values.specs.Digits.{place_sum}
 use Rattle.pf_values.specs.Text.{Text}
 use Rattle.pf_values.proofs.Numerals.{number_after-place_sum, place_sum-lt}
 use Rattle.fmtcanon.specs.ArgumentWords.{SpellsMagnitude}
-use Rattle.fmtcanon.specs.declared.argument_words.TheConstants.{MAX_DIGITS}
+use Rattle.fmtcanon.specs.declared.arguments.TheConstants.{MAX_DIGITS}
 
 -- the limit
 max_digits : MAX_DIGITS ≡ 20

@@ -10,7 +10,7 @@ use Rattle.fmtcanon.specs.Conversations.{HasCome, HasReplies, IsAt, IsAtText, Le
 use Rattle.fmtcanon.specs.Records.{IsCut, LeavesRecords, ReadFails, last_record}
 use Rattle.fmtcanon.specs.declared.outcome.Outcome.{Outcome}
 use Rattle.fmtcanon.specs.declared.outcome.Outcome.TheVariants as outcomes
-use Rattle.fmtcanon.specs.declared.questions.RecordQuestion.{RecordQuestion}
+use Rattle.fmtcanon.specs.declared.task.RecordQuestion.{RecordQuestion}
 use Rattle.fmtcanon.specs.declared.records.Conversation.{Conversation}
 use Rattle.fmtcanon.proofs.RecordLemmas.{out_all}
 use Rattle.fmtcanon.proofs.RecordTexts.{cut_none}

@@ -8,7 +8,7 @@ use Rattle.pf_values.specs.Text.{Text}
 use Rattle.fmtcanon.specs.Conversations.{Answers, HasCome, HasReplies, HasSaid, HasSaidFirst, HasStopped, IsAt, LeavesAtEnd, LeavesStopped, WritesReplies, first_of, waiting_of}
 use Rattle.fmtcanon.specs.Questions.{formats_wanted}
 use Rattle.fmtcanon.specs.Records.{AreReplies, IsReply, RepliesAll, RepliesFirst, Reply, last_record}
-use Rattle.fmtcanon.specs.declared.questions.RecordQuestion.{RecordQuestion}
+use Rattle.fmtcanon.specs.declared.task.RecordQuestion.{RecordQuestion}
 use Rattle.fmtcanon.specs.declared.records.Coming.{Coming}
 use Rattle.fmtcanon.specs.declared.records.Conversation.{Conversation}
 use Rattle.fmtcanon.specs.declared.records.Stop.{Stop}

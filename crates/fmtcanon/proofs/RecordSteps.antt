@@ -6,7 +6,7 @@ use Rattle.pf_values.specs.Counting.{Known}
 use Rattle.pf_values.specs.Text.{Text}
 use Rattle.fmtcanon.specs.Conversations.{HasCome, HasReplies, HasStopped, HasStoppedAt, IsAt, IsAtText}
 use Rattle.fmtcanon.specs.Records.{IsCut, last_record}
-use Rattle.fmtcanon.specs.declared.questions.RecordQuestion.{RecordQuestion}
+use Rattle.fmtcanon.specs.declared.task.RecordQuestion.{RecordQuestion}
 use Rattle.fmtcanon.specs.declared.records.Conversation.{Conversation}
 use Rattle.fmtcanon.specs.declared.records.Stop.{Stop}
 use Rattle.fmtcanon.specs.declared.records.Stop.TheVariants.{Memory}

@@ -14,8 +14,8 @@ use Rattle.fmtcanon.specs.Outcomes.{status_of}
 use Rattle.fmtcanon.specs.Questions.{IsAbout}
 use Rattle.fmtcanon.specs.Records.{IsReply, Reply, Says, bytes_of, reply_bytes}
 use Rattle.fmtcanon.specs.declared.outcome.Outcome.{Outcome}
-use Rattle.fmtcanon.specs.declared.questions.Question.{Question}
-use Rattle.fmtcanon.specs.declared.questions.RecordQuestion.{RecordQuestion}
+use Rattle.fmtcanon.specs.declared.task.Question.{Question}
+use Rattle.fmtcanon.specs.declared.task.RecordQuestion.{RecordQuestion}
 use Rattle.fmtcanon.specs.declared.replies.Replies.{Replies}
 
 -- a count that stays at a bound goes on from one that did

@@ -10,9 +10,9 @@ use Rattle.fmtcanon.specs.Tasks.{Asks}
 use Rattle.fmtcanon.specs.declared.outcome.Outcome.{Outcome}
 use Rattle.fmtcanon.specs.declared.outcome.Outcome.TheVariants as outcomes
 use Rattle.fmtcanon.specs.declared.task.Task.TheVariants.{Answer}
-use Rattle.fmtcanon.specs.declared.fault.Fault.{Fault}
-use Rattle.fmtcanon.specs.declared.fault.Fault.TheVariants.{Refused, RefusedWhole, BadLiteral, BadWord, WrongCount, WrongType, Memory}
-use Rattle.fmtcanon.specs.declared.questions.Question.{Question}
+use Rattle.fmtcanon.specs.declared.outcome.Fault.{Fault}
+use Rattle.fmtcanon.specs.declared.outcome.Fault.TheVariants.{Refused, RefusedWhole, BadLiteral, BadWord, WrongCount, WrongType, Memory}
+use Rattle.fmtcanon.specs.declared.task.Question.{Question}
 
 module _ {W : Type 0} (contents : W → Known) (old new : Counted W) (question : Question) (same : new ≡ old) where
   pub leaves_nothing : (fault : Fault) → IsHindered question fault → LeavesAnswer contents old new question (outcome_of_fault fault)

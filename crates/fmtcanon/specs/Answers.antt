@@ -12,10 +12,10 @@ use Rattle.pf_canon.specs.declared.sides.Side.{Side}
 use Rattle.pf_canon.specs.declared.sides.Side.TheVariants as sides
 use Rattle.fmtcanon.specs.declared.answer.Ending.{Ending}
 use Rattle.fmtcanon.specs.declared.answer.Ending.TheVariants as endings
-use Rattle.fmtcanon.specs.declared.fault.Fault.{Fault}
-use Rattle.fmtcanon.specs.declared.fault.Fault.TheVariants.{Refused, RefusedWhole, BadLiteral, BadWord, WrongCount, WrongType, Memory}
-use Rattle.fmtcanon.specs.declared.questions.Question.{Question}
-use Rattle.fmtcanon.specs.declared.questions.Question.TheVariants.{Types, Arguments, Canon, Show, Format, Fits, Same}
+use Rattle.fmtcanon.specs.declared.outcome.Fault.{Fault}
+use Rattle.fmtcanon.specs.declared.outcome.Fault.TheVariants.{Refused, RefusedWhole, BadLiteral, BadWord, WrongCount, WrongType, Memory}
+use Rattle.fmtcanon.specs.declared.task.Question.{Question}
+use Rattle.fmtcanon.specs.declared.task.Question.TheVariants.{Types, Arguments, Canon, Show, Format, Fits, Same}
 use Rattle.fmtcanon.specs.ArgumentLines.{HasArgumentLines, IsFitAnswer}
 use Rattle.fmtcanon.specs.Comparisons.{IsComparisonIn}
 use Rattle.fmtcanon.specs.FormatArguments.{HindersArguments, IsPrinted}

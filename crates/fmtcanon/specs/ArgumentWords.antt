@@ -5,7 +5,7 @@ use Rattle.std.specs.Fmt.{digit_glyph}
 use Rattle.pf_values.specs.Arguments.{Argument, Number, String, IsString}
 use Rattle.pf_values.specs.Digits.{AreDigits}
 use Rattle.pf_values.specs.Text.{Text}
-use Rattle.fmtcanon.specs.declared.argument_words.TheConstants.{MAX_DIGITS}
+use Rattle.fmtcanon.specs.declared.arguments.TheConstants.{MAX_DIGITS}
 
 -- a decimal number without sign, with zeros in front or without
 pub record SpellsMagnitude (t : Text) (n : ℕ) : Type 0 where

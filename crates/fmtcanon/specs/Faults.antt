@@ -11,8 +11,8 @@ use Rattle.pf_canon.specs.declared.faults.CanonFault.{CanonFault}
 use Rattle.pf_canon.specs.declared.faults.CanonFault.TheVariants as canonical
 use Rattle.pf_compare.specs.declared.faults.CompareFault.{CompareFault}
 use Rattle.pf_compare.specs.declared.faults.CompareFault.TheVariants as comparison
-use Rattle.fmtcanon.specs.declared.fault.Fault.{Fault}
-use Rattle.fmtcanon.specs.declared.fault.Fault.TheVariants.{Refused, RefusedWhole, BadLiteral, Memory}
+use Rattle.fmtcanon.specs.declared.outcome.Fault.{Fault}
+use Rattle.fmtcanon.specs.declared.outcome.Fault.TheVariants.{Refused, RefusedWhole, BadLiteral, Memory}
 
 -- a fault of reading one format
 abbrev pub of_text : TextFault → Fault

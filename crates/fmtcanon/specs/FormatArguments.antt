@@ -11,8 +11,8 @@ use Rattle.pf_values.specs.Items.{HasItems, IsAccepted, Item, types}
 use Rattle.pf_values.specs.Printing.{PrintsAll}
 use Rattle.pf_values.specs.Refusals.{IsRefusedAt}
 use Rattle.pf_values.specs.Text.{Text}
-use Rattle.fmtcanon.specs.declared.fault.Fault.{Fault}
-use Rattle.fmtcanon.specs.declared.fault.Fault.TheVariants.{Refused, RefusedWhole, BadLiteral, BadWord, WrongCount, WrongType, Memory}
+use Rattle.fmtcanon.specs.declared.outcome.Fault.{Fault}
+use Rattle.fmtcanon.specs.declared.outcome.Fault.TheVariants.{Refused, RefusedWhole, BadLiteral, BadWord, WrongCount, WrongType, Memory}
 use Rattle.fmtcanon.specs.ArgumentWords.{SpellsArgument}
 
 -- each word gives an argument, in order

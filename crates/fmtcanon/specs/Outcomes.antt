@@ -2,8 +2,8 @@
 use Rattle.std.specs.Prelude.{ℕ}
 use Rattle.fmtcanon.specs.declared.answer.Ending.{Ending}
 use Rattle.fmtcanon.specs.declared.answer.Ending.TheVariants as endings
-use Rattle.fmtcanon.specs.declared.fault.Fault.{Fault}
-use Rattle.fmtcanon.specs.declared.fault.Fault.TheVariants as faults
+use Rattle.fmtcanon.specs.declared.outcome.Fault.{Fault}
+use Rattle.fmtcanon.specs.declared.outcome.Fault.TheVariants as faults
 use Rattle.fmtcanon.specs.declared.outcome.Outcome.{Outcome}
 use Rattle.fmtcanon.specs.declared.outcome.Outcome.TheVariants.{Done, Same, Different, Refused, RefusedWhole, BadLiteral, BadWord, WrongCount, WrongType, Answered, NoSecond, Usage, Read, Write, Memory}
 

@@ -1,10 +1,10 @@
 -- What is asked about formats, wherever these come from. This project's own.
 use Rattle.std.specs.Prelude.{◌≡◌, ℕ, List, [], ◌∷◌, Option, None, Some}
 use Rattle.pf_values.specs.Text.{Text}
-use Rattle.fmtcanon.specs.declared.questions.Question.{Question}
-use Rattle.fmtcanon.specs.declared.questions.Question.TheVariants.{Types, Arguments, Canon, Show, Format, Fits, Same}
-use Rattle.fmtcanon.specs.declared.questions.RecordQuestion.{RecordQuestion}
-use Rattle.fmtcanon.specs.declared.questions.RecordQuestion.TheVariants as asked
+use Rattle.fmtcanon.specs.declared.task.Question.{Question}
+use Rattle.fmtcanon.specs.declared.task.Question.TheVariants.{Types, Arguments, Canon, Show, Format, Fits, Same}
+use Rattle.fmtcanon.specs.declared.task.RecordQuestion.{RecordQuestion}
+use Rattle.fmtcanon.specs.declared.task.RecordQuestion.TheVariants as asked
 
 -- how many formats are asked about at a time
 abbrev pub formats_wanted : RecordQuestion → ℕ

@@ -10,12 +10,12 @@ use Rattle.fmtcanon.specs.Outcomes.{outcome_of, outcome_of_fault, status_of}
 use Rattle.fmtcanon.specs.Questions.{IsAbout, formats_wanted}
 use Rattle.fmtcanon.specs.Reports.{told}
 use Rattle.fmtcanon.specs.declared.answer.Ending.{Ending}
-use Rattle.fmtcanon.specs.declared.fault.Fault.{Fault}
-use Rattle.fmtcanon.specs.declared.fault.Fault.TheVariants as faults
+use Rattle.fmtcanon.specs.declared.outcome.Fault.{Fault}
+use Rattle.fmtcanon.specs.declared.outcome.Fault.TheVariants as faults
 use Rattle.fmtcanon.specs.declared.outcome.Outcome.{Outcome}
 use Rattle.fmtcanon.specs.declared.outcome.Outcome.TheVariants.{Done, Same, Different, Refused, RefusedWhole, BadLiteral, BadWord, WrongCount, WrongType, Answered, NoSecond, Usage, Read, Write, Memory}
-use Rattle.fmtcanon.specs.declared.questions.Question.{Question}
-use Rattle.fmtcanon.specs.declared.questions.RecordQuestion.{RecordQuestion}
+use Rattle.fmtcanon.specs.declared.task.Question.{Question}
+use Rattle.fmtcanon.specs.declared.task.RecordQuestion.{RecordQuestion}
 
 -- a text has no zero byte
 abbrev pub IsBare : Text → Type 0

@@ -9,12 +9,12 @@ use Rattle.fmtcanon.specs.Records.{LeavesRecords}
 use Rattle.fmtcanon.specs.Tasks.{Asks, AreWrong}
 use Rattle.fmtcanon.specs.declared.answer.Ending.{Ending}
 use Rattle.fmtcanon.specs.declared.answer.Ending.TheVariants as endings
-use Rattle.fmtcanon.specs.declared.fault.Fault.{Fault}
-use Rattle.fmtcanon.specs.declared.fault.Fault.TheVariants as faults
+use Rattle.fmtcanon.specs.declared.outcome.Fault.{Fault}
+use Rattle.fmtcanon.specs.declared.outcome.Fault.TheVariants as faults
 use Rattle.fmtcanon.specs.declared.outcome.Outcome.{Outcome}
 use Rattle.fmtcanon.specs.declared.outcome.Outcome.TheVariants.{Done, Same, Different, Refused, RefusedWhole, BadLiteral, BadWord, WrongCount, WrongType, Answered, NoSecond, Usage, Read, Write, Memory}
-use Rattle.fmtcanon.specs.declared.questions.Question.{Question}
-use Rattle.fmtcanon.specs.declared.questions.RecordQuestion.{RecordQuestion}
+use Rattle.fmtcanon.specs.declared.task.Question.{Question}
+use Rattle.fmtcanon.specs.declared.task.RecordQuestion.{RecordQuestion}
 use Rattle.fmtcanon.specs.declared.task.Task.{Task}
 use Rattle.fmtcanon.specs.declared.task.Task.TheVariants.{Answer, Records, Stream}
 

@@ -15,10 +15,10 @@ use Rattle.fmtcanon.specs.declared.task.NoTask.{NoTask}
 use Rattle.fmtcanon.specs.declared.task.NoTask.TheVariants.{Usage, Memory}
 use Rattle.fmtcanon.specs.declared.task.Task.{Task}
 use Rattle.fmtcanon.specs.declared.task.Task.TheVariants.{Answer, Records, Stream}
-use Rattle.fmtcanon.specs.declared.questions.Question.{Question}
-use Rattle.fmtcanon.specs.declared.questions.Question.TheVariants.{Types, Arguments, Canon, Show, Format, Fits, Same}
-use Rattle.fmtcanon.specs.declared.questions.RecordQuestion.{RecordQuestion}
-use Rattle.fmtcanon.specs.declared.questions.RecordQuestion.TheVariants as asked
+use Rattle.fmtcanon.specs.declared.task.Question.{Question}
+use Rattle.fmtcanon.specs.declared.task.Question.TheVariants.{Types, Arguments, Canon, Show, Format, Fits, Same}
+use Rattle.fmtcanon.specs.declared.task.RecordQuestion.{RecordQuestion}
+use Rattle.fmtcanon.specs.declared.task.RecordQuestion.TheVariants as asked
 use Rattle.fmtcanon.specs.declared.formats.Notation.{Notation}
 use Rattle.fmtcanon.specs.declared.formats.Notation.TheVariants.{Bytes, Literals}
 use Rattle.fmtcanon.specs.Models.{model_in, models_in}

@@ -1,8 +1,8 @@
 -- Arguments that have no type yet. This project's own.
 use Rattle.pf_values.specs.Arg.{bytes_of}
 use Rattle.pf_values.specs.Arguments.{Argument, Number, String}
-use Rattle.fmtcanon.specs.declared.untyped.UntypedArg.{UntypedArg}
-use Rattle.fmtcanon.specs.declared.untyped.UntypedArg.TheVariants as variants
+use Rattle.fmtcanon.specs.declared.arguments.UntypedArg.{UntypedArg}
+use Rattle.fmtcanon.specs.declared.arguments.UntypedArg.TheVariants as variants
 
 -- the argument that it stands for
 abbrev pub argument_given : UntypedArg → Argument

@@ -1,15 +1,35 @@
 //! The answer to a question.
-ghost use Rattle.std.specs.Prelude.{◌≡◌, Err, MatchResult, Ok};
-ghost use Rattle.fmtcanon.specs.Answers.{IsAnswer, IsHindered};
+ghost use Rattle.std.specs.Prelude.{◌≡◌, Err, MatchResult, Ok, IfOk, MatchOption, Some, map};
+ghost use Rattle.fmtcanon.specs.Answers.{IsAnswer, IsHindered, HasCanonicalLine, HindersFormat, HindersGiven, HindersPair, HindersWhole, IsAcceptedWhole, IsToldBySide, IsToldOf, side_of};
 ghost use Rattle.fmtcanon.specs.declared.answer.Ending.TheVariants.{Done};
+ghost use Rattle.pf_canon.specs.declared.sides.Side.TheVariants as sides;
+ghost use Rattle.pf_values.specs.Items.{IsAccepted};
+ghost use Rattle.pf_values.specs.Text.{Text};
+ghost use Rattle.fmtcanon.specs.ArgumentLines.{HasArgumentLines, IsFitAnswer};
+ghost use Rattle.fmtcanon.specs.Comparisons.{IsComparisonIn};
+ghost use Rattle.fmtcanon.specs.Faults.{of_literal};
+ghost use Rattle.fmtcanon.specs.FormatArguments.{HindersArguments, IsPrinted};
+ghost use Rattle.fmtcanon.specs.Formats.{IsFormat};
+ghost use Rattle.fmtcanon.specs.Lines.{line};
+ghost use Rattle.fmtcanon.specs.Shows.{HasShownLines};
+ghost use Rattle.fmtcanon.specs.TypeLines.{HasTypeLines};
+ghost use Rattle.fmtcanon.specs.declared.formats.GivenFormat.{GivenFormat};
 
-use crate::fault::Fault;
-use crate::given_answers::{
-    arguments_of_given, canonical_of_given, comparison_of_given, fit_of_given, parts_of_given,
-    printed_by_given, types_of_given,
-};
-use crate::questions::Question;
-use std::alloc::Global;
+use crate::argument_lines::{argument_lines, fit_answer};
+use crate::comparison::comparison_answer;
+use crate::formats::{GivenFormat, Notation};
+use crate::models::Models;
+use crate::outcome::Fault;
+use crate::run::print_format;
+use crate::show_lines::show_lines;
+use crate::task::Question;
+use crate::type_lines::type_lines;
+use pf_canon::{Side, canonical};
+use pf_literals::LiteralFault;
+use pf_signatures::{SignatureRefusal, arguments};
+use pf_text::{Refusal, check};
+use pf_values::Model;
+use std::alloc::{AllocError, Global};
 
 /// How a run ends that writes all of an answer.
 #[derive(Clone, Copy, Debug, PartialEq, Eq)]
@@ -69,4 +89,258 @@ fn done(bytes: Result<Vec<u8>, Fault>) -> Result<Answer, Fault>
         bytes: bytes?,
         ending: Ending::Done,
     })
+}
+
+/// The lines of `types` for a format that is given.
+pub fn types_of_given(
+    alloc: Global,
+    model: Model,
+    format: &GivenFormat<'_>,
+) -> Result<Vec<u8>, Fault>
+    ensures { MatchResult result (λ out. (bytes : Text) × IsFormat format.now bytes
+        × HasTypeLines model bytes out.items)
+        (HindersGiven HindersFormat format.now) }
+{
+    let bytes = format.bytes(alloc)?;
+    match type_lines(alloc, model, bytes.as_slice()) {
+        Ok(out) => Ok(out),
+        Err(fault) => Err(told_of(format, fault)),
+    }
+}
+
+/// Those of `types --whole`.
+pub fn arguments_of_given(
+    alloc: Global,
+    model: Model,
+    format: &GivenFormat<'_>,
+) -> Result<Vec<u8>, Fault>
+    ensures { MatchResult result (λ out. (bytes : Text) × IsFormat format.now bytes
+        × HasArgumentLines model bytes out.items)
+        (HindersGiven (HindersWhole model) format.now) }
+{
+    let bytes = format.bytes(alloc)?;
+    match argument_lines(alloc, model, bytes.as_slice()) {
+        Ok(out) => Ok(out),
+        Err(fault) => Err(told_of(format, fault)),
+    }
+}
+
+/// The line of `canon`.
+pub fn canonical_of_given(
+    alloc: Global,
+    model: Model,
+    format: &GivenFormat<'_>,
+) -> Result<Vec<u8>, Fault>
+    ensures { MatchResult result (λ out. (bytes : Text) × IsFormat format.now bytes
+        × HasCanonicalLine format.now.notation model bytes out.items)
+        (HindersGiven HindersFormat format.now) }
+{
+    let bytes = format.bytes(alloc)?;
+    match canonical_line(alloc, format.notation, model, bytes.as_slice()) {
+        Ok(out) => Ok(out),
+        Err(fault) => Err(told_of(format, fault)),
+    }
+}
+
+/// The lines of `show`.
+pub fn parts_of_given(
+    alloc: Global,
+    model: Model,
+    format: &GivenFormat<'_>,
+) -> Result<Vec<u8>, Fault>
+    ensures { MatchResult result (λ out. (bytes : Text) × IsFormat format.now bytes
+        × HasShownLines model bytes out.items)
+        (HindersGiven HindersFormat format.now) }
+{
+    let bytes = format.bytes(alloc)?;
+    match show_lines(alloc, model, bytes.as_slice()) {
+        Ok(out) => Ok(out),
+        Err(fault) => Err(told_of(format, fault)),
+    }
+}
+
+/// What such a format prints for the arguments that words give.
+pub fn printed_by_given(
+    alloc: Global,
+    model: Model,
+    format: &GivenFormat<'_>,
+    words: &[&str],
+) -> Result<Vec<u8>, Fault>
+    ensures { MatchResult result (λ out. (bytes : Text) × IsFormat format.now bytes
+        × IsPrinted model bytes (map (λ s. s.now) words.now) out.items)
+        (HindersGiven (λ bytes. HindersArguments model bytes (map (λ s. s.now) words.now)) format.now) }
+{
+    let bytes = format.bytes(alloc)?;
+    match print_format(alloc, model, bytes.as_slice(), words) {
+        Ok(out) => Ok(out),
+        Err(fault) => Err(told_of(format, fault)),
+    }
+}
+
+/// Whether the second of two formats that are given takes just the arguments of the first.
+pub fn fit_of_given(
+    alloc: Global,
+    model: Model,
+    first: &GivenFormat<'_>,
+    second: &GivenFormat<'_>,
+) -> Result<Answer, Fault>
+    ensures { MatchResult result (λ answer.
+        (one other : Text) × IsFormat first.now one × IsFormat second.now other
+        × IsFitAnswer model one other answer.bytes.items answer.ending)
+        (HindersPair (HindersWhole model) (IsAcceptedWhole model) first.now second.now) }
+{
+    let one = match first.bytes(alloc) {
+        Ok(bytes) => bytes,
+        Err(fault) => return Err(Fault::of_literal(Some(Side::First), fault)),
+    };
+    let other = match second.bytes(alloc) {
+        Ok(bytes) => bytes,
+        Err(fault) => return Err(without_second(
+            refused_whole(model, first, one.as_slice()),
+            fault,
+        )),
+    };
+    match fit_answer(alloc, model, one.as_slice(), other.as_slice()) {
+        Ok(answer) => Ok(answer),
+        Err(fault) => Err(told_of_pair(first, second, fault)),
+    }
+}
+
+/// Whether one of them may stand for the other.
+pub fn comparison_of_given(
+    alloc: Global,
+    models: Models,
+    first: &GivenFormat<'_>,
+    second: &GivenFormat<'_>,
+) -> Result<Answer, Fault>
+    ensures { MatchResult result (λ answer.
+        (one other : Text) × IsFormat first.now one × IsFormat second.now other
+        × IsComparisonIn models one other answer.bytes.items answer.ending)
+        (HindersPair HindersFormat IsAccepted first.now second.now) }
+{
+    let one = match first.bytes(alloc) {
+        Ok(bytes) => bytes,
+        Err(fault) => return Err(Fault::of_literal(Some(Side::First), fault)),
+    };
+    let other = match second.bytes(alloc) {
+        Ok(bytes) => bytes,
+        Err(fault) => return Err(without_second(refused(first, one.as_slice()), fault)),
+    };
+    match comparison_answer(alloc, models, one.as_slice(), other.as_slice()) {
+        Ok(answer) => Ok(answer),
+        Err(fault) => Err(told_of_pair(first, second, fault)),
+    }
+}
+
+// What is told where the second of two formats has no bytes: the first is looked at before it.
+fn without_second(first_refused: Option<Fault>, fault: LiteralFault) -> Fault
+    ensures { MatchOption first_refused (result ≡ of_literal (Some sides.Second) fault)
+        (λ refused. result ≡ refused) }
+{
+    match first_refused {
+        Some(refused) => refused,
+        None => Fault::of_literal(Some(Side::Second), fault),
+    }
+}
+
+// The refusal of the first of two formats, if it is refused.
+fn refused(first: &GivenFormat<'_>, bytes: &[u8]) -> Option<Fault>
+    ensures { IsFormat first.now bytes.now → MatchOption result (IsAccepted bytes.now)
+        (λ fault. (second : GivenFormat)
+        → HindersPair HindersFormat IsAccepted first.now second fault) }
+{
+    match check(bytes) {
+        Ok(()) => None,
+        Err(refusal) => Some(told_of(
+            first,
+            Fault::Refused {
+                side: Some(Side::First),
+                refusal,
+            },
+        )),
+    }
+}
+
+fn refused_whole(model: Model, first: &GivenFormat<'_>, bytes: &[u8]) -> Option<Fault>
+    ensures { IsFormat first.now bytes.now → MatchOption result (IsAcceptedWhole model bytes.now)
+        (λ fault. (second : GivenFormat)
+        → HindersPair (HindersWhole model) (IsAcceptedWhole model) first.now second fault) }
+{
+    match arguments(model, bytes, &mut []) {
+        Ok(_) => None,
+        Err(refusal) => Some(told_of(
+            first,
+            Fault::RefusedWhole {
+                side: Some(Side::First),
+                refusal,
+            },
+        )),
+    }
+}
+
+// What is told of a fault of the bytes of a format.
+fn told_of(format: &GivenFormat<'_>, fault: Fault) -> Fault
+    ensures { IsToldOf format.now fault result }
+{
+    match fault {
+        Fault::Refused { side, refusal } => Fault::Refused {
+            side,
+            refusal: Refusal {
+                kind: refusal.kind,
+                at: format.place_of(refusal.at),
+            },
+        },
+        Fault::RefusedWhole { side, refusal } => Fault::RefusedWhole {
+            side,
+            refusal: SignatureRefusal {
+                kind: refusal.kind,
+                at: format.place_of(refusal.at),
+            },
+        },
+        _ => fault,
+    }
+}
+
+// What is told of a fault of two formats, of which it may be a refusal of the second.
+fn told_of_pair(first: &GivenFormat<'_>, second: &GivenFormat<'_>, fault: Fault) -> Fault
+    ensures { IsToldBySide first.now second.now (side_of fault) fault result }
+{
+    match side_of(fault) {
+        Some(Side::Second) => told_of(second, fault),
+        Some(Side::First) => told_of(first, fault),
+        None => told_of(first, fault),
+    }
+}
+
+// The side that a refusal tells.
+fn side_of(fault: Fault) -> Option<Side>
+    ensures { result ≡ side_of fault }
+{
+    match fault {
+        Fault::Refused { side, .. } => side,
+        Fault::RefusedWhole { side, .. } => side,
+        _ => None,
+    }
+}
+
+// The canonical string of a format in a notation, and a newline.
+fn canonical_line(
+    alloc: Global,
+    notation: Notation,
+    model: Model,
+    format: &[u8],
+) -> Result<Vec<u8>, Fault>
+    ensures { MatchResult result (λ out. HasCanonicalLine notation model format.now out.items)
+        (HindersFormat format.now) }
+{
+    let canonical = canonical(alloc, model, format)?;
+    Ok(with_newline(notation.write(alloc, canonical)?)?)
+}
+
+// A text with a newline after it.
+fn with_newline(mut text: Vec<u8>) -> Result<Vec<u8>, AllocError>
+    ensures { IfOk result (λ out. out.items ≡ line text.items) }
+{
+    text.push(b'\n')?;
+    Ok(text)
 }

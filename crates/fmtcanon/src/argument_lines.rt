@@ -6,7 +6,7 @@ ghost use Rattle.fmtcanon.specs.ArgumentLines.{HasArgumentLines, IsFitAnswer, ar
 ghost use Rattle.fmtcanon.specs.Lines.{line};
 
 use crate::answer::{Answer, Ending};
-use crate::fault::Fault;
+use crate::outcome::Fault;
 use itoa::Buffer;
 use pf_canon::Side;
 use pf_signatures::{ArgumentType, FitsRefusal, arguments_vec, fits};

@@ -6,8 +6,8 @@ ghost use Rattle.fmtcanon.specs.Lines.{line};
 
 use crate::answer::{Answer, Ending};
 use crate::argument_lines::types_line;
-use crate::fault::Fault;
 use crate::models::{Models, name_of};
+use crate::outcome::Fault;
 use pf_compare::{OwnedArg, Verdict, compare};
 use pf_values::Model;
 use std::alloc::{AllocError, Global};

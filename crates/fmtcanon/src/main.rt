@@ -3,19 +3,14 @@
 
 mod answer;
 mod argument_lines;
-mod argument_words;
+mod arguments;
 mod command;
 mod command_texts;
 mod comparison;
-mod fault;
-mod format_arguments;
 mod formats;
-mod given_answers;
 mod laws;
 mod models;
 mod outcome;
-mod printing;
-mod questions;
 mod records;
 mod replies;
 mod report;
@@ -26,7 +21,6 @@ mod task;
 #[cfg(test)]
 mod tests;
 mod type_lines;
-mod untyped;
 
 use outcome::Outcome;
 use pf_values::Counted;

@@ -9,8 +9,8 @@ ghost use Rattle.fmtcanon.specs.Questions.{IsAbout, formats_wanted};
 ghost use Rattle.fmtcanon.specs.Records.{LeavesRecords, RepliesFirst, Reply, last_record};
 
 use crate::outcome::Outcome;
-use crate::questions::{Question, RecordQuestion};
 use crate::replies::Replies;
+use crate::task::{Question, RecordQuestion};
 use memchr::memchr;
 use pf_values::Counted;
 use std::alloc::{AllocError, Global};

@@ -6,13 +6,12 @@ ghost use Rattle.fmtcanon.specs.Conversations.{HasReplies, HasSaid, HasSaidFirst
 ghost use Rattle.fmtcanon.specs.Outcomes.{status_of};
 ghost use Rattle.fmtcanon.specs.Questions.{IsAbout};
 ghost use Rattle.fmtcanon.specs.Records.{IsReply, Reply, reply_bytes};
-ghost use Rattle.fmtcanon.specs.declared.questions.RecordQuestion.{RecordQuestion};
+ghost use Rattle.fmtcanon.specs.declared.task.RecordQuestion.{RecordQuestion};
 
 use crate::answer::answer_to;
-use crate::fault::Fault;
-use crate::outcome::Outcome;
-use crate::questions::Question;
+use crate::outcome::{Fault, Outcome};
 use crate::report::fault_line;
+use crate::task::Question;
 use pf_values::{Counted, write_bytes};
 use std::alloc::{AllocError, Global};
 use std::io::Write;

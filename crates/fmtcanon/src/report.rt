@@ -9,8 +9,7 @@ ghost use Rattle.fmtcanon.specs.Lines.{line};
 ghost use Rattle.fmtcanon.specs.Outcomes.{outcome_of_fault};
 ghost use Rattle.fmtcanon.specs.Reports.{Tells, fault_told, literal_told, refusal_told, side_told, told, whole_told};
 
-use crate::fault::Fault;
-use crate::outcome::Outcome;
+use crate::outcome::{Fault, Outcome};
 use arrayvec::ArrayString;
 use itoa::Buffer;
 use pf_canon::Side;

@@ -1,15 +1,17 @@
 //! A run of the program.
-ghost use Rattle.std.specs.Prelude.{map};
+ghost use Rattle.std.specs.Prelude.{map, IfErr, IfOk};
 ghost use Rattle.fmtcanon.specs.Outcomes.{outcome_of};
 ghost use Rattle.fmtcanon.specs.Runs.{Leaves, LeavesAnswer, LeavesBytes};
+ghost use Rattle.fmtcanon.specs.FormatArguments.{HindersArguments, IsPrinted};
 
 use crate::answer::{Answer, answer_to};
-use crate::outcome::Outcome;
-use crate::questions::Question;
+use crate::arguments::arguments_for;
+use crate::outcome::{Fault, Outcome};
 use crate::records::answer_records;
 use crate::stream::copy;
-use crate::task::{NoTask, Task, task_of};
-use pf_values::{Counted, write_bytes};
+use crate::task::{NoTask, Question, Task, task_of};
+use pf_render::{RenderVecFault, render_vec};
+use pf_values::{Counted, Model, write_bytes};
 use std::alloc::Global;
 use std::io::{Read, Write};
 
@@ -57,5 +59,27 @@ fn write_answer<W: Write>(answer: &Answer, writer: &mut Counted<W>) -> Outcome
     match writer.flush() {
         Ok(()) => Outcome::of_ending(answer.ending),
         Err(_) => Outcome::Write(answer.bytes.len() as u128),
+    }
+}
+
+/// What a format prints in a data model for the arguments that words give.
+pub fn print_format(
+    alloc: Global,
+    model: Model,
+    format: &[u8],
+    words: &[&str],
+) -> Result<Vec<u8>, Fault>
+    ensures ok { IfOk result
+        (λ out. IsPrinted model format.now (map (λ s. s.now) words.now) out.items) }
+    ensures err { IfErr result (HindersArguments model format.now (map (λ s. s.now) words.now)) }
+{
+    let args = arguments_for(alloc, model, format, words)?;
+    match render_vec(alloc, model, format, &args) {
+        Ok(out) => Ok(out),
+        Err(fault) => match fault {
+            RenderVecFault::Memory => Err(Fault::Memory),
+            // The format takes just these arguments.
+            _ => unreachable!(),
+        },
     }
 }

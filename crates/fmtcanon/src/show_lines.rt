@@ -10,7 +10,7 @@ ghost use Rattle.fmtcanon.specs.Lines.{line};
 ghost use Rattle.fmtcanon.specs.Shows.{HasShownLines, IsLineOf, reduced_line, reduced_text, shown_of};
 ghost use Rattle.fmtcanon.specs.TypeLines.{type_name};
 
-use crate::fault::Fault;
+use crate::outcome::Fault;
 use crate::type_lines::type_name;
 use itoa::Buffer;
 use pf_reduce::{Core, Reduced, reduce};

@@ -3,7 +3,7 @@ ghost use Rattle.std.specs.Prelude.{◌≡◌, IfOk, MatchResult, flat_map};
 ghost use Rattle.fmtcanon.specs.Answers.{HindersFormat};
 ghost use Rattle.fmtcanon.specs.TypeLines.{HasTypeLines, type_line, type_name};
 
-use crate::fault::Fault;
+use crate::outcome::Fault;
 use pf_text::signature;
 use pf_values::{ArgType, Model};
 use std::alloc::{AllocError, Global};

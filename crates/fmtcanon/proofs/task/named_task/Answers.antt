@@ -6,7 +6,7 @@ use Rattle.clap.proofs.WalkLemmas.{first_value-rows, raw_values-rows}
 use Rattle.fmtcanon.specs.Tasks.{HasAllValues, HasValue, IsAsked, Names, rows_in}
 use Rattle.fmtcanon.specs.Words.{the_command}
 use Rattle.fmtcanon.proofs.command_line.WordLemmas.{IsWanted, at_asked, format_wants, value_given}
-use Rattle.fmtcanon.specs.declared.questions.RecordQuestion.TheVariants as asked
+use Rattle.fmtcanon.specs.declared.task.RecordQuestion.TheVariants as asked
 use Rattle.fmtcanon.proofs.TaskLemmas.{asks_if, lacks_if}
 use Rattle.fmtcanon.proofs.task.named_task.Goals as goal
 

@@ -2,7 +2,7 @@ use Rattle.std.proofs.Common.{◌-◌, ◌++◌, ◌≤◌, length, take}
 use Rattle.pf_values.specs.declared.counting.Counted.{Counted}
 use Rattle.pf_values.specs.Text.{Text}
 use Rattle.fmtcanon.specs.Conversations.{IsAtText}
-use Rattle.fmtcanon.specs.declared.questions.RecordQuestion.{RecordQuestion}
+use Rattle.fmtcanon.specs.declared.task.RecordQuestion.{RecordQuestion}
 use Rattle.fmtcanon.proofs.records.Conversation.take.Given as goal
 
 -- what has been taken of the block
