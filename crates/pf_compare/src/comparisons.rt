@@ -33,6 +33,21 @@ pub fn compare(alloc: Global, model: Model, f: &[u8], g: &[u8]) -> Result<Compar
             renderings: 0,
         });
     }
+    compare_apart(alloc, model, f, g)
+}
+
+// The same of two formats that aren't equivalent.
+#[inline(never)]
+fn compare_apart(
+    alloc: Global,
+    model: Model,
+    f: &[u8],
+    g: &[u8],
+) -> Result<Comparison, CompareFault>
+    requires { AreTextsSame model f.now g.now false }
+    ensures { MatchResult result (IsComparisonOf model f.now g.now)
+        (HindersComparison model f.now g.now) }
+{
     if let Some(difference) = lone_difference(f, g) {
         return compare_lone(alloc, model, f, g, &difference);
     }

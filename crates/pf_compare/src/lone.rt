@@ -19,17 +19,22 @@ pub(crate) struct LoneDifference {
     pub(crate) second: Directive,
 }
 
-/// Where two formats differ in one directive alone, if they do. It takes no memory.
+/// Where two formats differ in one directive alone, if that is found. It takes no memory.
 pub(crate) fn lone_difference(f: &[u8], g: &[u8]) -> Option<LoneDifference>
     ensures { IfSome result (FormatsDifferInOne f.now g.now) }
 {
+    if !part_in_directive(f, g) {
+        return None;
+    }
     let mut found = None;
     let mut index = 0;
     let mut others = Pieces::new(g);
     for piece in Pieces::new(f) {
         match piece {
             Ok(piece) => {
-                found = with_next(found, index, &piece, &mut others)?;
+                if !go_on_alike(&mut found, index, &piece, &mut others) {
+                    return None;
+                }
                 index += arg_count(&piece);
             }
             Err(_) => return None,
@@ -41,49 +46,93 @@ pub(crate) fn lone_difference(f: &[u8], g: &[u8]) -> Option<LoneDifference>
     }
 }
 
-// What is found with one piece more of each format, if no other directive differs, and nothing else.
-fn with_next(
-    found: Option<LoneDifference>,
+// Whether two texts part inside of what looks like a directive. Where they part among literal bytes
+// they differ in these, and needn't be read.
+fn part_in_directive(f: &[u8], g: &[u8]) -> bool {
+    ends_in_directive(&f[..common_len(f, g)])
+}
+
+// How many bytes two texts begin with in common.
+fn common_len(f: &[u8], g: &[u8]) -> usize
+    ensures { result ≤ length f.now }
+{
+    let most = f.len().min(g.len());
+    for at in 0..most {
+        if f[at] != g[at] {
+            return at;
+        }
+    }
+    most
+}
+
+// Whether nothing but parts of a directive stand after the last `%`.
+fn ends_in_directive(text: &[u8]) -> bool {
+    for back in 0..text.len() {
+        match text[text.len() - 1 - back] {
+            b'%' => return true,
+            b'0'..=b'9' | b'.' | b'-' | b'+' | b' ' | b'#' => {}
+            b'h' | b'l' | b'j' | b'z' | b't' => {}
+            _ => return false,
+        }
+    }
+    false
+}
+
+// Whether the second format goes on as the first does with a piece, but for one directive in all,
+// which is noted.
+fn go_on_alike(
+    found: &mut Option<LoneDifference>,
     index: usize,
     piece: &Piece<'_>,
     others: &mut Pieces<'_>,
-) -> Option<Option<LoneDifference>>
-    ensures { IfSome result (λ after. (g : Text) (xs : List Item)
-        → HasFollowed others.old g xs found → IsIndexAfter xs index
-        → HasFollowed others.new g (xs ++ items_of piece.now) after) }
+) -> bool
+    ensures { IsTrue result → (g : Text) (xs : List Item)
+        → HasFollowed others.old g xs found.old → IsIndexAfter xs index
+        → HasFollowed others.new g (xs ++ items_of piece.now) found.new }
 {
     match others.next() {
         Some(next) => match next {
-            Ok(other) => with_pieces(found, index, piece, &other),
-            Err(_) => None,
+            Ok(other) => are_alike(found, index, piece, &other),
+            Err(_) => false,
         },
-        None => None,
+        None => false,
     }
 }
 
-fn with_pieces(
-    found: Option<LoneDifference>,
+#[inline(always)]
+fn are_alike(
+    found: &mut Option<LoneDifference>,
     index: usize,
     one: &Piece<'_>,
     two: &Piece<'_>,
-) -> Option<Option<LoneDifference>>
-    ensures { IfSome result (λ after. (xs ys : List Item)
-        → DifferInOneAtMost xs ys found → IsIndexAfter xs index
-        → DifferInOneAtMost (xs ++ items_of one.now) (ys ++ items_of two.now) after) }
+) -> bool
+    ensures { IsTrue result → (xs ys : List Item)
+        → DifferInOneAtMost xs ys found.old → IsIndexAfter xs index
+        → DifferInOneAtMost (xs ++ items_of one.now) (ys ++ items_of two.now) found.new }
 {
     if are_same(one, two) {
-        return Some(found);
+        return true;
     }
-    match found {
-        Some(_) => None,
-        None => Some(Some(LoneDifference {
-            index,
-            first: as_directive(one)?,
-            second: as_directive(two)?,
-        })),
+    if found.is_some() {
+        return false;
+    }
+    match as_directive(one) {
+        Some(first) => match as_directive(two) {
+            Some(second) => {
+                *found = Some(LoneDifference {
+                    index,
+                    first,
+                    second,
+                });
+                true
+            }
+            None => false,
+        },
+        None => false,
     }
 }
 
+#[inline(always)]
 fn are_same(one: &Piece<'_>, two: &Piece<'_>) -> bool
     ensures { IsTrue result → items_of one.now ≡ items_of two.now }
 {
