@@ -46,10 +46,21 @@ pub(crate) fn lone_difference(f: &[u8], g: &[u8]) -> Option<LoneDifference>
     }
 }
 
-// Whether two texts part inside of what looks like a directive. Where they part among literal bytes
-// they differ in these, and needn't be read.
+// Whether two texts part inside of what looks like a directive. Where they part or end in literal
+// bytes they differ in these, and needn't be read.
 fn part_in_directive(f: &[u8], g: &[u8]) -> bool {
-    ends_in_directive(&f[..common_len(f, g)])
+    end_alike(f.last(), g.last()) && ends_in_directive(&f[..common_len(f, g)])
+}
+
+// Whether two texts with these last bytes end in one byte, or each in what may be a conversion.
+#[inline(always)]
+fn end_alike(one: Option<&u8>, two: Option<&u8>) -> bool {
+    if let Some(one) = one {
+        if let Some(two) = two {
+            return one == two || (one.is_ascii_alphabetic() && two.is_ascii_alphabetic());
+        }
+    }
+    false
 }
 
 // How many bytes two texts begin with in common.
