@@ -1,15 +1,18 @@
 //! Comparing two formats.
-ghost use Rattle.std.specs.Prelude.{IfOk, MatchResult, false};
+ghost use Rattle.std.specs.Prelude.{◌≡◌, ◌≢◌, IfOk, MatchBool, MatchResult, false};
+ghost use Rattle.pf_values.specs.DataModel.{arg_type};
 ghost use Rattle.pf_canon.specs.Comparing.{AreTextsSame};
 ghost use Rattle.pf_compare.specs.Answers.{HaveSameTypes, HindersComparison, IsComparisonOf};
+ghost use Rattle.pf_compare.specs.Lone.{FormatsDifferInOne};
 
 use crate::faults::CompareFault;
 use crate::layouts::lay_out;
+use crate::lone::{LoneDifference, lone_difference};
 use crate::type_lists::first_other_type;
 use crate::verdicts::{Comparison, Verdict};
-use crate::witnesses::{Witness, first_witness};
+use crate::witnesses::{Witness, first_witness, lone_witness};
 use pf_canon::same_text;
-use pf_values::Model;
+use pf_values::{Directive, Model};
 use std::alloc::{AllocError, Global};
 
 /// Compares two formats in a data model. Equivalent ones are `Same`. Else they differ in their
@@ -30,6 +33,24 @@ pub fn compare(alloc: Global, model: Model, f: &[u8], g: &[u8]) -> Result<Compar
             renderings: 0,
         });
     }
+    compare_apart(alloc, model, f, g)
+}
+
+// The same of two formats that aren't equivalent.
+#[inline(never)]
+fn compare_apart(
+    alloc: Global,
+    model: Model,
+    f: &[u8],
+    g: &[u8],
+) -> Result<Comparison, CompareFault>
+    requires { AreTextsSame model f.now g.now false }
+    ensures { MatchResult result (IsComparisonOf model f.now g.now)
+        (HindersComparison model f.now g.now) }
+{
+    if let Some(difference) = lone_difference(f, g) {
+        return compare_lone(alloc, model, f, g, &difference);
+    }
     if let Some(index) = first_other_type(model, f, g) {
         return Ok(Comparison {
             verdict: Verdict::Types(index),
@@ -37,6 +58,57 @@ pub fn compare(alloc: Global, model: Model, f: &[u8], g: &[u8]) -> Result<Compar
         });
     }
     Ok(compare_bytes(alloc, model, f, g)?)
+}
+
+// The same of two formats that differ in one directive alone, and aren't equivalent.
+fn compare_lone(
+    alloc: Global,
+    model: Model,
+    f: &[u8],
+    g: &[u8],
+    difference: &LoneDifference,
+) -> Result<Comparison, CompareFault>
+    requires apart { AreTextsSame model f.now g.now false }
+    requires lone { FormatsDifferInOne f.now g.now difference.now }
+    ensures { MatchResult result (IsComparisonOf model f.now g.now)
+        (HindersComparison model f.now g.now) }
+{
+    if have_other_types(model, &difference.first, &difference.second) {
+        return Ok(Comparison {
+            verdict: Verdict::Types(difference.index as u64),
+            renderings: 0,
+        });
+    }
+    Ok(compare_directives(alloc, model, f, g, difference)?)
+}
+
+fn have_other_types(model: Model, first: &Directive, second: &Directive) -> bool
+    ensures { MatchBool result (arg_type model first.now ≢ arg_type model second.now)
+        (arg_type model first.now ≡ arg_type model second.now) }
+{
+    first.arg_type(model) != second.arg_type(model)
+}
+
+// The same where these are of one type.
+fn compare_directives(
+    alloc: Global,
+    model: Model,
+    f: &[u8],
+    g: &[u8],
+    difference: &LoneDifference,
+) -> Result<Comparison, AllocError>
+    requires apart { AreTextsSame model f.now g.now false }
+    requires lone { FormatsDifferInOne f.now g.now difference.now }
+    requires types { arg_type model difference.now.first ≡ arg_type model difference.now.second }
+    ensures { IfOk result (IsComparisonOf model f.now g.now) }
+{
+    match lone_witness(alloc, model, f, difference)? {
+        Some(Witness { args, renderings }) => Ok(Comparison {
+            verdict: Verdict::Args(args),
+            renderings,
+        }),
+        None => unreachable!(),
+    }
 }
 
 // The same of two formats with the same types, which differ in what they print.

@@ -1,5 +1,6 @@
-//! The first argument that tells two formats apart, where they print the same for neutral ones.
-ghost use Rattle.std.specs.Prelude.{◌≡◌, ◌≢◌, ◌≤◌, ◌+◌, ◌-◌, ◌++◌, IfOk, IfSome, IsTrue, List, MatchBool, drop, length, take};
+//! The first argument that tells two formats apart, where they print the same for neutral ones, and
+//! the first that tells two directives apart.
+ghost use Rattle.std.specs.Prelude.{◌≡◌, ◌≢◌, ◌≤◌, ◌+◌, ◌-◌, [], ◌++◌, IfOk, IfSome, IsTrue, List, MatchBool, drop, length, take};
 ghost use Rattle.pf_values.specs.Arg.{argument_of};
 ghost use Rattle.pf_values.specs.Arguments.{HasType};
 ghost use Rattle.pf_values.specs.Candidates.{neutral};
@@ -8,7 +9,8 @@ ghost use Rattle.pf_values.specs.Items.{Item, types};
 ghost use Rattle.pf_values.specs.declared.models.Model.TheVariants.{Lp64};
 ghost use Rattle.pf_probes.specs.Candidate as probes;
 ghost use Rattle.pf_compare.specs.Answers.{FindsProbe};
-ghost use Rattle.pf_compare.specs.Layouts.{AreLevel, FillAlike, FillUnlike, FindsUnlike, IsInside, IsLayoutOf, fill};
+ghost use Rattle.pf_compare.specs.Layouts.{AreLevel, AreTriedBelow, FillAlike, FillUnlike, FindsUnlike, IsInside, IsLayoutOf, fill};
+ghost use Rattle.pf_compare.specs.Lone.{alone};
 ghost use Rattle.pf_compare.specs.Spaces.{AreAlikeFor};
 
 use crate::equality::are_equal;
@@ -17,7 +19,7 @@ use crate::layouts::{Hole, Layout, print};
 use crate::owned_args::OwnedArg;
 use crate::spaces::Alike;
 use pf_probes::{Candidate, candidate_row};
-use pf_values::{Arg, ArgType, Model};
+use pf_values::{Arg, ArgType, Directive, Model};
 use std::alloc::{AllocError, Global};
 
 /// All arguments are neutral, but the one with this index is the candidate of its type with this
@@ -85,7 +87,41 @@ fn first_candidate(
         first,
         second,
         first.directive.arg_type(model),
+        1,
     )
+}
+
+/// The place of the first candidate for which two directives print different bytes: alone, they print
+/// in one hole of an empty text.
+pub(crate) fn first_apart(
+    alloc: Global,
+    model: Model,
+    first: &Directive,
+    second: &Directive,
+) -> Result<Option<usize>, AllocError>
+    requires one_type { arg_type model first.now ≡ arg_type model second.now }
+    ensures { IfOk result (FindsUnlike model [] (alone first.now) (alone second.now)
+        (arg_type model first.now)) }
+{
+    first_of(
+        alloc,
+        model,
+        b"",
+        &alone(first),
+        &alone(second),
+        first.arg_type(model),
+        0,
+    )
+}
+
+fn alone(directive: &Directive) -> Hole
+    ensures { result ≡ alone directive.now }
+{
+    Hole {
+        directive: *directive,
+        start: 0,
+        end: 0,
+    }
 }
 
 fn are_one(first: &Hole, second: &Hole) -> bool
@@ -101,8 +137,8 @@ fn have_one_place(first: &Hole, second: &Hole) -> bool
     first.start == second.start && first.end == second.end
 }
 
-// The place of the first candidate of their type that does. It is not the neutral one, which is the
-// first.
+// The place of the first candidate of their type that does, from a place before which none does. The
+// neutral one is the first.
 fn first_of(
     alloc: Global,
     model: Model,
@@ -110,17 +146,18 @@ fn first_of(
     first: &Hole,
     second: &Hole,
     wanted: ArgType,
+    from: usize,
 ) -> Result<Option<usize>, AllocError>
     requires first_type { arg_type model first.now.directive ≡ wanted }
     requires second_type { arg_type model second.now.directive ≡ wanted }
-    requires neutral { FillAlike model whole.now first.now second.now (neutral wanted) }
+    requires tried { AreTriedBelow model whole.now first.now second.now wanted from }
     requires first { IsInside whole.now first.now }
     requires second { IsInside whole.now second.now }
     ensures { IfOk result (FindsUnlike model whole.now first.now second.now wanted) }
 {
     let row = candidate_row(model, wanted);
     let known = Alike::of(&first.directive, &second.directive);
-    let mut place = 1;
+    let mut place = from;
     while place < row.len() {
         if tell_apart(
             alloc, model, whole, first, second, known, wanted, row[place],

@@ -68,8 +68,8 @@ fn is_type(given: Option<ArgType>, wanted: ArgType) -> bool
     }
 }
 
-// The type of the argument that a piece takes, if it takes one.
-fn arg_type(model: Model, piece: &Piece<'_>) -> Option<ArgType>
+/// The type of the argument that a piece takes, if it takes one.
+pub(crate) fn arg_type(model: Model, piece: &Piece<'_>) -> Option<ArgType>
     ensures { option_to_list result ≡ types model (items_of piece.now) }
 {
     match piece {

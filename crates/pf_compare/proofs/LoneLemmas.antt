@@ -1,0 +1,332 @@
+-- Two formats that differ in one directive alone.
+use Rattle.std.proofs.Common.{◌≡◌, ◌≢◌, ℕ, zero, suc, ◌+◌, List, [], ◌∷◌, ◌++◌, length, refl, sym, ap, ◌∙◌, subst, arith, Some, None, Option, Ok, Result, inl, inr}
+use Rattle.std.specs.Prelude.{slice_get, slice_set, IfSome}
+use Rattle.std.proofs.lemmas.Bool.{cases_lt}
+use Rattle.std.proofs.lemmas.List.{append_assoc, append_cancel_left, append_cancel_right, length-append}
+use Rattle.pf_values.specs.declared.models.Model.{Model}
+use Rattle.pf_values.specs.Arguments.{Argument, HasType, HasTypes}
+use Rattle.pf_values.specs.Candidates.{candidates, neutral, neutrals}
+use Rattle.pf_values.specs.DataModel.{arg_type}
+use Rattle.pf_values.specs.Items.{Item, Byte, Directive, Reads, types}
+use Rattle.pf_values.specs.Printing.{Prints}
+use Rattle.pf_values.specs.Specification.{Specification}
+use Rattle.pf_values.specs.Text.{Text}
+use Rattle.pf_values.proofs.Alike.{PrintsAll-unique, all_printed, all_printed-is}
+use Rattle.pf_values.proofs.ItemTypes.{types-append}
+use Rattle.pf_values.proofs.PrintsOnce.{Prints-unique, printed_text}
+use Rattle.pf_probes.proofs.Probes.{probe_typed}
+use Rattle.pf_text.specs.declared.pieces.Piece.{Piece}
+use Rattle.pf_text.specs.declared.pieces.Pieces.{Pieces}
+use Rattle.pf_text.specs.declared.refusal.Refusal.{Refusal}
+use Rattle.pf_text.specs.PieceHistory.{Gives, GivesNext, GivesPiece, HasGiven, items_of}
+use Rattle.pf_text.proofs.Texts.{Reads-unique}
+use Rattle.pf_compare.specs.declared.lone.LoneDifference.{LoneDifference}
+use Rattle.pf_compare.specs.declared.owned_args.OwnedArg.{OwnedArg}
+use Rattle.pf_compare.specs.declared.witnesses.Witness.{Witness}
+use Rattle.pf_compare.specs.Answers.{HaveSameTypes, IsCandidateAt, PrintTheSame, PrintUnlike, probe_at}
+use Rattle.pf_compare.specs.Layouts.{FillAlike, FillUnlike, FindsUnlike, IsFirstUnlike}
+use Rattle.pf_compare.specs.Lone.{DifferInOne, DifferInOneAtMost, FormatsDifferInOne, HasFollowed, IsIndexAfter, alone}
+use Rattle.pf_compare.specs.Witnesses.{AreNeutral, AwaitsCandidate, FindsWitness, IsWitnessAt}
+use Rattle.pf_compare.proofs.CandidateLemmas.{candidate_has_type, contains_at}
+use Rattle.pf_compare.proofs.ProbeLemmas.{neutral_first, set_neutral}
+use Rattle.pf_compare.proofs.TypeListLemmas.{differ_after_front}
+use Rattle.pf_render.specs.Rendering.{DifferFirstAt}
+
+-- one piece more of each
+pub same_more : (xs ys : List Item) (found : Option LoneDifference) (more : List Item) → DifferInOneAtMost xs ys found → DifferInOneAtMost (xs ++ more) (ys ++ more) found
+same_more xs ys None more h = ap (λ l. l ++ more) h
+same_more xs ys (Some difference) more h = record {
+  before = h.before;
+  after = h.after ++ more;
+  first_is = ap (λ l. l ++ more) h.first_is ∙ append_assoc h.before (Directive difference.first ∷ h.after) more;
+  second_is = ap (λ l. l ++ more) h.second_is ∙ append_assoc h.before (Directive difference.second ∷ h.after) more;
+  index_is = h.index_is;
+}
+
+pub followed_more : (old new : Pieces) (t : Text) (xs more : List Item) (found after : Option LoneDifference) (next : Result Piece Refusal) (piece : Piece) → HasFollowed old t xs found → Gives old (Some next) new → next ≡ Ok piece
+    → ((ys : List Item) → DifferInOneAtMost xs ys found → DifferInOneAtMost (xs ++ more) (ys ++ items_of piece) after) → HasFollowed new t (xs ++ more) after
+followed_more old new t xs more found after next piece h steps e made =
+    let g : GivesPiece new t h.read h.items piece = subst (λ r. GivesNext (Some r) new t h.read h.items) e (steps.next t h.read h.items h.given) in
+    record { read = h.read ++ g.more; items = h.items ++ items_of piece; given = g.given; at_most = made h.items h.at_most }
+
+pub index_more : (xs more : List Item) (index count : ℕ) → IsIndexAfter xs index → ((model : Model) → count ≡ length (types model more)) → IsIndexAfter (xs ++ more) (index + count)
+index_more xs more index count h g model = omega (arith, h model, g model, ap length (types-append model xs more), length-append (types model xs) (types model more))
+
+-- places of a list where one is set
+set_at : {A : Type 0} (xs : List A) (i : ℕ) (x y : A) → slice_get xs i ≡ Some y → slice_get (slice_set xs i x) i ≡ Some x
+set_at [] i x y e = absurd (cc)
+set_at (a ∷ xs) zero x y e = refl
+set_at (a ∷ xs) (suc i) x y e = set_at xs i x y e
+
+set_beside : {A : Type 0} (xs : List A) (i j : ℕ) (x : A) → i ≢ j → slice_get (slice_set xs i x) j ≡ slice_get xs j
+set_beside [] i j x h = refl
+set_beside (a ∷ xs) zero zero x h = absurd (h refl)
+set_beside (a ∷ xs) zero (suc j) x h = refl
+set_beside (a ∷ xs) (suc i) zero x h = refl
+set_beside (a ∷ xs) (suc i) (suc j) x h = set_beside xs i j x (λ e. h (ap suc e))
+
+module _ (model : Model) (s t : Specification) (after : List Item) where
+  type_at : (before : List Item) → slice_get (types model (before ++ Directive s ∷ after)) (length (types model before)) ≡ Some (arg_type model s)
+  type_at [] = refl
+  type_at (Byte byte ∷ before) = type_at before
+  type_at (Directive u ∷ before) = type_at before
+
+  neutral_at : (before : List Item) → slice_get (neutrals (types model (before ++ Directive s ∷ after))) (length (types model before)) ≡ Some (neutral (arg_type model s))
+  neutral_at [] = refl
+  neutral_at (Byte byte ∷ before) = neutral_at before
+  neutral_at (Directive u ∷ before) = neutral_at before
+
+  pub one_type_list : (before : List Item) → arg_type model s ≡ arg_type model t → types model (before ++ Directive s ∷ after) ≡ types model (before ++ Directive t ∷ after)
+  one_type_list [] e = ap (λ type. type ∷ types model after) e
+  one_type_list (Byte byte ∷ before) e = one_type_list before e
+  one_type_list (Directive u ∷ before) e = ap (λ ts. arg_type model u ∷ ts) (one_type_list before e)
+
+  -- what is printed is the same exactly if the one directive prints the same
+  same_all : (before : List Item) (args : List Argument) (n : Argument) → slice_get args (length (types model before)) ≡ Some n → printed_text model s n ≡ printed_text model t n
+      → all_printed model (before ++ Directive s ∷ after) args ≡ all_printed model (before ++ Directive t ∷ after) args
+  same_all [] [] n at e = refl
+  same_all [] (a ∷ args) n at e = let is : n ≡ a = cc in ap (λ u. u ++ all_printed model after args) (subst (λ m. printed_text model s m ≡ printed_text model t m) is e)
+  same_all (Byte byte ∷ before) args n at e = ap (λ u. byte ∷ u) (same_all before args n at e)
+  same_all (Directive u ∷ before) [] n at e = refl
+  same_all (Directive u ∷ before) (a ∷ args) n at e = ap (λ v. printed_text model u a ++ v) (same_all before args n at e)
+
+  one_printed : (before : List Item) (args : List Argument) (n : Argument) → slice_get args (length (types model before)) ≡ Some n
+      → all_printed model (before ++ Directive s ∷ after) args ≡ all_printed model (before ++ Directive t ∷ after) args → printed_text model s n ≡ printed_text model t n
+  one_printed [] [] n at e = absurd (cc)
+  one_printed [] (a ∷ args) n at e = let is : a ≡ n = cc in subst (λ m. printed_text model s m ≡ printed_text model t m) is (append_cancel_right (printed_text model s a) (printed_text model t a) (all_printed model after args) e)
+  one_printed (Byte byte ∷ before) args n at e = one_printed before args n at (cc)
+  one_printed (Directive u ∷ before) [] n at e = absurd (cc)
+  one_printed (Directive u ∷ before) (a ∷ args) n at e = one_printed before args n at (append_cancel_left (printed_text model u a) _ _ e)
+
+  -- in the hole of an empty text
+  module _ (same_type : arg_type model s ≡ arg_type model t) (a : Argument) (typed : HasType model a (arg_type model s)) where
+    first_text : (p : Text) → Prints model s a p → p ≡ printed_text model s a
+    first_text p f = Prints-unique model s a p typed f
+
+    second_text : (q : Text) → Prints model t a q → q ≡ printed_text model t a
+    second_text q g = Prints-unique model t a q (subst (HasType model a) same_type typed) g
+
+    alike_alone : FillAlike model [] (alone s) (alone t) a → printed_text model s a ≡ printed_text model t a
+    alike_alone h = sym (first_text h.0 h.2) ∙ append_cancel_right h.0 h.1 [] h.4 ∙ second_text h.1 h.3
+
+    unlike_alone : FillUnlike model [] (alone s) (alone t) a → printed_text model s a ≢ printed_text model t a
+    unlike_alone h e = h.4 (ap (λ u. u ++ []) (first_text h.0 h.2 ∙ e ∙ sym (second_text h.1 h.3)))
+
+  module _ (before : List Item) (same_type : arg_type model s ≡ arg_type model t) where
+    abbrev first_items : List Item
+    first_items = before ++ Directive s ∷ after
+
+    abbrev second_items : List Item
+    second_items = before ++ Directive t ∷ after
+
+    abbrev place_of : ℕ
+    place_of = length (types model before)
+
+    module _ (args : List Argument) (typed : HasTypes model args (types model first_items)) (n : Argument) (at : slice_get args place_of ≡ Some n) where
+      typed_second : HasTypes model args (types model second_items)
+      typed_second = subst (HasTypes model args) (one_type_list before same_type) typed
+
+      prints_same : printed_text model s n ≡ printed_text model t n → PrintTheSame model first_items second_items args
+      prints_same e x y f g = PrintsAll-unique model first_items args x typed f ∙ same_all before args n at e ∙ sym (PrintsAll-unique model second_items args y typed_second g)
+
+      prints_unlike : printed_text model s n ≢ printed_text model t n → PrintUnlike model first_items second_items args
+      prints_unlike differ = (
+        all_printed model first_items args,
+        all_printed model second_items args,
+        all_printed-is model first_items args typed,
+        all_printed-is model second_items args typed_second,
+        λ e. differ (one_printed before args n at e),
+      )
+
+    neutral_typed : HasTypes model (neutrals (types model first_items)) (types model first_items)
+    neutral_typed = probe_typed model (types model first_items) (neutrals (types model first_items)) (inl refl)
+
+    probes_typed : (i k : ℕ) (other : Argument) → IsCandidateAt model (types model first_items) i k other → HasTypes model (probe_at (types model first_items) i other) (types model first_items)
+    probes_typed i k other c = probe_typed model (types model first_items) (probe_at (types model first_items) i other) (inr (i, c.type, other, c.type_is, contains_at (candidates model c.type) k other c.argument_is, refl))
+
+    neutral_set : (other : Argument) → slice_get (probe_at (types model first_items) place_of other) place_of ≡ Some other
+    neutral_set other = set_at (neutrals (types model first_items)) place_of other (neutral (arg_type model s)) (neutral_at before)
+
+    neutral_beside : (i : ℕ) (other : Argument) → i ≢ place_of → slice_get (probe_at (types model first_items) i other) place_of ≡ Some (neutral (arg_type model s))
+    neutral_beside i other differ = set_beside (neutrals (types model first_items)) i place_of other differ ∙ neutral_at before
+
+    -- a candidate at the place of the directive is one of its type
+    candidate_here : (i k : ℕ) (other : Argument) → i ≡ place_of → IsCandidateAt model (types model first_items) i k other → slice_get (candidates model (arg_type model s)) k ≡ Some other
+    candidate_here i k other here c =
+        let both : Some c.type ≡ Some (arg_type model s) = sym c.type_is ∙ ap (slice_get (types model first_items)) here ∙ type_at before in
+        let is : c.type ≡ arg_type model s = cc in
+        subst (λ type. slice_get (candidates model type) k ≡ Some other) is c.argument_is
+
+    alike_texts : (k : ℕ) (other : Argument) → slice_get (candidates model (arg_type model s)) k ≡ Some other → FillAlike model [] (alone s) (alone t) other → printed_text model s other ≡ printed_text model t other
+    alike_texts k other e h = alike_alone same_type other (candidate_has_type model (arg_type model s) k other e) h
+
+    module _ (level : FillAlike model [] (alone s) (alone t) (neutral (arg_type model s))) where
+      neutral_texts : printed_text model s (neutral (arg_type model s)) ≡ printed_text model t (neutral (arg_type model s))
+      neutral_texts = alike_texts 0 (neutral (arg_type model s)) (neutral_first model (arg_type model s)) level
+
+      all_neutral : PrintTheSame model first_items second_items (neutrals (types model first_items))
+      all_neutral = prints_same (neutrals (types model first_items)) neutral_typed (neutral (arg_type model s)) (neutral_at before) neutral_texts
+
+      beside : (i k : ℕ) (other : Argument) → IsCandidateAt model (types model first_items) i k other → i ≢ place_of → PrintTheSame model first_items second_items (probe_at (types model first_items) i other)
+      beside i k other c differ = prints_same (probe_at (types model first_items) i other) (probes_typed i k other c) (neutral (arg_type model s)) (neutral_beside i other differ) neutral_texts
+
+      here : (i k : ℕ) (other : Argument) → IsCandidateAt model (types model first_items) i k other → i ≡ place_of → (slice_get (candidates model (arg_type model s)) k ≡ Some other → FillAlike model [] (alone s) (alone t) other)
+          → PrintTheSame model first_items second_items (probe_at (types model first_items) i other)
+      here i k other c at alike =
+          let e = candidate_here i k other at c in
+          prints_same (probe_at (types model first_items) i other) (probes_typed i k other c) other
+          (subst (λ (j : ℕ). slice_get (probe_at (types model first_items) j other) place_of ≡ Some other) (sym at) (neutral_set other)) (alike_texts k other e (alike e))
+
+      anywhere : (i k : ℕ) (other : Argument) → IsCandidateAt model (types model first_items) i k other → (i ≡ place_of → slice_get (candidates model (arg_type model s)) k ≡ Some other → FillAlike model [] (alone s) (alone t) other)
+          → PrintTheSame model first_items second_items (probe_at (types model first_items) i other)
+      anywhere i k other c alike = elim (cases_lt i place_of) [
+        | inl less ↦ beside i k other c (λ e. absurd (omega (arith, less, e)))
+        | inr most ↦ elim (cases_lt place_of i) [
+          | inl more ↦ beside i k other c (λ e. absurd (omega (arith, more, e)))
+          | inr least ↦ let at : i ≡ place_of = omega (arith, most, least) in here i k other c at (alike at)
+        ]
+      ]
+
+    unlike_here : (place : ℕ) (argument : Argument) → slice_get (candidates model (arg_type model s)) place ≡ Some argument → FillUnlike model [] (alone s) (alone t) argument
+        → PrintUnlike model first_items second_items (probe_at (types model first_items) place_of argument)
+    unlike_here place argument e h =
+        prints_unlike (probe_at (types model first_items) place_of argument)
+        (probes_typed place_of place argument (record { type = arg_type model s; type_is = type_at before; argument_is = e })) argument (neutral_set argument)
+        (unlike_alone same_type argument (candidate_has_type model (arg_type model s) place argument e) h)
+
+    neutral_level : (place : ℕ) → IsFirstUnlike model [] (alone s) (alone t) (arg_type model s) (suc place) → FillAlike model [] (alone s) (alone t) (neutral (arg_type model s))
+    neutral_level place h = h.earlier 0 (neutral (arg_type model s)) (omega arith) (neutral_first model (arg_type model s))
+
+    -- the one candidate that is named
+    argument_is : (place : ℕ) (one other : Argument) → slice_get (candidates model (arg_type model s)) place ≡ Some one → IsCandidateAt model (types model first_items) place_of place other → one ≡ other
+    argument_is place one other e c = let both : Some one ≡ Some other = sym e ∙ candidate_here place_of place other refl c in cc
+
+    pub found_alone : (place : ℕ) (witness : Witness) → IsFirstUnlike model [] (alone s) (alone t) (arg_type model s) place → IsWitnessAt model (types model first_items) (record { index = place_of; place = place }) witness
+        → FindsWitness model first_items second_items (Some witness)
+    found_alone zero witness h w =
+        let is = argument_is 0 h.argument w.argument h.argument_is w.candidate in
+        let first : Some (neutral (arg_type model s)) ≡ Some h.argument = sym (neutral_first model (arg_type model s)) ∙ h.argument_is in
+        let also : h.argument ≡ neutral (arg_type model s) = cc in
+        let neutral_args : probe_at (types model first_items) place_of w.argument ≡ neutrals (types model first_items)
+        = ap (λ x. probe_at (types model first_items) place_of x) (sym is ∙ also) ∙ set_neutral (types model first_items) place_of (arg_type model s) (type_at before) in (
+          w.types_are,
+          inl (record {
+            args_are = w.args_are ∙ neutral_args;
+            unlike = subst (PrintUnlike model first_items second_items) (ap (λ x. probe_at (types model first_items) place_of x) is ∙ sym w.args_are) (unlike_here 0 h.argument h.argument_is h.unlike);
+            renderings_are = w.renderings_are;
+          }),
+        )
+    found_alone (suc place) witness h w =
+        let is = argument_is (suc place) h.argument w.argument h.argument_is w.candidate in
+        let level = neutral_level place h in (
+          w.types_are,
+          inr (record {
+            neutral_same = all_neutral level;
+            index = place_of;
+            place = suc place;
+            argument = w.argument;
+            probe = record {
+              candidate = w.candidate;
+              unlike = subst (λ x. PrintUnlike model first_items second_items (probe_at (types model first_items) place_of x)) is (unlike_here (suc place) h.argument h.argument_is h.unlike);
+              earlier = λ i k other c order. elim order [
+                | inl less ↦ beside level i k other c (λ e. absurd (omega (arith, less, e)))
+                | inr at ↦ here level i k other c at.0 (λ e. h.earlier k other at.1 e)
+              ];
+            };
+            args_are = w.args_are;
+            renderings_are = w.renderings_are;
+          }),
+        )
+
+    pub none_alone : FindsUnlike model [] (alone s) (alone t) (arg_type model s) None → FindsWitness model first_items second_items None
+    none_alone h =
+        let level = h 0 (neutral (arg_type model s)) (neutral_first model (arg_type model s)) in
+        (all_neutral level, λ i k other c. anywhere level i k other c (λ at e. h k other e))
+
+-- two texts were read so far, and differ in one directive at most
+pub record AreAlong (first second : Pieces) (f g : Text) (index : ℕ) (found : Option LoneDifference) : Type 0 where
+  pub read : Text
+  pub items : List Item
+  pub given : HasGiven first f read items
+  pub followed : HasFollowed second g items found
+  pub count : IsIndexAfter items index
+
+module _ (first new : Pieces) (second later : Pieces) (f g : Text) (index : ℕ) (found : Option LoneDifference) (h : AreAlong first second f g index found) where
+  -- one piece more of both
+  pub along_more : (next : Result Piece Refusal) (piece : Piece) (count : ℕ) (after : Option LoneDifference) → Gives first (Some next) new → next ≡ Ok piece
+      → ((t : Text) (xs : List Item) → HasFollowed second t xs found → IsIndexAfter xs index → HasFollowed later t (xs ++ items_of piece) after) → ((model : Model) → count ≡ length (types model (items_of piece)))
+      → AreAlong new later f g (index + count) after
+  along_more next piece count after steps e made counted =
+      let given : GivesPiece new f h.read h.items piece = subst (λ r. GivesNext (Some r) new f h.read h.items) e (steps.next f h.read h.items h.given) in
+      record {
+        read = h.read ++ given.more;
+        items = h.items ++ items_of piece;
+        given = given.given;
+        followed = made g h.items h.followed h.count;
+        count = index_more h.items (items_of piece) index count h.count counted;
+      }
+
+-- the end of both
+pub along_whole : (first new second later : Pieces) (f g : Text) (index : ℕ) (found : Option LoneDifference) → AreAlong first second f g index found → Gives first None new → Gives second None later → IfSome found (FormatsDifferInOne f g)
+along_whole first new second later f g index None h steps ends = tt
+along_whole first new second later f g index (Some difference) h steps ends = record {
+  xs = h.items;
+  ys = h.followed.items;
+  accepted_first = steps.next f h.read h.items h.given;
+  accepted_second = ends.next g h.followed.read h.followed.items h.followed.given;
+  items = h.followed.at_most;
+}
+
+-- the items of texts that are the same but for one directive
+module _ (model : Model) (xs ys : List Item) (difference : LoneDifference) (h : DifferInOne xs ys difference) where
+  first_types : types model xs ≡ types model h.before ++ arg_type model difference.first ∷ types model h.after
+  first_types = ap (types model) h.first_is ∙ types-append model h.before (Directive difference.first ∷ h.after)
+
+  second_types : types model ys ≡ types model h.before ++ arg_type model difference.second ∷ types model h.after
+  second_types = ap (types model) h.second_is ∙ types-append model h.before (Directive difference.second ∷ h.after)
+
+  pub lone_differ : arg_type model difference.first ≢ arg_type model difference.second → DifferFirstAt (types model xs) (types model ys) difference.index
+  lone_differ differ = differ_after_front (types model h.before) (types model xs) (types model ys) _ _ difference.index first_types second_types (h.index_is model) (λ e. differ (cc))
+
+  module _ (same_type : arg_type model difference.first ≡ arg_type model difference.second) where
+    pub lone_same_types : types model xs ≡ types model ys
+    lone_same_types = first_types ∙ ap (λ type. types model h.before ++ type ∷ types model h.after) same_type ∙ sym second_types
+
+    lone_type_at : slice_get (types model xs) difference.index ≡ Some (arg_type model difference.first)
+    lone_type_at = ap (slice_get (types model xs)) (h.index_is model) ∙ ap (λ l. slice_get (types model l) (length (types model h.before))) h.first_is ∙ type_at model difference.first difference.second h.after h.before
+
+    pub lone_awaits : (place : ℕ) (args : List OwnedArg) → FindsUnlike model [] (alone difference.first) (alone difference.second) (arg_type model difference.first) (Some place) → AreNeutral (types model xs) args
+        → AwaitsCandidate model (types model xs) args (arg_type model difference.first) (record { index = difference.index; place = place })
+    lone_awaits place args found neutral = record {
+      neutral = neutral;
+      candidate = (found.argument, record { type = arg_type model difference.first; type_is = lone_type_at; argument_is = found.argument_is });
+      type_is = lone_type_at;
+    }
+
+    back_in : (found : Option Witness) → FindsWitness model (h.before ++ Directive difference.first ∷ h.after) (h.before ++ Directive difference.second ∷ h.after) found → FindsWitness model xs ys found
+    back_in found w = subst (λ l. FindsWitness model l ys found) (sym h.first_is) (subst (λ l. FindsWitness model (h.before ++ Directive difference.first ∷ h.after) l found) (sym h.second_is) w)
+
+    pub lone_found : (place : ℕ) (witness : Witness) → FindsUnlike model [] (alone difference.first) (alone difference.second) (arg_type model difference.first) (Some place)
+        → IsWitnessAt model (types model xs) (record { index = difference.index; place = place }) witness → FindsWitness model xs ys (Some witness)
+    lone_found place witness found w =
+        let there : IsWitnessAt model (types model (h.before ++ Directive difference.first ∷ h.after)) (record { index = difference.index; place = place }) witness
+        = subst (λ l. IsWitnessAt model (types model l) (record { index = difference.index; place = place }) witness) h.first_is w in
+        back_in (Some witness) (found_alone model difference.first difference.second h.after h.before same_type place witness found
+        (subst (λ i. IsWitnessAt model (types model (h.before ++ Directive difference.first ∷ h.after)) (record { index = i; place = place }) witness) (h.index_is model) there))
+
+    pub lone_none : FindsUnlike model [] (alone difference.first) (alone difference.second) (arg_type model difference.first) None → FindsWitness model xs ys None
+    lone_none found = back_in None (none_alone model difference.first difference.second h.after h.before same_type found)
+
+module _ (model : Model) (f g : Text) (difference : LoneDifference) (h : FormatsDifferInOne f g difference) where
+  pub lone_types : arg_type model difference.first ≢ arg_type model difference.second → (xs ys : List Item) → Reads f xs → Reads g ys → DifferFirstAt (types model xs) (types model ys) difference.index
+  lone_types differ xs ys a b =
+      subst (λ l. DifferFirstAt (types model l) (types model ys) difference.index) (Reads-unique f h.xs xs h.accepted_first.reads a)
+      (subst (λ l. DifferFirstAt (types model h.xs) (types model l) difference.index) (Reads-unique g h.ys ys h.accepted_second.reads b)
+      (lone_differ model h.xs h.ys difference h.items differ))
+
+  pub lone_have_same : arg_type model difference.first ≡ arg_type model difference.second → HaveSameTypes model f g
+  lone_have_same same = record {
+    types = types model h.xs;
+    first = record { items = h.xs; accepted = h.accepted_first; types_are = refl };
+    second = record { items = h.ys; accepted = h.accepted_second; types_are = lone_same_types model h.xs h.ys difference h.items same };
+  }

@@ -1,0 +1,47 @@
+-- Two formats that differ in one directive alone. This project's own.
+use Rattle.std.specs.Prelude.{◌≡◌, ℕ, List, ◌∷◌, ◌++◌, length, Option, Some, None}
+use Rattle.pf_values.specs.declared.models.Model.{Model}
+use Rattle.pf_values.specs.Items.{HasItems, Item, Directive, types}
+use Rattle.pf_values.specs.Specification.{Specification}
+use Rattle.pf_values.specs.Text.{Text}
+use Rattle.pf_text.specs.declared.pieces.Pieces.{Pieces}
+use Rattle.pf_text.specs.PieceHistory.{HasGiven}
+use Rattle.pf_compare.specs.declared.layouts.Hole.{Hole}
+use Rattle.pf_compare.specs.declared.lone.LoneDifference.{LoneDifference}
+
+-- the index of the argument that comes after those of some items
+abbrev pub IsIndexAfter : List Item → ℕ → Type 0
+IsIndexAfter items index = (model : Model) → index ≡ length (types model items)
+
+-- two lists of items are the same but for one directive
+pub record DifferInOne (xs ys : List Item) (difference : LoneDifference) : Type 0 where
+  pub before : List Item
+  pub after : List Item
+  pub first_is : xs ≡ before ++ Directive difference.first ∷ after
+  pub second_is : ys ≡ before ++ Directive difference.second ∷ after
+  pub index_is : IsIndexAfter before difference.index
+
+-- or they are the same
+abbrev pub DifferInOneAtMost : List Item → List Item → Option LoneDifference → Type 0
+DifferInOneAtMost xs ys (Some difference) = DifferInOne xs ys difference
+DifferInOneAtMost xs ys None = xs ≡ ys
+
+-- two accepted texts are the same but for one directive
+pub record FormatsDifferInOne (f g : Text) (difference : LoneDifference) : Type 0 where
+  pub xs : List Item
+  pub ys : List Item
+  pub accepted_first : HasItems f xs
+  pub accepted_second : HasItems g ys
+  pub items : DifferInOne xs ys difference
+
+-- what was given of a second text differs from these items in one directive at most
+pub record HasFollowed (pieces : Pieces) (t : Text) (xs : List Item)
+    (found : Option LoneDifference) : Type 0 where
+  pub read : Text
+  pub items : List Item
+  pub given : HasGiven pieces t read items
+  pub at_most : DifferInOneAtMost xs items found
+
+-- a directive alone prints in a hole of an empty text
+abbrev pub alone : Specification → Hole
+alone s = record { directive = s; start = 0; end = 0 }
