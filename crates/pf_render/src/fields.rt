@@ -112,10 +112,7 @@ fn write_two<W: Write>(
 
 /// Writes bytes, and tells how many they are.
 #[inline(always)]
-pub(crate) fn write_run<W: Write>(
-    run: &[u8],
-    writer: &mut Counted<W>,
-) -> Result<usize, ShortWrite>
+pub(crate) fn write_run<W: Write>(run: &[u8], writer: &mut Counted<W>) -> Result<usize, ShortWrite>
     ensures { WritesCounted W.contents writer.old writer.new run.now result }
 {
     match write_bytes(writer, run) {
