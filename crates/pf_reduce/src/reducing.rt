@@ -32,6 +32,17 @@ pub fn reduce(model: Model, directive: &Directive) -> Reduced
             trail: 0,
         };
     }
+    reduce_other(model, directive)
+}
+
+// The same of a directive that isn't normal, whatever it is. Never inlined, so that a normal one is
+// copied as it stands and not part by part.
+#[inline(never)]
+fn reduce_other(model: Model, directive: &Directive) -> Reduced
+    ensures same { IsReducedTo model directive.now result }
+    ensures silent { directive.now ≡ silent
+        → result ≡ record { spaces = 0; zeros = 0; core = Core.Silent; trail = 0 } }
+{
     match directive.conv().kind() {
         Kind::Signed => reduce_signed(model, directive),
         Kind::Unsigned(base, _) => reduce_unsigned(model, directive, base.alternative()),

@@ -1,8 +1,8 @@
 -- Texts in parts, of which some went out.
-use Rattle.std.proofs.Common.{◌≡◌, ℕ, ◌+◌, ◌<◌, ◌≤◌, List, ◌∷◌, ◌++◌, length, take, drop, slice_index_or, sym, ap, ◌∙◌, arith}
+use Rattle.std.proofs.Common.{◌≡◌, ℕ, ◌+◌, ◌<◌, ◌≤◌, List, [], ◌∷◌, ◌++◌, length, take, drop, slice_index_or, sym, ap, ◌∙◌, subst, arith}
 use Rattle.std.specs.Borrow.{Bor}
 use Rattle.std.proofs.lemmas.Grind.{flat_map-append}
-use Rattle.std.proofs.lemmas.List.{drop_more, take-append-drop}
+use Rattle.std.proofs.lemmas.List.{append-nil, drop_more, length-append, take-append-drop}
 use Rattle.std.proofs.lemmas.List.Folds.{length-flat_map-take}
 use Rattle.pf_values.specs.declared.counting.Counted.{Counted}
 use Rattle.pf_values.specs.Counting.{Known, WritesAll, WritesFirst}
@@ -37,3 +37,12 @@ module _ (parts : List (Bor (List ℕ))) (i : ℕ) (blank : Bor (List ℕ)) (is_
     rw (joined-split, e) (WritesFirst-more contents old mid new before part rest n h g),
     omega (arith, length-flat_map-take (λ p. p.now) parts i blank is_one),
   )
+
+-- a text went out, and then the first bytes of another one
+pub second-stopped : {W : Type 0} (contents : W → Known) (old mid new : Counted W) (first second : Text) (written n : ℕ) → written ≡ length first → WritesAll contents old mid first → WritesFirst contents mid new second n → n < length second
+    → WritesFirst contents old new (first ++ second) (written + n) × (written + n < length (first ++ second))
+second-stopped contents old mid new first second written n e h g few =
+    let whole : first ++ (second ++ []) ≡ first ++ second = ap (λ t. first ++ t) (append-nil second) in (
+      rw e (subst (λ t. WritesFirst contents old new t (length first + n)) whole (WritesFirst-more contents old mid new first second [] n h g)),
+      omega (arith, e, few, length-append first second),
+    )

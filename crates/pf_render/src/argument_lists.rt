@@ -126,5 +126,9 @@ fn is_of_type(model: Model, arg: Arg<'_>, wanted: ArgType) -> bool
     if arg.arg_type() != wanted {
         return false;
     }
-    arg.fits(model)
+    match model {
+        // Each argument is in the range of its type there, so its number isn't asked for.
+        Model::Lp64 => true,
+        Model::Ilp32 | Model::Llp64 => arg.fits(model),
+    }
 }

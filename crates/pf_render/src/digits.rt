@@ -7,48 +7,20 @@ ghost use Rattle.pf_values.specs.Conversions.{base_under, has_capitals};
 
 use itoa::write_digits;
 use pf_values::{Base, Kind};
-use std::marker::Model;
 
 /// The most digits that a number of 64 bits has, those in base two.
 pub(crate) const MAX_DIGITS: usize = 64;
 
-/// The digits of a number, as bytes.
-#[derive(Drop)]
-pub(crate) struct Digits {
-    bytes: [u8; MAX_DIGITS],
-    start: usize,
-}
-
-impl Model for Digits {
-    ghost use Rattle.std.specs.Prelude.{ℕ, ◌≤◌, List, drop};
-    ghost use Rattle.pf_render.specs.declared.digits.TheConstants.{MAX_DIGITS};
-
-    ghost Value = { List ℕ };
-
-    ghost view = { λ d. drop d.start d.bytes };
-
-    ghost invariant = { λ d. d.start ≤ MAX_DIGITS };
-}
-
-impl Digits {
-    /// The digits of a number as a kind of conversions prints them, none for 0.
-    pub(crate) fn of(number: u64, kind: Kind) -> Digits
-        ensures { let base = number_of (base_under kind) in
-            result ≡ map (digit_glyph (has_capitals kind)) (digits_of base number) }
-    {
-        let mut bytes = [0; MAX_DIGITS];
-        let start = match kind.base() {
-            Base::Decimal => write_decimal(number, &mut bytes),
-            base => write_based(number, base.number(), kind.has_capitals(), &mut bytes),
-        };
-        Digits { bytes, start }
-    }
-
-    /// The bytes.
-    pub(crate) fn as_slice(&self) -> &[u8]
-        ensures { result.now ≡ self.now }
-    {
-        &self.bytes[self.start..]
+/// Writes the digits of a number as a kind of conversions prints them, none for 0, so that they end
+/// where the buffer does. Returns where they start.
+pub(crate) fn write_digits_of(number: u64, kind: Kind, buf: &mut [u8; MAX_DIGITS]) -> usize
+    ensures within { result ≤ MAX_DIGITS }
+    ensures digits { let base = number_of (base_under kind) in
+        drop result buf.new ≡ map (digit_glyph (has_capitals kind)) (digits_of base number) }
+{
+    match kind.base() {
+        Base::Decimal => write_decimal(number, buf),
+        base => write_based(number, base.number(), kind.has_capitals(), buf),
     }
 }
 

@@ -32,6 +32,8 @@ pub fn render_one<W: Write>(
 }
 
 /// The same, and tells how many bytes were written.
+// Never inlined, so that a run of literal bytes is written without what this sets up.
+#[inline(never)]
 pub(crate) fn write_argument<W: Write>(
     model: Model,
     directive: &Directive,

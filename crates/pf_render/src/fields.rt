@@ -1,8 +1,9 @@
 //! Fields: texts with spaces up to a width.
-ghost use Rattle.std.specs.Prelude.{◌+◌, ◌++◌, ◌<◌, ◌^◌, length};
+ghost use Rattle.std.specs.Prelude.{◌≡◌, ◌+◌, ◌++◌, ◌<◌, ◌^◌, length};
 ghost use Rattle.pf_render.specs.Counts.{WritesCounted};
 ghost use Rattle.pf_render.specs.Parts.{join};
-ghost use Rattle.pf_values.specs.Printing.{field};
+ghost use Rattle.pf_values.specs.Printing.{field, padding};
+ghost use Rattle.pf_values.specs.Specification.{width_of};
 
 use crate::blocks::spaces;
 use pf_values::{Counted, Directive, Flag, ShortWrite, write_bytes};
@@ -10,7 +11,28 @@ use std::io::Write;
 
 /// Writes a text of three parts in the field of the directive (C11 7.21.6.1, paragraph 4), and
 /// tells how many bytes that were.
+#[inline(always)]
 pub(crate) fn write_field<'a, W: Write>(
+    directive: &Directive,
+    first: &'a [u8],
+    second: &'a [u8],
+    third: &'a [u8],
+    writer: &mut Counted<W>,
+) -> Result<usize, ShortWrite>
+    requires { length (first.now ++ (second.now ++ third.now)) < 2 ^ 63 }
+    ensures { WritesCounted W.contents writer.old writer.new
+        (field directive.now (first.now ++ (second.now ++ third.now))) result }
+{
+    // Most numbers have no sign, no prefix and no zeros before them.
+    if first.len() + second.len() == 0 {
+        return write_text(directive, third, writer);
+    }
+    write_three(directive, first, second, third, writer)
+}
+
+// The same, however many bytes each part has.
+#[inline(never)]
+fn write_three<'a, W: Write>(
     directive: &Directive,
     first: &'a [u8],
     second: &'a [u8],
@@ -28,6 +50,74 @@ pub(crate) fn write_field<'a, W: Write>(
         write_parts(&[first, second, third, padding], writer)
     } else {
         write_parts(&[padding, first, second, third], writer)
+    }
+}
+
+/// Writes a text of one part in the field of the directive, and tells how many bytes that were.
+#[inline(always)]
+pub(crate) fn write_text<W: Write>(
+    directive: &Directive,
+    text: &[u8],
+    writer: &mut Counted<W>,
+) -> Result<usize, ShortWrite>
+    requires { length text.now < 2 ^ 63 }
+    ensures { WritesCounted W.contents writer.old writer.new (field directive.now text.now) result }
+{
+    let width = usize::from(directive.width().unwrap_or(0));
+    if width <= text.len() {
+        return write_run(text, writer);
+    }
+    write_filled(directive, spaces(width - text.len()), text, writer)
+}
+
+// Writes a text in the field of the directive, which fills it up with these spaces.
+#[inline(never)]
+fn write_filled<W: Write>(
+    directive: &Directive,
+    fill: &[u8],
+    text: &[u8],
+    writer: &mut Counted<W>,
+) -> Result<usize, ShortWrite>
+    requires small { length text.now < 2 ^ 63 }
+    requires fill { fill.now ≡ padding (width_of directive.now) text.now }
+    ensures { WritesCounted W.contents writer.old writer.new (field directive.now text.now) result }
+{
+    if directive.flags().has(Flag::Minus) {
+        write_two(text, fill, writer)
+    } else {
+        write_two(fill, text, writer)
+    }
+}
+
+// Writes a text, and another one after it.
+fn write_two<W: Write>(
+    first: &[u8],
+    second: &[u8],
+    writer: &mut Counted<W>,
+) -> Result<usize, ShortWrite>
+    requires { length (first.now ++ second.now) < 2 ^ 64 }
+    ensures { WritesCounted W.contents writer.old writer.new (first.now ++ second.now) result }
+{
+    let before = match write_run(first, writer) {
+        Ok(count) => count,
+        Err(short) => return Err(short),
+    };
+    match write_run(second, writer) {
+        Ok(count) => Ok(before + count),
+        Err(short) => Err(ShortWrite {
+            written: before + short.written,
+        }),
+    }
+}
+
+/// Writes bytes, and tells how many they are.
+#[inline(always)]
+pub(crate) fn write_run<W: Write>(run: &[u8], writer: &mut Counted<W>) -> Result<usize, ShortWrite>
+    ensures { WritesCounted W.contents writer.old writer.new run.now result }
+{
+    match write_bytes(writer, run) {
+        Ok(()) => Ok(run.len()),
+        Err(short) => Err(short),
     }
 }
 

@@ -10,7 +10,7 @@ ghost use Rattle.pf_render.specs.Counts.{WritesCounted};
 ghost use Rattle.pf_render.specs.Zeros.{fewest_digits, zeros_for};
 
 use crate::blocks;
-use crate::digits::{Digits, MAX_DIGITS};
+use crate::digits::{MAX_DIGITS, write_digits_of};
 use crate::fields::write_field;
 use crate::values::Value;
 use pf_values::{Alternative, Base, Counted, Directive, Flag, Kind, Model, ShortWrite};
@@ -28,8 +28,9 @@ pub(crate) fn write_integer<W: Write>(
         × WritesCounted W.contents writer.old writer.new out result }
 {
     let value = Value::of(model, directive, number);
-    let digits = Digits::of(value.size(), directive.conv().kind());
-    let digits = digits.as_slice();
+    let mut buf = [0; MAX_DIGITS];
+    let start = write_digits_of(value.size(), directive.conv().kind(), &mut buf);
+    let (_, digits) = buf.split_at(start);
     let sign = sign_or_prefix(directive, &value);
     let zeros = blocks::zeros(zero_count(directive, sign.len(), digits.len()));
     write_field(directive, sign, zeros, digits, writer)

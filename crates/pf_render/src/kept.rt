@@ -9,8 +9,9 @@ use arrayvec::ArrayVec;
 use pf_text::Piece;
 use pf_values::Directive;
 
-/// Eight directives, and a run of literal bytes before and after each.
-const MOST: usize = 17;
+/// Four directives, and a run of literal bytes before and after each: few formats have more, and
+/// room for more is dear, since all of it is made for each format.
+const MOST: usize = 9;
 
 /// What a piece prints: what its directive does, or else bytes.
 #[derive(Clone, Copy, Default)]

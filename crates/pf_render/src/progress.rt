@@ -11,8 +11,9 @@ ghost use Rattle.pf_render.specs.Progressing.{WritesNext, next_arguments};
 
 use crate::directives::write_argument;
 use crate::faults::WriteFault;
+use crate::fields::write_run;
 use crate::kept::Part;
-use pf_values::{Arg, Counted, Model, ShortWrite, write_bytes};
+use pf_values::{Arg, Counted, Model, ShortWrite};
 use std::io::Write;
 
 /// How far the writing of a format has come.
@@ -68,6 +69,7 @@ impl Progress {
 }
 
 // Writes what a part prints for its own arguments, and tells how many bytes that were.
+#[inline(always)]
 fn write_part<W: Write>(
     model: Model,
     part: &Part<'_>,
@@ -82,15 +84,5 @@ fn write_part<W: Write>(
     match part.directive {
         Some(directive) => write_argument(model, &directive, own[0], writer),
         None => write_run(part.run, writer),
-    }
-}
-
-// Writes bytes that stand for themselves, and tells how many they are.
-fn write_run<W: Write>(run: &[u8], writer: &mut Counted<W>) -> Result<usize, ShortWrite>
-    ensures { WritesCounted W.contents writer.old writer.new run.now result }
-{
-    match write_bytes(writer, run) {
-        Ok(()) => Ok(run.len()),
-        Err(short) => Err(short),
     }
 }

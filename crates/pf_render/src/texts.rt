@@ -8,7 +8,7 @@ ghost use Rattle.pf_values.specs.Printing.{Prints, printed_front};
 ghost use Rattle.pf_values.specs.Text.{Text};
 ghost use Rattle.pf_render.specs.Counts.{WritesCounted};
 
-use crate::fields::write_field;
+use crate::fields::write_text;
 use pf_values::{Counted, Directive, ShortWrite, ValueKind};
 use std::io::Write;
 
@@ -23,7 +23,7 @@ pub(crate) fn write_char<W: Write>(
         × WritesCounted W.contents writer.old writer.new out result }
 {
     let byte = [u8::of(number)];
-    write_field(directive, b"", b"", &byte, writer)
+    write_text(directive, &byte, writer)
 }
 
 /// Writes a string, and no more of it than the precision says (C11 7.21.6.1, paragraph 8, `s`).
@@ -36,7 +36,7 @@ pub(crate) fn write_string<W: Write>(
     ensures { (model : Model) → (out : Text) × Prints model directive.now (String bytes.now) out
         × WritesCounted W.contents writer.old writer.new out result }
 {
-    write_field(directive, b"", b"", printed_front(directive, bytes), writer)
+    write_text(directive, printed_front(directive, bytes), writer)
 }
 
 // The bytes of a string up to the precision.

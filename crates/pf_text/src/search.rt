@@ -7,6 +7,9 @@ use std::simd::prelude::*;
 
 const LANES: usize = 16;
 
+// The lanes of the vector for a shorter text.
+const HALF: usize = 8;
+
 // How far the search goes a vector at a time. Most runs end there, and `memchr2` is the faster one
 // after it.
 const NEAR: usize = 64;
@@ -21,20 +24,39 @@ pub fn literal_len(text: &[u8]) -> usize
     ensures ended { result < length text.now → Passes (is_byte2 37 0) text.now result }
 {
     if text.len() < LANES {
-        return len_by_one(text);
+        return short_len(text);
     }
     let mut at = 0;
     while at < NEAR {
         if text.len() - at < LANES {
             return len_at_end(text, at);
         }
-        let run = literals_at(text, at);
+        let run = literals_at::<LANES>(text, at);
         if run < LANES {
             return at + run;
         }
         at += LANES;
     }
     len_behind(text, at)
+}
+
+// Of a text that is shorter than a vector: most formats end in one, or are one.
+#[inline(always)]
+fn short_len(text: &[u8]) -> usize
+    requires { length text.now < LANES }
+    ensures within { result ≤ length text.now }
+    ensures none { Nowhere (Passes (is_byte2 37 0) text.now) 0 result }
+    ensures ended { result < length text.now → Passes (is_byte2 37 0) text.now result }
+{
+    if text.len() < HALF {
+        return len_by_one(text);
+    }
+    let run = literals_at::<HALF>(text, 0);
+    if run < HALF {
+        return run;
+    }
+    let at = text.len() - HALF;
+    at + literals_at::<HALF>(text, at)
 }
 
 #[inline(always)]
@@ -71,7 +93,7 @@ fn len_at_end(text: &[u8], seen: usize) -> usize
     ensures ended { result < length text.now → Passes (is_byte2 37 0) text.now result }
 {
     let at = text.len() - LANES;
-    at + literals_at(text, at)
+    at + literals_at::<LANES>(text, at)
 }
 
 // Of a text whose first bytes are literal.
@@ -91,17 +113,18 @@ fn len_behind(text: &[u8], seen: usize) -> usize
 
 // How many bytes of a vector are literal before the first other one.
 #[inline(always)]
-fn literals_at(text: &[u8], at: usize) -> usize
-    requires { at + LANES ≤ length text.now }
-    ensures few { result ≤ LANES }
+fn literals_at<const N: usize>(text: &[u8], at: usize) -> usize
+    requires room { at + N ≤ length text.now }
+    requires few { N ≤ 64 }
+    ensures few { result ≤ N }
     ensures none { Nowhere (Passes (is_byte2 37 0) text.now) at (at + result) }
-    ensures ended { result < LANES → Passes (is_byte2 37 0) text.now (at + result) }
+    ensures ended { result < N → Passes (is_byte2 37 0) text.now (at + result) }
 {
-    let bytes = u8x16::from_slice(&text[at..]);
-    let others = bytes.simd_eq(u8x16::splat(b'%')) | bytes.simd_eq(u8x16::splat(0));
+    let bytes = Simd::<u8, N>::from_slice(&text[at..]);
+    let others = bytes.simd_eq(Simd::<u8, N>::splat(b'%')) | bytes.simd_eq(Simd::<u8, N>::splat(0));
     let places = others.to_bitmask();
     if places == 0 {
-        return LANES;
+        return N;
     }
     places.trailing_zeros() as usize
 }

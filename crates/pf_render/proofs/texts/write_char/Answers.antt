@@ -7,4 +7,4 @@ use Rattle.pf_render.proofs.texts.write_char.Goals as goal
 pub returns : goal.returns
 returns g c model =
     let number : to_z w128 (of_z w128 c.args.number) ≡ c.args.number = omega (arith, ints) in
-    (_, Prints-char model c.args.directive.now c.args.number c.of.result c.requires.char (rw number at c.of.ensures), c.write_field.ensures)
+    (_, Prints-char model c.args.directive.now c.args.number c.of.result c.requires.char (rw number at c.of.ensures), c.write_text.ensures)
