@@ -8,9 +8,9 @@ use Rattle.pf_values.specs.Text.{Text}
 use Rattle.pf_compare.specs.Answers.{IsComparisonOf}
 use Rattle.pf_compare.specs.Owned.{argument_of_owned}
 use Rattle.pf_compare.specs.Words.{argument_word}
-use Rattle.pf_compare.specs.declared.verdicts.Comparison.{Comparison}
-use Rattle.pf_compare.specs.declared.verdicts.Verdict.{Verdict}
-use Rattle.pf_compare.specs.declared.verdicts.Verdict.TheVariants.{Same, Types, Args}
+use Rattle.pf_compare.specs.declared.comparisons.Comparison.{Comparison}
+use Rattle.pf_compare.specs.declared.comparisons.Verdict.{Verdict}
+use Rattle.pf_compare.specs.declared.comparisons.Verdict.TheVariants.{Same, Types, Args}
 use Rattle.pf_compare.specs.declared.owned_args.OwnedArg.{OwnedArg}
 use Rattle.fmtcanon.specs.declared.answer.Ending.{Ending}
 use Rattle.fmtcanon.specs.declared.answer.Ending.TheVariants as endings

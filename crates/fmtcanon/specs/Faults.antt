@@ -9,8 +9,8 @@ use Rattle.pf_text.specs.declared.faults.TextFault.TheVariants as text
 use Rattle.pf_canon.specs.declared.sides.Side.{Side}
 use Rattle.pf_canon.specs.declared.faults.CanonFault.{CanonFault}
 use Rattle.pf_canon.specs.declared.faults.CanonFault.TheVariants as canonical
-use Rattle.pf_compare.specs.declared.faults.CompareFault.{CompareFault}
-use Rattle.pf_compare.specs.declared.faults.CompareFault.TheVariants as comparison
+use Rattle.pf_compare.specs.declared.comparisons.CompareFault.{CompareFault}
+use Rattle.pf_compare.specs.declared.comparisons.CompareFault.TheVariants as comparison
 use Rattle.fmtcanon.specs.declared.outcome.Fault.{Fault}
 use Rattle.fmtcanon.specs.declared.outcome.Fault.TheVariants.{Refused, RefusedWhole, BadLiteral, Memory}
 

@@ -5,11 +5,11 @@ use Rattle.pf_values.specs.Items.{types}
 use Rattle.pf_values.specs.Text.{Text}
 use Rattle.pf_canon.specs.declared.sides.Side.TheVariants as sides
 use Rattle.pf_compare.specs.Answers.{HaveSameTypes, HindersComparison, IsComparisonOf, IsVerdict}
-use Rattle.pf_compare.specs.declared.faults.CompareFault.{CompareFault}
-use Rattle.pf_compare.specs.declared.faults.CompareFault.TheVariants.{Refused, Memory}
-use Rattle.pf_compare.specs.declared.verdicts.Comparison.{Comparison}
-use Rattle.pf_compare.specs.declared.verdicts.Verdict.{Verdict}
-use Rattle.pf_compare.specs.declared.verdicts.Verdict.TheVariants.{Same, Types, Args}
+use Rattle.pf_compare.specs.declared.comparisons.CompareFault.{CompareFault}
+use Rattle.pf_compare.specs.declared.comparisons.CompareFault.TheVariants.{Refused, Memory}
+use Rattle.pf_compare.specs.declared.comparisons.Comparison.{Comparison}
+use Rattle.pf_compare.specs.declared.comparisons.Verdict.{Verdict}
+use Rattle.pf_compare.specs.declared.comparisons.Verdict.TheVariants.{Same, Types, Args}
 use Rattle.fmtcanon_c.specs.declared.interface.CError.{CError}
 use Rattle.fmtcanon_c.specs.declared.comparison.CComparison.{CComparison}
 use Rattle.fmtcanon_c.specs.Calls.{Compares, ComparesNot, Gives, GivesArguments, IsFaultTold}

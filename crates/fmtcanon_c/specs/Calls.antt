@@ -12,11 +12,11 @@ use Rattle.pf_canon.specs.Answers.{HindersCanonical, IsCanonicalFor}
 use Rattle.pf_canon.specs.declared.faults.CanonFault.TheVariants as canon_faults
 use Rattle.pf_canon.specs.declared.sides.Side.TheVariants.{First, Second}
 use Rattle.pf_compare.specs.Answers.{HindersComparison, IsComparisonOf}
-use Rattle.pf_compare.specs.declared.faults.CompareFault.{CompareFault}
-use Rattle.pf_compare.specs.declared.faults.CompareFault.TheVariants as compare_faults
-use Rattle.pf_compare.specs.declared.verdicts.Comparison.{Comparison}
-use Rattle.pf_compare.specs.declared.verdicts.Verdict.{Verdict}
-use Rattle.pf_compare.specs.declared.verdicts.Verdict.TheVariants.{Same, Types, Args}
+use Rattle.pf_compare.specs.declared.comparisons.CompareFault.{CompareFault}
+use Rattle.pf_compare.specs.declared.comparisons.CompareFault.TheVariants as compare_faults
+use Rattle.pf_compare.specs.declared.comparisons.Comparison.{Comparison}
+use Rattle.pf_compare.specs.declared.comparisons.Verdict.{Verdict}
+use Rattle.pf_compare.specs.declared.comparisons.Verdict.TheVariants.{Same, Types, Args}
 use Rattle.fmtcanon_c.specs.declared.interface.CError.{CError}
 use Rattle.fmtcanon_c.specs.declared.interface.TheConstants.{NO_MEMORY}
 use Rattle.fmtcanon_c.specs.declared.comparison.CComparison.{CComparison}

@@ -9,7 +9,7 @@ use Rattle.pf_values.specs.Text.{space}
 use Rattle.pf_probes.specs.declared.rows.Candidate.{Candidate}
 use Rattle.pf_probes.specs.declared.rows.Candidate.TheVariants as variants
 use Rattle.pf_probes.specs.Candidate.{argument_of}
-use Rattle.pf_compare.specs.declared.runs.Run.{Run}
+use Rattle.pf_compare.specs.declared.outlines.Run.{Run}
 use Rattle.pf_compare.specs.Outlines.{Foretells}
 use Rattle.pf_compare.specs.Runs.{IsRunOf, run_len, run_text}
 

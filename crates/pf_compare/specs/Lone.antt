@@ -7,7 +7,7 @@ use Rattle.pf_values.specs.Text.{Text}
 use Rattle.pf_text.specs.declared.pieces.Pieces.{Pieces}
 use Rattle.pf_text.specs.PieceHistory.{HasGiven}
 use Rattle.pf_compare.specs.declared.layouts.Hole.{Hole}
-use Rattle.pf_compare.specs.declared.lone.LoneDifference.{LoneDifference}
+use Rattle.pf_compare.specs.declared.lone_difference.LoneDifference.{LoneDifference}
 
 -- the index of the argument that comes after those of some items
 abbrev pub IsIndexAfter : List Item → ℕ → Type 0

@@ -5,7 +5,7 @@ use Rattle.pf_values.specs.Arguments.{String}
 use Rattle.pf_values.specs.Printing.{Prints}
 use Rattle.pf_values.specs.Specification.{Specification}
 use Rattle.pf_values.specs.Text.{Text, space}
-use Rattle.pf_compare.specs.declared.runs.Run.{Run}
+use Rattle.pf_compare.specs.declared.outlines.Run.{Run}
 
 -- the byte between spaces
 abbrev pub run_text : Run → ℕ → Text

@@ -4,16 +4,18 @@ ghost use Rattle.pf_values.specs.DataModel.{arg_type};
 ghost use Rattle.pf_canon.specs.Comparing.{AreTextsSame};
 ghost use Rattle.pf_compare.specs.Answers.{HaveSameTypes, HindersComparison, IsComparisonOf};
 ghost use Rattle.pf_compare.specs.Lone.{FormatsDifferInOne};
+ghost use Rattle.pf_compare.specs.declared.comparisons.CompareFault.TheVariants.{Memory};
 
-use crate::faults::CompareFault;
 use crate::layouts::lay_out;
-use crate::lone::{LoneDifference, lone_difference};
+use crate::lone_difference::{LoneDifference, lone_difference};
+use crate::owned_args::OwnedArg;
 use crate::type_lists::first_other_type;
-use crate::verdicts::{Comparison, Verdict};
 use crate::witnesses::{Witness, first_witness, lone_witness};
-use pf_canon::same_text;
+use pf_canon::{Side, same_text};
+use pf_text::Refusal;
 use pf_values::{Directive, Model};
 use std::alloc::{AllocError, Global};
+use thiserror::Error;
 
 /// Compares two formats in a data model. Equivalent ones are `Same`. Else they differ in their
 /// types, or the first probe is given for which they print different bytes. A refused text is
@@ -125,5 +127,46 @@ fn compare_bytes(alloc: Global, model: Model, f: &[u8], g: &[u8]) -> Result<Comp
             renderings,
         }),
         None => unreachable!(),
+    }
+}
+
+/// What two formats are to each other.
+#[derive(Debug, Drop)]
+pub enum Verdict {
+    /// They are equivalent: equal argument types, and equal bytes for all arguments.
+    Same,
+    /// Their argument types differ first at this index, counted from 0. Where one list of types
+    /// begins the other, it is the length of the shorter.
+    Types(u64),
+    /// For these arguments, which both take, they print different bytes.
+    Args(Vec<OwnedArg>),
+}
+
+/// A verdict, and the place of the argument that it found among the candidates of its type, counted
+/// from 1.
+#[derive(Debug, Drop)]
+pub struct Comparison {
+    /// The verdict.
+    pub verdict: Verdict,
+    /// The place: 1 for neutral arguments, and 0 where no arguments are given. At most 17.
+    pub renderings: u8,
+}
+
+/// Why two texts are not compared.
+#[derive(Clone, Copy, Debug, PartialEq, Eq, Error)]
+pub enum CompareFault {
+    /// The text of this side is refused.
+    #[error("{1}")]
+    Refused(Side, Refusal),
+    /// A growth was refused.
+    #[error("out of memory")]
+    Memory,
+}
+
+impl From<AllocError> for CompareFault {
+    ghost from_gives = { λ _ fault. fault ≡ Memory };
+
+    fn from(_error: AllocError) -> CompareFault {
+        CompareFault::Memory
     }
 }

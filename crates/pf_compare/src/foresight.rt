@@ -1,21 +1,20 @@
 //! Whether two directives print otherwise for a candidate, where that is seen without printing.
-ghost use Rattle.std.specs.Prelude.{◌≡◌, ℕ, false, IfSome, IsFalse, IsTrue, replicate};
+ghost use Rattle.std.specs.Prelude.{◌≡◌, ℕ, false, IfSome, IsFalse, IsTrue, replicate, ◌<◌, length};
 ghost use Rattle.pf_values.specs.declared.models.Model.{Model};
 ghost use Rattle.pf_values.specs.Arguments.{Number, String};
-ghost use Rattle.pf_values.specs.Conversions.{base_of, base_under, has_capitals, is_string, is_text, is_upper};
+ghost use Rattle.pf_values.specs.Conversions.{base_of, base_under, has_capitals, is_string, is_text, is_upper, kind_of};
 ghost use Rattle.pf_values.specs.Bases.{number_of};
 ghost use Rattle.pf_values.specs.Specification.{Specification};
 ghost use Rattle.pf_probes.specs.Candidate.{argument_of};
 ghost use Rattle.pf_compare.specs.Outlines.{Foretells, digit_below_ten, digits_under};
-ghost use Rattle.pf_compare.specs.Spaces.{AreAlikeFor};
+ghost use Rattle.pf_compare.specs.Spaces.{AreAlikeFor, HasRoom, IsWithin, with_space};
+ghost use Rattle.std.specs.Int.Digits.{digits_of};
+ghost use Rattle.pf_values.specs.declared.conversions.Kind.TheVariants as kinds;
 
-use crate::equality::same_conv;
-use crate::outlines::Outline;
-use crate::runs::Run;
-use crate::spaces::Alike;
+use crate::outlines::{Outline, Run};
 use crate::values::{Counted, Value};
 use pf_probes::Candidate;
-use pf_values::{Conv, Directive, Kind, Model};
+use pf_values::{Conv, Directive, Flag, FlagSet, Kind, Length, Model};
 
 /// Whether two directives print different bytes for a candidate; none where they have to be printed
 /// to tell. What is known of both serves for all candidates.
@@ -186,4 +185,116 @@ fn is_one_digit(kind: Kind, number: u64) -> bool
         ≡ digit_below_ten number }
 {
     number < 10 && number < kind.base().number()
+}
+
+// 10 to the power of this is below 2 to the power of 64.
+const MOST_DIGITS: u16 = 19;
+
+/// Which values two directives print alike: negative ones, and those below a limit.
+#[derive(Clone, Copy)]
+pub(crate) struct Alike {
+    pub(crate) below: u64,
+}
+
+impl Alike {
+    /// What is known of two directives, if they print numbers with signs and differ in the flag ` `
+    /// at most.
+    pub(crate) fn of(first: &Directive, second: &Directive) -> Option<Alike>
+        ensures { IfSome result (AreAlikeFor first.now second.now) }
+    {
+        if is_signed(first) && are_equal_beside_space(first, second) {
+            return Some(Alike {
+                below: limit(first),
+            });
+        }
+        None
+    }
+
+    /// Whether this value is one of them.
+    #[inline(always)]
+    pub(crate) fn has(self, value: Value) -> bool
+        ensures { IsTrue result → IsWithin self value }
+    {
+        if value.is_negative {
+            return true;
+        }
+        value.size < self.below
+    }
+}
+
+#[inline(always)]
+fn is_signed(directive: &Directive) -> bool
+    ensures { IsTrue result → kind_of directive.now.conv ≡ kinds.Signed }
+{
+    matches!(directive.conv().kind(), Kind::Signed)
+}
+
+// A limit below which the digits of a number leave room for a space; 0 where none do.
+fn limit(directive: &Directive) -> u64
+    ensures { (n : ℕ) → n < result → HasRoom directive.now (length (digits_of 10 n)) }
+{
+    if directive.flags().has(Flag::Minus) {
+        return 0;
+    }
+    if directive.is_zero_filled() {
+        return 0;
+    }
+    let width = directive.width().unwrap_or(0);
+    if width <= directive.precision().unwrap_or(1) {
+        return 0;
+    }
+    10u64.pow(u32::from((width - 1).min(MOST_DIGITS)))
+}
+
+/// Whether two directives have the same parts.
+pub(crate) fn are_equal(first: &Directive, second: &Directive) -> bool
+    ensures { IsTrue result → first.now ≡ second.now }
+{
+    same_flags(first.flags(), second.flags())
+        && same_number(first.width(), second.width())
+        && same_number(first.precision(), second.precision())
+        && same_length(first.length(), second.length())
+        && same_conv(first.conv(), second.conv())
+}
+
+/// The same but for the flag ` `.
+pub(crate) fn are_equal_beside_space(first: &Directive, second: &Directive) -> bool
+    ensures { IsTrue result → with_space first.now ≡ with_space second.now }
+{
+    same_flags(
+        first.flags().with(Flag::Space),
+        second.flags().with(Flag::Space),
+    ) && same_number(first.width(), second.width())
+        && same_number(first.precision(), second.precision())
+        && same_length(first.length(), second.length())
+        && same_conv(first.conv(), second.conv())
+}
+
+fn same_flags(first: FlagSet, second: FlagSet) -> bool
+    ensures { IsTrue result → first ≡ second }
+{
+    first.has(Flag::Minus) == second.has(Flag::Minus)
+        && first.has(Flag::Plus) == second.has(Flag::Plus)
+        && first.has(Flag::Space) == second.has(Flag::Space)
+        && first.has(Flag::Alt) == second.has(Flag::Alt)
+        && first.has(Flag::Zero) == second.has(Flag::Zero)
+        && first.has(Flag::Group) == second.has(Flag::Group)
+}
+
+fn same_number(first: Option<u16>, second: Option<u16>) -> bool
+    ensures { IsTrue result → first ≡ second }
+{
+    first == second
+}
+
+pub(crate) fn same_length(first: Length, second: Length) -> bool
+    ensures { IsTrue result → first ≡ second }
+{
+    first == second
+}
+
+pub(crate) fn same_conv(first: Conv, second: Conv) -> bool
+    ensures { IsTrue result → first ≡ second }
+{
+    first == second
 }

@@ -1,13 +1,14 @@
 //! How numbers stand in their fields, as far as that is told without making their digits.
-ghost use Rattle.std.specs.Prelude.{◌≡◌, ◌+◌, ◌<◌, ◌≤◌, ◌++◌, ℤ, IsFalse, length, max, replicate};
+ghost use Rattle.std.specs.Prelude.{◌≡◌, ◌+◌, ◌<◌, ◌≤◌, ◌++◌, ℤ, IsFalse, length, max, replicate, IsTrue};
 ghost use Rattle.pf_values.specs.declared.models.Model.{Model};
 ghost use Rattle.pf_values.specs.Bases.{alternative_of};
-ghost use Rattle.pf_values.specs.Conversions.{is_text};
+ghost use Rattle.pf_values.specs.Conversions.{is_text, is_string};
 ghost use Rattle.pf_values.specs.Normal.{effective_precision};
 ghost use Rattle.pf_values.specs.Printing.{field, prefix_under, sign, sign_or_prefix};
 ghost use Rattle.pf_values.specs.Text.{space};
 ghost use Rattle.pf_render.specs.Zeros.{fewest_digits};
 ghost use Rattle.pf_compare.specs.Outlines.{Draws, HasCounted, HasSignAndSize, IsOutlineOf, front_text, fronted, outline_len};
+ghost use Rattle.pf_compare.specs.Runs.{IsRunOf, run_len};
 
 use crate::values::{Counted, Value};
 use pf_values::{Alternative, Base, Directive, Flag, Kind};
@@ -184,5 +185,43 @@ fn fewest_digits(directive: &Directive, count: u16) -> u16
     match directive.conv().kind().alternative() {
         Alternative::Raised => count + 1,
         Alternative::Undefined | Alternative::Prefixed => count,
+    }
+}
+
+/// A string of one byte in its field: so many spaces, the byte so many times, and spaces again.
+#[derive(Clone, Copy, PartialEq, Eq)]
+pub(crate) struct Run {
+    pub(crate) lead: u16,
+    pub(crate) count: u16,
+    pub(crate) trail: u16,
+}
+
+impl Run {
+    /// How a directive prints a string of one byte, so many times.
+    pub(crate) fn of(directive: &Directive, count: u16) -> Run
+        requires { IsTrue (is_string directive.now.conv) }
+        ensures { IsRunOf directive.now count result }
+    {
+        let count = directive.precision().unwrap_or(count).min(count);
+        let padding = directive.width().unwrap_or(0).saturating_sub(count);
+        if directive.flags().has(Flag::Minus) {
+            return Run {
+                lead: 0,
+                count,
+                trail: padding,
+            };
+        }
+        Run {
+            lead: padding,
+            count,
+            trail: 0,
+        }
+    }
+
+    /// How many bytes that is.
+    pub(crate) fn len(&self) -> usize
+        ensures { result ≡ run_len self.now }
+    {
+        usize::from(self.lead) + usize::from(self.count) + usize::from(self.trail)
     }
 }

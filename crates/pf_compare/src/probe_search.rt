@@ -13,11 +13,9 @@ ghost use Rattle.pf_compare.specs.Layouts.{AreLevel, AreTriedBelow, FillAlike, F
 ghost use Rattle.pf_compare.specs.Lone.{alone};
 ghost use Rattle.pf_compare.specs.Spaces.{AreAlikeFor};
 
-use crate::equality::are_equal;
-use crate::foresight::foretell;
+use crate::foresight::{Alike, are_equal, foretell};
 use crate::layouts::{Hole, Layout, print};
 use crate::owned_args::OwnedArg;
-use crate::spaces::Alike;
 use pf_probes::{Candidate, candidate_row};
 use pf_values::{Arg, ArgType, Directive, Model};
 use std::alloc::{AllocError, Global};

@@ -9,7 +9,7 @@ ghost use Rattle.pf_compare.specs.Lone.{DifferInOne};
 ghost use Rattle.pf_compare.specs.Witnesses.{AreNeutral, AwaitsCandidate, FindsWitness, HasCandidate, IsWitnessAt};
 
 use crate::layouts::{Hole, Layout};
-use crate::lone::LoneDifference;
+use crate::lone_difference::LoneDifference;
 use crate::owned_args::OwnedArg;
 use crate::probe_search::{Probe, are_unlike, first_apart, first_probe};
 use crate::type_lists::arg_type;

@@ -1,6 +1,6 @@
 //! The words that give arguments.
 use crate::OwnedArg;
-use crate::bytes::OwnedBytes;
+use crate::owned_bytes::OwnedBytes;
 use std::alloc::Global;
 use std::test::Fail;
 

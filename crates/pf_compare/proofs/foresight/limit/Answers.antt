@@ -5,7 +5,7 @@ use Rattle.pf_values.specs.Flags.{has}
 use Rattle.pf_values.specs.Normal.{precision_of}
 use Rattle.pf_values.specs.Specification.{width_of}
 use Rattle.pf_compare.proofs.SpaceLemmas.{limit_leaves}
-use Rattle.pf_compare.proofs.spaces.limit.Goals as goal
+use Rattle.pf_compare.proofs.foresight.limit.Goals as goal
 
 pub returns : goal.returns
 returns c =

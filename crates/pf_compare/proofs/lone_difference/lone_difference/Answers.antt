@@ -1,7 +1,7 @@
 use Rattle.std.proofs.Common.{[], refl, arith, rules, subst, sym, None}
 use Rattle.pf_text.specs.declared.pieces.Pieces.{Pieces}
 use Rattle.pf_compare.proofs.LoneLemmas.{AreAlong, along_more, along_whole}
-use Rattle.pf_compare.proofs.lone.lone_difference.Goals as goal
+use Rattle.pf_compare.proofs.lone_difference.lone_difference.Goals as goal
 
 pub loop-piece-init : goal.loop-piece-init
 loop-piece-init c = record {

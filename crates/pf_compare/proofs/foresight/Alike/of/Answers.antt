@@ -1,6 +1,6 @@
 use Rattle.std.proofs.Common.{rules}
 use Rattle.pf_compare.proofs.SpaceLemmas.{alike_for}
-use Rattle.pf_compare.proofs.spaces.Alike.of.Goals as goal
+use Rattle.pf_compare.proofs.foresight.Alike.of.Goals as goal
 
 pub returns-then-are_equal_beside_space : goal.returns-then-are_equal_beside_space
 returns-then-are_equal_beside_space c =

@@ -1,6 +1,6 @@
 use Rattle.std.proofs.Common.{◌≤◌, ◌+◌}
 use Rattle.pf_compare.proofs.LoneLemmas.{AreAlong}
-use Rattle.pf_compare.proofs.lone.lone_difference.Given as goal
+use Rattle.pf_compare.proofs.lone_difference.lone_difference.Given as goal
 
 abbrev pub invariant-loop-piece : goal.invariant-loop-piece
 invariant-loop-piece l = record {

@@ -1,6 +1,6 @@
 use Rattle.pf_text.specs.PieceHistory.{items_of}
 use Rattle.pf_compare.proofs.LoneLemmas.{followed_more}
-use Rattle.pf_compare.proofs.lone.go_on_alike.Goals as goal
+use Rattle.pf_compare.proofs.lone_difference.go_on_alike.Goals as goal
 
 pub returns-in-Ok : goal.returns-in-Ok
 returns-in-Ok c = λ alike g xs h at.
