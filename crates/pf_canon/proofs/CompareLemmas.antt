@@ -9,7 +9,7 @@ use Rattle.pf_values.specs.Counting.{Known}
 use Rattle.pf_values.specs.Items.{Item}
 use Rattle.pf_values.specs.Text.{Text}
 use Rattle.pf_probes.proofs.Unique.{equivalent_formats_one}
-use Rattle.pf_canon.specs.Comparing.{BeginsWith, CountsBehind, CountsSides, CountsStop, Drained, DrainsTo, EndsBoth, FailsOnceAtMost, FaultCounts, Gave, HasPace, IsPaced, PacesTo, StopsBy, StopsOn, AreTextsSame}
+use Rattle.pf_canon.specs.Comparing.{BeginsWith, CountsSides, CountsStop, Drained, DrainsTo, EndsBoth, FaultCounts, Gave, HasPace, IsPaced, PacesTo, StopsBy, StopsOn, AreTextsSame}
 use Rattle.pf_canon.specs.declared.comparing.Pace.{Pace}
 use Rattle.pf_canon.specs.declared.comparing.Pace.TheVariants.{On, Same, Differ}
 use Rattle.pf_canon.specs.declared.faults.SideFault.{SideFault}
@@ -35,10 +35,6 @@ pub fault_later : {B : Type 0} (kept failed : B → B → Type 0) → ((a b c : 
     → FaultCounts kept failed fault old new
 fault_later kept failed also later faults.Read old mid new h g = later old mid new h g
 fault_later kept failed also later (faults.Refused refusal) old mid new h g = also old mid new h g
-
-fails_once : {B : Type 0} (kept failed : B → B → Type 0) (fault : StreamFault) (old new : B) → FaultCounts kept failed fault old new → FailsOnceAtMost kept failed old new
-fails_once kept failed faults.Read old new h = inr h
-fails_once kept failed (faults.Refused refusal) old new h = inl h
 
 -- what a source gave first, and whatever came later
 abbrev pub GoesOn : Model → Option ℕ → Source → Known → Known → Text → Text → Type 0
@@ -211,11 +207,6 @@ module _ {A B : Type 0} (kept_a failed_a : A → A → Type 0) (kept_b failed_b 
       → (T : Type 0) (r : Result T SideFault) (a a_mid a_new : A) (b b_mid b_new : B) → kept_a a a_mid → kept_b b b_mid → CountsSides kept_a failed_a kept_b failed_b r a_mid a_new b_mid b_new → CountsSides kept_a failed_a kept_b failed_b r a a_new b b_new
   sides_later also_a later_a also_b later_b T (Ok answer) a a_mid a_new b b_mid b_new h k s = (also_a a a_mid a_new h s.0, also_b b b_mid b_new k s.1)
   sides_later also_a later_a also_b later_b T (Err stop) a a_mid a_new b b_mid b_new h k s = stop_later also_a later_a also_b later_b stop.side stop.fault a a_mid a_new b b_mid b_new h k s
-
-  -- the second stopped, and perhaps the first, too
-  pub behind_counts : (fault : StreamFault) (side : Side) (told : StreamFault) (a a_new : A) (b b_new : B) → CountsBehind kept_a failed_a fault side told a a_new → FaultCounts kept_b failed_b fault b b_new → CountsStop kept_a failed_a kept_b failed_b side told a a_new b b_new
-  behind_counts fault First told a a_new b b_new h k = (h, fails_once kept_b failed_b fault b b_new k)
-  behind_counts fault Second told a a_new b b_new h k = (h.0, subst (λ f. FaultCounts kept_b failed_b f b b_new) (sym h.1) k)
 
 -- texts in memory
 begun : (model : Model) (r : Transducer) (f p out : Text) (common at : ℕ) → take common f ≡ p → r.model ≡ model → IsUpTo r p at out → IsMidway model r (drop at f) [] f out

@@ -4,13 +4,12 @@ use Rattle.std.specs.Prelude.{flat_map}
 use Rattle.std.proofs.Math.Nat.{mod-eq_of_lt, mod-eq-sub-mod}
 use Rattle.std.proofs.Math.Seq.{drop-append-add}
 use Rattle.std.proofs.lemmas.Bool.{cases_lt}
-use Rattle.std.proofs.lemmas.List.{append-nil, append_assoc, drop-append-le, length-drop, length-replicate, replicate-append-replicate}
+use Rattle.std.proofs.lemmas.List.{append-nil, append_assoc, drop-append-le, length-drop, length-replicate, replicate-append-replicate, take-replicate}
 use Rattle.pf_values.specs.Canonical.{item_spelling}
 use Rattle.pf_values.specs.Text.{Text}
 use Rattle.pf_text.specs.Plain.{silents}
 use Rattle.pf_canon.specs.Parts.{IsFrontOf, silent_bytes}
 use Rattle.pf_canon.proofs.SilentLemmas.{spelled_silent}
-use Rattle.pf_canon.proofs.PutLemmas.{take_block}
 
 -- all of a text
 pub front_all : (t : Text) → IsFrontOf t t
@@ -29,6 +28,10 @@ pub front_of_second : (t u f : Text) (n at : ℕ) → length t ≡ n → n ≤ a
 front_of_second t u f n at len past h =
     let place : at ≡ length t + (at - n) = omega (arith, len, past) in
     subst (λ v. IsFrontOf v f) (sym (ap (λ k. drop k (t ++ u)) place ∙ drop-append-add t u (at - n))) h
+
+-- a part of a block of one byte
+pub take_block : (block : Text) (most len byte : ℕ) → block ≡ replicate most byte → len ≤ most → take len block ≡ replicate len byte
+take_block block most len byte e few = ap (take len) e ∙ take-replicate len most byte few
 
 -- a block of one byte, or less
 pub few_repeated : (block : Text) (most count byte : ℕ) → block ≡ replicate most byte → count < most → IsFrontOf (replicate count byte) (take count block)

@@ -1,64 +1,66 @@
-//! What the front of a text settles, appended or written.
-ghost use Rattle.std.specs.Prelude.{◌≡◌, ◌++◌, IfOk};
-ghost use Rattle.pf_canon.specs.Putting.{Puts};
-ghost use Rattle.pf_canon.specs.Through.{IsFrontWithin, front_text, item_text};
+//! What a text settles, front after front, put into a sink.
+ghost use Rattle.std.specs.Prelude.{◌++◌, MatchResult};
+ghost use Rattle.pf_values.specs.Refusals.{IsRefusedAt};
+ghost use Rattle.pf_values.specs.Text.{Text};
+ghost use Rattle.pf_canon.specs.Answers.{IsCanonicalFor};
+ghost use Rattle.pf_canon.specs.Through.{IsFrontWithin, IsUpTo, front_text, item_text, model_of};
 
-use crate::putting::put;
-use crate::rooms::Room;
-use crate::transducing::{Front, Made};
-use pf_values::Counted;
-use std::alloc::AllocError;
-use std::io::Write;
+use crate::sinks::Sink;
+use crate::transducing::{Front, Made, Transducer};
+use pf_text::Refusal;
 
-impl Front {
-    /// Appends what it settles.
-    pub(crate) fn append<R: Room>(&self, text: &[u8], out: &mut R) -> Result<(), AllocError>
-        requires { IsFrontWithin self.now text.now }
-        ensures { IfOk result (λ _. R.bytes_of out.new ≡ R.bytes_of out.old
-            ++ front_text self.now text.now) }
-    {
-        out.append(&text[..self.run])?;
-        self.append_item(text, out)
+/// Puts what follows of a canonical text after what the first `at` bytes of its format settle.
+pub(crate) fn put_behind<S: Sink>(
+    mut transducer: Transducer,
+    text: &[u8],
+    at: usize,
+    sink: &mut S,
+) -> Result<(), Refusal>
+    ensures { (out : Text) → IsUpTo transducer text.now at out
+        → MatchResult result (λ _. (more : Text) × S.given sink.old sink.new more
+        × IsCanonicalFor (model_of transducer) text.now (out ++ more))
+        (λ refusal. IsRefusedAt text.now refusal.kind refusal.at) }
+{
+    let mut at = at;
+    while at < text.len() {
+        let rest = &text[at..];
+        let front = match transducer.feed_front(rest) {
+            Ok(front) => front,
+            Err(stop) => return Err(stop.refusal),
+        };
+        front.put(rest, sink);
+        at += front.len;
     }
-
-    fn append_item<R: Room>(&self, text: &[u8], out: &mut R) -> Result<(), AllocError>
-        requires { IsFrontWithin self.now text.now }
-        ensures { IfOk result (λ _. R.bytes_of out.new ≡ R.bytes_of out.old
-            ++ item_text self.now text.now) }
-    {
-        match &self.made {
-            Made::Nothing => Ok(()),
-            Made::Literal => out.append(&text[self.start..self.len]),
-            Made::Parts(parts) => parts.append(out),
+    match transducer.finish() {
+        Ok(parts) => {
+            parts.put(sink);
+            Ok(())
         }
+        Err(refusal) => Err(refusal),
     }
 }
 
 impl Front {
-    /// Writes what it settles, and counts on from `count`.
-    pub(crate) fn put<W: Write>(
-        &self,
-        text: &[u8],
-        w: &mut Counted<W>,
-        count: u128,
-    ) -> Result<u128, u128>
+    /// Puts what it settles.
+    pub(crate) fn put<S: Sink>(&self, text: &[u8], sink: &mut S)
         requires { IsFrontWithin self.now text.now }
-        ensures { Puts W.contents w.old w.new (front_text self.now text.now) count result }
+        ensures { S.given sink.old sink.new (front_text self.now text.now) }
     {
-        match put(w, &text[..self.run], count) {
-            Ok(count) => self.put_item(text, w, count),
-            Err(count) => Err(count),
+        if sink.is_shut() {
+            return;
         }
+        sink.put(&text[..self.run]);
+        self.put_item(text, sink);
     }
 
-    fn put_item<W: Write>(&self, text: &[u8], w: &mut Counted<W>, count: u128) -> Result<u128, u128>
+    fn put_item<S: Sink>(&self, text: &[u8], sink: &mut S)
         requires { IsFrontWithin self.now text.now }
-        ensures { Puts W.contents w.old w.new (item_text self.now text.now) count result }
+        ensures { S.given sink.old sink.new (item_text self.now text.now) }
     {
         match &self.made {
-            Made::Nothing => Ok(count),
-            Made::Literal => put(w, &text[self.start..self.len], count),
-            Made::Parts(parts) => parts.put(w, count),
+            Made::Nothing => {}
+            Made::Literal => sink.put(&text[self.start..self.len]),
+            Made::Parts(parts) => parts.put(sink),
         }
     }
 }

@@ -1,13 +1,15 @@
 //! How long a canonical text is.
-ghost use Rattle.std.specs.Prelude.{◌≡◌, ◌+◌, ◌*◌, ◌^◌, ◌<◌, length, MatchResult};
+ghost use Rattle.std.specs.Prelude.{◌≡◌, ◌+◌, ◌*◌, ◌^◌, ◌<◌, length, take, MatchResult};
 ghost use Rattle.pf_values.specs.Refusals.{IsRefusedAt};
 ghost use Rattle.pf_values.specs.Text.{Text};
 ghost use Rattle.pf_canon.specs.Answers.{IsCanonicalFor};
 ghost use Rattle.pf_canon.specs.Parts.{parts_text};
-ghost use Rattle.pf_canon.specs.Through.{IsFrontWithin, IsUpTo, front_text, item_text, model_of};
+ghost use Rattle.pf_canon.specs.Through.{IsUpTo, model_of};
 
+use crate::fronts::put_behind;
 use crate::parts::Parts;
-use crate::transducing::{Front, Made, Transducer};
+use crate::sinks::Sink;
+use crate::transducing::Transducer;
 use pf_text::Refusal;
 use pf_values::Model;
 
@@ -19,65 +21,46 @@ pub fn canonical_len(model: Model, text: &[u8]) -> Result<u128, Refusal>
         (λ refusal. IsRefusedAt text.now refusal.kind refusal.at) }
 {
     let (transducer, run) = Transducer::after_run(model, text);
-    len_from(transducer, text, run, run as u128)
+    len_behind(transducer, text, run)
 }
 
-/// The same, where the first `at` bytes were taken and settle `len` bytes.
-pub(crate) fn len_from(
-    mut transducer: Transducer,
-    text: &[u8],
-    at: usize,
-    len: u128,
-) -> Result<u128, Refusal>
-    requires { (out : Text) × IsUpTo transducer text.now at out × (len ≡ length out) }
+/// The same, after the run at the front of the text, which settles itself.
+pub(crate) fn len_behind(transducer: Transducer, text: &[u8], run: usize) -> Result<u128, Refusal>
+    requires { IsUpTo transducer text.now run (take run text.now) }
     ensures { MatchResult result
         (λ len. (c : Text) × IsCanonicalFor (model_of transducer) text.now c × (len ≡ length c))
         (λ refusal. IsRefusedAt text.now refusal.kind refusal.at) }
 {
-    let mut at = at;
-    let mut len = len;
-    while at < text.len() {
-        let rest = &text[at..];
-        let front = match transducer.feed_front(rest) {
-            Ok(front) => front,
-            Err(stop) => return Err(stop.refusal),
-        };
-        len += front.settled_len(rest);
-        at += front.len;
-    }
-    match transducer.finish() {
-        Ok(parts) => Ok(len + parts.len()),
+    let mut length = Length { len: run as u128 };
+    match put_behind(transducer, text, run, &mut length) {
+        Ok(()) => Ok(length.len),
         Err(refusal) => Err(refusal),
     }
 }
 
-impl Front {
-    // How many bytes it settles.
-    fn settled_len(&self, text: &[u8]) -> u128
-        requires { IsFrontWithin self.now text.now }
-        ensures { result ≡ length (front_text self.now text.now) }
-    {
-        run_and_item(text[..self.run].len(), self.item_len(text))
-    }
-
-    fn item_len(&self, text: &[u8]) -> u128
-        requires { IsFrontWithin self.now text.now }
-        ensures total { result ≡ length (item_text self.now text.now) }
-        ensures few { result < 2 ^ 100 }
-    {
-        match &self.made {
-            Made::Nothing => 0,
-            Made::Literal => text[self.start..self.len].len() as u128,
-            Made::Parts(parts) => parts.len(),
-        }
-    }
+/// How many bytes were given.
+#[derive(Clone, Copy, Debug)]
+pub(crate) struct Length {
+    len: u128,
 }
 
-fn run_and_item(run: usize, item: u128) -> u128
-    requires { item < 2 ^ 100 }
-    ensures { result ≡ run + item }
-{
-    run as u128 + item
+impl Sink for Length {
+    ghost use Rattle.pf_canon.specs.Sinks.{IsCounted};
+    ghost use Rattle.pf_canon.specs.SinkLaws.{counts};
+
+    ghost given = { IsCounted };
+
+    ghost laws = { counts };
+
+    #[inline(always)]
+    fn put(&mut self, bytes: &[u8]) {
+        self.len = self.len.wrapping_add(bytes.len() as u128);
+    }
+
+    #[inline(always)]
+    fn is_shut(&self) -> bool {
+        false
+    }
 }
 
 impl Parts {

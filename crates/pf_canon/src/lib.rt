@@ -18,6 +18,7 @@ mod putting;
 mod reading;
 mod rooms;
 mod sides;
+mod sinks;
 mod sources;
 mod streaming;
 #[cfg(test)]

@@ -1,8 +1,10 @@
 //! Where a canonical text is put together.
-ghost use Rattle.std.specs.Prelude.{◌≡◌, ◌++◌, replicate, IfOk};
+ghost use Rattle.std.specs.Prelude.{◌≡◌, ◌++◌, IfOk};
 ghost use Rattle.pf_values.specs.Text.{Text};
+ghost use Rattle.pf_canon.specs.Sinks.{IsBuilt};
+ghost use Rattle.pf_canon.specs.SinkLaws.{builds};
 
-use crate::limits::BLOCK;
+use crate::sinks::Sink;
 use arrayvec::ArrayVec;
 use std::alloc::{AllocError, Allocator};
 
@@ -41,19 +43,29 @@ impl<const N: usize> Room for ArrayVec<u8, N> {
     }
 }
 
-/// Appends one byte over and over.
-pub(crate) fn append_repeated<R: Room>(out: &mut R, byte: u8, times: u16) -> Result<(), AllocError>
-    ensures { IfOk result (λ _. R.bytes_of out.new ≡ R.bytes_of out.old ++ replicate times byte) }
-{
-    if times == 0 {
-        return Ok(());
+/// A text that is put together, and whether there was too little room for a part of it.
+#[derive(Drop)]
+pub(crate) struct Building<R> {
+    pub(crate) room: R,
+    pub(crate) is_full: bool,
+}
+
+impl<R: Room> Sink for Building<R> {
+    ghost given = { IsBuilt R.bytes_of };
+
+    ghost laws = { builds R.bytes_of };
+
+    #[inline(always)]
+    fn put(&mut self, bytes: &[u8]) {
+        match self.room.append(bytes) {
+            Ok(()) => {}
+            Err(_) => self.is_full = true,
+        }
     }
-    let block = [byte; BLOCK];
-    let mut left = usize::from(times);
-    while left > 0 {
-        let len = left.min(BLOCK);
-        out.append(&block[..len])?;
-        left -= len;
+
+    // A shorter text may still find room.
+    #[inline(always)]
+    fn is_shut(&self) -> bool {
+        false
     }
-    Ok(())
 }
