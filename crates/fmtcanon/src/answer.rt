@@ -24,7 +24,7 @@ use crate::run::print_format;
 use crate::show_lines::show_lines;
 use crate::task::Question;
 use crate::type_lines::type_lines;
-use pf_canon::{Side, canonical};
+use pf_canon::{Side, canonical_with_room};
 use pf_literals::LiteralFault;
 use pf_signatures::{SignatureRefusal, arguments};
 use pf_text::{Refusal, check};
@@ -333,7 +333,8 @@ fn canonical_line(
     ensures { MatchResult result (λ out. HasCanonicalLine notation model format.now out.items)
         (HindersFormat format.now) }
 {
-    let canonical = canonical(alloc, model, format)?;
+    // With room for the newline, so that it needs no growth of its own.
+    let canonical = canonical_with_room(alloc, model, format, 1)?;
     Ok(with_newline(notation.write(alloc, canonical)?)?)
 }
 

@@ -26,7 +26,7 @@ mod tests;
 mod transducing;
 mod walks;
 
-pub use canonical_texts::canonical;
+pub use canonical_texts::{canonical, canonical_with_room};
 pub use canonicity::is_canonical;
 pub use comparing::{same_stream, same_text};
 pub use copying::{canonical_stream, copy_canonical};
