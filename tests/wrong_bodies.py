@@ -36,6 +36,7 @@ import rattle_functions
 TOP = Path(__file__).resolve().parent.parent
 FOLDERS = ["must-fail", "wrong-bodies"]
 PARTS = ["src", "specs", "proofs"]
+PRINTING = threading.Lock()
 # How many edits share a check at most: with more, the checks of a crate would not go side by side.
 MOST = 30
 # What is said of a proof file that names what the code no longer has.
@@ -326,6 +327,13 @@ class Trial:
         for edit in edits:
             if edit.why_broken:
                 self.verdicts[edit.name] = Verdict.BROKEN, edit.why_broken
+                self.tell(edit)
+
+    def tell(self, edit):
+        """Prints what became of an edit, as soon as that is known."""
+        kind, why = self.verdicts[edit.name]
+        with PRINTING:
+            print(f"{edit.name}: {kind.value}: {why}", flush=True)
 
     @contextmanager
     def room(self):
@@ -355,6 +363,8 @@ class Trial:
             room.put_back(texts)
         for edit in edits:
             self.verdicts[edit.name] = verdict_of(report, edit)
+            if self.verdicts[edit.name][0] is Verdict.REFUSED:
+                self.tell(edit)
 
     def alone(self, edit):
         """Tries an edit with nothing beside it, and runs the tests with it where only a proof file refuses it."""
@@ -364,6 +374,8 @@ class Trial:
             failed = self.failing_test(texts)
             if failed:
                 self.verdicts[edit.name] = Verdict.BY_A_TEST, failed
+        if self.verdicts[edit.name][0] is not Verdict.REFUSED:
+            self.tell(edit)
 
     def failing_test(self, texts):
         """A test that fails with these texts and not without them, if there is one."""
@@ -391,11 +403,8 @@ class Trial:
             return bool(re.search(r"^only=(\d+) proved=\1$", room.check(paths), re.MULTILINE))
 
     def report(self, is_proved):
-        """Prints what became of each edit, and answers how many passed and failed."""
+        """Prints how many edits were refused, and answers how many passed and failed."""
         passed = sum(kind.is_good() for kind, _ in self.verdicts.values())
-        for edit in self.edits:
-            kind, why = self.verdicts[edit.name]
-            print(f"{edit.name}: {kind.value}: {why}")
         if not is_proved:
             print(f"{self.name}: NOT PROVED as it stands, so its edits show nothing")
         print(f"{self.name}: {passed} of {len(self.edits)} edits refused", flush=True)
