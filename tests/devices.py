@@ -46,6 +46,7 @@ ANSWERED = [
     (["same", "%zd", "%ld"], b"", 0, b"same\n"),
     (["same", "%d", "%ld"], b"", 1, b"types differ at argument 0\n"),
     (["same", "%05d", "%.5d"], b"", 1, b"different\nn:-1\n"),
+    (["same", "%05d%05d", "%.5d%.5d"], b"", 1, b"different\nn:-1\nn:0\n"),
     (["same", "%s", "%.4095s"], b"", 1, b"different\ns:" + b"A" * 4096 + b"\n"),
     (["stream"], b"a%.0sb%5d", 0, b"ab%.0s%5d"),
     (["canon", LONG_FORMAT], b"", 0, LONG_TEXT + b"\n"),

@@ -111,7 +111,7 @@ def try_header(trials):
     trials.expect("sets of data models", header_numbers("fmtcanon_models"), sets)
     verdicts = source_numbers("fmtcanon_c/src/comparison.rt", r"Verdict::(\w+)[^=]*=> \((\d+),", {"Args": "DIFFERENT"})
     trials.expect("verdicts", header_numbers("fmtcanon_verdict"), verdicts)
-    for name, source, struct in [("fmtcanon_error", "errors", "CError"), ("fmtcanon_comparison", "comparing", "CComparison")]:
+    for name, source, struct in [("fmtcanon_error", "interface", "CError"), ("fmtcanon_comparison", "comparison", "CComparison")]:
         told = re.search(rf"typedef struct {name} \{{(.*?)\}}", header_text(), flags=re.DOTALL).group(1)
         text = (SOURCES / f"{source}.rt").read_text(encoding="utf-8")
         code = re.search(rf"#\[repr\(C\)\][^{{]*struct {struct} \{{(.*?)\n\}}", text, flags=re.DOTALL).group(1)

@@ -191,7 +191,7 @@ static CALLS: [(Call, usize, usize); 12] = [
     (Call::Signature, 136, 0),
     (Call::RenderVec, 136, 4_096),
     (Call::CompareStrings, 136, 2_048),
-    (Call::CompareNumbers, 136, 128),
+    (Call::CompareNumbers, 136, 0),
     (Call::Confirms, 24, 24),
     (Call::Types, 136, 4_096),
     (Call::Show, 136, 4_096),
