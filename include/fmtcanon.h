@@ -17,7 +17,7 @@
  * left as it was, and so is every byte after the answer. The result is the same either way. So a
  * call with `cap` 0 asks how much room is wanted, and the next one, with that room, fills it.
  *
- * What the caller owes. `error` may be NULL: then only the result tells of a refusal. `comparison`
+ * What the caller owes. `error` may be NULL: then only the result shows a refusal. `comparison`
  * isn't NULL. Both are aligned. `text` and `out` may be NULL where their length is 0; else they
  * point to so many bytes, fewer than 2^63. What is written (`out`, `comparison`, `error`) overlaps
  * nothing else that the call is given. No other thread writes the texts during the call, nor touches
@@ -37,7 +37,7 @@
 extern "C" {
 #endif
 
-/* The version of this header; fmtcanon_version() tells that of the library. */
+/* The version of this header; fmtcanon_version() is that of the library. */
 #define FMTCANON_VERSION_MAJOR 0
 #define FMTCANON_VERSION_MINOR 2
 #define FMTCANON_VERSION_PATCH 0
@@ -96,7 +96,7 @@ enum fmtcanon_kind {
     FMTCANON_TWO_TYPES = 22            /* one argument with two types */
 };
 
-/* Why a text is no source of string literals, told in the same way. */
+/* Why a text is no source of string literals, in the same form. */
 enum fmtcanon_literal_kind {
     FMTCANON_NO_LITERAL = 201,       /* a byte outside of a literal that is no white space, or no literal */
     FMTCANON_UNTERMINATED = 202,     /* a line, or the text, ends in a literal */
@@ -142,7 +142,7 @@ typedef struct fmtcanon_error {
     uint32_t side; /* which format: 0 for the first or only one, 1 for the second */
 } fmtcanon_error;
 
-/* What fmtcanon_compare() tells beside the words of the arguments. */
+/* What fmtcanon_compare() answers beside the words of the arguments. */
 typedef struct fmtcanon_comparison {
     uint64_t number;     /* TYPES: the argument, counted from 0, at which the types differ; the
                             number of arguments of the format that has fewer, where they differ in
@@ -183,7 +183,7 @@ int64_t fmtcanon_same(int model, const char *first, size_t first_len, const char
 int64_t fmtcanon_same_models(const char *first, size_t first_len, const char *second,
                              size_t second_len, fmtcanon_error *error);
 
-/* Compares two formats, and tells `*comparison` what they are to each other. For
+/* Compares two formats, and puts the answer into `*comparison`. For
  * FMTCANON_DIFFERENT the words of arguments for which they print different bytes are put into
  * `out`, each with a zero after it: `n:` and a decimal number, or `s:` and the bytes of a string.
  * These are the words that the commands `fmtcanon same` and `fmtcanon format` use. The result is
@@ -204,7 +204,7 @@ int64_t fmtcanon_arguments(int model, const char *text, size_t len, unsigned cha
 int64_t fmtcanon_fits(int model, const char *first, size_t first_len, const char *second,
                       size_t second_len, fmtcanon_error *error);
 
-/* The number of bytes that a source stands for, which are put into `out` with a zero after them. A
+/* The number of bytes of a source, which are put into `out` with a zero after them. A
  * source is one or more string literals of C with white space or none before, between and behind
  * them, as `"Total:\t%i" "\n"`, quotes and all (C11 6.4.5). There is room where the number is below
  * `cap`; it is at most `len`. Takes memory of the length of the source. */
@@ -216,8 +216,8 @@ int64_t fmtcanon_decode_literal(const char *source, size_t len, char *out, size_
  * byte is written as `\000`, which is no source. Takes memory of that length. */
 int64_t fmtcanon_encode_literal(const char *text, size_t len, char *out, size_t cap);
 
-/* The place in a source where the byte of this index comes from: where the character or the escape
- * sequence begins that stands for it; at the number of the bytes, the last closing quote. So a
+/* The place in a source where the byte of this index comes from: where its character or its escape
+ * sequence begins; at the number of the bytes, the last closing quote. So a
  * refusal of the bytes at `error.at` is a refusal of the source at
  * fmtcanon_source_offset(source, len, error.at). FMTCANON_ERROR_NOPLACE where there is no such byte,
  * and where the text is no source. Takes no memory. */

@@ -1,4 +1,4 @@
--- What is told of the bytes of a format that is given.
+-- What holds of the bytes of a format that is given.
 use Rattle.std.proofs.Common.{◌≡◌, ℕ, ◌≤◌, List, Option, None, Some, ap, arith, length, length-append, subst, sym, unwrap_or}
 use Rattle.std.specs.Prelude.{MatchOption, ⊤}
 use Rattle.pf_canon.specs.declared.sides.Side.TheVariants as sides
@@ -48,7 +48,7 @@ place_told given index at found is place e bytes gives within =
     let there = place_there text bytes index found place (subst (λ n. Gives n text bytes) is gives) within in
     subst (λ n. IsToldAt n text index at) (sym is) (subst (IsPlaceOf text index) (sym e) there)
 
--- a place that a fault tells is within the bytes, and no fault of literals is one of bytes
+-- the place of a fault is within the bytes, and no fault of literals is one of bytes
 abbrev pub IsOfBytes : Text → Fault → Type 0
 IsOfBytes bytes (Refused None refusal) = refusal.at ≤ length bytes
 IsOfBytes bytes (Refused (Some side) refusal) = ⊥
@@ -60,7 +60,7 @@ IsOfBytes bytes (WrongCount wanted given) = ⊤
 IsOfBytes bytes (WrongType index) = ⊤
 IsOfBytes bytes Memory = ⊤
 
--- what hinders the bytes of a format, told at its place
+-- why the bytes of a format have no answer, at the place in the text
 pub given_hindered : (Hinders : Text → Fault → Type 0) (given : GivenFormat) (bytes : Text) (fault told : Fault) → ((f : Fault) → Hinders bytes f → IsOfBytes bytes f)
     → IsFormat given bytes → Hinders bytes fault → IsToldOf given fault told → HindersGiven Hinders given told
 given_hindered Hinders given bytes (Refused None refusal) told of gives h (at, is, tells) =
@@ -106,7 +106,7 @@ arguments_of_bytes model words bytes (WrongType index) h = tt
 arguments_of_bytes model words bytes Memory h = tt
 
 module _ (first second : GivenFormat) (one other : Text) (g : IsFormat first one) (h : IsFormat second other) where
-  -- what hinders two formats of the profile, told at its place
+  -- why two formats of the profile have no answer, at the place in the text
   pub pair_hindered : (fault told : Fault) → HindersFormats one other fault → IsToldBySide first second (side_of fault) fault told → HindersPair HindersFormat IsAccepted first second told
   pair_hindered (Refused None refusal) told hinders is = absurd hinders
   pair_hindered (Refused (Some sides.First) refusal) told hinders (at, is, tells) =

@@ -94,7 +94,7 @@ same_bytes (a ∷ x) (b ∷ y) e =
     let first : a ≡ b = cc in
     cc
 
--- bytes before and after a directive are told apart from it
+-- bytes before and after a directive are not its own
 record AreSameParts (x y : Text) (c d : Specification) (u v : Text) : Type 0 where
   pub before : x ≡ y
   pub core : c ≡ d

@@ -1,4 +1,4 @@
--- The word by which an argument is told is read as that argument.
+-- The word that is printed for an argument is read as that argument.
 use Rattle.std.proofs.Common.{ℕ, ◌<◌, ◌≤◌, ◌^◌, ℤ, pos, negsuc, neg_ℤ, ◌≤ℤ◌, ◌<ℤ◌, Bool, true, false, [], ◌∷◌, length, refl, ap, arith, zero, suc}
 use Rattle.std.specs.Fmt.{decimal, digit_glyph}
 use Rattle.std.specs.Int.Digits.{digits_of}

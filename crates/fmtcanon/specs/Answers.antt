@@ -159,7 +159,7 @@ IsHindered (Fits model first second) fault =
 IsHindered (Same models first second) fault =
     HindersPair HindersFormat IsAccepted first second fault
 
--- the side that a refusal tells
+-- the side that is refused
 abbrev pub side_of : Fault → Option Side
 side_of (Refused side refusal) = side
 side_of (RefusedWhole side refusal) = side
@@ -169,12 +169,12 @@ side_of (WrongCount wanted given) = None
 side_of (WrongType index) = None
 side_of Memory = None
 
--- a place in the bytes of a format is told by this place of the text
+-- a place in the bytes of a format is reported as this place of the text
 abbrev pub TellsPlace : GivenFormat → ℕ → ℕ → Type 0
 TellsPlace given at told = (bytes : Text) → IsFormat given bytes → at ≤ length bytes
     → IsToldAt given.notation given.text.now at told
 
--- A refusal of the bytes of a format is told at its place in the text, and any other fault as it is.
+-- A refusal of the bytes of a format is reported at its place in the text, any other fault as it is.
 abbrev pub IsToldOf : GivenFormat → Fault → Fault → Type 0
 IsToldOf given (Refused side refusal) told = (at : ℕ)
     × (told ≡ Refused side (record refusal { at = at })) × TellsPlace given refusal.at at
@@ -186,7 +186,7 @@ IsToldOf given (WrongCount wanted had) told = told ≡ WrongCount wanted had
 IsToldOf given (WrongType index) told = told ≡ WrongType index
 IsToldOf given Memory told = told ≡ Memory
 
--- the same of two, by the side that it tells
+-- the same of two formats, by the side that is refused
 abbrev pub IsToldBySide : GivenFormat → GivenFormat → Option Side → Fault → Fault → Type 0
 IsToldBySide first second (Some sides.Second) fault told = IsToldOf second fault told
 IsToldBySide first second (Some sides.First) fault told = IsToldOf first fault told

@@ -50,7 +50,7 @@ abbrev pub fit_ending : Option ℕ → Ending
 fit_ending None = endings.Same
 fit_ending (Some index) = endings.Different
 
--- whether the second of two accepted formats takes just the arguments of the first, told in a line
+-- the line on whether the second of two accepted formats takes just the arguments of the first
 pub record IsFitAnswer (model : Model) (first second out : Text) (ending : Ending) : Type 0 where
   pub index : Option ℕ
   pub compares : Compares model first second index

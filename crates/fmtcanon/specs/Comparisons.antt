@@ -1,4 +1,4 @@
--- How a comparison is told. This project's own.
+-- What a comparison prints. This project's own.
 use Rattle.std.specs.Prelude.{◌≡◌, List, [], ◌∷◌, ◌++◌, codes, decimal, flat_map, take}
 use Rattle.pf_values.specs.declared.models.Model.{Model}
 use Rattle.pf_values.specs.declared.models.TheConstants.Model.{ALL}
@@ -36,13 +36,13 @@ verdict_lines Same = line (codes "same")
 verdict_lines (Types index) = line (codes "types differ at argument " ++ decimal index)
 verdict_lines (Args args) = line (codes "different") ++ flat_map argument_line args.items
 
--- the ending of a run that tells this verdict
+-- how a run with this verdict ends
 abbrev pub ending_of : Verdict → Ending
 ending_of Same = endings.Same
 ending_of (Types index) = endings.Different
 ending_of (Args args) = endings.Different
 
--- the verdict on two accepted formats, told in lines
+-- the verdict on two accepted formats, in lines
 pub record IsComparisonAnswer (model : Model) (first second out : Text)
     (ending : Ending) : Type 0 where
   pub comparison : Comparison

@@ -24,7 +24,7 @@ abbrev pub of_canonical : CanonFault → Fault
 of_canonical (canonical.Refused refusal) = Refused None refusal
 of_canonical canonical.Memory = Memory
 
--- a fault of comparing two, which tells the side
+-- a fault of comparing two, with the side that is refused
 abbrev pub of_comparison : CompareFault → Fault
 of_comparison (comparison.Refused side refusal) = Refused (Some side) refusal
 of_comparison comparison.Memory = Memory

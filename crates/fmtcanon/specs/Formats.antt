@@ -1,4 +1,4 @@
--- Formats as they are given, and what is told of their bytes. This project's own.
+-- Formats as they are given, and places in them. This project's own.
 use Rattle.std.specs.Prelude.{◌≡◌, ℕ, ⊤}
 use Rattle.pf_literals.specs.declared.faults.LiteralFault.{LiteralFault}
 use Rattle.pf_literals.specs.declared.faults.LiteralFault.TheVariants.{Refused, Memory}
@@ -12,12 +12,12 @@ use Rattle.fmtcanon.specs.declared.formats.GivenFormat.{GivenFormat}
 use Rattle.fmtcanon.specs.declared.formats.Notation.{Notation}
 use Rattle.fmtcanon.specs.declared.formats.Notation.TheVariants.{Bytes, Literals}
 
--- a text gives these bytes: it is them, or string literals that stand for them
+-- a text gives these bytes: it is them, or it is string literals with these bytes
 abbrev pub Gives : Notation → Text → Text → Type 0
 Gives Bytes text bytes = bytes ≡ text
 Gives Literals text bytes = IsSourceOf text bytes
 
--- the place in the text that is told in the place of a byte, or of the end of the bytes
+-- the place in the text of a byte that it gives, or of the end of the bytes
 abbrev pub IsToldAt : Notation → Text → ℕ → ℕ → Type 0
 IsToldAt Bytes text index at = at ≡ index
 IsToldAt Literals text index at = IsPlaceOf text index at
@@ -48,7 +48,7 @@ HindersBytes given Memory = ⊤
 abbrev pub HoldsOf : GivenFormat → (Text → Type 0) → Type 0
 HoldsOf given Holds = (bytes : Text) × IsFormat given bytes × Holds bytes
 
--- something holds of its bytes at a place in them, which is told by a place of the text
+-- something holds of its bytes at the place in them that belongs to a place of the text
 pub record HoldsAt (given : GivenFormat) (Holds : Text → ℕ → Type 0) (told : ℕ) : Type 0 where
   pub bytes : Text
   pub gives : IsFormat given bytes

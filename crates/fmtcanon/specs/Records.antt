@@ -21,7 +21,7 @@ use Rattle.fmtcanon.specs.declared.task.RecordQuestion.{RecordQuestion}
 abbrev pub IsBare : Text → Type 0
 IsBare text = AllByRecursion (λ byte. byte ≢ 0) text
 
--- These whole records stand in a text, each with a zero byte after it, and then the rest of it.
+-- A text is these whole records, each with a zero byte after it, and then the rest of it.
 pub record IsCut (text : Text) (whole : List Text) (rest : Text) : Type 0 where
   pub bare : AllByRecursion IsBare whole × IsBare rest
   pub is : text ≡ flat_map (λ r. r ++ 0 ∷ []) whole ++ rest

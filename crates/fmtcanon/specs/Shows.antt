@@ -48,7 +48,7 @@ abbrev pub reduced_line : Model → Specification → Reduced → Text
 reduced_line model s r = line (codes "directive " ++ spelling_of s ++ codes ": "
     ++ type_name (arg_type model s) ++ codes ": " ++ reduced_text r)
 
--- A directive has one reduction, and its line tells that.
+-- A directive has one reduction, which its line shows.
 abbrev pub IsLineOf : Model → Shown → Text → Type 0
 IsLineOf model (Run bytes) out = out ≡ line (codes "text " ++ decimal (length bytes))
 IsLineOf model Percent out = out ≡ line (codes "percent")

@@ -40,7 +40,7 @@ HasValue rows id text = first_of id rows ≡ Some text
 abbrev pub HasAllValues : List Row → Text → List Text → Type 0
 HasAllValues rows id texts = texts ≡ unwrap_or (all_of id rows) []
 
--- an option without a value stands among the words
+-- an option without a value is given
 abbrev pub is_set : Text → List Row → Bool
 is_set id rows = option_map_or (λ value. bytes_eq value (codes "true")) (first_of id rows) false
 
@@ -56,7 +56,7 @@ is_whole rows = is_set (codes "whole") rows
 abbrev pub notation_in : List Row → Notation
 notation_in rows = if is_set (codes "literal") rows then Literals else Bytes
 
--- the formats that stand among the words
+-- the formats among the words
 abbrev pub formats_given : Option Text → Option Text → List Text
 formats_given None second = []
 formats_given (Some first) second = formats_of first second
@@ -79,7 +79,7 @@ IsAsked command rows (asked.Fits notation model) =
 IsAsked command rows (asked.Same notation models) =
     (command ≡ codes "same") × (notation ≡ notation_in rows) × (models ≡ models_in rows)
 
--- a command asks it about the formats that stand among the words
+-- a command asks it about the formats among the words
 abbrev pub IsAskedOf : Text → List Row → Question → Type 0
 IsAskedOf command rows question =
     (kind : RecordQuestion) × IsAsked command rows kind × (is_null rows ≡ false)
@@ -121,7 +121,7 @@ HasFault words =
     (app : App) × IsCommand app × (k : ErrorKind) × (k ≢ kind.OutOfMemory)
     × IsAmong k (fault_of app words)
 
--- so many formats don't stand among the words: none beside `--null`, else as many as are wanted
+-- the words have a wrong number of formats: some beside `--null`, or not as many as are wanted
 abbrev pub IsMisplaced : RecordQuestion → List Row → Type 0
 IsMisplaced kind rows =
     length (formats_in rows) ≢ (if is_null rows then 0 else formats_wanted kind)

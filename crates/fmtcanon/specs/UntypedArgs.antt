@@ -4,7 +4,7 @@ use Rattle.pf_values.specs.Arguments.{Argument, Number, String}
 use Rattle.fmtcanon.specs.declared.arguments.UntypedArg.{UntypedArg}
 use Rattle.fmtcanon.specs.declared.arguments.UntypedArg.TheVariants as variants
 
--- the argument that it stands for
+-- the argument of a word
 abbrev pub argument_given : UntypedArg → Argument
 argument_given (variants.Number n) = Number n
 argument_given (variants.String s) = String (bytes_of s)

@@ -34,7 +34,7 @@ use std::alloc::{AllocError, Global};
 /// How a run ends that writes all of an answer.
 #[derive(Clone, Copy, Debug, PartialEq, Eq)]
 pub enum Ending {
-    /// Nothing but the answer is told.
+    /// With nothing but the answer.
     Done,
     /// The formats mean the same, or take the same arguments.
     Same,
@@ -80,7 +80,7 @@ pub fn answer_to(alloc: Global, question: &Question<'_>) -> Result<Answer, Fault
     }
 }
 
-// These bytes as an answer, after which nothing else is told.
+// These bytes as an answer, with no line on standard error.
 fn done(bytes: Result<Vec<u8>, Fault>) -> Result<Answer, Fault>
     ensures { MatchResult result (λ answer. (answer.ending ≡ Done) × (bytes ≡ Ok answer.bytes))
         (λ fault. bytes ≡ Err fault) }
@@ -232,7 +232,7 @@ pub fn comparison_of_given(
     }
 }
 
-// What is told where the second of two formats has no bytes: the first is looked at before it.
+// The fault where the second of two formats has no bytes: a fault of the first comes before it.
 fn without_second(first_refused: Option<Fault>, fault: LiteralFault) -> Fault
     ensures { MatchOption first_refused (result ≡ of_literal (Some sides.Second) fault)
         (λ refused. result ≡ refused) }
@@ -278,7 +278,7 @@ fn refused_whole(model: Model, first: &GivenFormat<'_>, bytes: &[u8]) -> Option<
     }
 }
 
-// What is told of a fault of the bytes of a format.
+// A fault of the bytes of a format, as a fault of the format that is given.
 fn told_of(format: &GivenFormat<'_>, fault: Fault) -> Fault
     ensures { IsToldOf format.now fault result }
 {
@@ -301,7 +301,7 @@ fn told_of(format: &GivenFormat<'_>, fault: Fault) -> Fault
     }
 }
 
-// What is told of a fault of two formats, of which it may be a refusal of the second.
+// A fault of the bytes of two formats, as a fault of those that are given.
 fn told_of_pair(first: &GivenFormat<'_>, second: &GivenFormat<'_>, fault: Fault) -> Fault
     ensures { IsToldBySide first.now second.now (side_of fault) fault result }
 {
@@ -312,7 +312,7 @@ fn told_of_pair(first: &GivenFormat<'_>, second: &GivenFormat<'_>, fault: Fault)
     }
 }
 
-// The side that a refusal tells.
+// The side that is refused.
 fn side_of(fault: Fault) -> Option<Side>
     ensures { result ≡ side_of fault }
 {

@@ -1,5 +1,5 @@
-//! What stands below the help of each command: an example, the rule of `--`, the exit statuses, and
-//! where refusals are explained; and what is told of formats that are missing or misplaced.
+//! The text below the help of each command: an example, the rule of `--`, the exit statuses, and where
+//! refusals are explained; and the message where formats are missing or misplaced.
 
 pub const MISPLACED: &str = "\
 error: formats are wanted among the words, or the option '--null', and not both

@@ -1,4 +1,4 @@
-//! Formats as they are given: by their bytes, or by string literals of C source that stand for them.
+//! Formats as they are given: by their bytes, or by string literals of C source.
 ghost use Rattle.std.specs.Prelude.{◌≡◌, ◌≤◌, IfOk, MatchResult, length};
 ghost use Rattle.std.specs.Cow.{cow_slice_items};
 ghost use Rattle.pf_literals.specs.Answers.{HindersDecoding};
@@ -15,7 +15,7 @@ use std::borrow::CowSlice;
 pub enum Notation {
     /// By their bytes.
     Bytes,
-    /// By string literals that stand for them.
+    /// By string literals with these bytes.
     Literals,
 }
 
@@ -73,7 +73,7 @@ impl<'a> GivenFormat<'a> {
     }
 }
 
-// The bytes that literals stand for.
+// The bytes of string literals.
 fn decoded<'a>(alloc: Global, source: &'a [u8]) -> Result<CowSlice<'a, u8>, LiteralFault>
     ensures { MatchResult result (λ bytes. IsSourceOf source.now (cow_slice_items bytes))
         (HindersDecoding source.now) }

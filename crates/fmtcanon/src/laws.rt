@@ -12,7 +12,7 @@ pub fn spells_one_argument()
     ensures { SpellsOneArgument }
 {}
 
-/// The word by which an argument is told is read as that argument.
+/// The word that is printed for an argument is read as that argument.
 pub fn told_argument_is_read()
     ensures { (model : Model) → ToldIsRead model }
 {}

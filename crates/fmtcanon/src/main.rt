@@ -40,7 +40,7 @@ fn main(rt: HostRuntime) -> ExitCode {
     ExitCode::from(outcome.status())
 }
 
-// The buffers stand below the counts, so that what `run` says went out is what the buffer took.
+// The buffers are below the counts, so that what `run` counts as written is what the buffer took.
 fn run_words(rt: &HostRuntime) -> Result<Outcome, AllocError> {
     let words = match words_of(rt) {
         Ok(words) => words,

@@ -150,7 +150,7 @@ impl Conversation {
         }
     }
 
-    // The last bytes of a record. A zero byte stands after them.
+    // The last bytes of a record, before its zero byte.
     fn take_record<W: Write>(
         &mut self,
         alloc: Global,

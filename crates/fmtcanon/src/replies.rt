@@ -142,7 +142,7 @@ impl Replies {
     }
 }
 
-// Where a growth is refused, a part of the reply may stand after the bytes.
+// Where a growth is refused, a part of the reply may be left after the bytes.
 fn push_reply(out: &mut Vec<u8>, status: u8, said: &[u8]) -> Result<(), AllocError>
     requires { status ≤ 9 }
     ensures ok { OnOk result (out.new.items ≡ out.old.items ++ reply_bytes status said.now) }

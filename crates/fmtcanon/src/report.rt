@@ -176,7 +176,7 @@ fn push_number(line: &mut Line, number: u64)
     line.push_str(digits.format(number));
 }
 
-// What stands before a refusal, where there are two formats.
+// The words before a refusal, where there are two formats.
 fn side_name(side: Option<Side>) -> &'static str
     ensures name { result.now ≡ side_told side }
     ensures short { length result.now ≤ 8 }

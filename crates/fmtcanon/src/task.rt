@@ -56,7 +56,7 @@ pub enum Question<'a> {
     },
 }
 
-/// What is asked about formats, whichever they are, and how they are given: they may stand among the
+/// What is asked about formats, whichever they are, and how they are given: they may be among the
 /// words, or come as records.
 #[derive(Clone, Copy, Debug)]
 pub enum RecordQuestion {
@@ -134,7 +134,7 @@ impl RecordQuestion {
 /// What a command does.
 #[derive(Debug, Drop)]
 pub enum Task<'a> {
-    /// It answers a question about formats that stand in the words.
+    /// It answers a question about formats that are among the words.
     Answer(Question<'a>),
     /// It answers the same question about each record that the reader hands out, or each two.
     Records(RecordQuestion),
@@ -229,7 +229,7 @@ fn about_types(inner: &ArgMatches<'_>, notation: Notation) -> RecordQuestion
     }
 }
 
-// The task of a command about formats, which stand among its arguments or come as records.
+// The task of a command about formats, which are among its arguments or come as records.
 fn formats_task<'a>(
     alloc: Global,
     inner: &ArgMatches<'a>,
@@ -261,7 +261,7 @@ fn notation_of(inner: &ArgMatches<'_>) -> Notation
     }
 }
 
-// Whether an option without a value stands among the words.
+// Whether an option without a value is given.
 fn is_set(inner: &ArgMatches<'_>, id: &str) -> bool
     ensures { result ≡ is_set id.now (rows_in inner.now) }
 {
@@ -295,7 +295,7 @@ fn question_in<'a>(inner: &ArgMatches<'a>, kind: RecordQuestion) -> Option<Quest
     }
 }
 
-// What is told of formats that are missing, or that stand where none is wanted.
+// The answer where formats are missing, or are given where none is wanted.
 fn misplaced(alloc: Global) -> NoTask {
     match String::from_str(alloc, texts::MISPLACED) {
         Ok(text) => NoTask::Usage(text),
@@ -303,7 +303,7 @@ fn misplaced(alloc: Global) -> NoTask {
     }
 }
 
-// The word that stands for an argument which has one.
+// The value of an argument that has one.
 fn value_of<'a>(inner: &ArgMatches<'a>, id: &str) -> &'a str
     requires { is_some (first_value (found_of inner.now) id.now) ≡ true }
     ensures { Some result.now ≡ first_value (found_of inner.now) id.now }
@@ -314,7 +314,7 @@ fn value_of<'a>(inner: &ArgMatches<'a>, id: &str) -> &'a str
     }
 }
 
-// The words that stand for arguments, of which there may be none.
+// The values of `ARG`, of which there may be none.
 fn given_words<'a>(alloc: Global, inner: &ArgMatches<'a>) -> Result<Vec<&'a str>, AllocError>
     ensures { IfOk result (λ given.
         map (λ s. s.now) given.items

@@ -30,7 +30,7 @@ module _ (model : Model) (f g : Text) (c : Comparison) (is : IsComparisonOf mode
   may_want_memory gives =
       (types_by c.verdict is.verdict gives, λ e. subst GivesArguments (is.same.1 e) gives)
 
--- a comparison that was made is told, unless there is no memory for the words
+-- a comparison that was made is answered, unless there is no memory for the words
 pub made : (model : Model) (f g out : Text) (told : CComparison) (error : CError) (code : ℤ) (out_now : Text)
     (told_now : CComparison) (c : Comparison) → IsComparisonOf model f g c
     → Gives c out told code out_now told_now

@@ -127,7 +127,7 @@ verdict_number Same = 0
 verdict_number (Types index) = index
 verdict_number (Args args) = length args.items
 
--- what is told of a comparison
+-- the answer of a comparison
 pub record IsTold (comparison : Comparison) (told : CComparison) : Type 0 where
   pub verdict : told.verdict ≡ verdict_code comparison.verdict
   pub number : told.number ≡ verdict_number comparison.verdict
@@ -144,7 +144,7 @@ pub record Compares (model : Model) (f g out : Text) (error : CError) (code : �
   pub out_is : out_now ≡ put (words_of comparison.verdict) out
   pub error_is : error_now ≡ error
 
--- nothing was put or told: one text is refused, or memory is out
+-- nothing was put or answered: one text is refused, or memory is out
 pub record ComparesNot (model : Model) (f g out : Text) (told : CComparison) (error : CError)
     (code : ℤ) (out_now : Text) (told_now : CComparison) (error_now : CError) : Type 0 where
   pub out_is : out_now ≡ out
@@ -152,7 +152,7 @@ pub record ComparesNot (model : Model) (f g out : Text) (told : CComparison) (er
   pub why : IsOneRefusedBy f g code error_now
       ⊎ IsOut (HindersComparison model f g compare_faults.Memory) code error error_now
 
--- what is told of a comparison that was made
+-- the answer of a comparison that was made
 abbrev pub Gives : Comparison → Text → CComparison → ℤ → Text → CComparison → Type 0
 Gives comparison out told code out_now told_now =
     (IsTold comparison told_now × (code ≡ pos (length (words_of comparison.verdict)))
@@ -160,7 +160,7 @@ Gives comparison out told code out_now told_now =
     ⊎ (GivesArguments comparison.verdict × (out_now ≡ out) × (told_now ≡ told)
     × (code ≡ NO_MEMORY))
 
--- what is told of one that wasn't
+-- the answer of one that wasn't
 abbrev pub IsFaultTold : CompareFault → CError → ℤ → CError → Type 0
 IsFaultTold (compare_faults.Refused side refusal) error code error_now =
     IsRefusalTold side refusal code error_now

@@ -1,4 +1,4 @@
--- How a refusal is told. This project's own.
+-- Refusals as numbers. This project's own.
 use Rattle.std.specs.Prelude.{◌≡◌, ◌⊎◌, ℕ, ◌+◌, Bool, true, false, ◌&&◌, nat_le, ℤ, pos, neg_ℤ, Option, Some, None}
 use Rattle.pf_literals.specs.declared.kinds.LiteralKind.{LiteralKind}
 use Rattle.pf_literals.specs.Kinds as literals
@@ -27,7 +27,7 @@ pub record IsRefusedBy (side : Side) (t : Text) (code : ℤ) (error : CError) : 
   pub kind_is : error.kind ≡ number kind
   pub side_is : error.side ≡ side_number side
 
--- this refusal of this text is told
+-- the numbers of this refusal of this text
 pub record IsRefusalTold (side : Side) (refusal : Refusal) (code : ℤ) (error : CError) : Type 0
   where
     pub at_is : error.at ≡ refusal.at

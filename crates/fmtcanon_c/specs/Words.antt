@@ -1,4 +1,4 @@
--- The words of the arguments that tell two formats apart. This project's own.
+-- The words of the arguments for which two formats print different bytes. This project's own.
 use Rattle.std.specs.Prelude.{[], ◌∷◌, ◌++◌, List, flat_map}
 use Rattle.pf_values.specs.Text.{Text}
 use Rattle.pf_compare.specs.Owned.{argument_of_owned}

@@ -7,7 +7,7 @@ use crate::interface::{CError, LITERAL_KINDS, NO_MEMORY, NO_PLACE, put_string};
 use pf_literals::{LiteralFault, LiteralRefusal, decode, encode, source_offset};
 use std::alloc::{AllocError, Global};
 
-/// Puts the bytes that a source of string literals stands for, and a zero, into a buffer that has
+/// Puts the bytes of a source of string literals, and a zero, into a buffer that has
 /// room for them (C11 6.4.5). The number of the bytes, or the code of an error.
 #[unsafe(no_mangle)]
 pub extern "C" fn fmtcanon_decode_literal(

@@ -24,7 +24,7 @@ pub fn column(width: u16) -> Option<Directive>
     }
 }
 
-/// How many spaces stand at the front of all that a directive prints, whatever its argument is.
+/// With how many spaces a directive prints first, whatever its argument is.
 pub fn spaces_in_front(model: Model, directive: &Directive) -> u16
     ensures { (reduced : Reduced) × IsReducedTo model directive.now reduced
         × (result ≡ reduced.spaces) }

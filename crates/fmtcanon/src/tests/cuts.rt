@@ -91,7 +91,7 @@ fn is_cut(alloc: Global, format: &[u8], len: usize, wanted: Wanted<'_>) -> bool 
     check_of(front) == wanted.answer
 }
 
-// A refused format: how many literal bytes stand at its front, and the number and the place of its refusal.
+// A refused format: how many literal bytes it begins with, the number and the place of its refusal.
 #[rattlefmt::skip]
 static REFUSED: [(&[u8], usize, u8, u64); 28] = [
     (b"%", 0, 2, 1),

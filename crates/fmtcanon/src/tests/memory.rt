@@ -11,7 +11,7 @@ use pf_text::{Pieces, Scanner, TextFault, check, signature, spell};
 use pf_values::{Arg, ArgType, Conv, Counted, Directive, FlagSet, Length, Model};
 use std::alloc::{AllocError, Global};
 
-// What is told of two formats.
+// The answer about two formats.
 #[derive(Clone, Copy, Debug, PartialEq, Eq)]
 enum Told {
     Same,
@@ -95,7 +95,7 @@ fn front(place: &[u8], rest: usize) -> Option<&[u8]> {
     place.get(..place.len().checked_sub(rest)?)
 }
 
-// Whether `same_stream` tells that two texts are the same.
+// Whether `same_stream` answers that two texts mean the same.
 fn streams_are_same() -> bool {
     let mut first = Counted::new(b"%zd".as_slice());
     let mut second = Counted::new(b"%ld".as_slice());

@@ -1,4 +1,4 @@
-//! Runs over writers with little room: what fits goes out, and just that is told.
+//! Runs over writers with little room: what fits goes out, and just that is reported.
 use super::repeat;
 use super::written_rows::{
     CANON, DIRECTIVES, MORE_CANON, MORE_PRINTED, MORE_SAME_LINES, MORE_SHOW_LINES, PRINTED,
@@ -35,7 +35,7 @@ struct Narrow {
 // Words, what is read, and what is written.
 type Row<'a> = (&'a [&'a str], &'a [u8], &'a [u8]);
 
-// What is told of a run.
+// How a run ended: its status and its lines on standard error.
 #[derive(Clone, Copy, Debug, PartialEq, Eq)]
 enum Told {
     // so many bytes went out, and one call failed
@@ -59,7 +59,7 @@ fn told_of(outcome: &Outcome, failures: u64) -> Told {
     }
 }
 
-// What is told of a run over a device, where exactly the front went out that has room there.
+// How a run over a device ended, where exactly the front went out that has room there.
 fn run_over(alloc: Global, row: Row<'_>, device: Narrow) -> Option<Told> {
     let mut place = [0u8; PLACE];
     let room = place.get_mut(..device.room)?;
@@ -78,7 +78,7 @@ fn run_over(alloc: Global, row: Row<'_>, device: Narrow) -> Option<Told> {
     Some(told_of(&outcome, failures))
 }
 
-// Whether just what fits goes out and is told, in each room that is too small.
+// Whether just what fits goes out and is reported, in each room that is too small.
 fn is_cut(alloc: Global, row: Row<'_>, step: usize, kind: ErrorKind) -> bool {
     for room in 0..row.2.len() {
         let device = Narrow {
@@ -94,7 +94,7 @@ fn is_cut(alloc: Global, row: Row<'_>, step: usize, kind: ErrorKind) -> bool {
     true
 }
 
-// What is told where there is just the room for all.
+// How a run ends where there is just the room for all.
 fn told_at_end(alloc: Global, row: Row<'_>, step: usize, flush_fails: bool) -> Option<Told> {
     let device = Narrow {
         room: row.2.len(),
@@ -105,7 +105,7 @@ fn told_at_end(alloc: Global, row: Row<'_>, step: usize, flush_fails: bool) -> O
     run_over(alloc, row, device)
 }
 
-// Whether all goes out where there is just the room for it, and a flush that fails is told after that.
+// Whether all goes out where there is just the room for it, and a failing flush is reported then.
 fn is_whole(alloc: Global, row: Row<'_>, step: usize) -> bool {
     let len = row.2.len() as u128;
     told_at_end(alloc, row, step, false) == Some(Told::Whole)
@@ -179,7 +179,7 @@ fn each_room_for_a_directive(rt: HostRuntime) {
     }
 }
 
-// What is settled is written before a refusal, which is told even where it can't be flushed.
+// What is settled is written before a refusal, which is reported even where it can't be flushed.
 #[test]
 fn each_room_before_a_refusal(rt: HostRuntime) {
     let alloc = rt.alloc();
@@ -197,7 +197,7 @@ fn each_room_before_a_refusal(rt: HostRuntime) {
     }
 }
 
-// The canonical string of `%4095d`, and what tells `%s` from the longest precision.
+// The canonical string of `%4095d`, and a string for which `%s` and the longest precision differ.
 #[test]
 fn each_room_for_long_answers(rt: HostRuntime) -> Result<(), AllocError> {
     let mut padded = repeat(rt.alloc(), " ", 4_084)?;

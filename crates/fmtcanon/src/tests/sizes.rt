@@ -20,7 +20,7 @@ fn text_of(alloc: Global, len: usize) -> Result<String, AllocError> {
     Ok(text)
 }
 
-// A text and what stands after it.
+// A text and what comes after it.
 fn text_followed_by(alloc: Global, text: &str, by: &str) -> Result<String, AllocError> {
     let mut whole = String::from_str(alloc, text)?;
     whole.push_str(by)?;

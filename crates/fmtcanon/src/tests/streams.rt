@@ -60,7 +60,7 @@ fn stream_writes_what_is_settled(rt: HostRuntime) {
     }
 }
 
-// The place of a refusal that is told of no side.
+// The place of a refusal that names no side.
 fn refused_at(outcome: &Outcome) -> Option<u64> {
     match outcome {
         Outcome::Refused {
@@ -87,7 +87,7 @@ fn stream_keeps_no_padding(rt: HostRuntime) {
     assert!(rt; written.as_slice().ends_with(b"%.0s%.0s%c"));
 }
 
-// Whether a read that fails here is told, and this was written, in cuts of each length.
+// Whether a read that fails here is reported, and this was written, in cuts of each length.
 fn is_read_fault(alloc: Global, bytes: &[u8], fail_at: u64, want: &[u8]) -> bool {
     for step in STEPS {
         let (outcome, written) = stream_over(alloc, bytes, step, Some(fail_at));
@@ -119,7 +119,7 @@ fn a_read_that_fails_is_told_after_what_is_settled(rt: HostRuntime) {
     }
 }
 
-// Whether just the front of what is wanted goes out and is told, in so much room.
+// Whether just the front of what is wanted goes out and is reported, in so much room.
 fn is_cut(alloc: Global, want: &[u8], step: usize, room: usize) -> bool {
     let mut place = [0u8; 16];
     let (Some(part), Some(front)) = (place.get_mut(..room), want.get(..room)) else {
@@ -160,7 +160,7 @@ fn calls_of(writer: &Watched) -> (usize, u32, usize) {
     (writer.taken, writer.flushes, writer.taken_at_flush)
 }
 
-// Whether a text's end is told so, and its bytes went out before one flush.
+// Whether a text ends so, and its bytes went out before one flush.
 fn is_done_once(alloc: Global, fails: bool) -> bool {
     let (outcome, writer) = watch_stream(alloc, b"ab%5d", None, fails);
     let is_told = if fails {
@@ -171,7 +171,7 @@ fn is_done_once(alloc: Global, fails: bool) -> bool {
     is_told && calls_of(&writer) == (5, 1, 5)
 }
 
-// A refusal and a read that fails are told even where the flush fails.
+// A refusal and a read that fails are reported even where the flush fails.
 fn is_refused_once(alloc: Global, fails: bool) -> bool {
     let (outcome, writer) = watch_stream(alloc, b"ab%y", None, fails);
     matches!(outcome, Outcome::Refused { .. }) && calls_of(&writer) == (2, 1, 2)

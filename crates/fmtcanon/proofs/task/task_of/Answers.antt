@@ -30,7 +30,7 @@ parsed : (app : App) (words : List Text) (m : ArgMatches) → IsCommand app → 
     → (fault_of app words ≡ []) × (subcommand_rows_of m ≡ subcommand_of app words)
 parsed app words m is matches no_fault = (no_fault (free_command app is), (matches (simple_command app is)).1)
 
--- a name and rows that are told apart are of one subcommand
+-- a name and rows that equations give are of one subcommand
 joined : {X : Type 0} (o : Option X) (told : X → Text × List Row) (name : Text) (rows : List Row) → Some name ≡ option_map (λ x. (told x).0) o
     → Some rows ≡ option_map (λ (p : Text × List Row). p.1) (option_map told o) → option_map told o ≡ Some (name, rows)
 joined None told name rows e h = absurd (cc)
