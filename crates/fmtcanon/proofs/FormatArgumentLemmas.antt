@@ -14,7 +14,7 @@ use Rattle.pf_values.specs.Text.{Text}
 use Rattle.fmtcanon.specs.ArgumentWords.{SpellsArgument}
 use Rattle.fmtcanon.specs.declared.outcome.Fault.TheVariants.{WrongCount}
 use Rattle.fmtcanon.specs.declared.arguments.UntypedArg.{UntypedArg}
-use Rattle.fmtcanon.specs.FormatArguments.{GivesArgument, HindersArguments, IsFirstBadWord, IsFirstWrongType, SpellArguments}
+use Rattle.fmtcanon.specs.FormatArguments.{GivesArgument, IsArgumentFault, IsFirstBadWord, IsFirstWrongType, SpellArguments}
 use Rattle.fmtcanon.specs.UntypedArgs.{argument_given}
 
 all_give : (words : List Text) (arguments : List Argument) → SpellArguments words arguments → AllByRecursion GivesArgument words
@@ -79,7 +79,7 @@ module _ (model : Model) (given : List UntypedArg) (wanted : List ArgType) (args
 
 -- there are more or fewer words than the format takes arguments
 pub wrong_count_hinders : (model : Model) (format : Text) (words : List Text) (wanted : List ArgType) → signatures.TakesTypes model format wanted → (arguments : List Argument) → SpellArguments words arguments
-    → (count given : ℕ) → count ≡ length wanted → given ≡ length arguments → count ≢ given → HindersArguments model format words (WrongCount count given)
+    → (count given : ℕ) → count ≡ length wanted → given ≡ length arguments → count ≢ given → IsArgumentFault model format words (WrongCount count given)
 wrong_count_hinders model format words wanted takes arguments spelled count given is_count is_given differ = (
   takes.items,
   arguments,

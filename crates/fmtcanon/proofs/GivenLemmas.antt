@@ -12,9 +12,9 @@ use Rattle.pf_values.specs.declared.refusals.RefusalKind.{RefusalKind}
 use Rattle.pf_values.specs.Items.{IsAccepted}
 use Rattle.pf_values.specs.Refusals.{IsRefusedAt}
 use Rattle.pf_values.specs.Text.{Text}
-use Rattle.fmtcanon.specs.Answers.{HindersFit, HindersFormat, HindersFormats, HindersGiven, HindersPair, HindersWhole, IsAcceptedWhole, IsToldBySide, IsToldOf, side_of}
-use Rattle.fmtcanon.specs.FormatArguments.{HindersArguments}
-use Rattle.fmtcanon.specs.Formats.{Gives, IsFormat, IsToldAt}
+use Rattle.fmtcanon.specs.Answers.{IsFitFault, IsFormatFault, IsPairFault, IsGivenFault, IsGivenPairFault, IsWholeFault, IsAcceptedWhole, IsFaultInTexts, IsFaultInText, side_of}
+use Rattle.fmtcanon.specs.FormatArguments.{IsArgumentFault}
+use Rattle.fmtcanon.specs.Formats.{GivesBytes, IsFormat, IsPlaceInText}
 use Rattle.fmtcanon.specs.declared.outcome.Fault.{Fault}
 use Rattle.fmtcanon.specs.declared.outcome.Fault.TheVariants.{Refused, RefusedWhole, BadLiteral, BadWord, WrongCount, WrongType, Memory}
 use Rattle.fmtcanon.specs.declared.formats.GivenFormat.{GivenFormat}
@@ -42,11 +42,11 @@ place_there text bytes index (Some at) place is within = place
 -- the place of a byte in literals
 pub place_told : (given : GivenFormat) (index at : ℕ) (found : Option ℕ) → given.notation ≡ Literals
     → MatchOption found (HasNoPlace given.text.now index) (IsPlaceOf given.text.now index) → at ≡ unwrap_or found index
-    → (bytes : Text) → IsFormat given bytes → index ≤ length bytes → IsToldAt given.notation given.text.now index at
+    → (bytes : Text) → IsFormat given bytes → index ≤ length bytes → IsPlaceInText given.notation given.text.now index at
 place_told given index at found is place e bytes gives within =
     let text = given.text.now in
-    let there = place_there text bytes index found place (subst (λ n. Gives n text bytes) is gives) within in
-    subst (λ n. IsToldAt n text index at) (sym is) (subst (IsPlaceOf text index) (sym e) there)
+    let there = place_there text bytes index found place (subst (λ n. GivesBytes n text bytes) is gives) within in
+    subst (λ n. IsPlaceInText n text index at) (sym is) (subst (IsPlaceOf text index) (sym e) there)
 
 -- the place of a fault is within the bytes, and no fault of literals is one of bytes
 abbrev pub IsOfBytes : Text → Fault → Type 0
@@ -61,21 +61,21 @@ IsOfBytes bytes (WrongType index) = ⊤
 IsOfBytes bytes Memory = ⊤
 
 -- why the bytes of a format have no answer, at the place in the text
-pub given_hindered : (Hinders : Text → Fault → Type 0) (given : GivenFormat) (bytes : Text) (fault told : Fault) → ((f : Fault) → Hinders bytes f → IsOfBytes bytes f)
-    → IsFormat given bytes → Hinders bytes fault → IsToldOf given fault told → HindersGiven Hinders given told
-given_hindered Hinders given bytes (Refused None refusal) told of gives h (at, is, tells) =
-    subst (HindersGiven Hinders given) (sym is) (record { bytes = bytes; gives = gives; at = refusal.at; holds = h; told_at = tells bytes gives (of (Refused None refusal) h) })
-given_hindered Hinders given bytes (Refused (Some side) refusal) told of gives h is = absurd (of (Refused (Some side) refusal) h)
-given_hindered Hinders given bytes (RefusedWhole None refusal) told of gives h (at, is, tells) =
-    subst (HindersGiven Hinders given) (sym is) (record { bytes = bytes; gives = gives; at = refusal.at; holds = h; told_at = tells bytes gives (of (RefusedWhole None refusal) h) })
-given_hindered Hinders given bytes (RefusedWhole (Some side) refusal) told of gives h is = absurd (of (RefusedWhole (Some side) refusal) h)
-given_hindered Hinders given bytes (BadLiteral side refusal) told of gives h is = absurd (of (BadLiteral side refusal) h)
-given_hindered Hinders given bytes (BadWord index) told of gives h is = subst (HindersGiven Hinders given) (sym is) (bytes, gives, h)
-given_hindered Hinders given bytes (WrongCount wanted had) told of gives h is = subst (HindersGiven Hinders given) (sym is) (bytes, gives, h)
-given_hindered Hinders given bytes (WrongType index) told of gives h is = subst (HindersGiven Hinders given) (sym is) (bytes, gives, h)
-given_hindered Hinders given bytes Memory told of gives h is = subst (HindersGiven Hinders given) (sym is) tt
+pub given_fault : (IsFault : Text → Fault → Type 0) (given : GivenFormat) (bytes : Text) (fault reported : Fault) → ((f : Fault) → IsFault bytes f → IsOfBytes bytes f)
+    → IsFormat given bytes → IsFault bytes fault → IsFaultInText given fault reported → IsGivenFault IsFault given reported
+given_fault IsFault given bytes (Refused None refusal) reported of gives h (at, is, tells) =
+    subst (IsGivenFault IsFault given) (sym is) (record { bytes = bytes; gives = gives; at = refusal.at; holds = h; place_is = tells bytes gives (of (Refused None refusal) h) })
+given_fault IsFault given bytes (Refused (Some side) refusal) reported of gives h is = absurd (of (Refused (Some side) refusal) h)
+given_fault IsFault given bytes (RefusedWhole None refusal) reported of gives h (at, is, tells) =
+    subst (IsGivenFault IsFault given) (sym is) (record { bytes = bytes; gives = gives; at = refusal.at; holds = h; place_is = tells bytes gives (of (RefusedWhole None refusal) h) })
+given_fault IsFault given bytes (RefusedWhole (Some side) refusal) reported of gives h is = absurd (of (RefusedWhole (Some side) refusal) h)
+given_fault IsFault given bytes (BadLiteral side refusal) reported of gives h is = absurd (of (BadLiteral side refusal) h)
+given_fault IsFault given bytes (BadWord index) reported of gives h is = subst (IsGivenFault IsFault given) (sym is) (bytes, gives, h)
+given_fault IsFault given bytes (WrongCount wanted had) reported of gives h is = subst (IsGivenFault IsFault given) (sym is) (bytes, gives, h)
+given_fault IsFault given bytes (WrongType index) reported of gives h is = subst (IsGivenFault IsFault given) (sym is) (bytes, gives, h)
+given_fault IsFault given bytes Memory reported of gives h is = subst (IsGivenFault IsFault given) (sym is) tt
 
-pub format_of_bytes : (bytes : Text) (fault : Fault) → HindersFormat bytes fault → IsOfBytes bytes fault
+pub format_of_bytes : (bytes : Text) (fault : Fault) → IsFormatFault bytes fault → IsOfBytes bytes fault
 format_of_bytes bytes (Refused None refusal) h = refused_within bytes refusal.kind refusal.at h
 format_of_bytes bytes (Refused (Some side) refusal) h = h
 format_of_bytes bytes (RefusedWhole side refusal) h = absurd h
@@ -85,7 +85,7 @@ format_of_bytes bytes (WrongCount wanted given) h = tt
 format_of_bytes bytes (WrongType index) h = tt
 format_of_bytes bytes Memory h = tt
 
-pub whole_of_bytes : (model : Model) (bytes : Text) (fault : Fault) → HindersWhole model bytes fault → IsOfBytes bytes fault
+pub whole_of_bytes : (model : Model) (bytes : Text) (fault : Fault) → IsWholeFault model bytes fault → IsOfBytes bytes fault
 whole_of_bytes model bytes (Refused side refusal) h = absurd h
 whole_of_bytes model bytes (RefusedWhole None refusal) h = whole_within model bytes refusal.kind refusal.at h
 whole_of_bytes model bytes (RefusedWhole (Some side) refusal) h = h
@@ -95,7 +95,7 @@ whole_of_bytes model bytes (WrongCount wanted given) h = tt
 whole_of_bytes model bytes (WrongType index) h = tt
 whole_of_bytes model bytes Memory h = tt
 
-pub arguments_of_bytes : (model : Model) (words : List Text) (bytes : Text) (fault : Fault) → HindersArguments model bytes words fault → IsOfBytes bytes fault
+pub arguments_of_bytes : (model : Model) (words : List Text) (bytes : Text) (fault : Fault) → IsArgumentFault model bytes words fault → IsOfBytes bytes fault
 arguments_of_bytes model words bytes (Refused None refusal) h = refused_within bytes refusal.kind refusal.at h
 arguments_of_bytes model words bytes (Refused (Some side) refusal) h = h
 arguments_of_bytes model words bytes (RefusedWhole side refusal) h = absurd h
@@ -107,30 +107,30 @@ arguments_of_bytes model words bytes Memory h = tt
 
 module _ (first second : GivenFormat) (one other : Text) (g : IsFormat first one) (h : IsFormat second other) where
   -- why two formats of the profile have no answer, at the place in the text
-  pub pair_hindered : (fault told : Fault) → HindersFormats one other fault → IsToldBySide first second (side_of fault) fault told → HindersPair HindersFormat IsAccepted first second told
-  pair_hindered (Refused None refusal) told hinders is = absurd hinders
-  pair_hindered (Refused (Some sides.First) refusal) told hinders (at, is, tells) =
-      subst (HindersPair HindersFormat IsAccepted first second) (sym is) (record { bytes = one; gives = g; at = refusal.at; holds = hinders; told_at = tells one g (refused_within one refusal.kind refusal.at hinders) })
-  pair_hindered (Refused (Some sides.Second) refusal) told hinders (at, is, tells) =
-      subst (HindersPair HindersFormat IsAccepted first second) (sym is) ((one, g, hinders.0), record { bytes = other; gives = h; at = refusal.at; holds = hinders.1; told_at = tells other h (refused_within other refusal.kind refusal.at hinders.1) })
-  pair_hindered (RefusedWhole side refusal) told hinders is = absurd hinders
-  pair_hindered (BadLiteral side refusal) told hinders is = absurd hinders
-  pair_hindered (BadWord index) told hinders is = absurd hinders
-  pair_hindered (WrongCount wanted given) told hinders is = absurd hinders
-  pair_hindered (WrongType index) told hinders is = absurd hinders
-  pair_hindered Memory told hinders is = subst (HindersPair HindersFormat IsAccepted first second) (sym is) tt
+  pub pair_fault : (fault reported : Fault) → IsPairFault one other fault → IsFaultInTexts first second (side_of fault) fault reported → IsGivenPairFault IsFormatFault IsAccepted first second reported
+  pair_fault (Refused None refusal) reported hinders is = absurd hinders
+  pair_fault (Refused (Some sides.First) refusal) reported hinders (at, is, tells) =
+      subst (IsGivenPairFault IsFormatFault IsAccepted first second) (sym is) (record { bytes = one; gives = g; at = refusal.at; holds = hinders; place_is = tells one g (refused_within one refusal.kind refusal.at hinders) })
+  pair_fault (Refused (Some sides.Second) refusal) reported hinders (at, is, tells) =
+      subst (IsGivenPairFault IsFormatFault IsAccepted first second) (sym is) ((one, g, hinders.0), record { bytes = other; gives = h; at = refusal.at; holds = hinders.1; place_is = tells other h (refused_within other refusal.kind refusal.at hinders.1) })
+  pair_fault (RefusedWhole side refusal) reported hinders is = absurd hinders
+  pair_fault (BadLiteral side refusal) reported hinders is = absurd hinders
+  pair_fault (BadWord index) reported hinders is = absurd hinders
+  pair_fault (WrongCount wanted given) reported hinders is = absurd hinders
+  pair_fault (WrongType index) reported hinders is = absurd hinders
+  pair_fault Memory reported hinders is = subst (IsGivenPairFault IsFormatFault IsAccepted first second) (sym is) tt
 
   -- the same of the whole language
-  pub fit_hindered : (model : Model) (fault told : Fault) → HindersFit model one other fault → IsToldBySide first second (side_of fault) fault told
-      → HindersPair (HindersWhole model) (IsAcceptedWhole model) first second told
-  fit_hindered model (RefusedWhole None refusal) told hinders is = absurd hinders
-  fit_hindered model (RefusedWhole (Some sides.First) refusal) told hinders (at, is, tells) =
-      subst (HindersPair (HindersWhole model) (IsAcceptedWhole model) first second) (sym is) (record { bytes = one; gives = g; at = refusal.at; holds = hinders; told_at = tells one g (whole_within model one refusal.kind refusal.at hinders) })
-  fit_hindered model (RefusedWhole (Some sides.Second) refusal) told hinders (at, is, tells) =
-      subst (HindersPair (HindersWhole model) (IsAcceptedWhole model) first second) (sym is) ((one, g, hinders.0), record { bytes = other; gives = h; at = refusal.at; holds = hinders.1; told_at = tells other h (whole_within model other refusal.kind refusal.at hinders.1) })
-  fit_hindered model (Refused side refusal) told hinders is = absurd hinders
-  fit_hindered model (BadLiteral side refusal) told hinders is = absurd hinders
-  fit_hindered model (BadWord index) told hinders is = absurd hinders
-  fit_hindered model (WrongCount wanted given) told hinders is = absurd hinders
-  fit_hindered model (WrongType index) told hinders is = absurd hinders
-  fit_hindered model Memory told hinders is = subst (HindersPair (HindersWhole model) (IsAcceptedWhole model) first second) (sym is) tt
+  pub fit_fault : (model : Model) (fault reported : Fault) → IsFitFault model one other fault → IsFaultInTexts first second (side_of fault) fault reported
+      → IsGivenPairFault (IsWholeFault model) (IsAcceptedWhole model) first second reported
+  fit_fault model (RefusedWhole None refusal) reported hinders is = absurd hinders
+  fit_fault model (RefusedWhole (Some sides.First) refusal) reported hinders (at, is, tells) =
+      subst (IsGivenPairFault (IsWholeFault model) (IsAcceptedWhole model) first second) (sym is) (record { bytes = one; gives = g; at = refusal.at; holds = hinders; place_is = tells one g (whole_within model one refusal.kind refusal.at hinders) })
+  fit_fault model (RefusedWhole (Some sides.Second) refusal) reported hinders (at, is, tells) =
+      subst (IsGivenPairFault (IsWholeFault model) (IsAcceptedWhole model) first second) (sym is) ((one, g, hinders.0), record { bytes = other; gives = h; at = refusal.at; holds = hinders.1; place_is = tells other h (whole_within model other refusal.kind refusal.at hinders.1) })
+  fit_fault model (Refused side refusal) reported hinders is = absurd hinders
+  fit_fault model (BadLiteral side refusal) reported hinders is = absurd hinders
+  fit_fault model (BadWord index) reported hinders is = absurd hinders
+  fit_fault model (WrongCount wanted given) reported hinders is = absurd hinders
+  fit_fault model (WrongType index) reported hinders is = absurd hinders
+  fit_fault model Memory reported hinders is = subst (IsGivenPairFault (IsWholeFault model) (IsAcceptedWhole model) first second) (sym is) tt

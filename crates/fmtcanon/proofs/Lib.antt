@@ -1,7 +1,7 @@
 pub mod command_line
 mod MagnitudeLemmas
 mod ArgumentWordLemmas
-mod ToldLemmas
+mod PrintedWordLemmas
 mod ComparisonLemmas
 mod FormatArgumentLemmas
 mod PrintingLemmas

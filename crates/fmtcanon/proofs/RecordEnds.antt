@@ -6,8 +6,8 @@ use Rattle.std.proofs.KnownBytes.{Appends-nil}
 use Rattle.pf_values.specs.declared.counting.Counted.{Counted}
 use Rattle.pf_values.specs.Counting.{Known, device_of, failures_of, is_flushed}
 use Rattle.pf_values.specs.Text.{Text}
-use Rattle.fmtcanon.specs.Conversations.{HasCome, HasReplies, IsAt, IsAtText, LeavesAtEnd, LeavesStopped, waiting_of}
-use Rattle.fmtcanon.specs.Records.{IsCut, LeavesRecords, ReadFails, last_record}
+use Rattle.fmtcanon.specs.Conversations.{HasCome, HasReplies, HasRepliedTo, HasRepliedToText, RecordsFinish, RecordsStop, waiting_text}
+use Rattle.fmtcanon.specs.Records.{IsRecords, RecordsEnd, ReadFails, last_record}
 use Rattle.fmtcanon.specs.declared.outcome.Outcome.{Outcome}
 use Rattle.fmtcanon.specs.declared.outcome.Outcome.TheVariants as outcomes
 use Rattle.fmtcanon.specs.declared.task.RecordQuestion.{RecordQuestion}
@@ -15,9 +15,9 @@ use Rattle.fmtcanon.specs.declared.records.Conversation.{Conversation}
 use Rattle.fmtcanon.proofs.RecordLemmas.{out_all}
 use Rattle.fmtcanon.proofs.RecordTexts.{cut_none}
 
-module _ (kind : RecordQuestion) {R W : Type 0} (remaining : R → Known) (contents : W → Known) (reader left : Counted R) (old new : Counted W) (taken : Text) (whole : List Text) (rest : Text) (cut : IsCut taken whole rest) (took : Consumes (remaining (device_of reader)) (remaining (device_of left)) taken) where
+module _ (kind : RecordQuestion) {R W : Type 0} (remaining : R → Known) (contents : W → Known) (reader left : Counted R) (old new : Counted W) (taken : Text) (whole : List Text) (rest : Text) (cut : IsRecords taken whole rest) (took : Consumes (remaining (device_of reader)) (remaining (device_of left)) taken) where
   -- a write failed, memory was refused
-  pub left_stopped : failures_of left ≡ failures_of reader → (outcome : Outcome) → LeavesStopped kind contents old new (whole ++ last_record rest) outcome → LeavesRecords kind remaining contents reader left old new outcome
+  pub left_stopped : failures_of left ≡ failures_of reader → (outcome : Outcome) → RecordsStop kind contents old new (whole ++ last_record rest) outcome → RecordsEnd kind remaining contents reader left old new outcome
   left_stopped well outcomes.Memory h = (whole, rest, h.0, h.1, (taken, cut, took), well, h.2)
   left_stopped well (outcomes.Write count) h = (whole, rest, (taken, cut, took), well, h)
   left_stopped well (outcomes.Answered greatest) h = absurd h
@@ -35,7 +35,7 @@ module _ (kind : RecordQuestion) {R W : Type 0} (remaining : R → Known) (conte
   left_stopped well outcomes.Read h = absurd h
 
   -- the reader was at its end
-  pub left_at_end : failures_of left ≡ failures_of reader → IsAtEnd (remaining (device_of left)) → (outcome : Outcome) → LeavesAtEnd kind contents old new (whole ++ last_record rest) outcome → LeavesRecords kind remaining contents reader left old new outcome
+  pub left_at_end : failures_of left ≡ failures_of reader → IsAtEnd (remaining (device_of left)) → (outcome : Outcome) → RecordsFinish kind contents old new (whole ++ last_record rest) outcome → RecordsEnd kind remaining contents reader left old new outcome
   left_at_end well end (outcomes.Answered greatest) h = (whole ++ last_record rest, (whole, rest, (taken, cut, took), end, refl), well, h)
   left_at_end well end outcomes.NoSecond h = (whole ++ last_record rest, h.0, h.1, (whole, rest, (taken, cut, took), end, refl), well, h.2, h.3)
   left_at_end well end outcomes.Memory h = left_stopped well outcomes.Memory h
@@ -53,12 +53,12 @@ module _ (kind : RecordQuestion) {R W : Type 0} (remaining : R → Known) (conte
   left_at_end well end outcomes.Read h = absurd h
 
   -- a read failed, and nothing waited
-  pub left_read : ReadFails kind remaining contents reader left old new → (c : Conversation) → IsAt kind contents c old new whole rest → waiting_of c.replies ≡ [] → is_flushed new ≡ true → LeavesRecords kind remaining contents reader left old new outcomes.Read
+  pub left_read : ReadFails kind remaining contents reader left old new → (c : Conversation) → HasRepliedTo kind contents c old new whole rest → waiting_text c.replies ≡ [] → is_flushed new ≡ true → RecordsEnd kind remaining contents reader left old new outcomes.Read
   left_read fails c h none flushed =
       (whole, rest, h.first, c.replies.greatest, (taken, cut, took), fails, h.come.few, out_all kind contents old new whole h.replies h.first h.are c.replies c.replies.greatest h.said none flushed refl)
 
 -- nothing has been taken, and nothing has come
-pub at_start : (kind : RecordQuestion) {W : Type 0} (contents : W → Known) (start : Counted W) (c : Conversation) → HasCome c.coming kind [] [] → HasReplies c.replies [] [] → IsAtText kind contents c start start []
+pub at_start : (kind : RecordQuestion) {W : Type 0} (contents : W → Known) (start : Counted W) (c : Conversation) → HasCome c.coming kind [] [] → HasReplies c.replies [] [] → HasRepliedToText kind contents c start start []
 at_start kind contents start c come none = (
   [],
   [],

@@ -5,7 +5,7 @@ use Rattle.std.proofs.lemmas.List.{flat_map_more}
 use Rattle.pf_values.specs.declared.counting.Counted.{Counted}
 use Rattle.pf_values.specs.Counting.{Known, WritesAll, is_flushed}
 use Rattle.pf_values.specs.Text.{Text}
-use Rattle.fmtcanon.specs.Conversations.{Answers, HasCome, HasReplies, HasSaid, HasSaidFirst, HasStopped, IsAt, LeavesAtEnd, LeavesStopped, WritesReplies, first_of, waiting_of}
+use Rattle.fmtcanon.specs.Conversations.{AddsReply, HasCome, HasReplies, HasSaid, HasSaidFirst, HasStopped, HasRepliedTo, RecordsFinish, RecordsStop, WritesReplies, first_of, waiting_text}
 use Rattle.fmtcanon.specs.Questions.{formats_wanted}
 use Rattle.fmtcanon.specs.Records.{AreReplies, IsReply, RepliesAll, RepliesFirst, Reply, last_record}
 use Rattle.fmtcanon.specs.declared.task.RecordQuestion.{RecordQuestion}
@@ -35,7 +35,7 @@ module _ (kind : RecordQuestion) where
 
   module _ {W : Type 0} (contents : W → Known) (start now : Counted W) (records : List Text) (replies : List Reply) (others : List Text) (are : AreReplies kind records replies others) where
     -- nothing waits, and the writer was flushed
-    pub out_all : (r : Replies) (greatest : ℕ) → HasSaid contents r start now replies → waiting_of r ≡ [] → is_flushed now ≡ true → greatest ≡ r.greatest → RepliesAll kind contents start now records others greatest
+    pub out_all : (r : Replies) (greatest : ℕ) → HasSaid contents r start now replies → waiting_text r ≡ [] → is_flushed now ≡ true → greatest ≡ r.greatest → RepliesAll kind contents start now records others greatest
     out_all r greatest h none flushed e =
         let all = h.has.bytes ∙ ap (λ w. h.sent ++ w) none ∙ append-nil h.sent in
         record { replies = replies; are = are; greatest_is = e ∙ h.has.greatest; writes = subst (WritesAll contents start now) (sym all) h.writes; flushed = flushed }
@@ -43,11 +43,11 @@ module _ (kind : RecordQuestion) where
     pub out_first : (count : ℕ) → HasSaidFirst contents start now replies count → RepliesFirst kind contents start now records count
     out_first count h = record { replies = replies; others = others; are = are; written = h.written; writes = h.writes; count_is = h.count_is }
 
-  module _ {W : Type 0} (contents : W → Known) (c : Conversation) (start now : Counted W) (whole : List Text) (rest : Text) (h : IsAt kind contents c start now whole rest) where
+  module _ {W : Type 0} (contents : W → Known) (c : Conversation) (start now : Counted W) (whole : List Text) (rest : Text) (h : HasRepliedTo kind contents c start now whole rest) where
     -- the record is whole, and its question was answered: what waits is written or not
-    pub ended : (mid : Replies) (new : Conversation) (w : Counted W) (r : Result (Unit {0}) Stop) → Answers kind (h.first ++ rest ∷ []) h.said.sent h.replies c.replies mid (Ok true)
+    pub ended : (mid : Replies) (new : Conversation) (w : Counted W) (r : Result (Unit {0}) Stop) → AddsReply kind (h.first ++ rest ∷ []) h.said.sent h.replies c.replies mid (Ok true)
         → ((replies : List Reply) → HasSaid contents mid start now replies → WritesReplies contents new.replies start w replies r) → HasCome new.coming kind [] []
-        → MatchResult r (λ _. IsAt kind contents new start w (whole ++ rest ∷ []) []) (HasStopped kind contents new start w (whole ++ rest ∷ []))
+        → MatchResult r (λ _. HasRepliedTo kind contents new start w (whole ++ rest ∷ []) []) (HasStopped kind contents new start w (whole ++ rest ∷ []))
     ended mid new w r a writes come =
         let reply = a.0 in
         let are = are_added whole rest h.replies h.first reply h.are a.1 a.2 in
@@ -55,15 +55,15 @@ module _ (kind : RecordQuestion) where
         go r are said
       where
         go : {replies : List Reply} (r : Result (Unit {0}) Stop) → AreReplies kind (whole ++ rest ∷ []) replies [] → WritesReplies contents new.replies start w replies r
-            → MatchResult r (λ _. IsAt kind contents new start w (whole ++ rest ∷ []) []) (HasStopped kind contents new start w (whole ++ rest ∷ []))
+            → MatchResult r (λ _. HasRepliedTo kind contents new start w (whole ++ rest ∷ []) []) (HasStopped kind contents new start w (whole ++ rest ∷ []))
         go {replies} (Ok done) are said = record { first = []; replies = replies; are = are; come = come; said = said }
         go {replies} (Err Memory) are said = absurd said
         go {replies} (Err (Write count)) are said = (replies, [], are, said)
 
     -- the record is whole, and a second one is wanted
-    pub kept : (mid : Replies) (new : Conversation) → Answers kind (h.first ++ rest ∷ []) h.said.sent h.replies c.replies mid (Ok false) → new.replies ≡ mid
+    pub kept : (mid : Replies) (new : Conversation) → AddsReply kind (h.first ++ rest ∷ []) h.said.sent h.replies c.replies mid (Ok false) → new.replies ≡ mid
         → (length (h.first ++ rest ∷ []) < formats_wanted kind → HasCome new.coming kind (h.first ++ rest ∷ []) [])
-        → IsAt kind contents new start now (whole ++ rest ∷ []) []
+        → HasRepliedTo kind contents new start now (whole ++ rest ∷ []) []
     kept mid new a e come = record {
       first = h.first ++ rest ∷ [];
       replies = h.replies;
@@ -79,12 +79,12 @@ module _ (kind : RecordQuestion) where
     -- what waited went out, or the first bytes of it
     pub written : (r : Result (Unit {0}) ℕ) (new : Conversation) (w : Counted W) → new.coming ≡ c.coming
         → ((replies : List Reply) → HasSaid contents c.replies start now replies → MatchResult r (λ _. HasSaid contents new.replies start w replies) (HasSaidFirst contents start w replies))
-        → MatchResult r (λ _. IsAt kind contents new start w whole rest) (RepliesFirst kind contents start w (whole ++ last_record rest))
+        → MatchResult r (λ _. HasRepliedTo kind contents new start w whole rest) (RepliesFirst kind contents start w (whole ++ last_record rest))
     written (Ok done) new w e writes = record { first = h.first; replies = h.replies; are = h.are; come = subst (λ x. HasCome x kind h.first rest) (sym e) h.come; said = writes h.replies h.said }
     written (Err count) new w e writes = out_first contents start w _ h.replies _ (are_more whole (last_record rest) h.replies h.first h.are) count (writes h.replies h.said)
 
     -- a part of a record came
-    pub longer : (new : Conversation) (rest' : Text) → new.replies ≡ c.replies → ((first : List Text) → HasCome c.coming kind first rest → HasCome new.coming kind first rest') → IsAt kind contents new start now whole rest'
+    pub longer : (new : Conversation) (rest' : Text) → new.replies ≡ c.replies → ((first : List Text) → HasCome c.coming kind first rest → HasCome new.coming kind first rest') → HasRepliedTo kind contents new start now whole rest'
     longer new rest' e come = record { first = h.first; replies = h.replies; are = h.are; come = come h.first h.come; said = subst (λ r. HasSaid contents r start now h.replies) (sym e) h.said }
 
   -- the first of two is held, or nothing is
@@ -95,8 +95,8 @@ module _ (kind : RecordQuestion) where
   none_left c first rest h is = h.first_is ∙ ap (λ b. first_of b c.first.items) is
 
   -- at the end an empty rest is no record
-  pub last_none : {W : Type 0} (contents : W → Known) (c : Conversation) (start now : Counted W) (whole : List Text) (rest : Text) → rest ≡ [] → IsAt kind contents c start now whole rest → IsAt kind contents c start now (whole ++ last_record rest) []
-  last_none contents c start now whole rest none h = subst (λ r. IsAt kind contents c start now r []) (sym (ap (λ t. whole ++ last_record t) none ∙ append-nil whole)) (subst (IsAt kind contents c start now whole) none h)
+  pub last_none : {W : Type 0} (contents : W → Known) (c : Conversation) (start now : Counted W) (whole : List Text) (rest : Text) → rest ≡ [] → HasRepliedTo kind contents c start now whole rest → HasRepliedTo kind contents c start now (whole ++ last_record rest) []
+  last_none contents c start now whole rest none h = subst (λ r. HasRepliedTo kind contents c start now r []) (sym (ap (λ t. whole ++ last_record t) none ∙ append-nil whole)) (subst (HasRepliedTo kind contents c start now whole) none h)
 
   module _ {W : Type 0} (contents : W → Known) (start now : Counted W) where
     -- replies to the first of some records are so, too, where more come
@@ -105,7 +105,7 @@ module _ (kind : RecordQuestion) where
     stopped_more c records more (Write count) h = (h.0, h.1 ++ more, are_more records more h.0 h.1 h.2, h.3)
 
     -- to stop is one way to end
-    pub stopped_at_end : (records : List Text) (outcome : Outcome) → LeavesStopped kind contents start now records outcome → LeavesAtEnd kind contents start now records outcome
+    pub stopped_at_end : (records : List Text) (outcome : Outcome) → RecordsStop kind contents start now records outcome → RecordsFinish kind contents start now records outcome
     stopped_at_end records (outcomes.Answered greatest) h = absurd h
     stopped_at_end records outcomes.NoSecond h = absurd h
     stopped_at_end records outcomes.Memory h = h

@@ -4,8 +4,8 @@ use Rattle.memchr.specs.Find.{IsFirstByte, is_byte}
 use Rattle.pf_values.specs.declared.counting.Counted.{Counted}
 use Rattle.pf_values.specs.Counting.{Known}
 use Rattle.pf_values.specs.Text.{Text}
-use Rattle.fmtcanon.specs.Conversations.{HasCome, HasReplies, HasStopped, HasStoppedAt, IsAt, IsAtText}
-use Rattle.fmtcanon.specs.Records.{IsCut, last_record}
+use Rattle.fmtcanon.specs.Conversations.{HasCome, HasReplies, HasStopped, HasStoppedAt, HasRepliedTo, HasRepliedToText}
+use Rattle.fmtcanon.specs.Records.{IsRecords, last_record}
 use Rattle.fmtcanon.specs.declared.task.RecordQuestion.{RecordQuestion}
 use Rattle.fmtcanon.specs.declared.records.Conversation.{Conversation}
 use Rattle.fmtcanon.specs.declared.records.Stop.{Stop}
@@ -13,29 +13,29 @@ use Rattle.fmtcanon.specs.declared.records.Stop.TheVariants.{Memory}
 use Rattle.fmtcanon.proofs.RecordLemmas.{longer, refused, stopped_more}
 use Rattle.fmtcanon.proofs.RecordTexts.{cut_behind, cut_found, cut_last}
 
-module _ (kind : RecordQuestion) {W : Type 0} (contents : W → Known) (c : Conversation) (start now : Counted W) (taken block : Text) (at : ℕ) (h : IsAtText kind contents c start now (taken ++ take at block)) where
+module _ (kind : RecordQuestion) {W : Type 0} (contents : W → Known) (c : Conversation) (start now : Counted W) (taken block : Text) (at : ℕ) (h : HasRepliedToText kind contents c start now (taken ++ take at block)) where
   module _ (len : ℕ) (found : IsFirstByte (is_byte 0) (drop at block) (Some len)) (bytes : Text) (bytes_are : bytes ≡ take len (drop at block)) (new : Conversation) (w : Counted W) where
     -- a record was taken
-    pub record_taken : ((whole : List Text) (rest : Text) → IsAt kind contents c start now whole rest → IsAt kind contents new start w (whole ++ (rest ++ bytes) ∷ []) []) → IsAtText kind contents new start w (taken ++ take (at + (len + 1)) block)
+    pub record_taken : ((whole : List Text) (rest : Text) → HasRepliedTo kind contents c start now whole rest → HasRepliedTo kind contents new start w (whole ++ (rest ++ bytes) ∷ []) []) → HasRepliedToText kind contents new start w (taken ++ take (at + (len + 1)) block)
     record_taken step =
         let whole = h.0 in
         let rest = h.1 in
         let next : Text → List Text = λ b. whole ++ (rest ++ b) ∷ [] in
-        (next bytes, [], subst (λ b. IsCut (taken ++ take (at + (len + 1)) block) (next b) []) (sym bytes_are) (cut_found taken block whole rest at h.2 len found), step whole rest h.3)
+        (next bytes, [], subst (λ b. IsRecords (taken ++ take (at + (len + 1)) block) (next b) []) (sym bytes_are) (cut_found taken block whole rest at h.2 len found), step whole rest h.3)
 
     -- the run stopped there
-    pub record_stopped : (stop : Stop) → ((whole : List Text) (rest : Text) → IsAt kind contents c start now whole rest → HasStopped kind contents new start w (whole ++ (rest ++ bytes) ∷ []) stop) → HasStoppedAt kind contents new start w (taken ++ block) stop
+    pub record_stopped : (stop : Stop) → ((whole : List Text) (rest : Text) → HasRepliedTo kind contents c start now whole rest → HasStopped kind contents new start w (whole ++ (rest ++ bytes) ∷ []) stop) → HasStoppedAt kind contents new start w (taken ++ block) stop
     record_stopped stop step =
         let whole = h.0 in
         let rest = h.1 in
         let records = whole ++ (rest ++ bytes) ∷ [] in
-        let cut = subst (λ b. IsCut (taken ++ take (at + (len + 1)) block) (whole ++ (rest ++ b) ∷ []) []) (sym bytes_are) (cut_found taken block whole rest at h.2 len found) in
+        let cut = subst (λ b. IsRecords (taken ++ take (at + (len + 1)) block) (whole ++ (rest ++ b) ∷ []) []) (sym bytes_are) (cut_found taken block whole rest at h.2 len found) in
         let all = cut_behind taken block records [] (at + (len + 1)) cut in
         (records ++ all.0, all.1, all.2, subst (λ r. HasStopped kind contents new start w r stop) (sym (append_assoc records all.0 (last_record all.1))) (stopped_more kind contents start w new records (all.0 ++ last_record all.1) stop (step whole rest h.3)))
 
   module _ (none : IsFirstByte (is_byte 0) (drop at block) None) (new : Conversation) (same : new.replies ≡ c.replies) where
     -- the last part of the block was taken
-    pub part_taken : ((first : List Text) (rest : Text) → HasCome c.coming kind first rest → HasCome new.coming kind first (rest ++ drop at block)) → IsAtText kind contents new start now (taken ++ block)
+    pub part_taken : ((first : List Text) (rest : Text) → HasCome c.coming kind first rest → HasCome new.coming kind first (rest ++ drop at block)) → HasRepliedToText kind contents new start now (taken ++ block)
     part_taken come = (h.0, h.1 ++ drop at block, cut_last taken block h.0 h.1 at h.2 none, longer kind contents c start now h.0 h.1 h.3 new (h.1 ++ drop at block) same (λ first. come first h.1))
 
     -- or memory for it was refused

@@ -9,10 +9,10 @@ use Rattle.pf_values.specs.declared.counting.Counted.{Counted}
 use Rattle.pf_values.specs.Counting.{HasFailed, Known, WritesAll, WritesFirst, device_of}
 use Rattle.pf_values.specs.Text.{Text}
 use Rattle.pf_values.proofs.WriteLemmas.{WritesFirst-more}
-use Rattle.fmtcanon.specs.Conversations.{HasReplies, HasSaid, HasSaidFirst, count_of, waiting_of}
+use Rattle.fmtcanon.specs.Conversations.{HasReplies, HasSaid, HasSaidFirst, count_of, waiting_text}
 use Rattle.fmtcanon.specs.Outcomes.{status_of}
 use Rattle.fmtcanon.specs.Questions.{IsAbout}
-use Rattle.fmtcanon.specs.Records.{IsReply, Reply, Says, bytes_of, reply_bytes}
+use Rattle.fmtcanon.specs.Records.{IsReply, Reply, RunWrites, replies_text, reply_bytes}
 use Rattle.fmtcanon.specs.declared.outcome.Outcome.{Outcome}
 use Rattle.fmtcanon.specs.declared.task.Question.{Question}
 use Rattle.fmtcanon.specs.declared.task.RecordQuestion.{RecordQuestion}
@@ -24,37 +24,37 @@ min-more a b m = omega arith
 
 module _ {W : Type 0} (contents : W → Known) (start old now : Counted W) (r : Replies) (replies : List Reply) (h : HasSaid contents r start old replies) where
   -- all that waited went out
-  pub said_all : (new : Replies) → WritesAll contents old now (waiting_of r) → waiting_of new ≡ [] → new.greatest ≡ r.greatest → new.written ≡ count_of (r.written + length (waiting_of r)) → HasSaid contents new start now replies
+  pub said_all : (new : Replies) → WritesAll contents old now (waiting_text r) → waiting_text new ≡ [] → new.greatest ≡ r.greatest → new.written ≡ count_of (r.written + length (waiting_text r)) → HasSaid contents new start now replies
   said_all new writes none greatest count =
-      let sent = h.sent ++ waiting_of r in
+      let sent = h.sent ++ waiting_text r in
       record {
         sent = sent;
         writes = record {
-          appended = Appends-trans _ (contents (device_of old)) _ h.sent (waiting_of r) h.writes.appended writes.appended;
+          appended = Appends-trans _ (contents (device_of old)) _ h.sent (waiting_text r) h.writes.appended writes.appended;
           none_failed = writes.none_failed ∙ h.writes.none_failed;
         };
         has = record {
           bytes = h.has.bytes ∙ sym (ap (λ w. sent ++ w) none ∙ append-nil sent);
           greatest = greatest ∙ h.has.greatest;
-          count = count ∙ ap (λ n. count_of (n + length (waiting_of r))) h.has.count ∙ min-more (length h.sent) (length (waiting_of r)) _ ∙ ap count_of (sym (length-append h.sent (waiting_of r)));
+          count = count ∙ ap (λ n. count_of (n + length (waiting_text r))) h.has.count ∙ min-more (length h.sent) (length (waiting_text r)) _ ∙ ap count_of (sym (length-append h.sent (waiting_text r)));
         };
       }
 
   -- the first bytes of it did
-  pub said_first : (n count : ℕ) → WritesFirst contents old now (waiting_of r) n → count ≡ count_of (r.written + n) → HasSaidFirst contents start now replies count
+  pub said_first : (n count : ℕ) → WritesFirst contents old now (waiting_text r) n → count ≡ count_of (r.written + n) → HasSaidFirst contents start now replies count
   said_first n count writes e =
-      let more = WritesFirst-more contents start old now h.sent (waiting_of r) [] n h.writes writes in
+      let more = WritesFirst-more contents start old now h.sent (waiting_text r) [] n h.writes writes in
       record {
         written = length h.sent + n;
-        writes = subst (λ t. WritesFirst contents start now t (length h.sent + n)) (ap (λ t. h.sent ++ t) (append-nil (waiting_of r)) ∙ sym h.has.bytes) more;
+        writes = subst (λ t. WritesFirst contents start now t (length h.sent + n)) (ap (λ t. h.sent ++ t) (append-nil (waiting_text r)) ∙ sym h.has.bytes) more;
         count_is = e ∙ ap (λ k. count_of (k + n)) h.has.count ∙ min-more (length h.sent) n _;
       }
 
 -- all of it did, and then the flush failed
-pub said_unflushed : {W : Type 0} (contents : W → Known) (start old now : Counted W) (r : Replies) (replies : List Reply) → HasSaid contents r start old replies → waiting_of r ≡ [] → Keeps (contents (device_of old)) (contents (device_of now)) → HasFailed old now
+pub said_unflushed : {W : Type 0} (contents : W → Known) (start old now : Counted W) (r : Replies) (replies : List Reply) → HasSaid contents r start old replies → waiting_text r ≡ [] → Keeps (contents (device_of old)) (contents (device_of now)) → HasFailed old now
     → HasSaidFirst contents start now replies r.written
 said_unflushed contents start old now r replies h none kept failed =
-    let all : bytes_of replies ≡ h.sent = h.has.bytes ∙ ap (λ w. h.sent ++ w) none ∙ append-nil h.sent in
+    let all : replies_text replies ≡ h.sent = h.has.bytes ∙ ap (λ w. h.sent ++ w) none ∙ append-nil h.sent in
     let same = h.writes.none_failed in
     record {
       written = length h.sent;
@@ -66,9 +66,9 @@ said_unflushed contents start old now r replies h none kept failed =
       count_is = h.has.count;
     }
 
-module _ (kind : RecordQuestion) (formats : List Text) (sent : Text) (replies : List Reply) (old new : Replies) (h : HasReplies old sent replies) (same : new.written ≡ old.written) (question : Question) (about : IsAbout question kind formats) (said : Text) (outcome : Outcome) (says : Says question said outcome) where
+module _ (kind : RecordQuestion) (formats : List Text) (sent : Text) (replies : List Reply) (old new : Replies) (h : HasReplies old sent replies) (same : new.written ≡ old.written) (question : Question) (about : IsAbout question kind formats) (said : Text) (outcome : Outcome) (says : RunWrites question said outcome) where
   -- a reply was added, or none
-  pub reply_added : {E : Type 0} (r : Result (Unit {0}) E) → OnOk r (waiting_of new ≡ waiting_of old ++ reply_bytes (status_of outcome) said) → OnOk r (new.greatest ≡ max old.greatest (status_of outcome)) → OnErr r (waiting_of new ≡ waiting_of old) → OnErr r (new.greatest ≡ old.greatest)
+  pub reply_added : {E : Type 0} (r : Result (Unit {0}) E) → OnOk r (waiting_text new ≡ waiting_text old ++ reply_bytes (status_of outcome) said) → OnOk r (new.greatest ≡ max old.greatest (status_of outcome)) → OnErr r (waiting_text new ≡ waiting_text old) → OnErr r (new.greatest ≡ old.greatest)
       → MatchResult r (λ _. (reply : Reply) × IsReply kind reply × (reply.formats ≡ formats) × HasReplies new sent (replies ++ reply ∷ [])) (λ _. HasReplies new sent replies)
   reply_added (Ok done) bytes greatest none stays =
       let reply : Reply = record { formats = formats; status = status_of outcome; bytes = reply_bytes (status_of outcome) said } in (
@@ -76,7 +76,7 @@ module _ (kind : RecordQuestion) (formats : List Text) (sent : Text) (replies : 
         record { question = question; about = about; said = said; outcome = outcome; says = says; status = refl; bytes = refl },
         refl,
         record {
-          bytes = sym (flat_map_more (λ (r : Reply). r.bytes) [] replies reply) ∙ ap (λ t. t ++ reply.bytes) h.bytes ∙ append_assoc sent (waiting_of old) reply.bytes ∙ ap (λ t. sent ++ t) (sym bytes);
+          bytes = sym (flat_map_more (λ (r : Reply). r.bytes) [] replies reply) ∙ ap (λ t. t ++ reply.bytes) h.bytes ∙ append_assoc sent (waiting_text old) reply.bytes ∙ ap (λ t. sent ++ t) (sym bytes);
           greatest = greatest ∙ ap (λ n. max n reply.status) h.greatest ∙ sym (fold-append (λ n (r : Reply). max n r.status) 0 replies (reply ∷ []));
           count = same ∙ h.count;
         },

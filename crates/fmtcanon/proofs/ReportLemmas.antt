@@ -5,9 +5,9 @@ use Rattle.pf_values.specs.declared.counting.Counted.{Counted}
 use Rattle.pf_values.specs.declared.writing.ShortWrite.{ShortWrite}
 use Rattle.pf_values.specs.Counting.{Known, Writes}
 use Rattle.pf_values.specs.Text.{Text}
-use Rattle.fmtcanon.specs.Reports.{Tells}
+use Rattle.fmtcanon.specs.Reports.{WritesReport}
 
 -- whatever the writer answered
-pub tells : {W : Type 0} (contents : W → Known) (old new : Counted W) (text : Text) (answered : Result (Unit {0}) ShortWrite) → Writes contents old new text answered → Tells contents old new text
+pub tells : {W : Type 0} (contents : W → Known) (old new : Counted W) (text : Text) (answered : Result (Unit {0}) ShortWrite) → Writes contents old new text answered → WritesReport contents old new text
 tells contents old new text (Ok done) h = inl h
 tells contents old new text (Err short) h = inr (short.written, h.1, h.0)

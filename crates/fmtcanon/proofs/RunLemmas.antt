@@ -2,10 +2,10 @@
 use Rattle.std.proofs.Common.{◌≡◌, List, inl, refl}
 use Rattle.pf_values.specs.declared.counting.Counted.{Counted}
 use Rattle.pf_values.specs.Counting.{Known}
-use Rattle.fmtcanon.specs.Answers.{IsHindered}
+use Rattle.fmtcanon.specs.Answers.{IsQuestionFault}
 use Rattle.fmtcanon.specs.Outcomes.{outcome_of_fault}
 use Rattle.pf_values.specs.Text.{Text}
-use Rattle.fmtcanon.specs.Runs.{Leaves, LeavesAnswer}
+use Rattle.fmtcanon.specs.Runs.{ProgramEnds, AnswerEnds}
 use Rattle.fmtcanon.specs.Tasks.{Asks}
 use Rattle.fmtcanon.specs.declared.outcome.Outcome.{Outcome}
 use Rattle.fmtcanon.specs.declared.outcome.Outcome.TheVariants as outcomes
@@ -15,7 +15,7 @@ use Rattle.fmtcanon.specs.declared.outcome.Fault.TheVariants.{Refused, RefusedWh
 use Rattle.fmtcanon.specs.declared.task.Question.{Question}
 
 module _ {W : Type 0} (contents : W → Known) (old new : Counted W) (question : Question) (same : new ≡ old) where
-  pub leaves_nothing : (fault : Fault) → IsHindered question fault → LeavesAnswer contents old new question (outcome_of_fault fault)
+  pub leaves_nothing : (fault : Fault) → IsQuestionFault question fault → AnswerEnds contents old new question (outcome_of_fault fault)
   leaves_nothing (Refused side refusal) h = (h, same)
   leaves_nothing (RefusedWhole side refusal) h = (h, same)
   leaves_nothing (BadLiteral side refusal) h = (h, same)
@@ -26,7 +26,7 @@ module _ {W : Type 0} (contents : W → Known) (old new : Counted W) (question :
 
 -- the words ask it
 module _ {R W : Type 0} (remaining : R → Known) (contents : W → Known) (reader : Counted R) (old new : Counted W) (words : List Text) (question : Question) (asks : Asks words (Answer question)) where
-  pub leaves_asked : (outcome : Outcome) → LeavesAnswer contents old new question outcome → Leaves remaining contents reader reader old new words outcome
+  pub leaves_asked : (outcome : Outcome) → AnswerEnds contents old new question outcome → ProgramEnds remaining contents reader reader old new words outcome
   leaves_asked outcomes.Done h = (Answer question, asks, (h, refl))
   leaves_asked outcomes.Same h = (Answer question, asks, (h, refl))
   leaves_asked outcomes.Different h = (Answer question, asks, (h, refl))

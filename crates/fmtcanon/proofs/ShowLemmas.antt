@@ -14,14 +14,14 @@ use Rattle.pf_text.specs.declared.pieces.Piece.TheVariants as pieces
 use Rattle.pf_text.specs.declared.pieces.Pieces.{Pieces}
 use Rattle.pf_text.specs.declared.refusal.Refusal.{Refusal}
 use Rattle.pf_text.specs.History.{EndsRun, IsLiteral}
-use Rattle.pf_text.specs.PieceHistory.{Gives, GivesNext, GivesPiece, GivesRefusal, HasGiven, IsPieceBefore, items_of}
+use Rattle.pf_text.specs.PieceHistory.{GivesBytes, GivesNext, GivesPiece, GivesRefusal, HasGiven, IsPieceBefore, items_of}
 use Rattle.pf_values.specs.declared.limits.TheConstants.{MAX_TEXT_LEN}
 use Rattle.pf_values.specs.Defined.{IsDefined}
 use Rattle.pf_values.specs.Items.{Item}
 use Rattle.pf_values.specs.Normal.{silent}
 use Rattle.pf_values.specs.Spelling.{Spells, spelling_of}
 use Rattle.pf_values.specs.Text.{Text, percent}
-use Rattle.fmtcanon.specs.Shows.{BeginsNoRun, HasShownLines, IsCut, IsLineOf, Shown, Run, Percent, Specified, shown_of}
+use Rattle.fmtcanon.specs.Shows.{BeginsNoRun, HasShownLines, IsShownAs, IsLineOf, Shown, Run, Percent, Specified, shown_of}
 
 pub silent_spelled : codes "%.0s" ≡ spelling_of silent
 unfolding digits
@@ -44,7 +44,7 @@ IsCutBefore after t (Percent ∷ xs) = (rest : Text) × IsCutBefore after rest x
 IsCutBefore after t (Specified s ∷ xs) = (part rest : Text) × Spells part s × IsDefined s × IsCutBefore after rest xs × (t ≡ part ++ rest)
 
 -- nothing comes after it
-cut_whole : (xs : List Shown) (t : Text) → IsCutBefore [] t xs → IsCut t xs
+cut_whole : (xs : List Shown) (t : Text) → IsCutBefore [] t xs → IsShownAs t xs
 cut_whole [] t h = h
 cut_whole (Run bytes ∷ xs) t h = (h.0, h.1, h.2, cut_whole xs h.2 h.3, h.4, subst BeginsNoRun (append-nil h.2) h.5)
 cut_whole (Percent ∷ xs) t h = (h.0, cut_whole xs h.0 h.1, h.2)
@@ -105,7 +105,7 @@ pushed model pieces t out new piece (Ok done) e h more = subst (HasShown model p
 pushed model pieces t out new piece (Err x) e h more = cc
 
 module _ (model : Model) (old new : Pieces) (t out : Text) (h : HasShown model old t out) where
-  module _ (next : Result Piece Refusal) (steps : Gives old (Some next) new) where
+  module _ (next : Result Piece Refusal) (steps : GivesBytes old (Some next) new) where
     pub refused : (refusal : Refusal) → next ≡ Err refusal → GivesRefusal t h.items refusal
     refused refusal e = subst (λ r. GivesNext (Some r) new t h.read h.items) e (steps.next t h.read h.items h.given)
 
@@ -128,7 +128,7 @@ module _ (model : Model) (old new : Pieces) (t out : Text) (h : HasShown model o
         }
 
   -- the lines of all
-  pub all_shown : Gives old None new → HasShownLines model t out
+  pub all_shown : GivesBytes old None new → HasShownLines model t out
   all_shown steps =
       let end = steps.next t h.read h.items h.given in
       let none = same_whole h.items h.read t old.rest.now h.given.reads end.reads h.given.split in

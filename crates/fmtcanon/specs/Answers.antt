@@ -18,10 +18,10 @@ use Rattle.fmtcanon.specs.declared.task.Question.{Question}
 use Rattle.fmtcanon.specs.declared.task.Question.TheVariants.{Types, Arguments, Canon, Show, Format, Fits, Same}
 use Rattle.fmtcanon.specs.ArgumentLines.{HasArgumentLines, IsFitAnswer}
 use Rattle.fmtcanon.specs.Comparisons.{IsComparisonIn}
-use Rattle.fmtcanon.specs.FormatArguments.{HindersArguments, IsPrinted}
+use Rattle.fmtcanon.specs.FormatArguments.{IsArgumentFault, IsPrinted}
 use Rattle.fmtcanon.specs.declared.formats.GivenFormat.{GivenFormat}
 use Rattle.fmtcanon.specs.declared.formats.Notation.{Notation}
-use Rattle.fmtcanon.specs.Formats.{HoldsAt, HoldsOf, IsFormat, IsNoFormat, IsToldAt, written_in}
+use Rattle.fmtcanon.specs.Formats.{HoldsAt, HoldsOf, IsFormat, IsNoFormat, IsPlaceInText, written_in}
 use Rattle.fmtcanon.specs.Lines.{line}
 use Rattle.fmtcanon.specs.Shows.{HasShownLines}
 use Rattle.fmtcanon.specs.TypeLines.{HasTypeLines}
@@ -52,112 +52,87 @@ IsAnswer (Same models first second) out ending =
     × IsComparisonIn models one other out ending
 
 -- why the bytes of a format have no answer: they are refused, or memory wants
-abbrev pub HindersFormat : Text → Fault → Type 0
-HindersFormat format (Refused None refusal) = IsRefusedAt format refusal.kind refusal.at
-HindersFormat format (Refused (Some side) refusal) = ⊥
-HindersFormat format (RefusedWhole side refusal) = ⊥
-HindersFormat format (BadLiteral side refusal) = ⊥
-HindersFormat format (BadWord index) = ⊥
-HindersFormat format (WrongCount wanted given) = ⊥
-HindersFormat format (WrongType index) = ⊥
-HindersFormat format Memory = ⊤
+abbrev pub IsFormatFault : Text → Fault → Type 0
+IsFormatFault format (Refused None refusal) = IsRefusedAt format refusal.kind refusal.at
+IsFormatFault format Memory = ⊤
+IsFormatFault format _ = ⊥
 
 -- why two have none: the refusal of the first, else of the second
-abbrev pub HindersFormats : Text → Text → Fault → Type 0
-HindersFormats first second (Refused None refusal) = ⊥
-HindersFormats first second (Refused (Some sides.First) refusal) =
+abbrev pub IsPairFault : Text → Text → Fault → Type 0
+IsPairFault first second (Refused (Some sides.First) refusal) =
     IsRefusedAt first refusal.kind refusal.at
-HindersFormats first second (Refused (Some sides.Second) refusal) =
+IsPairFault first second (Refused (Some sides.Second) refusal) =
     IsAccepted first × IsRefusedAt second refusal.kind refusal.at
-HindersFormats first second (RefusedWhole side refusal) = ⊥
-HindersFormats first second (BadLiteral side refusal) = ⊥
-HindersFormats first second (BadWord index) = ⊥
-HindersFormats first second (WrongCount wanted given) = ⊥
-HindersFormats first second (WrongType index) = ⊥
-HindersFormats first second Memory = ⊤
+IsPairFault first second Memory = ⊤
+IsPairFault first second _ = ⊥
 
 -- the same in the whole language
-abbrev pub HindersWhole : Model → Text → Fault → Type 0
-HindersWhole model format (RefusedWhole None refusal) =
+abbrev pub IsWholeFault : Model → Text → Fault → Type 0
+IsWholeFault model format (RefusedWhole None refusal) =
     whole.IsRefusedAt model format refusal.kind refusal.at
-HindersWhole model format (RefusedWhole (Some side) refusal) = ⊥
-HindersWhole model format (Refused side refusal) = ⊥
-HindersWhole model format (BadLiteral side refusal) = ⊥
-HindersWhole model format (BadWord index) = ⊥
-HindersWhole model format (WrongCount wanted given) = ⊥
-HindersWhole model format (WrongType index) = ⊥
-HindersWhole model format Memory = ⊤
+IsWholeFault model format Memory = ⊤
+IsWholeFault model format _ = ⊥
 
 abbrev pub IsAcceptedWhole : Model → Text → Type 0
 IsAcceptedWhole model format = (types : List ArgumentType) × HasArguments model format types
 
-abbrev pub HindersFit : Model → Text → Text → Fault → Type 0
-HindersFit model first second (RefusedWhole None refusal) = ⊥
-HindersFit model first second (RefusedWhole (Some sides.First) refusal) =
+abbrev pub IsFitFault : Model → Text → Text → Fault → Type 0
+IsFitFault model first second (RefusedWhole (Some sides.First) refusal) =
     whole.IsRefusedAt model first refusal.kind refusal.at
-HindersFit model first second (RefusedWhole (Some sides.Second) refusal) =
+IsFitFault model first second (RefusedWhole (Some sides.Second) refusal) =
     IsAcceptedWhole model first × whole.IsRefusedAt model second refusal.kind refusal.at
-HindersFit model first second (Refused side refusal) = ⊥
-HindersFit model first second (BadLiteral side refusal) = ⊥
-HindersFit model first second (BadWord index) = ⊥
-HindersFit model first second (WrongCount wanted given) = ⊥
-HindersFit model first second (WrongType index) = ⊥
-HindersFit model first second Memory = ⊤
+IsFitFault model first second Memory = ⊤
+IsFitFault model first second _ = ⊥
 
--- Why a format that is given has none, by why its bytes have none: a refusal is told at its place in
+-- Why a format that is given has none, by why its bytes have none: a refusal is reported at its place in
 -- the text.
-abbrev pub HindersGiven : (Text → Fault → Type 0) → GivenFormat → Fault → Type 0
-HindersGiven Hinders given (Refused None refusal) = HoldsAt given
-    (λ bytes at. Hinders bytes (Refused None (record refusal { at = at }))) refusal.at
-HindersGiven Hinders given (Refused (Some side) refusal) = ⊥
-HindersGiven Hinders given (RefusedWhole None refusal) = HoldsAt given
-    (λ bytes at. Hinders bytes (RefusedWhole None (record refusal { at = at }))) refusal.at
-HindersGiven Hinders given (RefusedWhole (Some side) refusal) = ⊥
-HindersGiven Hinders given (BadLiteral None refusal) = IsNoFormat given refusal
-HindersGiven Hinders given (BadLiteral (Some side) refusal) = ⊥
-HindersGiven Hinders given (BadWord index) = HoldsOf given (λ bytes. Hinders bytes (BadWord index))
-HindersGiven Hinders given (WrongCount wanted had) =
-    HoldsOf given (λ bytes. Hinders bytes (WrongCount wanted had))
-HindersGiven Hinders given (WrongType index) =
-    HoldsOf given (λ bytes. Hinders bytes (WrongType index))
-HindersGiven Hinders given Memory = ⊤
+abbrev pub IsGivenFault : (Text → Fault → Type 0) → GivenFormat → Fault → Type 0
+IsGivenFault IsFault given (Refused None refusal) = HoldsAt given
+    (λ bytes at. IsFault bytes (Refused None (record refusal { at = at }))) refusal.at
+IsGivenFault IsFault given (Refused (Some side) refusal) = ⊥
+IsGivenFault IsFault given (RefusedWhole None refusal) = HoldsAt given
+    (λ bytes at. IsFault bytes (RefusedWhole None (record refusal { at = at }))) refusal.at
+IsGivenFault IsFault given (RefusedWhole (Some side) refusal) = ⊥
+IsGivenFault IsFault given (BadLiteral None refusal) = IsNoFormat given refusal
+IsGivenFault IsFault given (BadLiteral (Some side) refusal) = ⊥
+IsGivenFault IsFault given (BadWord index) = HoldsOf given (λ bytes. IsFault bytes (BadWord index))
+IsGivenFault IsFault given (WrongCount wanted had) =
+    HoldsOf given (λ bytes. IsFault bytes (WrongCount wanted had))
+IsGivenFault IsFault given (WrongType index) =
+    HoldsOf given (λ bytes. IsFault bytes (WrongType index))
+IsGivenFault IsFault given Memory = ⊤
 
 -- Why two that are given have none: what is wrong with the first, else with the second, where the
 -- first is accepted.
-abbrev pub HindersPair : (Text → Fault → Type 0) → (Text → Type 0) → GivenFormat → GivenFormat
+abbrev pub IsGivenPairFault : (Text → Fault → Type 0) → (Text → Type 0) → GivenFormat → GivenFormat
     → Fault → Type 0
-HindersPair Hinders Accepted first second (Refused None refusal) = ⊥
-HindersPair Hinders Accepted first second (Refused (Some sides.First) refusal) =
-    HindersGiven Hinders first (Refused None refusal)
-HindersPair Hinders Accepted first second (Refused (Some sides.Second) refusal) =
-    HoldsOf first Accepted × HindersGiven Hinders second (Refused None refusal)
-HindersPair Hinders Accepted first second (RefusedWhole None refusal) = ⊥
-HindersPair Hinders Accepted first second (RefusedWhole (Some sides.First) refusal) =
-    HindersGiven Hinders first (RefusedWhole None refusal)
-HindersPair Hinders Accepted first second (RefusedWhole (Some sides.Second) refusal) =
-    HoldsOf first Accepted × HindersGiven Hinders second (RefusedWhole None refusal)
-HindersPair Hinders Accepted first second (BadLiteral None refusal) = ⊥
-HindersPair Hinders Accepted first second (BadLiteral (Some sides.First) refusal) =
+IsGivenPairFault IsFault Accepted first second (Refused (Some sides.First) refusal) =
+    IsGivenFault IsFault first (Refused None refusal)
+IsGivenPairFault IsFault Accepted first second (Refused (Some sides.Second) refusal) =
+    HoldsOf first Accepted × IsGivenFault IsFault second (Refused None refusal)
+IsGivenPairFault IsFault Accepted first second (RefusedWhole (Some sides.First) refusal) =
+    IsGivenFault IsFault first (RefusedWhole None refusal)
+IsGivenPairFault IsFault Accepted first second (RefusedWhole (Some sides.Second) refusal) =
+    HoldsOf first Accepted × IsGivenFault IsFault second (RefusedWhole None refusal)
+IsGivenPairFault IsFault Accepted first second (BadLiteral (Some sides.First) refusal) =
     IsNoFormat first refusal
-HindersPair Hinders Accepted first second (BadLiteral (Some sides.Second) refusal) =
+IsGivenPairFault IsFault Accepted first second (BadLiteral (Some sides.Second) refusal) =
     HoldsOf first Accepted × IsNoFormat second refusal
-HindersPair Hinders Accepted first second (BadWord index) = ⊥
-HindersPair Hinders Accepted first second (WrongCount wanted given) = ⊥
-HindersPair Hinders Accepted first second (WrongType index) = ⊥
-HindersPair Hinders Accepted first second Memory = ⊤
+IsGivenPairFault IsFault Accepted first second Memory = ⊤
+IsGivenPairFault IsFault Accepted first second _ = ⊥
 
 -- why a question has none
-abbrev pub IsHindered : Question → Fault → Type 0
-IsHindered (Types model format) fault = HindersGiven HindersFormat format fault
-IsHindered (Arguments model format) fault = HindersGiven (HindersWhole model) format fault
-IsHindered (Canon model format) fault = HindersGiven HindersFormat format fault
-IsHindered (Show model format) fault = HindersGiven HindersFormat format fault
-IsHindered (Format model format words) fault =
-    HindersGiven (λ bytes. HindersArguments model bytes (map (λ s. s.now) words.items)) format fault
-IsHindered (Fits model first second) fault =
-    HindersPair (HindersWhole model) (IsAcceptedWhole model) first second fault
-IsHindered (Same models first second) fault =
-    HindersPair HindersFormat IsAccepted first second fault
+abbrev pub IsQuestionFault : Question → Fault → Type 0
+IsQuestionFault (Types model format) fault = IsGivenFault IsFormatFault format fault
+IsQuestionFault (Arguments model format) fault = IsGivenFault (IsWholeFault model) format fault
+IsQuestionFault (Canon model format) fault = IsGivenFault IsFormatFault format fault
+IsQuestionFault (Show model format) fault = IsGivenFault IsFormatFault format fault
+IsQuestionFault (Format model format words) fault =
+    IsGivenFault (λ bytes. IsArgumentFault model bytes (map (λ s. s.now) words.items)) format fault
+IsQuestionFault (Fits model first second) fault =
+    IsGivenPairFault (IsWholeFault model) (IsAcceptedWhole model) first second fault
+IsQuestionFault (Same models first second) fault =
+    IsGivenPairFault IsFormatFault IsAccepted first second fault
 
 -- the side that is refused
 abbrev pub side_of : Fault → Option Side
@@ -170,24 +145,24 @@ side_of (WrongType index) = None
 side_of Memory = None
 
 -- a place in the bytes of a format is reported as this place of the text
-abbrev pub TellsPlace : GivenFormat → ℕ → ℕ → Type 0
-TellsPlace given at told = (bytes : Text) → IsFormat given bytes → at ≤ length bytes
-    → IsToldAt given.notation given.text.now at told
+abbrev pub IsPlaceOfByte : GivenFormat → ℕ → ℕ → Type 0
+IsPlaceOfByte given at reported = (bytes : Text) → IsFormat given bytes → at ≤ length bytes
+    → IsPlaceInText given.notation given.text.now at reported
 
 -- A refusal of the bytes of a format is reported at its place in the text, any other fault as it is.
-abbrev pub IsToldOf : GivenFormat → Fault → Fault → Type 0
-IsToldOf given (Refused side refusal) told = (at : ℕ)
-    × (told ≡ Refused side (record refusal { at = at })) × TellsPlace given refusal.at at
-IsToldOf given (RefusedWhole side refusal) told = (at : ℕ)
-    × (told ≡ RefusedWhole side (record refusal { at = at })) × TellsPlace given refusal.at at
-IsToldOf given (BadLiteral side refusal) told = told ≡ BadLiteral side refusal
-IsToldOf given (BadWord index) told = told ≡ BadWord index
-IsToldOf given (WrongCount wanted had) told = told ≡ WrongCount wanted had
-IsToldOf given (WrongType index) told = told ≡ WrongType index
-IsToldOf given Memory told = told ≡ Memory
+abbrev pub IsFaultInText : GivenFormat → Fault → Fault → Type 0
+IsFaultInText given (Refused side refusal) reported = (at : ℕ)
+    × (reported ≡ Refused side (record refusal { at = at })) × IsPlaceOfByte given refusal.at at
+IsFaultInText given (RefusedWhole side refusal) reported = (at : ℕ)
+    × (reported ≡ RefusedWhole side (record refusal { at = at })) × IsPlaceOfByte given refusal.at at
+IsFaultInText given (BadLiteral side refusal) reported = reported ≡ BadLiteral side refusal
+IsFaultInText given (BadWord index) reported = reported ≡ BadWord index
+IsFaultInText given (WrongCount wanted had) reported = reported ≡ WrongCount wanted had
+IsFaultInText given (WrongType index) reported = reported ≡ WrongType index
+IsFaultInText given Memory reported = reported ≡ Memory
 
 -- the same of two formats, by the side that is refused
-abbrev pub IsToldBySide : GivenFormat → GivenFormat → Option Side → Fault → Fault → Type 0
-IsToldBySide first second (Some sides.Second) fault told = IsToldOf second fault told
-IsToldBySide first second (Some sides.First) fault told = IsToldOf first fault told
-IsToldBySide first second None fault told = IsToldOf first fault told
+abbrev pub IsFaultInTexts : GivenFormat → GivenFormat → Option Side → Fault → Fault → Type 0
+IsFaultInTexts first second (Some sides.Second) fault reported = IsFaultInText second fault reported
+IsFaultInTexts first second (Some sides.First) fault reported = IsFaultInText first fault reported
+IsFaultInTexts first second None fault reported = IsFaultInText first fault reported

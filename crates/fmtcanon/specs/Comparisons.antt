@@ -21,8 +21,8 @@ use Rattle.fmtcanon.specs.Lines.{line}
 use Rattle.fmtcanon.specs.Models.{model_name}
 
 -- it is read as that argument
-abbrev pub ToldIsRead : Model → Type 0
-ToldIsRead model =
+abbrev pub PrintedWordIsRead : Model → Type 0
+PrintedWordIsRead model =
     (argument : Argument) (type : ArgType) → HasType model argument type
     → SpellsArgument (argument_word argument) argument
 

@@ -5,7 +5,7 @@ use Rattle.pf_values.specs.declared.counting.Counted.{Counted}
 use Rattle.pf_values.specs.Counting.{Known, WritesAll, WritesFirst}
 use Rattle.pf_values.specs.Text.{Text}
 use Rattle.fmtcanon.specs.Questions.{formats_wanted}
-use Rattle.fmtcanon.specs.Records.{AreReplies, IsCut, IsReply, RepliesAll, RepliesFirst, Reply, bytes_of, greatest_of, last_record}
+use Rattle.fmtcanon.specs.Records.{AreReplies, IsRecords, IsReply, RepliesAll, RepliesFirst, Reply, replies_text, greatest_of, last_record}
 use Rattle.fmtcanon.specs.declared.outcome.Outcome.{Outcome}
 use Rattle.fmtcanon.specs.declared.outcome.Outcome.TheVariants as outcomes
 use Rattle.fmtcanon.specs.declared.task.RecordQuestion.{RecordQuestion}
@@ -20,12 +20,12 @@ abbrev pub count_of : ℕ → ℕ
 count_of written = min written (2 ^ 128 - 1)
 
 -- the bytes that wait
-abbrev pub waiting_of : Replies → Text
-waiting_of r = r.waiting.items
+abbrev pub waiting_text : Replies → Text
+waiting_text r = r.waiting.items
 
 -- These replies came, and those bytes of them that don't wait went out.
 pub record HasReplies (r : Replies) (sent : Text) (replies : List Reply) : Type 0 where
-  pub bytes : bytes_of replies ≡ sent ++ waiting_of r
+  pub bytes : replies_text replies ≡ sent ++ waiting_text r
   pub greatest : r.greatest ≡ greatest_of replies
   pub count : r.written ≡ count_of (length sent)
 
@@ -39,7 +39,7 @@ module _ {W : Type 0} (contents : W → Known) where
   -- just the first bytes of them went out
   pub record HasSaidFirst (start now : Counted W) (replies : List Reply) (count : ℕ) : Type 0 where
     pub written : ℕ
-    pub writes : WritesFirst contents start now (bytes_of replies) written
+    pub writes : WritesFirst contents start now (replies_text replies) written
     pub count_is : count ≡ count_of written
 
 -- the first format of two, if it has come
@@ -57,7 +57,7 @@ pub record HasCome (c : Coming) (kind : RecordQuestion) (first : List Text) (res
 
 module _ (kind : RecordQuestion) {W : Type 0} (contents : W → Known) where
   -- Replies were made to these whole records, and a rest has come after them.
-  pub record IsAt (c : Conversation) (start now : Counted W) (whole : List Text) (rest : Text)
+  pub record HasRepliedTo (c : Conversation) (start now : Counted W) (whole : List Text) (rest : Text)
       : Type 0 where
     pub first : List Text
     pub replies : List Reply
@@ -75,24 +75,24 @@ module _ (kind : RecordQuestion) {W : Type 0} (contents : W → Known) where
       × HasSaidFirst contents start now replies count
 
   -- the same of what was taken
-  abbrev pub IsAtText : Conversation → Counted W → Counted W → Text → Type 0
-  IsAtText c start now taken =
-      (whole : List Text) × (rest : Text) × IsCut taken whole rest × IsAt c start now whole rest
+  abbrev pub HasRepliedToText : Conversation → Counted W → Counted W → Text → Type 0
+  HasRepliedToText c start now taken =
+      (whole : List Text) × (rest : Text) × IsRecords taken whole rest × HasRepliedTo c start now whole rest
 
   abbrev pub HasStoppedAt : Conversation → Counted W → Counted W → Text → Stop → Type 0
   HasStoppedAt c start now taken stop =
-      (whole : List Text) × (rest : Text) × IsCut taken whole rest
+      (whole : List Text) × (rest : Text) × IsRecords taken whole rest
       × HasStopped c start now (whole ++ last_record rest) stop
 
 -- whether the reply to these formats was added: all was, they are too few, or memory was refused
-abbrev pub Answers : RecordQuestion → List Text → Text → List Reply → Replies → Replies
+abbrev pub AddsReply : RecordQuestion → List Text → Text → List Reply → Replies → Replies
     → Result Bool AllocError → Type 0
-Answers kind formats sent replies old new (Ok true) =
+AddsReply kind formats sent replies old new (Ok true) =
     (reply : Reply) × IsReply kind reply × (reply.formats ≡ formats)
     × HasReplies new sent (replies ++ reply ∷ [])
-Answers kind formats sent replies old new (Ok false) =
+AddsReply kind formats sent replies old new (Ok false) =
     (length formats < formats_wanted kind) × (new ≡ old)
-Answers kind formats sent replies old new (Err e) = HasReplies new sent replies
+AddsReply kind formats sent replies old new (Err e) = HasReplies new sent replies
 
 module _ {W : Type 0} (contents : W → Known) where
   -- a write of replies that wait, or of none
@@ -105,19 +105,19 @@ module _ {W : Type 0} (contents : W → Known) where
 
 module _ (kind : RecordQuestion) {W : Type 0} (contents : W → Known) (old new : Counted W) where
   -- what is written where it ends early, of replies to the first of these records
-  abbrev pub LeavesStopped : List Text → Outcome → Type 0
-  LeavesStopped records outcomes.Memory =
+  abbrev pub RecordsStop : List Text → Outcome → Type 0
+  RecordsStop records outcomes.Memory =
       (others : List Text) × (greatest : ℕ)
       × RepliesAll kind contents old new records others greatest
-  LeavesStopped records (outcomes.Write count) =
+  RecordsStop records (outcomes.Write count) =
       RepliesFirst kind contents old new records count
-  LeavesStopped records outcome = ⊥
+  RecordsStop records outcome = ⊥
 
   -- what is written at the end, of these records
-  abbrev pub LeavesAtEnd : List Text → Outcome → Type 0
-  LeavesAtEnd records (outcomes.Answered greatest) =
+  abbrev pub RecordsFinish : List Text → Outcome → Type 0
+  RecordsFinish records (outcomes.Answered greatest) =
       RepliesAll kind contents old new records [] greatest
-  LeavesAtEnd records outcomes.NoSecond =
+  RecordsFinish records outcomes.NoSecond =
       (first : Text) × (greatest : ℕ) × (1 < formats_wanted kind)
       × RepliesAll kind contents old new records (first ∷ []) greatest
-  LeavesAtEnd records outcome = LeavesStopped records outcome
+  RecordsFinish records outcome = RecordsStop records outcome

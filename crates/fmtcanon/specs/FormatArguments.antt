@@ -67,21 +67,19 @@ pub record AreArgumentsFor (model : Model) (format : Text) (words : List Text)
   pub types_are : map type_of args ≡ types model items
 
 -- Why there are no arguments: the first that holds, in this order.
-abbrev pub HindersArguments : Model → Text → List Text → Fault → Type 0
-HindersArguments model format words (Refused (Some side) refusal) = ⊥
-HindersArguments model format words (Refused None refusal) =
+abbrev pub IsArgumentFault : Model → Text → List Text → Fault → Type 0
+IsArgumentFault model format words (Refused None refusal) =
     IsRefusedAt format refusal.kind refusal.at
-HindersArguments model format words (RefusedWhole side refusal) = ⊥
-HindersArguments model format words (BadLiteral side refusal) = ⊥
-HindersArguments model format words (BadWord index) = IsAccepted format × IsFirstBadWord words index
-HindersArguments model format words (WrongCount wanted given) =
+IsArgumentFault model format words (BadWord index) = IsAccepted format × IsFirstBadWord words index
+IsArgumentFault model format words (WrongCount wanted given) =
     (items : List Item) × (arguments : List Argument) × IsGiven format words items arguments
     × (wanted ≡ length (types model items)) × (given ≡ length words) × (wanted ≢ given)
-HindersArguments model format words (WrongType index) =
+IsArgumentFault model format words (WrongType index) =
     (items : List Item) × (arguments : List Argument) × IsGiven format words items arguments
     × (length arguments ≡ length (types model items))
     × IsFirstWrongType model arguments (types model items) index
-HindersArguments model format words Memory = ⊤
+IsArgumentFault model format words Memory = ⊤
+IsArgumentFault model format words _ = ⊥
 
 -- what a format prints for the arguments that words give, and nothing else (C11 7.21.6.1 p2, p3)
 pub record IsPrinted (model : Model) (format : Text) (words : List Text) (out : Text) : Type 0 where

@@ -13,19 +13,19 @@ use Rattle.fmtcanon.specs.declared.formats.Notation.{Notation}
 use Rattle.fmtcanon.specs.declared.formats.Notation.TheVariants.{Bytes, Literals}
 
 -- a text gives these bytes: it is them, or it is string literals with these bytes
-abbrev pub Gives : Notation → Text → Text → Type 0
-Gives Bytes text bytes = bytes ≡ text
-Gives Literals text bytes = IsSourceOf text bytes
+abbrev pub GivesBytes : Notation → Text → Text → Type 0
+GivesBytes Bytes text bytes = bytes ≡ text
+GivesBytes Literals text bytes = IsSourceOf text bytes
 
 -- the place in the text of a byte that it gives, or of the end of the bytes
-abbrev pub IsToldAt : Notation → Text → ℕ → ℕ → Type 0
-IsToldAt Bytes text index at = at ≡ index
-IsToldAt Literals text index at = IsPlaceOf text index at
+abbrev pub IsPlaceInText : Notation → Text → ℕ → ℕ → Type 0
+IsPlaceInText Bytes text index at = at ≡ index
+IsPlaceInText Literals text index at = IsPlaceOf text index at
 
 -- the text gives no bytes, for this reason
-abbrev pub GivesNone : Notation → Text → LiteralRefusal → Type 0
-GivesNone Bytes text refusal = ⊥
-GivesNone Literals text refusal = IsFaultAt text refusal.kind refusal.at
+abbrev pub GivesNoBytes : Notation → Text → LiteralRefusal → Type 0
+GivesNoBytes Bytes text refusal = ⊥
+GivesNoBytes Literals text refusal = IsFaultAt text refusal.kind refusal.at
 
 -- how bytes are written
 abbrev pub written_in : Notation → Text → Text
@@ -34,24 +34,24 @@ written_in Literals bytes = encoding bytes
 
 -- the same of a format that is given
 abbrev pub IsFormat : GivenFormat → Text → Type 0
-IsFormat given bytes = Gives given.notation given.text.now bytes
+IsFormat given bytes = GivesBytes given.notation given.text.now bytes
 
 abbrev pub IsNoFormat : GivenFormat → LiteralRefusal → Type 0
-IsNoFormat given refusal = GivesNone given.notation given.text.now refusal
+IsNoFormat given refusal = GivesNoBytes given.notation given.text.now refusal
 
 -- why it has no bytes
-abbrev pub HindersBytes : GivenFormat → LiteralFault → Type 0
-HindersBytes given (Refused refusal) = IsNoFormat given refusal
-HindersBytes given Memory = ⊤
+abbrev pub IsBytesFault : GivenFormat → LiteralFault → Type 0
+IsBytesFault given (Refused refusal) = IsNoFormat given refusal
+IsBytesFault given Memory = ⊤
 
 -- something holds of its bytes
 abbrev pub HoldsOf : GivenFormat → (Text → Type 0) → Type 0
 HoldsOf given Holds = (bytes : Text) × IsFormat given bytes × Holds bytes
 
 -- something holds of its bytes at the place in them that belongs to a place of the text
-pub record HoldsAt (given : GivenFormat) (Holds : Text → ℕ → Type 0) (told : ℕ) : Type 0 where
+pub record HoldsAt (given : GivenFormat) (Holds : Text → ℕ → Type 0) (reported : ℕ) : Type 0 where
   pub bytes : Text
   pub gives : IsFormat given bytes
   pub at : ℕ
   pub holds : Holds bytes at
-  pub told_at : IsToldAt given.notation given.text.now at told
+  pub place_is : IsPlaceInText given.notation given.text.now at reported

@@ -5,10 +5,10 @@ use Rattle.std.specs.Io.KnownBytes.{Consumes, IsAtEnd}
 use Rattle.pf_values.specs.declared.counting.Counted.{Counted}
 use Rattle.pf_values.specs.Counting.{HasFailed, Known, WritesAll, WritesFirst, calls_of, device_of, failures_of, is_flushed, max_count}
 use Rattle.pf_values.specs.Text.{Text}
-use Rattle.fmtcanon.specs.Answers.{IsAnswer, IsHindered}
+use Rattle.fmtcanon.specs.Answers.{IsAnswer, IsQuestionFault}
 use Rattle.fmtcanon.specs.Outcomes.{outcome_of, outcome_of_fault, status_of}
 use Rattle.fmtcanon.specs.Questions.{IsAbout, formats_wanted}
-use Rattle.fmtcanon.specs.Reports.{told}
+use Rattle.fmtcanon.specs.Reports.{report_text}
 use Rattle.fmtcanon.specs.declared.answer.Ending.{Ending}
 use Rattle.fmtcanon.specs.declared.outcome.Fault.{Fault}
 use Rattle.fmtcanon.specs.declared.outcome.Fault.TheVariants as faults
@@ -22,7 +22,7 @@ abbrev pub IsBare : Text → Type 0
 IsBare text = AllByRecursion (λ byte. byte ≢ 0) text
 
 -- A text is these whole records, each with a zero byte after it, and then the rest of it.
-pub record IsCut (text : Text) (whole : List Text) (rest : Text) : Type 0 where
+pub record IsRecords (text : Text) (whole : List Text) (rest : Text) : Type 0 where
   pub bare : AllByRecursion IsBare whole × IsBare rest
   pub is : text ≡ flat_map (λ r. r ++ 0 ∷ []) whole ++ rest
 
@@ -33,11 +33,11 @@ last_record (byte ∷ bytes) = (byte ∷ bytes) ∷ []
 
 -- What a run of the command says to a question, and how it ends: it writes the answer to standard
 -- output, or a line about the fault to standard error.
-abbrev pub Says : Question → Text → Outcome → Type 0
-Says question said outcome =
+abbrev pub RunWrites : Question → Text → Outcome → Type 0
+RunWrites question said outcome =
     ((ending : Ending) × IsAnswer question said ending × (outcome ≡ outcome_of ending))
-    ⊎ ((fault : Fault) × IsHindered question fault × (fault ≢ faults.Memory)
-    × (outcome ≡ outcome_of_fault fault) × (said ≡ told outcome))
+    ⊎ ((fault : Fault) × IsQuestionFault question fault × (fault ≢ faults.Memory)
+    × (outcome ≡ outcome_of_fault fault) × (said ≡ report_text outcome))
 
 -- a reply: the digit of the status, a space, what is said but for its last newline, a zero byte
 abbrev pub reply_bytes : ℕ → Text → Text
@@ -56,13 +56,13 @@ pub record IsReply (kind : RecordQuestion) (reply : Reply) : Type 0 where
   pub about : IsAbout question kind reply.formats
   pub said : Text
   pub outcome : Outcome
-  pub says : Says question said outcome
+  pub says : RunWrites question said outcome
   pub status : reply.status ≡ status_of outcome
   pub bytes : reply.bytes ≡ reply_bytes reply.status said
 
 -- the bytes of replies, one after another
-abbrev pub bytes_of : List Reply → Text
-bytes_of replies = flat_map (λ r. r.bytes) replies
+abbrev pub replies_text : List Reply → Text
+replies_text replies = flat_map (λ r. r.bytes) replies
 
 -- the greatest of their statuses, and 0 where there are none
 abbrev pub greatest_of : List Reply → ℕ
@@ -80,7 +80,7 @@ module _ (kind : RecordQuestion) {W : Type 0} (contents : W → Known) (old new 
     pub replies : List Reply
     pub are : AreReplies kind records replies others
     pub greatest_is : greatest ≡ greatest_of replies
-    pub writes : WritesAll contents old new (bytes_of replies)
+    pub writes : WritesAll contents old new (replies_text replies)
     pub flushed : is_flushed new ≡ true
 
   -- Just the first bytes of replies went out, and a call failed. The count stays at the greatest
@@ -90,21 +90,21 @@ module _ (kind : RecordQuestion) {W : Type 0} (contents : W → Known) (old new 
     pub others : List Text
     pub are : AreReplies kind records replies others
     pub written : ℕ
-    pub writes : WritesFirst contents old new (bytes_of replies) written
+    pub writes : WritesFirst contents old new (replies_text replies) written
     pub count_is : count ≡ min written (2 ^ 128 - 1)
 
 module _ (kind : RecordQuestion) {R W : Type 0} (remaining : R → Known) (contents : W → Known)
     (reader left : Counted R) (old new : Counted W) where
   -- the reader handed out these whole records, and a rest after them
-  abbrev pub Takes : List Text → Text → Type 0
-  Takes whole rest =
-      (taken : Text) × IsCut taken whole rest
+  abbrev pub HandsOut : List Text → Text → Type 0
+  HandsOut whole rest =
+      (taken : Text) × IsRecords taken whole rest
       × Consumes (remaining (device_of reader)) (remaining (device_of left)) taken
 
   -- it handed out all that it had, and these are its records
-  abbrev pub TakesAll : List Text → Type 0
-  TakesAll records =
-      (whole : List Text) × (rest : Text) × Takes whole rest
+  abbrev pub HandsOutAll : List Text → Type 0
+  HandsOutAll records =
+      (whole : List Text) × (rest : Text) × HandsOut whole rest
       × IsAtEnd (remaining (device_of left)) × (records ≡ whole ++ last_record rest)
 
   -- it did not fail
@@ -117,32 +117,23 @@ module _ (kind : RecordQuestion) {R W : Type 0} (remaining : R → Known) (conte
 
   -- What a run over records leaves. At Read each whole record has its reply, but one that wants a
   -- second. At Memory the first of them have theirs: for which one it was wanted, this doesn't say.
-  abbrev pub LeavesRecords : Outcome → Type 0
-  LeavesRecords (Answered greatest) =
-      (records : List Text) × TakesAll records × ReadWell
+  abbrev pub RecordsEnd : Outcome → Type 0
+  RecordsEnd (Answered greatest) =
+      (records : List Text) × HandsOutAll records × ReadWell
       × RepliesAll kind contents old new records [] greatest
-  LeavesRecords NoSecond =
-      (records : List Text) × (first : Text) × (greatest : ℕ) × TakesAll records × ReadWell
+  RecordsEnd NoSecond =
+      (records : List Text) × (first : Text) × (greatest : ℕ) × HandsOutAll records × ReadWell
       × (1 < formats_wanted kind)
       × RepliesAll kind contents old new records (first ∷ []) greatest
-  LeavesRecords Read =
+  RecordsEnd Read =
       (whole : List Text) × (rest : Text) × (first : List Text) × (greatest : ℕ)
-      × Takes whole rest × ReadFails × (length first < formats_wanted kind)
+      × HandsOut whole rest × ReadFails × (length first < formats_wanted kind)
       × RepliesAll kind contents old new whole first greatest
-  LeavesRecords Memory =
+  RecordsEnd Memory =
       (whole : List Text) × (rest : Text) × (others : List Text) × (greatest : ℕ)
-      × Takes whole rest × ReadWell
+      × HandsOut whole rest × ReadWell
       × RepliesAll kind contents old new (whole ++ last_record rest) others greatest
-  LeavesRecords (Write count) =
-      (whole : List Text) × (rest : Text) × Takes whole rest × ReadWell
+  RecordsEnd (Write count) =
+      (whole : List Text) × (rest : Text) × HandsOut whole rest × ReadWell
       × RepliesFirst kind contents old new (whole ++ last_record rest) count
-  LeavesRecords Done = ⊥
-  LeavesRecords Same = ⊥
-  LeavesRecords Different = ⊥
-  LeavesRecords (Refused side refusal) = ⊥
-  LeavesRecords (RefusedWhole side refusal) = ⊥
-  LeavesRecords (BadLiteral side refusal) = ⊥
-  LeavesRecords (BadWord index) = ⊥
-  LeavesRecords (WrongCount wanted given) = ⊥
-  LeavesRecords (WrongType index) = ⊥
-  LeavesRecords (Usage text) = ⊥
+  RecordsEnd _ = ⊥

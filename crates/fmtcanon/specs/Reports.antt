@@ -16,52 +16,52 @@ use Rattle.fmtcanon.specs.declared.outcome.Outcome.{Outcome}
 use Rattle.fmtcanon.specs.declared.outcome.Outcome.TheVariants.{Done, Same, Different, Refused, RefusedWhole, BadLiteral, BadWord, WrongCount, WrongType, Answered, NoSecond, Usage, Read, Write, Memory}
 
 -- which format is refused, where there are two
-abbrev pub side_told : Option Side → Text
-side_told None = []
-side_told (Some sides.First) = codes "first: "
-side_told (Some sides.Second) = codes "second: "
+abbrev pub side_words : Option Side → Text
+side_words None = []
+side_words (Some sides.First) = codes "first: "
+side_words (Some sides.Second) = codes "second: "
 
 -- what is wrong with it, with its number, its name and its place
-abbrev pub fault_told : Option Side → Text → ℕ → Text → ℕ → Text
-fault_told side what number name at =
-    side_told side ++ what ++ decimal number ++ codes " " ++ name ++ codes " at byte " ++ decimal at
+abbrev pub fault_words : Option Side → Text → ℕ → Text → ℕ → Text
+fault_words side what number name at =
+    side_words side ++ what ++ decimal number ++ codes " " ++ name ++ codes " at byte " ++ decimal at
 
-abbrev pub refusal_told : Option Side → Refusal → Text
-refusal_told side refusal =
-    fault_told side (codes "refused ") (number refusal.kind) (name refusal.kind) refusal.at
+abbrev pub refusal_words : Option Side → Refusal → Text
+refusal_words side refusal =
+    fault_words side (codes "refused ") (number refusal.kind) (name refusal.kind) refusal.at
 
-abbrev pub whole_told : Option Side → SignatureRefusal → Text
-whole_told side refusal = fault_told side (codes "refused ")
+abbrev pub whole_words : Option Side → SignatureRefusal → Text
+whole_words side refusal = fault_words side (codes "refused ")
     (signatures.number refusal.kind) (signatures.name refusal.kind) refusal.at
 
-abbrev pub literal_told : Option Side → LiteralRefusal → Text
-literal_told side refusal = fault_told side (codes "literal ")
+abbrev pub literal_words : Option Side → LiteralRefusal → Text
+literal_words side refusal = fault_words side (codes "literal ")
     (literals.number refusal.kind) (literals.name refusal.kind) refusal.at
 
 -- What is said of an outcome: nothing of answers that were written, a text on the words as it is, and
 -- else a line.
-abbrev pub told : Outcome → Text
-told Done = []
-told Same = []
-told Different = []
-told (Refused side refusal) = line (refusal_told side refusal)
-told (RefusedWhole side refusal) = line (whole_told side refusal)
-told (BadLiteral side refusal) = line (literal_told side refusal)
-told (BadWord index) =
+abbrev pub report_text : Outcome → Text
+report_text Done = []
+report_text Same = []
+report_text Different = []
+report_text (Refused side refusal) = line (refusal_words side refusal)
+report_text (RefusedWhole side refusal) = line (whole_words side refusal)
+report_text (BadLiteral side refusal) = line (literal_words side refusal)
+report_text (BadWord index) =
     line (codes "argument " ++ decimal index ++ codes ": " ++ codes "not an argument")
-told (WrongCount wanted given) =
+report_text (WrongCount wanted given) =
     line (codes "argument count: wanted " ++ decimal wanted ++ codes ", given " ++ decimal given)
-told (WrongType index) =
+report_text (WrongType index) =
     line (codes "argument " ++ decimal index ++ codes ": " ++ codes "wrong type")
-told (Answered status) = []
-told NoSecond = line (codes "a second format is wanted")
-told (Usage text) = string_bytes text
-told Read = line (codes "read failed")
-told (Write written) = line (codes "write failed")
-told Memory = line (codes "out of memory")
+report_text (Answered status) = []
+report_text NoSecond = line (codes "a second format is wanted")
+report_text (Usage text) = string_bytes text
+report_text Read = line (codes "read failed")
+report_text (Write written) = line (codes "write failed")
+report_text Memory = line (codes "out of memory")
 
 -- all of a text went out, or just its first bytes and one call failed
-abbrev pub Tells : {W : Type 0} → (W → Known) → Counted W → Counted W → Text → Type 0
-Tells contents old new text =
+abbrev pub WritesReport : {W : Type 0} → (W → Known) → Counted W → Counted W → Text → Type 0
+WritesReport contents old new text =
     WritesAll contents old new text
     ⊎ ((written : ℕ) × (written < length text) × WritesFirst contents old new text written)

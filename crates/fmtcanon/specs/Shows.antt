@@ -28,14 +28,14 @@ BeginsNoRun [] = ⊤
 BeginsNoRun (byte ∷ rest) = ¬ IsLiteral byte
 
 -- A text is cut into longest runs of literal bytes, `%%` and specifications.
-abbrev pub IsCut : Text → List Shown → Type 0
-IsCut t [] = t ≡ []
-IsCut t (Run bytes ∷ xs) =
-    (bytes ≢ []) × AllByRecursion IsLiteral bytes × (rest : Text) × IsCut rest xs
+abbrev pub IsShownAs : Text → List Shown → Type 0
+IsShownAs t [] = t ≡ []
+IsShownAs t (Run bytes ∷ xs) =
+    (bytes ≢ []) × AllByRecursion IsLiteral bytes × (rest : Text) × IsShownAs rest xs
     × (t ≡ bytes ++ rest) × BeginsNoRun rest
-IsCut t (Percent ∷ xs) = (rest : Text) × IsCut rest xs × (t ≡ percent ∷ percent ∷ rest)
-IsCut t (Specified s ∷ xs) =
-    (part rest : Text) × Spells part s × IsDefined s × IsCut rest xs × (t ≡ part ++ rest)
+IsShownAs t (Percent ∷ xs) = (rest : Text) × IsShownAs rest xs × (t ≡ percent ∷ percent ∷ rest)
+IsShownAs t (Specified s ∷ xs) =
+    (part rest : Text) × Spells part s × IsDefined s × IsShownAs rest xs × (t ≡ part ++ rest)
 
 -- spaces, zeros, the core, and spaces after it
 abbrev pub reduced_text : Reduced → Text
@@ -62,7 +62,7 @@ pub record HasShownLines (model : Model) (format lines : Text) : Type 0 where
   pub accepted : IsAccepted format
   pub shown : List Shown
   pub parts : List Text
-  pub cut : IsCut format shown
+  pub cut : IsShownAs format shown
   pub each : AllZip (IsLineOf model) shown parts
   pub whole : lines ≡ concat parts
 

@@ -29,25 +29,14 @@ module _ (model : Model) {R W : Type 0} (remaining : R → Known) (contents : W 
 
   -- At Write the bytes are fewer than all, but where the flush failed after all went out. At
   -- Refused and Read the flush may have failed, too.
-  abbrev pub LeavesCopy : Outcome → Type 0
-  LeavesCopy Done =
+  abbrev pub CopyEnds : Outcome → Type 0
+  CopyEnds Done =
       ((count : ℕ) × AllCopied count) × ReadWell × (failures_of new ≡ failures_of old)
       × (is_flushed new ≡ true)
-  LeavesCopy (Refused None refusal) =
+  CopyEnds (Refused None refusal) =
       CopyStopped (faults.Refused refusal) × ReadWell × (is_flushed new ≡ true)
-  LeavesCopy (Refused (Some side) refusal) = ⊥
-  LeavesCopy (RefusedWhole side refusal) = ⊥
-  LeavesCopy (BadLiteral side refusal) = ⊥
-  LeavesCopy Read =
+  CopyEnds Read =
       CopyStopped faults.Read × HasFailed reader left × (is_flushed new ≡ true)
-  LeavesCopy (Write count) =
+  CopyEnds (Write count) =
       (CopyStopped (faults.Write count) ⊎ AllCopied count) × ReadWell × HasFailed old new
-  LeavesCopy Same = ⊥
-  LeavesCopy Different = ⊥
-  LeavesCopy (BadWord index) = ⊥
-  LeavesCopy (WrongCount wanted given) = ⊥
-  LeavesCopy (WrongType index) = ⊥
-  LeavesCopy (Answered status) = ⊥
-  LeavesCopy NoSecond = ⊥
-  LeavesCopy (Usage text) = ⊥
-  LeavesCopy Memory = ⊥
+  CopyEnds _ = ⊥

@@ -1,6 +1,6 @@
 //! The answer to a question.
 ghost use Rattle.std.specs.Prelude.{◌≡◌, Err, MatchResult, Ok, IfOk, MatchOption, Some, map};
-ghost use Rattle.fmtcanon.specs.Answers.{IsAnswer, IsHindered, HasCanonicalLine, HindersFormat, HindersGiven, HindersPair, HindersWhole, IsAcceptedWhole, IsToldBySide, IsToldOf, side_of};
+ghost use Rattle.fmtcanon.specs.Answers.{IsAnswer, IsQuestionFault, HasCanonicalLine, IsFormatFault, IsGivenFault, IsGivenPairFault, IsWholeFault, IsAcceptedWhole, IsFaultInTexts, IsFaultInText, side_of};
 ghost use Rattle.fmtcanon.specs.declared.answer.Ending.TheVariants.{Done};
 ghost use Rattle.pf_canon.specs.declared.sides.Side.TheVariants as sides;
 ghost use Rattle.pf_values.specs.Items.{IsAccepted};
@@ -8,7 +8,7 @@ ghost use Rattle.pf_values.specs.Text.{Text};
 ghost use Rattle.fmtcanon.specs.ArgumentLines.{HasArgumentLines, IsFitAnswer};
 ghost use Rattle.fmtcanon.specs.Comparisons.{IsComparisonIn};
 ghost use Rattle.fmtcanon.specs.Faults.{of_literal};
-ghost use Rattle.fmtcanon.specs.FormatArguments.{HindersArguments, IsPrinted};
+ghost use Rattle.fmtcanon.specs.FormatArguments.{IsArgumentFault, IsPrinted};
 ghost use Rattle.fmtcanon.specs.Formats.{IsFormat};
 ghost use Rattle.fmtcanon.specs.Lines.{line};
 ghost use Rattle.fmtcanon.specs.Shows.{HasShownLines};
@@ -55,7 +55,7 @@ pub struct Answer {
 pub fn answer_to(alloc: Global, question: &Question<'_>) -> Result<Answer, Fault>
     ensures { MatchResult result
         (λ answer. IsAnswer question.now answer.bytes.items answer.ending)
-        (IsHindered question.now) }
+        (IsQuestionFault question.now) }
 {
     match question {
         Question::Types(model, format) => done(types_of_given(alloc, *model, format)),
@@ -99,12 +99,12 @@ pub fn types_of_given(
 ) -> Result<Vec<u8>, Fault>
     ensures { MatchResult result (λ out. (bytes : Text) × IsFormat format.now bytes
         × HasTypeLines model bytes out.items)
-        (HindersGiven HindersFormat format.now) }
+        (IsGivenFault IsFormatFault format.now) }
 {
     let bytes = format.bytes(alloc)?;
     match type_lines(alloc, model, bytes.as_slice()) {
         Ok(out) => Ok(out),
-        Err(fault) => Err(told_of(format, fault)),
+        Err(fault) => Err(placed_in(format, fault)),
     }
 }
 
@@ -116,12 +116,12 @@ pub fn arguments_of_given(
 ) -> Result<Vec<u8>, Fault>
     ensures { MatchResult result (λ out. (bytes : Text) × IsFormat format.now bytes
         × HasArgumentLines model bytes out.items)
-        (HindersGiven (HindersWhole model) format.now) }
+        (IsGivenFault (IsWholeFault model) format.now) }
 {
     let bytes = format.bytes(alloc)?;
     match argument_lines(alloc, model, bytes.as_slice()) {
         Ok(out) => Ok(out),
-        Err(fault) => Err(told_of(format, fault)),
+        Err(fault) => Err(placed_in(format, fault)),
     }
 }
 
@@ -133,12 +133,12 @@ pub fn canonical_of_given(
 ) -> Result<Vec<u8>, Fault>
     ensures { MatchResult result (λ out. (bytes : Text) × IsFormat format.now bytes
         × HasCanonicalLine format.now.notation model bytes out.items)
-        (HindersGiven HindersFormat format.now) }
+        (IsGivenFault IsFormatFault format.now) }
 {
     let bytes = format.bytes(alloc)?;
     match canonical_line(alloc, format.notation, model, bytes.as_slice()) {
         Ok(out) => Ok(out),
-        Err(fault) => Err(told_of(format, fault)),
+        Err(fault) => Err(placed_in(format, fault)),
     }
 }
 
@@ -150,12 +150,12 @@ pub fn parts_of_given(
 ) -> Result<Vec<u8>, Fault>
     ensures { MatchResult result (λ out. (bytes : Text) × IsFormat format.now bytes
         × HasShownLines model bytes out.items)
-        (HindersGiven HindersFormat format.now) }
+        (IsGivenFault IsFormatFault format.now) }
 {
     let bytes = format.bytes(alloc)?;
     match show_lines(alloc, model, bytes.as_slice()) {
         Ok(out) => Ok(out),
-        Err(fault) => Err(told_of(format, fault)),
+        Err(fault) => Err(placed_in(format, fault)),
     }
 }
 
@@ -168,12 +168,12 @@ pub fn printed_by_given(
 ) -> Result<Vec<u8>, Fault>
     ensures { MatchResult result (λ out. (bytes : Text) × IsFormat format.now bytes
         × IsPrinted model bytes (map (λ s. s.now) words.now) out.items)
-        (HindersGiven (λ bytes. HindersArguments model bytes (map (λ s. s.now) words.now)) format.now) }
+        (IsGivenFault (λ bytes. IsArgumentFault model bytes (map (λ s. s.now) words.now)) format.now) }
 {
     let bytes = format.bytes(alloc)?;
     match print_format(alloc, model, bytes.as_slice(), words) {
         Ok(out) => Ok(out),
-        Err(fault) => Err(told_of(format, fault)),
+        Err(fault) => Err(placed_in(format, fault)),
     }
 }
 
@@ -187,7 +187,7 @@ pub fn fit_of_given(
     ensures { MatchResult result (λ answer.
         (one other : Text) × IsFormat first.now one × IsFormat second.now other
         × IsFitAnswer model one other answer.bytes.items answer.ending)
-        (HindersPair (HindersWhole model) (IsAcceptedWhole model) first.now second.now) }
+        (IsGivenPairFault (IsWholeFault model) (IsAcceptedWhole model) first.now second.now) }
 {
     let one = match first.bytes(alloc) {
         Ok(bytes) => bytes,
@@ -202,7 +202,7 @@ pub fn fit_of_given(
     };
     match fit_answer(alloc, model, one.as_slice(), other.as_slice()) {
         Ok(answer) => Ok(answer),
-        Err(fault) => Err(told_of_pair(first, second, fault)),
+        Err(fault) => Err(placed_in_pair(first, second, fault)),
     }
 }
 
@@ -216,7 +216,7 @@ pub fn comparison_of_given(
     ensures { MatchResult result (λ answer.
         (one other : Text) × IsFormat first.now one × IsFormat second.now other
         × IsComparisonIn models one other answer.bytes.items answer.ending)
-        (HindersPair HindersFormat IsAccepted first.now second.now) }
+        (IsGivenPairFault IsFormatFault IsAccepted first.now second.now) }
 {
     let one = match first.bytes(alloc) {
         Ok(bytes) => bytes,
@@ -228,7 +228,7 @@ pub fn comparison_of_given(
     };
     match comparison_answer(alloc, models, one.as_slice(), other.as_slice()) {
         Ok(answer) => Ok(answer),
-        Err(fault) => Err(told_of_pair(first, second, fault)),
+        Err(fault) => Err(placed_in_pair(first, second, fault)),
     }
 }
 
@@ -247,11 +247,11 @@ fn without_second(first_refused: Option<Fault>, fault: LiteralFault) -> Fault
 fn refused(first: &GivenFormat<'_>, bytes: &[u8]) -> Option<Fault>
     ensures { IsFormat first.now bytes.now → MatchOption result (IsAccepted bytes.now)
         (λ fault. (second : GivenFormat)
-        → HindersPair HindersFormat IsAccepted first.now second fault) }
+        → IsGivenPairFault IsFormatFault IsAccepted first.now second fault) }
 {
     match check(bytes) {
         Ok(()) => None,
-        Err(refusal) => Some(told_of(
+        Err(refusal) => Some(placed_in(
             first,
             Fault::Refused {
                 side: Some(Side::First),
@@ -264,11 +264,11 @@ fn refused(first: &GivenFormat<'_>, bytes: &[u8]) -> Option<Fault>
 fn refused_whole(model: Model, first: &GivenFormat<'_>, bytes: &[u8]) -> Option<Fault>
     ensures { IsFormat first.now bytes.now → MatchOption result (IsAcceptedWhole model bytes.now)
         (λ fault. (second : GivenFormat)
-        → HindersPair (HindersWhole model) (IsAcceptedWhole model) first.now second fault) }
+        → IsGivenPairFault (IsWholeFault model) (IsAcceptedWhole model) first.now second fault) }
 {
     match arguments(model, bytes, &mut []) {
         Ok(_) => None,
-        Err(refusal) => Some(told_of(
+        Err(refusal) => Some(placed_in(
             first,
             Fault::RefusedWhole {
                 side: Some(Side::First),
@@ -279,8 +279,8 @@ fn refused_whole(model: Model, first: &GivenFormat<'_>, bytes: &[u8]) -> Option<
 }
 
 // A fault of the bytes of a format, as a fault of the format that is given.
-fn told_of(format: &GivenFormat<'_>, fault: Fault) -> Fault
-    ensures { IsToldOf format.now fault result }
+fn placed_in(format: &GivenFormat<'_>, fault: Fault) -> Fault
+    ensures { IsFaultInText format.now fault result }
 {
     match fault {
         Fault::Refused { side, refusal } => Fault::Refused {
@@ -302,13 +302,13 @@ fn told_of(format: &GivenFormat<'_>, fault: Fault) -> Fault
 }
 
 // A fault of the bytes of two formats, as a fault of those that are given.
-fn told_of_pair(first: &GivenFormat<'_>, second: &GivenFormat<'_>, fault: Fault) -> Fault
-    ensures { IsToldBySide first.now second.now (side_of fault) fault result }
+fn placed_in_pair(first: &GivenFormat<'_>, second: &GivenFormat<'_>, fault: Fault) -> Fault
+    ensures { IsFaultInTexts first.now second.now (side_of fault) fault result }
 {
     match side_of(fault) {
-        Some(Side::Second) => told_of(second, fault),
-        Some(Side::First) => told_of(first, fault),
-        None => told_of(first, fault),
+        Some(Side::Second) => placed_in(second, fault),
+        Some(Side::First) => placed_in(first, fault),
+        None => placed_in(first, fault),
     }
 }
 
@@ -331,7 +331,7 @@ fn canonical_line(
     format: &[u8],
 ) -> Result<Vec<u8>, Fault>
     ensures { MatchResult result (λ out. HasCanonicalLine notation model format.now out.items)
-        (HindersFormat format.now) }
+        (IsFormatFault format.now) }
 {
     // With room for the newline, so that it needs no growth of its own.
     let canonical = canonical_with_room(alloc, model, format, 1)?;

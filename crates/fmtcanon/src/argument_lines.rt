@@ -1,7 +1,7 @@
 //! The argument types of formats in the whole language, a line for each, and whether one format takes
 //! just the arguments of another.
 ghost use Rattle.std.specs.Prelude.{◌≡◌, ◌++◌, IfOk, MatchResult, codes, decimal, flat_map};
-ghost use Rattle.fmtcanon.specs.Answers.{HindersFit, HindersWhole};
+ghost use Rattle.fmtcanon.specs.Answers.{IsFitFault, IsWholeFault};
 ghost use Rattle.fmtcanon.specs.ArgumentLines.{HasArgumentLines, IsFitAnswer, argument_line, argument_name, fit_ending, fit_line};
 ghost use Rattle.fmtcanon.specs.Lines.{line};
 
@@ -16,7 +16,7 @@ use std::alloc::{AllocError, Global};
 /// A line for each argument of a format of the whole language in a data model, or its refusal.
 pub fn argument_lines(alloc: Global, model: Model, format: &[u8]) -> Result<Vec<u8>, Fault>
     ensures { MatchResult result (λ out. HasArgumentLines model format.now out.items)
-        (HindersWhole model format.now) }
+        (IsWholeFault model format.now) }
 {
     let types = arguments_vec(alloc, model, format)?;
     Ok(lines_of(alloc, &types)?)
@@ -38,7 +38,7 @@ fn lines_of(alloc: Global, types: &[ArgumentType]) -> Result<Vec<u8>, AllocError
 pub fn fit_answer(alloc: Global, model: Model, first: &[u8], second: &[u8]) -> Result<Answer, Fault>
     ensures { MatchResult result
         (λ answer. IsFitAnswer model first.now second.now answer.bytes.items answer.ending)
-        (HindersFit model first.now second.now) }
+        (IsFitFault model first.now second.now) }
 {
     match fits(model, first, second) {
         Ok(index) => Ok(Answer {

@@ -5,7 +5,7 @@ ghost use Rattle.pf_values.specs.Arguments.{HasType, Number, Argument, HasTypes}
 ghost use Rattle.pf_values.specs.DataModel.{IsInRange};
 ghost use Rattle.fmtcanon.specs.UntypedArgs.{argument_given};
 ghost use Rattle.fmtcanon.specs.ArgumentWords.{SpellsArgument, SpellsMagnitude, SpellsNumber};
-ghost use Rattle.fmtcanon.specs.FormatArguments.{AreArgumentsFor, HindersArguments, IsBadWord, IsWrongType, SpellArguments};
+ghost use Rattle.fmtcanon.specs.FormatArguments.{AreArgumentsFor, IsArgumentFault, IsBadWord, IsWrongType, SpellArguments};
 
 use crate::outcome::Fault;
 use pf_text::signature;
@@ -113,7 +113,7 @@ pub fn arguments_for<'a>(
 ) -> Result<Vec<Arg<'a>>, Fault>
     ensures ok { IfOk result
         (λ args. AreArgumentsFor model format.now (map (λ s. s.now) words.now) args.items) }
-    ensures err { IfErr result (HindersArguments model format.now (map (λ s. s.now) words.now)) }
+    ensures err { IfErr result (IsArgumentFault model format.now (map (λ s. s.now) words.now)) }
 {
     let wanted = signature(alloc, model, format)?;
     let given = read_words(alloc, words)?;

@@ -1,6 +1,6 @@
 //! How two formats compare, as lines.
 ghost use Rattle.std.specs.Prelude.{◌≡◌, ◌<◌, ◌++◌, IfOk, MatchResult, codes, decimal, flat_map};
-ghost use Rattle.fmtcanon.specs.Answers.{HindersFormats};
+ghost use Rattle.fmtcanon.specs.Answers.{IsPairFault};
 ghost use Rattle.fmtcanon.specs.Comparisons.{IsComparisonAnswer, IsComparisonIn, IsComparisonInEach, argument_line, ending_of, ending_with, verdict_lines};
 ghost use Rattle.fmtcanon.specs.Lines.{line};
 
@@ -23,7 +23,7 @@ pub fn comparison_answer(
 ) -> Result<Answer, Fault>
     ensures { MatchResult result
         (λ answer. IsComparisonIn models first.now second.now answer.bytes.items answer.ending)
-        (HindersFormats first.now second.now) }
+        (IsPairFault first.now second.now) }
 {
     match models {
         Models::One(model) => answer_in(alloc, model, first, second),
@@ -41,7 +41,7 @@ fn answer_in_each(
     ensures { MatchResult result
         (λ answer. IsComparisonInEach models.now first.now second.now
         answer.bytes.items answer.ending)
-        (HindersFormats first.now second.now) }
+        (IsPairFault first.now second.now) }
 {
     let mut bytes = Vec::new(alloc);
     let mut ending = Ending::Same;
@@ -77,7 +77,7 @@ fn ending_with(ending: Ending, others: Ending) -> Ending
 fn answer_in(alloc: Global, model: Model, first: &[u8], second: &[u8]) -> Result<Answer, Fault>
     ensures { MatchResult result
         (λ answer. IsComparisonAnswer model first.now second.now answer.bytes.items answer.ending)
-        (HindersFormats first.now second.now) }
+        (IsPairFault first.now second.now) }
 {
     let comparison = compare(alloc, model, first, second)?;
     let bytes = verdict_lines(alloc, &comparison.verdict)?;

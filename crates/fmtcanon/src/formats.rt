@@ -4,7 +4,7 @@ ghost use Rattle.std.specs.Cow.{cow_slice_items};
 ghost use Rattle.pf_literals.specs.Answers.{HindersDecoding};
 ghost use Rattle.pf_literals.specs.Sources.{IsSourceOf};
 ghost use Rattle.pf_values.specs.Text.{Text};
-ghost use Rattle.fmtcanon.specs.Formats.{HindersBytes, IsFormat, IsToldAt, written_in};
+ghost use Rattle.fmtcanon.specs.Formats.{IsBytesFault, IsFormat, IsPlaceInText, written_in};
 
 use pf_literals::{LiteralFault, decode, encode, source_offset};
 use std::alloc::{AllocError, Global};
@@ -52,7 +52,7 @@ impl<'a> GivenFormat<'a> {
     /// The bytes of the format.
     pub fn bytes(&self, alloc: Global) -> Result<CowSlice<'a, u8>, LiteralFault>
         ensures { MatchResult result (λ bytes. IsFormat self.now (cow_slice_items bytes))
-            (HindersBytes self.now) }
+            (IsBytesFault self.now) }
     {
         match self.notation {
             Notation::Bytes => Ok(CowSlice::Borrowed(self.text)),
@@ -63,7 +63,7 @@ impl<'a> GivenFormat<'a> {
     /// The place in the text that gives the byte of this index, or their end.
     pub fn place_of(&self, index: u64) -> u64
         ensures { (bytes : Text) → IsFormat self.now bytes → index ≤ length bytes
-            → IsToldAt self.now.notation self.now.text.now index result }
+            → IsPlaceInText self.now.notation self.now.text.now index result }
     {
         match self.notation {
             Notation::Bytes => index,

@@ -1,7 +1,7 @@
 //! Laws over the definitions alone. Each is the contract of a function that does nothing.
 ghost use Rattle.fmtcanon.specs.ArgumentWords.{SpellsOneArgument};
 ghost use Rattle.pf_values.specs.declared.models.Model.{Model};
-ghost use Rattle.fmtcanon.specs.Comparisons.{ToldIsRead};
+ghost use Rattle.fmtcanon.specs.Comparisons.{PrintedWordIsRead};
 ghost use Rattle.pf_reduce.specs.Reducing.{IsReducedTo};
 ghost use Rattle.pf_reduce.specs.declared.results.Reduced.{Reduced};
 ghost use Rattle.pf_values.specs.Specification.{Specification};
@@ -13,8 +13,8 @@ pub fn spells_one_argument()
 {}
 
 /// The word that is printed for an argument is read as that argument.
-pub fn told_argument_is_read()
-    ensures { (model : Model) → ToldIsRead model }
+pub fn printed_word_is_read()
+    ensures { (model : Model) → PrintedWordIsRead model }
 {}
 
 /// A directive has one reduction in each data model.

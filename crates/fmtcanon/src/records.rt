@@ -4,9 +4,9 @@ ghost use Rattle.std.specs.Io.{ReadsAtMost};
 ghost use Rattle.std.specs.Io.KnownBytes.{ReadConsumes};
 ghost use Rattle.pf_values.specs.Counting.{calls_after, calls_of, device_of, failures_after, failures_of, is_flushed};
 ghost use Rattle.pf_values.specs.Text.{Text};
-ghost use Rattle.fmtcanon.specs.Conversations.{Answers, HasCome, HasReplies, HasSaid, HasStopped, HasStoppedAt, IsAt, IsAtText, LeavesAtEnd, LeavesStopped, WritesReplies, waiting_of};
+ghost use Rattle.fmtcanon.specs.Conversations.{AddsReply, HasCome, HasReplies, HasSaid, HasStopped, HasStoppedAt, HasRepliedTo, HasRepliedToText, RecordsFinish, RecordsStop, WritesReplies, waiting_text};
 ghost use Rattle.fmtcanon.specs.Questions.{IsAbout, formats_wanted};
-ghost use Rattle.fmtcanon.specs.Records.{LeavesRecords, RepliesFirst, Reply, last_record};
+ghost use Rattle.fmtcanon.specs.Records.{RecordsEnd, RepliesFirst, Reply, last_record};
 
 use crate::outcome::Outcome;
 use crate::replies::Replies;
@@ -54,7 +54,7 @@ pub fn answer_records<R: Read, W: Write>(
     reader: &mut Counted<R>,
     writer: &mut Counted<W>,
 ) -> Outcome
-    ensures { LeavesRecords kind R.remaining W.contents reader.old reader.new writer.old writer.new
+    ensures { RecordsEnd kind R.remaining W.contents reader.old reader.new writer.old writer.new
         result }
 {
     let mut conversation = Conversation::new(alloc, kind);
@@ -87,7 +87,7 @@ fn read_block<R: Read, W: Write>(
     _conversation: &Conversation,
     block: &mut [u8],
 ) -> io::Result<usize>
-    requires none { waiting_of _conversation.now.replies ≡ [] }
+    requires none { waiting_text _conversation.now.replies ≡ [] }
     requires flushed { is_flushed _writer.now ≡ true }
     ensures bound { ReadsAtMost result block.new }
     ensures bytes { ReadConsumes (R.remaining (device_of reader.old))
@@ -114,11 +114,11 @@ impl Conversation {
     fn flush<W: Write>(&mut self, writer: &mut Counted<W>) -> Result<(), u128>
         ensures said { (kind : RecordQuestion) (start : Counted W) (whole : List Text)
             (rest : Text)
-            → IsAt kind W.contents self.old start writer.old whole rest
+            → HasRepliedTo kind W.contents self.old start writer.old whole rest
             → MatchResult result
-            (λ _. IsAt kind W.contents self.new start writer.new whole rest)
+            (λ _. HasRepliedTo kind W.contents self.new start writer.new whole rest)
             (RepliesFirst kind W.contents start writer.new (whole ++ last_record rest)) }
-        ensures none { OnOk result (waiting_of self.new.replies ≡ []) }
+        ensures none { OnOk result (waiting_text self.new.replies ≡ []) }
         ensures flushed { OnOk result (is_flushed writer.new ≡ true) }
     {
         self.replies.flush(writer)
@@ -132,9 +132,9 @@ impl Conversation {
         writer: &mut Counted<W>,
     ) -> Result<(), Stop>
         ensures { (kind : RecordQuestion) (start : Counted W) (taken : Text)
-            → IsAtText kind W.contents self.old start writer.old taken
+            → HasRepliedToText kind W.contents self.old start writer.old taken
             → MatchResult result
-            (λ _. IsAtText kind W.contents self.new start writer.new (taken ++ block.now))
+            (λ _. HasRepliedToText kind W.contents self.new start writer.new (taken ++ block.now))
             (HasStoppedAt kind W.contents self.new start writer.new (taken ++ block.now)) }
     {
         let mut at = 0;
@@ -158,9 +158,9 @@ impl Conversation {
         writer: &mut Counted<W>,
     ) -> Result<(), Stop>
         ensures { (kind : RecordQuestion) (start : Counted W) (whole : List Text) (rest : Text)
-            → IsAt kind W.contents self.old start writer.old whole rest
+            → HasRepliedTo kind W.contents self.old start writer.old whole rest
             → MatchResult result
-            (λ _. IsAt kind W.contents self.new start writer.new
+            (λ _. HasRepliedTo kind W.contents self.new start writer.new
             (whole ++ (rest ++ bytes.now) ∷ []) [])
             (HasStopped kind W.contents self.new start writer.new
             (whole ++ (rest ++ bytes.now) ∷ [])) }
@@ -174,9 +174,9 @@ impl Conversation {
     // The record is whole.
     fn end_record<W: Write>(&mut self, alloc: Global, writer: &mut Counted<W>) -> Result<(), Stop>
         ensures { (kind : RecordQuestion) (start : Counted W) (whole : List Text) (rest : Text)
-            → IsAt kind W.contents self.old start writer.old whole rest
+            → HasRepliedTo kind W.contents self.old start writer.old whole rest
             → MatchResult result
-            (λ _. IsAt kind W.contents self.new start writer.new (whole ++ rest ∷ []) [])
+            (λ _. HasRepliedTo kind W.contents self.new start writer.new (whole ++ rest ∷ []) [])
             (HasStopped kind W.contents self.new start writer.new (whole ++ rest ∷ [])) }
     {
         match self.answer(alloc) {
@@ -199,7 +199,7 @@ impl Conversation {
             (replies : List Reply)
             → HasCome self.old.coming kind first rest
             → HasReplies self.old.replies sent replies
-            → Answers kind (first ++ rest ∷ []) sent replies self.old.replies self.new.replies
+            → AddsReply kind (first ++ rest ∷ []) sent replies self.old.replies self.new.replies
             result }
     {
         match self.coming.question() {
@@ -223,8 +223,8 @@ impl Conversation {
     // The end of what was read.
     fn end<W: Write>(&mut self, alloc: Global, writer: &mut Counted<W>) -> Outcome
         ensures { (kind : RecordQuestion) (start : Counted W) (whole : List Text) (rest : Text)
-            → IsAt kind W.contents self.old start writer.old whole rest
-            → LeavesAtEnd kind W.contents start writer.new (whole ++ last_record rest) result }
+            → HasRepliedTo kind W.contents self.old start writer.old whole rest
+            → RecordsFinish kind W.contents start writer.new (whole ++ last_record rest) result }
     {
         match self.end_last(alloc, writer) {
             Ok(()) => self.finish(writer),
@@ -235,9 +235,9 @@ impl Conversation {
     // A part of a record is the last one, if it isn't empty.
     fn end_last<W: Write>(&mut self, alloc: Global, writer: &mut Counted<W>) -> Result<(), Stop>
         ensures { (kind : RecordQuestion) (start : Counted W) (whole : List Text) (rest : Text)
-            → IsAt kind W.contents self.old start writer.old whole rest
+            → HasRepliedTo kind W.contents self.old start writer.old whole rest
             → MatchResult result
-            (λ _. IsAt kind W.contents self.new start writer.new (whole ++ last_record rest) [])
+            (λ _. HasRepliedTo kind W.contents self.new start writer.new (whole ++ last_record rest) [])
             (HasStopped kind W.contents self.new start writer.new (whole ++ last_record rest)) }
     {
         if !self.coming.has_part() {
@@ -249,8 +249,8 @@ impl Conversation {
     // All records are whole, and have their replies.
     fn finish<W: Write>(&mut self, writer: &mut Counted<W>) -> Outcome
         ensures { (kind : RecordQuestion) (start : Counted W) (whole : List Text)
-            → IsAt kind W.contents self.old start writer.old whole []
-            → LeavesAtEnd kind W.contents start writer.new whole result }
+            → HasRepliedTo kind W.contents self.old start writer.old whole []
+            → RecordsFinish kind W.contents start writer.new whole result }
     {
         if let Err(count) = self.replies.flush(writer) {
             return Outcome::Write(count);
@@ -265,7 +265,7 @@ impl Conversation {
     fn stop<W: Write>(&mut self, stop: Stop, writer: &mut Counted<W>) -> Outcome
         ensures { (kind : RecordQuestion) (start : Counted W) (records : List Text)
             → HasStopped kind W.contents self.old start writer.old records stop
-            → LeavesStopped kind W.contents start writer.new records result }
+            → RecordsStop kind W.contents start writer.new records result }
     {
         match stop {
             Stop::Write(count) => Outcome::Write(count),
@@ -281,7 +281,7 @@ impl Conversation {
 fn added(alloc: Global, question: Question<'_>, replies: &mut Replies) -> Result<bool, AllocError>
     ensures { (kind : RecordQuestion) (formats : List Text) (sent : Text) (had : List Reply)
         → IsAbout question.entry kind formats → HasReplies replies.old sent had
-        → Answers kind formats sent had replies.old replies.new result }
+        → AddsReply kind formats sent had replies.old replies.new result }
 {
     match replies.add(alloc, &question) {
         Ok(()) => Ok(true),

@@ -2,7 +2,7 @@
 ghost use Rattle.std.specs.Prelude.{◌≡◌, ◌≤◌, ◌++◌, ◌∷◌, [], List, MatchResult, OnErr, OnOk, length, max, take, true};
 ghost use Rattle.pf_values.specs.Counting.{is_flushed};
 ghost use Rattle.pf_values.specs.Text.{Text};
-ghost use Rattle.fmtcanon.specs.Conversations.{HasReplies, HasSaid, HasSaidFirst, waiting_of};
+ghost use Rattle.fmtcanon.specs.Conversations.{HasReplies, HasSaid, HasSaidFirst, waiting_text};
 ghost use Rattle.fmtcanon.specs.Outcomes.{status_of};
 ghost use Rattle.fmtcanon.specs.Questions.{IsAbout};
 ghost use Rattle.fmtcanon.specs.Records.{IsReply, Reply, reply_bytes};
@@ -73,12 +73,12 @@ impl Replies {
     // Adds the reply that says this, of a run that ends so.
     fn push(&mut self, outcome: &Outcome, said: &[u8]) -> Result<(), AllocError>
         requires { status_of outcome.now ≤ 9 }
-        ensures bytes { OnOk result (waiting_of self.new
-            ≡ waiting_of self.old ++ reply_bytes (status_of outcome.now) said.now) }
+        ensures bytes { OnOk result (waiting_text self.new
+            ≡ waiting_text self.old ++ reply_bytes (status_of outcome.now) said.now) }
         ensures greatest { OnOk result
             (self.new.greatest ≡ max self.old.greatest (status_of outcome.now)) }
         ensures written { self.new.written ≡ self.old.written }
-        ensures none { OnErr result (waiting_of self.new ≡ waiting_of self.old) }
+        ensures none { OnErr result (waiting_text self.new ≡ waiting_text self.old) }
         ensures same { OnErr result (self.new.greatest ≡ self.old.greatest) }
     {
         let status = outcome.status();
@@ -112,7 +112,7 @@ impl Replies {
             → MatchResult result
             (λ _. HasSaid W.contents self.new start writer.new replies)
             (HasSaidFirst W.contents start writer.new replies) }
-        ensures none { OnOk result (waiting_of self.new ≡ []) }
+        ensures none { OnOk result (waiting_text self.new ≡ []) }
         ensures flushed { OnOk result (is_flushed writer.new ≡ true) }
     {
         self.write(writer)?;
@@ -129,7 +129,7 @@ impl Replies {
             → MatchResult result
             (λ _. HasSaid W.contents self.new start writer.new replies)
             (HasSaidFirst W.contents start writer.new replies) }
-        ensures none { OnOk result (waiting_of self.new ≡ []) }
+        ensures none { OnOk result (waiting_text self.new ≡ []) }
     {
         match write_bytes(writer, &self.waiting) {
             Ok(()) => {

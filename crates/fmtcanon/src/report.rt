@@ -7,7 +7,7 @@ ghost use Rattle.pf_signatures.specs.Kinds as signatures;
 ghost use Rattle.pf_values.specs.RefusalKinds.{name};
 ghost use Rattle.fmtcanon.specs.Lines.{line};
 ghost use Rattle.fmtcanon.specs.Outcomes.{outcome_of_fault};
-ghost use Rattle.fmtcanon.specs.Reports.{Tells, fault_told, literal_told, refusal_told, side_told, told, whole_told};
+ghost use Rattle.fmtcanon.specs.Reports.{WritesReport, fault_words, literal_words, refusal_words, side_words, report_text, whole_words};
 
 use crate::outcome::{Fault, Outcome};
 use arrayvec::ArrayString;
@@ -26,13 +26,13 @@ pub type Line = ArrayString<96>;
 /// Writes the line of an outcome that has one, or a text on the words as it is. A write that fails
 /// ends it.
 pub fn report<E: Write>(outcome: &Outcome, errors: &mut Counted<E>)
-    ensures { Tells E.contents errors.old errors.new (told outcome.now) }
+    ensures { WritesReport E.contents errors.old errors.new (report_text outcome.now) }
 {
     let _ = tell(outcome, errors);
 }
 
 fn tell<E: Write>(outcome: &Outcome, errors: &mut Counted<E>) -> Result<(), ShortWrite>
-    ensures { Writes E.contents errors.old errors.new (told outcome.now) result }
+    ensures { Writes E.contents errors.old errors.new (report_text outcome.now) result }
 {
     match outcome {
         Outcome::Done | Outcome::Same | Outcome::Different => write_bytes(errors, b""),
@@ -59,7 +59,7 @@ fn write_line<E: Write>(errors: &mut Counted<E>, line: &Line) -> Result<(), Shor
 
 /// The line of a fault.
 pub fn fault_line(fault: &Fault) -> Line
-    ensures { result.bytes ≡ told (outcome_of_fault fault.now) }
+    ensures { result.bytes ≡ report_text (outcome_of_fault fault.now) }
 {
     match fault {
         Fault::Refused { side, refusal } => refusal_line(*side, refusal),
@@ -81,7 +81,7 @@ fn memory_line() -> Line
 }
 
 fn refusal_line(side: Option<Side>, refusal: &Refusal) -> Line
-    ensures { result.bytes ≡ line (refusal_told side refusal.now) }
+    ensures { result.bytes ≡ line (refusal_words side refusal.now) }
 {
     let number = refusal.kind.number();
     fault_line_of(
@@ -94,7 +94,7 @@ fn refusal_line(side: Option<Side>, refusal: &Refusal) -> Line
 }
 
 fn whole_line(side: Option<Side>, refusal: &SignatureRefusal) -> Line
-    ensures { result.bytes ≡ line (whole_told side refusal.now) }
+    ensures { result.bytes ≡ line (whole_words side refusal.now) }
 {
     let number = refusal.kind.number();
     fault_line_of(
@@ -107,7 +107,7 @@ fn whole_line(side: Option<Side>, refusal: &SignatureRefusal) -> Line
 }
 
 fn literal_line(side: Option<Side>, refusal: &LiteralRefusal) -> Line
-    ensures { result.bytes ≡ line (literal_told side refusal.now) }
+    ensures { result.bytes ≡ line (literal_words side refusal.now) }
 {
     let number = refusal.kind.number();
     fault_line_of(
@@ -123,7 +123,7 @@ fn literal_line(side: Option<Side>, refusal: &LiteralRefusal) -> Line
 fn fault_line_of(side: Option<Side>, what: &str, number: u8, name: &str, at: u64) -> Line
     requires what { length what.now ≤ 8 }
     requires name { length name.now ≤ 18 }
-    ensures { result.bytes ≡ line (fault_told side what.now number name.now at) }
+    ensures { result.bytes ≡ line (fault_words side what.now number name.now at) }
 {
     let mut line = Line::new();
     line.push_str(side_name(side));
@@ -178,7 +178,7 @@ fn push_number(line: &mut Line, number: u64)
 
 // The words before a refusal, where there are two formats.
 fn side_name(side: Option<Side>) -> &'static str
-    ensures name { result.now ≡ side_told side }
+    ensures name { result.now ≡ side_words side }
     ensures short { length result.now ≤ 8 }
 {
     match side {

@@ -1,8 +1,8 @@
 //! A run of the program.
 ghost use Rattle.std.specs.Prelude.{map, IfErr, IfOk};
 ghost use Rattle.fmtcanon.specs.Outcomes.{outcome_of};
-ghost use Rattle.fmtcanon.specs.Runs.{Leaves, LeavesAnswer, LeavesBytes};
-ghost use Rattle.fmtcanon.specs.FormatArguments.{HindersArguments, IsPrinted};
+ghost use Rattle.fmtcanon.specs.Runs.{ProgramEnds, AnswerEnds, WritingEnds};
+ghost use Rattle.fmtcanon.specs.FormatArguments.{IsArgumentFault, IsPrinted};
 
 use crate::answer::{Answer, answer_to};
 use crate::arguments::arguments_for;
@@ -26,7 +26,7 @@ pub fn run<R: Read, W: Write>(
     reader: &mut Counted<R>,
     writer: &mut Counted<W>,
 ) -> Outcome
-    ensures { Leaves R.remaining W.contents reader.old reader.new writer.old writer.new
+    ensures { ProgramEnds R.remaining W.contents reader.old reader.new writer.old writer.new
         (map (λ s. s.now) words.now) result }
 {
     match task_of(alloc, words) {
@@ -40,7 +40,7 @@ pub fn run<R: Read, W: Write>(
 
 // Answers a question. All growths come before the first byte goes out.
 fn answer<W: Write>(alloc: Global, question: &Question<'_>, writer: &mut Counted<W>) -> Outcome
-    ensures { LeavesAnswer W.contents writer.old writer.new question.now result }
+    ensures { AnswerEnds W.contents writer.old writer.new question.now result }
 {
     match answer_to(alloc, question) {
         Ok(answer) => write_answer(&answer, writer),
@@ -50,7 +50,7 @@ fn answer<W: Write>(alloc: Global, question: &Question<'_>, writer: &mut Counted
 
 // Writes an answer, and flushes.
 fn write_answer<W: Write>(answer: &Answer, writer: &mut Counted<W>) -> Outcome
-    ensures { LeavesBytes W.contents writer.old writer.new answer.now.bytes.items
+    ensures { WritingEnds W.contents writer.old writer.new answer.now.bytes.items
         (outcome_of answer.now.ending) result }
 {
     if let Err(short) = write_bytes(writer, &answer.bytes) {
@@ -71,7 +71,7 @@ pub fn print_format(
 ) -> Result<Vec<u8>, Fault>
     ensures ok { IfOk result
         (λ out. IsPrinted model format.now (map (λ s. s.now) words.now) out.items) }
-    ensures err { IfErr result (HindersArguments model format.now (map (λ s. s.now) words.now)) }
+    ensures err { IfErr result (IsArgumentFault model format.now (map (λ s. s.now) words.now)) }
 {
     let args = arguments_for(alloc, model, format, words)?;
     match render_vec(alloc, model, format, &args) {

@@ -5,7 +5,7 @@ ghost use Rattle.pf_reduce.specs.declared.results.Reduced.{Reduced};
 ghost use Rattle.pf_values.specs.DataModel.{arg_type};
 ghost use Rattle.pf_values.specs.Spelling.{spelling_of};
 ghost use Rattle.pf_values.specs.Text.{Text};
-ghost use Rattle.fmtcanon.specs.Answers.{HindersFormat};
+ghost use Rattle.fmtcanon.specs.Answers.{IsFormatFault};
 ghost use Rattle.fmtcanon.specs.Lines.{line};
 ghost use Rattle.fmtcanon.specs.Shows.{HasShownLines, IsLineOf, reduced_line, reduced_text, shown_of};
 ghost use Rattle.fmtcanon.specs.TypeLines.{type_name};
@@ -22,7 +22,7 @@ use std::alloc::{AllocError, Global};
 /// or its refusal.
 pub fn show_lines(alloc: Global, model: Model, format: &[u8]) -> Result<Vec<u8>, Fault>
     ensures { MatchResult result (λ out. HasShownLines model format.now out.items)
-        (HindersFormat format.now) }
+        (IsFormatFault format.now) }
 {
     let mut out = Vec::new(alloc);
     for piece in Pieces::new(format) {

@@ -1,5 +1,5 @@
 //! The canonical string of what a reader hands out.
-ghost use Rattle.fmtcanon.specs.Streams.{LeavesCopy};
+ghost use Rattle.fmtcanon.specs.Streams.{CopyEnds};
 
 use crate::outcome::Outcome;
 use pf_canon::{CopyFault, copy_canonical};
@@ -14,7 +14,7 @@ pub fn copy<R: Read, W: Write>(
     reader: &mut Counted<R>,
     writer: &mut Counted<W>,
 ) -> Outcome
-    ensures { LeavesCopy model R.remaining W.contents reader.old reader.new writer.old writer.new
+    ensures { CopyEnds model R.remaining W.contents reader.old reader.new writer.old writer.new
         result }
 {
     match copy_canonical(model, reader, writer) {

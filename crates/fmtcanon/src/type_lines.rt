@@ -1,6 +1,6 @@
 //! The types of a format's arguments, a line for each.
 ghost use Rattle.std.specs.Prelude.{◌≡◌, IfOk, MatchResult, flat_map};
-ghost use Rattle.fmtcanon.specs.Answers.{HindersFormat};
+ghost use Rattle.fmtcanon.specs.Answers.{IsFormatFault};
 ghost use Rattle.fmtcanon.specs.TypeLines.{HasTypeLines, type_line, type_name};
 
 use crate::outcome::Fault;
@@ -11,7 +11,7 @@ use std::alloc::{AllocError, Global};
 /// A line for each argument of a format in a data model, or its refusal.
 pub fn type_lines(alloc: Global, model: Model, format: &[u8]) -> Result<Vec<u8>, Fault>
     ensures { MatchResult result (λ out. HasTypeLines model format.now out.items)
-        (HindersFormat format.now) }
+        (IsFormatFault format.now) }
 {
     let types = signature(alloc, model, format)?;
     Ok(lines_of(alloc, types.as_slice())?)

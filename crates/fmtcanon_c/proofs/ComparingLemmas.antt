@@ -1,4 +1,4 @@
--- What a comparison that was made or hindered gives the caller.
+-- What a comparison that was made or not_compared gives the caller.
 use Rattle.std.proofs.Common.{◌⊎◌, ℤ, inl, inr, refl, subst}
 use Rattle.pf_values.specs.declared.models.Model.{Model}
 use Rattle.pf_values.specs.Items.{types}
@@ -12,7 +12,7 @@ use Rattle.pf_compare.specs.declared.comparisons.Verdict.{Verdict}
 use Rattle.pf_compare.specs.declared.comparisons.Verdict.TheVariants.{Same, Types, Args}
 use Rattle.fmtcanon_c.specs.declared.interface.CError.{CError}
 use Rattle.fmtcanon_c.specs.declared.comparison.CComparison.{CComparison}
-use Rattle.fmtcanon_c.specs.Calls.{Compares, ComparesNot, Gives, GivesArguments, IsFaultTold}
+use Rattle.fmtcanon_c.specs.Calls.{PutsComparison, PutsNoComparison, AnswersVerdict, GivesArguments, IsFaultCode}
 
 module _ (model : Model) (f g : Text) (c : Comparison) (is : IsComparisonOf model f g c) where
   types_by : (v : Verdict) → IsVerdict model f g is.first is.second v c.renderings → GivesArguments v
@@ -31,34 +31,34 @@ module _ (model : Model) (f g : Text) (c : Comparison) (is : IsComparisonOf mode
       (types_by c.verdict is.verdict gives, λ e. subst GivesArguments (is.same.1 e) gives)
 
 -- a comparison that was made is answered, unless there is no memory for the words
-pub made : (model : Model) (f g out : Text) (told : CComparison) (error : CError) (code : ℤ) (out_now : Text)
-    (told_now : CComparison) (c : Comparison) → IsComparisonOf model f g c
-    → Gives c out told code out_now told_now
-    → Compares model f g out error code out_now told_now error
-    ⊎ ComparesNot model f g out told error code out_now told_now error
-made model f g out told error code out_now told_now c is gives = elim gives [
+pub made : (model : Model) (f g out : Text) (answer : CComparison) (error : CError) (code : ℤ) (out_now : Text)
+    (answer_now : CComparison) (c : Comparison) → IsComparisonOf model f g c
+    → AnswersVerdict c out answer code out_now answer_now
+    → PutsComparison model f g out error code out_now answer_now error
+    ⊎ PutsNoComparison model f g out answer error code out_now answer_now error
+made model f g out answer error code out_now answer_now c is gives = elim gives [
   | inl told_all ↦ inl (record {
     comparison = c;
     is = is;
-    told_is = told_all.0;
+    answer_is = told_all.0;
     code_is = told_all.1;
     out_is = told_all.2;
     error_is = refl;
   })
   | inr no_memory ↦ inr (record {
     out_is = no_memory.1;
-    told_is = no_memory.2;
+    answer_is = no_memory.2;
     why = inr (may_want_memory model f g c is no_memory.0, no_memory.3, refl);
   })
 ]
 
--- a comparison that was hindered leaves all but the error as it is
-pub hindered : (model : Model) (f g out : Text) (told : CComparison) (error error_now : CError) (code : ℤ)
-    (fault : CompareFault) → HindersComparison model f g fault → IsFaultTold fault error code error_now
-    → ComparesNot model f g out told error code out told error_now
-hindered model f g out told error error_now code (Refused sides.First refusal) h t = record {
+-- a comparison that was not_compared leaves all but the error as it is
+pub not_compared : (model : Model) (f g out : Text) (answer : CComparison) (error error_now : CError) (code : ℤ)
+    (fault : CompareFault) → HindersComparison model f g fault → IsFaultCode fault error code error_now
+    → PutsNoComparison model f g out answer error code out answer error_now
+not_compared model f g out answer error error_now code (Refused sides.First refusal) h t = record {
   out_is = refl;
-  told_is = refl;
+  answer_is = refl;
   why = inl (inl (record {
     kind = refusal.kind;
     refused = rw t.at_is h;
@@ -67,9 +67,9 @@ hindered model f g out told error error_now code (Refused sides.First refusal) h
     side_is = t.side_is;
   }));
 }
-hindered model f g out told error error_now code (Refused sides.Second refusal) h t = record {
+not_compared model f g out answer error error_now code (Refused sides.Second refusal) h t = record {
   out_is = refl;
-  told_is = refl;
+  answer_is = refl;
   why = inl (inr (
     h.0,
     record {
@@ -81,8 +81,8 @@ hindered model f g out told error error_now code (Refused sides.Second refusal) 
     },
   ));
 }
-hindered model f g out told error error_now code Memory h t = record {
+not_compared model f g out answer error error_now code Memory h t = record {
   out_is = refl;
-  told_is = refl;
+  answer_is = refl;
   why = inr (h, t.0, t.1);
 }

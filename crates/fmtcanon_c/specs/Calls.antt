@@ -21,7 +21,7 @@ use Rattle.fmtcanon_c.specs.declared.interface.CError.{CError}
 use Rattle.fmtcanon_c.specs.declared.interface.TheConstants.{NO_MEMORY}
 use Rattle.fmtcanon_c.specs.declared.comparison.CComparison.{CComparison}
 use Rattle.fmtcanon_c.specs.Buffers.{put, type_code}
-use Rattle.fmtcanon_c.specs.Errors.{IsNameOf, IsRefusalTold, IsRefusedBy}
+use Rattle.fmtcanon_c.specs.Errors.{IsNameOf, IsRefusalCode, IsRefusedBy}
 use Rattle.fmtcanon_c.specs.Words.{ended_words}
 
 -- accepted, with the error untouched, or refused
@@ -34,13 +34,13 @@ abbrev pub IsOut : Type 0 → ℤ → CError → CError → Type 0
 IsOut Why code error error_now = Why × (code ≡ NO_MEMORY) × (error_now ≡ error)
 
 -- 1 where it is so, 0 where it isn't
-abbrev pub Tells : Type 0 → ℤ → Type 0
-Tells Is code = (Is × (code ≡ pos 1)) ⊎ ((¬ Is) × (code ≡ pos 0))
+abbrev pub IsTruthCode : Type 0 → ℤ → Type 0
+IsTruthCode Is code = (Is × (code ≡ pos 1)) ⊎ ((¬ Is) × (code ≡ pos 0))
 
 -- 1 where an accepted text is canonical, 0 where it isn't, with the error untouched; or refused
-abbrev pub TellsCanonical : Model → Text → CError → ℤ → CError → Type 0
-TellsCanonical model t error code error_now =
-    (IsAccepted t × Tells (IsCanonicalText model t) code × (error_now ≡ error))
+abbrev pub AnswersCanonical : Model → Text → CError → ℤ → CError → Type 0
+AnswersCanonical model t error code error_now =
+    (IsAccepted t × IsTruthCode (IsCanonicalText model t) code × (error_now ≡ error))
     ⊎ IsRefusedBy First t code error_now
 
 -- the first text is refused, or it is accepted and the second refused
@@ -50,9 +50,9 @@ IsOneRefusedBy f g code error =
 
 -- 1 where two accepted texts mean the same, 0 where they don't, with the error untouched; or one is
 -- refused
-abbrev pub TellsSame : Model → Text → Text → CError → ℤ → CError → Type 0
-TellsSame model f g error code error_now =
-    (IsAccepted f × IsAccepted g × Tells (AreEquivalent model f g) code × (error_now ≡ error))
+abbrev pub AnswersSame : Model → Text → Text → CError → ℤ → CError → Type 0
+AnswersSame model f g error code error_now =
+    (IsAccepted f × IsAccepted g × IsTruthCode (AreEquivalent model f g) code × (error_now ≡ error))
     ⊎ IsOneRefusedBy f g code error_now
 
 -- Of some data models those in which two texts mean the same, as a sum: the first counts so much, and
@@ -66,8 +66,8 @@ AreSameModels weight (model ∷ models) f g sum =
 
 -- the data models in which two accepted texts mean the same, with the error untouched: 1 for the
 -- first, 2 for the second, 4 for the third, added; or one is refused
-abbrev pub TellsModels : Text → Text → CError → ℤ → CError → Type 0
-TellsModels f g error code error_now =
+abbrev pub AnswersModels : Text → Text → CError → ℤ → CError → Type 0
+AnswersModels f g error code error_now =
     (IsAccepted f × IsAccepted g
     × ((sum : ℕ) × AreSameModels 1 ALL f g sum × (code ≡ pos sum)) × (error_now ≡ error))
     ⊎ IsOneRefusedBy f g code error_now
@@ -91,8 +91,8 @@ IsLengthCode len code =
     ((len < 2 ^ 63) × (code ≡ pos len)) ⊎ ((2 ^ 63 ≤ len) × (code ≡ NO_MEMORY))
 
 -- the length of the canonical text is answered, with the error untouched; or it is refused
-abbrev pub TellsLength : Model → Text → CError → ℤ → CError → Type 0
-TellsLength model t error code error_now =
+abbrev pub AnswersLength : Model → Text → CError → ℤ → CError → Type 0
+AnswersLength model t error code error_now =
     ((c : Text) × IsCanonicalFor model t c × IsLengthCode (length c) code × (error_now ≡ error))
     ⊎ IsRefusedBy First t code error_now
 
@@ -128,43 +128,43 @@ verdict_number (Types index) = index
 verdict_number (Args args) = length args.items
 
 -- the answer of a comparison
-pub record IsTold (comparison : Comparison) (told : CComparison) : Type 0 where
-  pub verdict : told.verdict ≡ verdict_code comparison.verdict
-  pub number : told.number ≡ verdict_number comparison.verdict
-  pub renderings : told.renderings ≡ comparison.renderings
+pub record IsComparisonCode (comparison : Comparison) (answer : CComparison) : Type 0 where
+  pub verdict : answer.verdict ≡ verdict_code comparison.verdict
+  pub number : answer.number ≡ verdict_number comparison.verdict
+  pub renderings : answer.renderings ≡ comparison.renderings
 
 -- two texts are compared, the words of the arguments are put where the buffer has room for them,
 -- and how many bytes they are is answered
-pub record Compares (model : Model) (f g out : Text) (error : CError) (code : ℤ) (out_now : Text)
-    (told_now : CComparison) (error_now : CError) : Type 0 where
+pub record PutsComparison (model : Model) (f g out : Text) (error : CError) (code : ℤ) (out_now : Text)
+    (answer_now : CComparison) (error_now : CError) : Type 0 where
   pub comparison : Comparison
   pub is : IsComparisonOf model f g comparison
-  pub told_is : IsTold comparison told_now
+  pub answer_is : IsComparisonCode comparison answer_now
   pub code_is : code ≡ pos (length (words_of comparison.verdict))
   pub out_is : out_now ≡ put (words_of comparison.verdict) out
   pub error_is : error_now ≡ error
 
 -- nothing was put or answered: one text is refused, or memory is out
-pub record ComparesNot (model : Model) (f g out : Text) (told : CComparison) (error : CError)
-    (code : ℤ) (out_now : Text) (told_now : CComparison) (error_now : CError) : Type 0 where
+pub record PutsNoComparison (model : Model) (f g out : Text) (answer : CComparison) (error : CError)
+    (code : ℤ) (out_now : Text) (answer_now : CComparison) (error_now : CError) : Type 0 where
   pub out_is : out_now ≡ out
-  pub told_is : told_now ≡ told
+  pub answer_is : answer_now ≡ answer
   pub why : IsOneRefusedBy f g code error_now
       ⊎ IsOut (HindersComparison model f g compare_faults.Memory) code error error_now
 
 -- the answer of a comparison that was made
-abbrev pub Gives : Comparison → Text → CComparison → ℤ → Text → CComparison → Type 0
-Gives comparison out told code out_now told_now =
-    (IsTold comparison told_now × (code ≡ pos (length (words_of comparison.verdict)))
+abbrev pub AnswersVerdict : Comparison → Text → CComparison → ℤ → Text → CComparison → Type 0
+AnswersVerdict comparison out answer code out_now answer_now =
+    (IsComparisonCode comparison answer_now × (code ≡ pos (length (words_of comparison.verdict)))
     × (out_now ≡ put (words_of comparison.verdict) out))
-    ⊎ (GivesArguments comparison.verdict × (out_now ≡ out) × (told_now ≡ told)
+    ⊎ (GivesArguments comparison.verdict × (out_now ≡ out) × (answer_now ≡ answer)
     × (code ≡ NO_MEMORY))
 
 -- the answer of one that wasn't
-abbrev pub IsFaultTold : CompareFault → CError → ℤ → CError → Type 0
-IsFaultTold (compare_faults.Refused side refusal) error code error_now =
-    IsRefusalTold side refusal code error_now
-IsFaultTold compare_faults.Memory error code error_now = (code ≡ NO_MEMORY) × (error_now ≡ error)
+abbrev pub IsFaultCode : CompareFault → CError → ℤ → CError → Type 0
+IsFaultCode (compare_faults.Refused side refusal) error code error_now =
+    IsRefusalCode side refusal code error_now
+IsFaultCode compare_faults.Memory error code error_now = (code ≡ NO_MEMORY) × (error_now ≡ error)
 
 -- the name of a kind and a zero are put, where the buffer has room for them, and its length is
 -- answered

@@ -28,7 +28,7 @@ pub record IsRefusedBy (side : Side) (t : Text) (code : ℤ) (error : CError) : 
   pub side_is : error.side ≡ side_number side
 
 -- the numbers of this refusal of this text
-pub record IsRefusalTold (side : Side) (refusal : Refusal) (code : ℤ) (error : CError) : Type 0
+pub record IsRefusalCode (side : Side) (refusal : Refusal) (code : ℤ) (error : CError) : Type 0
   where
     pub at_is : error.at ≡ refusal.at
     pub code_is : code ≡ neg_ℤ (pos (number refusal.kind))

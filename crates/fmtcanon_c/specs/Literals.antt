@@ -43,7 +43,7 @@ IsPlaceCode at code =
     ((at < 2 ^ 63) × (code ≡ pos at)) ⊎ ((2 ^ 63 ≤ at) × (code ≡ NO_PLACE))
 
 -- the place of a byte, or of the last closing quote behind them; or there is none
-abbrev pub TellsPlace : Text → ℕ → ℤ → Type 0
-TellsPlace t index code =
+abbrev pub AnswersPlace : Text → ℕ → ℤ → Type 0
+AnswersPlace t index code =
     ((at : ℕ) × IsPlaceOf t index at × IsPlaceCode at code)
     ⊎ (HasNoPlace t index × (code ≡ NO_PLACE))

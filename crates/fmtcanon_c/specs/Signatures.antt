@@ -11,7 +11,7 @@ use Rattle.pf_values.specs.declared.models.Model.{Model}
 use Rattle.pf_values.specs.Text.{Text}
 use Rattle.fmtcanon_c.specs.declared.interface.CError.{CError}
 use Rattle.fmtcanon_c.specs.Buffers.{put}
-use Rattle.fmtcanon_c.specs.Calls.{IsOut, Tells}
+use Rattle.fmtcanon_c.specs.Calls.{IsOut, IsTruthCode}
 use Rattle.fmtcanon_c.specs.Errors.{side_number}
 
 -- a text of the whole language is refused, and the error says why and where
@@ -41,9 +41,9 @@ abbrev pub IsAcceptedWhole : Model → Text → Type 0
 IsAcceptedWhole model t = (types : List ArgumentType) × HasArguments model t types
 
 -- 1 where they are, 0 where they aren't, with the error untouched; or one text is refused
-abbrev pub TellsFit : Model → Text → Text → CError → ℤ → CError → Type 0
-TellsFit model f g error code error_now =
-    (IsAcceptedWhole model f × IsAcceptedWhole model g × Tells (Fit model f g) code
+abbrev pub AnswersFit : Model → Text → Text → CError → ℤ → CError → Type 0
+AnswersFit model f g error code error_now =
+    (IsAcceptedWhole model f × IsAcceptedWhole model g × IsTruthCode (Fit model f g) code
     × (error_now ≡ error))
     ⊎ (IsRefusedWhole model First f code error_now
     ⊎ (IsAcceptedWhole model f × IsRefusedWhole model Second g code error_now))

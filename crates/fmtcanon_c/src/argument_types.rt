@@ -5,7 +5,7 @@ ghost use Rattle.fmtcanon_c.specs.Calls.{PutsTypes};
 ghost use Rattle.fmtcanon_c.specs.Models.{InModel};
 ghost use Rattle.pf_signatures.specs.Kinds.{number, type_number};
 ghost use Rattle.fmtcanon_c.specs.Errors.{side_number};
-ghost use Rattle.fmtcanon_c.specs.Signatures.{PutsArguments, TellsFit};
+ghost use Rattle.fmtcanon_c.specs.Signatures.{PutsArguments, AnswersFit};
 
 use crate::interface::{CError, NO_MEMORY, NO_MODEL, model_of, put_refusal, side_number};
 use pf_canon::Side;
@@ -133,7 +133,7 @@ fn put_numbers(out: &mut [u8], types: &[ArgumentType])
 /// code of the refusal of one. It takes no memory.
 #[unsafe(no_mangle)]
 pub extern "C" fn fmtcanon_fits(model: i32, first: &[u8], second: &[u8], error: &mut CError) -> i64
-    ensures { InModel model (λ m. TellsFit m first.now second.now error.old result error.new)
+    ensures { InModel model (λ m. AnswersFit m first.now second.now error.old result error.new)
         result (error.new ≡ error.old) }
 {
     match model_of(model) {
@@ -143,7 +143,7 @@ pub extern "C" fn fmtcanon_fits(model: i32, first: &[u8], second: &[u8], error: 
 }
 
 fn tell_fit(model: Model, first: &[u8], second: &[u8], error: &mut CError) -> i64
-    ensures { TellsFit model first.now second.now error.old result error.new }
+    ensures { AnswersFit model first.now second.now error.old result error.new }
 {
     match fits(model, first, second) {
         Ok(None) => 1,

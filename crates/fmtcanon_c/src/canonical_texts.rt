@@ -1,5 +1,5 @@
 //! Whether a text is a format, whether it is canonical, and its canonical text.
-ghost use Rattle.fmtcanon_c.specs.Calls.{Checks, TellsCanonical, IsLengthCode, PutsCanonical, TellsLength};
+ghost use Rattle.fmtcanon_c.specs.Calls.{Checks, AnswersCanonical, IsLengthCode, PutsCanonical, AnswersLength};
 ghost use Rattle.std.specs.Prelude.{◌≡◌};
 ghost use Rattle.fmtcanon_c.specs.Models.{InModel};
 
@@ -23,7 +23,7 @@ pub extern "C" fn fmtcanon_check(text: &[u8], error: &mut CError) -> i64
 /// 1 where an accepted text is canonical, 0 where it isn't, else the code of its refusal.
 #[unsafe(no_mangle)]
 pub extern "C" fn fmtcanon_is_canonical(model: i32, text: &[u8], error: &mut CError) -> i64
-    ensures { InModel model (λ m. TellsCanonical m text.now error.old result error.new)
+    ensures { InModel model (λ m. AnswersCanonical m text.now error.old result error.new)
         result (error.new ≡ error.old) }
 {
     match model_of(model) {
@@ -33,7 +33,7 @@ pub extern "C" fn fmtcanon_is_canonical(model: i32, text: &[u8], error: &mut CEr
 }
 
 fn tell_canonical(model: Model, text: &[u8], error: &mut CError) -> i64
-    ensures { TellsCanonical model text.now error.old result error.new }
+    ensures { AnswersCanonical model text.now error.old result error.new }
 {
     match is_canonical(model, text) {
         Ok(true) => 1,
@@ -85,7 +85,7 @@ fn put_canonical(
 /// 2^63 or more. It takes no memory.
 #[unsafe(no_mangle)]
 pub extern "C" fn fmtcanon_canonical_length(model: i32, text: &[u8], error: &mut CError) -> i64
-    ensures { InModel model (λ m. TellsLength m text.now error.old result error.new)
+    ensures { InModel model (λ m. AnswersLength m text.now error.old result error.new)
         result (error.new ≡ error.old) }
 {
     match model_of(model) {
@@ -95,7 +95,7 @@ pub extern "C" fn fmtcanon_canonical_length(model: i32, text: &[u8], error: &mut
 }
 
 fn tell_length(model: Model, text: &[u8], error: &mut CError) -> i64
-    ensures { TellsLength model text.now error.old result error.new }
+    ensures { AnswersLength model text.now error.old result error.new }
 {
     match canonical_len(model, text) {
         Ok(len) => length_code(len),

@@ -3,7 +3,7 @@ ghost use Rattle.std.specs.Prelude.{◌≡◌, MatchResult, ◌⊎◌, IfOk};
 ghost use Rattle.pf_values.specs.declared.models.TheConstants.Model.{ALL};
 ghost use Rattle.pf_values.specs.Items.{IsAccepted};
 ghost use Rattle.pf_canon.specs.Comparing.{TextStops};
-ghost use Rattle.fmtcanon_c.specs.Calls.{AreSameModels, TellsModels, TellsSame, Compares, ComparesNot, Gives, IsFaultTold, IsTold, verdict_code, verdict_number, words_of, GivesArguments};
+ghost use Rattle.fmtcanon_c.specs.Calls.{AreSameModels, AnswersModels, AnswersSame, PutsComparison, PutsNoComparison, AnswersVerdict, IsFaultCode, IsComparisonCode, verdict_code, verdict_number, words_of, GivesArguments};
 ghost use Rattle.fmtcanon_c.specs.Models.{InModel};
 ghost use Rattle.fmtcanon_c.specs.Words.{ended_words};
 
@@ -18,7 +18,7 @@ use std::alloc::{AllocError, Global};
 /// don't, else the code of the refusal of one. It takes no memory.
 #[unsafe(no_mangle)]
 pub extern "C" fn fmtcanon_same(model: i32, first: &[u8], second: &[u8], error: &mut CError) -> i64
-    ensures { InModel model (λ m. TellsSame m first.now second.now error.old result error.new)
+    ensures { InModel model (λ m. AnswersSame m first.now second.now error.old result error.new)
         result (error.new ≡ error.old) }
 {
     match model_of(model) {
@@ -28,7 +28,7 @@ pub extern "C" fn fmtcanon_same(model: i32, first: &[u8], second: &[u8], error: 
 }
 
 fn tell_same(model: Model, first: &[u8], second: &[u8], error: &mut CError) -> i64
-    ensures { TellsSame model first.now second.now error.old result error.new }
+    ensures { AnswersSame model first.now second.now error.old result error.new }
 {
     match same_text(model, first, second) {
         Ok(true) => 1,
@@ -42,7 +42,7 @@ fn tell_same(model: Model, first: &[u8], second: &[u8], error: &mut CError) -> i
 /// takes no memory.
 #[unsafe(no_mangle)]
 pub extern "C" fn fmtcanon_same_models(first: &[u8], second: &[u8], error: &mut CError) -> i64
-    ensures { TellsModels first.now second.now error.old result error.new }
+    ensures { AnswersModels first.now second.now error.old result error.new }
 {
     match same_models(first, second) {
         Ok(sum) => i64::from(sum),
@@ -80,7 +80,7 @@ pub struct CComparison {
     pub renderings: u32,
 }
 
-/// Tells what two formats are to each other, and puts the words of the arguments for which they
+/// Compares two formats, and puts the words of the arguments for which they
 /// print different bytes into a buffer that has room for them. How many bytes these are, or the
 /// code of an error.
 #[unsafe(no_mangle)]
@@ -94,9 +94,9 @@ pub extern "C" fn fmtcanon_compare(
     error: &mut CError,
 ) -> i64
     ensures { InModel model
-        (λ m. Compares m first.now second.now out.old error.old result
+        (λ m. PutsComparison m first.now second.now out.old error.old result
         out.new comparison.new error.new
-        ⊎ ComparesNot m first.now second.now out.old comparison.old error.old result
+        ⊎ PutsNoComparison m first.now second.now out.old comparison.old error.old result
         out.new comparison.new error.new)
         result ((out.new ≡ out.old) × (comparison.new ≡ comparison.old)
         × (error.new ≡ error.old)) }
@@ -116,9 +116,9 @@ fn compare_in(
     comparison: &mut CComparison,
     error: &mut CError,
 ) -> i64
-    ensures { Compares model first.now second.now out.old error.old result
+    ensures { PutsComparison model first.now second.now out.old error.old result
         out.new comparison.new error.new
-        ⊎ ComparesNot model first.now second.now out.old comparison.old error.old result
+        ⊎ PutsNoComparison model first.now second.now out.old comparison.old error.old result
         out.new comparison.new error.new }
 {
     match compare(alloc, model, first, second) {
@@ -127,9 +127,9 @@ fn compare_in(
     }
 }
 
-// Tells a comparison, unless there is no memory for the words.
+// Puts a comparison, unless there is no memory for the words.
 fn give(alloc: Global, found: &Comparison, out: &mut [u8], comparison: &mut CComparison) -> i64
-    ensures { Gives found.now out.old comparison.old result out.new comparison.new }
+    ensures { AnswersVerdict found.now out.old comparison.old result out.new comparison.new }
 {
     match words_of(alloc, &found.verdict) {
         Ok(words) => {
@@ -142,7 +142,7 @@ fn give(alloc: Global, found: &Comparison, out: &mut [u8], comparison: &mut CCom
 }
 
 fn fault_code(error: &mut CError, fault: CompareFault) -> i64
-    ensures { IsFaultTold fault error.old result error.new }
+    ensures { IsFaultCode fault error.old result error.new }
 {
     match fault {
         CompareFault::Refused(side, refusal) => put_refusal(error, side, refusal),
@@ -151,7 +151,7 @@ fn fault_code(error: &mut CError, fault: CompareFault) -> i64
 }
 
 fn c_comparison(comparison: &Comparison) -> CComparison
-    ensures { IsTold comparison.now result }
+    ensures { IsComparisonCode comparison.now result }
 {
     let (verdict, number) = verdict_numbers(&comparison.verdict);
     CComparison {

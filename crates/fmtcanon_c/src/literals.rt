@@ -1,7 +1,7 @@
 //! String literals of C source.
 ghost use Rattle.std.specs.Prelude.{◌≡◌, ◌+◌, neg_ℤ, pos};
 ghost use Rattle.pf_literals.specs.Kinds.{number};
-ghost use Rattle.fmtcanon_c.specs.Literals.{IsPlaceCode, PutsDecoded, PutsEncoded, TellsPlace};
+ghost use Rattle.fmtcanon_c.specs.Literals.{IsPlaceCode, PutsDecoded, PutsEncoded, AnswersPlace};
 
 use crate::interface::{CError, LITERAL_KINDS, NO_MEMORY, NO_PLACE, put_string};
 use pf_literals::{LiteralFault, LiteralRefusal, decode, encode, source_offset};
@@ -48,7 +48,7 @@ pub extern "C" fn fmtcanon_encode_literal(alloc: Global, text: &[u8], out: &mut 
 /// no memory.
 #[unsafe(no_mangle)]
 pub extern "C" fn fmtcanon_source_offset(source: &[u8], index: u64) -> i64
-    ensures { TellsPlace source.now index result }
+    ensures { AnswersPlace source.now index result }
 {
     match source_offset(source, index) {
         Some(at) => place_code(at),

@@ -23,7 +23,7 @@ enum Told {
     Memory,
 }
 
-fn told_of(alloc: Global, f: &str, g: &str) -> Told {
+fn answer_about(alloc: Global, f: &str, g: &str) -> Told {
     match compare(alloc, Model::Lp64, f.as_bytes(), g.as_bytes()) {
         Ok(comparison) => match comparison.verdict {
             Verdict::Same => Told::Same,
@@ -59,7 +59,7 @@ fn compare_takes_no_memory_but_for_arguments(rt: HostRuntime) -> Result<(), Allo
     let refused = is_all_refused(rt.alloc());
     for (at, (f, g, _)) in COMPARISONS.iter().enumerate() {
         if let Some(answer) = answers.get_mut(at) {
-            *answer = told_of(rt.alloc(), f, g);
+            *answer = answer_about(rt.alloc(), f, g);
         }
     }
     drop(exhausted);

@@ -47,7 +47,7 @@ enum Told {
     Other,
 }
 
-fn told_of(outcome: &Outcome, failures: u64) -> Told {
+fn end_of(outcome: &Outcome, failures: u64) -> Told {
     match outcome {
         Outcome::Write(written) if failures == 1 => Told::Cut(*written),
         Outcome::Done | Outcome::Same | Outcome::Different if failures == 0 => Told::Whole,
@@ -75,7 +75,7 @@ fn run_over(alloc: Global, row: Row<'_>, device: Narrow) -> Option<Told> {
     if Some(writer.into_inner().taken()) != row.2.get(..device.room) {
         return None;
     }
-    Some(told_of(&outcome, failures))
+    Some(end_of(&outcome, failures))
 }
 
 // Whether just what fits goes out and is reported, in each room that is too small.

@@ -1,11 +1,11 @@
 use Rattle.std.proofs.Common.{subst, sym}
-use Rattle.fmtcanon.specs.Answers.{HindersWhole}
+use Rattle.fmtcanon.specs.Answers.{IsWholeFault}
 use Rattle.fmtcanon.specs.Formats.{IsFormat}
-use Rattle.fmtcanon.proofs.GivenLemmas.{whole_of_bytes, given_hindered}
+use Rattle.fmtcanon.proofs.GivenLemmas.{whole_of_bytes, given_fault}
 use Rattle.fmtcanon.proofs.answer.arguments_of_given.Goals as goal
 
 pub returns : goal.returns
 returns c =
     let bytes = c.as_slice.result.now in
     let gives = subst (IsFormat c.args.format.now) (sym c.as_slice.ensures.value) c.in_ok-bytes.ensures in
-    given_hindered (HindersWhole c.args.model) c.args.format.now bytes c.in-Err.fault c.told_of.result (whole_of_bytes c.args.model bytes) gives c.in-Err.ensures c.told_of.ensures
+    given_fault (IsWholeFault c.args.model) c.args.format.now bytes c.in-Err.fault c.placed_in.result (whole_of_bytes c.args.model bytes) gives c.in-Err.ensures c.placed_in.ensures

@@ -1,6 +1,6 @@
 use Rattle.std.proofs.Common.{◌++◌, [], sym, subst}
 use Rattle.std.specs.Prelude.{MatchResult}
-use Rattle.fmtcanon.specs.Conversations.{HasStopped, IsAt}
+use Rattle.fmtcanon.specs.Conversations.{HasStopped, HasRepliedTo}
 use Rattle.fmtcanon.proofs.RecordLemmas.{last_none, last_some}
 use Rattle.fmtcanon.proofs.records.Conversation.end_last.Goals as goal
 
@@ -11,4 +11,4 @@ pub returns : goal.returns
 returns g c =
     let k = g.W.Write.contents in
     let new = c.end_record.new in
-    λ kind start whole rest h. subst (λ last. MatchResult c.end_record.result (λ _. IsAt kind k new.self start new.writer (whole ++ last) []) (HasStopped kind k new.self start new.writer (whole ++ last))) (sym (last_some rest (c.if-not-has_part.ensures kind h.first rest h.come))) (c.end_record.ensures kind start whole rest h)
+    λ kind start whole rest h. subst (λ last. MatchResult c.end_record.result (λ _. HasRepliedTo kind k new.self start new.writer (whole ++ last) []) (HasStopped kind k new.self start new.writer (whole ++ last))) (sym (last_some rest (c.if-not-has_part.ensures kind h.first rest h.come))) (c.end_record.ensures kind start whole rest h)

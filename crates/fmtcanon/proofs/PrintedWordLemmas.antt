@@ -13,7 +13,7 @@ use Rattle.pf_values.specs.DataModel.{B8, B16, B32, B64, Bits, FitsIn, bit_count
 use Rattle.pf_values.proofs.Numerals.{place_sum-digits_of}
 use Rattle.pf_render.proofs.DigitLemmas.{decimal_glyphs}
 use Rattle.fmtcanon.specs.ArgumentWords.{SpellsArgument, SpellsMagnitude}
-use Rattle.fmtcanon.specs.Comparisons.{ToldIsRead}
+use Rattle.fmtcanon.specs.Comparisons.{PrintedWordIsRead}
 use Rattle.pf_compare.specs.Words.{argument_word}
 
 decimal_spells : (n : ℕ) → n < 2 ^ 64 → SpellsMagnitude (decimal n) n
@@ -84,7 +84,7 @@ short_of false B16 n h = short_unsigned n (2 ^ 16) (omega arith) h
 short_of false B32 n h = short_unsigned n (2 ^ 32) (omega arith) h
 short_of false B64 n h = short_unsigned n (2 ^ 64) (omega arith) h
 
-pub told_is_read : (model : Model) → ToldIsRead model
+pub told_is_read : (model : Model) → PrintedWordIsRead model
 told_is_read model (Number n) Int h = number_spells n (short_of true (type_bits model Int) n h)
 told_is_read model (Number n) UInt h = number_spells n (short_of false (type_bits model UInt) n h)
 told_is_read model (Number n) Long h = number_spells n (short_of true (type_bits model Long) n h)
