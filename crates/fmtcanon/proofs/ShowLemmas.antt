@@ -14,7 +14,7 @@ use Rattle.pf_text.specs.declared.pieces.Piece.TheVariants as pieces
 use Rattle.pf_text.specs.declared.pieces.Pieces.{Pieces}
 use Rattle.pf_text.specs.declared.refusal.Refusal.{Refusal}
 use Rattle.pf_text.specs.History.{EndsRun, IsLiteral}
-use Rattle.pf_text.specs.PieceHistory.{GivesBytes, GivesNext, GivesPiece, GivesRefusal, HasGiven, IsPieceBefore, items_of}
+use Rattle.pf_text.specs.PieceHistory.{Gives, GivesNext, GivesPiece, GivesRefusal, HasGiven, IsPieceBefore, items_of}
 use Rattle.pf_values.specs.declared.limits.TheConstants.{MAX_TEXT_LEN}
 use Rattle.pf_values.specs.Defined.{IsDefined}
 use Rattle.pf_values.specs.Items.{Item}
@@ -105,7 +105,7 @@ pushed model pieces t out new piece (Ok done) e h more = subst (HasShown model p
 pushed model pieces t out new piece (Err x) e h more = cc
 
 module _ (model : Model) (old new : Pieces) (t out : Text) (h : HasShown model old t out) where
-  module _ (next : Result Piece Refusal) (steps : GivesBytes old (Some next) new) where
+  module _ (next : Result Piece Refusal) (steps : Gives old (Some next) new) where
     pub refused : (refusal : Refusal) → next ≡ Err refusal → GivesRefusal t h.items refusal
     refused refusal e = subst (λ r. GivesNext (Some r) new t h.read h.items) e (steps.next t h.read h.items h.given)
 
@@ -128,7 +128,7 @@ module _ (model : Model) (old new : Pieces) (t out : Text) (h : HasShown model o
         }
 
   -- the lines of all
-  pub all_shown : GivesBytes old None new → HasShownLines model t out
+  pub all_shown : Gives old None new → HasShownLines model t out
   all_shown steps =
       let end = steps.next t h.read h.items h.given in
       let none = same_whole h.items h.read t old.rest.now h.given.reads end.reads h.given.split in
