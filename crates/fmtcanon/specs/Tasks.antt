@@ -79,6 +79,10 @@ IsAsked command rows (asked.Fits notation model) =
 IsAsked command rows (asked.Same notation models) =
     (command ≡ codes "same") × (notation ≡ notation_in rows) × (models ≡ models_in rows)
 
+-- a command asks nothing of that kind
+abbrev pub AsksOther : Text → List Row → Type 0
+AsksOther command rows = (kind : RecordQuestion) → ¬ IsAsked command rows kind
+
 -- a command asks it about the formats among the words
 abbrev pub IsAskedOf : Text → List Row → Question → Type 0
 IsAskedOf command rows question =

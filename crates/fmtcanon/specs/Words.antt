@@ -1,6 +1,7 @@
 -- What the words of a call mean, by clap's definition of the command. This project's own.
 use Rattle.std.specs.Prelude.{◌≡◌, true, List, [], ◌∷◌, Some, codes}
 use Rattle.std.specs.Borrow.{Bor}
+use Rattle.std.specs.List.{fold}
 use Rattle.clap.specs.Lexer.{usize_max}
 use Rattle.clap.specs.Simple.{App, new_app, new_rule, on_top, with_rule, with_subcommand}
 use Rattle.clap.specs.Takes.{takes}
@@ -9,6 +10,9 @@ use Rattle.clap.specs.declared.builder.action.ArgAction.TheVariants.{SetTrue}
 use Rattle.clap.specs.declared.builder.value_parser.ValueParser.{ValueParser}
 use Rattle.clap.specs.declared.builder.value_parser.ValueParser.TheVariants.{Names}
 use Rattle.pf_values.specs.Text.{Text}
+use Rattle.fmtcanon.specs.declared.command.Arguments.{Arguments}
+use Rattle.fmtcanon.specs.declared.command.Arguments.TheVariants.{Nothing, Records, WholeRecords, Pairs, Format}
+use Rattle.fmtcanon.specs.declared.command.Row.{Row}
 use Rattle.fmtcanon.specs.Models.{model_names, model_names_or_more}
 
 -- an argument that is wanted
@@ -63,23 +67,19 @@ whole_option = record (new_rule (codes "whole")) {
   action = Some SetTrue;
 }
 
--- the same with the option `--whole`
-abbrev pub on_types : Text → ValueParser → App
-on_types name models = with_rule (on_records name models) whole_option
-
--- a subcommand about records with the argument G, which may be left out, too
-abbrev pub on_pairs : Text → ValueParser → App
-on_pairs name models = with_rule (on_records name models) (new_rule (codes "G"))
-
 -- any number of arguments
 abbrev pub any_arguments : Rule
 any_arguments = record (new_rule (codes "ARG")) {
   range = Some (record { start_inclusive = 0; end_inclusive = usize_max });
 }
 
--- a subcommand with the argument F and any number of ARGs
-abbrev pub on_arguments : Text → ValueParser → App
-on_arguments name models = with_rule (on_format name models) any_arguments
+-- a subcommand that takes these arguments
+abbrev pub on_arguments : Arguments → Text → ValueParser → App
+on_arguments Nothing name models = on_nothing name models
+on_arguments Records name models = on_records name models
+on_arguments WholeRecords name models = with_rule (on_records name models) whole_option
+on_arguments Pairs name models = with_rule (on_records name models) (new_rule (codes "G"))
+on_arguments Format name models = with_rule (on_format name models) any_arguments
 
 -- The words come without the program's name, a subcommand is wanted, and `--version` is answered
 -- beside `--help`.
@@ -91,24 +91,47 @@ top_app = on_top (λ s. record s {
   disable_help_subcommand = true;
 }) (new_app (codes "fmtcanon"))
 
--- the command, with how clap tests the name of one data model, and that of one or both
+-- a command: its name, which arguments it takes, and how clap tests the names of data models
+pub record CommandRow : Type 0 where
+  pub name : Text
+  pub arguments : Arguments
+  pub models : ValueParser
+
+-- the subcommand of a row
+abbrev pub row_app : CommandRow → App
+row_app row = on_arguments row.arguments row.name row.models
+
+-- the command with one more
+abbrev pub with_row : App → CommandRow → App
+with_row app row = with_subcommand app (row_app row).top
+
+-- the commands, by how clap tests the name of one data model, and that of one or more
+abbrev pub command_rows : ValueParser → ValueParser → List CommandRow
+command_rows one more =
+    record { name = codes "types"; arguments = WholeRecords; models = one }
+    ∷ record { name = codes "canon"; arguments = Records; models = one }
+    ∷ record { name = codes "show"; arguments = Records; models = one }
+    ∷ record { name = codes "format"; arguments = Format; models = one }
+    ∷ record { name = codes "same"; arguments = Pairs; models = more }
+    ∷ record { name = codes "fits"; arguments = Pairs; models = one }
+    ∷ record { name = codes "stream"; arguments = Nothing; models = one }
+    ∷ []
+
+-- the command with all of them
 unfoldable pub the_command : ValueParser → ValueParser → App
-the_command one both =
-    let with_types = with_subcommand top_app (on_types (codes "types") one).top in
-    let with_canon = with_subcommand with_types (on_records (codes "canon") one).top in
-    let with_show = with_subcommand with_canon (on_records (codes "show") one).top in
-    let with_format = with_subcommand with_show (on_arguments (codes "format") one).top in
-    let with_same = with_subcommand with_format (on_pairs (codes "same") both).top in
-    let with_fits = with_subcommand with_same (on_pairs (codes "fits") one).top in
-    with_subcommand with_fits (on_nothing (codes "stream") one).top
+the_command one more = fold with_row top_app (command_rows one more)
+
+-- the row that the code has of a command
+abbrev pub row_of : Row → CommandRow
+row_of r = record { name = r.name.now; arguments = r.arguments; models = Names r.models }
 
 -- clap's definition of the command, wherever in memory the names of the data models lie
 pub record IsCommand (app : App) : Type 0 where
   pub one : Bor (List (Bor Text))
-  pub both : Bor (List (Bor Text))
+  pub more : Bor (List (Bor Text))
   pub one_names : texts one.now ≡ model_names
-  pub both_names : texts both.now ≡ model_names_or_more
-  pub is : app ≡ the_command (Names one) (Names both)
+  pub more_names : texts more.now ≡ model_names_or_more
+  pub is : app ≡ the_command (Names one) (Names more)
 
 -- clap's definition of the command takes the words
 abbrev pub IsTaken : List Text → Type 0

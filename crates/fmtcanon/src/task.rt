@@ -5,7 +5,8 @@ ghost use Rattle.std.specs.Str.{bytes_eq};
 ghost use Rattle.clap.specs.Matches.{first_value};
 ghost use Rattle.clap.specs.Words.{found_of, kind_of, matched_of, raw_values};
 ghost use Rattle.pf_values.specs.Text.{Text};
-ghost use Rattle.fmtcanon.specs.Tasks.{Asks, IsAnsweredBy, IsAsked, IsNoTaskOf, IsNoTaskOn, IsTaskOn, Names, formats_in, is_set, notation_in, rows_in};
+ghost use Rattle.fmtcanon.specs.Models.{model_in};
+ghost use Rattle.fmtcanon.specs.Tasks.{Asks, AsksOther, IsAnsweredBy, IsAsked, IsNoTaskOf, IsNoTaskOn, IsTaskOn, Names, formats_in, is_set, notation_in, rows_in};
 
 use crate::command::definition;
 use crate::command_texts as texts;
@@ -177,51 +178,48 @@ fn named_task<'a>(alloc: Global, name: &str, inner: &ArgMatches<'a>) -> Result<T
     ensures err { IfErr result (λ fault. (words : List Text)
         → Names words name.now (rows_in inner.now) → IsNoTaskOf words fault) }
 {
-    let notation = notation_of(inner);
+    if let Some(kind) = kind_asked(name, inner) {
+        return formats_task(alloc, inner, kind);
+    }
     match name {
-        "types" => formats_task(alloc, inner, about_types(inner, notation)),
-        "canon" => formats_task(
-            alloc,
-            inner,
-            RecordQuestion::Canon(notation, model_of(inner)),
-        ),
-        "show" => formats_task(
-            alloc,
-            inner,
-            RecordQuestion::Show(notation, model_of(inner)),
-        ),
         "format" => match given_words(alloc, inner) {
             Ok(words) => Ok(Task::Answer(Question::Format {
                 model: model_of(inner),
                 format: GivenFormat {
-                    notation,
+                    notation: notation_of(inner),
                     text: value_of(inner, "F").as_bytes(),
                 },
                 words,
             })),
             Err(AllocError) => Err(NoTask::Memory),
         },
-        "fits" => formats_task(
-            alloc,
-            inner,
-            RecordQuestion::Fits(notation, model_of(inner)),
-        ),
-        "same" => formats_task(
-            alloc,
-            inner,
-            RecordQuestion::Same(notation, models_of(inner)),
-        ),
         "stream" => Ok(Task::Stream(model_of(inner))),
         _ => unreachable!(),
     }
 }
 
+// What a command asks about formats, whichever they are.
+fn kind_asked(name: &str, inner: &ArgMatches<'_>) -> Option<RecordQuestion>
+    ensures { MatchOption result (AsksOther name.now (rows_in inner.now))
+        (IsAsked name.now (rows_in inner.now)) }
+{
+    let notation = notation_of(inner);
+    let model = model_of(inner);
+    match name {
+        "types" => Some(about_types(inner, notation, model)),
+        "canon" => Some(RecordQuestion::Canon(notation, model)),
+        "show" => Some(RecordQuestion::Show(notation, model)),
+        "fits" => Some(RecordQuestion::Fits(notation, model)),
+        "same" => Some(RecordQuestion::Same(notation, models_of(inner))),
+        _ => None,
+    }
+}
+
 // What the command about types asks: in the profile, or in the whole language.
-fn about_types(inner: &ArgMatches<'_>, notation: Notation) -> RecordQuestion
-    ensures { notation ≡ notation_in (rows_in inner.now)
+fn about_types(inner: &ArgMatches<'_>, notation: Notation, model: Model) -> RecordQuestion
+    ensures { notation ≡ notation_in (rows_in inner.now) → model ≡ model_in (rows_in inner.now)
         → IsAsked (codes "types") (rows_in inner.now) result }
 {
-    let model = model_of(inner);
     if is_set(inner, "whole") {
         RecordQuestion::Arguments(notation, model)
     } else {
