@@ -10,22 +10,22 @@ use Rattle.pf_values.specs.Items.{Item}
 use Rattle.pf_values.specs.Text.{Text}
 use Rattle.pf_probes.proofs.Unique.{equivalent_formats_one}
 use Rattle.pf_canon.specs.Comparing.{BeginsWith, CountsSides, CountsStop, Drained, DrainsTo, EndsBoth, FaultCounts, Gave, HasPace, IsPaced, PacesTo, StopsBy, StopsOn, AreTextsSame}
-use Rattle.pf_canon.specs.declared.comparing.Pace.{Pace}
-use Rattle.pf_canon.specs.declared.comparing.Pace.TheVariants.{On, Same, Differ}
+use Rattle.pf_canon.specs.declared.comparison.Pace.{Pace}
+use Rattle.pf_canon.specs.declared.comparison.Pace.TheVariants.{On, Same, Differ}
 use Rattle.pf_canon.specs.declared.faults.SideFault.{SideFault}
 use Rattle.pf_canon.specs.declared.faults.StreamFault.{StreamFault}
 use Rattle.pf_canon.specs.declared.faults.StreamFault.TheVariants as faults
-use Rattle.pf_canon.specs.declared.sides.Side.{Side}
-use Rattle.pf_canon.specs.declared.sides.Side.TheVariants.{First, Second}
-use Rattle.pf_canon.specs.declared.sources.Source.{Source}
+use Rattle.pf_canon.specs.declared.faults.Side.{Side}
+use Rattle.pf_canon.specs.declared.faults.Side.TheVariants.{First, Second}
+use Rattle.pf_canon.specs.declared.canonical_bytes.Source.{Source}
 use Rattle.pf_canon.specs.Due.{due_text}
 use Rattle.pf_canon.specs.Sources.{CountsFault, History, IsEnding, IsOver, IsReadFor, IsReading, Leaves, StepsBy}
 use Rattle.pf_canon.proofs.EquivalentTexts.{equivalent_by}
-use Rattle.pf_canon.specs.declared.transducing.Transducer.{Transducer}
+use Rattle.pf_canon.specs.declared.transducer.Transducer.{Transducer}
 use Rattle.pf_canon.specs.Through.{IsThrough, IsUpTo}
 use Rattle.pf_canon.specs.Walks.{AreApart, GoInStep, IsMidway, IsWalkedWhole, IsWhole, waits}
 use Rattle.pf_canon.specs.Prefixes.{AreCommon}
-use Rattle.pf_canon.specs.declared.walks.Walk.{Walk}
+use Rattle.pf_canon.specs.declared.walk.Walk.{Walk}
 
 pub fault_counts : {B : Type 0} (kept failed : B → B → Type 0) (fault : StreamFault) (old new : B) → CountsFault kept failed (Some (Err fault)) old new → FaultCounts kept failed fault old new
 fault_counts kept failed faults.Read old new h = h

@@ -13,12 +13,12 @@ use Rattle.pf_text.specs.declared.scanner.Step.{Step}
 use Rattle.pf_text.specs.declared.scanner.Step.TheVariants as steps
 use Rattle.pf_text.specs.History as scanned
 use Rattle.pf_canon.specs.Answers.{most_len}
-use Rattle.pf_canon.specs.declared.parts.Parts.{Parts}
-use Rattle.pf_canon.specs.declared.transducing.Front.{Front}
-use Rattle.pf_canon.specs.declared.transducing.Made.{Made}
-use Rattle.pf_canon.specs.declared.transducing.Stop.{Stop}
-use Rattle.pf_canon.specs.declared.transducing.Made.TheVariants as mades
-use Rattle.pf_canon.specs.declared.transducing.Transducer.{Transducer}
+use Rattle.pf_canon.specs.declared.output.Parts.{Parts}
+use Rattle.pf_canon.specs.declared.chunk.Front.{Front}
+use Rattle.pf_canon.specs.declared.output.Made.{Made}
+use Rattle.pf_canon.specs.declared.chunk.Stop.{Stop}
+use Rattle.pf_canon.specs.declared.output.Made.TheVariants as mades
+use Rattle.pf_canon.specs.declared.transducer.Transducer.{Transducer}
 use Rattle.pf_canon.specs.Making.{IsMaking}
 use Rattle.pf_canon.specs.Parts.{parts_text}
 use Rattle.pf_canon.specs.Through.{GrowsBy, HasTaken, IsFed, IsThrough, Keeps, Passes, RefusesIn, Settles, SettlesTo, SettlesWhole, TakesDirective, front_text, made_text, more_of, run_text}

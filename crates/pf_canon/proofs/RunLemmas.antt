@@ -11,8 +11,8 @@ use Rattle.pf_values.specs.Text.{Text}
 use Rattle.pf_text.specs.declared.refusal.Refusal.{Refusal}
 use Rattle.pf_canon.specs.declared.faults.StreamFault.{StreamFault}
 use Rattle.pf_canon.specs.declared.faults.StreamFault.TheVariants as faults
-use Rattle.pf_canon.specs.declared.sources.Source.{Source}
-use Rattle.pf_canon.specs.declared.transducing.Transducer.{Transducer}
+use Rattle.pf_canon.specs.declared.canonical_bytes.Source.{Source}
+use Rattle.pf_canon.specs.declared.transducer.Transducer.{Transducer}
 use Rattle.pf_canon.specs.Due.{due_text}
 use Rattle.pf_canon.specs.Sources.{History, IsEnding, IsReading, IsRefusedBehind, Leaves}
 use Rattle.pf_canon.specs.Streaming.{RunBegins, RunEnds}

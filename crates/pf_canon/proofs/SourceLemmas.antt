@@ -11,13 +11,13 @@ use Rattle.pf_values.specs.Text.{Text}
 use Rattle.pf_text.specs.declared.refusal.Refusal.{Refusal}
 use Rattle.pf_canon.specs.declared.faults.StreamFault.{StreamFault}
 use Rattle.pf_canon.specs.declared.faults.StreamFault.TheVariants as faults
-use Rattle.pf_canon.specs.declared.parts.Parts.{Parts}
-use Rattle.pf_canon.specs.declared.sources.Source.{Source}
-use Rattle.pf_canon.specs.declared.sources.Turn.{Turn}
-use Rattle.pf_canon.specs.declared.sources.Turn.TheVariants.{Again, Done}
-use Rattle.pf_canon.specs.declared.transducing.Made.{Made}
-use Rattle.pf_canon.specs.declared.transducing.Made.TheVariants as mades
-use Rattle.pf_canon.specs.declared.transducing.Transducer.{Transducer}
+use Rattle.pf_canon.specs.declared.output.Parts.{Parts}
+use Rattle.pf_canon.specs.declared.canonical_bytes.Source.{Source}
+use Rattle.pf_canon.specs.declared.canonical_bytes.Turn.{Turn}
+use Rattle.pf_canon.specs.declared.canonical_bytes.Turn.TheVariants.{Again, Done}
+use Rattle.pf_canon.specs.declared.output.Made.{Made}
+use Rattle.pf_canon.specs.declared.output.Made.TheVariants as mades
+use Rattle.pf_canon.specs.declared.transducer.Transducer.{Transducer}
 use Rattle.pf_canon.specs.Parts.{parts_text}
 use Rattle.pf_canon.specs.Sources.{CountsFault, CountsTurn, IsEnding, IsInTime, IsLean, IsReadFor, IsReading, IsRefusedBehind, IsTold, LowersAnswer, LowersUnits, units}
 use Rattle.pf_canon.specs.Through.{Ends, Grows, IsThrough, SettlesTo, Takes, made_text}

@@ -4,9 +4,9 @@ use Rattle.pf_values.specs.declared.models.Model.{Model}
 use Rattle.pf_values.specs.Counting.{Known}
 use Rattle.pf_values.specs.Text.{Text}
 use Rattle.pf_canon.specs.declared.faults.StreamFault.{StreamFault}
-use Rattle.pf_canon.specs.declared.sources.Source.{Source}
-use Rattle.pf_canon.specs.declared.sources.Turn.{Turn}
-use Rattle.pf_canon.specs.declared.sources.Turn.TheVariants.{Again, Done}
+use Rattle.pf_canon.specs.declared.canonical_bytes.Source.{Source}
+use Rattle.pf_canon.specs.declared.canonical_bytes.Turn.{Turn}
+use Rattle.pf_canon.specs.declared.canonical_bytes.Turn.TheVariants.{Again, Done}
 use Rattle.pf_canon.specs.Sources.{CountsTurn, History, IsOver, Leaves, LowersAnswer, LowersUnits, StepsBy, Turns, units}
 use Rattle.pf_canon.proofs.SourceLemmas.{answer_lower, counts_later, more_later, none_more}
 

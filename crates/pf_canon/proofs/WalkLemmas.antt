@@ -7,14 +7,14 @@ use Rattle.pf_values.specs.declared.models.Model.{Model}
 use Rattle.pf_values.specs.Items.{Item}
 use Rattle.pf_values.specs.Refusals.{IsRefusedAt}
 use Rattle.pf_text.specs.declared.refusal.Refusal.{Refusal}
-use Rattle.pf_canon.specs.declared.parts.Parts.{Parts}
-use Rattle.pf_canon.specs.declared.transducing.Front.{Front}
-use Rattle.pf_canon.specs.declared.transducing.Stop.{Stop}
-use Rattle.pf_canon.specs.declared.transducing.Transducer.{Transducer}
+use Rattle.pf_canon.specs.declared.output.Parts.{Parts}
+use Rattle.pf_canon.specs.declared.chunk.Front.{Front}
+use Rattle.pf_canon.specs.declared.chunk.Stop.{Stop}
+use Rattle.pf_canon.specs.declared.transducer.Transducer.{Transducer}
 use Rattle.pf_canon.specs.Parts.{parts_text}
 use Rattle.pf_canon.specs.Through.{Ends, GrowsBy, IsThrough, Keeps, RefusesIn, front_text}
 use Rattle.pf_canon.specs.Walks.{HasGivenBy, IsMidway, IsWalkedWhole, IsWhole, waits}
-use Rattle.pf_canon.specs.declared.walks.Walk.{Walk}
+use Rattle.pf_canon.specs.declared.walk.Walk.{Walk}
 use Rattle.pf_canon.proofs.BuildingLemmas.{refused_behind}
 
 -- of the same bytes more or fewer were given

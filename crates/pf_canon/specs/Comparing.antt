@@ -9,14 +9,14 @@ use Rattle.pf_values.specs.Printing.{AreEquivalent}
 use Rattle.pf_values.specs.Refusals.{IsRefusedAt}
 use Rattle.pf_values.specs.Text.{Text}
 use Rattle.pf_text.specs.declared.refusal.Refusal.{Refusal}
-use Rattle.pf_canon.specs.declared.comparing.Pace.{Pace}
-use Rattle.pf_canon.specs.declared.comparing.Pace.TheVariants.{On, Same, Differ}
+use Rattle.pf_canon.specs.declared.comparison.Pace.{Pace}
+use Rattle.pf_canon.specs.declared.comparison.Pace.TheVariants.{On, Same, Differ}
 use Rattle.pf_canon.specs.declared.faults.SideFault.{SideFault}
 use Rattle.pf_canon.specs.declared.faults.StreamFault.{StreamFault}
 use Rattle.pf_canon.specs.declared.faults.StreamFault.TheVariants as faults
-use Rattle.pf_canon.specs.declared.sides.Side.{Side}
-use Rattle.pf_canon.specs.declared.sides.Side.TheVariants.{First, Second}
-use Rattle.pf_canon.specs.declared.sources.Source.{Source}
+use Rattle.pf_canon.specs.declared.faults.Side.{Side}
+use Rattle.pf_canon.specs.declared.faults.Side.TheVariants.{First, Second}
+use Rattle.pf_canon.specs.declared.canonical_bytes.Source.{Source}
 use Rattle.pf_canon.specs.Sources.{History, IsEnding, IsOver, IsReadFor, IsRefusedBehind, units}
 use Rattle.pf_canon.specs.Through.{SettlesTo}
 

@@ -2,7 +2,7 @@
 use Rattle.std.specs.Prelude.{◌≡◌, ◌≢◌, ◌++◌, Option, Some, None}
 use Rattle.std.specs.Borrow.{Bor}
 use Rattle.pf_values.specs.Text.{Text}
-use Rattle.pf_canon.specs.declared.cutting.Expected.{Expected}
+use Rattle.pf_canon.specs.declared.sink.Expected.{Expected}
 
 -- after these bytes the one is left of the other, or it doesn't begin with them
 abbrev pub IsCutOff : Option (Bor Text) → Text → Option (Bor Text) → Type 0

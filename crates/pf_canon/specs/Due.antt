@@ -2,9 +2,9 @@
 use Rattle.std.specs.Prelude.{◌≡◌, ℕ, ◌-◌, ◌==◌, [], ◌∷◌, ◌++◌, drop, replicate, flat_map, Option, Some, None, if◌then◌else◌}
 use Rattle.pf_values.specs.Canonical.{item_spelling}
 use Rattle.pf_values.specs.Text.{Text, space, zero_digit}
-use Rattle.pf_canon.specs.declared.due.Due.{Due}
-use Rattle.pf_canon.specs.declared.due.Silents.{Silents}
-use Rattle.pf_canon.specs.declared.due.Spelled.{Spelled}
+use Rattle.pf_canon.specs.declared.output.Due.{Due}
+use Rattle.pf_canon.specs.declared.output.Silents.{Silents}
+use Rattle.pf_canon.specs.declared.output.Spelled.{Spelled}
 use Rattle.pf_text.specs.Plain.{silents}
 use Rattle.pf_canon.specs.Parts.{in_order}
 

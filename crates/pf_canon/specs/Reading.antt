@@ -3,8 +3,8 @@ use Rattle.std.specs.Prelude.{◌≡◌, [], ◌∷◌}
 use Rattle.std.specs.Io.KnownBytes.{Consumes, IsAtEnd}
 use Rattle.pf_values.specs.Counting.{HasFailed, Known, failures_of}
 use Rattle.pf_values.specs.declared.counting.Counted.{Counted}
-use Rattle.pf_canon.specs.declared.reading.Taken.{Taken}
-use Rattle.pf_canon.specs.declared.reading.Taken.TheVariants as takings
+use Rattle.pf_canon.specs.declared.canonical_bytes.Taken.{Taken}
+use Rattle.pf_canon.specs.declared.canonical_bytes.Taken.TheVariants as takings
 
 -- a byte was taken, or the reader is at its end, or it failed
 abbrev pub FindsByte : Known → Known → Taken → Type 0

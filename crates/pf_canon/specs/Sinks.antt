@@ -1,8 +1,8 @@
 -- What is given bytes, one text after another. This project's own.
 use Rattle.std.specs.Prelude.{◌≡◌, ℕ, ◌+◌, ◌<◌, ◌^◌, false, [], ◌++◌, length}
 use Rattle.pf_values.specs.Text.{Text}
-use Rattle.pf_canon.specs.declared.lengths.Length.{Length}
-use Rattle.pf_canon.specs.declared.rooms.Building.{Building}
+use Rattle.pf_canon.specs.declared.sink.Length.{Length}
+use Rattle.pf_canon.specs.declared.sink.Building.{Building}
 
 -- what was given adds up
 pub record IsSink {S : Type 0} (given : S → S → Text → Type 0) : Type 0 where

@@ -14,10 +14,10 @@ use Rattle.pf_text.specs.History.{offset_of}
 use Rattle.pf_canon.specs.declared.faults.StreamFault.{StreamFault}
 use Rattle.pf_canon.specs.declared.faults.StreamFault.TheVariants as faults
 use Rattle.pf_canon.specs.declared.limits.TheConstants.{MAX_DIRECTIVE_LEN}
-use Rattle.pf_canon.specs.declared.sources.Source.{Source}
-use Rattle.pf_canon.specs.declared.sources.Turn.{Turn}
-use Rattle.pf_canon.specs.declared.sources.Turn.TheVariants.{Again, Done}
-use Rattle.pf_canon.specs.declared.transducing.Transducer.{Transducer}
+use Rattle.pf_canon.specs.declared.canonical_bytes.Source.{Source}
+use Rattle.pf_canon.specs.declared.canonical_bytes.Turn.{Turn}
+use Rattle.pf_canon.specs.declared.canonical_bytes.Turn.TheVariants.{Again, Done}
+use Rattle.pf_canon.specs.declared.transducer.Transducer.{Transducer}
 use Rattle.pf_canon.specs.Due.{due_text}
 use Rattle.pf_canon.specs.Through.{IsThrough, SettlesTo, StaysRefused, scanner_of, waiting_of}
 

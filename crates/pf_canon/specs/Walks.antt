@@ -7,9 +7,9 @@ use Rattle.pf_values.specs.Refusals.{IsRefusedAt}
 use Rattle.pf_values.specs.Text.{Text}
 use Rattle.pf_text.specs.declared.refusal.Refusal.{Refusal}
 use Rattle.pf_canon.specs.declared.limits.TheConstants.{MAX_DIRECTIVE_LEN}
-use Rattle.pf_canon.specs.declared.parts.Parts.{Parts}
-use Rattle.pf_canon.specs.declared.transducing.Transducer.{Transducer}
-use Rattle.pf_canon.specs.declared.walks.Walk.{Walk}
+use Rattle.pf_canon.specs.declared.output.Parts.{Parts}
+use Rattle.pf_canon.specs.declared.transducer.Transducer.{Transducer}
+use Rattle.pf_canon.specs.declared.walk.Walk.{Walk}
 use Rattle.pf_canon.specs.Parts.{parts_text}
 use Rattle.pf_canon.specs.Through.{IsThrough, waiting_of}
 
