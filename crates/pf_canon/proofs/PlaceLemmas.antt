@@ -8,7 +8,7 @@ use Rattle.std.proofs.lemmas.List.{append-nil, append_assoc, drop-append-le, len
 use Rattle.pf_values.specs.Canonical.{item_spelling}
 use Rattle.pf_values.specs.Text.{Text}
 use Rattle.pf_text.specs.Plain.{silents}
-use Rattle.pf_canon.specs.Parts.{IsFrontOf, silent_bytes}
+use Rattle.pf_canon.specs.Output.{IsFrontOf, silent_bytes}
 use Rattle.pf_canon.proofs.SilentLemmas.{spelled_silent}
 
 -- all of a text

@@ -3,8 +3,8 @@ use Rattle.std.proofs.Common.{Some, ◌≡◌, ℕ, ◌+◌, ◌≤◌, ◌++◌
 use Rattle.std.proofs.Math.Seq.{take-add}
 use Rattle.std.proofs.lemmas.List.{take-append-le}
 use Rattle.pf_values.specs.Text.{Text}
-use Rattle.pf_canon.specs.Parts.{IsFrontOf}
-use Rattle.pf_canon.specs.Prefixes.{AreCommon, HaveCommon}
+use Rattle.pf_canon.specs.Output.{IsFrontOf}
+use Rattle.pf_canon.specs.Comparison.{AreCommon, HaveCommon}
 
 -- so many bytes more are the same
 pub common_more : (t u : Text) (at more : ℕ) → AreCommon t u at → at + more ≤ length t → at + more ≤ length u → take more (drop at t) ≡ take more (drop at u) → AreCommon t u (at + more)

@@ -12,7 +12,7 @@ use Rattle.pf_text.specs.declared.refusal.Refusal.{Refusal}
 use Rattle.pf_text.specs.Plain.{silents}
 use Rattle.pf_canon.specs.declared.limits.TheConstants.{BLOCK}
 use Rattle.pf_canon.specs.Answers.{IsCanonicalFor}
-use Rattle.pf_canon.specs.Sinks.{IsSink}
+use Rattle.pf_canon.specs.Sink.{IsSink}
 use Rattle.pf_canon.proofs.CanonicalItems.{item_spelling-append}
 
 -- the same bytes so many times
@@ -46,7 +46,7 @@ module _ {S : Type 0} {given : S → S → Text → Type 0} (laws : IsSink given
   run_all old new times left none h = let e : times - left ≡ times = omega (arith, none) in subst (given old new) (ap of e) h
 
 -- the run at the front of a canonical text, and then what follows
-pub run_put : {S : Type 0} {given : S → S → Text → Type 0} (laws : IsSink given) (model : Model) (t run : Text) (old mid new : S) (r : Result (Unit {0}) Refusal) → given old mid run
-    → MatchResult r (λ _. (more : Text) × given mid new more × IsCanonicalFor model t (run ++ more)) (λ refusal. IsRefusedAt t refusal.kind refusal.at) → MatchResult r (λ _. (c : Text) × given old new c × IsCanonicalFor model t c) (λ refusal. IsRefusedAt t refusal.kind refusal.at)
-run_put laws model t run old mid new (Ok done) h g = (run ++ g.0, laws.both old mid new run g.0 h g.1, g.2)
-run_put laws model t run old mid new (Err refusal) h g = g
+pub verbatim_put : {S : Type 0} {given : S → S → Text → Type 0} (laws : IsSink given) (model : Model) (t verbatim : Text) (old mid new : S) (r : Result (Unit {0}) Refusal) → given old mid verbatim
+    → MatchResult r (λ _. (more : Text) × given mid new more × IsCanonicalFor model t (verbatim ++ more)) (λ refusal. IsRefusedAt t refusal.kind refusal.at) → MatchResult r (λ _. (c : Text) × given old new c × IsCanonicalFor model t c) (λ refusal. IsRefusedAt t refusal.kind refusal.at)
+verbatim_put laws model t verbatim old mid new (Ok done) h g = (verbatim ++ g.0, laws.both old mid new verbatim g.0 h g.1, g.2)
+verbatim_put laws model t verbatim old mid new (Err refusal) h g = g

@@ -2,18 +2,16 @@
 ghost use Rattle.std.specs.Prelude.{◌≡◌, [], ◌++◌, ◌∷◌, true, List};
 ghost use Rattle.std.specs.Io.KnownBytes.{Consumes, IsAtEnd};
 ghost use Rattle.std.proofs.Common.{◌∙◌, refl};
-ghost use Rattle.pf_values.specs.Counting.{device_of, Known, HasFailed, calls_after, calls_of, failures_of};
+ghost use Rattle.pf_values.specs.Counting.{HasFailed, Known, calls_after, calls_of, device_of, failures_of};
 ghost use Rattle.pf_values.specs.Items.{Item};
 ghost use Rattle.pf_values.specs.Text.{Text};
-ghost use Rattle.pf_canon.specs.Streaming.{StreamHistory, reader_of};
-ghost use Rattle.pf_canon.specs.Due.{due_text};
-ghost use Rattle.pf_canon.specs.Sources.{CountsTurn, History, IsOver, IsReadFor, IsTold, LowersUnits, LowersAnswer, StepsBy, Turns};
-ghost use Rattle.pf_canon.specs.Through.{IsThrough};
-ghost use Rattle.pf_canon.specs.declared.canonical_bytes.Turn.TheVariants.{Done};
-ghost use Rattle.pf_canon.specs.Reading.{CountsTaken, FindsByte, failed_later};
+ghost use Rattle.pf_canon.specs.CanonicalBytes.{CountsByteRead, CountsStep, FindsByte, History, IsNoReadFault, IsOver, IsReadFor, LowersAnswer, LowersUnits, StepLeaves, StepsBy, StreamHistory, failed_later, reader_of};
+ghost use Rattle.pf_canon.specs.Output.{pending_text};
+ghost use Rattle.pf_canon.specs.Transducer.{IsThrough};
+ghost use Rattle.pf_canon.specs.declared.canonical_bytes.NextStep.TheVariants.{Done};
 
 use crate::faults::StreamFault;
-use crate::output::{Due, Made};
+use crate::output::{PendingOutput, StepOutput};
 use crate::transducer::Transducer;
 use pf_values::{Counted, Model};
 use std::io::Read;
@@ -24,7 +22,7 @@ use std::io::Read;
 #[derive(Drop)]
 pub struct CanonBytes<R> {
     reader: Counted<R>,
-    source: Source,
+    transducer: ByteTransducer,
 }
 
 impl<R: Read + Drop> CanonBytes<R> {
@@ -36,7 +34,7 @@ impl<R: Read + Drop> CanonBytes<R> {
     {
         CanonBytes {
             reader,
-            source: Source::new(model),
+            transducer: ByteTransducer::new(model),
         }
     }
 
@@ -44,13 +42,13 @@ impl<R: Read + Drop> CanonBytes<R> {
     pub fn into_reader(self) -> Counted<R>
         ensures { result ≡ reader_of self }
     {
-        let CanonBytes { reader, source: _ } = self;
+        let CanonBytes { reader, transducer: _ } = self;
         reader
     }
 }
 
 impl<R: Read + Drop> Iterator for CanonBytes<R> {
-    ghost use Rattle.pf_canon.specs.Streaming.{Steps, bytes_to_come};
+    ghost use Rattle.pf_canon.specs.CanonicalBytes.{Steps, bytes_to_come};
 
     type Item = Result<u8, StreamFault>;
 
@@ -59,34 +57,35 @@ impl<R: Read + Drop> Iterator for CanonBytes<R> {
     ghost remaining = { bytes_to_come };
 
     fn next(&mut self) -> Option<Result<u8, StreamFault>> {
-        self.source.next(&mut self.reader)
+        self.transducer.next(&mut self.reader)
     }
 }
 
-/// A transducer, what it has settled and waits to be given, and whether the text may go on.
+/// A transducer whose output is taken byte by byte: what it has settled and is still to be given,
+/// and whether the text may go on.
 #[derive(Drop)]
-pub(crate) struct Source {
+pub(crate) struct ByteTransducer {
     transducer: Transducer,
-    due: Due,
+    pending: PendingOutput,
     is_open: bool,
 }
 
-/// What comes of one turn: an answer, or another turn.
-pub(crate) enum Turn {
-    /// Another turn.
+/// What one step of a call of `next` comes to.
+pub(crate) enum NextStep {
+    /// One more step is to be made.
     Again,
-    /// An answer.
+    /// The call returns this.
     Done(Option<Result<u8, StreamFault>>),
 }
 
-impl Source {
+impl ByteTransducer {
     /// Nothing was taken.
-    pub(crate) fn new(model: Model) -> Source
+    pub(crate) fn new(model: Model) -> ByteTransducer
         ensures { (start : Known) → History model result start start [] [] }
     {
-        Source {
+        ByteTransducer {
             transducer: Transducer::new(model),
-            due: Due::new(),
+            pending: PendingOutput::new(),
             is_open: true,
         }
     }
@@ -98,90 +97,90 @@ impl Source {
         ensures lower { LowersAnswer result self.old self.new }
     {
         loop {
-            match self.turn(bytes) {
-                Turn::Again => {}
-                Turn::Done(answer) => return answer,
+            match self.advance(bytes) {
+                NextStep::Again => {}
+                NextStep::Done(answer) => return answer,
             }
         }
     }
 
-    // Gives a byte that waits, or takes one.
-    fn turn<B: Bytes>(&mut self, bytes: &mut B) -> Turn
+    // Gives a pending byte, or takes one from the text.
+    fn advance<B: Bytes>(&mut self, bytes: &mut B) -> NextStep
         ensures next { (model : Model) (start : Known) (taken given : Text)
             → History model self.old start (B.left bytes.old) taken given
             → (more : Text)
-            × Turns model result self.new start (B.left bytes.new) (taken ++ more) given }
+            × StepLeaves model result self.new start (B.left bytes.new) (taken ++ more) given }
         ensures over { IsOver self.old → (result ≡ Done None) × IsOver self.new
             × (bytes.new ≡ bytes.old) }
-        ensures counts { CountsTurn B.kept B.failed result bytes.old bytes.new }
+        ensures counts { CountsStep B.kept B.failed result bytes.old bytes.new }
         ensures lower { LowersUnits result self.old self.new }
     {
-        if let Some(byte) = self.due.give() {
-            return Turn::Done(Some(Ok(byte)));
+        if let Some(byte) = self.pending.pop() {
+            return NextStep::Done(Some(Ok(byte)));
         }
         if !self.is_open {
-            return Turn::Done(None);
+            return NextStep::Done(None);
         }
         match bytes.take() {
-            Taken::Byte(byte) => self.take(byte),
-            Taken::End => self.end(),
-            Taken::Failed => {
+            ByteRead::Byte(byte) => self.take(byte),
+            ByteRead::End => self.end(),
+            ByteRead::Failed => {
                 self.is_open = false;
-                Turn::Done(Some(Err(StreamFault::Read)))
+                NextStep::Done(Some(Err(StreamFault::Read)))
             }
         }
     }
 
-    // A byte that was taken.
-    fn take(&mut self, byte: u8) -> Turn
+    // Feeds a byte that was taken.
+    fn take(&mut self, byte: u8) -> NextStep
         requires open { self.old.is_open ≡ true }
-        requires none_due { due_text self.old.due ≡ [] }
+        requires none_pending { pending_text self.old.pending ≡ [] }
         ensures next { (model : Model) (start left : Known) (taken given : Text) (items : List Item)
             → Consumes start left (taken ++ byte ∷ []) → IsReadFor model taken given
             → IsThrough model self.old.transducer taken items given
-            → (more : Text) × Turns model result self.new start left (taken ++ more) given }
-        ensures told { IsTold result }
+            → (more : Text) × StepLeaves model result self.new start left (taken ++ more) given }
+        ensures no_fault { IsNoReadFault result }
         ensures lower { LowersUnits result self.old self.new }
     {
         match self.transducer.feed(byte) {
-            Ok(Made::Nothing) => Turn::Again,
-            Ok(Made::Literal) => Turn::Done(Some(Ok(byte))),
-            Ok(Made::Parts(parts)) => {
-                self.due = Due::of(parts);
-                Turn::Again
+            Ok(StepOutput::Nothing) => NextStep::Again,
+            Ok(StepOutput::Literal) => NextStep::Done(Some(Ok(byte))),
+            Ok(StepOutput::Output(output)) => {
+                self.pending = PendingOutput::of(output);
+                NextStep::Again
             }
             Err(refusal) => {
                 self.is_open = false;
-                Turn::Done(Some(Err(StreamFault::Refused(refusal))))
+                NextStep::Done(Some(Err(StreamFault::Refused(refusal))))
             }
         }
     }
 
-    // The end of the text.
-    fn end(&mut self) -> Turn
+    // Feeds the end of the text.
+    fn end(&mut self) -> NextStep
         requires open { self.old.is_open ≡ true }
-        requires none_due { due_text self.old.due ≡ [] }
+        requires none_pending { pending_text self.old.pending ≡ [] }
         ensures next { (model : Model) (start left : Known) (taken given : Text) (items : List Item)
             → Consumes start left taken → IsAtEnd left → IsReadFor model taken given
             → IsThrough model self.old.transducer taken items given
-            → (more : Text) × Turns model result self.new start left (taken ++ more) given }
-        ensures told { IsTold result }
+            → (more : Text) × StepLeaves model result self.new start left (taken ++ more) given }
+        ensures no_fault { IsNoReadFault result }
         ensures lower { LowersUnits result self.old self.new }
     {
         self.is_open = false;
         match self.transducer.finish() {
-            Ok(parts) => {
-                self.due = Due::of(parts);
-                Turn::Again
+            Ok(output) => {
+                self.pending = PendingOutput::of(output);
+                NextStep::Again
             }
-            Err(refusal) => Turn::Done(Some(Err(StreamFault::Refused(refusal)))),
+            Err(refusal) => NextStep::Done(Some(Err(StreamFault::Refused(refusal)))),
         }
     }
 }
 
-/// What was found where a byte was to be taken.
+/// What was found where a byte was to be read.
 #[derive(Clone, Copy, Debug)]
-pub(crate) enum Taken {
+pub(crate) enum ByteRead {
     /// A byte.
     Byte(u8),
     /// The end.
@@ -192,7 +191,7 @@ pub(crate) enum Taken {
 
 /// Where a text comes from, byte by byte.
 pub(crate) trait Bytes {
-    // what it tells that is left, if it tells that
+    // what is left, if that is known
     ghost left: { Self → Known };
 
     // between two states nothing failed
@@ -205,9 +204,9 @@ pub(crate) trait Bytes {
     ghost asked_once: { Self → Self → Type 0 };
 
     /// Takes one byte.
-    fn take(&mut self) -> Taken
+    fn take(&mut self) -> ByteRead
         ensures found { FindsByte (left self.old) (left self.new) result }
-        ensures counted { CountsTaken kept failed self.old self.new result }
+        ensures counted { CountsByteRead kept failed self.old self.new result }
         ensures asked { asked_once self.old self.new };
 
     ghost kept_itself: { (b : Self) → kept b b };
@@ -233,12 +232,12 @@ impl<R: Read> Bytes for Counted<R> {
     ghost failed_later = { λ a b c h g. failed_later a b c h g };
 
     /// One call of the reader.
-    fn take(&mut self) -> Taken {
+    fn take(&mut self) -> ByteRead {
         let mut byte = [0u8; 1];
         match self.read(&mut byte) {
-            Ok(0) => Taken::End,
-            Ok(_) => Taken::Byte(byte[0]),
-            Err(_) => Taken::Failed,
+            Ok(0) => ByteRead::End,
+            Ok(_) => ByteRead::Byte(byte[0]),
+            Err(_) => ByteRead::Failed,
         }
     }
 }

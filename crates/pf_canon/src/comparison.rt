@@ -2,12 +2,11 @@
 ghost use Rattle.std.specs.Prelude.{◌≡◌, ℕ, Option, Some, None, Err, IfOk, IfSome, MatchResult, ◌≢◌, [], MatchBool};
 ghost use Rattle.pf_values.specs.Counting.{HasFailed, Known, device_of, failures_of};
 ghost use Rattle.pf_values.specs.Text.{Text};
-ghost use Rattle.pf_canon.specs.Comparing.{AreTextsSame, CountsBehind, CountsDrain, CountsSides, DrainsTo, EndsBoth, Gave, GoesOnlyWith, HasPace, IsApart, IsInStep, Lowers, PacesTo, StopsSide, TextStops};
-ghost use Rattle.pf_canon.specs.Prefixes.{AreCommon, HaveCommon};
-ghost use Rattle.pf_canon.specs.Sources.{History, Leaves};
-ghost use Rattle.pf_canon.specs.Walks.{GoInStep, HasGiven};
+ghost use Rattle.pf_canon.specs.Comparison.{AreCommon, AreNextBytes, AreTextsSame, CountsBehind, CountsDrain, CountsSides, DrainsTo, EndsBoth, Gave, GoesOnlyWith, HaveCommon, IsApart, IsInStep, Lowers, NextBytesLeave, StopsSide, TextStops};
+ghost use Rattle.pf_canon.specs.CanonicalBytes.{AnswerLeaves, History};
+ghost use Rattle.pf_canon.specs.Walk.{GoInStep, WalkHasGiven};
 
-use crate::canonical_bytes::{Bytes, Source};
+use crate::canonical_bytes::{ByteTransducer, Bytes};
 use crate::faults::{Side, SideFault, StreamFault};
 use crate::transducer::Transducer;
 use crate::walk::{Walk, finish_rest};
@@ -17,7 +16,7 @@ use std::io::Read;
 
 /// Whether the formats that two readers hand out up to their ends have equal types in this data
 /// model, and print equal bytes for all arguments. A difference doesn't stop the reading. Where a
-/// text is refused or its reader fails, the first text's fault is answered if it has one, and then
+/// text is refused or its reader fails, the first text's fault is returned if it has one, and then
 /// the second text is not read further. It takes no memory.
 pub fn same_stream<R: Read, S: Read>(
     model: Model,
@@ -36,7 +35,7 @@ pub fn same_stream<R: Read, S: Read>(
 }
 
 /// Whether two formats have equal types in this data model, and print equal bytes for all
-/// arguments. Where a text is refused, the first text's refusal is answered if it has one. It takes
+/// arguments. Where a text is refused, the first text's refusal is returned if it has one. It takes
 /// no memory.
 pub fn same_text(model: Model, f: &[u8], g: &[u8]) -> Result<bool, (Side, Refusal)>
     ensures { MatchResult result (AreTextsSame model f.now g.now) (TextStops f.now g.now) }
@@ -46,11 +45,11 @@ pub fn same_text(model: Model, f: &[u8], g: &[u8]) -> Result<bool, (Side, Refusa
     }
     let common = common_len(f, g);
     if common == 0 && f.first() != g.first() {
-        if let Some(told) = tell_by_runs(model, f, g) {
-            return told;
+        if let Some(answer) = compare_verbatim(model, f, g) {
+            return answer;
         }
     }
-    same_behind(model, f, g, common)
+    same_after_common(model, f, g, common)
 }
 
 // The same of a text and itself. It is read once.
@@ -64,28 +63,33 @@ fn same_itself(model: Model, text: &[u8]) -> Result<bool, (Side, Refusal)>
     }
 }
 
-// The same of two texts that begin with unequal runs, each of which settles itself.
-fn tell_by_runs(model: Model, f: &[u8], g: &[u8]) -> Option<Result<bool, (Side, Refusal)>>
-    ensures { IfSome result (λ told.
-        MatchResult told (AreTextsSame model f.now g.now) (TextStops f.now g.now)) }
+// The same of two texts whose verbatim bytes differ already.
+fn compare_verbatim(model: Model, f: &[u8], g: &[u8]) -> Option<Result<bool, (Side, Refusal)>>
+    ensures { IfSome result (λ answer.
+        MatchResult answer (AreTextsSame model f.now g.now) (TextStops f.now g.now)) }
 {
-    let (first, first_run) = Transducer::after_run(model, f);
-    let (second, second_run) = Transducer::after_run(model, g);
-    let both = first_run.min(second_run);
+    let (first, first_len) = Transducer::after_verbatim(model, f);
+    let (second, second_len) = Transducer::after_verbatim(model, g);
+    let both = first_len.min(second_len);
     if are_equal(&f[..both], &g[..both]) {
         return None;
     }
-    if let Err(refusal) = finish_rest(first, &f[first_run..]) {
+    if let Err(refusal) = finish_rest(first, &f[first_len..]) {
         return Some(Err((Side::First, refusal)));
     }
-    if let Err(refusal) = finish_rest(second, &g[second_run..]) {
+    if let Err(refusal) = finish_rest(second, &g[second_len..]) {
         return Some(Err((Side::Second, refusal)));
     }
     Some(Ok(false))
 }
 
 // The same of two texts that begin with so many equal bytes, which are read once.
-fn same_behind(model: Model, f: &[u8], g: &[u8], common: usize) -> Result<bool, (Side, Refusal)>
+fn same_after_common(
+    model: Model,
+    f: &[u8],
+    g: &[u8],
+    common: usize,
+) -> Result<bool, (Side, Refusal)>
     requires { AreCommon f.now g.now common }
     ensures { MatchResult result (AreTextsSame model f.now g.now) (TextStops f.now g.now) }
 {
@@ -104,19 +108,19 @@ fn same_behind(model: Model, f: &[u8], g: &[u8], common: usize) -> Result<bool, 
 #[inline(always)]
 fn walks_of<'a>(model: Model, f: &'a [u8], g: &'a [u8], common: usize) -> (Walk<'a>, Walk<'a>)
     requires { AreCommon f.now g.now common }
-    ensures { (given : Text) × HasGiven model result.0 f.now given
-        × HasGiven model result.1 g.now given }
+    ensures { (given : Text) × WalkHasGiven model result.0 f.now given
+        × WalkHasGiven model result.1 g.now given }
 {
-    let (transducer, at) = Transducer::after_front(model, &f[..common]);
+    let (transducer, at) = Transducer::after_chunks(model, &f[..common]);
     let first = Walk::new(transducer, &f[at..]);
     let second = Walk::new(transducer, &g[at..]);
     (first, second)
 }
 
-// Gives the bytes that two canonical texts have in common, and tells whether both ended with them.
+// Gives the bytes that two canonical texts have in common, and returns whether both ended there.
 fn go_in_step(first: &mut Walk<'_>, second: &mut Walk<'_>) -> bool
-    ensures { (model : Model) (f g given : Text) → HasGiven model first.old f given
-        → HasGiven model second.old g given → GoInStep model first.new f second.new g result }
+    ensures { (model : Model) (f g given : Text) → WalkHasGiven model first.old f given
+        → WalkHasGiven model second.old g given → GoInStep model first.new f second.new g result }
 {
     loop {
         first.fill();
@@ -132,38 +136,38 @@ fn go_in_step(first: &mut Walk<'_>, second: &mut Walk<'_>) -> bool
     }
 }
 
-// What the next bytes of two canonical texts are to each other.
-enum Pace {
-    // One byte.
-    On,
+// How the next bytes of two canonical texts compare.
+enum NextBytes {
+    // They are one byte.
+    Equal,
     // Both texts ended.
-    Same,
-    // Two bytes, or a byte and the end.
+    BothEnded,
+    // They are two bytes, or a byte and the end.
     Differ,
 }
 
-fn pace_of(x: Option<u8>, y: Option<u8>) -> Pace
-    ensures { HasPace x y result }
+fn next_bytes_of(x: Option<u8>, y: Option<u8>) -> NextBytes
+    ensures { AreNextBytes x y result }
 {
     match x {
         None => match y {
-            None => Pace::Same,
-            Some(_) => Pace::Differ,
+            None => NextBytes::BothEnded,
+            Some(_) => NextBytes::Differ,
         },
         Some(first) => match y {
-            None => Pace::Differ,
-            Some(second) => pace_of_bytes(first, second),
+            None => NextBytes::Differ,
+            Some(second) => next_bytes_of_two(first, second),
         },
     }
 }
 
-fn pace_of_bytes(first: u8, second: u8) -> Pace
-    ensures { HasPace (Some first) (Some second) result }
+fn next_bytes_of_two(first: u8, second: u8) -> NextBytes
+    ensures { AreNextBytes (Some first) (Some second) result }
 {
     if first == second {
-        return Pace::On;
+        return NextBytes::Equal;
     }
-    Pace::Differ
+    NextBytes::Differ
 }
 
 fn same_bytes<A: Bytes, B: Bytes>(model: Model, a: &mut A, b: &mut B) -> Result<bool, SideFault>
@@ -172,34 +176,34 @@ fn same_bytes<A: Bytes, B: Bytes>(model: Model, a: &mut A, b: &mut B) -> Result<
         (StopsSide model (A.left a.old) (A.left a.new) (B.left b.old) (B.left b.new)) }
     ensures counts { CountsSides A.kept A.failed B.kept B.failed result a.old a.new b.old b.new }
 {
-    let mut first = Source::new(model);
-    let mut second = Source::new(model);
+    let mut first = ByteTransducer::new(model);
+    let mut second = ByteTransducer::new(model);
     loop {
-        match pace_both(&mut first, a, &mut second, b) {
-            Ok(Pace::On) => {}
-            Ok(Pace::Same) => return Ok(true),
-            Ok(Pace::Differ) => return drain_both(&mut first, a, &mut second, b),
+        match next_of_both(&mut first, a, &mut second, b) {
+            Ok(NextBytes::Equal) => {}
+            Ok(NextBytes::BothEnded) => return Ok(true),
+            Ok(NextBytes::Differ) => return drain_both(&mut first, a, &mut second, b),
             Err(stop) => return Err(stop),
         }
     }
 }
 
 // The next byte of both.
-fn pace_both<A: Bytes, B: Bytes>(
-    first: &mut Source,
+fn next_of_both<A: Bytes, B: Bytes>(
+    first: &mut ByteTransducer,
     a: &mut A,
-    second: &mut Source,
+    second: &mut ByteTransducer,
     b: &mut B,
-) -> Result<Pace, SideFault>
-    ensures paced { (model : Model) (f g : Known)
+) -> Result<NextBytes, SideFault>
+    ensures in_step { (model : Model) (f g : Known)
         → IsInStep model first.old (A.left a.old) second.old (B.left b.old) f g
-        → PacesTo model first.new (A.left a.new) second.new (B.left b.new) f g result }
+        → NextBytesLeave model first.new (A.left a.new) second.new (B.left b.new) f g result }
     ensures counts { CountsSides A.kept A.failed B.kept B.failed result a.old a.new b.old b.new }
     ensures lower { Lowers first.old first.new result }
 {
     match first.next(a) {
-        None => pace_second(None, first, a, second, b),
-        Some(Ok(byte)) => pace_second(Some(byte), first, a, second, b),
+        None => next_of_second(None, first, a, second, b),
+        Some(Ok(byte)) => next_of_second(Some(byte), first, a, second, b),
         Some(Err(fault)) => Err(SideFault {
             side: Side::First,
             fault,
@@ -208,34 +212,34 @@ fn pace_both<A: Bytes, B: Bytes>(
 }
 
 // The first text gave this byte, or ended.
-fn pace_second<A: Bytes, B: Bytes>(
+fn next_of_second<A: Bytes, B: Bytes>(
     x: Option<u8>,
-    first: &mut Source,
+    first: &mut ByteTransducer,
     a: &mut A,
-    second: &mut Source,
+    second: &mut ByteTransducer,
     b: &mut B,
-) -> Result<Pace, SideFault>
-    ensures paced { (model : Model) (f g : Known) (t u given : Text)
+) -> Result<NextBytes, SideFault>
+    ensures in_step { (model : Model) (f g : Known) (t u given : Text)
         → Gave model x first.old f (A.left a.old) t given
         → History model second.old g (B.left b.old) u given
-        → PacesTo model first.new (A.left a.new) second.new (B.left b.new) f g result }
+        → NextBytesLeave model first.new (A.left a.new) second.new (B.left b.new) f g result }
     ensures counts { CountsSides A.kept A.failed B.kept B.failed result a.old a.new b.old b.new }
     ensures first { IfOk result (λ _. first.new ≡ first.old) }
     ensures going { GoesOnlyWith x result }
 {
     match second.next(b) {
-        None => Ok(pace_of(x, None)),
-        Some(Ok(byte)) => Ok(pace_of(x, Some(byte))),
-        Some(Err(fault)) => Err(behind_second(first, a, fault)),
+        None => Ok(next_bytes_of(x, None)),
+        Some(Ok(byte)) => Ok(next_bytes_of(x, Some(byte))),
+        Some(Err(fault)) => Err(earlier_fault(first, a, fault)),
     }
 }
 
-// The second text stopped. The first text's fault comes before.
-fn behind_second<A: Bytes>(first: &mut Source, a: &mut A, fault: StreamFault) -> SideFault
-    ensures stopped { (model : Model) (x : Option ℕ) (second : Source) (f g b : Known)
+// The fault of a comparison whose second text has this fault: that of the first, if it has one.
+fn earlier_fault<A: Bytes>(first: &mut ByteTransducer, a: &mut A, fault: StreamFault) -> SideFault
+    ensures stopped { (model : Model) (x : Option ℕ) (second : ByteTransducer) (f g b : Known)
         (t u given : Text)
         → Gave model x first.old f (A.left a.old) t given
-        → Leaves model (Some (Err fault)) second g b u given
+        → AnswerLeaves model (Some (Err fault)) second g b u given
         → StopsSide model f (A.left a.new) g b result }
     ensures counts { CountsBehind A.kept A.failed fault result.side result.fault a.old a.new }
 {
@@ -253,9 +257,9 @@ fn behind_second<A: Bytes>(first: &mut Source, a: &mut A, fault: StreamFault) ->
 
 // The texts differ. Each may still have a fault.
 fn drain_both<A: Bytes, B: Bytes>(
-    first: &mut Source,
+    first: &mut ByteTransducer,
     a: &mut A,
-    second: &mut Source,
+    second: &mut ByteTransducer,
     b: &mut B,
 ) -> Result<bool, SideFault>
     ensures compared { (model : Model) (f g : Known)
@@ -279,15 +283,15 @@ fn drain_both<A: Bytes, B: Bytes>(
     }
 }
 
-// Takes the rest, and gives none of it.
-fn drain<B: Bytes>(source: &mut Source, bytes: &mut B) -> Result<(), StreamFault>
+// Reads the rest, and gives none of it.
+fn drain<B: Bytes>(transducer: &mut ByteTransducer, bytes: &mut B) -> Result<(), StreamFault>
     ensures drained { (model : Model) (x : Option ℕ) (start : Known) (taken given : Text)
-        → Gave model x source.old start (B.left bytes.old) taken given
+        → Gave model x transducer.old start (B.left bytes.old) taken given
         → DrainsTo model x start (B.left bytes.new) given result }
     ensures counts { CountsDrain B.kept B.failed result bytes.old bytes.new }
 {
     loop {
-        match source.next(bytes) {
+        match transducer.next(bytes) {
             None => return Ok(()),
             Some(Ok(_)) => {}
             Some(Err(fault)) => return Err(fault),

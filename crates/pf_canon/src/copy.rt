@@ -4,16 +4,15 @@ ghost use Rattle.std.specs.Io.KnownBytes.{Appends, Consumes, IsAtEnd};
 ghost use Rattle.pf_values.specs.Counting.{Known, device_of};
 ghost use Rattle.pf_values.specs.Text.{Text};
 ghost use Rattle.pf_canon.specs.declared.faults.CopyFault.TheVariants.{Read};
-ghost use Rattle.pf_canon.specs.Through.{RefusesIn, IsFrontWithin, front_text};
-ghost use Rattle.pf_canon.specs.Copying.{CopiesAll, CopyStops, IsWritten, ReadCounts, StopsIn, WriteCounts};
-ghost use Rattle.pf_canon.specs.Parts.{parts_text};
-ghost use Rattle.pf_canon.specs.Putting.{HasPut, Puts};
+ghost use Rattle.pf_canon.specs.Transducer.{IsChunkWithin, RefusesChunk, chunk_output_text};
+ghost use Rattle.pf_canon.specs.Copy.{CopiesAll, CopyStops, HasPut, IsWritten, Puts, ReadCounts, StopsIn, WriteCounts};
+ghost use Rattle.pf_canon.specs.Output.{output_text};
 ghost use Rattle.pf_canon.specs.SinkLaws.{writes};
 
-use crate::chunk::Front;
+use crate::chunk::Chunk;
 use crate::faults::CopyFault;
 use crate::limits::COPY_BLOCK;
-use crate::output::Parts;
+use crate::output::Output;
 use crate::sink::Sink;
 use crate::transducer::Transducer;
 use pf_text::Refusal;
@@ -22,7 +21,7 @@ use std::io::{Read, Write};
 
 /// How many bytes of a text were copied, and how many bytes have gone out by then.
 #[derive(Clone, Copy, Debug)]
-pub(crate) struct Moved {
+pub(crate) struct CopyProgress {
     len: usize,
     written: u128,
 }
@@ -49,7 +48,7 @@ pub fn canonical_stream<R: Read, W: Write>(
     }
 }
 
-/// The same, and it tells how many bytes it has written.
+/// The same, and it returns how many bytes it has written.
 pub fn copy_canonical<R: Read, W: Write>(
     model: Model,
     r: &mut Counted<R>,
@@ -78,7 +77,7 @@ pub fn copy_canonical<R: Read, W: Write>(
     }
 }
 
-// A block.
+// Copies a block.
 #[inline(always)]
 fn copy_block<W: Write>(
     transducer: &mut Transducer,
@@ -97,68 +96,76 @@ fn copy_block<W: Write>(
     let mut at = 0;
     let mut written = written;
     while at < text.len() {
-        let moved = match copy_front(transducer, &text[at..], w, written) {
-            Ok(moved) => moved,
+        let progress = match copy_chunk(transducer, &text[at..], w, written) {
+            Ok(progress) => progress,
             Err(fault) => return Err(fault),
         };
-        at += moved.len;
-        written = moved.written;
+        at += progress.len;
+        written = progress.written;
     }
     Ok(written)
 }
 
-// The front of a text.
+// Copies the first chunk of a text.
 #[inline(always)]
-fn copy_front<W: Write>(
+fn copy_chunk<W: Write>(
     transducer: &mut Transducer,
     text: &[u8],
     w: &mut Counted<W>,
     written: u128,
-) -> Result<Moved, CopyFault>
+) -> Result<CopyProgress, CopyFault>
     requires { 0 < length text.now }
     ensures copied { (model : Model) (front : Text) (start : Known)
         → IsWritten model transducer.old front start (W.contents (device_of w.old)) written
         → MatchResult result
-        (λ moved. IsWritten model transducer.new (front ++ take moved.len text.now) start
-        (W.contents (device_of w.new)) moved.written)
+        (λ progress. IsWritten model transducer.new (front ++ take progress.len text.now) start
+        (W.contents (device_of w.new)) progress.written)
         (StopsIn model front text.now start (W.contents (device_of w.new))) }
-    ensures some { IfOk result (λ moved. 0 < moved.len) }
-    ensures within { IfOk result (λ moved. moved.len ≤ length text.now) }
+    ensures some { IfOk result (λ progress. 0 < progress.len) }
+    ensures within { IfOk result (λ progress. progress.len ≤ length text.now) }
     ensures counts { WriteCounts w.old w.new result }
 {
-    let front = match transducer.feed_front(text) {
-        Ok(front) => front,
-        Err(stop) => return Err(copy_stop(&text[..stop.run], w, written, stop.refusal)),
+    let chunk = match transducer.feed_chunk(text) {
+        Ok(chunk) => chunk,
+        Err(refused) => {
+            let verbatim = &text[..refused.verbatim_len];
+            return Err(copy_before_refusal(verbatim, w, written, refused.refusal));
+        }
     };
-    match write_front(&front, text, w, written) {
-        Ok(written) => Ok(Moved {
-            len: front.len,
+    match write_chunk(&chunk, text, w, written) {
+        Ok(written) => Ok(CopyProgress {
+            len: chunk.len,
             written,
         }),
         Err(written) => {
             // What was read counts as taken, and so does what it settles.
-            let _ = transducer.passed(&text[front.len..]);
+            let _ = transducer.passed(&text[chunk.len..]);
             Err(CopyFault::Write(written))
         }
     }
 }
 
-// Bytes that settle themselves, before a byte that is refused.
-fn copy_stop<W: Write>(run: &[u8], w: &mut Counted<W>, written: u128, refusal: Refusal) -> CopyFault
+// Copies the verbatim bytes before a byte that is refused.
+fn copy_before_refusal<W: Write>(
+    verbatim: &[u8],
+    w: &mut Counted<W>,
+    written: u128,
+    refusal: Refusal,
+) -> CopyFault
     ensures copied { (model : Model) (front out text : Text) (start : Known) (len : ℕ)
-        → run.now ≡ take len text
+        → verbatim.now ≡ take len text
         → Appends start (W.contents (device_of w.old)) out → written ≡ length out
-        → RefusesIn model front out text (record { run = len; refusal = refusal })
+        → RefusesChunk model front out text (record { verbatim_len = len; refusal = refusal })
         → StopsIn model front text start (W.contents (device_of w.new)) result }
     ensures counts { WriteCounts {E = Unit {0}} w.old w.new (Err result) }
 {
-    match put(w, run, written) {
+    match put(w, verbatim, written) {
         Ok(_) => CopyFault::Refused(refusal),
         Err(written) => CopyFault::Write(written),
     }
 }
 
-// The end.
+// Copies what the end settles.
 fn copy_end<W: Write>(
     transducer: &Transducer,
     w: &mut Counted<W>,
@@ -174,7 +181,7 @@ fn copy_end<W: Write>(
     ensures reads { result ≢ Err Read }
 {
     match transducer.finish() {
-        Ok(parts) => match write_parts(&parts, w, written) {
+        Ok(output) => match write_output(&output, w, written) {
             Ok(written) => Ok(written),
             Err(written) => Err(CopyFault::Write(written)),
         },
@@ -224,42 +231,42 @@ impl<W: Write> Sink for Written<'_, W> {
     }
 }
 
-/// Writes what the front of a text settles, and counts on as `put` does.
-pub(crate) fn write_front<W: Write>(
-    front: &Front,
+/// Writes what a chunk at the front of a text settles, and counts on as `put` does.
+pub(crate) fn write_chunk<W: Write>(
+    chunk: &Chunk,
     text: &[u8],
     w: &mut Counted<W>,
     count: u128,
 ) -> Result<u128, u128>
-    requires { IsFrontWithin front.now text.now }
-    ensures { Puts W.contents w.old w.new (front_text front.now text.now) count result }
+    requires { IsChunkWithin chunk.now text.now }
+    ensures { Puts W.contents w.old w.new (chunk_output_text chunk.now text.now) count result }
 {
     let mut out = Written {
         writer: w,
         count,
         has_failed: false,
     };
-    front.put(text, &mut out);
+    chunk.put(text, &mut out);
     if out.has_failed {
         return Err(out.count);
     }
     Ok(out.count)
 }
 
-/// The same of what an item settles, or the end.
-pub(crate) fn write_parts<W: Write>(
-    parts: &Parts,
+/// The same of an output.
+pub(crate) fn write_output<W: Write>(
+    output: &Output,
     w: &mut Counted<W>,
     count: u128,
 ) -> Result<u128, u128>
-    ensures { Puts W.contents w.old w.new (parts_text parts.now) count result }
+    ensures { Puts W.contents w.old w.new (output_text output.now) count result }
 {
     let mut out = Written {
         writer: w,
         count,
         has_failed: false,
     };
-    parts.put(&mut out);
+    output.put(&mut out);
     if out.has_failed {
         return Err(out.count);
     }

@@ -1,29 +1,32 @@
-//! What one item settles, to be put somewhere at once, or to be given byte by byte.
+//! What one item settles, to be put into a sink at once, or to be given byte by byte.
 ghost use Rattle.std.specs.Prelude.{◌≡◌, ◌*◌, ◌<◌, ℕ, drop, flat_map, length, replicate, ◌+◌, [], ◌^◌};
 ghost use Rattle.pf_values.specs.Canonical.{item_spelling};
 ghost use Rattle.pf_text.specs.Plain.{silents};
 ghost use Rattle.pf_canon.specs.declared.limits.TheConstants.{PADDING};
-ghost use Rattle.pf_canon.specs.Parts.{IsFrontOf, core_text, parts_text, silent_bytes};
-ghost use Rattle.pf_canon.specs.Due.{Gives, due_text, silents_text, spelling_text};
+ghost use Rattle.pf_canon.specs.Output.{IsFrontOf, text_after_zeros, output_text, silent_bytes, Pops, pending_text, pending_silents_text, pending_spelling_text};
 
 use crate::limits::PADDING;
 use crate::sink::{Sink, put_repeated, put_silents};
 use pf_text::Spelling;
 
-/// What a byte settles.
+static SPACES: [u8; PADDING] = [b' '; PADDING];
+
+static ZEROS: [u8; PADDING] = [b'0'; PADDING];
+
+/// What a step of the scanner settles.
 #[derive(Drop)]
-pub(crate) enum Made {
+pub(crate) enum StepOutput {
     /// Nothing.
     Nothing,
-    /// Itself: it stands between items.
+    /// The byte itself, a literal one.
     Literal,
     /// These bytes.
-    Parts(Parts),
+    Output(Output),
 }
 
 /// Spaces, zeros, silent directives `%.0s`, a spelling or nothing, and spaces.
 #[derive(Drop)]
-pub(crate) struct Parts {
+pub(crate) struct Output {
     pub(crate) spaces: u16,
     pub(crate) zeros: u16,
     pub(crate) silents: u64,
@@ -31,11 +34,11 @@ pub(crate) struct Parts {
     pub(crate) trail: u16,
 }
 
-impl Parts {
-    /// Puts them into a sink.
+impl Output {
+    /// Puts these bytes into a sink.
     #[inline(always)]
     pub(crate) fn put<S: Sink>(&self, sink: &mut S)
-        ensures { S.given sink.old sink.new (parts_text self.now) }
+        ensures { S.given sink.old sink.new (output_text self.now) }
     {
         put_repeated(sink, &SPACES, self.spaces);
         put_repeated(sink, &ZEROS, self.zeros);
@@ -43,16 +46,10 @@ impl Parts {
         sink.put(&self.spelling);
         put_repeated(sink, &SPACES, self.trail);
     }
-}
 
-static SPACES: [u8; PADDING] = [b' '; PADDING];
-
-static ZEROS: [u8; PADDING] = [b'0'; PADDING];
-
-impl Parts {
     /// The first bytes from a place on, some if there are any.
     pub(crate) fn front(&self, at: u128) -> &[u8]
-        ensures { IsFrontOf (drop at (parts_text self.now)) result.now }
+        ensures { IsFrontOf (drop at (output_text self.now)) result.now }
     {
         let spaces = u128::from(self.spaces);
         if at < spaces {
@@ -63,12 +60,12 @@ impl Parts {
         if behind < zeros {
             return repeated(&ZEROS, zeros - behind);
         }
-        self.core_front(behind - zeros)
+        self.front_after_zeros(behind - zeros)
     }
 
-    // The same of what stands after the zeros.
-    fn core_front(&self, at: u128) -> &[u8]
-        ensures { IsFrontOf (drop at (core_text self.now)) result.now }
+    // The same of what comes after the zeros.
+    fn front_after_zeros(&self, at: u128) -> &[u8]
+        ensures { IsFrontOf (drop at (text_after_zeros self.now)) result.now }
     {
         let silents = 4 * u128::from(self.silents);
         if at < silents {
@@ -85,33 +82,10 @@ impl Parts {
             u128::from(self.trail).saturating_sub(behind - spelled),
         )
     }
-}
 
-// What is left of the first of some bytes that are all the same, a block of them at most.
-fn repeated(block: &[u8], count: u128) -> &[u8]
-    requires { length block.now ≡ PADDING }
-    ensures { (byte : ℕ) → block.now ≡ replicate PADDING byte
-        → IsFrontOf (replicate count byte) result.now }
-{
-    if count < PADDING as u128 {
-        return &block[..count as usize];
-    }
-    block
-}
-
-// The same of silent directives, of which this is one.
-fn silent_front(silent: &[u8], at: u128) -> &[u8]
-    requires { silent.now ≡ silent_bytes }
-    ensures { (count : ℕ) → at < 4 * count
-        → IsFrontOf (drop at (flat_map item_spelling (silents count))) result.now }
-{
-    &silent[(at % 4) as usize..]
-}
-
-impl Parts {
-    /// How many bytes they are.
+    /// How many bytes these are.
     pub(crate) fn len(&self) -> u128
-        ensures total { result ≡ length (parts_text self.now) }
+        ensures total { result ≡ length (output_text self.now) }
         ensures few { result < 2 ^ 100 }
     {
         whole_len(
@@ -124,6 +98,27 @@ impl Parts {
     }
 }
 
+// The first of so many bytes that are all the same, a block of them at most.
+fn repeated(block: &[u8], count: u128) -> &[u8]
+    requires { length block.now ≡ PADDING }
+    ensures { (byte : ℕ) → block.now ≡ replicate PADDING byte
+        → IsFrontOf (replicate count byte) result.now }
+{
+    if count < PADDING as u128 {
+        return &block[..count as usize];
+    }
+    block
+}
+
+// The first bytes, from a place on, of some silent directives; this is one of them.
+fn silent_front(silent: &[u8], at: u128) -> &[u8]
+    requires { silent.now ≡ silent_bytes }
+    ensures { (count : ℕ) → at < 4 * count
+        → IsFrontOf (drop at (flat_map item_spelling (silents count))) result.now }
+{
+    &silent[(at % 4) as usize..]
+}
+
 // How many bytes some padding, silent directives of four bytes, and a spelling of so many bytes
 // are.
 fn whole_len(spaces: u16, zeros: u16, silents: u64, spelling: usize, trail: u16) -> u128
@@ -134,17 +129,17 @@ fn whole_len(spaces: u16, zeros: u16, silents: u64, spelling: usize, trail: u16)
     padding + u128::from(silents) * 4 + spelling as u128
 }
 
-/// Silent directives `%.0s`, of which the first may have been given in part.
+/// Silent directives `%.0s` that are still to be given, the first perhaps only its last bytes.
 #[derive(Drop)]
-pub(crate) struct Silents {
+pub(crate) struct PendingSilents {
     count: u64,
     at: u8,
 }
 
-impl Silents {
-    /// The next byte.
-    fn give(&mut self) -> Option<u8>
-        ensures { Gives (silents_text self.old) result (silents_text self.new) }
+impl PendingSilents {
+    /// Takes off the next byte, and returns it.
+    fn pop(&mut self) -> Option<u8>
+        ensures { Pops (pending_silents_text self.old) result (pending_silents_text self.new) }
     {
         if self.count == 0 {
             return None;
@@ -171,17 +166,17 @@ impl Silents {
     }
 }
 
-/// A spelling, of which the first bytes were given.
+/// A spelling, and how many of its bytes were given.
 #[derive(Drop)]
-pub(crate) struct Spelled {
+pub(crate) struct PendingSpelling {
     bytes: Spelling,
     given: usize,
 }
 
-impl Spelled {
-    /// The next byte.
-    fn give(&mut self) -> Option<u8>
-        ensures { Gives (spelling_text self.old) result (spelling_text self.new) }
+impl PendingSpelling {
+    /// Takes off the next byte, and returns it.
+    fn pop(&mut self) -> Option<u8>
+        ensures { Pops (pending_spelling_text self.old) result (pending_spelling_text self.new) }
     {
         let byte = *self.bytes.as_slice().get(self.given)?;
         self.given += 1;
@@ -189,26 +184,26 @@ impl Spelled {
     }
 }
 
-/// Parts of which the first bytes were given.
+/// An output of which the first bytes were given.
 #[derive(Drop)]
-pub(crate) struct Due {
+pub(crate) struct PendingOutput {
     spaces: u16,
     zeros: u16,
-    silents: Silents,
-    spelled: Spelled,
+    silents: PendingSilents,
+    spelling: PendingSpelling,
     trail: u16,
 }
 
-impl Due {
-    /// Nothing.
-    pub(crate) fn new() -> Due
-        ensures { due_text result ≡ [] }
+impl PendingOutput {
+    /// Nothing is pending.
+    pub(crate) fn new() -> PendingOutput
+        ensures { pending_text result ≡ [] }
     {
-        Due {
+        PendingOutput {
             spaces: 0,
             zeros: 0,
-            silents: Silents { count: 0, at: 0 },
-            spelled: Spelled {
+            silents: PendingSilents { count: 0, at: 0 },
+            spelling: PendingSpelling {
                 bytes: Spelling::new(),
                 given: 0,
             },
@@ -216,25 +211,25 @@ impl Due {
         }
     }
 
-    /// All of them.
-    pub(crate) fn of(parts: Parts) -> Due
-        ensures { due_text result ≡ parts_text parts }
+    /// All of an output is pending.
+    pub(crate) fn of(output: Output) -> PendingOutput
+        ensures { pending_text result ≡ output_text output }
     {
-        let Parts {
+        let Output {
             spaces,
             zeros,
             silents,
             spelling,
             trail,
-        } = parts;
-        Due {
+        } = output;
+        PendingOutput {
             spaces,
             zeros,
-            silents: Silents {
+            silents: PendingSilents {
                 count: silents,
                 at: 0,
             },
-            spelled: Spelled {
+            spelling: PendingSpelling {
                 bytes: spelling,
                 given: 0,
             },
@@ -242,29 +237,29 @@ impl Due {
         }
     }
 
-    /// The next byte.
-    pub(crate) fn give(&mut self) -> Option<u8>
-        ensures { Gives (due_text self.old) result (due_text self.new) }
+    /// Takes off the next byte, and returns it.
+    pub(crate) fn pop(&mut self) -> Option<u8>
+        ensures { Pops (pending_text self.old) result (pending_text self.new) }
     {
-        if let Some(byte) = give_one(&mut self.spaces, b' ') {
+        if let Some(byte) = pop_one(&mut self.spaces, b' ') {
             return Some(byte);
         }
-        if let Some(byte) = give_one(&mut self.zeros, b'0') {
+        if let Some(byte) = pop_one(&mut self.zeros, b'0') {
             return Some(byte);
         }
-        if let Some(byte) = self.silents.give() {
+        if let Some(byte) = self.silents.pop() {
             return Some(byte);
         }
-        if let Some(byte) = self.spelled.give() {
+        if let Some(byte) = self.spelling.pop() {
             return Some(byte);
         }
-        give_one(&mut self.trail, b' ')
+        pop_one(&mut self.trail, b' ')
     }
 }
 
-// One of so many bytes.
-fn give_one(count: &mut u16, byte: u8) -> Option<u8>
-    ensures { Gives (replicate count.old byte) result (replicate count.new byte) }
+// One of so many equal bytes, if there is one.
+fn pop_one(count: &mut u16, byte: u8) -> Option<u8>
+    ensures { Pops (replicate count.old byte) result (replicate count.new byte) }
 {
     if *count == 0 {
         return None;

@@ -4,16 +4,15 @@ ghost use Rattle.pf_values.specs.Canonical.{item_spelling};
 ghost use Rattle.pf_values.specs.Text.{Text};
 ghost use Rattle.pf_text.specs.Plain.{silents};
 ghost use Rattle.pf_canon.specs.declared.limits.TheConstants.{PADDING};
-ghost use Rattle.pf_canon.specs.Sinks.{IsSink, IsBuilt};
-ghost use Rattle.pf_canon.specs.SinkLaws.{builds, cuts};
-ghost use Rattle.pf_canon.specs.Cutting.{IsCut, IsCutOff, IsLeft};
+ghost use Rattle.pf_canon.specs.Sink.{IsSink, IsBuilt, IsStripped, IsFrontStripped, IsLeft};
+ghost use Rattle.pf_canon.specs.SinkLaws.{builds, strips};
 
 use crate::limits::BLOCK;
 use arrayvec::ArrayVec;
 use std::alloc::{AllocError, Allocator};
 
-/// What is given bytes, one text after another. Where it stops to take them, it remembers that, and
-/// lets all that follows pass.
+/// What is given bytes, one text after another. Where it stops taking them, it remembers that, and
+/// ignores all that follows.
 pub(crate) trait Sink {
     // between two states it was given these bytes
     ghost given: { Self → Self → Text → Type 0 };
@@ -29,7 +28,7 @@ pub(crate) trait Sink {
     ghost laws: { IsSink given };
 }
 
-/// Puts one byte over and over, of which this is a block.
+/// Puts one byte so many times; this is a block of it.
 #[inline(always)]
 pub(crate) fn put_repeated<S: Sink>(sink: &mut S, block: &[u8], times: u16)
     requires { length block.now ≡ PADDING }
@@ -48,7 +47,7 @@ pub(crate) fn put_repeated<S: Sink>(sink: &mut S, block: &[u8], times: u16)
     sink.put(&block[..usize::from(times % BLOCK)]);
 }
 
-/// Puts silent directives.
+/// Puts so many silent directives.
 #[inline(always)]
 pub(crate) fn put_silents<S: Sink>(sink: &mut S, times: u64)
     ensures { S.given sink.old sink.new (flat_map item_spelling (silents times)) }
@@ -65,7 +64,7 @@ pub(crate) fn put_silents<S: Sink>(sink: &mut S, times: u64)
 }
 
 /// Bytes in memory, to which others are appended while there is room for them.
-pub(crate) trait Room {
+pub(crate) trait TextBuffer {
     /// The bytes.
     ghost bytes_of: { Self → Text };
 
@@ -75,7 +74,7 @@ pub(crate) trait Room {
 }
 
 /// There is room until a growth is refused.
-impl<A: Allocator> Room for Vec<u8, A> {
+impl<A: Allocator> TextBuffer for Vec<u8, A> {
     ghost bytes_of = { λ v. v.items };
 
     // No bytes need no growth.
@@ -88,7 +87,7 @@ impl<A: Allocator> Room for Vec<u8, A> {
 }
 
 /// There is room for so many bytes, and none is ever taken from an allocator.
-impl<const N: usize> Room for ArrayVec<u8, N> {
+impl<const N: usize> TextBuffer for ArrayVec<u8, N> {
     ghost bytes_of = { λ v. v.items };
 
     fn append(&mut self, bytes: &[u8]) -> Result<(), AllocError> {
@@ -99,21 +98,21 @@ impl<const N: usize> Room for ArrayVec<u8, N> {
     }
 }
 
-/// A text that is put together, and whether there was too little room for a part of it.
+/// A text that is being put together, and whether there was too little room for a part of it.
 #[derive(Drop)]
-pub(crate) struct Building<R> {
-    pub(crate) room: R,
+pub(crate) struct TextBuilder<R> {
+    pub(crate) buffer: R,
     pub(crate) is_full: bool,
 }
 
-impl<R: Room> Sink for Building<R> {
+impl<R: TextBuffer> Sink for TextBuilder<R> {
     ghost given = { IsBuilt R.bytes_of };
 
     ghost laws = { builds R.bytes_of };
 
     #[inline(always)]
     fn put(&mut self, bytes: &[u8]) {
-        match self.room.append(bytes) {
+        match self.buffer.append(bytes) {
             Ok(()) => {}
             Err(_) => self.is_full = true,
         }
@@ -128,12 +127,12 @@ impl<R: Room> Sink for Building<R> {
 
 /// How many bytes were given.
 #[derive(Clone, Copy, Debug)]
-pub(crate) struct Length {
+pub(crate) struct ByteCount {
     len: u128,
 }
 
-impl Sink for Length {
-    ghost use Rattle.pf_canon.specs.Sinks.{IsCounted};
+impl Sink for ByteCount {
+    ghost use Rattle.pf_canon.specs.Sink.{IsCounted};
     ghost use Rattle.pf_canon.specs.SinkLaws.{counts};
 
     ghost given = { IsCounted };
@@ -151,7 +150,7 @@ impl Sink for Length {
     }
 }
 
-/// What is left of a text that is expected, as long as nothing else came.
+/// What is left of a text that is expected, as long as nothing else was given.
 #[derive(Clone, Copy, Debug)]
 pub(crate) struct Expected<'a> {
     pub(crate) left: Option<&'a [u8]>,
@@ -168,13 +167,13 @@ impl<'a> Expected<'a> {
 }
 
 impl Sink for Expected<'_> {
-    ghost given = { IsCut };
+    ghost given = { IsStripped };
 
-    ghost laws = { cuts };
+    ghost laws = { strips };
 
     #[inline(always)]
     fn put(&mut self, bytes: &[u8]) {
-        self.left = cut(bytes, self.left);
+        self.left = strip_front(bytes, self.left);
     }
 
     #[inline(always)]
@@ -183,10 +182,10 @@ impl Sink for Expected<'_> {
     }
 }
 
-// What is left after some bytes.
+// What is left after these bytes, if it begins with them.
 #[inline(always)]
-fn cut<'a>(front: &[u8], left: Option<&'a [u8]>) -> Option<&'a [u8]>
-    ensures { IsCutOff left.entry front.now result }
+fn strip_front<'a>(front: &[u8], left: Option<&'a [u8]>) -> Option<&'a [u8]>
+    ensures { IsFrontStripped left.entry front.now result }
 {
     match left {
         Some(left) => left.strip_prefix(front),

@@ -1,4 +1,4 @@
-//! A transducer of formats: it is fed a byte or the end, and answers what that settles.
+//! A transducer of formats: it is fed a byte, a chunk or the end, and returns what that settles.
 ghost use Rattle.std.specs.Prelude.{◌≡◌, ◌+◌, ◌*◌, ◌<◌, ◌≤◌, ℕ, List, [], ◌∷◌, ◌++◌, length, take, IfOk, MatchResult, OnOk};
 ghost use Rattle.pf_values.specs.declared.limits.TheConstants.{MAX_TEXT_LEN};
 ghost use Rattle.pf_values.specs.Items.{Item};
@@ -7,11 +7,11 @@ ghost use Rattle.pf_text.specs.declared.scanner.Step.TheVariants as steps;
 ghost use Rattle.pf_text.specs.History.{offset_of};
 ghost use Rattle.pf_canon.specs.Answers.{most_len};
 ghost use Rattle.pf_canon.specs.declared.limits.TheConstants.{MAX_DIRECTIVE_LEN};
-ghost use Rattle.pf_canon.specs.Parts.{parts_text};
-ghost use Rattle.pf_canon.specs.Through.{Ends, GrowsBy, HasTaken, IsFed, IsFrontWithin, IsThrough, IsUpTo, Keeps, Passes, Settles, Takes, TakesDirective, TakesFront, front_text, made_text, model_of, more_of, scanner_of, waiting_of};
+ghost use Rattle.pf_canon.specs.Output.{output_text};
+ghost use Rattle.pf_canon.specs.Transducer.{Finishes, GrowsByChunk, HasScannedDirective, HasScannedByte, IsChunkWithin, IsThrough, IsUpTo, TakesVerbatim, TakesText, Settles, TakesByte, SettlesDirective, TakesChunk, chunk_output_text, byte_output_text, data_model_of, more_of, scanner_of, waiting_silents_of};
 
-use crate::chunk::{Front, Stop};
-use crate::output::{Made, Parts};
+use crate::chunk::{Chunk, ChunkRefusal};
+use crate::output::{Output, StepOutput};
 use pf_reduce::{Core, Reduced, reduce};
 use pf_text::{Refusal, Scanner, Spelling, Step, spell};
 use pf_values::{Directive, Model};
@@ -37,33 +37,33 @@ impl Transducer {
         }
     }
 
-    /// A transducer that took the run at the front of a text, which settles itself, and how long
-    /// that run is.
+    /// A transducer that took the first bytes of a text that are their own canonical text, and how
+    /// many these are.
     #[inline(always)]
-    pub(crate) fn after_run(model: Model, text: &[u8]) -> (Transducer, usize)
-        ensures model { model_of result.0 ≡ model }
+    pub(crate) fn after_verbatim(model: Model, text: &[u8]) -> (Transducer, usize)
+        ensures model { data_model_of result.0 ≡ model }
         ensures kept { IsUpTo result.0 text.now result.1 (take result.1 text.now) }
-        ensures none { waiting_of result.0 ≡ 0 }
+        ensures none { waiting_silents_of result.0 ≡ 0 }
     {
         let mut transducer = Transducer::new(model);
-        let run = transducer.pass_run(text);
-        (transducer, run)
+        let verbatim_len = transducer.pass_verbatim(text);
+        (transducer, verbatim_len)
     }
 
-    /// A transducer that took the front of a text, up to its end or to what is refused, and how
-    /// long that front is.
-    pub(crate) fn after_front(model: Model, text: &[u8]) -> (Transducer, usize)
-        ensures model { model_of result.0 ≡ model }
+    /// A transducer that took a text chunk by chunk, up to its end or to what is refused, and how
+    /// many bytes it took.
+    pub(crate) fn after_chunks(model: Model, text: &[u8]) -> (Transducer, usize)
+        ensures model { data_model_of result.0 ≡ model }
         ensures kept { (out : Text) × IsUpTo result.0 text.now result.1 out }
     {
         let mut transducer = Transducer::new(model);
         let mut at = 0;
         while at < text.len() {
             let mut next = transducer;
-            match next.feed_front(&text[at..]) {
-                Ok(front) => {
+            match next.feed_chunk(&text[at..]) {
+                Ok(chunk) => {
                     transducer = next;
-                    at += front.len;
+                    at += chunk.len;
                 }
                 Err(_) => return (transducer, at),
             }
@@ -71,12 +71,14 @@ impl Transducer {
         (transducer, at)
     }
 
-    /// Takes one more byte, and tells what it settles.
-    pub(crate) fn feed(&mut self, byte: u8) -> Result<Made, Refusal>
+    /// Takes one more byte, and returns what it settles.
+    pub(crate) fn feed(&mut self, byte: u8) -> Result<StepOutput, Refusal>
         ensures fed { (model : Model) (t out : Text) (items : List Item)
-            → IsThrough model self.old t items out → Takes model t items out byte result self.new }
-        ensures few { IfOk result (λ made. length (made_text made byte) + 4 * waiting_of self.new
-            ≤ 4 * waiting_of self.old + MAX_DIRECTIVE_LEN) }
+            → IsThrough model self.old t items out
+            → TakesByte model t items out byte result self.new }
+        ensures few { IfOk result (λ output.
+            length (byte_output_text output byte) + 4 * waiting_silents_of self.new
+            ≤ 4 * waiting_silents_of self.old + MAX_DIRECTIVE_LEN) }
         ensures offset { OnOk result (offset_of (scanner_of self.new)
             ≡ offset_of (scanner_of self.old) + 1) }
         ensures below { OnOk result (offset_of (scanner_of self.old) < MAX_TEXT_LEN) }
@@ -87,66 +89,77 @@ impl Transducer {
         }
     }
 
-    /// Takes bytes of a text as long as they settle themselves, then silent directives, and then
-    /// what follows up to the end of an item that settles something else, or up to the end of the
-    /// text.
+    /// Takes the first chunk of a text: bytes that are their own canonical text, silent directives,
+    /// and then what follows up to the end of one other item, or up to the end of the text.
     #[inline(always)]
-    pub(crate) fn feed_front(&mut self, text: &[u8]) -> Result<Front, Stop>
+    pub(crate) fn feed_chunk(&mut self, text: &[u8]) -> Result<Chunk, ChunkRefusal>
         requires { 0 < length text.now }
         ensures fed { (model : Model) (t out : Text) (items : List Item)
             → IsThrough model self.old t items out
-            → TakesFront model t out text.now result self.new }
-        ensures within { MatchResult result (λ front. IsFrontWithin front text.now)
-            (λ stop. stop.run ≤ length text.now) }
-        ensures few { IfOk result (λ front.
-            length (front_text front text.now) + 4 * waiting_of self.new
-            ≤ 4 * waiting_of self.old + MAX_DIRECTIVE_LEN * front.len) }
+            → TakesChunk model t out text.now result self.new }
+        ensures within { MatchResult result (λ chunk. IsChunkWithin chunk text.now)
+            (λ refused. refused.verbatim_len ≤ length text.now) }
+        ensures few { IfOk result (λ chunk.
+            length (chunk_output_text chunk text.now) + 4 * waiting_silents_of self.new
+            ≤ 4 * waiting_silents_of self.old + MAX_DIRECTIVE_LEN * chunk.len) }
     {
-        let run = self.pass_run(text);
-        self.feed_behind(text, run)
+        let verbatim_len = self.pass_verbatim(text);
+        self.finish_chunk(text, verbatim_len)
     }
 
-    /// The same of a text of which the run was taken.
+    /// The same of a text whose verbatim bytes were taken.
     #[inline(always)]
-    pub(crate) fn feed_behind(&mut self, text: &[u8], run: usize) -> Result<Front, Stop>
+    pub(crate) fn finish_chunk(
+        &mut self,
+        text: &[u8],
+        verbatim_len: usize,
+    ) -> Result<Chunk, ChunkRefusal>
         requires some { 0 < length text.now }
-        requires run { run ≤ length text.now }
+        requires verbatim_len { verbatim_len ≤ length text.now }
         ensures fed { (model : Model) (t out : Text) (items : List Item)
-            → IsThrough model self.old (t ++ take run text.now) items (out ++ take run text.now)
-            → TakesFront model t out text.now result self.new }
-        ensures within { MatchResult result (λ front. IsFrontWithin front text.now)
-            (λ stop. stop.run ≤ length text.now) }
-        ensures few { IfOk result (λ front.
-            length (front_text front text.now) + 4 * waiting_of self.new
-            ≤ 4 * waiting_of self.old + MAX_DIRECTIVE_LEN * front.len) }
+            → IsThrough model self.old (t ++ take verbatim_len text.now) items
+            (out ++ take verbatim_len text.now)
+            → TakesChunk model t out text.now result self.new }
+        ensures within { MatchResult result (λ chunk. IsChunkWithin chunk text.now)
+            (λ refused. refused.verbatim_len ≤ length text.now) }
+        ensures few { IfOk result (λ chunk.
+            length (chunk_output_text chunk text.now) + 4 * waiting_silents_of self.new
+            ≤ 4 * waiting_silents_of self.old + MAX_DIRECTIVE_LEN * chunk.len) }
     {
-        let mut at = self.pass_silents(text, run);
+        let mut at = self.pass_silents(text, verbatim_len);
         if let Some((directive, len)) = self.scanner.pass_directive(&text[at..]) {
-            return Ok(self.end_directive(text, run, at, len, &directive));
+            return Ok(self.end_directive(text, verbatim_len, at, len, &directive));
         }
         while at < text.len() {
             match self.scanner.feed(text[at]) {
                 Ok(Step::More) => at += 1,
-                Ok(step) => return Ok(self.end_front(text, run, at, &step)),
-                Err(refusal) => return Err(Stop { run, refusal }),
+                Ok(step) => return Ok(self.end_chunk(text, verbatim_len, at, &step)),
+                Err(refusal) => {
+                    return Err(ChunkRefusal {
+                        verbatim_len,
+                        refusal,
+                    });
+                }
             }
         }
-        Ok(Front {
-            run,
+        Ok(Chunk {
+            verbatim_len,
             start: at,
             len: at,
-            made: Made::Nothing,
+            item_output: StepOutput::Nothing,
         })
     }
 
-    /// Takes a run at the front of a text that settles itself. After silent directives that wait
-    /// these are literal bytes alone, and inside an item there are none.
+    /// Takes the first bytes of a text that are their own canonical text, and returns how many
+    /// these are. After silent directives that wait they are literal bytes alone, and inside an
+    /// item there are none.
     #[inline(always)]
-    pub(crate) fn pass_run(&mut self, text: &[u8]) -> usize
-        ensures model { model_of self.new ≡ model_of self.old }
-        ensures waiting { waiting_of self.new ≡ waiting_of self.old }
+    pub(crate) fn pass_verbatim(&mut self, text: &[u8]) -> usize
+        ensures model { data_model_of self.new ≡ data_model_of self.old }
+        ensures waiting { waiting_silents_of self.new ≡ waiting_silents_of self.old }
         ensures kept { (model : Model) (t out : Text) (items : List Item)
-            → IsThrough model self.old t items out → Keeps model t out text.now result self.new }
+            → IsThrough model self.old t items out
+            → TakesVerbatim model t out text.now result self.new }
         ensures within { result ≤ length text.now }
     {
         if self.waiting > 0 {
@@ -155,69 +168,70 @@ impl Transducer {
         self.scanner.pass_plain(text)
     }
 
-    // Takes the silent directives that follow a run, which wait. Tells where the first other byte
-    // stands.
+    // Takes the silent directives that follow the verbatim bytes, which wait. Returns the place of
+    // the first other byte.
     #[inline(always)]
-    fn pass_silents(&mut self, text: &[u8], run: usize) -> usize
-        requires { run ≤ length text.now }
+    fn pass_silents(&mut self, text: &[u8], verbatim_len: usize) -> usize
+        requires { verbatim_len ≤ length text.now }
         ensures kept { (model : Model) (t out : Text) (items : List Item)
-            → IsThrough model self.old (t ++ take run text.now) items out
+            → IsThrough model self.old (t ++ take verbatim_len text.now) items out
             → (now : List Item) × IsThrough model self.new (t ++ take result text.now) now out }
-        ensures within { (run ≤ result) × (result ≤ length text.now) }
-        ensures few { 4 * waiting_of self.new + run ≤ 4 * waiting_of self.old + result }
+        ensures within { (verbatim_len ≤ result) × (result ≤ length text.now) }
+        ensures few { 4 * waiting_silents_of self.new + verbatim_len
+            ≤ 4 * waiting_silents_of self.old + result }
     {
-        let count = self.scanner.pass_silents(&text[run..]);
+        let count = self.scanner.pass_silents(&text[verbatim_len..]);
         self.waiting = self.waiting.saturating_add(count as u64);
-        run + 4 * count
+        verbatim_len + 4 * count
     }
 
-    // What the byte at `at` settles, of which the scanner made this step.
+    // The chunk that ends with the byte at `at`, of which the scanner made this step.
     #[inline(always)]
-    fn end_front(&mut self, text: &[u8], run: usize, at: usize, step: &Step) -> Front
-        requires run { run ≤ at }
+    fn end_chunk(&mut self, text: &[u8], verbatim_len: usize, at: usize, step: &Step) -> Chunk
+        requires verbatim_len { verbatim_len ≤ at }
         requires at { at < length text.now }
         ensures fed { (model : Model) (t out : Text) (items : List Item)
-            → IsFed model self.old t items (out ++ take run text.now) text.now at step.now
-            → GrowsBy model t out text.now result self.new }
-        ensures within { IsFrontWithin result text.now }
+            → HasScannedByte model self.old t items (out ++ take verbatim_len text.now) text.now at
+            step.now → GrowsByChunk model t out text.now result self.new }
+        ensures within { IsChunkWithin result text.now }
         ensures len { result.len ≡ at + 1 }
-        ensures few { length (front_text result text.now) + 4 * waiting_of self.new
-            ≤ 4 * waiting_of self.old + (run + MAX_DIRECTIVE_LEN) }
+        ensures few { length (chunk_output_text result text.now) + 4 * waiting_silents_of self.new
+            ≤ 4 * waiting_silents_of self.old + (verbatim_len + MAX_DIRECTIVE_LEN) }
     {
-        Front {
-            run,
+        Chunk {
+            verbatim_len,
             start: at,
             len: at + 1,
-            made: self.settle(step),
+            item_output: self.settle(step),
         }
     }
 
-    // What the directive settles that the scanner took as so many bytes from `at` on.
+    // The chunk that ends with a directive, which the scanner took as so many bytes from `at` on.
     #[inline(always)]
     fn end_directive(
         &mut self,
         text: &[u8],
-        run: usize,
+        verbatim_len: usize,
         at: usize,
         len: usize,
         directive: &Directive,
-    ) -> Front
-        requires run { run ≤ at }
+    ) -> Chunk
+        requires verbatim_len { verbatim_len ≤ at }
         requires some { 0 < len }
         requires len { at + len ≤ length text.now }
         ensures fed { (model : Model) (t out : Text) (items : List Item)
-            → HasTaken model self.old t items (out ++ take run text.now) text.now at len
-            directive.now → GrowsBy model t out text.now result self.new }
-        ensures within { IsFrontWithin result text.now }
+            → HasScannedDirective model self.old t items (out ++ take verbatim_len text.now)
+            text.now at len directive.now → GrowsByChunk model t out text.now result self.new }
+        ensures within { IsChunkWithin result text.now }
         ensures len { result.len ≡ at + len }
-        ensures few { length (front_text result text.now) + 4 * waiting_of self.new
-            ≤ 4 * waiting_of self.old + (run + MAX_DIRECTIVE_LEN) }
+        ensures few { length (chunk_output_text result text.now) + 4 * waiting_silents_of self.new
+            ≤ 4 * waiting_silents_of self.old + (verbatim_len + MAX_DIRECTIVE_LEN) }
     {
-        Front {
-            run,
+        Chunk {
+            verbatim_len,
             start: at,
             len: at + len,
-            made: Made::Parts(self.settle_directive(directive)),
+            item_output: StepOutput::Output(self.settle_directive(directive)),
         }
     }
 
@@ -225,13 +239,13 @@ impl Transducer {
     pub(crate) fn passed(mut self, text: &[u8]) -> Result<Transducer, Refusal>
         ensures { (model : Model) (t out : Text) (items : List Item)
             → IsThrough model self t items out
-            → (more : Text) × Passes model (t ++ text.now) (out ++ more) result }
+            → (more : Text) × TakesText model (t ++ text.now) (out ++ more) result }
     {
         let mut at = 0;
         while at < text.len() {
-            match self.feed_front(&text[at..]) {
-                Ok(front) => at += front.len,
-                Err(stop) => return Err(stop.refusal),
+            match self.feed_chunk(&text[at..]) {
+                Ok(chunk) => at += chunk.len,
+                Err(refused) => return Err(refused.refusal),
             }
         }
         Ok(self)
@@ -239,36 +253,38 @@ impl Transducer {
 
     // What a step settles.
     #[inline(always)]
-    fn settle(&mut self, step: &Step) -> Made
-        ensures model { model_of self.new ≡ model_of self.old }
+    fn settle(&mut self, step: &Step) -> StepOutput
+        ensures model { data_model_of self.new ≡ data_model_of self.old }
         ensures scanner { scanner_of self.new ≡ scanner_of self.old }
         ensures settles { (byte : ℕ) (out : Text) (items : List Item)
-            → Settles (model_of self.old) step.now byte items out (waiting_of self.old) result
-            (waiting_of self.new) }
-        ensures few { (byte : ℕ) → length (made_text result byte) + 4 * waiting_of self.new
-            ≤ 4 * waiting_of self.old + MAX_DIRECTIVE_LEN }
-        ensures one { waiting_of self.new ≤ waiting_of self.old + 1 }
-        ensures short { (byte : ℕ) → length (made_text result byte) + 4 * waiting_of self.new
-            ≤ 4 * waiting_of self.old + most_len (more_of step.now) }
+            → Settles (data_model_of self.old) step.now byte items out
+            (waiting_silents_of self.old) result (waiting_silents_of self.new) }
+        ensures few { (byte : ℕ)
+            → length (byte_output_text result byte) + 4 * waiting_silents_of self.new
+            ≤ 4 * waiting_silents_of self.old + MAX_DIRECTIVE_LEN }
+        ensures one { waiting_silents_of self.new ≤ waiting_silents_of self.old + 1 }
+        ensures short { (byte : ℕ)
+            → length (byte_output_text result byte) + 4 * waiting_silents_of self.new
+            ≤ 4 * waiting_silents_of self.old + most_len (more_of step.now) }
     {
         match step {
-            Step::More => Made::Nothing,
-            Step::Byte(_) => Made::Literal,
-            Step::Percent => Made::Parts(percents()),
-            Step::Directive(directive) => Made::Parts(self.settle_directive(directive)),
+            Step::More => StepOutput::Nothing,
+            Step::Byte(_) => StepOutput::Literal,
+            Step::Percent => StepOutput::Output(percents()),
+            Step::Directive(directive) => StepOutput::Output(self.settle_directive(directive)),
         }
     }
 
     #[inline(always)]
-    fn settle_directive(&mut self, directive: &Directive) -> Parts
-        ensures model { model_of self.new ≡ model_of self.old }
+    fn settle_directive(&mut self, directive: &Directive) -> Output
+        ensures model { data_model_of self.new ≡ data_model_of self.old }
         ensures scanner { scanner_of self.new ≡ scanner_of self.old }
         ensures settles { (out : Text) (items rest : List Item)
-            → TakesDirective (model_of self.old) directive.now items rest out
-            (waiting_of self.old) result (waiting_of self.new) }
-        ensures few { length (parts_text result) + 4 * waiting_of self.new
-            ≤ 4 * waiting_of self.old + MAX_DIRECTIVE_LEN }
-        ensures one { waiting_of self.new ≤ waiting_of self.old + 1 }
+            → SettlesDirective (data_model_of self.old) directive.now items rest out
+            (waiting_silents_of self.old) result (waiting_silents_of self.new) }
+        ensures few { length (output_text result) + 4 * waiting_silents_of self.new
+            ≤ 4 * waiting_silents_of self.old + MAX_DIRECTIVE_LEN }
+        ensures one { waiting_silents_of self.new ≤ waiting_silents_of self.old + 1 }
     {
         let Reduced {
             spaces,
@@ -279,7 +295,7 @@ impl Transducer {
         match core {
             Core::Silent => {
                 self.waiting = self.waiting.saturating_add(1);
-                Parts {
+                Output {
                     spaces,
                     zeros,
                     silents: 0,
@@ -290,7 +306,7 @@ impl Transducer {
             Core::Normal(normal) => {
                 let silents = self.waiting;
                 self.waiting = 0;
-                Parts {
+                Output {
                     spaces,
                     zeros,
                     silents,
@@ -301,15 +317,16 @@ impl Transducer {
         }
     }
 
-    /// Takes the end of the text, and tells what that settles.
+    /// Takes the end of the text, and returns what that settles.
     #[inline(always)]
-    pub(crate) fn finish(&self) -> Result<Parts, Refusal>
+    pub(crate) fn finish(&self) -> Result<Output, Refusal>
         ensures ended { (model : Model) (t out : Text) (items : List Item)
-            → IsThrough model self.now t items out → Ends model t items out result }
-        ensures few { IfOk result (λ parts. length (parts_text parts) ≤ 4 * waiting_of self.now) }
+            → IsThrough model self.now t items out → Finishes model t items out result }
+        ensures few { IfOk result (λ output.
+            length (output_text output) ≤ 4 * waiting_silents_of self.now) }
     {
         match self.scanner.finish() {
-            Ok(()) => Ok(Parts {
+            Ok(()) => Ok(Output {
                 spaces: 0,
                 zeros: 0,
                 silents: self.waiting,
@@ -322,13 +339,13 @@ impl Transducer {
 }
 
 // `%%`
-fn percents() -> Parts
-    ensures { parts_text result ≡ 37 ∷ 37 ∷ [] }
+fn percents() -> Output
+    ensures { output_text result ≡ 37 ∷ 37 ∷ [] }
 {
     let mut spelling = Spelling::new();
     spelling.push(b'%');
     spelling.push(b'%');
-    Parts {
+    Output {
         spaces: 0,
         zeros: 0,
         silents: 0,

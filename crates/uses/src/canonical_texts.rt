@@ -5,7 +5,7 @@ ghost use Rattle.pf_values.specs.Items.{IsAccepted};
 ghost use Rattle.pf_values.specs.Text.{Text};
 ghost use Rattle.pf_canon.specs.Answers.{IsCanonicalFor};
 ghost use Rattle.pf_values.specs.Counting.{device_of};
-ghost use Rattle.pf_canon.specs.Copying.{CopiesAll};
+ghost use Rattle.pf_canon.specs.Copy.{CopiesAll};
 
 use pf_canon::{canonical_len, canonical_stream, is_canonical};
 use pf_values::{Counted, Model};

@@ -1,5 +1,5 @@
 use Rattle.std.proofs.Common.{◌-◌}
-use Rattle.pf_canon.specs.Prefixes.{AreCommon}
+use Rattle.pf_canon.specs.Comparison.{AreCommon}
 use Rattle.pf_canon.proofs.comparison.common_from.Given as goal
 
 abbrev pub invariant-loop-at : goal.invariant-loop-at

@@ -1,4 +1,4 @@
-use Rattle.pf_canon.proofs.CompareLemmas.{apart_ends, apart_first, apart_second}
+use Rattle.pf_canon.proofs.ComparisonLemmas.{apart_ends, apart_first, apart_second}
 use Rattle.pf_canon.proofs.comparison.drain_both.Goals as goal
 
 pub returns-in-Err-clause-compared : goal.returns-in-Err-clause-compared

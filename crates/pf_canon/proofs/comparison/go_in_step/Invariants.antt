@@ -1,11 +1,11 @@
 use Rattle.pf_values.specs.declared.models.Model.{Model}
 use Rattle.pf_values.specs.Text.{Text}
-use Rattle.pf_canon.specs.Walks.{HasGiven, to_come}
+use Rattle.pf_canon.specs.Walk.{WalkHasGiven, to_come}
 use Rattle.pf_canon.proofs.comparison.go_in_step.Given as goal
 
 abbrev pub invariant-loop-count : goal.invariant-loop-count
 invariant-loop-count l = record {
-  given : ((model : Model) (f g given : Text) → HasGiven model l.fn.first f given → HasGiven model l.fn.second g given → (now : Text) × HasGiven model l.first f now × HasGiven model l.second g now);
+  given : ((model : Model) (f g given : Text) → WalkHasGiven model l.fn.first f given → WalkHasGiven model l.fn.second g given → (now : Text) × WalkHasGiven model l.first f now × WalkHasGiven model l.second g now);
 }
 
 abbrev pub decreases-loop-count : goal.decreases-loop-count

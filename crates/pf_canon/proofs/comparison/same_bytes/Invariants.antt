@@ -1,5 +1,5 @@
-use Rattle.pf_canon.specs.Comparing.{IsInStep}
-use Rattle.pf_canon.specs.Sources.{units}
+use Rattle.pf_canon.specs.Comparison.{IsInStep}
+use Rattle.pf_canon.specs.CanonicalBytes.{units}
 use Rattle.pf_canon.proofs.comparison.same_bytes.Given as goal
 
 abbrev pub invariant-loop-first : goal.invariant-loop-first

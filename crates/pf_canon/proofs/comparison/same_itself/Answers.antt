@@ -1,5 +1,5 @@
 use Rattle.std.proofs.Common.{[], ◌++◌}
-use Rattle.pf_canon.proofs.CompareLemmas.{told_itself}
+use Rattle.pf_canon.proofs.ComparisonLemmas.{told_itself}
 use Rattle.pf_canon.proofs.comparison.same_itself.Goals as goal
 
 pub returns-in-Ok : goal.returns-in-Ok

@@ -2,7 +2,7 @@ use Rattle.std.proofs.Common.{◌≡◌, ◌≤◌, ◌-◌, ◌++◌, length, t
 use Rattle.pf_values.specs.declared.models.Model.{Model}
 use Rattle.pf_values.specs.Counting.{Known, device_of, failures_of}
 use Rattle.pf_values.specs.Text.{Text}
-use Rattle.pf_canon.specs.Copying.{IsWritten}
+use Rattle.pf_canon.specs.Copy.{IsWritten}
 use Rattle.pf_canon.proofs.copy.copy_block.Given as goal
 
 abbrev pub invariant-loop-at : goal.invariant-loop-at

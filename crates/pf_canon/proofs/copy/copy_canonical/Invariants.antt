@@ -4,8 +4,8 @@ use Rattle.pf_values.specs.declared.limits.TheConstants.{MAX_TEXT_LEN}
 use Rattle.pf_values.specs.Counting.{device_of, failures_of}
 use Rattle.pf_values.specs.Text.{Text}
 use Rattle.pf_text.specs.History.{offset_of}
-use Rattle.pf_canon.specs.Copying.{IsWritten}
-use Rattle.pf_canon.specs.Through.{scanner_of}
+use Rattle.pf_canon.specs.Copy.{IsWritten}
+use Rattle.pf_canon.specs.Transducer.{scanner_of}
 use Rattle.pf_canon.proofs.copy.copy_canonical.Given as goal
 
 abbrev pub invariant-loop-transducer : goal.invariant-loop-transducer

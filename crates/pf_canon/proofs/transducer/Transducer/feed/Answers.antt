@@ -1,4 +1,4 @@
-use Rattle.pf_canon.proofs.ThroughLemmas.{grown}
+use Rattle.pf_canon.proofs.TransducerLemmas.{grown}
 use Rattle.pf_canon.proofs.transducer.Transducer.feed.Goals as goal
 
 pub returns-in-Ok-clause-fed : goal.returns-in-Ok-clause-fed

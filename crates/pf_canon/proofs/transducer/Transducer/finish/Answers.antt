@@ -1,7 +1,7 @@
 use Rattle.std.proofs.Common.{arith, ap, []}
-use Rattle.pf_canon.proofs.PartLemmas.{length-whole}
-use Rattle.pf_canon.proofs.ThroughLemmas.{ended}
-use Rattle.pf_canon.specs.Parts.{whole_text}
+use Rattle.pf_canon.proofs.OutputLemmas.{length-whole}
+use Rattle.pf_canon.proofs.TransducerLemmas.{ended}
+use Rattle.pf_canon.specs.Output.{whole_text}
 use Rattle.pf_canon.proofs.transducer.Transducer.finish.Goals as goal
 
 pub returns-in-Ok-clause-ended : goal.returns-in-Ok-clause-ended

@@ -2,7 +2,7 @@ use Rattle.std.proofs.Common.{[], ◌∷◌, ◌++◌, ap}
 use Rattle.pf_values.specs.Items.{Directive}
 use Rattle.pf_canon.proofs.MakingLemmas.{made_more}
 use Rattle.pf_canon.proofs.PieceLemmas.{percent_made}
-use Rattle.pf_canon.proofs.ThroughLemmas.{byte_settled}
+use Rattle.pf_canon.proofs.TransducerLemmas.{byte_settled}
 use Rattle.pf_canon.proofs.transducer.Transducer.settle.Goals as goal
 
 pub returns-in-Byte-clause-settles : goal.returns-in-Byte-clause-settles

@@ -3,8 +3,8 @@ use Rattle.pf_values.specs.Normal.{IsNormal}
 use Rattle.pf_values.specs.Spelling.{spelling_of}
 use Rattle.pf_text.proofs.SpellingLemmas.{length-spelled}
 use Rattle.pf_canon.proofs.DirectiveLemmas.{kept_items}
-use Rattle.pf_canon.proofs.PartLemmas.{length-whole}
-use Rattle.pf_canon.proofs.ThroughLemmas.{normal_settled, silent_settled}
+use Rattle.pf_canon.proofs.OutputLemmas.{length-whole}
+use Rattle.pf_canon.proofs.TransducerLemmas.{normal_settled, silent_settled}
 use Rattle.pf_canon.proofs.transducer.Transducer.settle_directive.Goals as goal
 
 pub returns-in-Silent-clause-settles : goal.returns-in-Silent-clause-settles

@@ -1,5 +1,5 @@
 use Rattle.std.proofs.Common.{◌++◌}
-use Rattle.pf_canon.specs.Walks.{IsMidway, waits}
+use Rattle.pf_canon.specs.Walk.{IsMidway, waits}
 use Rattle.pf_canon.proofs.WalkLemmas.{walked}
 use Rattle.pf_canon.proofs.walk.Walk.finish.Goals as goal
 
