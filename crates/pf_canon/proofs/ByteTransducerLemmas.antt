@@ -1,4 +1,4 @@
--- What a source has taken and given, one turn after another.
+-- What a byte transducer has taken and given, one step after another.
 use Rattle.std.proofs.Common.{◌≡◌, ℕ, ◌≤◌, Bool, true, false, List, [], ◌∷◌, ◌++◌, refl, sym, ap, ◌∙◌, subst, arith, inl, inr, Some, None, Ok, Err, Option, Result}
 use Rattle.std.specs.Prelude.{MatchBool}
 use Rattle.std.specs.Io.KnownBytes.{Consumes, IsAtEnd}
@@ -163,7 +163,7 @@ module _ (model : Model) (r : Transducer) (start left : Known) (taken given : Te
 pub consumed_none : (start a b : Known) (taken : Text) → Consumes start a taken → Consumes a b [] → Consumes start b taken
 consumed_none start a b taken h g = subst (Consumes start b) (append-nil taken) (Consumes-trans start a b taken [] h g)
 
--- an answer that tells of no fault of the reader
+-- an answer that is no fault of the reader
 pub counts_kept : {B : Type 0} (kept failed : B → B → Type 0) (step : NextStep) (old new : B) → IsNoReadFault step → kept old new → CountsStep kept failed step old new
 counts_kept kept failed Again old new told h = h
 counts_kept kept failed (Done None) old new told h = h

@@ -17,7 +17,7 @@ module _ {B : Type 0} (left : B → Known) (kept failed : B → B → Type 0) wh
     pub counts : kept from to
     pub units : units now ≤ units old
 
-  -- what a turn says
+  -- what a step says
   pub record StepSays (old : ByteTransducer) (from : B) (step : NextStep) (new : ByteTransducer) (to : B) : Type 0 where
     pub next : (model : Model) (start : Known) (taken given : Text) → History model old start (left from) taken given → (more : Text) × StepLeaves model step new start (left to) (taken ++ more) given
     pub over : IsOver old → (step ≡ Done None) × IsOver new × (to ≡ from)

@@ -1,4 +1,4 @@
--- How a transducer takes the front of a text.
+-- How a transducer takes a chunk of a text.
 use Rattle.std.proofs.Common.{◌≡◌, ◌≢◌, ℕ, zero, suc, ◌<◌, ◌+◌, ◌-◌, ◌*◌, ◌^◌, ◌≤◌, List, [], ◌∷◌, ◌++◌, length, map, take, drop, refl, sym, ap, ◌∙◌, subst, arith, Result, Ok, Err, ◌⊎◌, inl, inr}
 use Rattle.std.proofs.Math.Seq.{take-add}
 use Rattle.std.proofs.lemmas.List.{append-nil, append_assoc, length-append, length-drop, length-take, length-take-le, take_all, take-append-drop}
@@ -118,7 +118,7 @@ waits model old new t out text items count h within p same e =
       short = omega (arith, short, e, most_len-append items (silents count), most_silents count);
     }
 
--- and so they do after a run
+-- and so they do after verbatim bytes
 pub silents_kept : (model : Model) (old new : Transducer) (t out text : Text) (items : List Item) (verbatim_len count : ℕ) → IsThrough model old (t ++ take verbatim_len text) items out → new.model ≡ old.model → 4 * count ≤ length (drop verbatim_len text)
     → (0 < count → Reads (t ++ take verbatim_len text) items) → (count ≡ 0 → new.scanner ≡ old.scanner) → (Reads (t ++ take verbatim_len text) items → PassesSilents (t ++ take verbatim_len text) items (drop verbatim_len text) count new.scanner)
     → (count ≤ 2 ^ 62 → new.waiting ≡ old.waiting + count) → (now : List Item) × IsThrough model new (t ++ take (verbatim_len + 4 * count) text) now out
@@ -138,7 +138,7 @@ silents_kept model old new t out text items verbatim_len (suc count) h same_mode
           (waits model old new front out (drop verbatim_len text) items n h within p same_model (counts few)),
     )
 
--- what takes some bytes only between items settles itself, where it takes some
+-- bytes that are taken only between items are verbatim, where there are some
 kept : (model : Model) (old new : Transducer) (t out text : Text) (items : List Item) (len : ℕ) → IsThrough model old t items out → new.model ≡ old.model → new.waiting ≡ old.waiting
     → (0 < len → Reads t items) → (len ≡ 0 → new.scanner ≡ old.scanner) → (Reads t items → TakesVerbatim model t out text len new) → TakesVerbatim model t out text len new
 kept model old new t out text items zero h same_model e between idle taken =
@@ -146,13 +146,14 @@ kept model old new t out text items zero h same_model e between idle taken =
     record { items = items; through = rw (append-nil t, append-nil out) (record { model_is = same_model ∙ h.model_is; after = rw same h.after; made = rw e h.made; few = rw e h.few; short = rw e h.short }) }
 kept model old new t out text items (suc len) h same_model e between idle taken = taken (between (omega arith))
 
--- a run of literal bytes settles itself
+-- literal bytes are verbatim
 pub kept_literals : (model : Model) (old new : Transducer) (t out text : Text) (items : List Item) (len : ℕ) → IsThrough model old t items out → new.model ≡ old.model → new.waiting ≡ old.waiting
     → (0 < len → Reads t items) → (len ≡ 0 → new.scanner ≡ old.scanner) → (Reads t items → scanned.Passes t items text len new.scanner) → TakesVerbatim model t out text len new
 kept_literals model old new t out text items len h same e between idle passes =
     kept model old new t out text items len h same e between idle (λ reads. record { items = items ++ map Byte (take len text); through = passed model old new t out text items len h (passes reads) same e })
 
--- and so does a run of items that stand as in a canonical text, where no silent directive waits
+-- and so are items that are spelled as a canonical text spells them, where no silent directive
+-- waits
 pub kept_plain : (model : Model) (old new : Transducer) (t out text : Text) (items : List Item) (len : ℕ) → IsThrough model old t items out → new.model ≡ old.model → new.waiting ≡ old.waiting
     → (0 < len → Reads t items) → (len ≡ 0 → new.scanner ≡ old.scanner) → (Reads t items → PassesPlain model t items text len new.scanner) → old.waiting ≡ 0 → TakesVerbatim model t out text len new
 kept_plain model old new t out text items len h same e between idle passes none =

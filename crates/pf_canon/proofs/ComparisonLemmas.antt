@@ -1,4 +1,4 @@
--- Two texts that are compared in step.
+-- Two texts that are compared.
 use Rattle.std.proofs.Common.{◌≡◌, ◌≢◌, ℕ, ◌<◌, ◌≤◌, Bool, true, false, [], ◌∷◌, ◌++◌, length, List, Option, Some, None, Result, Ok, Err, refl, sym, ◌∙◌, subst, arith, inl, inr, take, drop, ap}
 use Rattle.std.specs.Prelude.{MatchBool}
 use Rattle.std.specs.Io.KnownBytes.{Consumes}
@@ -35,7 +35,7 @@ pub fault_later : {B : Type 0} (kept failed : B → B → Type 0) → ((a b c : 
 fault_later kept failed also later faults.Read old mid new h g = later old mid new h g
 fault_later kept failed also later (faults.Refused refusal) old mid new h g = also old mid new h g
 
--- what a source gave first, and whatever came later
+-- what a byte transducer gave first, and whatever came later
 abbrev pub GaveFirst : Model → Option ℕ → ByteTransducer → Known → Known → Text → Text → Type 0
 GaveFirst model None s start left taken given = IsEnding model [] start left taken given × IsOver s
 GaveFirst model (Some byte) s start left taken given = (more : Text) × History model s start left taken (given ++ byte ∷ more)
@@ -226,7 +226,7 @@ pub told_other : (A B : Type 0) (b : Bool) → b ≡ false → MatchBool b A B �
 told_other A B false e h = h
 told_other A B true e h = absurd cc
 
--- the transducer took a run, which settled itself
+-- the transducer took verbatim bytes
 pub after_verbatim : (model : Model) (r : Transducer) (t : Text) (n : ℕ) → r.model ≡ model → IsUpTo r t n (take n t) → (items : List Item) × IsThrough model r (take n t) items (take n t)
 after_verbatim model r t n e h = (h.1, subst (λ m. IsThrough m r (take n t) h.1 (take n t)) e h.2)
 

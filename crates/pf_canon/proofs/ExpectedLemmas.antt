@@ -1,4 +1,4 @@
--- What is left of a text after its front.
+-- What is left of a text that is expected.
 use Rattle.std.proofs.Common.{◌≡◌, ◌≢◌, ℕ, Bool, [], ◌++◌, take, drop, Option, Some, None, sym, ap, ◌∙◌, subst}
 use Rattle.std.specs.Prelude.{IsTrue, MatchOption, ◌↔◌}
 use Rattle.std.specs.Borrow.{Bor}
@@ -14,7 +14,7 @@ pub front_stripped : (left : Bor Text) (bytes : Text) (rest : Option (Bor Text))
 front_stripped left bytes (Some rest) h = h
 front_stripped left bytes None h = h
 
--- all that was left was cut off
+-- all that was left was taken off
 used_up : (start left : Option (Bor Text)) (t bytes : Text) → IsLeft start t → IsFrontStripped start bytes left → IsLeft left [] → t ≡ bytes
 used_up (Some start) (Some left) t bytes e h none = sym e ∙ h ∙ ap (λ u. bytes ++ u) none ∙ append-nil bytes
 used_up (Some start) None t bytes e h none = absurd none
@@ -25,7 +25,8 @@ same_used_up (Some start) (Some left) t bytes e h same = append_cancel_left byte
 same_used_up (Some start) None t bytes e h same = h [] (e ∙ sym same ∙ sym (append-nil bytes))
 same_used_up None left t bytes e h same = absurd e
 
--- a text is canonical from which its canonical text was cut off, the front that both have apart
+-- A text is canonical exactly if nothing is left of it after its canonical text. Both begin with
+-- its verbatim bytes.
 pub stripped_to_end : (model : Model) (t more : Text) (verbatim_len : ℕ) (start left : Option (Bor Text)) (is : Bool) → IsLeft start (drop verbatim_len t) → IsCanonicalFor model t (take verbatim_len t ++ more) → IsFrontStripped start more left → IsTrue is ↔ IsLeft left [] → IsAccepted t × (IsTrue is ↔ IsCanonicalText model t)
 stripped_to_end model t more verbatim_len start left is rest h cut e =
     let front = take verbatim_len t in

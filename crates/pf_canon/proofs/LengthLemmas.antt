@@ -8,7 +8,7 @@ use Rattle.pf_canon.specs.Sink.{Counts}
 use Rattle.pf_canon.proofs.TextLemmas.{items_few}
 use Rattle.pf_canon.proofs.TransducerLemmas.{most_items}
 
--- that of a run, and of what follows, can be counted
+-- the verbatim bytes, and what follows, can be counted
 pub counted : (model : Model) (t more : Text) (verbatim_len len : ℕ) → verbatim_len ≤ length t → IsCanonicalFor model t (take verbatim_len t ++ more) → Counts verbatim_len (length more) len → (c : Text) × IsCanonicalFor model t c × (len ≡ length c)
 counted model t more verbatim_len len within h counts =
     let few = h.few in

@@ -45,7 +45,7 @@ module _ {S : Type 0} {given : S → S → Text → Type 0} (laws : IsSink given
   pub run_all : (old new : S) (times left : ℕ) → left ≤ 0 → given old new (of (times - left)) → given old new (of times)
   run_all old new times left none h = let e : times - left ≡ times = omega (arith, none) in subst (given old new) (ap of e) h
 
--- the run at the front of a canonical text, and then what follows
+-- the verbatim bytes of a text, and then what follows of its canonical text
 pub verbatim_put : {S : Type 0} {given : S → S → Text → Type 0} (laws : IsSink given) (model : Model) (t verbatim : Text) (old mid new : S) (r : Result (Unit {0}) Refusal) → given old mid verbatim
     → MatchResult r (λ _. (more : Text) × given mid new more × IsCanonicalFor model t (verbatim ++ more)) (λ refusal. IsRefusedAt t refusal.kind refusal.at) → MatchResult r (λ _. (c : Text) × given old new c × IsCanonicalFor model t c) (λ refusal. IsRefusedAt t refusal.kind refusal.at)
 verbatim_put laws model t verbatim old mid new (Ok done) h g = (verbatim ++ g.0, laws.both old mid new verbatim g.0 h g.1, g.2)

@@ -1,4 +1,4 @@
--- What is settled of a text in memory, one front after another.
+-- What is settled of a text in memory, chunk after chunk.
 use Rattle.std.proofs.Common.{◌≡◌, ◌≢◌, ℕ, ◌+◌, ◌*◌, ◌<◌, ◌≤◌, true, false, List, [], ◌∷◌, ◌++◌, length, take, drop, refl, sym, ap, ◌∙◌, subst, arith, Ok}
 use Rattle.std.specs.Prelude.{MatchBool, ◌==◌}
 use Rattle.std.proofs.Math.Seq.{take-add}
@@ -52,7 +52,7 @@ no_bytes : (t : Text) → length t ≤ 0 → t ≡ []
 no_bytes [] few = refl
 no_bytes (b ∷ t) few = absurd (omega arith)
 
--- a text that settles itself is its canonical text
+-- a text whose bytes are all verbatim is its own canonical text
 pub settled_whole : (r : Transducer) (t : Text) (verbatim_len : ℕ) (output : Output) (up : IsUpTo r t verbatim_len (take verbatim_len t)) → length t ≤ verbatim_len → r.waiting ≡ 0 → Finishes r.model (take verbatim_len t) up.1 (take verbatim_len t) (Ok output) → length (output_text output) ≤ 4 * r.waiting → IsCanonicalFor r.model t t
 settled_whole r t verbatim_len output up whole none ends few =
     let empty = no_bytes (output_text output) (omega (arith, few, none)) in
@@ -65,7 +65,7 @@ refused_behind model t out text refused h = subst (λ u. IsRefusedAt u refused.r
 pub refused_at : (model : Model) (t out : Text) (at : ℕ) (refused : ChunkRefusal) → RefusesChunk model (take at t) out (drop at t) refused → IsRefusedAt t refused.refusal.kind refused.refusal.at
 refused_at model t out at refused h = subst (λ u. IsRefusedAt u refused.refusal.kind refused.refusal.at) (take-append-drop at t) (refused_behind model (take at t) out (drop at t) refused h)
 
--- the front of the rest of a text was taken
+-- a chunk of the rest of a text was taken
 pub built_more : (model : Model) (t out now : Text) (at : ℕ) (chunk : Chunk) (new : Transducer) → GrowsByChunk model (take at t) out (drop at t) chunk new → now ≡ out ++ chunk_output_text chunk (drop at t) → (items : List Item) × IsThrough model new (take (at + chunk.len) t) items now
 built_more model t out now at chunk new g e = (g.items, rw (e, take-add at chunk.len t) g.through)
 

@@ -83,7 +83,7 @@ directive_grown model old new t bytes out settled items d h same after some sett
       short = omega (arith, short, less, length-append out settled, most_len-append items (Directive d ∷ []));
     }
 
--- a run of literal bytes was taken
+-- literal bytes were taken
 pub passed : (model : Model) (old new : Transducer) (t out following : Text) (items : List Item) (len : ℕ) → IsThrough model old t items out → scanned.Passes t items following len new.scanner → new.model ≡ old.model → new.waiting ≡ old.waiting
     → IsThrough model new (t ++ take len following) (items ++ map Byte (take len following)) (out ++ take len following)
 passed model old new t out following items len h p same e =
@@ -109,7 +109,8 @@ plain_short model (Directive s ∷ items) all =
     let normal = all.0 in
     omega (arith, length-append (spelling_of s) (flat_map item_spelling items), length-spelled s normal.defined, plain_short model items all.1)
 
--- a run of items that stand as in a canonical text was taken, where no silent directive waits
+-- items were taken that are spelled as a canonical text spells them, where no silent directive
+-- waits
 pub passed_plain : (model : Model) (old new : Transducer) (t out following : Text) (items : List Item) (len : ℕ) → IsThrough model old t items out → (p : PassesPlain model t items following len new.scanner) → old.waiting ≡ 0 → new.model ≡ old.model → new.waiting ≡ old.waiting
     → IsThrough model new (t ++ take len following) (items ++ p.more) (out ++ take len following)
 passed_plain model old new t out following items len h p none same e =

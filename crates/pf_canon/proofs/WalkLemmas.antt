@@ -30,11 +30,11 @@ some_given given waiting count = ap (λ t. given ++ t) (sym (take-append-drop co
 pub cleared : (given : ℕ) (verbatim literal output : Text) → given ≡ 0 → verbatim ≡ [] → literal ≡ [] → drop given (verbatim ++ (literal ++ output)) ≡ output
 cleared given verbatim literal output a b c = rw (a, b, c) refl
 
--- a run alone waits
+-- verbatim bytes alone wait
 pub verbatim_waits : (given : ℕ) (verbatim literal output : Text) → given ≡ 0 → literal ≡ [] → output ≡ [] → drop given (verbatim ++ (literal ++ output)) ≡ verbatim
 verbatim_waits given verbatim literal output a b c = rw (a, b, c) (append-nil verbatim)
 
--- a run was taken
+-- verbatim bytes were taken
 pub verbatim_taken : (model : Model) (r new : Transducer) (rest waiting text given : Text) (verbatim_len : ℕ) → waiting ≡ [] → IsMidway model r rest waiting text given
     → ((t out : Text) (items : List Item) → IsThrough model r t items out → TakesVerbatim model t out rest verbatim_len new) → IsMidway model new (drop verbatim_len rest) (take verbatim_len rest) text given
 verbatim_taken model r new rest waiting text given verbatim_len none h kept =
@@ -46,7 +46,7 @@ verbatim_taken model r new rest waiting text given verbatim_len none h kept =
       through = subst (λ t. IsThrough model new (h.taken ++ take verbatim_len rest) k.items (t ++ take verbatim_len rest)) (ap (λ t. given ++ t) none ∙ append-nil given) k.through;
     }
 
--- the front of the rest was taken
+-- a chunk of the rest was taken
 pub chunk_taken : (model : Model) (r new : Transducer) (rest waiting text given : Text) (chunk : Chunk) → waiting ≡ [] → IsMidway model r rest waiting text given
     → ((t out : Text) (items : List Item) → IsThrough model r t items out → GrowsByChunk model t out rest chunk new) → IsMidway model new (drop chunk.len rest) (chunk_output_text chunk rest) text given
 chunk_taken model r new rest waiting text given chunk none h fed =
