@@ -100,6 +100,19 @@ directive_made model r new t out text items verbatim_len at len d output some wi
     (rw (f.model_is ∙ f.through.model_is, w) at settles o more []) (omega (arith, one, w)) (rw w at short) in
     record { items = more; through = subst (IsThrough model new (t ++ take (at + len) text) more) (append_assoc out (take verbatim_len text) (output_text output)) (subst (λ u. IsThrough model new u more (o ++ output_text output)) whole g) }
 
+-- and a directive that is its own canonical text is verbatim
+pub directive_kept : (model : Model) (old r new : Transducer) (t out text : Text) (items : List Item) (len : ℕ) (d : Specification) (output : Output) → 0 < len → len ≤ length text → IsThrough model old t items out
+    → r.model ≡ old.model → r.waiting ≡ old.waiting → scanned.TakesDirective t items text len r.scanner d → new.model ≡ r.model → new.scanner ≡ r.scanner
+    → ((out : Text) (items rest : List Item) → SettlesDirective r.model d items rest out r.waiting output new.waiting) → new.waiting ≤ r.waiting + 1 → length (output_text output) + 4 * new.waiting ≤ 4 * r.waiting + most_len (Directive d ∷ [])
+    → output_text output ≡ take len text → TakesVerbatim model t out text len new
+directive_kept model old r new t out text items len d output some within h same waiting takes same_new scanner settles one short is =
+    let more = items ++ Directive d ∷ [] in
+    let bytes = take len text in
+    let long : 1 ≤ length bytes = omega (arith, some, within, length-take len text) in
+    let g = directive_grown model old new t bytes out (output_text output) items d h (same_new ∙ same) (rw scanner takes.after) long
+    (rw (same ∙ h.model_is, waiting) at settles out more []) (omega (arith, one, waiting)) (rw waiting at short) in
+    record { items = more; through = subst (λ o. IsThrough model new (t ++ bytes) more (out ++ o)) is g }
+
 most_silents : (count : ℕ) → most_len (silents count) ≡ 4120 * count
 most_silents zero = omega arith
 most_silents (suc count) = omega (arith, most_silents count)

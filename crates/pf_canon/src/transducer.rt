@@ -50,6 +50,25 @@ impl Transducer {
         (transducer, verbatim_len)
     }
 
+    /// The same, where whole directives that are normal and spelled as a canonical text spells them
+    /// are such bytes too.
+    pub(crate) fn after_canonical(model: Model, text: &[u8]) -> (Transducer, usize)
+        ensures model { data_model_of result.0 ≡ model }
+        ensures kept { IsUpTo result.0 text.now result.1 (take result.1 text.now) }
+        ensures none { waiting_silents_of result.0 ≡ 0 }
+    {
+        let (mut transducer, mut len) = Transducer::after_verbatim(model, text);
+        while len < text.len() {
+            let directive_len = transducer.pass_normal(&text[len..]);
+            if directive_len == 0 {
+                break;
+            }
+            len += directive_len;
+            len += transducer.pass_verbatim(&text[len..]);
+        }
+        (transducer, len)
+    }
+
     /// A transducer that took a text chunk by chunk, up to its end or to what is refused, and how
     /// many bytes it took.
     pub(crate) fn after_chunks(model: Model, text: &[u8]) -> (Transducer, usize)
@@ -166,6 +185,29 @@ impl Transducer {
             return self.scanner.pass_literals(text);
         }
         self.scanner.pass_plain(text)
+    }
+
+    // Takes the directive that a text begins with, if it is its own canonical text, and returns its
+    // length; else nothing, which is 0 bytes.
+    fn pass_normal(&mut self, text: &[u8]) -> usize
+        requires { waiting_silents_of self.old ≡ 0 }
+        ensures model { data_model_of self.new ≡ data_model_of self.old }
+        ensures none { waiting_silents_of self.new ≡ 0 }
+        ensures kept { (model : Model) (t out : Text) (items : List Item)
+            → IsThrough model self.old t items out
+            → TakesVerbatim model t out text.now result self.new }
+        ensures within { result ≤ length text.now }
+    {
+        let mut next = *self;
+        let Some((directive, len)) = next.scanner.pass_directive(text) else {
+            return 0;
+        };
+        let output = next.settle_directive(&directive);
+        if next.waiting > 0 || !output.is_spelled(&text[..len]) {
+            return 0;
+        }
+        *self = next;
+        len
     }
 
     // Takes the silent directives that follow the verbatim bytes, which wait. Returns the place of
