@@ -22,7 +22,7 @@ use Rattle.pf_canon.specs.Output.{output_text}
 use Rattle.pf_canon.specs.CanonicalBytes.{CountsFault, CountsStep, IsEnding, IsInTime, IsLean, IsReadFor, IsReading, IsRefusedBehind, IsNoReadFault, LowersAnswer, LowersUnits, units}
 use Rattle.pf_canon.specs.Transducer.{Finishes, GrowsByByte, IsThrough, SettlesTo, TakesByte, byte_output_text}
 use Rattle.pf_canon.proofs.ChunkLemmas.{through_settles}
-use Rattle.pf_canon.proofs.RefusedLemmas.{not_truncated}
+use Rattle.pf_canon.proofs.TextLemmas.{not_truncated}
 
 -- nothing more was taken
 pub none_more : (P : Text → Type 0) (taken : Text) → P taken → (more : Text) × P (taken ++ more)

@@ -1,12 +1,15 @@
--- What is settled of a text in memory, chunk after chunk.
-use Rattle.std.proofs.Common.{◌≡◌, ◌≢◌, ℕ, ◌+◌, ◌*◌, ◌<◌, ◌≤◌, true, false, List, [], ◌∷◌, ◌++◌, length, take, drop, refl, sym, ap, ◌∙◌, subst, arith, Ok}
+-- What is settled of a text in memory, chunk after chunk, and where it is refused.
+use Rattle.std.proofs.Common.{◌≡◌, ◌≢◌, ℕ, ◌∷◌, ◌++◌, Bool, true, false, length, drop, sym, ap, ◌∙◌, subst, ◌+◌, ◌*◌, ◌<◌, ◌≤◌, List, [], take, refl, arith, Ok}
 use Rattle.std.specs.Prelude.{MatchBool, ◌==◌}
-use Rattle.std.proofs.Math.Seq.{take-add}
+use Rattle.std.proofs.Math.Seq.{drop-append_seam, take-add}
 use Rattle.std.proofs.lemmas.List.{append_assoc, append-nil, length-append, take_all, take-append-drop}
+use Rattle.pf_values.specs.declared.limits.TheConstants.{MAX_TEXT_LEN}
+use Rattle.pf_values.specs.declared.refusals.RefusalKind.{RefusalKind}
+use Rattle.pf_values.specs.declared.refusals.RefusalKind.TheVariants.{TooLong, Truncated}
+use Rattle.pf_values.specs.Refusals.{HasCause, IsRefusedAt, IsRefusedByte}
+use Rattle.pf_values.specs.Text.{Text, percent}
 use Rattle.pf_values.specs.declared.models.Model.{Model}
 use Rattle.pf_values.specs.Items.{Item, Byte, Directive, IsReadAs, Reads}
-use Rattle.pf_values.specs.Text.{Text, percent}
-use Rattle.pf_values.specs.Refusals.{IsRefusedAt}
 use Rattle.pf_canon.specs.declared.output.Output.{Output}
 use Rattle.pf_canon.specs.declared.chunk.Chunk.{Chunk}
 use Rattle.pf_canon.specs.declared.chunk.ChunkRefusal.{ChunkRefusal}
@@ -15,6 +18,17 @@ use Rattle.pf_canon.specs.declared.faults.CanonFault.TheVariants.{Memory}
 use Rattle.pf_canon.specs.Answers.{HindersCanonical, IsCanonicalFor, most_len}
 use Rattle.pf_canon.specs.Output.{output_text}
 use Rattle.pf_canon.specs.Transducer.{Finishes, GrowsByChunk, IsThrough, IsUpTo, RefusesChunk, chunk_output_text}
+
+no_byte_truncates : (b : Bool) (part : Text) (byte : ℕ) (kind : RefusalKind) → MatchBool b (kind ≡ TooLong) (IsRefusedByte part byte kind) → kind ≢ Truncated
+no_byte_truncates true part byte kind h e = let both : TooLong ≡ Truncated = sym h ∙ e in cc
+no_byte_truncates false part byte kind h e = let reason = h.reason in rw e at reason
+
+-- its kind isn't that of a text that ends
+pub not_truncated : (t : Text) (byte : ℕ) (rest : Text) (kind : RefusalKind) (at : ℕ) → at ≡ length t → IsRefusedAt (t ++ byte ∷ rest) kind at → kind ≢ Truncated
+not_truncated t byte rest kind at place h =
+    let same : h.rest ≡ byte ∷ rest =
+    sym (drop-append_seam h.front h.rest) ∙ ap (drop (length h.front)) (sym h.split) ∙ ap (λ n. drop n (t ++ byte ∷ rest)) (sym h.place ∙ place) ∙ drop-append_seam t (byte ∷ rest) in
+    no_byte_truncates (at == MAX_TEXT_LEN) h.part byte kind (subst (λ u. HasCause at h.part u kind) same h.cause)
 
 -- an item is read from a byte at least
 some_bytes : (t : Text) (item : Item) → IsReadAs t item → 1 ≤ length t

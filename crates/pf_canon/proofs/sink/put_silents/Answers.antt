@@ -1,5 +1,5 @@
 use Rattle.std.proofs.Common.{arith, refl}
-use Rattle.pf_canon.proofs.SilentLemmas.{four_silents, one_silent}
+use Rattle.pf_canon.proofs.OutputLemmas.{four_silents, one_silent}
 use Rattle.pf_canon.proofs.SinkLemmas.{run_all, run_more, run_none, silents_alone}
 use Rattle.pf_canon.proofs.sink.put_silents.Goals as goal
 
