@@ -19,34 +19,34 @@ use Rattle.pf_canon.proofs.TextLemmas.{items_few}
 use Rattle.pf_canon.proofs.TransducerLemmas.{most_items}
 
 -- the same bytes so many times
-pub record IsRun (of : ℕ → Text) : Type 0 where
+pub record IsRepetition (of : ℕ → Text) : Type 0 where
   pub none : of 0 ≡ []
   pub adds : (a b : ℕ) → of a ++ of b ≡ of (a + b)
 
-pub blocks : (byte : ℕ) → IsRun (λ n. replicate (n * BLOCK) byte)
+pub blocks : (byte : ℕ) → IsRepetition (λ n. replicate (n * BLOCK) byte)
 blocks byte = record {
   none = refl;
   adds = λ a b. let e : a * BLOCK + b * BLOCK ≡ (a + b) * BLOCK = omega arith in replicate-append-replicate (a * BLOCK) (b * BLOCK) byte ∙ ap (λ n. replicate n byte) e;
 }
 
-pub silents_alone : IsRun (λ n. flat_map item_spelling (silents n))
+pub silents_alone : IsRepetition (λ n. flat_map item_spelling (silents n))
 silents_alone = record {
   none = refl;
   adds = λ a b. sym (item_spelling-append (silents a) (silents b)) ∙ ap (flat_map item_spelling) (replicate-append-replicate a b (Directive silent));
 }
 
--- a part of a run, and a part of what is left of it
-module _ {S : Type 0} {given : S → S → Text → Type 0} (laws : IsSink given) {of : ℕ → Text} (run : IsRun of) where
-  pub run_none : (s : S) (times left : ℕ) → left ≡ times → given s s (of (times - left))
-  run_none s times left e = let none : times - left ≡ 0 = omega (arith, e) in subst (given s s) (sym (ap of none ∙ run.none)) (laws.none s)
+-- a part of a repetition, and a part of what is left of it
+module _ {S : Type 0} {given : S → S → Text → Type 0} (laws : IsSink given) {of : ℕ → Text} (repetition : IsRepetition of) where
+  pub repeated_none : (s : S) (times left : ℕ) → left ≡ times → given s s (of (times - left))
+  repeated_none s times left e = let none : times - left ≡ 0 = omega (arith, e) in subst (given s s) (sym (ap of none ∙ repetition.none)) (laws.none s)
 
-  pub run_more : (old mid new : S) (times left count : ℕ) → left ≤ times → count ≤ left → given old mid (of (times - left)) → given mid new (of count) → given old new (of (times - (left - count)))
-  run_more old mid new times left count all few before h =
+  pub repeated_more : (old mid new : S) (times left count : ℕ) → left ≤ times → count ≤ left → given old mid (of (times - left)) → given mid new (of count) → given old new (of (times - (left - count)))
+  repeated_more old mid new times left count all few before h =
       let e : times - left + count ≡ times - (left - count) = omega (arith, all, few) in
-      subst (given old new) (run.adds (times - left) count ∙ ap of e) (laws.both old mid new (of (times - left)) (of count) before h)
+      subst (given old new) (repetition.adds (times - left) count ∙ ap of e) (laws.both old mid new (of (times - left)) (of count) before h)
 
-  pub run_all : (old new : S) (times left : ℕ) → left ≤ 0 → given old new (of (times - left)) → given old new (of times)
-  run_all old new times left none h = let e : times - left ≡ times = omega (arith, none) in subst (given old new) (ap of e) h
+  pub repeated_all : (old new : S) (times left : ℕ) → left ≤ 0 → given old new (of (times - left)) → given old new (of times)
+  repeated_all old new times left none h = let e : times - left ≡ times = omega (arith, none) in subst (given old new) (ap of e) h
 
 -- the verbatim bytes of a text, and then what follows of its canonical text
 pub verbatim_put : {S : Type 0} {given : S → S → Text → Type 0} (laws : IsSink given) (model : Model) (t verbatim : Text) (old mid new : S) (r : Result (Unit {0}) Refusal) → given old mid verbatim

@@ -17,7 +17,7 @@ use Rattle.pf_canon.specs.declared.transducer.Transducer.{Transducer}
 use Rattle.pf_canon.specs.declared.faults.CanonFault.TheVariants.{Memory}
 use Rattle.pf_canon.specs.Answers.{HindersCanonical, IsCanonicalFor, most_len}
 use Rattle.pf_canon.specs.Output.{output_text}
-use Rattle.pf_canon.specs.Transducer.{Finishes, GrowsByChunk, IsThrough, IsUpTo, RefusesChunk, chunk_output_text}
+use Rattle.pf_canon.specs.Transducer.{SettlesEnd, GrowsByChunk, IsThrough, IsUpTo, RefusesChunk, chunk_output_text}
 
 no_byte_truncates : (b : Bool) (part : Text) (byte : ℕ) (kind : RefusalKind) → MatchBool b (kind ≡ TooLong) (IsRefusedByte part byte kind) → kind ≢ Truncated
 no_byte_truncates true part byte kind h e = let both : TooLong ≡ Truncated = sym h ∙ e in cc
@@ -48,7 +48,7 @@ most_len-append [] b = omega arith
 most_len-append (Byte byte ∷ a) b = omega (arith, most_len-append a b)
 most_len-append (Directive s ∷ a) b = omega (arith, most_len-append a b)
 
-module _ (model : Model) (t c out : Text) (r : Transducer) (items : List Item) (at : ℕ) (output : Output) (whole : length t ≤ at) (h : IsThrough model r (take at t) items out) (ends : Finishes model (take at t) items out (Ok output)) where
+module _ (model : Model) (t c out : Text) (r : Transducer) (items : List Item) (at : ℕ) (output : Output) (whole : length t ≤ at) (h : IsThrough model r (take at t) items out) (ends : SettlesEnd model (take at t) items out (Ok output)) where
   -- a text was taken to its end, and all that it settles was appended
   pub all_built : length (output_text output) ≤ 4 * r.waiting → c ≡ out ++ output_text output → IsCanonicalFor model t c
   all_built few e =
@@ -67,7 +67,7 @@ no_bytes [] few = refl
 no_bytes (b ∷ t) few = absurd (omega arith)
 
 -- a text whose bytes are all verbatim is its own canonical text
-pub settled_whole : (r : Transducer) (t : Text) (verbatim_len : ℕ) (output : Output) (up : IsUpTo r t verbatim_len (take verbatim_len t)) → length t ≤ verbatim_len → r.waiting ≡ 0 → Finishes r.model (take verbatim_len t) up.1 (take verbatim_len t) (Ok output) → length (output_text output) ≤ 4 * r.waiting → IsCanonicalFor r.model t t
+pub settled_whole : (r : Transducer) (t : Text) (verbatim_len : ℕ) (output : Output) (up : IsUpTo r t verbatim_len (take verbatim_len t)) → length t ≤ verbatim_len → r.waiting ≡ 0 → SettlesEnd r.model (take verbatim_len t) up.1 (take verbatim_len t) (Ok output) → length (output_text output) ≤ 4 * r.waiting → IsCanonicalFor r.model t t
 settled_whole r t verbatim_len output up whole none ends few =
     let empty = no_bytes (output_text output) (omega (arith, few, none)) in
     all_built r.model t t (take verbatim_len t) r up.1 verbatim_len output whole up.2 ends few (sym (take_all verbatim_len t whole) ∙ sym (append-nil (take verbatim_len t)) ∙ ap (λ u. take verbatim_len t ++ u) (sym empty))
