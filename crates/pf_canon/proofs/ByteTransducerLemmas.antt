@@ -20,9 +20,9 @@ use Rattle.pf_canon.specs.declared.output.StepOutput.TheVariants as outputs
 use Rattle.pf_canon.specs.declared.transducer.Transducer.{Transducer}
 use Rattle.pf_canon.specs.Output.{output_text}
 use Rattle.pf_canon.specs.CanonicalBytes.{CountsFault, CountsStep, IsEnding, IsInTime, IsLean, IsReadFor, IsReading, IsRefusedBehind, IsNoReadFault, LowersAnswer, LowersUnits, units}
-use Rattle.pf_canon.specs.Transducer.{Finishes, GrowsByByte, IsThrough, SettlesTo, TakesByte, byte_output_text}
+use Rattle.pf_canon.specs.Transducer.{SettlesEnd, GrowsByByte, IsThrough, SettlesTo, TakesByte, byte_output_text}
 use Rattle.pf_canon.proofs.ChunkLemmas.{through_settles}
-use Rattle.pf_canon.proofs.RefusedLemmas.{not_truncated}
+use Rattle.pf_canon.proofs.TextLemmas.{not_truncated}
 
 -- nothing more was taken
 pub none_more : (P : Text → Type 0) (taken : Text) → P taken → (more : Text) × P (taken ++ more)
@@ -144,7 +144,7 @@ module _ (model : Model) (r : Transducer) (start left : Known) (taken given : Te
 
   module _ (end : IsAtEnd left) where
     -- what the end settled waits
-    pub waits_last : (output : Output) (pending : Text) → output_text output ≡ pending → Finishes model taken items given (Ok output) → (more : Text) × IsEnding model pending start left (taken ++ more) given
+    pub waits_last : (output : Output) (pending : Text) → output_text output ≡ pending → SettlesEnd model taken items given (Ok output) → (more : Text) × IsEnding model pending start left (taken ++ more) given
     waits_last output pending same e = none_more (λ t. IsEnding model pending start left t given) taken
         (record {
           reader = reader;
@@ -155,7 +155,7 @@ module _ (model : Model) (r : Transducer) (start left : Known) (taken given : Te
         })
 
     -- the end is refused
-    pub refuses_end : (refusal : Refusal) (P : Type 0) → P → Finishes model taken items given (Err refusal) → (more : Text) × (IsRefusedBehind start left (taken ++ more) refusal × SettlesTo model (taken ++ more) given × IsReadFor model (taken ++ more) given × P)
+    pub refuses_end : (refusal : Refusal) (P : Type 0) → P → SettlesEnd model taken items given (Err refusal) → (more : Text) × (IsRefusedBehind start left (taken ++ more) refusal × SettlesTo model (taken ++ more) given × IsReadFor model (taken ++ more) given × P)
     refuses_end refusal P p e =
         none_more (λ t. IsRefusedBehind start left t refusal × SettlesTo model t given × IsReadFor model t given × P) taken
         (record { place = e.1; cause = inl (e.0, reader, end, e.2) }, through_settles model r taken given items through, read, p)

@@ -23,9 +23,8 @@ use Rattle.pf_canon.specs.Making.{IsMaking}
 use Rattle.pf_canon.specs.Output.{output_text}
 use Rattle.pf_canon.specs.Transducer.{GrowsByChunk, HasScannedDirective, HasScannedByte, IsThrough, TakesVerbatim, TakesText, RefusesChunk, Settles, SettlesTo, SettlesWhole, SettlesDirective, chunk_output_text, byte_output_text, more_of, step_output_text}
 use Rattle.pf_text.specs.Plain.{PassesPlain, PassesSilents, silents}
-use Rattle.pf_canon.proofs.TextLemmas.{most_len-append}
+use Rattle.pf_canon.proofs.TextLemmas.{most_len-append, not_truncated}
 use Rattle.pf_canon.proofs.MakingLemmas.{made_more, made_settled, made_silents}
-use Rattle.pf_canon.proofs.RefusedLemmas.{not_truncated}
 use Rattle.pf_canon.proofs.TransducerLemmas.{directive_grown, grown, passed, passed_plain, through_few}
 
 pub through_settles : (model : Model) (r : Transducer) (t out : Text) (items : List Item) → IsThrough model r t items out → SettlesTo model t out

@@ -1,15 +1,17 @@
 -- Two texts that are compared.
-use Rattle.std.proofs.Common.{◌≡◌, ◌≢◌, ℕ, ◌<◌, ◌≤◌, Bool, true, false, [], ◌∷◌, ◌++◌, length, List, Option, Some, None, Result, Ok, Err, refl, sym, ◌∙◌, subst, arith, inl, inr, take, drop, ap}
+use Rattle.std.proofs.Common.{Some, ◌≡◌, ℕ, ◌+◌, ◌≤◌, ◌++◌, length, take, drop, sym, ap, ◌∙◌, ◌≢◌, ◌<◌, Bool, true, false, [], ◌∷◌, List, Option, None, Result, Ok, Err, refl, subst, arith, inl, inr}
+use Rattle.std.proofs.Math.Seq.{take-add}
+use Rattle.std.proofs.lemmas.List.{take-append-le, append-nil, append_assoc, append_cancel_left, length-append, length-take, take-append-drop, take-take}
 use Rattle.std.specs.Prelude.{MatchBool}
 use Rattle.std.specs.Io.KnownBytes.{Consumes}
-use Rattle.std.proofs.lemmas.List.{append-nil, append_assoc, append_cancel_left, length-append, length-take, take-append-drop, take-append-le, take-take}
+use Rattle.pf_values.specs.Text.{Text}
 use Rattle.pf_values.specs.declared.models.Model.{Model}
 use Rattle.pf_values.specs.Canonical.{IsCanonicalOf}
 use Rattle.pf_values.specs.Counting.{Known}
 use Rattle.pf_values.specs.Items.{Item}
-use Rattle.pf_values.specs.Text.{Text}
 use Rattle.pf_probes.proofs.Unique.{equivalent_formats_one}
-use Rattle.pf_canon.specs.Comparison.{BeginsWith, CountsSides, CountsStop, Drained, DrainsTo, EndsBoth, FaultCounts, Gave, AreNextBytes, IsReadInStep, NextBytesLeave, StopsBy, StopsOn, AreTextsSame, AreCommon}
+use Rattle.pf_canon.specs.Output.{IsFrontOf, pending_text}
+use Rattle.pf_canon.specs.Comparison.{AreCommon, HaveCommon, BeginsWith, CountsSides, CountsStop, Drained, DrainsTo, EndsBoth, FaultCounts, Gave, AreNextBytes, IsReadInStep, NextBytesLeave, StopsBy, StopsOn, AreTextsSame}
 use Rattle.pf_canon.specs.declared.comparison.NextBytes.{NextBytes}
 use Rattle.pf_canon.specs.declared.comparison.NextBytes.TheVariants.{Equal, BothEnded, Differ}
 use Rattle.pf_canon.specs.declared.faults.SideFault.{SideFault}
@@ -18,13 +20,25 @@ use Rattle.pf_canon.specs.declared.faults.StreamFault.TheVariants as faults
 use Rattle.pf_canon.specs.declared.faults.Side.{Side}
 use Rattle.pf_canon.specs.declared.faults.Side.TheVariants.{First, Second}
 use Rattle.pf_canon.specs.declared.canonical_bytes.ByteTransducer.{ByteTransducer}
-use Rattle.pf_canon.specs.Output.{pending_text}
 use Rattle.pf_canon.specs.CanonicalBytes.{CountsFault, History, IsEnding, IsOver, IsReadFor, IsReading, AnswerLeaves, StepsBy}
 use Rattle.pf_canon.proofs.EquivalentTexts.{equivalent_by}
 use Rattle.pf_canon.specs.declared.transducer.Transducer.{Transducer}
 use Rattle.pf_canon.specs.Transducer.{IsThrough, IsUpTo}
 use Rattle.pf_canon.specs.Walk.{AreApart, GoInStep, IsMidway, IsWalkedWhole, IsAcceptedAs, waits}
 use Rattle.pf_canon.specs.declared.walk.Walk.{Walk}
+
+-- so many bytes more are the same
+pub common_more : (t u : Text) (at more : ℕ) → AreCommon t u at → at + more ≤ length t → at + more ≤ length u → take more (drop at t) ≡ take more (drop at u) → AreCommon t u (at + more)
+common_more t u at more h first second same = record {
+  first = first;
+  second = second;
+  same = take-add at more t ∙ ap (λ v. v ++ take more (drop at t)) h.same ∙ ap (λ v. take at u ++ v) same ∙ sym (take-add at more u);
+}
+
+-- the first bytes of texts whose fronts have them in common
+pub common_taken : (t u f g : Text) (count : ℕ) → IsFrontOf t f → IsFrontOf u g → HaveCommon f g (Some count) → take count u ≡ take count t
+common_taken t u f g count h k common =
+    ap (take count) k.whole ∙ take-append-le count g k.behind common.1 ∙ sym common.2 ∙ sym (take-append-le count f h.behind common.0) ∙ ap (take count) (sym h.whole)
 
 pub fault_counts : {B : Type 0} (kept failed : B → B → Type 0) (fault : StreamFault) (old new : B) → CountsFault kept failed (Some (Err fault)) old new → FaultCounts kept failed fault old new
 fault_counts kept failed faults.Read old new h = h
@@ -176,7 +190,7 @@ module _ (model : Model) (f f_left g g_left : Known) where
         same = (λ _. equivalent_by model t u (given ++ []) c.equivalent d.equivalent, λ _. refl);
       }
 
--- a byte or an end of each
+-- the next byte of each, or its end
 pub next_bytes_left : (model : Model) (x y : Option ℕ) (p : NextBytes) (one two : ByteTransducer) (f a g b : Known) (t u given : Text) → AreNextBytes x y p → Gave model x one f a t given → Gave model y two g b u given → IsReadFor model u given → NextBytesLeave model one a two b f g (Ok p)
 next_bytes_left model x y Equal one two f a g b t u given h k l read = record {
   t = t;
@@ -244,7 +258,7 @@ unlike_told model f g c d unlike h k = record {
   same = (λ is. absurd (cc), λ e. absurd (unlike (equivalent_formats_one model f g c d e h.1 k.1)));
 }
 
--- they begin with unequal runs
+-- their verbatim bytes differ
 pub verbatim_differ : (model : Model) (f g more other : Text) (n m both : ℕ) → both ≤ n → both ≤ m → n ≤ length f → m ≤ length g → take both f ≢ take both g → IsAcceptedAs model f (take n f ++ more) → IsAcceptedAs model g (take m g ++ other) → AreTextsSame model f g false
 verbatim_differ model f g more other n m both first second within also apart h k =
     unlike_told model f g (take n f ++ more) (take m g ++ other) (λ e. apart (sym (verbatim_front f more n both first within) ∙ ap (take both) e ∙ verbatim_front g other m both second also)) h k

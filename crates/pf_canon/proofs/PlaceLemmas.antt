@@ -9,7 +9,7 @@ use Rattle.pf_values.specs.Canonical.{item_spelling}
 use Rattle.pf_values.specs.Text.{Text}
 use Rattle.pf_text.specs.Plain.{silents}
 use Rattle.pf_canon.specs.Output.{IsFrontOf, silent_bytes}
-use Rattle.pf_canon.proofs.SilentLemmas.{spelled_silent}
+use Rattle.pf_canon.proofs.OutputLemmas.{spelled_silent}
 
 -- all of a text
 pub front_all : (t : Text) → IsFrontOf t t

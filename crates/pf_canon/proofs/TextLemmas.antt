@@ -1,12 +1,15 @@
--- What is settled of a text in memory, chunk after chunk.
-use Rattle.std.proofs.Common.{◌≡◌, ◌≢◌, ℕ, ◌+◌, ◌*◌, ◌<◌, ◌≤◌, true, false, List, [], ◌∷◌, ◌++◌, length, take, drop, refl, sym, ap, ◌∙◌, subst, arith, Ok}
+-- What is settled of a text in memory, chunk after chunk, and where it is refused.
+use Rattle.std.proofs.Common.{◌≡◌, ◌≢◌, ℕ, ◌∷◌, ◌++◌, Bool, true, false, length, drop, sym, ap, ◌∙◌, subst, ◌+◌, ◌*◌, ◌<◌, ◌≤◌, List, [], take, refl, arith, Ok}
 use Rattle.std.specs.Prelude.{MatchBool, ◌==◌}
-use Rattle.std.proofs.Math.Seq.{take-add}
+use Rattle.std.proofs.Math.Seq.{drop-append_seam, take-add}
 use Rattle.std.proofs.lemmas.List.{append_assoc, append-nil, length-append, take_all, take-append-drop}
+use Rattle.pf_values.specs.declared.limits.TheConstants.{MAX_TEXT_LEN}
+use Rattle.pf_values.specs.declared.refusals.RefusalKind.{RefusalKind}
+use Rattle.pf_values.specs.declared.refusals.RefusalKind.TheVariants.{TooLong, Truncated}
+use Rattle.pf_values.specs.Refusals.{HasCause, IsRefusedAt, IsRefusedByte}
+use Rattle.pf_values.specs.Text.{Text, percent}
 use Rattle.pf_values.specs.declared.models.Model.{Model}
 use Rattle.pf_values.specs.Items.{Item, Byte, Directive, IsReadAs, Reads}
-use Rattle.pf_values.specs.Text.{Text, percent}
-use Rattle.pf_values.specs.Refusals.{IsRefusedAt}
 use Rattle.pf_canon.specs.declared.output.Output.{Output}
 use Rattle.pf_canon.specs.declared.chunk.Chunk.{Chunk}
 use Rattle.pf_canon.specs.declared.chunk.ChunkRefusal.{ChunkRefusal}
@@ -14,7 +17,18 @@ use Rattle.pf_canon.specs.declared.transducer.Transducer.{Transducer}
 use Rattle.pf_canon.specs.declared.faults.CanonFault.TheVariants.{Memory}
 use Rattle.pf_canon.specs.Answers.{HindersCanonical, IsCanonicalFor, most_len}
 use Rattle.pf_canon.specs.Output.{output_text}
-use Rattle.pf_canon.specs.Transducer.{Finishes, GrowsByChunk, IsThrough, IsUpTo, RefusesChunk, chunk_output_text}
+use Rattle.pf_canon.specs.Transducer.{SettlesEnd, GrowsByChunk, IsThrough, IsUpTo, RefusesChunk, chunk_output_text}
+
+no_byte_truncates : (b : Bool) (part : Text) (byte : ℕ) (kind : RefusalKind) → MatchBool b (kind ≡ TooLong) (IsRefusedByte part byte kind) → kind ≢ Truncated
+no_byte_truncates true part byte kind h e = let both : TooLong ≡ Truncated = sym h ∙ e in cc
+no_byte_truncates false part byte kind h e = let reason = h.reason in rw e at reason
+
+-- its kind isn't that of a text that ends
+pub not_truncated : (t : Text) (byte : ℕ) (rest : Text) (kind : RefusalKind) (at : ℕ) → at ≡ length t → IsRefusedAt (t ++ byte ∷ rest) kind at → kind ≢ Truncated
+not_truncated t byte rest kind at place h =
+    let same : h.rest ≡ byte ∷ rest =
+    sym (drop-append_seam h.front h.rest) ∙ ap (drop (length h.front)) (sym h.split) ∙ ap (λ n. drop n (t ++ byte ∷ rest)) (sym h.place ∙ place) ∙ drop-append_seam t (byte ∷ rest) in
+    no_byte_truncates (at == MAX_TEXT_LEN) h.part byte kind (subst (λ u. HasCause at h.part u kind) same h.cause)
 
 -- an item is read from a byte at least
 some_bytes : (t : Text) (item : Item) → IsReadAs t item → 1 ≤ length t
@@ -34,7 +48,7 @@ most_len-append [] b = omega arith
 most_len-append (Byte byte ∷ a) b = omega (arith, most_len-append a b)
 most_len-append (Directive s ∷ a) b = omega (arith, most_len-append a b)
 
-module _ (model : Model) (t c out : Text) (r : Transducer) (items : List Item) (at : ℕ) (output : Output) (whole : length t ≤ at) (h : IsThrough model r (take at t) items out) (ends : Finishes model (take at t) items out (Ok output)) where
+module _ (model : Model) (t c out : Text) (r : Transducer) (items : List Item) (at : ℕ) (output : Output) (whole : length t ≤ at) (h : IsThrough model r (take at t) items out) (ends : SettlesEnd model (take at t) items out (Ok output)) where
   -- a text was taken to its end, and all that it settles was appended
   pub all_built : length (output_text output) ≤ 4 * r.waiting → c ≡ out ++ output_text output → IsCanonicalFor model t c
   all_built few e =
@@ -53,7 +67,7 @@ no_bytes [] few = refl
 no_bytes (b ∷ t) few = absurd (omega arith)
 
 -- a text whose bytes are all verbatim is its own canonical text
-pub settled_whole : (r : Transducer) (t : Text) (verbatim_len : ℕ) (output : Output) (up : IsUpTo r t verbatim_len (take verbatim_len t)) → length t ≤ verbatim_len → r.waiting ≡ 0 → Finishes r.model (take verbatim_len t) up.1 (take verbatim_len t) (Ok output) → length (output_text output) ≤ 4 * r.waiting → IsCanonicalFor r.model t t
+pub settled_whole : (r : Transducer) (t : Text) (verbatim_len : ℕ) (output : Output) (up : IsUpTo r t verbatim_len (take verbatim_len t)) → length t ≤ verbatim_len → r.waiting ≡ 0 → SettlesEnd r.model (take verbatim_len t) up.1 (take verbatim_len t) (Ok output) → length (output_text output) ≤ 4 * r.waiting → IsCanonicalFor r.model t t
 settled_whole r t verbatim_len output up whole none ends few =
     let empty = no_bytes (output_text output) (omega (arith, few, none)) in
     all_built r.model t t (take verbatim_len t) r up.1 verbatim_len output whole up.2 ends few (sym (take_all verbatim_len t whole) ∙ sym (append-nil (take verbatim_len t)) ∙ ap (λ u. take verbatim_len t ++ u) (sym empty))

@@ -12,7 +12,7 @@ use Rattle.pf_canon.specs.declared.chunk.Chunk.{Chunk}
 use Rattle.pf_canon.specs.declared.chunk.ChunkRefusal.{ChunkRefusal}
 use Rattle.pf_canon.specs.declared.transducer.Transducer.{Transducer}
 use Rattle.pf_canon.specs.Output.{output_text}
-use Rattle.pf_canon.specs.Transducer.{Finishes, GrowsByChunk, IsThrough, TakesVerbatim, RefusesChunk, chunk_output_text}
+use Rattle.pf_canon.specs.Transducer.{SettlesEnd, GrowsByChunk, IsThrough, TakesVerbatim, RefusesChunk, chunk_output_text}
 use Rattle.pf_canon.specs.Walk.{WalkHasGivenBy, IsMidway, IsWalkedWhole, IsAcceptedAs, waits}
 use Rattle.pf_canon.specs.declared.walk.Walk.{Walk}
 use Rattle.pf_canon.proofs.TextLemmas.{refused_behind}
@@ -66,7 +66,7 @@ chunk_refused model r rest waiting text given refused h fed =
 
 -- the end was taken
 pub ended_whole : (model : Model) (r : Transducer) (rest waiting text given : Text) (output : Output) → rest ≡ [] → waiting ≡ [] → IsMidway model r rest waiting text given
-    → ((t out : Text) (items : List Item) → IsThrough model r t items out → Finishes model t items out (Ok output)) → IsAcceptedAs model text (given ++ output_text output)
+    → ((t out : Text) (items : List Item) → IsThrough model r t items out → SettlesEnd model t items out (Ok output)) → IsAcceptedAs model text (given ++ output_text output)
 ended_whole model r rest waiting text given output at_end none h ends =
     let all : h.taken ≡ text = sym (append-nil h.taken) ∙ ap (λ t. h.taken ++ t) (sym at_end) ∙ sym h.split in
     let out : given ++ waiting ≡ given = ap (λ t. given ++ t) none ∙ append-nil given in
@@ -76,14 +76,14 @@ ended_whole model r rest waiting text given output at_end none h ends =
     )
 
 pub ended_refused : (model : Model) (r : Transducer) (rest waiting text given : Text) (refusal : Refusal) → rest ≡ [] → IsMidway model r rest waiting text given
-    → ((t out : Text) (items : List Item) → IsThrough model r t items out → Finishes model t items out (Err refusal)) → IsRefusedAt text refusal.kind refusal.at
+    → ((t out : Text) (items : List Item) → IsThrough model r t items out → SettlesEnd model t items out (Err refusal)) → IsRefusedAt text refusal.kind refusal.at
 ended_refused model r rest waiting text given refusal at_end h ends =
     let all : h.taken ≡ text = sym (append-nil h.taken) ∙ ap (λ t. h.taken ++ t) (sym at_end) ∙ sym h.split in
     let e = ends h.taken (given ++ waiting) h.items h.through in
     subst (λ t. IsRefusedAt t refusal.kind refusal.at) all e.2
 
 -- the rest was taken to its end
-pub rest_whole : (model : Model) (r : Transducer) (t out more : Text) (items : List Item) (output : Output) → IsThrough model r t items (out ++ more) → Finishes model t items (out ++ more) (Ok output) → (all : Text) × IsAcceptedAs model t (out ++ all)
+pub rest_whole : (model : Model) (r : Transducer) (t out more : Text) (items : List Item) (output : Output) → IsThrough model r t items (out ++ more) → SettlesEnd model t items (out ++ more) (Ok output) → (all : Text) × IsAcceptedAs model t (out ++ all)
 rest_whole model r t out more items output h ends = (
   more ++ output_text output,
   ((items, record { reads = ends.0; limit = h.after.limit }), rw (append_assoc out more (output_text output)) at ends.1),

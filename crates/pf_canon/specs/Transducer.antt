@@ -192,9 +192,9 @@ TakesText model t out (Err refusal) =
     IsRefusedAt t refusal.kind refusal.at × SettlesWhole model t out
 
 -- the text is whole, and with these bytes its canonical text
-abbrev pub Finishes : Model → Text → List Item → Text → Result Output Refusal → Type 0
-Finishes model t items out (Ok output) = Reads t items
+abbrev pub SettlesEnd : Model → Text → List Item → Text → Result Output Refusal → Type 0
+SettlesEnd model t items out (Ok output) = Reads t items
     × IsCanonicalOf model t (out ++ output_text output)
     × (IsCanonicalText model t → out ++ output_text output ≡ t)
-Finishes model t items out (Err refusal) = (refusal.kind ≡ Truncated) × (refusal.at ≡ length t)
+SettlesEnd model t items out (Err refusal) = (refusal.kind ≡ Truncated) × (refusal.at ≡ length t)
     × IsRefusedAt t refusal.kind refusal.at

@@ -8,7 +8,7 @@ ghost use Rattle.pf_text.specs.History.{offset_of};
 ghost use Rattle.pf_canon.specs.Answers.{most_len};
 ghost use Rattle.pf_canon.specs.declared.limits.TheConstants.{MAX_DIRECTIVE_LEN};
 ghost use Rattle.pf_canon.specs.Output.{output_text};
-ghost use Rattle.pf_canon.specs.Transducer.{Finishes, GrowsByChunk, HasScannedDirective, HasScannedByte, IsChunkWithin, IsThrough, IsUpTo, TakesVerbatim, TakesText, Settles, TakesByte, SettlesDirective, TakesChunk, chunk_output_text, byte_output_text, data_model_of, more_of, scanner_of, waiting_silents_of};
+ghost use Rattle.pf_canon.specs.Transducer.{SettlesEnd, GrowsByChunk, HasScannedDirective, HasScannedByte, IsChunkWithin, IsThrough, IsUpTo, TakesVerbatim, TakesText, Settles, TakesByte, SettlesDirective, TakesChunk, chunk_output_text, byte_output_text, data_model_of, more_of, scanner_of, waiting_silents_of};
 
 use crate::chunk::{Chunk, ChunkRefusal};
 use crate::output::{Output, StepOutput};
@@ -363,7 +363,7 @@ impl Transducer {
     #[inline(always)]
     pub(crate) fn finish(&self) -> Result<Output, Refusal>
         ensures ended { (model : Model) (t out : Text) (items : List Item)
-            → IsThrough model self.now t items out → Finishes model t items out result }
+            → IsThrough model self.now t items out → SettlesEnd model t items out result }
         ensures few { IfOk result (λ output.
             length (output_text output) ≤ 4 * waiting_silents_of self.now) }
     {

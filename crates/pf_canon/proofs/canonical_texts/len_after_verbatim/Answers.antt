@@ -1,5 +1,5 @@
 use Rattle.std.proofs.Common.{take}
-use Rattle.pf_canon.proofs.LengthLemmas.{counted}
+use Rattle.pf_canon.proofs.SinkLemmas.{counted}
 use Rattle.pf_canon.proofs.canonical_texts.len_after_verbatim.Goals as goal
 
 pub returns-in-Ok : goal.returns-in-Ok

@@ -1,5 +1,5 @@
 use Rattle.std.proofs.Common.{◌≡◌, ◌+◌, ◌-◌, arith, drop, take}
-use Rattle.pf_canon.proofs.PrefixLemmas.{common_more}
+use Rattle.pf_canon.proofs.ComparisonLemmas.{common_more}
 use Rattle.pf_canon.proofs.comparison.common_bytes.Goals as goal
 
 pub loop-at-preserved : goal.loop-at-preserved

@@ -1,6 +1,6 @@
 use Rattle.std.proofs.Common.{◌++◌, subst, take}
 use Rattle.pf_canon.specs.Walk.{WalkHasGiven, waits}
-use Rattle.pf_canon.proofs.PrefixLemmas.{common_taken}
+use Rattle.pf_canon.proofs.ComparisonLemmas.{common_taken}
 use Rattle.pf_canon.proofs.comparison.go_in_step.Goals as goal
 
 pub loop-count-preserved : goal.loop-count-preserved

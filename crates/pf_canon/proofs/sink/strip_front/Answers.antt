@@ -1,6 +1,6 @@
 use Rattle.std.proofs.lemmas.Bool.Decides.{Decides-eqb}
 use Rattle.std.proofs.lemmas.Slice.Eq.{strip_prefix_is}
-use Rattle.pf_canon.proofs.ExpectedLemmas.{front_stripped}
+use Rattle.pf_canon.proofs.SinkLemmas.{front_stripped}
 use Rattle.pf_canon.proofs.sink.strip_front.Goals as goal
 
 pub returns-in-Some : goal.returns-in-Some

@@ -5,7 +5,7 @@ use Rattle.pf_values.specs.Canonical.{item_spelling}
 use Rattle.pf_values.specs.Text.{space}
 use Rattle.pf_text.specs.Plain.{silents}
 use Rattle.pf_canon.specs.Output.{IsFrontOf}
-use Rattle.pf_canon.proofs.SilentLemmas.{length-silents}
+use Rattle.pf_canon.proofs.OutputLemmas.{length-silents}
 use Rattle.pf_canon.proofs.PlaceLemmas.{front_all, front_of_first, front_of_second}
 use Rattle.pf_canon.proofs.output.Output.front_after_zeros.Goals as goal
 

@@ -1,5 +1,5 @@
 use Rattle.std.proofs.Common.{rules}
-use Rattle.pf_canon.proofs.PendingLemmas.{silents_next}
+use Rattle.pf_canon.proofs.OutputLemmas.{silents_next}
 use Rattle.pf_canon.proofs.output.PendingSilents.pop.Goals as goal
 
 pub returns-in_default : goal.returns-in_default
