@@ -1,7 +1,7 @@
 -- What holds of the bytes of a format that is given.
 use Rattle.std.proofs.Common.{◌≡◌, ℕ, ◌≤◌, List, Option, None, Some, ap, arith, length, length-append, subst, sym, unwrap_or}
 use Rattle.std.specs.Prelude.{MatchOption, ⊤}
-use Rattle.pf_canon.specs.declared.sides.Side.TheVariants as sides
+use Rattle.pf_canon.specs.declared.faults.Side.TheVariants as sides
 use Rattle.pf_literals.specs.Answers.{HasNoPlace, IsPlaceOf}
 use Rattle.pf_literals.specs.Sources.{IsSourceOf}
 use Rattle.pf_literals.proofs.HasPlaceLemmas.{has_place}

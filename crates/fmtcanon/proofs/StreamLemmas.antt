@@ -7,7 +7,7 @@ use Rattle.pf_values.specs.declared.models.Model.{Model}
 use Rattle.pf_values.specs.Counting.{Known, failures_of}
 use Rattle.pf_values.specs.Text.{Text}
 use Rattle.pf_text.specs.declared.refusal.Refusal.{Refusal}
-use Rattle.pf_canon.specs.Copying.{CopyStops, ReadCounts, SettledOut}
+use Rattle.pf_canon.specs.Copy.{CopyStops, ReadCounts, SettledOut}
 use Rattle.pf_canon.specs.declared.faults.CopyFault.{CopyFault}
 use Rattle.pf_canon.specs.declared.faults.CopyFault.TheVariants as faults
 

@@ -6,7 +6,7 @@ use Rattle.pf_signatures.specs.declared.refusals.SignatureFault.{SignatureFault}
 use Rattle.pf_signatures.specs.declared.refusals.SignatureFault.TheVariants as signature
 use Rattle.pf_text.specs.declared.faults.TextFault.{TextFault}
 use Rattle.pf_text.specs.declared.faults.TextFault.TheVariants as text
-use Rattle.pf_canon.specs.declared.sides.Side.{Side}
+use Rattle.pf_canon.specs.declared.faults.Side.{Side}
 use Rattle.pf_canon.specs.declared.faults.CanonFault.{CanonFault}
 use Rattle.pf_canon.specs.declared.faults.CanonFault.TheVariants as canonical
 use Rattle.pf_compare.specs.declared.comparisons.CompareFault.{CompareFault}

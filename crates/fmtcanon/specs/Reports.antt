@@ -9,8 +9,8 @@ use Rattle.pf_literals.specs.Kinds as literals
 use Rattle.pf_signatures.specs.declared.refusals.SignatureRefusal.{SignatureRefusal}
 use Rattle.pf_signatures.specs.Kinds as signatures
 use Rattle.pf_text.specs.declared.refusal.Refusal.{Refusal}
-use Rattle.pf_canon.specs.declared.sides.Side.{Side}
-use Rattle.pf_canon.specs.declared.sides.Side.TheVariants as sides
+use Rattle.pf_canon.specs.declared.faults.Side.{Side}
+use Rattle.pf_canon.specs.declared.faults.Side.TheVariants as sides
 use Rattle.fmtcanon.specs.Lines.{line}
 use Rattle.fmtcanon.specs.declared.outcome.Outcome.{Outcome}
 use Rattle.fmtcanon.specs.declared.outcome.Outcome.TheVariants.{Done, Same, Different, Refused, RefusedWhole, BadLiteral, BadWord, WrongCount, WrongType, Answered, NoSecond, Usage, Read, Write, Memory}

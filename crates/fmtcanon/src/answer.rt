@@ -2,7 +2,7 @@
 ghost use Rattle.std.specs.Prelude.{◌≡◌, Err, MatchResult, Ok, IfOk, MatchOption, Some, map};
 ghost use Rattle.fmtcanon.specs.Answers.{IsAnswer, IsQuestionFault, HasCanonicalLine, IsFormatFault, IsGivenFault, IsGivenPairFault, IsWholeFault, IsAcceptedWhole, IsFaultInTexts, IsFaultInText, side_of};
 ghost use Rattle.fmtcanon.specs.declared.answer.Ending.TheVariants.{Done};
-ghost use Rattle.pf_canon.specs.declared.sides.Side.TheVariants as sides;
+ghost use Rattle.pf_canon.specs.declared.faults.Side.TheVariants as sides;
 ghost use Rattle.pf_values.specs.Items.{IsAccepted};
 ghost use Rattle.pf_values.specs.Text.{Text};
 ghost use Rattle.fmtcanon.specs.ArgumentLines.{HasArgumentLines, IsFitAnswer};

@@ -6,7 +6,7 @@ use Rattle.std.proofs.lemmas.Bool.{false≢true}
 use Rattle.pf_values.specs.declared.models.Model.{Model}
 use Rattle.pf_values.specs.Printing.{AreEquivalent}
 use Rattle.pf_values.specs.Text.{Text}
-use Rattle.pf_canon.specs.Comparing.{AreTextsSame}
+use Rattle.pf_canon.specs.Comparison.{AreTextsSame}
 use Rattle.fmtcanon_c.specs.Calls.{AreSameModels}
 
 -- what the next data model counts

@@ -10,7 +10,7 @@ use Rattle.pf_values.specs.Text.{Text}
 use Rattle.pf_text.specs.Signatures.{TakesManyArguments, TakesTypes}
 use Rattle.pf_canon.specs.Answers.{HindersCanonical, IsCanonicalFor}
 use Rattle.pf_canon.specs.declared.faults.CanonFault.TheVariants as canon_faults
-use Rattle.pf_canon.specs.declared.sides.Side.TheVariants.{First, Second}
+use Rattle.pf_canon.specs.declared.faults.Side.TheVariants.{First, Second}
 use Rattle.pf_compare.specs.Answers.{HindersComparison, IsComparisonOf}
 use Rattle.pf_compare.specs.declared.comparisons.CompareFault.{CompareFault}
 use Rattle.pf_compare.specs.declared.comparisons.CompareFault.TheVariants as compare_faults

@@ -9,8 +9,8 @@ use Rattle.pf_values.specs.RefusalKinds.{name, number}
 use Rattle.pf_values.specs.Refusals.{IsRefusedAt}
 use Rattle.pf_values.specs.Text.{Text}
 use Rattle.pf_text.specs.declared.refusal.Refusal.{Refusal}
-use Rattle.pf_canon.specs.declared.sides.Side.{Side}
-use Rattle.pf_canon.specs.declared.sides.Side.TheVariants.{First, Second}
+use Rattle.pf_canon.specs.declared.faults.Side.{Side}
+use Rattle.pf_canon.specs.declared.faults.Side.TheVariants.{First, Second}
 use Rattle.fmtcanon_c.specs.declared.interface.CError.{CError}
 use Rattle.fmtcanon_c.specs.declared.interface.TheConstants.{LITERAL_KINDS}
 

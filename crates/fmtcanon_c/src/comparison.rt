@@ -2,7 +2,7 @@
 ghost use Rattle.std.specs.Prelude.{◌≡◌, MatchResult, ◌⊎◌, IfOk};
 ghost use Rattle.pf_values.specs.declared.models.TheConstants.Model.{ALL};
 ghost use Rattle.pf_values.specs.Items.{IsAccepted};
-ghost use Rattle.pf_canon.specs.Comparing.{TextStops};
+ghost use Rattle.pf_canon.specs.Comparison.{TextStops};
 ghost use Rattle.fmtcanon_c.specs.Calls.{AreSameModels, AnswersModels, AnswersSame, PutsComparison, PutsNoComparison, AnswersVerdict, IsFaultCode, IsComparisonCode, verdict_code, verdict_number, words_of, GivesArguments};
 ghost use Rattle.fmtcanon_c.specs.Models.{InModel};
 ghost use Rattle.fmtcanon_c.specs.Words.{ended_words};

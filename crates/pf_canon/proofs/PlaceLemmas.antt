@@ -1,4 +1,4 @@
--- What stands from a place of some bytes on.
+-- What a text has from a place on.
 use Rattle.std.proofs.Common.{◌≡◌, ℕ, zero, suc, ◌+◌, ◌-◌, ◌*◌, ◌%◌, ◌<◌, ◌≤◌, [], ◌++◌, length, take, drop, replicate, refl, sym, ap, ◌∙◌, subst, arith, inl, inr}
 use Rattle.std.specs.Prelude.{flat_map}
 use Rattle.std.proofs.Math.Nat.{mod-eq_of_lt, mod-eq-sub-mod}
@@ -8,8 +8,8 @@ use Rattle.std.proofs.lemmas.List.{append-nil, append_assoc, drop-append-le, len
 use Rattle.pf_values.specs.Canonical.{item_spelling}
 use Rattle.pf_values.specs.Text.{Text}
 use Rattle.pf_text.specs.Plain.{silents}
-use Rattle.pf_canon.specs.Parts.{IsFrontOf, silent_bytes}
-use Rattle.pf_canon.proofs.SilentLemmas.{spelled_silent}
+use Rattle.pf_canon.specs.Output.{IsFrontOf, silent_bytes}
+use Rattle.pf_canon.proofs.OutputLemmas.{spelled_silent}
 
 -- all of a text
 pub front_all : (t : Text) → IsFrontOf t t

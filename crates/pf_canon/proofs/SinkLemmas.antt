@@ -1,10 +1,11 @@
--- What is put into a sink, one text after another.
-use Rattle.std.proofs.Common.{◌≡◌, ℕ, ◌+◌, ◌-◌, ◌*◌, ◌≤◌, [], ◌++◌, replicate, refl, sym, ap, ◌∙◌, subst, arith}
-use Rattle.std.specs.Prelude.{flat_map, MatchResult, Result, Ok, Err}
-use Rattle.std.proofs.lemmas.List.{replicate-append-replicate}
-use Rattle.pf_values.specs.Canonical.{item_spelling}
+-- What a sink was given.
+use Rattle.std.proofs.Common.{◌≡◌, ℕ, ◌+◌, ◌-◌, ◌*◌, ◌≤◌, [], ◌++◌, replicate, refl, sym, ap, ◌∙◌, subst, arith, length, take, ◌≢◌, Bool, drop, Option, Some, None}
+use Rattle.std.specs.Prelude.{flat_map, MatchResult, Result, Ok, Err, IsTrue, MatchOption, ◌↔◌}
+use Rattle.std.proofs.lemmas.List.{replicate-append-replicate, length-append, length-take-le, append-nil, append_cancel_left, take-append-drop}
+use Rattle.std.specs.Borrow.{Bor}
+use Rattle.pf_values.specs.Canonical.{item_spelling, IsCanonicalText}
 use Rattle.pf_values.specs.declared.models.Model.{Model}
-use Rattle.pf_values.specs.Items.{Directive}
+use Rattle.pf_values.specs.Items.{Directive, IsAccepted}
 use Rattle.pf_values.specs.Normal.{silent}
 use Rattle.pf_values.specs.Refusals.{IsRefusedAt}
 use Rattle.pf_values.specs.Text.{Text}
@@ -12,41 +13,80 @@ use Rattle.pf_text.specs.declared.refusal.Refusal.{Refusal}
 use Rattle.pf_text.specs.Plain.{silents}
 use Rattle.pf_canon.specs.declared.limits.TheConstants.{BLOCK}
 use Rattle.pf_canon.specs.Answers.{IsCanonicalFor}
-use Rattle.pf_canon.specs.Sinks.{IsSink}
+use Rattle.pf_canon.specs.Sink.{IsSink, Counts, IsFrontStripped, IsLeft}
 use Rattle.pf_canon.proofs.CanonicalItems.{item_spelling-append}
+use Rattle.pf_canon.proofs.TextLemmas.{items_few}
+use Rattle.pf_canon.proofs.TransducerLemmas.{most_items}
 
 -- the same bytes so many times
-pub record IsRun (of : ℕ → Text) : Type 0 where
+pub record IsRepetition (of : ℕ → Text) : Type 0 where
   pub none : of 0 ≡ []
   pub adds : (a b : ℕ) → of a ++ of b ≡ of (a + b)
 
-pub blocks : (byte : ℕ) → IsRun (λ n. replicate (n * BLOCK) byte)
+pub blocks : (byte : ℕ) → IsRepetition (λ n. replicate (n * BLOCK) byte)
 blocks byte = record {
   none = refl;
   adds = λ a b. let e : a * BLOCK + b * BLOCK ≡ (a + b) * BLOCK = omega arith in replicate-append-replicate (a * BLOCK) (b * BLOCK) byte ∙ ap (λ n. replicate n byte) e;
 }
 
-pub silents_alone : IsRun (λ n. flat_map item_spelling (silents n))
+pub silents_alone : IsRepetition (λ n. flat_map item_spelling (silents n))
 silents_alone = record {
   none = refl;
   adds = λ a b. sym (item_spelling-append (silents a) (silents b)) ∙ ap (flat_map item_spelling) (replicate-append-replicate a b (Directive silent));
 }
 
--- a part of a run, and a part of what is left of it
-module _ {S : Type 0} {given : S → S → Text → Type 0} (laws : IsSink given) {of : ℕ → Text} (run : IsRun of) where
-  pub run_none : (s : S) (times left : ℕ) → left ≡ times → given s s (of (times - left))
-  run_none s times left e = let none : times - left ≡ 0 = omega (arith, e) in subst (given s s) (sym (ap of none ∙ run.none)) (laws.none s)
+-- a part of a repetition, and a part of what is left of it
+module _ {S : Type 0} {given : S → S → Text → Type 0} (laws : IsSink given) {of : ℕ → Text} (repetition : IsRepetition of) where
+  pub repeated_none : (s : S) (times left : ℕ) → left ≡ times → given s s (of (times - left))
+  repeated_none s times left e = let none : times - left ≡ 0 = omega (arith, e) in subst (given s s) (sym (ap of none ∙ repetition.none)) (laws.none s)
 
-  pub run_more : (old mid new : S) (times left count : ℕ) → left ≤ times → count ≤ left → given old mid (of (times - left)) → given mid new (of count) → given old new (of (times - (left - count)))
-  run_more old mid new times left count all few before h =
+  pub repeated_more : (old mid new : S) (times left count : ℕ) → left ≤ times → count ≤ left → given old mid (of (times - left)) → given mid new (of count) → given old new (of (times - (left - count)))
+  repeated_more old mid new times left count all few before h =
       let e : times - left + count ≡ times - (left - count) = omega (arith, all, few) in
-      subst (given old new) (run.adds (times - left) count ∙ ap of e) (laws.both old mid new (of (times - left)) (of count) before h)
+      subst (given old new) (repetition.adds (times - left) count ∙ ap of e) (laws.both old mid new (of (times - left)) (of count) before h)
 
-  pub run_all : (old new : S) (times left : ℕ) → left ≤ 0 → given old new (of (times - left)) → given old new (of times)
-  run_all old new times left none h = let e : times - left ≡ times = omega (arith, none) in subst (given old new) (ap of e) h
+  pub repeated_all : (old new : S) (times left : ℕ) → left ≤ 0 → given old new (of (times - left)) → given old new (of times)
+  repeated_all old new times left none h = let e : times - left ≡ times = omega (arith, none) in subst (given old new) (ap of e) h
 
--- the run at the front of a canonical text, and then what follows
-pub run_put : {S : Type 0} {given : S → S → Text → Type 0} (laws : IsSink given) (model : Model) (t run : Text) (old mid new : S) (r : Result (Unit {0}) Refusal) → given old mid run
-    → MatchResult r (λ _. (more : Text) × given mid new more × IsCanonicalFor model t (run ++ more)) (λ refusal. IsRefusedAt t refusal.kind refusal.at) → MatchResult r (λ _. (c : Text) × given old new c × IsCanonicalFor model t c) (λ refusal. IsRefusedAt t refusal.kind refusal.at)
-run_put laws model t run old mid new (Ok done) h g = (run ++ g.0, laws.both old mid new run g.0 h g.1, g.2)
-run_put laws model t run old mid new (Err refusal) h g = g
+-- the verbatim bytes of a text, and then what follows of its canonical text
+pub verbatim_put : {S : Type 0} {given : S → S → Text → Type 0} (laws : IsSink given) (model : Model) (t verbatim : Text) (old mid new : S) (r : Result (Unit {0}) Refusal) → given old mid verbatim
+    → MatchResult r (λ _. (more : Text) × given mid new more × IsCanonicalFor model t (verbatim ++ more)) (λ refusal. IsRefusedAt t refusal.kind refusal.at) → MatchResult r (λ _. (c : Text) × given old new c × IsCanonicalFor model t c) (λ refusal. IsRefusedAt t refusal.kind refusal.at)
+verbatim_put laws model t verbatim old mid new (Ok done) h g = (verbatim ++ g.0, laws.both old mid new verbatim g.0 h g.1, g.2)
+verbatim_put laws model t verbatim old mid new (Err refusal) h g = g
+
+-- the verbatim bytes, and what follows, can be counted
+pub counted : (model : Model) (t more : Text) (verbatim_len len : ℕ) → verbatim_len ≤ length t → IsCanonicalFor model t (take verbatim_len t ++ more) → Counts verbatim_len (length more) len → (c : Text) × IsCanonicalFor model t c × (len ≡ length c)
+counted model t more verbatim_len len within h counts =
+    let few = h.few in
+    let limit = h.accepted.limit in
+    let all = length-append (take verbatim_len t) more in
+    let front = length-take-le verbatim_len t within in
+    (take verbatim_len t ++ more, h, omega (arith, all, front, counts (omega (arith, all, front, few, limit, most_items h.items, items_few t h.items h.accepted.reads))))
+
+pub front_stripped : (left : Bor Text) (bytes : Text) (rest : Option (Bor Text)) → MatchOption rest ((others : Text) → left.now ≢ bytes ++ others) (λ others. left.now ≡ bytes ++ others.now) → IsFrontStripped (Some left) bytes rest
+front_stripped left bytes (Some rest) h = h
+front_stripped left bytes None h = h
+
+-- all that was left was taken off
+used_up : (start left : Option (Bor Text)) (t bytes : Text) → IsLeft start t → IsFrontStripped start bytes left → IsLeft left [] → t ≡ bytes
+used_up (Some start) (Some left) t bytes e h none = sym e ∙ h ∙ ap (λ u. bytes ++ u) none ∙ append-nil bytes
+used_up (Some start) None t bytes e h none = absurd none
+used_up None left t bytes e h none = absurd e
+
+same_used_up : (start left : Option (Bor Text)) (t bytes : Text) → IsLeft start t → IsFrontStripped start bytes left → bytes ≡ t → IsLeft left []
+same_used_up (Some start) (Some left) t bytes e h same = append_cancel_left bytes left.now [] (sym h ∙ e ∙ sym same ∙ sym (append-nil bytes))
+same_used_up (Some start) None t bytes e h same = h [] (e ∙ sym same ∙ sym (append-nil bytes))
+same_used_up None left t bytes e h same = absurd e
+
+-- A text is canonical exactly if nothing is left of it after its canonical text. Both begin with
+-- its verbatim bytes.
+pub stripped_to_end : (model : Model) (t more : Text) (verbatim_len : ℕ) (start left : Option (Bor Text)) (is : Bool) → IsLeft start (drop verbatim_len t) → IsCanonicalFor model t (take verbatim_len t ++ more) → IsFrontStripped start more left → IsTrue is ↔ IsLeft left [] → IsAccepted t × (IsTrue is ↔ IsCanonicalText model t)
+stripped_to_end model t more verbatim_len start left is rest h cut e =
+    let front = take verbatim_len t in
+    let whole = take-append-drop verbatim_len t in (
+      (h.items, h.accepted),
+      (
+        λ yes. subst (IsCanonicalText model) (sym (sym whole ∙ ap (λ u. front ++ u) (used_up start left (drop verbatim_len t) more rest cut (e.0 yes)))) h.canonical_is.canonical,
+        λ is_text. e.1 (same_used_up start left (drop verbatim_len t) more rest cut (append_cancel_left front more (drop verbatim_len t) (h.kept is_text ∙ sym whole))),
+      ),
+    )

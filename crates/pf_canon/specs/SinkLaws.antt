@@ -7,18 +7,17 @@ use Rattle.pf_values.specs.declared.counting.Counted.{Counted}
 use Rattle.pf_values.specs.Counting.{Known, WritesFirst, device_of}
 use Rattle.pf_values.specs.Text.{Text}
 use Rattle.pf_values.proofs.WriteLemmas.{WritesFirst-more}
-use Rattle.pf_canon.specs.Cutting.{IsCut, IsCutOff}
-use Rattle.pf_canon.specs.Putting.{HasPut, PutsAll, PutsBy, PutsFirst}
-use Rattle.pf_canon.specs.Sinks.{IsBuilt, IsCounted, IsSink}
+use Rattle.pf_canon.specs.Sink.{IsStripped, IsFrontStripped, IsBuilt, IsCounted, IsSink}
+use Rattle.pf_canon.specs.Copy.{HasPut, PutsAll, PutsBy, PutsFirst}
 
 -- a text that is put together, and a count
 pub builds : {R : Type 0} (bytes_of : R → Text) → IsSink (IsBuilt bytes_of)
 builds bytes_of = record {
-  none = λ s going. (going, sym (append-nil (bytes_of s.room)));
+  none = λ s going. (going, sym (append-nil (bytes_of s.buffer)));
   both = λ a b c t u h g going.
       let last = g going in
       let first = h last.0 in
-      (first.0, last.1 ∙ ap (λ v. v ++ u) first.1 ∙ append_assoc (bytes_of a.room) t u);
+      (first.0, last.1 ∙ ap (λ v. v ++ u) first.1 ∙ append_assoc (bytes_of a.buffer) t u);
 }
 
 pub counts : IsSink IsCounted
@@ -31,20 +30,20 @@ counts = record {
       omega (arith, x, y, len);
 }
 
-cut_none : (left : Option (Bor Text)) → IsCutOff left [] left
-cut_none (Some left) = refl
-cut_none None = refl
+strip_none : (left : Option (Bor Text)) → IsFrontStripped left [] left
+strip_none (Some left) = refl
+strip_none None = refl
 
 -- some bytes, and then some more
-cut_then : (left mid rest : Option (Bor Text)) (a b : Text) → IsCutOff left a mid → IsCutOff mid b rest → IsCutOff left (a ++ b) rest
-cut_then (Some left) (Some mid) (Some rest) a b h g = h ∙ ap (λ t. a ++ t) g ∙ sym (append_assoc a b rest.now)
-cut_then (Some left) (Some mid) None a b h g = λ rest e. g rest (append_cancel_left a mid.now (b ++ rest) (sym h ∙ e ∙ append_assoc a b rest))
-cut_then (Some left) None rest a b h g = rw g (λ rest e. h (b ++ rest) (e ∙ append_assoc a b rest))
-cut_then None mid rest a b h g = rw h at g
+strip_then : (left mid rest : Option (Bor Text)) (a b : Text) → IsFrontStripped left a mid → IsFrontStripped mid b rest → IsFrontStripped left (a ++ b) rest
+strip_then (Some left) (Some mid) (Some rest) a b h g = h ∙ ap (λ t. a ++ t) g ∙ sym (append_assoc a b rest.now)
+strip_then (Some left) (Some mid) None a b h g = λ rest e. g rest (append_cancel_left a mid.now (b ++ rest) (sym h ∙ e ∙ append_assoc a b rest))
+strip_then (Some left) None rest a b h g = rw g (λ rest e. h (b ++ rest) (e ∙ append_assoc a b rest))
+strip_then None mid rest a b h g = rw h at g
 
 -- what is expected
-pub cuts : IsSink IsCut
-cuts = record { none = λ s. cut_none s.left; both = λ a b c t u h g. cut_then a.left b.left c.left t u h g }
+pub strips : IsSink IsStripped
+strips = record { none = λ s. strip_none s.left; both = λ a b c t u h g. strip_then a.left b.left c.left t u h g }
 
 -- a writer with its count
 module _ {W : Type 0} (contents : W → Known) where

@@ -1,17 +1,17 @@
-//! Whether a format is its own canonical string, whether that fits, and a copy of it.
+//! Whether a format is its own canonical text, whether that fits, and a copy of it.
 ghost use Rattle.std.specs.Prelude.{IsTrue, ◌≤◌, length, ℕ};
 ghost use Rattle.pf_values.specs.Canonical.{IsCanonicalText};
 ghost use Rattle.pf_values.specs.Items.{IsAccepted};
 ghost use Rattle.pf_values.specs.Text.{Text};
 ghost use Rattle.pf_canon.specs.Answers.{IsCanonicalFor};
 ghost use Rattle.pf_values.specs.Counting.{device_of};
-ghost use Rattle.pf_canon.specs.Copying.{CopiesAll};
+ghost use Rattle.pf_canon.specs.Copy.{CopiesAll};
 
 use pf_canon::{canonical_len, canonical_stream, is_canonical};
 use pf_values::{Counted, Model};
 use std::io::{Read, Write};
 
-/// Whether a format is accepted, and is its own canonical string.
+/// Whether a format is accepted, and is its own canonical text.
 pub fn is_tidy(model: Model, format: &[u8]) -> bool
     ensures accepted { IsTrue result → IsAccepted format.now }
     ensures canonical { IsTrue result → IsCanonicalText model format.now }
@@ -22,7 +22,7 @@ pub fn is_tidy(model: Model, format: &[u8]) -> bool
     }
 }
 
-/// Whether the canonical string of a format fits into so many bytes. It takes no memory.
+/// Whether the canonical text of a format fits into so many bytes. It takes no memory.
 pub fn fits(model: Model, format: &[u8], room: u128) -> bool
     ensures { IsTrue result → (c : Text) × IsCanonicalFor model format.now c × (length c ≤ room) }
 {
@@ -33,7 +33,7 @@ pub fn fits(model: Model, format: &[u8], room: u128) -> bool
 }
 
 /// Copies a format in canonical spelling, in memory of fixed size. True only where the reader was
-/// read to its end and the whole canonical string of what it handed out was written.
+/// read to its end and the whole canonical text of what it handed out was written.
 pub fn copies_tidily<R: Read, W: Write>(
     model: Model,
     reader: &mut Counted<R>,

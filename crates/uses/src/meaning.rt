@@ -21,7 +21,7 @@ pub fn are_equivalent(model: Model, first: &[u8], second: &[u8]) -> Option<bool>
     }
 }
 
-/// Whether `new` may be put in the place of `old`, by their canonical strings. True only where both
+/// Whether `new` may be put in the place of `old`, by their canonical texts. True only where both
 /// take the same types and print the same bytes for all arguments; so not for a refused format, nor
 /// for want of memory.
 pub fn may_replace(alloc: Global, model: Model, old: &[u8], new: &[u8]) -> bool

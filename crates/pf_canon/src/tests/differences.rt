@@ -18,10 +18,10 @@ static SPELLINGS: [&str; 3] = [
     "ab    %c%%d0000000000%.10u%.0s%-11d         ,%.0s%.0s",
 ];
 
-// Literal bytes before it, so that it stands in all places of the sixteen that are compared at once.
+// Literal bytes before it, so that it comes in all places of the sixteen that are compared at once.
 static FRONTS: [usize; 6] = [0, 1, 14, 15, 16, 33];
 
-fn goes_on(at: usize) -> bool {
+fn is_inside_item(at: usize) -> bool {
     match ITEMS.as_bytes().get(at) {
         Some(byte) => *byte == b'-',
         None => false,
@@ -39,7 +39,7 @@ fn after(alloc: Global, front: usize, text: &[u8]) -> Result<Vec<u8>, AllocError
 }
 
 // The canonical text up to a byte.
-fn cut(alloc: Global, front: usize, at: usize) -> Result<Vec<u8>, AllocError> {
+fn up_to(alloc: Global, front: usize, at: usize) -> Result<Vec<u8>, AllocError> {
     let text = CANONICAL.as_bytes();
     after(alloc, front, text.get(..at).unwrap_or(text))
 }
@@ -47,7 +47,7 @@ fn cut(alloc: Global, front: usize, at: usize) -> Result<Vec<u8>, AllocError> {
 // The canonical text with one byte put as `#`.
 fn replaced(alloc: Global, front: usize, at: usize) -> Result<Vec<u8>, AllocError> {
     let text = CANONICAL.as_bytes();
-    let mut out = cut(alloc, front, at)?;
+    let mut out = up_to(alloc, front, at)?;
     out.push(b'#')?;
     out.extend_from_slice(text.get(at.saturating_add(1)..).unwrap_or(&[]))?;
     Ok(out)
@@ -56,13 +56,13 @@ fn replaced(alloc: Global, front: usize, at: usize) -> Result<Vec<u8>, AllocErro
 fn is_refused(answer: Result<bool, (Side, Refusal)>, side: Side, from: usize) -> bool {
     match answer {
         Ok(_) => false,
-        Err((told, refusal)) => told == side && refusal.at >= from as u64,
+        Err((stopped, refusal)) => stopped == side && refusal.at >= from as u64,
     }
 }
 
-// Whether two texts are told to differ, or the other one to be refused at that byte or after it,
-// whichever of them stands first.
-fn are_told_apart(text: &[u8], other: &[u8], refused: bool, at: usize) -> bool {
+// Whether two texts are found to differ, or the other one to be refused at that byte or after it,
+// whichever of them is first.
+fn are_found_apart(text: &[u8], other: &[u8], refused: bool, at: usize) -> bool {
     let second = same_text(Model::Lp64, text, other);
     let first = same_text(Model::Lp64, other, text);
     if refused {
@@ -71,27 +71,28 @@ fn are_told_apart(text: &[u8], other: &[u8], refused: bool, at: usize) -> bool {
     second == Ok(false) && first == Ok(false)
 }
 
-// Whether each spelling is told from the canonical text with a byte replaced, and from its front.
-fn tells_at(alloc: Global, front: usize, at: usize) -> Result<bool, AllocError> {
+// Whether each spelling is found to differ from the canonical text with a byte replaced, and from
+// its front.
+fn is_found_at(alloc: Global, front: usize, at: usize) -> Result<bool, AllocError> {
     let replaced = replaced(alloc, front, at)?;
-    let cut = cut(alloc, front, at)?;
+    let front_only = up_to(alloc, front, at)?;
     let place = front.saturating_add(at);
     for spelling in SPELLINGS {
         let text = after(alloc, front, spelling.as_bytes())?;
-        if !are_told_apart(&text, &replaced, goes_on(at), place) {
+        if !are_found_apart(&text, &replaced, is_inside_item(at), place) {
             return Ok(false);
         }
-        if !are_told_apart(&text, &cut, goes_on(at), place) {
+        if !are_found_apart(&text, &front_only, is_inside_item(at), place) {
             return Ok(false);
         }
     }
     Ok(true)
 }
 
-fn first_untold(alloc: Global) -> Result<Option<(usize, usize)>, AllocError> {
+fn first_not_found(alloc: Global) -> Result<Option<(usize, usize)>, AllocError> {
     for front in FRONTS {
         for at in 0..CANONICAL.len() {
-            if !tells_at(alloc, front, at)? {
+            if !is_found_at(alloc, front, at)? {
                 return Ok(Some((front, at)));
             }
         }
@@ -100,13 +101,13 @@ fn first_untold(alloc: Global) -> Result<Option<(usize, usize)>, AllocError> {
 }
 
 #[test]
-fn a_difference_is_told_at_each_byte(rt: HostRuntime) -> Result<(), AllocError> {
+fn a_difference_is_found_at_each_byte(rt: HostRuntime) -> Result<(), AllocError> {
     assert!(rt; CANONICAL.len() == ITEMS.len());
-    assert_eq!(rt; first_untold(rt.alloc())?, None);
+    assert_eq!(rt; first_not_found(rt.alloc())?, None);
     Ok(())
 }
 
-fn are_one(alloc: Global, front: usize) -> Result<bool, AllocError> {
+fn are_all_same(alloc: Global, front: usize) -> Result<bool, AllocError> {
     for spelling in SPELLINGS {
         let text = after(alloc, front, spelling.as_bytes())?;
         for other in SPELLINGS {
@@ -122,25 +123,25 @@ fn are_one(alloc: Global, front: usize) -> Result<bool, AllocError> {
 #[test]
 fn spellings_of_one_text_are_the_same(rt: HostRuntime) -> Result<(), AllocError> {
     for front in FRONTS {
-        assert!(rt; are_one(rt.alloc(), front)?);
+        assert!(rt; are_all_same(rt.alloc(), front)?);
     }
     Ok(())
 }
 
-// What is told of a text that ends at one byte, beside one that is replaced at another: the refusal
-// of the first comes before that of the second, wherever the two stand.
-fn is_first_told(alloc: Global, ends: usize, other: usize) -> Result<bool, AllocError> {
-    let first = cut(alloc, 0, ends)?;
+// Whether the right answer comes of a text that ends at one byte, beside one that is replaced at
+// another: the refusal of the first comes before that of the second, wherever the two are.
+fn is_in_order(alloc: Global, ends: usize, other: usize) -> Result<bool, AllocError> {
+    let first = up_to(alloc, 0, ends)?;
     let second = replaced(alloc, 0, other)?;
     let answer = same_text(Model::Lp64, &first, &second);
-    if goes_on(ends) {
+    if is_inside_item(ends) {
         let truncated = Refusal {
             kind: RefusalKind::Truncated,
             at: ends as u64,
         };
         return Ok(answer == Err((Side::First, truncated)));
     }
-    if goes_on(other) {
+    if is_inside_item(other) {
         return Ok(is_refused(answer, Side::Second, other));
     }
     Ok(answer == Ok(false))
@@ -149,7 +150,7 @@ fn is_first_told(alloc: Global, ends: usize, other: usize) -> Result<bool, Alloc
 fn first_in_other_order(alloc: Global) -> Result<Option<(usize, usize)>, AllocError> {
     for ends in 0..CANONICAL.len() {
         for other in 0..CANONICAL.len() {
-            if !is_first_told(alloc, ends, other)? {
+            if !is_in_order(alloc, ends, other)? {
                 return Ok(Some((ends, other)));
             }
         }
@@ -158,7 +159,7 @@ fn first_in_other_order(alloc: Global) -> Result<Option<(usize, usize)>, AllocEr
 }
 
 #[test]
-fn the_first_refusal_is_told_first(rt: HostRuntime) -> Result<(), AllocError> {
+fn the_first_refusal_comes_first(rt: HostRuntime) -> Result<(), AllocError> {
     assert_eq!(rt; first_in_other_order(rt.alloc())?, None);
     Ok(())
 }

@@ -39,7 +39,7 @@ fn refusal(kind: RefusalKind, at: u64) -> Refusal {
 }
 
 // Whether one format means the same as those of a table that have its canonical text, and as no other.
-fn told_from(
+fn first_mistaken(
     format: &str,
     text: &str,
     table: &[(&'static str, &'static str)],
@@ -55,10 +55,10 @@ fn told_from(
 #[test]
 fn formats_of_one_canonical_text_are_the_same(rt: HostRuntime) {
     for (format, text) in directives() {
-        assert_eq!(rt; told_from(format, text, directives()), None, "{format}");
+        assert_eq!(rt; first_mistaken(format, text, directives()), None, "{format}");
     }
     for (format, text) in formats() {
-        assert_eq!(rt; told_from(format, text, formats()), None, "{format}");
+        assert_eq!(rt; first_mistaken(format, text, formats()), None, "{format}");
         assert!(rt; all_answer(format, text, Ok(true)), "{format}");
     }
 }
@@ -111,7 +111,7 @@ fn the_second_text_is_read_no_further(rt: HostRuntime) {
 }
 
 #[test]
-fn a_reader_that_fails_is_told_by_its_side(rt: HostRuntime) {
+fn a_failing_reader_is_named_by_its_side(rt: HostRuntime) {
     let text: &[u8] = b"ab%5dc";
     for step in CUTS {
         for fails_at in 0..6usize {

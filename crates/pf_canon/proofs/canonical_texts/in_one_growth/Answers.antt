@@ -1,6 +1,6 @@
 use Rattle.std.proofs.Common.{arith}
 use Rattle.std.proofs.lemmas.Result.{err_from_is_err_and}
-use Rattle.pf_canon.proofs.BuildingLemmas.{hindered}
+use Rattle.pf_canon.proofs.TextLemmas.{hindered}
 use Rattle.pf_canon.proofs.canonical_texts.in_one_growth.Goals as goal
 
 pub returns-in_err-with_capacity : goal.returns-in_err-with_capacity

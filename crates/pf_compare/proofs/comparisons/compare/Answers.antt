@@ -1,5 +1,5 @@
 use Rattle.std.proofs.Common.{subst}
-use Rattle.pf_canon.specs.Comparing.{AreTextsSame}
+use Rattle.pf_canon.specs.Comparison.{AreTextsSame}
 use Rattle.pf_compare.proofs.VerdictLemmas.{same_verdict}
 use Rattle.pf_compare.proofs.comparisons.compare.Goals as goal
 

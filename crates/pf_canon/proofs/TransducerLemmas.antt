@@ -1,0 +1,180 @@
+-- How a transducer goes on.
+use Rattle.std.proofs.Common.{◌≡◌, ℕ, ◌+◌, ◌*◌, ◌<◌, ◌≤◌, ◌^◌, List, [], ◌∷◌, ◌++◌, length, map, take, replicate, refl, sym, ap, ◌∙◌, subst, arith}
+use Rattle.std.specs.Prelude.{flat_map, ◌⊎◌, ◌==◌, Bool, true, false, if◌then◌else◌}
+use Rattle.std.specs.List.{AllByRecursion}
+use Rattle.std.proofs.lemmas.List.{append-nil, append_assoc, length-append}
+use Rattle.pf_values.specs.declared.models.Model.{Model}
+use Rattle.pf_values.specs.Canonical.{IsCanonicalOf, IsCanonicalText, item_spelling}
+use Rattle.pf_values.specs.Items.{Item, Byte, Directive, Reads}
+use Rattle.pf_values.specs.Normal.{IsNormal, silent}
+use Rattle.pf_values.specs.Specification.{Specification}
+use Rattle.pf_values.specs.Spelling.{spelling_of}
+use Rattle.pf_values.specs.Text.{Text, percent, space, zero_digit}
+use Rattle.pf_text.specs.declared.scanner.Step.{Step}
+use Rattle.pf_text.specs.declared.scanner.Step.TheVariants as steps
+use Rattle.pf_text.specs.History.{IsAfter, IsLiteral, Says, with_step}
+use Rattle.pf_text.specs.Plain.{IsPlain, PassesPlain}
+use Rattle.pf_text.proofs.SpellingLemmas.{length-spelled}
+use Rattle.pf_text.specs.History as scanned
+use Rattle.pf_reduce.specs.Reducing.{IsReducedTo}
+use Rattle.pf_reduce.specs.declared.results.Core.TheVariants as cores
+use Rattle.pf_reduce.specs.declared.results.Reduced.{Reduced}
+use Rattle.pf_reduce.specs.NormalValues.{NormalDirective}
+use Rattle.pf_canon.specs.declared.output.StepOutput.{StepOutput}
+use Rattle.pf_canon.specs.declared.transducer.Transducer.{Transducer}
+use Rattle.pf_text.specs.Plain.{silents}
+use Rattle.pf_canon.specs.Making.{IsMaking}
+use Rattle.pf_canon.specs.Output.{whole_text}
+use Rattle.pf_canon.specs.Transducer.{GrowsByByte, IsStepOf, IsThrough, Settles, byte_output_text, more_of}
+use Rattle.pf_canon.specs.Answers.{most_len}
+use Rattle.pf_canon.proofs.TextLemmas.{items_few, most_len-append}
+use Rattle.pf_canon.proofs.DirectiveLemmas.{directive_made}
+use Rattle.pf_canon.proofs.MakingLemmas.{made_canonical, made_more, made_plain, made_same}
+use Rattle.pf_canon.proofs.PieceLemmas.{run_made, run_short}
+use Rattle.pf_canon.proofs.Printing.{reduced_items}
+
+is_step_of : (t : Text) (items : List Item) (byte : ℕ) (step : Step) → Says t items byte step → IsStepOf step byte
+is_step_of t items byte steps.More h = tt
+is_step_of t items byte (steps.Byte b) h = (h.1, h.2)
+is_step_of t items byte steps.Percent h = tt
+is_step_of t items byte (steps.Directive d) h = tt
+
+with_more : (items : List Item) (step : Step) → with_step items step ≡ items ++ more_of step
+with_more items steps.More = sym (append-nil items)
+with_more items (steps.Byte b) = refl
+with_more items steps.Percent = refl
+with_more items (steps.Directive d) = refl
+
+-- one more byte was taken
+pub grown : (model : Model) (old new : Transducer) (t out : Text) (items : List Item) (byte : ℕ) (step : Step) (output : StepOutput) → IsThrough model old t items out → new.model ≡ old.model → scanned.Takes t items byte step new.scanner
+    → Settles old.model step byte items out old.waiting output new.waiting → new.waiting ≤ old.waiting + 1 → length (byte_output_text output byte) + 4 * new.waiting ≤ 4 * old.waiting + most_len (more_of step)
+    → GrowsByByte model t items out byte output new
+grown model old new t out items byte step output h same takes settles one less =
+    let few = h.few in
+    let short = h.short in
+    let limit = h.after.limit in
+    let says = takes.says in
+    let e = with_more items step in
+    record {
+      more = more_of step;
+      through = record {
+        model_is = same ∙ h.model_is;
+        after = subst (λ l. IsAfter new.scanner (t ++ byte ∷ []) l) e takes.after;
+        made = subst (λ l. IsMaking model (out ++ byte_output_text output byte) new.waiting l []) e (rw h.model_is at settles (is_step_of (t ++ byte ∷ []) (with_step items step) byte step says) (omega (arith, few, limit)) h.made);
+        few = omega (arith, few, one, length-append t (byte ∷ []));
+        short = omega (arith, short, less, length-append out (byte_output_text output byte), most_len-append items (more_of step));
+      };
+    }
+
+-- a directive was taken
+pub directive_grown : (model : Model) (old new : Transducer) (t bytes out settled : Text) (items : List Item) (d : Specification) → IsThrough model old t items out → new.model ≡ old.model → IsAfter new.scanner (t ++ bytes) (items ++ Directive d ∷ []) → 1 ≤ length bytes
+    → (old.waiting < 2 ^ 63 → IsMaking model out old.waiting (items ++ Directive d ∷ []) (Directive d ∷ []) → IsMaking model (out ++ settled) new.waiting (items ++ Directive d ∷ []) [])
+    → new.waiting ≤ old.waiting + 1 → length settled + 4 * new.waiting ≤ 4 * old.waiting + most_len (Directive d ∷ [])
+    → IsThrough model new (t ++ bytes) (items ++ Directive d ∷ []) (out ++ settled)
+directive_grown model old new t bytes out settled items d h same after some settles one less =
+    let few = h.few in
+    let short = h.short in
+    let limit = h.after.limit in
+    record {
+      model_is = same ∙ h.model_is;
+      after = after;
+      made = settles (omega (arith, few, limit)) (made_more model out old.waiting items [] (Directive d ∷ []) h.made);
+      few = omega (arith, few, one, some, length-append t bytes);
+      short = omega (arith, short, less, length-append out settled, most_len-append items (Directive d ∷ []));
+    }
+
+-- literal bytes were taken
+pub passed : (model : Model) (old new : Transducer) (t out following : Text) (items : List Item) (len : ℕ) → IsThrough model old t items out → scanned.Passes t items following len new.scanner → new.model ≡ old.model → new.waiting ≡ old.waiting
+    → IsThrough model new (t ++ take len following) (items ++ map Byte (take len following)) (out ++ take len following)
+passed model old new t out following items len h p same e =
+    let run = take len following in
+    let few = h.few in
+    let short = h.short in
+    record {
+      model_is = same ∙ h.model_is;
+      after = p.after;
+      made = rw e (run_made model run out (out ++ run) old.waiting items p.literal refl h.made);
+      few = omega (arith, few, e, length-append t run);
+      short = omega (arith, short, e, run_short run out (out ++ run) old.waiting refl, most_len-append items (map Byte run));
+    }
+
+byte_short : (byte : ℕ) (b : Bool) → length (if b then percent ∷ percent ∷ [] else byte ∷ []) ≤ 2
+byte_short byte true = omega arith
+byte_short byte false = omega arith
+
+plain_short : (model : Model) (items : List Item) → AllByRecursion (IsPlain model) items → length (flat_map item_spelling items) ≤ most_len items
+plain_short model [] all = omega arith
+plain_short model (Byte byte ∷ items) all = omega (arith, length-append (item_spelling (Byte byte)) (flat_map item_spelling items), byte_short byte (byte == percent), plain_short model items all.1)
+plain_short model (Directive s ∷ items) all =
+    let normal = all.0 in
+    omega (arith, length-append (spelling_of s) (flat_map item_spelling items), length-spelled s normal.defined, plain_short model items all.1)
+
+-- items were taken that are spelled as a canonical text spells them, where no silent directive
+-- waits
+pub passed_plain : (model : Model) (old new : Transducer) (t out following : Text) (items : List Item) (len : ℕ) → IsThrough model old t items out → (p : PassesPlain model t items following len new.scanner) → old.waiting ≡ 0 → new.model ≡ old.model → new.waiting ≡ old.waiting
+    → IsThrough model new (t ++ take len following) (items ++ p.more) (out ++ take len following)
+passed_plain model old new t out following items len h p none same e =
+    let run = take len following in
+    let more = p.more in
+    let whole = p.plain.whole in
+    let few = h.few in
+    let short = h.short in
+    let made = made_plain model more out (items ++ more) [] p.plain.plain (subst (IsMaking model out 0 (items ++ more)) (sym (append-nil more)) (made_more model out 0 items [] more (subst (λ w. IsMaking model out w items []) none h.made))) in
+    record {
+      model_is = same ∙ h.model_is;
+      after = p.after;
+      made = rw (e, none, whole) made;
+      few = omega (arith, few, e, length-append t run);
+      short = omega (arith, short, e, none, length-append out run, ap length whole, plain_short model more p.plain.plain, most_len-append items more);
+    }
+
+pub byte_settled : (model : Model) (b byte waiting : ℕ) (out : Text) (items : List Item) → b ≡ byte → IsLiteral byte → IsMaking model out waiting items [] → IsMaking model (out ++ byte ∷ []) waiting (items ++ Byte b ∷ []) []
+byte_settled model b byte waiting out items e literal h = rw e (run_made model (byte ∷ []) out (out ++ byte ∷ []) waiting items (literal, tt) refl h)
+
+four : (out a b c d : Text) → ((out ++ a) ++ b) ++ (c ++ d) ≡ out ++ (a ++ (b ++ (c ++ d)))
+four out a b c d = append_assoc (out ++ a) b (c ++ d) ∙ append_assoc out a (b ++ (c ++ d))
+
+-- a directive whose core is silent
+pub silent_settled : (model : Model) (s : Specification) (r : Reduced) (out : Text) (waiting still : ℕ) (items rest : List Item) → r.core ≡ cores.Silent → still ≡ waiting + 1 → IsReducedTo model s r
+    → (IsNormal model s ⊎ (s ≡ silent) → reduced_items r ≡ Directive s ∷ []) → IsMaking model out waiting items (Directive s ∷ rest) → IsMaking model (out ++ whole_text r.spaces r.zeros 0 [] r.trail) still items rest
+silent_settled model s r out waiting still items rest core one reduced same h =
+    let a = replicate r.spaces space in
+    let b = replicate r.zeros zero_digit in
+    let d = replicate r.trail space in
+    subst (λ t. IsMaking model t still items rest) (four out a b [] d)
+    (directive_made model s r out (out ++ a) ((out ++ a) ++ b) ((out ++ a) ++ b) (((out ++ a) ++ b) ++ d) waiting still items rest reduced same refl refl (rw core (refl, one)) refl h)
+
+-- and one whose core is normal
+pub normal_settled : (model : Model) (s : Specification) (n : NormalDirective) (r : Reduced) (out : Text) (waiting : ℕ) (items rest : List Item) → r.core ≡ cores.Normal n → IsReducedTo model s r
+    → (IsNormal model s ⊎ (s ≡ silent) → reduced_items r ≡ Directive s ∷ []) → IsMaking model out waiting items (Directive s ∷ rest) → IsMaking model (out ++ whole_text r.spaces r.zeros waiting (spelling_of n.specification) r.trail) 0 items rest
+normal_settled model s n r out waiting items rest core reduced same h =
+    let a = replicate r.spaces space in
+    let b = replicate r.zeros zero_digit in
+    let c = flat_map item_spelling (silents waiting) in
+    let q = spelling_of n.specification in
+    let d = replicate r.trail space in
+    let cored = ((out ++ a) ++ b) ++ (c ++ q) in
+    subst (λ t. IsMaking model t 0 items rest) (append_assoc ((out ++ a) ++ b) (c ++ q) d ∙ ap (λ t. ((out ++ a) ++ b) ++ t) (append_assoc c q d) ∙ four out a b c (q ++ d))
+    (directive_made model s r out (out ++ a) ((out ++ a) ++ b) cored (cored ++ d) waiting 0 items rest reduced same refl refl (rw core (refl, refl)) refl h)
+
+-- the end was taken
+pub ended : (model : Model) (t out : Text) (waiting : ℕ) (items : List Item) → Reads t items → IsMaking model out waiting items [] → (c : Text) → c ≡ whole_text 0 0 waiting [] 0 → Reads t items × IsCanonicalOf model t (out ++ c) × (IsCanonicalText model t → out ++ c ≡ t)
+ended model t out waiting items reads h c e =
+    let same : c ≡ flat_map item_spelling (silents waiting) = e ∙ append-nil (flat_map item_spelling (silents waiting)) in (
+      reads,
+      subst (λ u. IsCanonicalOf model t (out ++ u)) (sym same) (made_canonical model t out waiting items reads h),
+      λ is. ap (λ u. out ++ u) same ∙ made_same model t out waiting items reads h is,
+    )
+
+pub most_items : (items : List Item) → most_len items ≤ 4120 * length items
+most_items [] = omega arith
+most_items (Byte byte ∷ items) = omega (arith, most_items items)
+most_items (Directive s ∷ items) = omega (arith, most_items items)
+
+-- what was settled can be counted
+pub through_few : (model : Model) (r : Transducer) (t out : Text) (items : List Item) → IsThrough model r t items out → length out + 4 * r.waiting ≤ 4120 * 2 ^ 62
+through_few model r t out items h =
+    let splits = h.after.good.splits in
+    let short = h.short in
+    let limit = h.after.limit in
+    omega (arith, short, limit, most_items items, items_few splits.whole items splits.reads, ap length splits.split, length-append splits.whole h.after.part)

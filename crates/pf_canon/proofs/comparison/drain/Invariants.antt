@@ -1,0 +1,17 @@
+use Rattle.std.proofs.Common.{ℕ, Option}
+use Rattle.pf_values.specs.declared.models.Model.{Model}
+use Rattle.pf_values.specs.Counting.{Known}
+use Rattle.pf_values.specs.Text.{Text}
+use Rattle.pf_canon.specs.Comparison.{Gave}
+use Rattle.pf_canon.specs.CanonicalBytes.{units}
+use Rattle.pf_canon.proofs.ComparisonLemmas.{GaveFirst}
+use Rattle.pf_canon.proofs.comparison.drain.Given as goal
+
+abbrev pub invariant-loop-fault : goal.invariant-loop-fault
+invariant-loop-fault g l = record {
+  going : ((model : Model) (x : Option ℕ) (start : Known) (taken given : Text) → Gave model x l.fn.transducer start (g.B.Bytes.left l.fn.bytes) taken given → (now : Text) × GaveFirst model x l.transducer start (g.B.Bytes.left l.bytes) now given);
+  kept : g.B.Bytes.kept l.fn.bytes l.bytes;
+}
+
+abbrev pub decreases-loop-fault : goal.decreases-loop-fault
+decreases-loop-fault g l = units l.transducer

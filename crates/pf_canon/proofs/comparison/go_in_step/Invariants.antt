@@ -1,0 +1,12 @@
+use Rattle.pf_values.specs.declared.models.Model.{Model}
+use Rattle.pf_values.specs.Text.{Text}
+use Rattle.pf_canon.specs.Walk.{WalkHasGiven, to_come}
+use Rattle.pf_canon.proofs.comparison.go_in_step.Given as goal
+
+abbrev pub invariant-loop-count : goal.invariant-loop-count
+invariant-loop-count l = record {
+  given : ((model : Model) (f g given : Text) → WalkHasGiven model l.fn.first f given → WalkHasGiven model l.fn.second g given → (now : Text) × WalkHasGiven model l.first f now × WalkHasGiven model l.second g now);
+}
+
+abbrev pub decreases-loop-count : goal.decreases-loop-count
+decreases-loop-count l = to_come l.first

@@ -1,0 +1,11 @@
+use Rattle.std.proofs.Common.{ap}
+use Rattle.std.specs.Prelude.{replicate}
+use Rattle.pf_values.specs.Text.{space, zero_digit}
+use Rattle.pf_canon.specs.Output.{in_order}
+use Rattle.pf_canon.proofs.OutputLemmas.{silents_whole}
+use Rattle.pf_canon.proofs.output.PendingOutput.of.Goals as goal
+
+pub returns : goal.returns
+returns c =
+    let p = c.args.output in
+    ap (λ t. in_order (replicate p.spaces space) (replicate p.zeros zero_digit) t p.spelling.items (replicate p.trail space)) (silents_whole p.silents)

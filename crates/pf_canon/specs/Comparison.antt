@@ -1,0 +1,211 @@
+-- What two texts that are compared have come to. This project's own.
+use Rattle.std.specs.Prelude.{◌≡◌, ◌≢◌, ℕ, [], ◌++◌, length, take, Option, Some, None, ◌⊎◌, ◌≤◌, ◌<◌, Bool, true, ◌∷◌, Result, Ok, Err, ◌↔◌, IsTrue, ⊤}
+use Rattle.std.specs.Io.KnownBytes.{Consumes, IsAtEnd}
+use Rattle.pf_values.specs.Text.{Text}
+use Rattle.pf_values.specs.declared.models.Model.{Model}
+use Rattle.pf_values.specs.Canonical.{IsCanonicalOf}
+use Rattle.pf_values.specs.Counting.{Known}
+use Rattle.pf_values.specs.Items.{IsAccepted}
+use Rattle.pf_values.specs.Printing.{AreEquivalent}
+use Rattle.pf_values.specs.Refusals.{IsRefusedAt}
+use Rattle.pf_text.specs.declared.refusal.Refusal.{Refusal}
+use Rattle.pf_canon.specs.declared.comparison.NextBytes.{NextBytes}
+use Rattle.pf_canon.specs.declared.comparison.NextBytes.TheVariants.{Equal, BothEnded, Differ}
+use Rattle.pf_canon.specs.declared.faults.SideFault.{SideFault}
+use Rattle.pf_canon.specs.declared.faults.StreamFault.{StreamFault}
+use Rattle.pf_canon.specs.declared.faults.StreamFault.TheVariants as faults
+use Rattle.pf_canon.specs.declared.faults.Side.{Side}
+use Rattle.pf_canon.specs.declared.faults.Side.TheVariants.{First, Second}
+use Rattle.pf_canon.specs.declared.canonical_bytes.ByteTransducer.{ByteTransducer}
+use Rattle.pf_canon.specs.CanonicalBytes.{History, IsEnding, IsOver, IsReadFor, IsRefusedBehind, units}
+use Rattle.pf_canon.specs.Transducer.{SettlesTo}
+
+-- two texts begin with the same bytes, so many
+pub record AreCommon (t u : Text) (count : ℕ) : Type 0 where
+  pub first : count ≤ length t
+  pub second : count ≤ length u
+  pub same : take count t ≡ take count u
+
+-- Two texts begin with so many equal bytes, some unless both are empty. Or they begin with unequal
+-- ones, or just one of them is empty.
+abbrev pub HaveCommon : Text → Text → Option ℕ → Type 0
+HaveCommon t u (Some count) =
+    (count ≤ length t) × (count ≤ length u) × (take count t ≡ take count u)
+    × (count ≡ 0 → (t ≡ []) × (u ≡ []))
+HaveCommon t u None =
+    ((t ≢ []) ⊎ (u ≢ [])) × ((t ≡ []) ⊎ (u ≡ []) ⊎ ((x y : Text) → t ++ x ≢ u ++ y))
+
+-- a text has a canonical text
+abbrev pub HasCanonical : Model → Text → Type 0
+HasCanonical model t = (c : Text) × IsCanonicalOf model t c
+
+-- a text was read to its end, and is accepted
+pub record IsReadWhole (model : Model) (start left : Known) (t : Text) : Type 0 where
+  pub reader : Consumes start left t
+  pub end : IsAtEnd left
+  pub accepted : IsAccepted t
+  pub canonical : HasCanonical model t
+
+-- both texts were, and this is whether they are equivalent
+pub record EndsBoth (model : Model) (f f_left g g_left : Known) (is : Bool) : Type 0 where
+  pub t : Text
+  pub u : Text
+  pub first : IsReadWhole model f f_left t
+  pub second : IsReadWhole model g g_left u
+  pub same : IsTrue is ↔ AreEquivalent model t u
+
+-- a text stopped after `taken`, whose whole items settle this
+abbrev pub StopsBy : Model → StreamFault → Known → Known → Text → Text → Type 0
+StopsBy model (faults.Refused refusal) start left taken settled =
+    IsRefusedBehind start left taken refusal × SettlesTo model taken settled
+StopsBy model faults.Read start left taken settled =
+    Consumes start left taken × SettlesTo model taken settled
+
+-- before its last byte was taken, fewer bytes were settled than these
+abbrev pub IsReadInStep : Model → Text → Text → Type 0
+IsReadInStep model taken settled = (taken ≡ []) ⊎ (
+    (before : Text) × (last : ℕ) × (s : Text) × (taken ≡ before ++ last ∷ [])
+    × SettlesTo model before s × (length s < length settled))
+
+-- The first text stopped, and of the second no more was read than to give as many bytes. Or the
+-- first was read whole, and the second stopped.
+abbrev pub StopsOn : Model → Side → StreamFault → Known → Known → Known → Known → Type 0
+StopsOn model First fault f f_left g g_left =
+    (taken settled other : Text) × StopsBy model fault f f_left taken settled
+    × Consumes g g_left other
+    × IsReadInStep model other settled
+StopsOn model Second fault f f_left g g_left =
+    (t taken settled : Text) × IsReadWhole model f f_left t
+    × StopsBy model fault g g_left taken settled
+
+-- the side that stopped, and how
+abbrev pub StopsSide : Model → Known → Known → Known → Known → SideFault → Type 0
+StopsSide model f f_left g g_left stop = StopsOn model stop.side stop.fault f f_left g g_left
+
+-- what a fault says of the failures of a reader
+abbrev pub FaultCounts : {B : Type 0} → (B → B → Type 0) → (B → B → Type 0) → StreamFault → B
+    → B → Type 0
+FaultCounts kept failed (faults.Refused refusal) old new = kept old new
+FaultCounts kept failed faults.Read old new = failed old new
+
+-- what a reader counts that is read to its end
+abbrev pub CountsDrain : {B E : Type 0} → (B → B → Type 0) → (B → B → Type 0)
+    → Result E StreamFault → B → B → Type 0
+CountsDrain kept failed (Ok done) old new = kept old new
+CountsDrain kept failed (Err fault) old new = FaultCounts kept failed fault old new
+
+-- a reader has not failed, or just once
+abbrev pub FailsOnceAtMost : {B : Type 0} → (B → B → Type 0) → (B → B → Type 0) → B → B → Type 0
+FailsOnceAtMost kept failed old new = kept old new ⊎ failed old new
+
+module _ {A B : Type 0} (kept_a failed_a : A → A → Type 0) (kept_b failed_b : B → B → Type 0) where
+  -- What both readers count where one side stopped. The second may have failed before it was seen
+  -- that the first stops.
+  abbrev pub CountsStop : Side → StreamFault → A → A → B → B → Type 0
+  CountsStop First fault a a_new b b_new =
+      FaultCounts kept_a failed_a fault a a_new × FailsOnceAtMost kept_b failed_b b b_new
+  CountsStop Second fault a a_new b b_new =
+      kept_a a a_new × FaultCounts kept_b failed_b fault b b_new
+
+  -- what both readers count, by the result
+  abbrev pub CountsSides : {T : Type 0} → Result T SideFault → A → A → B → B → Type 0
+  CountsSides (Ok answer) a a_new b b_new = kept_a a a_new × kept_b b b_new
+  CountsSides (Err stop) a a_new b b_new = CountsStop stop.side stop.fault a a_new b b_new
+
+-- the first text's fault, or that of the second
+abbrev pub CountsBehind : {A : Type 0} → (A → A → Type 0) → (A → A → Type 0) → StreamFault
+    → Side → StreamFault → A → A → Type 0
+CountsBehind kept failed fault First told old new = FaultCounts kept failed told old new
+CountsBehind kept failed fault Second told old new = kept old new × (told ≡ fault)
+
+-- two texts in memory are accepted, have canonical texts, and this is whether they are
+-- equivalent
+pub record AreTextsSame (model : Model) (f g : Text) (is : Bool) : Type 0 where
+  pub first : IsAccepted f
+  pub second : IsAccepted g
+  pub first_canonical : HasCanonical model f
+  pub second_canonical : HasCanonical model g
+  pub same : IsTrue is ↔ AreEquivalent model f g
+
+-- the first is refused, or the first is accepted and the second refused
+abbrev pub TextStopsOn : Side → Text → Text → Refusal → Type 0
+TextStopsOn First f g refusal = IsRefusedAt f refusal.kind refusal.at
+TextStopsOn Second f g refusal = IsAccepted f × IsRefusedAt g refusal.kind refusal.at
+
+-- the same, with the side and the refusal as a pair
+abbrev pub TextStops : Text → Text → Side × Refusal → Type 0
+TextStops f g stop = TextStopsOn stop.0 f g stop.1
+
+-- one byte, both ends, or a difference
+abbrev pub AreNextBytes : Option ℕ → Option ℕ → NextBytes → Type 0
+AreNextBytes x y Equal = (byte : ℕ) × (x ≡ Some byte) × (y ≡ Some byte)
+AreNextBytes x y BothEnded = (x ≡ None) × (y ≡ None)
+AreNextBytes x y Differ = x ≢ y
+
+-- a byte transducer gave this byte, or ended
+abbrev pub Gave : Model → Option ℕ → ByteTransducer → Known → Known → Text → Text → Type 0
+Gave model None s start left taken given = IsEnding model [] start left taken given × IsOver s
+Gave model (Some byte) s start left taken given =
+    History model s start left taken (given ++ byte ∷ [])
+
+-- what a text that begins so goes on with
+abbrev pub BeginsWith : Option ℕ → Text → Type 0
+BeginsWith None rest = rest ≡ []
+BeginsWith (Some byte) rest = (more : Text) × (rest ≡ byte ∷ more)
+
+-- a text was read whole, and this begins what was still to be given of its canonical text
+pub record Drained (model : Model) (x : Option ℕ) (start left : Known) (given : Text) : Type 0 where
+  pub text : Text
+  pub rest : Text
+  pub whole : IsReadWhole model start left text
+  pub canonical : IsCanonicalOf model text (given ++ rest)
+  pub begins : BeginsWith x rest
+
+-- the rest was read, or the text stopped on the way, having settled more than was given
+abbrev pub DrainsTo : Model → Option ℕ → Known → Known → Text → Result (Unit {0}) StreamFault
+    → Type 0
+DrainsTo model x start left given (Ok done) = Drained model x start left given
+DrainsTo model x start left given (Err fault) =
+    (taken settled : Text) × StopsBy model fault start left taken settled
+    × (length given < length settled)
+
+-- both gave the same bytes
+pub record IsInStep (model : Model) (first : ByteTransducer) (a : Known) (second : ByteTransducer)
+    (b f g : Known) : Type 0 where
+  pub t : Text
+  pub u : Text
+  pub given : Text
+  pub one : History model first f a t given
+  pub two : History model second g b u given
+  pub in_step : IsReadInStep model u given
+
+-- and now something else
+pub record IsApart (model : Model) (first : ByteTransducer) (a : Known) (second : ByteTransducer)
+    (b f g : Known) : Type 0 where
+  pub x : Option ℕ
+  pub y : Option ℕ
+  pub t : Text
+  pub u : Text
+  pub given : Text
+  pub differ : x ≢ y
+  pub one : Gave model x first f a t given
+  pub two : Gave model y second g b u given
+  pub read : IsReadFor model u given
+
+-- what the next byte of both leaves
+abbrev pub NextBytesLeave : Model → ByteTransducer → Known → ByteTransducer → Known → Known → Known
+    → Result NextBytes SideFault → Type 0
+NextBytesLeave model first a second b f g (Ok Equal) = IsInStep model first a second b f g
+NextBytesLeave model first a second b f g (Ok BothEnded) = EndsBoth model f a g b true
+NextBytesLeave model first a second b f g (Ok Differ) = IsApart model first a second b f g
+NextBytesLeave model first a second b f g (Err stop) = StopsSide model f a g b stop
+
+-- both go on only where there is a byte
+abbrev pub GoesOnlyWith : Option ℕ → Result NextBytes SideFault → Type 0
+GoesOnlyWith x (Ok Equal) = (byte : ℕ) × (x ≡ Some byte)
+GoesOnlyWith x r = ⊤
+
+-- where both go on, less is to come
+abbrev pub Lowers : ByteTransducer → ByteTransducer → Result NextBytes SideFault → Type 0
+Lowers old new (Ok Equal) = units new < units old
+Lowers old new r = ⊤

@@ -1,0 +1,41 @@
+-- What is given bytes, one text after another. This project's own.
+use Rattle.std.specs.Prelude.{◌≡◌, ℕ, ◌+◌, ◌<◌, ◌^◌, false, [], ◌++◌, length, ◌≢◌, Option, Some, None}
+use Rattle.std.specs.Borrow.{Bor}
+use Rattle.pf_values.specs.Text.{Text}
+use Rattle.pf_canon.specs.declared.sink.ByteCount.{ByteCount}
+use Rattle.pf_canon.specs.declared.sink.TextBuilder.{TextBuilder}
+use Rattle.pf_canon.specs.declared.sink.Expected.{Expected}
+
+-- what was given adds up
+pub record IsSink {S : Type 0} (given : S → S → Text → Type 0) : Type 0 where
+  pub none : (s : S) → given s s []
+  pub both : (a b c : S) (t u : Text) → given a b t → given b c u → given a c (t ++ u)
+
+-- so many bytes more, where that many can be counted
+abbrev pub Counts : ℕ → ℕ → ℕ → Type 0
+Counts before more after = before + more < 2 ^ 128 → after ≡ before + more
+
+-- they were counted
+abbrev pub IsCounted : ByteCount → ByteCount → Text → Type 0
+IsCounted old new bytes = Counts old.len (length bytes) new.len
+
+-- they were appended, unless there was no room for them or for others before
+abbrev pub IsBuilt : {R : Type 0} → (R → Text) → TextBuilder R → TextBuilder R → Text → Type 0
+IsBuilt bytes_of old new bytes =
+    new.is_full ≡ false
+    → (old.is_full ≡ false) × (bytes_of new.buffer ≡ bytes_of old.buffer ++ bytes)
+
+-- this is left of a text after these bytes, or the text doesn't begin with them
+abbrev pub IsFrontStripped : Option (Bor Text) → Text → Option (Bor Text) → Type 0
+IsFrontStripped (Some left) bytes (Some rest) = left.now ≡ bytes ++ rest.now
+IsFrontStripped (Some left) bytes None = (rest : Text) → left.now ≢ bytes ++ rest
+IsFrontStripped None bytes rest = rest ≡ None
+
+-- the same of a text that is expected
+abbrev pub IsStripped : Expected → Expected → Text → Type 0
+IsStripped old new bytes = IsFrontStripped old.left bytes new.left
+
+-- this is left
+abbrev pub IsLeft : Option (Bor Text) → Text → Type 0
+IsLeft (Some left) t = left.now ≡ t
+IsLeft None t = ⊥

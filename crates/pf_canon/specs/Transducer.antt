@@ -1,0 +1,200 @@
+-- A transducer after some bytes.
+use Rattle.std.specs.Prelude.{◌≡◌, ◌≢◌, ℕ, ◌+◌, ◌-◌, ◌*◌, ◌<◌, ◌≤◌, ◌^◌, List, [], ◌∷◌, ◌++◌, length, take, drop, Result, Ok, Err, ◌⊎◌}
+use Rattle.pf_values.specs.declared.models.Model.{Model}
+use Rattle.pf_values.specs.declared.refusals.RefusalKind.{RefusalKind}
+use Rattle.pf_values.specs.declared.refusals.RefusalKind.TheVariants.{Truncated}
+use Rattle.pf_values.specs.Canonical.{IsCanonicalOf, IsCanonicalText, IsSettled}
+use Rattle.pf_values.specs.Items.{Item, Byte, Directive, Reads}
+use Rattle.pf_values.specs.Refusals.{IsGoodFront, IsRefusedAt}
+use Rattle.pf_values.specs.Specification.{Specification}
+use Rattle.pf_values.specs.Text.{Text, percent}
+use Rattle.pf_text.specs.declared.refusal.Refusal.{Refusal}
+use Rattle.pf_text.specs.declared.scanner.Scanner.{Scanner}
+use Rattle.pf_text.specs.declared.scanner.Step.{Step}
+use Rattle.pf_text.specs.declared.scanner.Step.TheVariants as steps
+use Rattle.pf_text.specs.History.{IsAfter, IsLiteral, with_step}
+use Rattle.pf_text.specs.History as scanned
+use Rattle.pf_canon.specs.declared.output.Output.{Output}
+use Rattle.pf_canon.specs.declared.chunk.Chunk.{Chunk}
+use Rattle.pf_canon.specs.declared.output.StepOutput.{StepOutput}
+use Rattle.pf_canon.specs.declared.chunk.ChunkRefusal.{ChunkRefusal}
+use Rattle.pf_canon.specs.declared.output.StepOutput.TheVariants as outputs
+use Rattle.pf_canon.specs.declared.transducer.Transducer.{Transducer}
+use Rattle.pf_canon.specs.Answers.{most_len}
+use Rattle.pf_canon.specs.Making.{IsMaking}
+use Rattle.pf_canon.specs.Output.{output_text}
+
+-- `s` is what the whole items of `t` settle
+pub record SettlesTo (model : Model) (t s : Text) : Type 0 where
+  pub items : List Item
+  pub part : Text
+  pub good : IsGoodFront t items part
+  pub settled : IsSettled model good.splits.whole s
+
+-- `s` is what the whole items of a text settle that may be refused: `front` is the longest front of
+-- it that isn't.
+pub record SettlesWhole (model : Model) (t s : Text) : Type 0 where
+  pub front : Text
+  pub rest : Text
+  pub split : t ≡ front ++ rest
+  pub settles : SettlesTo model front s
+  pub longest : (rest ≡ []) ⊎ ((rest ≢ []) × (kind : RefusalKind)
+      × IsRefusedAt t kind (length front))
+
+abbrev pub data_model_of : Transducer → Model
+data_model_of r = r.model
+
+abbrev pub scanner_of : Transducer → Scanner
+scanner_of r = r.scanner
+
+abbrev pub waiting_silents_of : Transducer → ℕ
+waiting_silents_of r = r.waiting
+
+-- The transducer, in this data model, took the text, which has these whole items, and what it
+-- settled of them is `out`.
+pub record IsThrough (model : Model) (r : Transducer) (t : Text) (items : List Item)
+    (out : Text) : Type 0 where
+  pub model_is : r.model ≡ model
+  pub after : IsAfter r.scanner t items
+  pub made : IsMaking model out r.waiting items []
+  pub few : r.waiting ≤ length t
+  pub short : length out + 4 * r.waiting ≤ most_len items
+
+-- in its data model, it took so many bytes of a text, which settle `out`
+abbrev pub IsUpTo : Transducer → Text → ℕ → Text → Type 0
+IsUpTo r text at out = (at ≤ length text) × (items : List Item)
+    × IsThrough r.model r (take at text) items out
+
+-- the item that a step ends, if it does
+abbrev pub more_of : Step → List Item
+more_of steps.More = []
+more_of (steps.Byte b) = Byte b ∷ []
+more_of steps.Percent = Byte percent ∷ []
+more_of (steps.Directive d) = Directive d ∷ []
+
+-- what a step settled, where this is its literal byte
+abbrev pub step_output_text : StepOutput → Text → Text
+step_output_text outputs.Nothing literal = []
+step_output_text outputs.Literal literal = literal
+step_output_text (outputs.Output output) literal = output_text output
+
+-- what a byte settled
+abbrev pub byte_output_text : StepOutput → ℕ → Text
+byte_output_text output byte = step_output_text output (byte ∷ [])
+
+-- what the item settled that ends a chunk at the front of a text
+abbrev pub item_output_text : Chunk → Text → Text
+item_output_text chunk text =
+    step_output_text chunk.item_output (take (chunk.len - chunk.start) (drop chunk.start text))
+
+-- and the whole chunk
+abbrev pub chunk_output_text : Chunk → Text → Text
+chunk_output_text chunk text = take chunk.verbatim_len text ++ item_output_text chunk text
+
+pub record IsChunkWithin (chunk : Chunk) (text : Text) : Type 0 where
+  pub some : 0 < chunk.len
+  pub verbatim_len : chunk.verbatim_len ≤ chunk.len
+  pub start : chunk.start ≤ chunk.len
+  pub len : chunk.len ≤ length text
+
+-- one more byte was taken
+pub record GrowsByByte (model : Model) (t : Text) (items : List Item) (out : Text) (byte : ℕ)
+    (output : StepOutput) (new : Transducer) : Type 0 where
+  pub more : List Item
+  pub through : IsThrough model new (t ++ byte ∷ []) (items ++ more)
+      (out ++ byte_output_text output byte)
+
+-- the byte `last` after `front` is refused, however the text goes on
+abbrev pub StaysRefused : Text → ℕ → Refusal → Type 0
+StaysRefused front last refusal =
+    (rest : Text) → IsRefusedAt (front ++ last ∷ rest) refusal.kind refusal.at
+
+abbrev pub TakesByte : Model → Text → List Item → Text → ℕ → Result StepOutput Refusal → Transducer
+    → Type 0
+TakesByte model t items out byte (Ok output) new = GrowsByByte model t items out byte output new
+TakesByte model t items out byte (Err refusal) new = (refusal.at ≡ length t)
+    × StaysRefused t byte refusal
+
+-- a literal byte is the one that was fed
+abbrev pub IsStepOf : Step → ℕ → Type 0
+IsStepOf (steps.Byte b) byte = (b ≡ byte) × IsLiteral byte
+IsStepOf steps.More byte = Unit {0}
+IsStepOf steps.Percent byte = Unit {0}
+IsStepOf (steps.Directive d) byte = Unit {0}
+
+abbrev pub Settles : Model → Step → ℕ → List Item → Text → ℕ → StepOutput → ℕ → Type 0
+Settles model step byte items out waiting output still = IsStepOf step byte → waiting < 2 ^ 63
+    → IsMaking model out waiting items []
+    → IsMaking model (out ++ byte_output_text output byte) still (with_step items step) []
+
+abbrev pub SettlesDirective : Model → Specification → List Item → List Item → Text → ℕ → Output → ℕ
+    → Type 0
+SettlesDirective model s items rest out waiting output still = waiting < 2 ^ 63
+    → IsMaking model out waiting items (Directive s ∷ rest)
+    → IsMaking model (out ++ output_text output) still items rest
+
+-- a chunk at the front of a text was taken
+pub record GrowsByChunk (model : Model) (t out text : Text) (chunk : Chunk)
+    (new : Transducer) : Type 0 where
+  pub items : List Item
+  pub through : IsThrough model new (t ++ take chunk.len text) items
+      (out ++ chunk_output_text chunk text)
+
+-- The byte `last` of a text is refused. Of those before it the first are their own canonical text,
+-- and the others settle nothing.
+pub record RefusesChunk (model : Model) (t out text : Text) (stop : ChunkRefusal) : Type 0 where
+  pub fed : Text
+  pub last : ℕ
+  pub rest : Text
+  pub split : text ≡ fed ++ last ∷ rest
+  pub kind : stop.refusal.kind ≢ Truncated
+  pub place : stop.refusal.at ≡ length (t ++ fed)
+  pub refused : StaysRefused (t ++ fed) last stop.refusal
+  pub settles : SettlesTo model (t ++ fed) (out ++ take stop.verbatim_len text)
+  pub few : length (out ++ take stop.verbatim_len text) < 2 ^ 128
+
+abbrev pub TakesChunk : Model → Text → Text → Text → Result Chunk ChunkRefusal → Transducer → Type 0
+TakesChunk model t out text (Ok chunk) new = GrowsByChunk model t out text chunk new
+TakesChunk model t out text (Err refused) new = RefusesChunk model t out text refused
+
+-- so many bytes at the front of a text were taken, which are their own canonical text
+pub record TakesVerbatim (model : Model) (t out text : Text) (len : ℕ)
+    (new : Transducer) : Type 0 where
+  pub items : List Item
+  pub through : IsThrough model new (t ++ take len text) items (out ++ take len text)
+
+-- The scanner took the text up to and with the byte at a place, of which it made this step. Nothing
+-- is settled by that yet.
+pub record HasScannedByte (model : Model) (r : Transducer) (t : Text) (items : List Item)
+    (out text : Text) (at : ℕ) (step : Step) : Type 0 where
+  pub before : Transducer
+  pub byte : ℕ
+  pub first : drop at text ≡ byte ∷ drop (at + 1) text
+  pub through : IsThrough model before (t ++ take at text) items out
+  pub model_is : r.model ≡ before.model
+  pub waiting : r.waiting ≡ before.waiting
+  pub takes : scanned.Takes (t ++ take at text) items byte step r.scanner
+
+-- The scanner took the text up to a place, and then so many bytes more, which are a directive.
+-- Nothing is settled by that yet.
+pub record HasScannedDirective (model : Model) (r : Transducer) (t : Text) (items : List Item)
+    (out text : Text) (at len : ℕ) (d : Specification) : Type 0 where
+  pub before : Transducer
+  pub through : IsThrough model before (t ++ take at text) items out
+  pub model_is : r.model ≡ before.model
+  pub waiting : r.waiting ≡ before.waiting
+  pub takes : scanned.TakesDirective (t ++ take at text) items (drop at text) len r.scanner d
+
+-- a text was taken to its end, or is refused, and this is what its whole items settle
+abbrev pub TakesText : Model → Text → Text → Result Transducer Refusal → Type 0
+TakesText model t out (Ok new) = (items : List Item) × IsThrough model new t items out
+TakesText model t out (Err refusal) =
+    IsRefusedAt t refusal.kind refusal.at × SettlesWhole model t out
+
+-- the text is whole, and with these bytes its canonical text
+abbrev pub SettlesEnd : Model → Text → List Item → Text → Result Output Refusal → Type 0
+SettlesEnd model t items out (Ok output) = Reads t items
+    × IsCanonicalOf model t (out ++ output_text output)
+    × (IsCanonicalText model t → out ++ output_text output ≡ t)
+SettlesEnd model t items out (Err refusal) = (refusal.kind ≡ Truncated) × (refusal.at ≡ length t)
+    × IsRefusedAt t refusal.kind refusal.at

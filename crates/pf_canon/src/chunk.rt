@@ -1,0 +1,89 @@
+//! A text taken chunk by chunk, and what each chunk settles put into a sink.
+ghost use Rattle.std.specs.Prelude.{◌++◌, MatchResult};
+ghost use Rattle.pf_values.specs.Refusals.{IsRefusedAt};
+ghost use Rattle.pf_values.specs.Text.{Text};
+ghost use Rattle.pf_canon.specs.Answers.{IsCanonicalFor};
+ghost use Rattle.pf_canon.specs.Transducer.{IsChunkWithin, IsUpTo, chunk_output_text, data_model_of, item_output_text};
+
+use crate::output::StepOutput;
+use crate::sink::Sink;
+use crate::transducer::Transducer;
+use pf_text::Refusal;
+
+/// The front of a text, and what it settles: its first bytes are verbatim, that is, they are their
+/// own canonical text, and then comes one item.
+#[derive(Drop)]
+pub(crate) struct Chunk {
+    /// How many bytes are verbatim.
+    pub(crate) verbatim_len: usize,
+    /// Where the item begins, if it is a directive that was taken whole, and else the place of the
+    /// byte that ends it.
+    pub(crate) start: usize,
+    /// How many bytes were taken.
+    pub(crate) len: usize,
+    /// What the item settles.
+    pub(crate) item_output: StepOutput,
+}
+
+/// Why a text is refused, and how many of its first bytes are verbatim.
+#[derive(Clone, Copy, Debug)]
+pub(crate) struct ChunkRefusal {
+    pub(crate) verbatim_len: usize,
+    pub(crate) refusal: Refusal,
+}
+
+/// Takes the chunks of a text from `at` on and then its end, and puts what they settle.
+pub(crate) fn put_chunks<S: Sink>(
+    mut transducer: Transducer,
+    text: &[u8],
+    at: usize,
+    sink: &mut S,
+) -> Result<(), Refusal>
+    ensures { (out : Text) → IsUpTo transducer text.now at out
+        → MatchResult result (λ _. (more : Text) × S.given sink.old sink.new more
+        × IsCanonicalFor (data_model_of transducer) text.now (out ++ more))
+        (λ refusal. IsRefusedAt text.now refusal.kind refusal.at) }
+{
+    let mut at = at;
+    while at < text.len() {
+        let rest = &text[at..];
+        let chunk = match transducer.feed_chunk(rest) {
+            Ok(chunk) => chunk,
+            Err(refused) => return Err(refused.refusal),
+        };
+        chunk.put(rest, sink);
+        at += chunk.len;
+    }
+    match transducer.finish() {
+        Ok(output) => {
+            output.put(sink);
+            Ok(())
+        }
+        Err(refusal) => Err(refusal),
+    }
+}
+
+impl Chunk {
+    /// Puts what the chunk settles, which is at the front of this text.
+    pub(crate) fn put<S: Sink>(&self, text: &[u8], sink: &mut S)
+        requires { IsChunkWithin self.now text.now }
+        ensures { S.given sink.old sink.new (chunk_output_text self.now text.now) }
+    {
+        if sink.is_shut() {
+            return;
+        }
+        sink.put(&text[..self.verbatim_len]);
+        self.put_item(text, sink);
+    }
+
+    fn put_item<S: Sink>(&self, text: &[u8], sink: &mut S)
+        requires { IsChunkWithin self.now text.now }
+        ensures { S.given sink.old sink.new (item_output_text self.now text.now) }
+    {
+        match &self.item_output {
+            StepOutput::Nothing => {}
+            StepOutput::Literal => sink.put(&text[self.start..self.len]),
+            StepOutput::Output(output) => output.put(sink),
+        }
+    }
+}

@@ -1,0 +1,379 @@
+//! Two texts, compared in step.
+ghost use Rattle.std.specs.Prelude.{◌≡◌, ℕ, Option, Some, None, Err, IfOk, IfSome, MatchResult, ◌≢◌, [], MatchBool};
+ghost use Rattle.pf_values.specs.Counting.{HasFailed, Known, device_of, failures_of};
+ghost use Rattle.pf_values.specs.Text.{Text};
+ghost use Rattle.pf_canon.specs.Comparison.{AreCommon, AreNextBytes, AreTextsSame, CountsBehind, CountsDrain, CountsSides, DrainsTo, EndsBoth, Gave, GoesOnlyWith, HaveCommon, IsApart, IsInStep, Lowers, NextBytesLeave, StopsSide, TextStops};
+ghost use Rattle.pf_canon.specs.CanonicalBytes.{AnswerLeaves, History};
+ghost use Rattle.pf_canon.specs.Walk.{GoInStep, WalkHasGiven};
+
+use crate::canonical_bytes::{ByteTransducer, Bytes};
+use crate::faults::{Side, SideFault, StreamFault};
+use crate::transducer::Transducer;
+use crate::walk::{Walk, finish_rest};
+use pf_text::Refusal;
+use pf_values::{Counted, Model};
+use std::io::Read;
+
+/// Whether the formats that two readers hand out up to their ends have equal types in this data
+/// model, and print equal bytes for all arguments. A difference doesn't stop the reading. Where a
+/// text is refused or its reader fails, the first text's fault is returned if it has one, and then
+/// the second text is not read further. It takes no memory.
+pub fn same_stream<R: Read, S: Read>(
+    model: Model,
+    r: &mut Counted<R>,
+    s: &mut Counted<S>,
+) -> Result<bool, SideFault>
+    ensures compared { MatchResult result
+        (EndsBoth model (R.remaining (device_of r.old)) (R.remaining (device_of r.new))
+        (S.remaining (device_of s.old)) (S.remaining (device_of s.new)))
+        (StopsSide model (R.remaining (device_of r.old)) (R.remaining (device_of r.new))
+        (S.remaining (device_of s.old)) (S.remaining (device_of s.new))) }
+    ensures counts { CountsSides (λ old new. failures_of new ≡ failures_of old) HasFailed
+        (λ old new. failures_of new ≡ failures_of old) HasFailed result r.old r.new s.old s.new }
+{
+    same_bytes(model, r, s)
+}
+
+/// Whether two formats have equal types in this data model, and print equal bytes for all
+/// arguments. Where a text is refused, the first text's refusal is returned if it has one. It takes
+/// no memory.
+pub fn same_text(model: Model, f: &[u8], g: &[u8]) -> Result<bool, (Side, Refusal)>
+    ensures { MatchResult result (AreTextsSame model f.now g.now) (TextStops f.now g.now) }
+{
+    if are_equal(f, g) {
+        return same_itself(model, f);
+    }
+    let common = common_len(f, g);
+    if common == 0 && f.first() != g.first() {
+        if let Some(answer) = compare_verbatim(model, f, g) {
+            return answer;
+        }
+    }
+    same_after_common(model, f, g, common)
+}
+
+// The same of a text and itself. It is read once.
+fn same_itself(model: Model, text: &[u8]) -> Result<bool, (Side, Refusal)>
+    ensures { MatchResult result (AreTextsSame model text.now text.now)
+        (TextStops text.now text.now) }
+{
+    match finish_rest(Transducer::new(model), text) {
+        Ok(()) => Ok(true),
+        Err(refusal) => Err((Side::First, refusal)),
+    }
+}
+
+// The same of two texts whose verbatim bytes differ already.
+fn compare_verbatim(model: Model, f: &[u8], g: &[u8]) -> Option<Result<bool, (Side, Refusal)>>
+    ensures { IfSome result (λ answer.
+        MatchResult answer (AreTextsSame model f.now g.now) (TextStops f.now g.now)) }
+{
+    let (first, first_len) = Transducer::after_verbatim(model, f);
+    let (second, second_len) = Transducer::after_verbatim(model, g);
+    let both = first_len.min(second_len);
+    if are_equal(&f[..both], &g[..both]) {
+        return None;
+    }
+    if let Err(refusal) = finish_rest(first, &f[first_len..]) {
+        return Some(Err((Side::First, refusal)));
+    }
+    if let Err(refusal) = finish_rest(second, &g[second_len..]) {
+        return Some(Err((Side::Second, refusal)));
+    }
+    Some(Ok(false))
+}
+
+// The same of two texts that begin with so many equal bytes, which are read once.
+fn same_after_common(
+    model: Model,
+    f: &[u8],
+    g: &[u8],
+    common: usize,
+) -> Result<bool, (Side, Refusal)>
+    requires { AreCommon f.now g.now common }
+    ensures { MatchResult result (AreTextsSame model f.now g.now) (TextStops f.now g.now) }
+{
+    let (mut first, mut second) = walks_of(model, f, g, common);
+    let same = go_in_step(&mut first, &mut second);
+    if let Err(refusal) = first.finish() {
+        return Err((Side::First, refusal));
+    }
+    if let Err(refusal) = second.finish() {
+        return Err((Side::Second, refusal));
+    }
+    Ok(same)
+}
+
+// A walk through each of two texts that begin with so many equal bytes.
+#[inline(always)]
+fn walks_of<'a>(model: Model, f: &'a [u8], g: &'a [u8], common: usize) -> (Walk<'a>, Walk<'a>)
+    requires { AreCommon f.now g.now common }
+    ensures { (given : Text) × WalkHasGiven model result.0 f.now given
+        × WalkHasGiven model result.1 g.now given }
+{
+    let (transducer, at) = Transducer::after_chunks(model, &f[..common]);
+    let first = Walk::new(transducer, &f[at..]);
+    let second = Walk::new(transducer, &g[at..]);
+    (first, second)
+}
+
+// Gives the bytes that two canonical texts have in common, and returns whether both ended there.
+fn go_in_step(first: &mut Walk<'_>, second: &mut Walk<'_>) -> bool
+    ensures { (model : Model) (f g given : Text) → WalkHasGiven model first.old f given
+        → WalkHasGiven model second.old g given → GoInStep model first.new f second.new g result }
+{
+    loop {
+        first.fill();
+        second.fill();
+        match common_front(first.front(), second.front()) {
+            Some(0) => return true,
+            Some(count) => {
+                first.skip(count);
+                second.skip(count);
+            }
+            None => return false,
+        }
+    }
+}
+
+// How the next bytes of two canonical texts compare.
+enum NextBytes {
+    // They are one byte.
+    Equal,
+    // Both texts ended.
+    BothEnded,
+    // They are two bytes, or a byte and the end.
+    Differ,
+}
+
+fn next_bytes_of(x: Option<u8>, y: Option<u8>) -> NextBytes
+    ensures { AreNextBytes x y result }
+{
+    match x {
+        None => match y {
+            None => NextBytes::BothEnded,
+            Some(_) => NextBytes::Differ,
+        },
+        Some(first) => match y {
+            None => NextBytes::Differ,
+            Some(second) => next_bytes_of_two(first, second),
+        },
+    }
+}
+
+fn next_bytes_of_two(first: u8, second: u8) -> NextBytes
+    ensures { AreNextBytes (Some first) (Some second) result }
+{
+    if first == second {
+        return NextBytes::Equal;
+    }
+    NextBytes::Differ
+}
+
+fn same_bytes<A: Bytes, B: Bytes>(model: Model, a: &mut A, b: &mut B) -> Result<bool, SideFault>
+    ensures compared { MatchResult result
+        (EndsBoth model (A.left a.old) (A.left a.new) (B.left b.old) (B.left b.new))
+        (StopsSide model (A.left a.old) (A.left a.new) (B.left b.old) (B.left b.new)) }
+    ensures counts { CountsSides A.kept A.failed B.kept B.failed result a.old a.new b.old b.new }
+{
+    let mut first = ByteTransducer::new(model);
+    let mut second = ByteTransducer::new(model);
+    loop {
+        match next_of_both(&mut first, a, &mut second, b) {
+            Ok(NextBytes::Equal) => {}
+            Ok(NextBytes::BothEnded) => return Ok(true),
+            Ok(NextBytes::Differ) => return drain_both(&mut first, a, &mut second, b),
+            Err(stop) => return Err(stop),
+        }
+    }
+}
+
+// The next byte of both.
+fn next_of_both<A: Bytes, B: Bytes>(
+    first: &mut ByteTransducer,
+    a: &mut A,
+    second: &mut ByteTransducer,
+    b: &mut B,
+) -> Result<NextBytes, SideFault>
+    ensures in_step { (model : Model) (f g : Known)
+        → IsInStep model first.old (A.left a.old) second.old (B.left b.old) f g
+        → NextBytesLeave model first.new (A.left a.new) second.new (B.left b.new) f g result }
+    ensures counts { CountsSides A.kept A.failed B.kept B.failed result a.old a.new b.old b.new }
+    ensures lower { Lowers first.old first.new result }
+{
+    match first.next(a) {
+        None => next_of_second(None, first, a, second, b),
+        Some(Ok(byte)) => next_of_second(Some(byte), first, a, second, b),
+        Some(Err(fault)) => Err(SideFault {
+            side: Side::First,
+            fault,
+        }),
+    }
+}
+
+// The first text gave this byte, or ended.
+fn next_of_second<A: Bytes, B: Bytes>(
+    x: Option<u8>,
+    first: &mut ByteTransducer,
+    a: &mut A,
+    second: &mut ByteTransducer,
+    b: &mut B,
+) -> Result<NextBytes, SideFault>
+    ensures in_step { (model : Model) (f g : Known) (t u given : Text)
+        → Gave model x first.old f (A.left a.old) t given
+        → History model second.old g (B.left b.old) u given
+        → NextBytesLeave model first.new (A.left a.new) second.new (B.left b.new) f g result }
+    ensures counts { CountsSides A.kept A.failed B.kept B.failed result a.old a.new b.old b.new }
+    ensures first { IfOk result (λ _. first.new ≡ first.old) }
+    ensures going { GoesOnlyWith x result }
+{
+    match second.next(b) {
+        None => Ok(next_bytes_of(x, None)),
+        Some(Ok(byte)) => Ok(next_bytes_of(x, Some(byte))),
+        Some(Err(fault)) => Err(earlier_fault(first, a, fault)),
+    }
+}
+
+// The fault of a comparison whose second text has this fault: that of the first, if it has one.
+fn earlier_fault<A: Bytes>(first: &mut ByteTransducer, a: &mut A, fault: StreamFault) -> SideFault
+    ensures stopped { (model : Model) (x : Option ℕ) (second : ByteTransducer) (f g b : Known)
+        (t u given : Text)
+        → Gave model x first.old f (A.left a.old) t given
+        → AnswerLeaves model (Some (Err fault)) second g b u given
+        → StopsSide model f (A.left a.new) g b result }
+    ensures counts { CountsBehind A.kept A.failed fault result.side result.fault a.old a.new }
+{
+    match drain(first, a) {
+        Ok(()) => SideFault {
+            side: Side::Second,
+            fault,
+        },
+        Err(fault) => SideFault {
+            side: Side::First,
+            fault,
+        },
+    }
+}
+
+// The texts differ. Each may still have a fault.
+fn drain_both<A: Bytes, B: Bytes>(
+    first: &mut ByteTransducer,
+    a: &mut A,
+    second: &mut ByteTransducer,
+    b: &mut B,
+) -> Result<bool, SideFault>
+    ensures compared { (model : Model) (f g : Known)
+        → IsApart model first.old (A.left a.old) second.old (B.left b.old) f g
+        → MatchResult result (EndsBoth model f (A.left a.new) g (B.left b.new))
+        (StopsSide model f (A.left a.new) g (B.left b.new)) }
+    ensures counts { CountsSides A.kept A.failed B.kept B.failed result a.old a.new b.old b.new }
+{
+    match drain(first, a) {
+        Ok(()) => match drain(second, b) {
+            Ok(()) => Ok(false),
+            Err(fault) => Err(SideFault {
+                side: Side::Second,
+                fault,
+            }),
+        },
+        Err(fault) => Err(SideFault {
+            side: Side::First,
+            fault,
+        }),
+    }
+}
+
+// Reads the rest, and gives none of it.
+fn drain<B: Bytes>(transducer: &mut ByteTransducer, bytes: &mut B) -> Result<(), StreamFault>
+    ensures drained { (model : Model) (x : Option ℕ) (start : Known) (taken given : Text)
+        → Gave model x transducer.old start (B.left bytes.old) taken given
+        → DrainsTo model x start (B.left bytes.new) given result }
+    ensures counts { CountsDrain B.kept B.failed result bytes.old bytes.new }
+{
+    loop {
+        match transducer.next(bytes) {
+            None => return Ok(()),
+            Some(Ok(_)) => {}
+            Some(Err(fault)) => return Err(fault),
+        }
+    }
+}
+
+// How many bytes are compared at once.
+const LANES: usize = 16;
+
+/// How many bytes two texts begin with in common. A few aren't worth being taken by themselves,
+/// where the first text goes on.
+pub(crate) fn common_len(x: &[u8], y: &[u8]) -> usize
+    ensures { AreCommon x.now y.now result }
+{
+    let common = common_bytes(x, y);
+    if common < LANES.min(x.len()) {
+        return 0;
+    }
+    common
+}
+
+fn common_bytes(x: &[u8], y: &[u8]) -> usize
+    ensures { AreCommon x.now y.now result }
+{
+    let most = x.len().min(y.len());
+    let mut at = 0;
+    while most - at >= LANES {
+        let next = at + LANES;
+        if !are_equal(&x[at..next], &y[at..next]) {
+            return common_from(x, y, at);
+        }
+        at = next;
+    }
+    common_from(x, y, at)
+}
+
+// The same byte by byte, where so many are known.
+fn common_from(x: &[u8], y: &[u8], known: usize) -> usize
+    requires { AreCommon x.now y.now known }
+    ensures { AreCommon x.now y.now result }
+{
+    let most = x.len().min(y.len());
+    let mut at = known;
+    while at < most {
+        if x[at] != y[at] {
+            return at;
+        }
+        at += 1;
+    }
+    at
+}
+
+/// How many bytes both begin with: as many as the shorter one has, or none.
+pub(crate) fn common_front(x: &[u8], y: &[u8]) -> Option<usize>
+    ensures { HaveCommon x.now y.now result }
+{
+    if x.is_empty() {
+        return both_empty(y);
+    }
+    let count = x.len().min(y.len());
+    if count == 0 {
+        return None;
+    }
+    if are_equal(&x[..count], &y[..count]) {
+        return Some(count);
+    }
+    None
+}
+
+fn both_empty(y: &[u8]) -> Option<usize>
+    ensures { HaveCommon [] y.now result }
+{
+    if y.is_empty() {
+        return Some(0);
+    }
+    None
+}
+
+/// Whether two texts are equal.
+pub(crate) fn are_equal(x: &[u8], y: &[u8]) -> bool
+    ensures { MatchBool result (x.now ≡ y.now) (x.now ≢ y.now) }
+{
+    x == y
+}

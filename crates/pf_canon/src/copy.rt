@@ -1,0 +1,274 @@
+//! The canonical text of a reader's bytes, written to a writer.
+ghost use Rattle.std.specs.Prelude.{◌≡◌, ◌≢◌, ℕ, ◌<◌, ◌≤◌, ◌++◌, length, take, IfOk, MatchResult, Err, false};
+ghost use Rattle.std.specs.Io.KnownBytes.{Appends, Consumes, IsAtEnd};
+ghost use Rattle.pf_values.specs.Counting.{Known, device_of};
+ghost use Rattle.pf_values.specs.Text.{Text};
+ghost use Rattle.pf_canon.specs.declared.faults.CopyFault.TheVariants.{Read};
+ghost use Rattle.pf_canon.specs.Transducer.{IsChunkWithin, RefusesChunk, chunk_output_text};
+ghost use Rattle.pf_canon.specs.Copy.{CopiesAll, CopyStops, HasPut, IsWritten, Puts, ReadCounts, StopsIn, WriteCounts};
+ghost use Rattle.pf_canon.specs.Output.{output_text};
+ghost use Rattle.pf_canon.specs.SinkLaws.{writes};
+
+use crate::chunk::Chunk;
+use crate::faults::CopyFault;
+use crate::limits::COPY_BLOCK;
+use crate::output::Output;
+use crate::sink::Sink;
+use crate::transducer::Transducer;
+use pf_text::Refusal;
+use pf_values::{Counted, Model, write_bytes};
+use std::io::{Read, Write};
+
+/// How many bytes of a text were copied, and how many bytes have gone out by then.
+#[derive(Clone, Copy, Debug)]
+pub(crate) struct CopyProgress {
+    len: usize,
+    written: u128,
+}
+
+/// Writes the canonical text, in this data model, of what the reader hands out up to its end. It
+/// reads a block at a time, and doesn't flush.
+pub fn canonical_stream<R: Read, W: Write>(
+    model: Model,
+    r: &mut Counted<R>,
+    w: &mut Counted<W>,
+) -> Result<(), CopyFault>
+    ensures copied { MatchResult result
+        (λ _. (count : ℕ) × CopiesAll model (R.remaining (device_of r.old))
+        (R.remaining (device_of r.new)) (W.contents (device_of w.old))
+        (W.contents (device_of w.new)) count)
+        (CopyStops model (R.remaining (device_of r.old)) (R.remaining (device_of r.new))
+        (W.contents (device_of w.old)) (W.contents (device_of w.new))) }
+    ensures reads { ReadCounts r.old r.new result }
+    ensures writes { WriteCounts w.old w.new result }
+{
+    match copy_canonical(model, r, w) {
+        Ok(_) => Ok(()),
+        Err(fault) => Err(fault),
+    }
+}
+
+/// The same, and it returns how many bytes it has written.
+pub fn copy_canonical<R: Read, W: Write>(
+    model: Model,
+    r: &mut Counted<R>,
+    w: &mut Counted<W>,
+) -> Result<u128, CopyFault>
+    ensures copied { MatchResult result
+        (CopiesAll model (R.remaining (device_of r.old)) (R.remaining (device_of r.new))
+        (W.contents (device_of w.old)) (W.contents (device_of w.new)))
+        (CopyStops model (R.remaining (device_of r.old)) (R.remaining (device_of r.new))
+        (W.contents (device_of w.old)) (W.contents (device_of w.new))) }
+    ensures reads { ReadCounts r.old r.new result }
+    ensures writes { WriteCounts w.old w.new result }
+{
+    let mut transducer = Transducer::new(model);
+    let mut written = 0u128;
+    let mut block = [0u8; COPY_BLOCK];
+    loop {
+        match r.read(&mut block) {
+            Ok(0) => return copy_end(&transducer, w, written),
+            Ok(len) => match copy_block(&mut transducer, &block[..len], w, written) {
+                Ok(now) => written = now,
+                Err(fault) => return Err(fault),
+            },
+            Err(_) => return Err(CopyFault::Read),
+        }
+    }
+}
+
+// Copies a block.
+#[inline(always)]
+fn copy_block<W: Write>(
+    transducer: &mut Transducer,
+    text: &[u8],
+    w: &mut Counted<W>,
+    written: u128,
+) -> Result<u128, CopyFault>
+    ensures copied { (model : Model) (front : Text) (start : Known)
+        → IsWritten model transducer.old front start (W.contents (device_of w.old)) written
+        → MatchResult result
+        (λ n. IsWritten model transducer.new (front ++ text.now) start
+        (W.contents (device_of w.new)) n)
+        (StopsIn model front text.now start (W.contents (device_of w.new))) }
+    ensures counts { WriteCounts w.old w.new result }
+{
+    let mut at = 0;
+    let mut written = written;
+    while at < text.len() {
+        let progress = match copy_chunk(transducer, &text[at..], w, written) {
+            Ok(progress) => progress,
+            Err(fault) => return Err(fault),
+        };
+        at += progress.len;
+        written = progress.written;
+    }
+    Ok(written)
+}
+
+// Copies the first chunk of a text.
+#[inline(always)]
+fn copy_chunk<W: Write>(
+    transducer: &mut Transducer,
+    text: &[u8],
+    w: &mut Counted<W>,
+    written: u128,
+) -> Result<CopyProgress, CopyFault>
+    requires { 0 < length text.now }
+    ensures copied { (model : Model) (front : Text) (start : Known)
+        → IsWritten model transducer.old front start (W.contents (device_of w.old)) written
+        → MatchResult result
+        (λ progress. IsWritten model transducer.new (front ++ take progress.len text.now) start
+        (W.contents (device_of w.new)) progress.written)
+        (StopsIn model front text.now start (W.contents (device_of w.new))) }
+    ensures some { IfOk result (λ progress. 0 < progress.len) }
+    ensures within { IfOk result (λ progress. progress.len ≤ length text.now) }
+    ensures counts { WriteCounts w.old w.new result }
+{
+    let chunk = match transducer.feed_chunk(text) {
+        Ok(chunk) => chunk,
+        Err(refused) => {
+            let verbatim = &text[..refused.verbatim_len];
+            return Err(copy_before_refusal(verbatim, w, written, refused.refusal));
+        }
+    };
+    match write_chunk(&chunk, text, w, written) {
+        Ok(written) => Ok(CopyProgress {
+            len: chunk.len,
+            written,
+        }),
+        Err(written) => {
+            // What was read counts as taken, and so does what it settles.
+            let _ = transducer.passed(&text[chunk.len..]);
+            Err(CopyFault::Write(written))
+        }
+    }
+}
+
+// Copies the verbatim bytes before a byte that is refused.
+fn copy_before_refusal<W: Write>(
+    verbatim: &[u8],
+    w: &mut Counted<W>,
+    written: u128,
+    refusal: Refusal,
+) -> CopyFault
+    ensures copied { (model : Model) (front out text : Text) (start : Known) (len : ℕ)
+        → verbatim.now ≡ take len text
+        → Appends start (W.contents (device_of w.old)) out → written ≡ length out
+        → RefusesChunk model front out text (record { verbatim_len = len; refusal = refusal })
+        → StopsIn model front text start (W.contents (device_of w.new)) result }
+    ensures counts { WriteCounts {E = Unit {0}} w.old w.new (Err result) }
+{
+    match put(w, verbatim, written) {
+        Ok(_) => CopyFault::Refused(refusal),
+        Err(written) => CopyFault::Write(written),
+    }
+}
+
+// Copies what the end settles.
+fn copy_end<W: Write>(
+    transducer: &Transducer,
+    w: &mut Counted<W>,
+    written: u128,
+) -> Result<u128, CopyFault>
+    ensures copied { (model : Model) (taken : Text) (start0 left start : Known)
+        → Consumes start0 left taken → IsAtEnd left
+        → IsWritten model transducer.now taken start (W.contents (device_of w.old)) written
+        → MatchResult result
+        (CopiesAll model start0 left start (W.contents (device_of w.new)))
+        (CopyStops model start0 left start (W.contents (device_of w.new))) }
+    ensures counts { WriteCounts w.old w.new result }
+    ensures reads { result ≢ Err Read }
+{
+    match transducer.finish() {
+        Ok(output) => match write_output(&output, w, written) {
+            Ok(written) => Ok(written),
+            Err(written) => Err(CopyFault::Write(written)),
+        },
+        Err(refusal) => Err(CopyFault::Refused(refusal)),
+    }
+}
+
+/// Writes bytes, and counts on from `count`. Where the writer fails, the count of those that went
+/// out is the `Err`.
+pub(crate) fn put<W: Write>(w: &mut Counted<W>, bytes: &[u8], count: u128) -> Result<u128, u128>
+    ensures { Puts W.contents w.old w.new bytes.now count result }
+{
+    match write_bytes(w, bytes) {
+        Ok(()) => Ok(count.saturating_add(bytes.len() as u128)),
+        Err(short) => Err(count.saturating_add(short.written as u128)),
+    }
+}
+
+/// A writer, how many bytes went out, and whether it failed. Then nothing more is written.
+#[derive(Drop)]
+pub(crate) struct Written<'a, W> {
+    writer: &'a mut Counted<W>,
+    count: u128,
+    has_failed: bool,
+}
+
+impl<W: Write> Sink for Written<'_, W> {
+    ghost given = { HasPut W.contents };
+
+    ghost laws = { writes W.contents };
+
+    fn put(&mut self, bytes: &[u8]) {
+        if self.has_failed {
+            return;
+        }
+        match put(self.writer, bytes, self.count) {
+            Ok(count) => self.count = count,
+            Err(count) => {
+                self.count = count;
+                self.has_failed = true;
+            }
+        }
+    }
+
+    fn is_shut(&self) -> bool {
+        self.has_failed
+    }
+}
+
+/// Writes what a chunk at the front of a text settles, and counts on as `put` does.
+pub(crate) fn write_chunk<W: Write>(
+    chunk: &Chunk,
+    text: &[u8],
+    w: &mut Counted<W>,
+    count: u128,
+) -> Result<u128, u128>
+    requires { IsChunkWithin chunk.now text.now }
+    ensures { Puts W.contents w.old w.new (chunk_output_text chunk.now text.now) count result }
+{
+    let mut out = Written {
+        writer: w,
+        count,
+        has_failed: false,
+    };
+    chunk.put(text, &mut out);
+    if out.has_failed {
+        return Err(out.count);
+    }
+    Ok(out.count)
+}
+
+/// The same of an output.
+pub(crate) fn write_output<W: Write>(
+    output: &Output,
+    w: &mut Counted<W>,
+    count: u128,
+) -> Result<u128, u128>
+    ensures { Puts W.contents w.old w.new (output_text output.now) count result }
+{
+    let mut out = Written {
+        writer: w,
+        count,
+        has_failed: false,
+    };
+    output.put(&mut out);
+    if out.has_failed {
+        return Err(out.count);
+    }
+    Ok(out.count)
+}

@@ -1,0 +1,281 @@
+//! What one item settles, to be put into a sink at once, or to be given byte by byte.
+ghost use Rattle.std.specs.Prelude.{◌≡◌, ◌*◌, ◌<◌, ℕ, drop, flat_map, length, replicate, ◌+◌, [], ◌^◌, IsTrue};
+ghost use Rattle.pf_values.specs.Canonical.{item_spelling};
+ghost use Rattle.pf_text.specs.Plain.{silents};
+ghost use Rattle.pf_canon.specs.declared.limits.TheConstants.{PADDING};
+ghost use Rattle.pf_canon.specs.Output.{IsFrontOf, text_after_zeros, output_text, silent_bytes, Pops, pending_text, pending_silents_text, pending_spelling_text};
+
+use crate::limits::PADDING;
+use crate::sink::{Sink, put_repeated, put_silents};
+use pf_text::Spelling;
+
+static SPACES: [u8; PADDING] = [b' '; PADDING];
+
+static ZEROS: [u8; PADDING] = [b'0'; PADDING];
+
+/// What a step of the scanner settles.
+#[derive(Drop)]
+pub(crate) enum StepOutput {
+    /// Nothing.
+    Nothing,
+    /// The byte itself, a literal one.
+    Literal,
+    /// These bytes.
+    Output(Output),
+}
+
+/// Spaces, zeros, silent directives `%.0s`, a spelling or nothing, and spaces.
+#[derive(Drop)]
+pub(crate) struct Output {
+    pub(crate) spaces: u16,
+    pub(crate) zeros: u16,
+    pub(crate) silents: u64,
+    pub(crate) spelling: Spelling,
+    pub(crate) trail: u16,
+}
+
+impl Output {
+    /// Puts these bytes into a sink.
+    #[inline(always)]
+    pub(crate) fn put<S: Sink>(&self, sink: &mut S)
+        ensures { S.given sink.old sink.new (output_text self.now) }
+    {
+        put_repeated(sink, &SPACES, self.spaces);
+        put_repeated(sink, &ZEROS, self.zeros);
+        put_silents(sink, self.silents);
+        sink.put(&self.spelling);
+        put_repeated(sink, &SPACES, self.trail);
+    }
+
+    /// Whether these bytes are known to be this text: its spelling, and nothing else.
+    #[inline(always)]
+    pub(crate) fn is_spelled(&self, text: &[u8]) -> bool
+        ensures { IsTrue result → output_text self.now ≡ text.now }
+    {
+        self.spaces == 0
+            && self.zeros == 0
+            && self.silents == 0
+            && self.trail == 0
+            && self.spelling.as_slice() == text
+    }
+
+    /// The first bytes from a place on, some if there are any.
+    pub(crate) fn front(&self, at: u128) -> &[u8]
+        ensures { IsFrontOf (drop at (output_text self.now)) result.now }
+    {
+        let spaces = u128::from(self.spaces);
+        if at < spaces {
+            return repeated(&SPACES, spaces - at);
+        }
+        let behind = at - spaces;
+        let zeros = u128::from(self.zeros);
+        if behind < zeros {
+            return repeated(&ZEROS, zeros - behind);
+        }
+        self.front_after_zeros(behind - zeros)
+    }
+
+    // The same of what comes after the zeros.
+    fn front_after_zeros(&self, at: u128) -> &[u8]
+        ensures { IsFrontOf (drop at (text_after_zeros self.now)) result.now }
+    {
+        let silents = 4 * u128::from(self.silents);
+        if at < silents {
+            return silent_front(b"%.0s", at);
+        }
+        let behind = at - silents;
+        let spelling = self.spelling.as_slice();
+        let spelled = spelling.len() as u128;
+        if behind < spelled {
+            return &spelling[behind as usize..];
+        }
+        repeated(
+            &SPACES,
+            u128::from(self.trail).saturating_sub(behind - spelled),
+        )
+    }
+
+    /// How many bytes these are.
+    pub(crate) fn len(&self) -> u128
+        ensures total { result ≡ length (output_text self.now) }
+        ensures few { result < 2 ^ 100 }
+    {
+        whole_len(
+            self.spaces,
+            self.zeros,
+            self.silents,
+            self.spelling.len(),
+            self.trail,
+        )
+    }
+}
+
+// The first of so many bytes that are all the same, a block of them at most.
+fn repeated(block: &[u8], count: u128) -> &[u8]
+    requires { length block.now ≡ PADDING }
+    ensures { (byte : ℕ) → block.now ≡ replicate PADDING byte
+        → IsFrontOf (replicate count byte) result.now }
+{
+    if count < PADDING as u128 {
+        return &block[..count as usize];
+    }
+    block
+}
+
+// The first bytes, from a place on, of some silent directives; this is one of them.
+fn silent_front(silent: &[u8], at: u128) -> &[u8]
+    requires { silent.now ≡ silent_bytes }
+    ensures { (count : ℕ) → at < 4 * count
+        → IsFrontOf (drop at (flat_map item_spelling (silents count))) result.now }
+{
+    &silent[(at % 4) as usize..]
+}
+
+// How many bytes some padding, silent directives of four bytes, and a spelling of so many bytes
+// are.
+fn whole_len(spaces: u16, zeros: u16, silents: u64, spelling: usize, trail: u16) -> u128
+    ensures total { result ≡ spaces + (zeros + (4 * silents + (spelling + trail))) }
+    ensures few { result < 2 ^ 100 }
+{
+    let padding = u128::from(spaces) + u128::from(zeros) + u128::from(trail);
+    padding + u128::from(silents) * 4 + spelling as u128
+}
+
+/// Silent directives `%.0s` that are still to be given, the first perhaps only its last bytes.
+#[derive(Drop)]
+pub(crate) struct PendingSilents {
+    count: u64,
+    at: u8,
+}
+
+impl PendingSilents {
+    /// Takes off the next byte, and returns it.
+    fn pop(&mut self) -> Option<u8>
+        ensures { Pops (pending_silents_text self.old) result (pending_silents_text self.new) }
+    {
+        if self.count == 0 {
+            return None;
+        }
+        match self.at {
+            0 => Some(self.step(b'%')),
+            1 => Some(self.step(b'.')),
+            2 => Some(self.step(b'0')),
+            _ => {
+                self.at = 0;
+                self.count -= 1;
+                Some(b's')
+            }
+        }
+    }
+
+    fn step(&mut self, byte: u8) -> u8
+        requires { self.old.at < 3 }
+        ensures byte { result ≡ byte }
+        ensures state { self.new ≡ record self.old { at = self.old.at + 1 } }
+    {
+        self.at += 1;
+        byte
+    }
+}
+
+/// A spelling, and how many of its bytes were given.
+#[derive(Drop)]
+pub(crate) struct PendingSpelling {
+    bytes: Spelling,
+    given: usize,
+}
+
+impl PendingSpelling {
+    /// Takes off the next byte, and returns it.
+    fn pop(&mut self) -> Option<u8>
+        ensures { Pops (pending_spelling_text self.old) result (pending_spelling_text self.new) }
+    {
+        let byte = *self.bytes.as_slice().get(self.given)?;
+        self.given += 1;
+        Some(byte)
+    }
+}
+
+/// An output of which the first bytes were given.
+#[derive(Drop)]
+pub(crate) struct PendingOutput {
+    spaces: u16,
+    zeros: u16,
+    silents: PendingSilents,
+    spelling: PendingSpelling,
+    trail: u16,
+}
+
+impl PendingOutput {
+    /// Nothing is pending.
+    pub(crate) fn new() -> PendingOutput
+        ensures { pending_text result ≡ [] }
+    {
+        PendingOutput {
+            spaces: 0,
+            zeros: 0,
+            silents: PendingSilents { count: 0, at: 0 },
+            spelling: PendingSpelling {
+                bytes: Spelling::new(),
+                given: 0,
+            },
+            trail: 0,
+        }
+    }
+
+    /// All of an output is pending.
+    pub(crate) fn of(output: Output) -> PendingOutput
+        ensures { pending_text result ≡ output_text output }
+    {
+        let Output {
+            spaces,
+            zeros,
+            silents,
+            spelling,
+            trail,
+        } = output;
+        PendingOutput {
+            spaces,
+            zeros,
+            silents: PendingSilents {
+                count: silents,
+                at: 0,
+            },
+            spelling: PendingSpelling {
+                bytes: spelling,
+                given: 0,
+            },
+            trail,
+        }
+    }
+
+    /// Takes off the next byte, and returns it.
+    pub(crate) fn pop(&mut self) -> Option<u8>
+        ensures { Pops (pending_text self.old) result (pending_text self.new) }
+    {
+        if let Some(byte) = pop_one(&mut self.spaces, b' ') {
+            return Some(byte);
+        }
+        if let Some(byte) = pop_one(&mut self.zeros, b'0') {
+            return Some(byte);
+        }
+        if let Some(byte) = self.silents.pop() {
+            return Some(byte);
+        }
+        if let Some(byte) = self.spelling.pop() {
+            return Some(byte);
+        }
+        pop_one(&mut self.trail, b' ')
+    }
+}
+
+// One of so many equal bytes, if there is one.
+fn pop_one(count: &mut u16, byte: u8) -> Option<u8>
+    ensures { Pops (replicate count.old byte) result (replicate count.new byte) }
+{
+    if *count == 0 {
+        return None;
+    }
+    *count -= 1;
+    Some(byte)
+}

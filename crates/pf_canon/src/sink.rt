@@ -1,0 +1,194 @@
+//! Where bytes are put, one text after another.
+ghost use Rattle.std.specs.Prelude.{◌≡◌, ℕ, flat_map, length, replicate, IsTrue, ◌++◌, IfOk};
+ghost use Rattle.pf_values.specs.Canonical.{item_spelling};
+ghost use Rattle.pf_values.specs.Text.{Text};
+ghost use Rattle.pf_text.specs.Plain.{silents};
+ghost use Rattle.pf_canon.specs.declared.limits.TheConstants.{PADDING};
+ghost use Rattle.pf_canon.specs.Sink.{IsSink, IsBuilt, IsStripped, IsFrontStripped, IsLeft};
+ghost use Rattle.pf_canon.specs.SinkLaws.{builds, strips};
+
+use crate::limits::BLOCK;
+use arrayvec::ArrayVec;
+use std::alloc::{AllocError, Allocator};
+
+/// What is given bytes, one text after another. Where it stops taking them, it remembers that, and
+/// ignores all that follows.
+pub(crate) trait Sink {
+    // between two states it was given these bytes
+    ghost given: { Self → Self → Text → Type 0 };
+
+    /// Takes bytes.
+    fn put(&mut self, bytes: &[u8])
+        ensures { given self.old self.new bytes.now };
+
+    /// Whether it is known that nothing more is taken.
+    fn is_shut(&self) -> bool
+        ensures { IsTrue result → (bytes : Text) → given self.now self.now bytes };
+
+    ghost laws: { IsSink given };
+}
+
+/// Puts one byte so many times; this is a block of it.
+#[inline(always)]
+pub(crate) fn put_repeated<S: Sink>(sink: &mut S, block: &[u8], times: u16)
+    requires { length block.now ≡ PADDING }
+    ensures { (byte : ℕ) → block.now ≡ replicate PADDING byte
+        → S.given sink.old sink.new (replicate times byte) }
+{
+    if times == 0 {
+        return;
+    }
+    // As many puts of one length as there are, which a sink that counts adds up at once.
+    let mut left = times / BLOCK;
+    while left > 0 {
+        sink.put(&block[..usize::from(BLOCK)]);
+        left -= 1;
+    }
+    sink.put(&block[..usize::from(times % BLOCK)]);
+}
+
+/// Puts so many silent directives.
+#[inline(always)]
+pub(crate) fn put_silents<S: Sink>(sink: &mut S, times: u64)
+    ensures { S.given sink.old sink.new (flat_map item_spelling (silents times)) }
+{
+    let mut left = times;
+    while left >= 4 {
+        sink.put(b"%.0s%.0s%.0s%.0s");
+        left -= 4;
+    }
+    while left > 0 {
+        sink.put(b"%.0s");
+        left -= 1;
+    }
+}
+
+/// Bytes in memory, to which others are appended while there is room for them.
+pub(crate) trait TextBuffer {
+    /// The bytes.
+    ghost bytes_of: { Self → Text };
+
+    /// Appends bytes.
+    fn append(&mut self, bytes: &[u8]) -> Result<(), AllocError>
+        ensures { IfOk result (λ _. bytes_of self.new ≡ bytes_of self.old ++ bytes.now) };
+}
+
+/// There is room until a growth is refused.
+impl<A: Allocator> TextBuffer for Vec<u8, A> {
+    ghost bytes_of = { λ v. v.items };
+
+    // No bytes need no growth.
+    fn append(&mut self, bytes: &[u8]) -> Result<(), AllocError> {
+        if bytes.is_empty() {
+            return Ok(());
+        }
+        self.extend_from_slice(bytes)
+    }
+}
+
+/// There is room for so many bytes, and none is ever taken from an allocator.
+impl<const N: usize> TextBuffer for ArrayVec<u8, N> {
+    ghost bytes_of = { λ v. v.items };
+
+    fn append(&mut self, bytes: &[u8]) -> Result<(), AllocError> {
+        match self.try_extend_from_slice(bytes) {
+            Ok(()) => Ok(()),
+            Err(_) => Err(AllocError),
+        }
+    }
+}
+
+/// A text that is being put together, and whether there was too little room for a part of it.
+#[derive(Drop)]
+pub(crate) struct TextBuilder<R> {
+    pub(crate) buffer: R,
+    pub(crate) is_full: bool,
+}
+
+impl<R: TextBuffer> Sink for TextBuilder<R> {
+    ghost given = { IsBuilt R.bytes_of };
+
+    ghost laws = { builds R.bytes_of };
+
+    #[inline(always)]
+    fn put(&mut self, bytes: &[u8]) {
+        match self.buffer.append(bytes) {
+            Ok(()) => {}
+            Err(_) => self.is_full = true,
+        }
+    }
+
+    // A shorter text may still find room.
+    #[inline(always)]
+    fn is_shut(&self) -> bool {
+        false
+    }
+}
+
+/// How many bytes were given.
+#[derive(Clone, Copy, Debug)]
+pub(crate) struct ByteCount {
+    pub(crate) len: u128,
+}
+
+impl Sink for ByteCount {
+    ghost use Rattle.pf_canon.specs.Sink.{IsCounted};
+    ghost use Rattle.pf_canon.specs.SinkLaws.{counts};
+
+    ghost given = { IsCounted };
+
+    ghost laws = { counts };
+
+    #[inline(always)]
+    fn put(&mut self, bytes: &[u8]) {
+        self.len = self.len.wrapping_add(bytes.len() as u128);
+    }
+
+    #[inline(always)]
+    fn is_shut(&self) -> bool {
+        false
+    }
+}
+
+/// What is left of a text that is expected, as long as nothing else was given.
+#[derive(Clone, Copy, Debug)]
+pub(crate) struct Expected<'a> {
+    pub(crate) left: Option<&'a [u8]>,
+}
+
+impl<'a> Expected<'a> {
+    /// All of a text is expected.
+    #[inline(always)]
+    pub(crate) fn new(text: &'a [u8]) -> Expected<'a>
+        ensures { IsLeft result.left text.now }
+    {
+        Expected { left: Some(text) }
+    }
+}
+
+impl Sink for Expected<'_> {
+    ghost given = { IsStripped };
+
+    ghost laws = { strips };
+
+    #[inline(always)]
+    fn put(&mut self, bytes: &[u8]) {
+        self.left = strip_front(bytes, self.left);
+    }
+
+    #[inline(always)]
+    fn is_shut(&self) -> bool {
+        self.left.is_none()
+    }
+}
+
+// What is left after these bytes, if it begins with them.
+#[inline(always)]
+fn strip_front<'a>(front: &[u8], left: Option<&'a [u8]>) -> Option<&'a [u8]>
+    ensures { IsFrontStripped left.entry front.now result }
+{
+    match left {
+        Some(left) => left.strip_prefix(front),
+        None => None,
+    }
+}

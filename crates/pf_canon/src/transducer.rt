@@ -1,0 +1,397 @@
+//! A transducer of formats: it is fed a byte, a chunk or the end, and returns what that settles.
+ghost use Rattle.std.specs.Prelude.{◌≡◌, ◌+◌, ◌*◌, ◌<◌, ◌≤◌, ℕ, List, [], ◌∷◌, ◌++◌, length, take, IfOk, MatchResult, OnOk};
+ghost use Rattle.pf_values.specs.declared.limits.TheConstants.{MAX_TEXT_LEN};
+ghost use Rattle.pf_values.specs.Items.{Item};
+ghost use Rattle.pf_values.specs.Text.{Text};
+ghost use Rattle.pf_text.specs.declared.scanner.Step.TheVariants as steps;
+ghost use Rattle.pf_text.specs.History.{offset_of};
+ghost use Rattle.pf_canon.specs.Answers.{most_len};
+ghost use Rattle.pf_canon.specs.declared.limits.TheConstants.{MAX_DIRECTIVE_LEN};
+ghost use Rattle.pf_canon.specs.Output.{output_text};
+ghost use Rattle.pf_canon.specs.Transducer.{SettlesEnd, GrowsByChunk, HasScannedDirective, HasScannedByte, IsChunkWithin, IsThrough, IsUpTo, TakesVerbatim, TakesText, Settles, TakesByte, SettlesDirective, TakesChunk, chunk_output_text, byte_output_text, data_model_of, more_of, scanner_of, waiting_silents_of};
+
+use crate::chunk::{Chunk, ChunkRefusal};
+use crate::output::{Output, StepOutput};
+use pf_reduce::{Core, Reduced, reduce};
+use pf_text::{Refusal, Scanner, Spelling, Step, spell};
+use pf_values::{Directive, Model};
+
+/// In a data model, what has come of an item, and how many silent directives wait for the bytes
+/// after them.
+#[derive(Clone, Copy, Debug)]
+pub(crate) struct Transducer {
+    model: Model,
+    scanner: Scanner,
+    waiting: u64,
+}
+
+impl Transducer {
+    /// Nothing was taken.
+    pub(crate) fn new(model: Model) -> Transducer
+        ensures { IsThrough model result [] [] [] }
+    {
+        Transducer {
+            model,
+            scanner: Scanner::new(),
+            waiting: 0,
+        }
+    }
+
+    /// A transducer that took the first bytes of a text that are their own canonical text, and how
+    /// many these are.
+    #[inline(always)]
+    pub(crate) fn after_verbatim(model: Model, text: &[u8]) -> (Transducer, usize)
+        ensures model { data_model_of result.0 ≡ model }
+        ensures kept { IsUpTo result.0 text.now result.1 (take result.1 text.now) }
+        ensures none { waiting_silents_of result.0 ≡ 0 }
+    {
+        let mut transducer = Transducer::new(model);
+        let verbatim_len = transducer.pass_verbatim(text);
+        (transducer, verbatim_len)
+    }
+
+    /// The same, where whole directives that are normal and spelled as a canonical text spells them
+    /// are such bytes too.
+    pub(crate) fn after_canonical(model: Model, text: &[u8]) -> (Transducer, usize)
+        ensures model { data_model_of result.0 ≡ model }
+        ensures kept { IsUpTo result.0 text.now result.1 (take result.1 text.now) }
+        ensures none { waiting_silents_of result.0 ≡ 0 }
+    {
+        let (mut transducer, mut len) = Transducer::after_verbatim(model, text);
+        while len < text.len() {
+            let directive_len = transducer.pass_normal(&text[len..]);
+            if directive_len == 0 {
+                break;
+            }
+            len += directive_len;
+            len += transducer.pass_verbatim(&text[len..]);
+        }
+        (transducer, len)
+    }
+
+    /// A transducer that took a text chunk by chunk, up to its end or to what is refused, and how
+    /// many bytes it took.
+    pub(crate) fn after_chunks(model: Model, text: &[u8]) -> (Transducer, usize)
+        ensures model { data_model_of result.0 ≡ model }
+        ensures kept { (out : Text) × IsUpTo result.0 text.now result.1 out }
+    {
+        let mut transducer = Transducer::new(model);
+        let mut at = 0;
+        while at < text.len() {
+            let mut next = transducer;
+            match next.feed_chunk(&text[at..]) {
+                Ok(chunk) => {
+                    transducer = next;
+                    at += chunk.len;
+                }
+                Err(_) => return (transducer, at),
+            }
+        }
+        (transducer, at)
+    }
+
+    /// Takes one more byte, and returns what it settles.
+    pub(crate) fn feed(&mut self, byte: u8) -> Result<StepOutput, Refusal>
+        ensures fed { (model : Model) (t out : Text) (items : List Item)
+            → IsThrough model self.old t items out
+            → TakesByte model t items out byte result self.new }
+        ensures few { IfOk result (λ output.
+            length (byte_output_text output byte) + 4 * waiting_silents_of self.new
+            ≤ 4 * waiting_silents_of self.old + MAX_DIRECTIVE_LEN) }
+        ensures offset { OnOk result (offset_of (scanner_of self.new)
+            ≡ offset_of (scanner_of self.old) + 1) }
+        ensures below { OnOk result (offset_of (scanner_of self.old) < MAX_TEXT_LEN) }
+    {
+        match self.scanner.feed(byte) {
+            Ok(step) => Ok(self.settle(&step)),
+            Err(refusal) => Err(refusal),
+        }
+    }
+
+    /// Takes the first chunk of a text: bytes that are their own canonical text, silent directives,
+    /// and then what follows up to the end of one other item, or up to the end of the text.
+    #[inline(always)]
+    pub(crate) fn feed_chunk(&mut self, text: &[u8]) -> Result<Chunk, ChunkRefusal>
+        requires { 0 < length text.now }
+        ensures fed { (model : Model) (t out : Text) (items : List Item)
+            → IsThrough model self.old t items out
+            → TakesChunk model t out text.now result self.new }
+        ensures within { MatchResult result (λ chunk. IsChunkWithin chunk text.now)
+            (λ refused. refused.verbatim_len ≤ length text.now) }
+        ensures few { IfOk result (λ chunk.
+            length (chunk_output_text chunk text.now) + 4 * waiting_silents_of self.new
+            ≤ 4 * waiting_silents_of self.old + MAX_DIRECTIVE_LEN * chunk.len) }
+    {
+        let verbatim_len = self.pass_verbatim(text);
+        self.finish_chunk(text, verbatim_len)
+    }
+
+    /// The same of a text whose verbatim bytes were taken.
+    #[inline(always)]
+    pub(crate) fn finish_chunk(
+        &mut self,
+        text: &[u8],
+        verbatim_len: usize,
+    ) -> Result<Chunk, ChunkRefusal>
+        requires some { 0 < length text.now }
+        requires verbatim_len { verbatim_len ≤ length text.now }
+        ensures fed { (model : Model) (t out : Text) (items : List Item)
+            → IsThrough model self.old (t ++ take verbatim_len text.now) items
+            (out ++ take verbatim_len text.now)
+            → TakesChunk model t out text.now result self.new }
+        ensures within { MatchResult result (λ chunk. IsChunkWithin chunk text.now)
+            (λ refused. refused.verbatim_len ≤ length text.now) }
+        ensures few { IfOk result (λ chunk.
+            length (chunk_output_text chunk text.now) + 4 * waiting_silents_of self.new
+            ≤ 4 * waiting_silents_of self.old + MAX_DIRECTIVE_LEN * chunk.len) }
+    {
+        let mut at = self.pass_silents(text, verbatim_len);
+        if let Some((directive, len)) = self.scanner.pass_directive(&text[at..]) {
+            return Ok(self.end_directive(text, verbatim_len, at, len, &directive));
+        }
+        while at < text.len() {
+            match self.scanner.feed(text[at]) {
+                Ok(Step::More) => at += 1,
+                Ok(step) => return Ok(self.end_chunk(text, verbatim_len, at, &step)),
+                Err(refusal) => {
+                    return Err(ChunkRefusal {
+                        verbatim_len,
+                        refusal,
+                    });
+                }
+            }
+        }
+        Ok(Chunk {
+            verbatim_len,
+            start: at,
+            len: at,
+            item_output: StepOutput::Nothing,
+        })
+    }
+
+    /// Takes the first bytes of a text that are their own canonical text, and returns how many
+    /// these are. After silent directives that wait they are literal bytes alone, and inside an
+    /// item there are none.
+    #[inline(always)]
+    pub(crate) fn pass_verbatim(&mut self, text: &[u8]) -> usize
+        ensures model { data_model_of self.new ≡ data_model_of self.old }
+        ensures waiting { waiting_silents_of self.new ≡ waiting_silents_of self.old }
+        ensures kept { (model : Model) (t out : Text) (items : List Item)
+            → IsThrough model self.old t items out
+            → TakesVerbatim model t out text.now result self.new }
+        ensures within { result ≤ length text.now }
+    {
+        if self.waiting > 0 {
+            return self.scanner.pass_literals(text);
+        }
+        self.scanner.pass_plain(text)
+    }
+
+    // Takes the directive that a text begins with, if it is its own canonical text, and returns its
+    // length; else nothing, which is 0 bytes.
+    fn pass_normal(&mut self, text: &[u8]) -> usize
+        requires { waiting_silents_of self.old ≡ 0 }
+        ensures model { data_model_of self.new ≡ data_model_of self.old }
+        ensures none { waiting_silents_of self.new ≡ 0 }
+        ensures kept { (model : Model) (t out : Text) (items : List Item)
+            → IsThrough model self.old t items out
+            → TakesVerbatim model t out text.now result self.new }
+        ensures within { result ≤ length text.now }
+    {
+        let mut next = *self;
+        let Some((directive, len)) = next.scanner.pass_directive(text) else {
+            return 0;
+        };
+        let output = next.settle_directive(&directive);
+        if next.waiting > 0 || !output.is_spelled(&text[..len]) {
+            return 0;
+        }
+        *self = next;
+        len
+    }
+
+    // Takes the silent directives that follow the verbatim bytes, which wait. Returns the place of
+    // the first other byte.
+    #[inline(always)]
+    fn pass_silents(&mut self, text: &[u8], verbatim_len: usize) -> usize
+        requires { verbatim_len ≤ length text.now }
+        ensures kept { (model : Model) (t out : Text) (items : List Item)
+            → IsThrough model self.old (t ++ take verbatim_len text.now) items out
+            → (now : List Item) × IsThrough model self.new (t ++ take result text.now) now out }
+        ensures within { (verbatim_len ≤ result) × (result ≤ length text.now) }
+        ensures few { 4 * waiting_silents_of self.new + verbatim_len
+            ≤ 4 * waiting_silents_of self.old + result }
+    {
+        let count = self.scanner.pass_silents(&text[verbatim_len..]);
+        self.waiting = self.waiting.saturating_add(count as u64);
+        verbatim_len + 4 * count
+    }
+
+    // The chunk that ends with the byte at `at`, of which the scanner made this step.
+    #[inline(always)]
+    fn end_chunk(&mut self, text: &[u8], verbatim_len: usize, at: usize, step: &Step) -> Chunk
+        requires verbatim_len { verbatim_len ≤ at }
+        requires at { at < length text.now }
+        ensures fed { (model : Model) (t out : Text) (items : List Item)
+            → HasScannedByte model self.old t items (out ++ take verbatim_len text.now) text.now at
+            step.now → GrowsByChunk model t out text.now result self.new }
+        ensures within { IsChunkWithin result text.now }
+        ensures len { result.len ≡ at + 1 }
+        ensures few { length (chunk_output_text result text.now) + 4 * waiting_silents_of self.new
+            ≤ 4 * waiting_silents_of self.old + (verbatim_len + MAX_DIRECTIVE_LEN) }
+    {
+        Chunk {
+            verbatim_len,
+            start: at,
+            len: at + 1,
+            item_output: self.settle(step),
+        }
+    }
+
+    // The chunk that ends with a directive, which the scanner took as so many bytes from `at` on.
+    #[inline(always)]
+    fn end_directive(
+        &mut self,
+        text: &[u8],
+        verbatim_len: usize,
+        at: usize,
+        len: usize,
+        directive: &Directive,
+    ) -> Chunk
+        requires verbatim_len { verbatim_len ≤ at }
+        requires some { 0 < len }
+        requires len { at + len ≤ length text.now }
+        ensures fed { (model : Model) (t out : Text) (items : List Item)
+            → HasScannedDirective model self.old t items (out ++ take verbatim_len text.now)
+            text.now at len directive.now → GrowsByChunk model t out text.now result self.new }
+        ensures within { IsChunkWithin result text.now }
+        ensures len { result.len ≡ at + len }
+        ensures few { length (chunk_output_text result text.now) + 4 * waiting_silents_of self.new
+            ≤ 4 * waiting_silents_of self.old + (verbatim_len + MAX_DIRECTIVE_LEN) }
+    {
+        Chunk {
+            verbatim_len,
+            start: at,
+            len: at + len,
+            item_output: StepOutput::Output(self.settle_directive(directive)),
+        }
+    }
+
+    /// A transducer that took a text after what this one took, or why that is refused.
+    pub(crate) fn passed(mut self, text: &[u8]) -> Result<Transducer, Refusal>
+        ensures { (model : Model) (t out : Text) (items : List Item)
+            → IsThrough model self t items out
+            → (more : Text) × TakesText model (t ++ text.now) (out ++ more) result }
+    {
+        let mut at = 0;
+        while at < text.len() {
+            match self.feed_chunk(&text[at..]) {
+                Ok(chunk) => at += chunk.len,
+                Err(refused) => return Err(refused.refusal),
+            }
+        }
+        Ok(self)
+    }
+
+    // What a step settles.
+    #[inline(always)]
+    fn settle(&mut self, step: &Step) -> StepOutput
+        ensures model { data_model_of self.new ≡ data_model_of self.old }
+        ensures scanner { scanner_of self.new ≡ scanner_of self.old }
+        ensures settles { (byte : ℕ) (out : Text) (items : List Item)
+            → Settles (data_model_of self.old) step.now byte items out
+            (waiting_silents_of self.old) result (waiting_silents_of self.new) }
+        ensures few { (byte : ℕ)
+            → length (byte_output_text result byte) + 4 * waiting_silents_of self.new
+            ≤ 4 * waiting_silents_of self.old + MAX_DIRECTIVE_LEN }
+        ensures one { waiting_silents_of self.new ≤ waiting_silents_of self.old + 1 }
+        ensures short { (byte : ℕ)
+            → length (byte_output_text result byte) + 4 * waiting_silents_of self.new
+            ≤ 4 * waiting_silents_of self.old + most_len (more_of step.now) }
+    {
+        match step {
+            Step::More => StepOutput::Nothing,
+            Step::Byte(_) => StepOutput::Literal,
+            Step::Percent => StepOutput::Output(percents()),
+            Step::Directive(directive) => StepOutput::Output(self.settle_directive(directive)),
+        }
+    }
+
+    #[inline(always)]
+    fn settle_directive(&mut self, directive: &Directive) -> Output
+        ensures model { data_model_of self.new ≡ data_model_of self.old }
+        ensures scanner { scanner_of self.new ≡ scanner_of self.old }
+        ensures settles { (out : Text) (items rest : List Item)
+            → SettlesDirective (data_model_of self.old) directive.now items rest out
+            (waiting_silents_of self.old) result (waiting_silents_of self.new) }
+        ensures few { length (output_text result) + 4 * waiting_silents_of self.new
+            ≤ 4 * waiting_silents_of self.old + MAX_DIRECTIVE_LEN }
+        ensures one { waiting_silents_of self.new ≤ waiting_silents_of self.old + 1 }
+    {
+        let Reduced {
+            spaces,
+            zeros,
+            core,
+            trail,
+        } = reduce(self.model, directive);
+        match core {
+            Core::Silent => {
+                self.waiting = self.waiting.saturating_add(1);
+                Output {
+                    spaces,
+                    zeros,
+                    silents: 0,
+                    spelling: Spelling::new(),
+                    trail,
+                }
+            }
+            Core::Normal(normal) => {
+                let silents = self.waiting;
+                self.waiting = 0;
+                Output {
+                    spaces,
+                    zeros,
+                    silents,
+                    spelling: spell(&normal.directive()),
+                    trail,
+                }
+            }
+        }
+    }
+
+    /// Takes the end of the text, and returns what that settles.
+    #[inline(always)]
+    pub(crate) fn finish(&self) -> Result<Output, Refusal>
+        ensures ended { (model : Model) (t out : Text) (items : List Item)
+            → IsThrough model self.now t items out → SettlesEnd model t items out result }
+        ensures few { IfOk result (λ output.
+            length (output_text output) ≤ 4 * waiting_silents_of self.now) }
+    {
+        match self.scanner.finish() {
+            Ok(()) => Ok(Output {
+                spaces: 0,
+                zeros: 0,
+                silents: self.waiting,
+                spelling: Spelling::new(),
+                trail: 0,
+            }),
+            Err(refusal) => Err(refusal),
+        }
+    }
+}
+
+// `%%`
+fn percents() -> Output
+    ensures { output_text result ≡ 37 ∷ 37 ∷ [] }
+{
+    let mut spelling = Spelling::new();
+    spelling.push(b'%');
+    spelling.push(b'%');
+    Output {
+        spaces: 0,
+        zeros: 0,
+        silents: 0,
+        spelling,
+        trail: 0,
+    }
+}

@@ -1,0 +1,288 @@
+//! The canonical text of a format in memory, slice by slice.
+ghost use Rattle.std.specs.Prelude.{◌≡◌, ◌≢◌, List, MatchBool, ◌++◌, ◌+◌, ◌≤◌, ◌<◌, ◌^◌, [], None, length, take, drop, MatchResult};
+ghost use Rattle.pf_values.specs.Items.{Item};
+ghost use Rattle.pf_values.specs.Refusals.{IsRefusedAt};
+ghost use Rattle.pf_values.specs.Text.{Text};
+ghost use Rattle.pf_values.specs.declared.models.Model.{Model};
+ghost use Rattle.pf_canon.specs.Output.{IsFrontOf, output_text};
+ghost use Rattle.pf_canon.specs.Transducer.{IsChunkWithin, IsThrough, chunk_output_text};
+ghost use Rattle.pf_canon.specs.Walk.{IsAcceptedAs, IsClear, IsCleared, IsMidway, IsWalkedWhole, WalkHasGiven, text_of_some, to_come, to_take, waits};
+
+use crate::chunk::Chunk;
+use crate::output::{Output, StepOutput};
+use crate::transducer::Transducer;
+use pf_text::Refusal;
+
+/// A text of which some was taken. Of what that settles the last bytes wait: verbatim bytes, a
+/// literal byte or none, and an output.
+#[derive(Drop)]
+pub(crate) struct Walk<'a> {
+    transducer: Transducer,
+    rest: &'a [u8],
+    verbatim: &'a [u8],
+    literal: &'a [u8],
+    output: Option<Output>,
+    given: u128,
+    end: Option<Result<(), Refusal>>,
+}
+
+impl<'a> Walk<'a> {
+    /// All that the transducer settled was given, and this is not taken.
+    pub(crate) fn new(transducer: Transducer, rest: &'a [u8]) -> Walk<'a>
+        ensures { (model : Model) (text given : Text)
+            → IsMidway model transducer rest.now [] text given
+            → WalkHasGiven model result text given }
+    {
+        Walk {
+            transducer,
+            rest,
+            verbatim: &[],
+            literal: &[],
+            output: None,
+            given: 0,
+            end: None,
+        }
+    }
+
+    /// Takes more, until something waits or the text is at its end or refused.
+    pub(crate) fn fill(&mut self)
+        ensures given { (model : Model) (text given : Text)
+            → WalkHasGiven model self.old text given → WalkHasGiven model self.new text given }
+        ensures some { waits self.new ≡ [] → self.new.end ≢ None }
+        ensures fewer { to_come self.new ≤ to_come self.old }
+    {
+        while self.front().is_empty() {
+            if self.end.is_some() {
+                return;
+            }
+            self.advance();
+        }
+    }
+
+    /// The first bytes that wait, some if there are any.
+    pub(crate) fn front(&self) -> &[u8]
+        ensures { IsFrontOf (waits self.now) result.now }
+    {
+        let at = self.given;
+        let verbatim = self.verbatim;
+        if at < verbatim.len() as u128 {
+            return &verbatim[at as usize..];
+        }
+        self.item_front(at - verbatim.len() as u128)
+    }
+
+    // The same of what comes after the verbatim bytes.
+    fn item_front(&self, at: u128) -> &[u8]
+        ensures { IsFrontOf (drop at (self.now.literal.now ++ text_of_some self.now.output))
+            result.now }
+    {
+        let literal = self.literal;
+        if at < literal.len() as u128 {
+            return &literal[at as usize..];
+        }
+        match &self.output {
+            Some(output) => output.front(at - literal.len() as u128),
+            None => &[],
+        }
+    }
+
+    /// Gives so many of the bytes that wait, or all if there are fewer.
+    pub(crate) fn skip(&mut self, count: usize)
+        ensures given { (model : Model) (text given : Text)
+            → WalkHasGiven model self.old text given
+            → WalkHasGiven model self.new text (given ++ take count (waits self.old)) }
+        ensures fewer { count ≤ length (waits self.old)
+            → to_come self.new + count ≤ to_come self.old }
+    {
+        let given = self.given.saturating_add(count as u128);
+        self.given = given.min(self.len());
+    }
+
+    // How many bytes waited before any was given.
+    fn len(&self) -> u128
+        ensures total { result ≡ length (self.now.verbatim.now
+            ++ (self.now.literal.now ++ text_of_some self.now.output)) }
+        ensures few { result < 2 ^ 101 }
+    {
+        all_len(self.verbatim.len(), self.literal.len(), len_in(&self.output))
+    }
+
+    /// Whether the text is accepted, which is read to its end.
+    pub(crate) fn finish(&self) -> Result<(), Refusal>
+        ensures { (model : Model) (text given : Text)
+            → WalkHasGiven model self.now text given
+            → MatchResult result (λ _. IsWalkedWhole model self.now text given)
+            (λ refusal. IsRefusedAt text refusal.kind refusal.at) }
+    {
+        match self.end {
+            Some(end) => end,
+            None => finish_rest(self.transducer, self.rest),
+        }
+    }
+
+    // Takes the next chunk, or the end. All that waited counts as given.
+    fn advance(&mut self)
+        requires { self.old.end ≡ None }
+        ensures given { (model : Model) (text given : Text)
+            → WalkHasGiven model self.old text given
+            → WalkHasGiven model self.new text (given ++ waits self.old) }
+        ensures less { to_take self.new < to_take self.old }
+        ensures fewer { to_come self.new ≤ to_come self.old }
+    {
+        self.clear();
+        if self.rest.is_empty() {
+            self.take_end();
+            return;
+        }
+        if self.take_verbatim() {
+            return;
+        }
+        self.take_chunk();
+    }
+
+    // Nothing waits.
+    #[inline(always)]
+    fn clear(&mut self)
+        ensures { IsCleared self.old self.new }
+    {
+        self.verbatim = &[];
+        self.literal = &[];
+        self.output = None;
+        self.given = 0;
+    }
+
+    #[inline(always)]
+    fn take_end(&mut self)
+        requires cleared { IsClear self.old }
+        requires open { self.old.end ≡ None }
+        requires end { self.old.rest.now ≡ [] }
+        ensures given { (model : Model) (text given : Text)
+            → WalkHasGiven model self.old text given → WalkHasGiven model self.new text given }
+        ensures less { to_take self.new < to_take self.old }
+        ensures fewer { to_come self.new ≤ to_come self.old }
+    {
+        match self.transducer.finish() {
+            Ok(output) => {
+                self.output = some_of(output);
+                self.end = Some(Ok(()));
+            }
+            Err(refusal) => self.end = Some(Err(refusal)),
+        }
+    }
+
+    // Takes the verbatim bytes at the front of the rest, if there are any. It leaves the automaton
+    // alone, and is all that there is of most texts.
+    #[inline(always)]
+    fn take_verbatim(&mut self) -> bool
+        requires cleared { IsClear self.old }
+        requires open { self.old.end ≡ None }
+        ensures given { (model : Model) (text given : Text)
+            → WalkHasGiven model self.old text given → WalkHasGiven model self.new text given }
+        ensures taken { MatchBool result (to_take self.new < to_take self.old)
+            (IsClear self.new × (self.new.rest.now ≡ self.old.rest.now)) }
+        ensures end { self.new.end ≡ self.old.end }
+        ensures fewer { to_come self.new ≤ to_come self.old }
+    {
+        let rest = self.rest;
+        let verbatim_len = self.transducer.pass_verbatim(rest);
+        if verbatim_len == 0 {
+            return false;
+        }
+        self.verbatim = &rest[..verbatim_len];
+        self.rest = &rest[verbatim_len..];
+        true
+    }
+
+    // Takes a chunk that has no verbatim bytes.
+    #[inline(always)]
+    fn take_chunk(&mut self)
+        requires cleared { IsClear self.old }
+        requires open { self.old.end ≡ None }
+        requires some { 0 < length self.old.rest.now }
+        ensures given { (model : Model) (text given : Text)
+            → WalkHasGiven model self.old text given → WalkHasGiven model self.new text given }
+        ensures less { to_take self.new < to_take self.old }
+        ensures fewer { to_come self.new ≤ to_come self.old }
+    {
+        // A copy, which lies in registers.
+        let mut transducer = self.transducer;
+        match transducer.finish_chunk(self.rest, 0) {
+            Ok(chunk) => {
+                self.transducer = transducer;
+                self.keep(chunk);
+            }
+            Err(refused) => self.end = Some(Err(refused.refusal)),
+        }
+    }
+
+    // What the first chunk of the rest settles waits.
+    #[inline(always)]
+    fn keep(&mut self, chunk: Chunk)
+        requires cleared { IsClear self.old }
+        requires within { IsChunkWithin chunk self.old.rest.now }
+        ensures waits { waits self.new ≡ chunk_output_text chunk self.old.rest.now }
+        ensures rest { self.new.rest.now ≡ drop chunk.len self.old.rest.now }
+        ensures transducer { self.new.transducer ≡ self.old.transducer }
+        ensures end { self.new.end ≡ self.old.end }
+    {
+        let Chunk {
+            verbatim_len,
+            start,
+            len,
+            item_output,
+        } = chunk;
+        let text = self.rest;
+        self.verbatim = &text[..verbatim_len];
+        self.rest = &text[len..];
+        match item_output {
+            StepOutput::Nothing => {}
+            StepOutput::Literal => self.literal = &text[start..len],
+            StepOutput::Output(output) => self.output = Some(output),
+        }
+    }
+}
+
+/// Whether a text is accepted of which this is left.
+pub(crate) fn finish_rest(transducer: Transducer, rest: &[u8]) -> Result<(), Refusal>
+    ensures { (model : Model) (t out : Text) (items : List Item)
+        → IsThrough model transducer t items out
+        → MatchResult result (λ _. (more : Text) × IsAcceptedAs model (t ++ rest.now) (out ++ more))
+        (λ refusal. IsRefusedAt (t ++ rest.now) refusal.kind refusal.at) }
+{
+    match transducer.passed(rest) {
+        Ok(passed) => match passed.finish() {
+            Ok(_) => Ok(()),
+            Err(refusal) => Err(refusal),
+        },
+        Err(refusal) => Err(refusal),
+    }
+}
+
+// An output that has a byte.
+#[inline(always)]
+fn some_of(output: Output) -> Option<Output>
+    ensures { text_of_some result ≡ output_text output }
+{
+    if output.len() == 0 {
+        return None;
+    }
+    Some(output)
+}
+
+fn len_in(output: &Option<Output>) -> u128
+    ensures total { result ≡ length (text_of_some output.now) }
+    ensures few { result < 2 ^ 100 }
+{
+    match output {
+        Some(output) => output.len(),
+        None => 0,
+    }
+}
+
+fn all_len(verbatim: usize, literal: usize, output: u128) -> u128
+    requires { output < 2 ^ 100 }
+    ensures total { result ≡ verbatim + (literal + output) }
+    ensures few { result < 2 ^ 101 }
+{
+    verbatim as u128 + (literal as u128 + output)
+}
