@@ -2,7 +2,7 @@
 use Rattle.std.specs.Prelude.{◌≡◌, ◌≢◌, ◌⊎◌, ℤ, pos, neg_ℤ, List, [], length, map}
 use Rattle.pf_canon.specs.declared.sides.Side.{Side}
 use Rattle.pf_canon.specs.declared.sides.Side.TheVariants.{First, Second}
-use Rattle.pf_signatures.specs.declared.kinds.SignatureRefusalKind.{SignatureRefusalKind}
+use Rattle.pf_signatures.specs.declared.refusals.SignatureRefusalKind.{SignatureRefusalKind}
 use Rattle.pf_signatures.specs.declared.types.ArgumentType.{ArgumentType}
 use Rattle.pf_signatures.specs.Items.{HasArguments}
 use Rattle.pf_signatures.specs.Kinds.{number, type_number}

@@ -19,7 +19,7 @@ use Rattle.pf_values.specs.Specification.{Specification, width_of}
 use Rattle.pf_values.specs.Text.{Text, space}
 use Rattle.pf_values.proofs.Printed.{count_of, filled_precision, length-printed_digits, natural_len, natural_of, precision_under, printed_digits, printed_precision}
 use Rattle.pf_values.proofs.PrintsOnce.{value_text}
-use Rattle.pf_compare.specs.declared.foresight.Alike.{Alike}
+use Rattle.pf_compare.specs.declared.predictions.Alike.{Alike}
 use Rattle.pf_compare.specs.declared.values.Value.{Value}
 use Rattle.pf_compare.specs.Outlines.{HasSignAndSize}
 use Rattle.pf_compare.specs.Spaces.{AreAlikeFor, HasRoom, IsWithin, with_space}

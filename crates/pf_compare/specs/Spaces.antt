@@ -9,7 +9,7 @@ use Rattle.pf_values.specs.Flags.{has, with_flag}
 use Rattle.pf_values.specs.Normal.{precision_of}
 use Rattle.pf_values.specs.Printing.{is_zero_filled}
 use Rattle.pf_values.specs.Specification.{Specification, width_of}
-use Rattle.pf_compare.specs.declared.foresight.Alike.{Alike}
+use Rattle.pf_compare.specs.declared.predictions.Alike.{Alike}
 use Rattle.pf_compare.specs.declared.values.Value.{Value}
 use Rattle.pf_compare.specs.Outlines.{Foretells, IsOfValue}
 

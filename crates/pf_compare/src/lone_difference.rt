@@ -6,7 +6,7 @@ ghost use Rattle.pf_values.specs.Text.{Text, percent};
 ghost use Rattle.pf_text.specs.PieceHistory.{items_of};
 ghost use Rattle.pf_compare.specs.Lone.{DifferInOneAtMost, FormatsDifferInOne, HasFollowed, IsIndexAfter};
 
-use crate::foresight::are_equal;
+use crate::predictions::are_equal;
 use crate::probe_search::are_unlike;
 use pf_text::{Piece, Pieces};
 use pf_values::Directive;

@@ -13,7 +13,7 @@ ghost use Rattle.pf_compare.specs.Layouts.{AreLevel, AreTriedBelow, FillAlike, F
 ghost use Rattle.pf_compare.specs.Lone.{alone};
 ghost use Rattle.pf_compare.specs.Spaces.{AreAlikeFor};
 
-use crate::foresight::{Alike, are_equal, foretell};
+use crate::predictions::{Alike, are_equal, foretell};
 use crate::layouts::{Hole, Layout, print};
 use crate::owned_args::OwnedArg;
 use pf_probes::{Candidate, candidate_row};

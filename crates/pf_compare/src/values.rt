@@ -5,7 +5,7 @@ ghost use Rattle.pf_values.specs.Conversions.{is_signed, is_text};
 ghost use Rattle.pf_values.specs.DataModel.{Bits, bit_count, bits_under};
 ghost use Rattle.pf_compare.specs.Outlines.{HasCounted, IsOfValue};
 
-use crate::foresight::{same_conv, same_length};
+use crate::predictions::{same_conv, same_length};
 use pf_values::{Directive, Kind, Model, ValueKind};
 
 /// The value that a directive prints for a number, by its sign and its size.

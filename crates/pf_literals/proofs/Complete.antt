@@ -5,13 +5,13 @@ use Rattle.std.specs.List.{AllByRecursion}
 use Rattle.std.proofs.lemmas.Bool.{ne_eqb}
 use Rattle.std.proofs.lemmas.Bool.Decides.{nat_tests}
 use Rattle.std.proofs.lemmas.List.{append-nil, append_assoc}
-use Rattle.pf_literals.specs.declared.kinds.LiteralKind.{LiteralKind}
-use Rattle.pf_literals.specs.declared.kinds.LiteralKind.TheVariants.{NoLiteral, Unterminated}
+use Rattle.pf_literals.specs.declared.faults.LiteralKind.{LiteralKind}
+use Rattle.pf_literals.specs.declared.faults.LiteralKind.TheVariants.{NoLiteral, Unterminated}
 use Rattle.pf_literals.specs.declared.notations.Notation.TheVariants.{Octal, Hexadecimal}
-use Rattle.pf_literals.specs.declared.turns.Place.{Place}
-use Rattle.pf_literals.specs.declared.turns.Place.TheVariants.{Before, Inside, Behind}
-use Rattle.pf_literals.specs.declared.turns.Turn.{Turn}
-use Rattle.pf_literals.specs.declared.turns.Turn.TheVariants.{White, Gives, Stops}
+use Rattle.pf_literals.specs.declared.tokens.Place.{Place}
+use Rattle.pf_literals.specs.declared.tokens.Place.TheVariants.{Before, Inside, Behind}
+use Rattle.pf_literals.specs.declared.tokens.Turn.{Turn}
+use Rattle.pf_literals.specs.declared.tokens.Turn.TheVariants.{White, Gives, Stops}
 use Rattle.pf_literals.specs.Elements.{AreElements, Bytes, Element, Numeric, Plain, Simple, quote, stands_before, value, written}
 use Rattle.pf_literals.specs.Sources.{AreWhite, IsLiteral, IsSource, Literal, bytes_of, close_of, element_places, is_white, literal_text, places}
 use Rattle.pf_literals.specs.Faults.{AreOpen, HasCause, IsFaultAt, open_text}

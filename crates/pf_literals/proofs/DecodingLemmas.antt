@@ -1,10 +1,10 @@
 -- The bytes of a source, part by part.
 use Rattle.std.proofs.Common.{sym, ◌≡◌, ◌≢◌, ℕ, ◌<◌, List, [], ◌++◌, length, ap, ap₂, ◌∙◌, arith, length-append}
 use Rattle.std.proofs.lemmas.List.{append-nil}
-use Rattle.pf_literals.specs.declared.cursors.Cursor.{Cursor}
+use Rattle.pf_literals.specs.declared.cursor.Cursor.{Cursor}
 use Rattle.pf_literals.specs.declared.faults.LiteralFault.{LiteralFault}
 use Rattle.pf_literals.specs.declared.faults.LiteralFault.TheVariants.{Refused, Memory}
-use Rattle.pf_literals.specs.declared.kinds.LiteralKind.{LiteralKind}
+use Rattle.pf_literals.specs.declared.faults.LiteralKind.{LiteralKind}
 use Rattle.pf_literals.specs.Answers.{HindersDecoding}
 use Rattle.pf_literals.specs.Elements.{Bytes}
 use Rattle.pf_literals.specs.Faults.{IsFaultAt}

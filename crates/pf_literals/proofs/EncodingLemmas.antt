@@ -4,7 +4,7 @@ use Rattle.std.specs.Prelude.{◌==◌, None}
 use Rattle.std.proofs.lemmas.Bool.{and_right}
 use Rattle.std.proofs.lemmas.Bool.Decides.{nat_tests}
 use Rattle.std.proofs.lemmas.List.{drop-drop, length-take-le, take-append-drop}
-use Rattle.pf_literals.specs.declared.fronts.Front.{Front}
+use Rattle.pf_literals.specs.declared.encoded_parts.Front.{Front}
 use Rattle.pf_literals.specs.Elements.{Bytes, Plain, quote, written}
 use Rattle.pf_literals.specs.Encoding.{element_for, encoding, is_printed, simple_letter, spelled}
 use Rattle.pf_literals.specs.Runs.{IsRun, is_special}

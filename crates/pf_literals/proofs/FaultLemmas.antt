@@ -5,8 +5,8 @@ use Rattle.std.specs.List.{AllByRecursion}
 use Rattle.std.proofs.lemmas.Bool.{and_left, and_right, not_from_false, not_from_true}
 use Rattle.std.proofs.lemmas.Bool.Decides.{nat_tests}
 use Rattle.std.proofs.lemmas.List.{append-nil, append_assoc}
-use Rattle.pf_literals.specs.declared.kinds.LiteralKind.{LiteralKind}
-use Rattle.pf_literals.specs.declared.kinds.LiteralKind.TheVariants.{NoLiteral, Unterminated, BadEscape, EscapeTooLarge, ZeroByte, Trigraph}
+use Rattle.pf_literals.specs.declared.faults.LiteralKind.{LiteralKind}
+use Rattle.pf_literals.specs.declared.faults.LiteralKind.TheVariants.{NoLiteral, Unterminated, BadEscape, EscapeTooLarge, ZeroByte, Trigraph}
 use Rattle.pf_literals.specs.declared.notations.Notation.{Notation}
 use Rattle.pf_literals.specs.declared.notations.Notation.TheVariants.{Octal, Hexadecimal}
 use Rattle.pf_literals.specs.Elements.{AreDigits, AreElements, Bytes, Element, IsElement, Numeric, Plain, Simple, base, escape, goes_on, is_digit, is_full, is_line_end, number_of, quote, stands_before, written}

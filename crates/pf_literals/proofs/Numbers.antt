@@ -5,10 +5,10 @@ use Rattle.std.specs.List.{AllByRecursion}
 use Rattle.std.proofs.lemmas.Bool.{and_from, and_left, and_right, cases_lt, not_from_false, not_from_true}
 use Rattle.std.proofs.lemmas.List.{drop_more}
 use Rattle.std.proofs.lemmas.Bool.Decides.{nat_tests}
-use Rattle.pf_literals.specs.declared.kinds.LiteralKind.TheVariants.{EscapeTooLarge}
+use Rattle.pf_literals.specs.declared.faults.LiteralKind.TheVariants.{EscapeTooLarge}
 use Rattle.pf_literals.specs.declared.notations.Notation.{Notation}
 use Rattle.pf_literals.specs.declared.notations.Notation.TheVariants.{Octal, Hexadecimal}
-use Rattle.pf_literals.specs.declared.turns.Turn.TheVariants.{Gives, Stops}
+use Rattle.pf_literals.specs.declared.tokens.Turn.TheVariants.{Gives, Stops}
 use Rattle.pf_literals.specs.Elements.{Bytes, HasRoom, base, digit_value, goes_on, is_digit, is_full, number_after}
 use Rattle.pf_literals.specs.Turns.{at_end, before_digits, numeric, settled}
 

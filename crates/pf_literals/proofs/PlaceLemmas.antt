@@ -5,8 +5,8 @@ use Rattle.std.specs.List.{range_with_len}
 use Rattle.std.proofs.lemmas.Bool.{cases_lt}
 use Rattle.std.proofs.lemmas.List.FromFn.{get_or-range_with_len, length-range_with_len}
 use Rattle.std.proofs.lemmas.Option.{slice_get-get_or, slice_get_within}
-use Rattle.pf_literals.specs.declared.cursors.Cursor.{Cursor}
-use Rattle.pf_literals.specs.declared.kinds.LiteralKind.{LiteralKind}
+use Rattle.pf_literals.specs.declared.cursor.Cursor.{Cursor}
+use Rattle.pf_literals.specs.declared.faults.LiteralKind.{LiteralKind}
 use Rattle.pf_literals.specs.Answers.{HasNoPlace, IsPlaceOf}
 use Rattle.pf_literals.specs.Elements.{Bytes}
 use Rattle.pf_literals.specs.Readings.{Fault, IsWhole, Reading, Whole, prefixed, reading}

@@ -4,11 +4,11 @@ use Rattle.std.specs.Prelude.{◌⊎◌, ◌==◌, None}
 use Rattle.std.proofs.lemmas.Bool.{ne_eqb, not-true}
 use Rattle.std.proofs.lemmas.Bool.Decides.{nat_tests}
 use Rattle.std.proofs.lemmas.List.{append-nil}
-use Rattle.pf_literals.specs.declared.kinds.LiteralKind.{LiteralKind}
-use Rattle.pf_literals.specs.declared.kinds.LiteralKind.TheVariants.{NoLiteral, Unterminated, BadEscape, EscapeTooLarge, ZeroByte, Trigraph}
+use Rattle.pf_literals.specs.declared.faults.LiteralKind.{LiteralKind}
+use Rattle.pf_literals.specs.declared.faults.LiteralKind.TheVariants.{NoLiteral, Unterminated, BadEscape, EscapeTooLarge, ZeroByte, Trigraph}
 use Rattle.pf_literals.specs.declared.notations.Notation.{Notation}
 use Rattle.pf_literals.specs.declared.notations.Notation.TheVariants.{Octal, Hexadecimal}
-use Rattle.pf_literals.specs.declared.turns.Turn.TheVariants.{Gives, Stops}
+use Rattle.pf_literals.specs.declared.tokens.Turn.TheVariants.{Gives, Stops}
 use Rattle.pf_literals.specs.Elements.{AreDigits, Bytes, Element, HasRoom, IsElement, Numeric, Plain, Simple, escape, goes_on, is_digit, is_full, is_line_end, number_of, simple_byte, stands_before, value, written}
 use Rattle.pf_literals.specs.Faults.{IsBegun, IsEnded, IsNoEscape, IsStopped, IsTooLarge, IsZero}
 use Rattle.pf_literals.specs.Turns.{before_digits, inside, numeric, settled}

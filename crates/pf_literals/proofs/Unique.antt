@@ -1,8 +1,8 @@
 -- A text is a source of one list of bytes, or has one fault.
 use Rattle.std.proofs.Common.{◌≡◌, ℕ, List, [], refl, sym, ap, ◌∙◌, subst, inl, inr}
 use Rattle.std.specs.Prelude.{◌⊎◌}
-use Rattle.pf_literals.specs.declared.kinds.LiteralKind.{LiteralKind}
-use Rattle.pf_literals.specs.declared.kinds.LiteralKind.TheVariants.{NoLiteral}
+use Rattle.pf_literals.specs.declared.faults.LiteralKind.{LiteralKind}
+use Rattle.pf_literals.specs.declared.faults.LiteralKind.TheVariants.{NoLiteral}
 use Rattle.pf_literals.specs.Elements.{Bytes}
 use Rattle.pf_literals.specs.Sources.{HasPlaces, IsSourceOf, bytes_of, places}
 use Rattle.pf_literals.specs.Faults.{IsFaultAt}

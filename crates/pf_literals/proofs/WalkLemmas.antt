@@ -5,13 +5,13 @@ use Rattle.std.specs.List.{range_with_len}
 use Rattle.std.proofs.lemmas.Bool.{and_left}
 use Rattle.std.proofs.lemmas.Bool.Decides.{nat_tests}
 use Rattle.std.proofs.lemmas.List.{drop-drop, drop_all, drop_more, length-drop, length-take-le, take-append-drop}
-use Rattle.pf_literals.specs.declared.kinds.LiteralKind.{LiteralKind}
+use Rattle.pf_literals.specs.declared.faults.LiteralKind.{LiteralKind}
 use Rattle.pf_literals.specs.declared.notations.Notation.{Notation}
 use Rattle.pf_literals.specs.declared.notations.Notation.TheVariants.{Octal, Hexadecimal}
-use Rattle.pf_literals.specs.declared.turns.Place.{Place}
-use Rattle.pf_literals.specs.declared.turns.Place.TheVariants.{Before, Inside, Behind}
-use Rattle.pf_literals.specs.declared.turns.Turn.{Turn}
-use Rattle.pf_literals.specs.declared.turns.Turn.TheVariants.{Gives, Stops}
+use Rattle.pf_literals.specs.declared.tokens.Place.{Place}
+use Rattle.pf_literals.specs.declared.tokens.Place.TheVariants.{Before, Inside, Behind}
+use Rattle.pf_literals.specs.declared.tokens.Turn.{Turn}
+use Rattle.pf_literals.specs.declared.tokens.Turn.TheVariants.{Gives, Stops}
 use Rattle.pf_literals.specs.Elements.{Bytes, base, digit_value, ends_trigraph, goes_on, is_full, is_line_end, simple_byte}
 use Rattle.pf_literals.specs.Sources.{is_white}
 use Rattle.pf_literals.specs.Turns.{before_digits, by_letter, escaped, inside, numeric, outside, settled, turn}

@@ -1,8 +1,8 @@
 -- The numbers and the names of the kinds of faults. This project's own: the standard asks for a
 -- diagnostic in most of these cases, and of no words.
 use Rattle.std.specs.Prelude.{ℕ, codes}
-use Rattle.pf_literals.specs.declared.kinds.LiteralKind.{LiteralKind}
-use Rattle.pf_literals.specs.declared.kinds.LiteralKind.TheVariants.{NoLiteral, Unterminated, BadEscape, EscapeTooLarge, ZeroByte, Trigraph}
+use Rattle.pf_literals.specs.declared.faults.LiteralKind.{LiteralKind}
+use Rattle.pf_literals.specs.declared.faults.LiteralKind.TheVariants.{NoLiteral, Unterminated, BadEscape, EscapeTooLarge, ZeroByte, Trigraph}
 use Rattle.pf_literals.specs.Elements.{Bytes}
 
 -- the number that a fault is told by

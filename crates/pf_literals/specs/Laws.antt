@@ -1,7 +1,7 @@
 -- What the laws say.
 use Rattle.std.specs.Prelude.{ℕ, ◌<◌, ◌++◌, ◌⊎◌}
 use Rattle.std.specs.List.{AllByRecursion}
-use Rattle.pf_literals.specs.declared.kinds.LiteralKind.{LiteralKind}
+use Rattle.pf_literals.specs.declared.faults.LiteralKind.{LiteralKind}
 use Rattle.pf_literals.specs.Elements.{Bytes}
 use Rattle.pf_literals.specs.Faults.{IsFaultAt}
 use Rattle.pf_literals.specs.Sources.{IsSourceOf}

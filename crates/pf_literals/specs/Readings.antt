@@ -1,11 +1,11 @@
 -- What a text is read as, as the code reads it. No public contract speaks of it.
 use Rattle.std.specs.Prelude.{◌≡◌, ℕ, zero, suc, ◌+◌, ◌-◌, List, [], ◌∷◌, ◌++◌}
-use Rattle.pf_literals.specs.declared.kinds.LiteralKind.{LiteralKind}
-use Rattle.pf_literals.specs.declared.kinds.LiteralKind.TheVariants.{NoLiteral, Unterminated}
-use Rattle.pf_literals.specs.declared.turns.Place.{Place}
-use Rattle.pf_literals.specs.declared.turns.Place.TheVariants.{Before, Inside, Behind}
-use Rattle.pf_literals.specs.declared.turns.Turn.{Turn}
-use Rattle.pf_literals.specs.declared.turns.Turn.TheVariants.{White, Opens, Closes, Gives, Stops}
+use Rattle.pf_literals.specs.declared.faults.LiteralKind.{LiteralKind}
+use Rattle.pf_literals.specs.declared.faults.LiteralKind.TheVariants.{NoLiteral, Unterminated}
+use Rattle.pf_literals.specs.declared.tokens.Place.{Place}
+use Rattle.pf_literals.specs.declared.tokens.Place.TheVariants.{Before, Inside, Behind}
+use Rattle.pf_literals.specs.declared.tokens.Turn.{Turn}
+use Rattle.pf_literals.specs.declared.tokens.Turn.TheVariants.{White, Opens, Closes, Gives, Stops}
 use Rattle.pf_literals.specs.Elements.{Bytes}
 use Rattle.pf_literals.specs.Turns.{turn}
 

@@ -2,8 +2,8 @@
 use Rattle.std.specs.Prelude.{◌≡◌, ℕ, Bool, false, ◌*◌, ◌<◌, ◌≤◌, ◌++◌, length, drop}
 use Rattle.pf_literals.specs.declared.spellings.Spelling.{Spelling}
 use Rattle.pf_literals.specs.declared.spellings.Spelling.TheVariants.{Plain, Simple, Octal}
-use Rattle.pf_literals.specs.declared.fronts.Front.{Front}
-use Rattle.pf_literals.specs.declared.fronts.Front.TheVariants.{Run, Byte}
+use Rattle.pf_literals.specs.declared.encoded_parts.Front.{Front}
+use Rattle.pf_literals.specs.declared.encoded_parts.Front.TheVariants.{Run, Byte}
 use Rattle.pf_literals.specs.Elements.{Bytes}
 use Rattle.pf_literals.specs.Encoding.{spelled}
 

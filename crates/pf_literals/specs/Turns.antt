@@ -1,12 +1,12 @@
 -- What begins a text, as the code finds it. No public contract speaks of it.
 use Rattle.std.specs.Prelude.{ℕ, ◌+◌, ◌*◌, ◌&&◌, not, nat_lt, ◌==◌, [], ◌∷◌, Option, Some, None, if◌then◌else◌}
-use Rattle.pf_literals.specs.declared.kinds.LiteralKind.TheVariants.{NoLiteral, Unterminated, BadEscape, EscapeTooLarge, ZeroByte, Trigraph}
+use Rattle.pf_literals.specs.declared.faults.LiteralKind.TheVariants.{NoLiteral, Unterminated, BadEscape, EscapeTooLarge, ZeroByte, Trigraph}
 use Rattle.pf_literals.specs.declared.notations.Notation.{Notation}
 use Rattle.pf_literals.specs.declared.notations.Notation.TheVariants.{Octal, Hexadecimal}
-use Rattle.pf_literals.specs.declared.turns.Place.{Place}
-use Rattle.pf_literals.specs.declared.turns.Place.TheVariants.{Inside}
-use Rattle.pf_literals.specs.declared.turns.Turn.{Turn}
-use Rattle.pf_literals.specs.declared.turns.Turn.TheVariants.{White, Opens, Closes, Gives, Stops}
+use Rattle.pf_literals.specs.declared.tokens.Place.{Place}
+use Rattle.pf_literals.specs.declared.tokens.Place.TheVariants.{Inside}
+use Rattle.pf_literals.specs.declared.tokens.Turn.{Turn}
+use Rattle.pf_literals.specs.declared.tokens.Turn.TheVariants.{White, Opens, Closes, Gives, Stops}
 use Rattle.pf_literals.specs.Elements.{Bytes, backslash, base, digit_value, ends_trigraph, goes_on, hexadecimal_letter, is_full, is_line_end, question, quote, simple_byte}
 use Rattle.pf_literals.specs.Sources.{is_white}
 

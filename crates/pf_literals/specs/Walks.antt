@@ -1,14 +1,14 @@
 -- A walk through a source, as the code makes it. No public contract speaks of it.
 use Rattle.std.specs.Prelude.{◌≡◌, ℕ, ◌+◌, ◌<◌, ◌≤◌, List, [], ◌∷◌, length, drop, Option, Some, None}
 use Rattle.std.specs.List.{range_with_len}
-use Rattle.pf_literals.specs.declared.cursors.Cursor.{Cursor}
-use Rattle.pf_literals.specs.declared.cursors.Part.{Part}
-use Rattle.pf_literals.specs.declared.cursors.Part.TheVariants.{Run, Byte}
-use Rattle.pf_literals.specs.declared.cursors.Next.{Next}
-use Rattle.pf_literals.specs.declared.cursors.Next.TheVariants.{Given, End, Stop}
+use Rattle.pf_literals.specs.declared.cursor.Cursor.{Cursor}
+use Rattle.pf_literals.specs.declared.cursor.Part.{Part}
+use Rattle.pf_literals.specs.declared.cursor.Part.TheVariants.{Run, Byte}
+use Rattle.pf_literals.specs.declared.cursor.Next.{Next}
+use Rattle.pf_literals.specs.declared.cursor.Next.TheVariants.{Given, End, Stop}
 use Rattle.pf_literals.specs.declared.faults.LiteralFault.{LiteralFault}
 use Rattle.pf_literals.specs.declared.faults.LiteralFault.TheVariants.{Refused, Memory}
-use Rattle.pf_literals.specs.declared.kinds.LiteralKind.{LiteralKind}
+use Rattle.pf_literals.specs.declared.faults.LiteralKind.{LiteralKind}
 use Rattle.pf_literals.specs.Elements.{Bytes}
 use Rattle.pf_literals.specs.Readings.{Fault, IsWhole, Reading, Whole, prefixed, read}
 

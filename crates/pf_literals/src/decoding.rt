@@ -4,7 +4,7 @@ ghost use Rattle.pf_literals.specs.Answers.{HindersDecoding};
 ghost use Rattle.pf_literals.specs.Sources.{IsSourceOf};
 ghost use Rattle.pf_literals.specs.Walks.{Stops, part_bytes};
 
-use crate::cursors::{Cursor, Next, Part};
+use crate::cursor::{Cursor, Next, Part};
 use crate::faults::LiteralFault;
 use std::alloc::{AllocError, Allocator, Global};
 

@@ -2,7 +2,7 @@
 ghost use Rattle.std.specs.Prelude.{◌≡◌, ◌≤◌, ◌*◌, ◌++◌, false, drop, length, IfOk};
 ghost use Rattle.pf_literals.specs.Encoding.{encoding, spelled};
 
-use crate::fronts::Front;
+use crate::encoded_parts::Front;
 use crate::search::run_len;
 use std::alloc::{AllocError, Allocator, Global};
 

@@ -1,8 +1,8 @@
 //! Laws of the definitions: a text is a source of one list of bytes, or has one fault, where it can't
 //! go on; and a text is the bytes of its encoding.
 ghost use Rattle.std.specs.Prelude.{◌≡◌, ◌++◌, ◌-◌, ◌<◌, ◌≤◌, ℕ, Some, length, slice_get};
-ghost use Rattle.pf_literals.specs.declared.kinds.LiteralKind.{LiteralKind};
-ghost use Rattle.pf_literals.specs.declared.kinds.TheConstants.LiteralKind.{ALL as kinds};
+ghost use Rattle.pf_literals.specs.declared.faults.LiteralKind.{LiteralKind};
+ghost use Rattle.pf_literals.specs.declared.faults.TheConstants.LiteralKind.{ALL as kinds};
 ghost use Rattle.pf_literals.specs.Answers.{IsPlaceOf};
 ghost use Rattle.pf_literals.specs.Elements.{Bytes};
 ghost use Rattle.pf_literals.specs.Encoding.{encoding};

@@ -4,7 +4,7 @@ ghost use Rattle.pf_literals.specs.Answers.{HasNoPlace, IsPlaceOf};
 ghost use Rattle.pf_literals.specs.Readings.{IsWhole};
 ghost use Rattle.pf_literals.specs.Walks.{IsThere, IsWithin, left, part_places};
 
-use crate::cursors::{Cursor, Next, Part};
+use crate::cursor::{Cursor, Next, Part};
 
 /// The place in a source where the element begins that gives the byte of this index; at the count of
 /// the bytes, the place of the last closing quote. There is none for a greater index, and where the

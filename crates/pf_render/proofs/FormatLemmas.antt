@@ -15,8 +15,8 @@ use Rattle.pf_text.specs.declared.pieces.Pieces.{Pieces}
 use Rattle.pf_text.specs.declared.refusal.Refusal.{Refusal}
 use Rattle.pf_text.specs.PieceHistory.{Gives, GivesNext, GivesPiece, HasGiven, IsPieceBefore, items_of}
 use Rattle.pf_text.proofs.Texts.{Reads-unique}
-use Rattle.pf_render.specs.declared.kept.Kept.{Kept}
-use Rattle.pf_render.specs.declared.kept.Part.{Part}
+use Rattle.pf_render.specs.declared.piece_cache.Kept.{Kept}
+use Rattle.pf_render.specs.declared.piece_cache.Part.{Part}
 use Rattle.pf_render.specs.declared.progress.Progress.{Progress}
 use Rattle.pf_render.specs.Keeping.{KeepsAll, items_of_part, items_of_parts}
 use Rattle.pf_render.specs.Matching.{TakesArguments}

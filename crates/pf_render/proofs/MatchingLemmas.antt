@@ -22,7 +22,7 @@ use Rattle.pf_text.specs.PieceHistory.{Gives, HasGiven, items_of}
 use Rattle.pf_values.proofs.ItemTypes.{types-append, types-bytes}
 use Rattle.pf_text.proofs.SignatureLemmas.{HasFound, all_found, more_given}
 use Rattle.pf_text.specs.Signatures as signatures
-use Rattle.pf_render.specs.declared.kept.Kept.{Kept}
+use Rattle.pf_render.specs.declared.piece_cache.Kept.{Kept}
 use Rattle.pf_render.specs.declared.argument_lists.Tally.{Tally}
 use Rattle.pf_render.specs.Keeping.{Keeps, KeepsAll}
 use Rattle.pf_render.specs.Matching.{IsOfTypeAt, TakesArguments, Tallies}

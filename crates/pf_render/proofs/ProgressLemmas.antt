@@ -15,7 +15,7 @@ use Rattle.pf_values.specs.Text.{Text}
 use Rattle.pf_values.proofs.ItemTypes.{types-append}
 use Rattle.pf_values.proofs.WriteLemmas.{WritesFirst-more}
 use Rattle.pf_render.specs.declared.faults.WriteFault.{WriteFault}
-use Rattle.pf_render.specs.declared.kept.Part.{Part}
+use Rattle.pf_render.specs.declared.piece_cache.Part.{Part}
 use Rattle.pf_render.specs.declared.progress.Progress.{Progress}
 use Rattle.pf_render.specs.Keeping.{directive_or_bytes, items_of_part}
 use Rattle.pf_render.specs.Progressing.{WritesOn, WritesPart, arity, next_arguments}

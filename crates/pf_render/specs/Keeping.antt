@@ -3,9 +3,9 @@ use Rattle.std.specs.Prelude.{◌≡◌, ◌≤◌, true, ℕ, List, [], ◌∷�
 use Rattle.pf_values.specs.Items.{Item, Byte, Directive, Reads}
 use Rattle.pf_values.specs.Specification.{Specification}
 use Rattle.pf_values.specs.Text.{Text}
-use Rattle.pf_render.specs.declared.kept.TheConstants.{MOST}
-use Rattle.pf_render.specs.declared.kept.Kept.{Kept}
-use Rattle.pf_render.specs.declared.kept.Part.{Part}
+use Rattle.pf_render.specs.declared.piece_cache.TheConstants.{MOST}
+use Rattle.pf_render.specs.declared.piece_cache.Kept.{Kept}
+use Rattle.pf_render.specs.declared.piece_cache.Part.{Part}
 
 -- the items of a part: a directive, or literal bytes
 abbrev pub directive_or_bytes : Option Specification → Text → List Item

@@ -10,7 +10,7 @@ use Rattle.pf_values.specs.Items.{types}
 use Rattle.pf_values.specs.Printing.{PrintsAll}
 use Rattle.pf_values.specs.Text.{Text}
 use Rattle.pf_render.specs.declared.faults.WriteFault.{WriteFault}
-use Rattle.pf_render.specs.declared.kept.Part.{Part}
+use Rattle.pf_render.specs.declared.piece_cache.Part.{Part}
 use Rattle.pf_render.specs.declared.progress.Progress.{Progress}
 use Rattle.pf_render.specs.Keeping.{items_of_part}
 

@@ -10,7 +10,7 @@ ghost use Rattle.pf_render.specs.Matching.{IsOfTypeAt, TakesArguments, Tallies};
 ghost use Rattle.pf_render.specs.Rendering.{HindersRender, IsOfType};
 
 use crate::faults::RenderFault;
-use crate::kept::Kept;
+use crate::piece_cache::Kept;
 use pf_text::{Piece, Pieces};
 use pf_values::{Arg, ArgType, Model};
 

@@ -1,13 +1,20 @@
-//! Fields: texts with spaces up to a width.
-ghost use Rattle.std.specs.Prelude.{◌≡◌, ◌+◌, ◌++◌, ◌<◌, ◌^◌, length};
+//! Fields: texts with spaces up to a width; runs of spaces and zeros.
+ghost use Rattle.std.specs.Prelude.{◌≡◌, ◌+◌, ◌++◌, ◌<◌, ◌^◌, length, ◌≤◌, replicate};
 ghost use Rattle.pf_render.specs.Counts.{WritesCounted};
 ghost use Rattle.pf_render.specs.Parts.{join};
 ghost use Rattle.pf_values.specs.Printing.{field, padding};
 ghost use Rattle.pf_values.specs.Specification.{width_of};
+ghost use Rattle.pf_values.specs.Text.{space, zero_digit};
 
-use crate::blocks::spaces;
+use pf_values::limits::MAX_NUMBER;
 use pf_values::{Counted, Directive, Flag, ShortWrite, write_bytes};
 use std::io::Write;
+
+const MOST: usize = MAX_NUMBER as usize;
+
+static SPACES: [u8; MOST] = [b' '; MOST];
+
+static ZEROS: [u8; MOST] = [b'0'; MOST];
 
 /// Writes a text of three parts in the field of the directive (C11 7.21.6.1, paragraph 4), and
 /// tells how many bytes that were.
@@ -136,4 +143,20 @@ fn write_parts<W: Write>(parts: &[&[u8]], writer: &mut Counted<W>) -> Result<usi
         written += part.len();
     }
     Ok(written)
+}
+
+/// So many spaces.
+pub(crate) fn spaces<'a>(count: usize) -> &'a [u8]
+    requires { count ≤ MOST }
+    ensures { result.now ≡ replicate count space }
+{
+    &SPACES[..count]
+}
+
+/// So many digits 0.
+pub(crate) fn zeros(count: usize) -> &'static [u8]
+    requires { count ≤ MOST }
+    ensures { result.now ≡ replicate count zero_digit }
+{
+    &ZEROS[..count]
 }

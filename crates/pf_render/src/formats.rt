@@ -12,7 +12,7 @@ ghost use Rattle.pf_render.specs.Rendering.{RendersInto, RendersTo};
 
 use crate::argument_lists::check_arguments;
 use crate::faults::{RenderFault, WriteFault};
-use crate::kept::{Kept, Part};
+use crate::piece_cache::{Kept, Part};
 use crate::progress::Progress;
 use pf_text::Pieces;
 use pf_values::{Arg, Counted, Model};

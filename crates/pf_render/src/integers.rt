@@ -9,7 +9,7 @@ ghost use Rattle.pf_values.specs.Text.{Text};
 ghost use Rattle.pf_render.specs.Counts.{WritesCounted};
 ghost use Rattle.pf_render.specs.Zeros.{fewest_digits, zeros_for};
 
-use crate::blocks;
+use crate::fields;
 use crate::digits::{MAX_DIGITS, write_digits_of};
 use crate::fields::write_field;
 use crate::values::Value;
@@ -32,7 +32,7 @@ pub(crate) fn write_integer<W: Write>(
     let start = write_digits_of(value.size(), directive.conv().kind(), &mut buf);
     let (_, digits) = buf.split_at(start);
     let sign = sign_or_prefix(directive, &value);
-    let zeros = blocks::zeros(zero_count(directive, sign.len(), digits.len()));
+    let zeros = fields::zeros(zero_count(directive, sign.len(), digits.len()));
     write_field(directive, sign, zeros, digits, writer)
 }
 

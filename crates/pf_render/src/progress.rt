@@ -12,7 +12,7 @@ ghost use Rattle.pf_render.specs.Progressing.{WritesNext, next_arguments};
 use crate::directives::write_argument;
 use crate::faults::WriteFault;
 use crate::fields::write_run;
-use crate::kept::Part;
+use crate::piece_cache::Part;
 use pf_values::{Arg, Counted, Model, ShortWrite};
 use std::io::Write;
 

@@ -12,8 +12,8 @@ use Rattle.pf_signatures.specs.declared.conversions.Conversion.{Conversion}
 use Rattle.pf_signatures.specs.declared.conversions.Conversion.TheVariants.{Profile, Float}
 use Rattle.pf_signatures.specs.declared.conversions.Floating.TheVariants as floats
 use Rattle.pf_signatures.specs.declared.conversions.Modifier.TheVariants.{Plain}
-use Rattle.pf_signatures.specs.declared.parts.Style.{Style}
-use Rattle.pf_signatures.specs.declared.parts.Style.TheVariants.{Undecided, Unnumbered, Numbered}
+use Rattle.pf_signatures.specs.declared.partial_specification.Style.{Style}
+use Rattle.pf_signatures.specs.declared.partial_specification.Style.TheVariants.{Undecided, Unnumbered, Numbered}
 use Rattle.pf_signatures.specs.Letters.{conversion_of}
 use Rattle.pf_signatures.specs.Readings.{Fetches, read}
 use Rattle.pf_signatures.specs.Specifications.{conversion_letter}

@@ -8,8 +8,8 @@ use Rattle.std.proofs.lemmas.List.{length_push, map_push}
 use Rattle.pf_values.specs.declared.limits.TheConstants.{MAX_NUMBER}
 use Rattle.pf_values.specs.Digits.{AreDigits, AreLeastDigits, place_sum}
 use Rattle.pf_values.specs.Text.{Text}
-use Rattle.pf_signatures.specs.declared.parts.Slot.{Slot}
-use Rattle.pf_signatures.specs.declared.parts.Slot.TheVariants.{Width, Precision}
+use Rattle.pf_signatures.specs.declared.partial_specification.Slot.{Slot}
+use Rattle.pf_signatures.specs.declared.partial_specification.Slot.TheVariants.{Width, Precision}
 use Rattle.pf_signatures.specs.Fronts.{SpellsDigits}
 use Rattle.pf_signatures.specs.Letters.{is_digit, is_first_digit}
 use Rattle.pf_signatures.specs.Spelling.{SpellsNumber}

@@ -3,9 +3,9 @@ use Rattle.std.proofs.Common.{ℕ, ◌-◌, refl}
 use Rattle.std.specs.Prelude.{nat_le, if◌then◌else◌}
 use Rattle.pf_values.specs.Tables.{HasEachOnce}
 use Rattle.pf_values.proofs.EachOnce.{once}
-use Rattle.pf_signatures.specs.declared.kinds.SignatureRefusalKind.{SignatureRefusalKind}
-use Rattle.pf_signatures.specs.declared.kinds.SignatureRefusalKind.TheVariants.{NulByte}
-use Rattle.pf_signatures.specs.declared.kinds.TheConstants.SignatureRefusalKind.{ALL as all_kinds}
+use Rattle.pf_signatures.specs.declared.refusals.SignatureRefusalKind.{SignatureRefusalKind}
+use Rattle.pf_signatures.specs.declared.refusals.SignatureRefusalKind.TheVariants.{NulByte}
+use Rattle.pf_signatures.specs.declared.refusals.TheConstants.SignatureRefusalKind.{ALL as all_kinds}
 use Rattle.pf_signatures.specs.declared.types.ArgumentType.{ArgumentType}
 use Rattle.pf_signatures.specs.declared.types.ArgumentType.TheVariants.{Int}
 use Rattle.pf_signatures.specs.declared.types.TheConstants.ArgumentType.{ALL as all_types}

@@ -9,8 +9,8 @@ use Rattle.pf_values.specs.Flags.{flag_set}
 use Rattle.pf_values.specs.Text.{Text}
 use Rattle.pf_signatures.specs.declared.conversions.Conversion.TheVariants.{Count}
 use Rattle.pf_signatures.specs.declared.conversions.Modifier.TheVariants.{Plain}
-use Rattle.pf_signatures.specs.declared.kinds.SignatureRefusalKind.{SignatureRefusalKind}
-use Rattle.pf_signatures.specs.declared.kinds.SignatureRefusalKind.TheVariants.{NulByte, Truncated, Unexpected, BadPercent, WidthTooLarge, PrecisionTooLarge, AltUndefined, CountUndefined, Mixed, MissingArgument, TwoTypes}
+use Rattle.pf_signatures.specs.declared.refusals.SignatureRefusalKind.{SignatureRefusalKind}
+use Rattle.pf_signatures.specs.declared.refusals.SignatureRefusalKind.TheVariants.{NulByte, Truncated, Unexpected, BadPercent, WidthTooLarge, PrecisionTooLarge, AltUndefined, CountUndefined, Mixed, MissingArgument, TwoTypes}
 use Rattle.pf_signatures.specs.declared.types.ArgumentType.TheVariants.{Int, Double, PointerToLong, PointerToLongLong}
 use Rattle.pf_signatures.specs.Defined.{undefined_as}
 use Rattle.pf_signatures.specs.Readings.{Refused, Takes, verdict}

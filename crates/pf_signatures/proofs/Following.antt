@@ -8,10 +8,10 @@ use Rattle.pf_values.specs.declared.limits.TheConstants.{MAX_TEXT_LEN}
 use Rattle.pf_values.specs.declared.models.Model.{Model}
 use Rattle.pf_values.specs.Text.{Text}
 use Rattle.pf_signatures.specs.declared.fetches.Fetch.{Fetch}
-use Rattle.pf_signatures.specs.declared.kinds.SignatureRefusalKind.{SignatureRefusalKind}
-use Rattle.pf_signatures.specs.declared.kinds.SignatureRefusalKind.TheVariants.{MissingArgument, TooLong, Truncated}
-use Rattle.pf_signatures.specs.declared.parts.Style.{Style}
-use Rattle.pf_signatures.specs.declared.parts.Style.TheVariants.{Undecided}
+use Rattle.pf_signatures.specs.declared.refusals.SignatureRefusalKind.{SignatureRefusalKind}
+use Rattle.pf_signatures.specs.declared.refusals.SignatureRefusalKind.TheVariants.{MissingArgument, TooLong, Truncated}
+use Rattle.pf_signatures.specs.declared.partial_specification.Style.{Style}
+use Rattle.pf_signatures.specs.declared.partial_specification.Style.TheVariants.{Undecided}
 use Rattle.pf_signatures.specs.Items.{Byte, IsReadAs, Reads, Specification, WholeItem, fetched}
 use Rattle.pf_signatures.specs.Readings.{Refused, Takes, conflicts, ended, moved, read, settled, verdict}
 use Rattle.pf_signatures.specs.Refusals.{AreAgreed, Follows, HasCause, HasGap, IsOneType, IsRefusedAt, IsRefusedByte, style_by, style_in, style_of}

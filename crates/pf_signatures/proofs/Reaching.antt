@@ -13,11 +13,11 @@ use Rattle.pf_signatures.specs.declared.conversions.Floating.TheVariants as floa
 use Rattle.pf_signatures.specs.declared.conversions.Modifier.{Modifier}
 use Rattle.pf_signatures.specs.declared.conversions.Modifier.TheVariants.{Plain, LongDouble}
 use Rattle.pf_signatures.specs.declared.fetches.Fetch.{Fetch}
-use Rattle.pf_signatures.specs.declared.parts.Parts.{Parts}
-use Rattle.pf_signatures.specs.declared.parts.Slot.{Slot}
-use Rattle.pf_signatures.specs.declared.parts.Slot.TheVariants.{Width, Precision}
-use Rattle.pf_signatures.specs.declared.parts.Style.{Style}
-use Rattle.pf_signatures.specs.declared.parts.Style.TheVariants.{Unnumbered, Numbered}
+use Rattle.pf_signatures.specs.declared.partial_specification.Parts.{Parts}
+use Rattle.pf_signatures.specs.declared.partial_specification.Slot.{Slot}
+use Rattle.pf_signatures.specs.declared.partial_specification.Slot.TheVariants.{Width, Precision}
+use Rattle.pf_signatures.specs.declared.partial_specification.Style.{Style}
+use Rattle.pf_signatures.specs.declared.partial_specification.Style.TheVariants.{Unnumbered, Numbered}
 use Rattle.pf_signatures.specs.Defined.{IsDefined, undefined_of}
 use Rattle.pf_signatures.specs.Fronts.{IsAt, IsBefore, at_star}
 use Rattle.pf_signatures.specs.Letters.{conversion_of, modifier_of}

@@ -8,9 +8,9 @@ use Rattle.pf_values.specs.declared.limits.TheConstants.{MAX_TEXT_LEN}
 use Rattle.pf_values.specs.declared.models.Model.{Model}
 use Rattle.pf_values.specs.Text.{Text}
 use Rattle.pf_signatures.specs.declared.fetches.Fetch.{Fetch}
-use Rattle.pf_signatures.specs.declared.kinds.SignatureRefusalKind.{SignatureRefusalKind}
-use Rattle.pf_signatures.specs.declared.kinds.SignatureRefusalKind.TheVariants.{Truncated, TooLong, TwoTypes}
-use Rattle.pf_signatures.specs.declared.parts.Style.{Style}
+use Rattle.pf_signatures.specs.declared.refusals.SignatureRefusalKind.{SignatureRefusalKind}
+use Rattle.pf_signatures.specs.declared.refusals.SignatureRefusalKind.TheVariants.{Truncated, TooLong, TwoTypes}
+use Rattle.pf_signatures.specs.declared.partial_specification.Style.{Style}
 use Rattle.pf_signatures.specs.Fronts.{IsAt}
 use Rattle.pf_signatures.specs.Items.{Byte, IsReadAs, Reads, Specification, WholeItem, fetched}
 use Rattle.pf_signatures.specs.Readings.{Reading, Takes, Refused, Verdict, conflicts, ended, moved, read, settled, verdict}

@@ -8,14 +8,14 @@ use Rattle.std.proofs.lemmas.List.{append_assoc, append-nil, length-map, map_pus
 use Rattle.pf_values.specs.declared.models.Model.{Model}
 use Rattle.pf_values.specs.Text.{Text}
 use Rattle.pf_signatures.specs.declared.fetches.Fetch.{Fetch}
-use Rattle.pf_signatures.specs.declared.kinds.SignatureRefusalKind.{SignatureRefusalKind}
-use Rattle.pf_signatures.specs.declared.kinds.SignatureRefusalKind.TheVariants.{TwoTypes}
+use Rattle.pf_signatures.specs.declared.refusals.SignatureRefusalKind.{SignatureRefusalKind}
+use Rattle.pf_signatures.specs.declared.refusals.SignatureRefusalKind.TheVariants.{TwoTypes}
 use Rattle.pf_signatures.specs.declared.reader.Next.{Next}
 use Rattle.pf_signatures.specs.declared.reader.Next.TheVariants as nexts
 use Rattle.pf_signatures.specs.declared.reader.Reader.{Reader}
-use Rattle.pf_signatures.specs.declared.stepping.Pair.TheVariants as pairs
-use Rattle.pf_signatures.specs.declared.stepping.Plain.{Plain}
-use Rattle.pf_signatures.specs.declared.stepping.Plain.TheVariants as plains
+use Rattle.pf_signatures.specs.declared.pairs.Pair.TheVariants as pairs
+use Rattle.pf_signatures.specs.declared.pairs.Plain.{Plain}
+use Rattle.pf_signatures.specs.declared.pairs.Plain.TheVariants as plains
 use Rattle.pf_signatures.specs.declared.tables.TheConstants.{ROOM}
 use Rattle.pf_signatures.specs.declared.types.ArgumentType.{ArgumentType}
 use Rattle.pf_signatures.specs.Items.{HasArguments}

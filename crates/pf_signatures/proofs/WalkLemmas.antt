@@ -7,8 +7,8 @@ use Rattle.memchr.specs.Find.{Nowhere, Passes, is_byte2}
 use Rattle.pf_values.specs.declared.limits.TheConstants.{MAX_TEXT_LEN}
 use Rattle.pf_values.specs.declared.models.Model.{Model}
 use Rattle.pf_values.specs.Text.{Text}
-use Rattle.pf_signatures.specs.declared.kinds.SignatureRefusalKind.TheVariants.{TooLong}
-use Rattle.pf_signatures.specs.declared.parts.Style.{Style}
+use Rattle.pf_signatures.specs.declared.refusals.SignatureRefusalKind.TheVariants.{TooLong}
+use Rattle.pf_signatures.specs.declared.partial_specification.Style.{Style}
 use Rattle.pf_signatures.specs.Readings.{Fault, read}
 use Rattle.pf_signatures.specs.Stages.{State, Between}
 use Rattle.pf_signatures.specs.declared.reader.Next.{Next}

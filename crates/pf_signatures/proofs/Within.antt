@@ -2,7 +2,7 @@
 use Rattle.std.specs.Prelude.{◌≡◌, ℕ, ◌<◌, ◌≤◌, Some, ⊤}
 use Rattle.pf_values.specs.declared.limits.TheConstants.{MAX_NUMBER}
 use Rattle.pf_signatures.specs.declared.fetches.Fetch.{Fetch}
-use Rattle.pf_signatures.specs.declared.parts.Style.{Style}
+use Rattle.pf_signatures.specs.declared.partial_specification.Style.{Style}
 use Rattle.pf_signatures.specs.Readings.{Fault, Fetches, Reading, Whole}
 use Rattle.pf_signatures.specs.Refusals.{Follows, style_by}
 

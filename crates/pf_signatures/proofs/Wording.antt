@@ -12,13 +12,13 @@ use Rattle.pf_values.specs.Text.{Text}
 use Rattle.pf_signatures.specs.declared.conversions.Modifier.{Modifier}
 use Rattle.pf_signatures.specs.declared.conversions.Modifier.TheVariants.{Plain, LongDouble}
 use Rattle.pf_signatures.specs.declared.fetches.Fetch.{Fetch}
-use Rattle.pf_signatures.specs.declared.kinds.SignatureRefusalKind.{SignatureRefusalKind}
-use Rattle.pf_signatures.specs.declared.kinds.SignatureRefusalKind.TheVariants.{NulByte, Unexpected, BadPercent, WidthTooLarge, Mixed, TwoTypes}
-use Rattle.pf_signatures.specs.declared.parts.Parts.{Parts}
-use Rattle.pf_signatures.specs.declared.parts.Slot.{Slot}
-use Rattle.pf_signatures.specs.declared.parts.Slot.TheVariants.{Width, Precision}
-use Rattle.pf_signatures.specs.declared.parts.Style.{Style}
-use Rattle.pf_signatures.specs.declared.parts.Style.TheVariants.{Undecided, Unnumbered, Numbered}
+use Rattle.pf_signatures.specs.declared.refusals.SignatureRefusalKind.{SignatureRefusalKind}
+use Rattle.pf_signatures.specs.declared.refusals.SignatureRefusalKind.TheVariants.{NulByte, Unexpected, BadPercent, WidthTooLarge, Mixed, TwoTypes}
+use Rattle.pf_signatures.specs.declared.partial_specification.Parts.{Parts}
+use Rattle.pf_signatures.specs.declared.partial_specification.Slot.{Slot}
+use Rattle.pf_signatures.specs.declared.partial_specification.Slot.TheVariants.{Width, Precision}
+use Rattle.pf_signatures.specs.declared.partial_specification.Style.{Style}
+use Rattle.pf_signatures.specs.declared.partial_specification.Style.TheVariants.{Undecided, Unnumbered, Numbered}
 use Rattle.pf_signatures.specs.Defined.{undefined_of}
 use Rattle.pf_signatures.specs.Fronts.{IsAt}
 use Rattle.pf_signatures.specs.Letters.{conversion_of, flag_of, is_digit, is_first_digit, modifier_of}

@@ -11,8 +11,8 @@ use Rattle.pf_signatures.specs.declared.conversions.Floating.{Floating}
 use Rattle.pf_signatures.specs.declared.conversions.Floating.TheVariants as floats
 use Rattle.pf_signatures.specs.declared.conversions.Modifier.{Modifier}
 use Rattle.pf_signatures.specs.declared.conversions.Modifier.TheVariants.{Plain, LongDouble}
-use Rattle.pf_signatures.specs.declared.kinds.SignatureRefusalKind.{SignatureRefusalKind}
-use Rattle.pf_signatures.specs.declared.kinds.SignatureRefusalKind.TheVariants.{AltUndefined, ZeroUndefined, GroupUndefined, PrecisionUndefined, LengthUndefined, CountUndefined}
+use Rattle.pf_signatures.specs.declared.refusals.SignatureRefusalKind.{SignatureRefusalKind}
+use Rattle.pf_signatures.specs.declared.refusals.SignatureRefusalKind.TheVariants.{AltUndefined, ZeroUndefined, GroupUndefined, PrecisionUndefined, LengthUndefined, CountUndefined}
 use Rattle.pf_signatures.specs.Specifications.{WholeSpecification}
 
 -- `#` says something of it (C11 7.21.6.1 p6)

@@ -7,9 +7,9 @@ use Rattle.pf_values.specs.Digits.{AreDigits}
 use Rattle.pf_values.specs.Text.{Text, dollar, percent, point, star}
 use Rattle.pf_signatures.specs.declared.conversions.Modifier.TheVariants.{Plain}
 use Rattle.pf_signatures.specs.declared.fetches.Fetch.{Fetch}
-use Rattle.pf_signatures.specs.declared.parts.Parts.{Parts}
-use Rattle.pf_signatures.specs.declared.parts.Slot.{Slot}
-use Rattle.pf_signatures.specs.declared.parts.Slot.TheVariants.{Width, Precision}
+use Rattle.pf_signatures.specs.declared.partial_specification.Parts.{Parts}
+use Rattle.pf_signatures.specs.declared.partial_specification.Slot.{Slot}
+use Rattle.pf_signatures.specs.declared.partial_specification.Slot.TheVariants.{Width, Precision}
 use Rattle.pf_signatures.specs.declared.types.ArgumentType.TheVariants.{Int}
 use Rattle.pf_signatures.specs.Specifications.{Amount, modifier_letters}
 use Rattle.pf_signatures.specs.Spelling.{IsToFlags, IsToWidth, IsToPrecision, SpellsNumber}

@@ -4,7 +4,7 @@ use Rattle.pf_values.specs.declared.models.Model.{Model}
 use Rattle.pf_values.specs.Text.{Text}
 use Rattle.pf_signatures.specs.declared.fitting.FitsRefusal.{FitsRefusal}
 use Rattle.pf_signatures.specs.declared.fitting.FitsRefusal.TheVariants as refusals
-use Rattle.pf_signatures.specs.declared.kinds.SignatureRefusalKind.{SignatureRefusalKind}
+use Rattle.pf_signatures.specs.declared.refusals.SignatureRefusalKind.{SignatureRefusalKind}
 use Rattle.pf_signatures.specs.declared.refusals.SignatureFault.{SignatureFault}
 use Rattle.pf_signatures.specs.declared.refusals.SignatureFault.TheVariants as faults
 use Rattle.pf_signatures.specs.declared.types.ArgumentType.{ArgumentType}

@@ -4,7 +4,7 @@ use Rattle.pf_signatures.specs.declared.automaton.Automaton.{Automaton}
 use Rattle.pf_signatures.specs.declared.automaton.Move.{Move}
 use Rattle.pf_signatures.specs.declared.automaton.Move.TheVariants as moves
 use Rattle.pf_signatures.specs.declared.automaton.Phase.{Phase}
-use Rattle.pf_signatures.specs.declared.kinds.SignatureRefusalKind.{SignatureRefusalKind}
+use Rattle.pf_signatures.specs.declared.refusals.SignatureRefusalKind.{SignatureRefusalKind}
 use Rattle.pf_signatures.specs.Stages.{State, state_in_phase, state_of}
 use Rattle.pf_signatures.specs.States.{Next, inside}
 

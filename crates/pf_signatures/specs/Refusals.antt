@@ -6,12 +6,12 @@ use Rattle.pf_values.specs.declared.limits.TheConstants.{MAX_NUMBER, MAX_TEXT_LE
 use Rattle.pf_values.specs.declared.models.Model.{Model}
 use Rattle.pf_values.specs.Text.{Text, dollar, percent, zero_digit}
 use Rattle.pf_signatures.specs.declared.fetches.Fetch.{Fetch}
-use Rattle.pf_signatures.specs.declared.kinds.SignatureRefusalKind.{SignatureRefusalKind}
-use Rattle.pf_signatures.specs.declared.kinds.SignatureRefusalKind.TheVariants.{NulByte, Truncated, Unexpected, BadPercent, WidthTooLarge, PrecisionTooLarge, TooLong, Mixed, MissingArgument, TwoTypes}
-use Rattle.pf_signatures.specs.declared.parts.Slot.{Slot}
-use Rattle.pf_signatures.specs.declared.parts.Slot.TheVariants.{Width, Precision}
-use Rattle.pf_signatures.specs.declared.parts.Style.{Style}
-use Rattle.pf_signatures.specs.declared.parts.Style.TheVariants.{Undecided, Unnumbered, Numbered}
+use Rattle.pf_signatures.specs.declared.refusals.SignatureRefusalKind.{SignatureRefusalKind}
+use Rattle.pf_signatures.specs.declared.refusals.SignatureRefusalKind.TheVariants.{NulByte, Truncated, Unexpected, BadPercent, WidthTooLarge, PrecisionTooLarge, TooLong, Mixed, MissingArgument, TwoTypes}
+use Rattle.pf_signatures.specs.declared.partial_specification.Slot.{Slot}
+use Rattle.pf_signatures.specs.declared.partial_specification.Slot.TheVariants.{Width, Precision}
+use Rattle.pf_signatures.specs.declared.partial_specification.Style.{Style}
+use Rattle.pf_signatures.specs.declared.partial_specification.Style.TheVariants.{Undecided, Unnumbered, Numbered}
 use Rattle.pf_signatures.specs.declared.types.ArgumentType.TheVariants.{Int}
 use Rattle.pf_signatures.specs.Defined.{IsDefined, undefined_of}
 use Rattle.pf_signatures.specs.Fronts.{IsAt}

@@ -4,8 +4,8 @@ use Rattle.pf_signatures.specs.declared.automaton.Automaton.{Automaton}
 use Rattle.pf_signatures.specs.declared.automaton.Phase.{Phase}
 use Rattle.pf_signatures.specs.declared.automaton.Phase.TheVariants as phases
 use Rattle.pf_signatures.specs.declared.conversions.Modifier.{Modifier}
-use Rattle.pf_signatures.specs.declared.parts.Parts.{Parts}
-use Rattle.pf_signatures.specs.declared.parts.Slot.{Slot}
+use Rattle.pf_signatures.specs.declared.partial_specification.Parts.{Parts}
+use Rattle.pf_signatures.specs.declared.partial_specification.Slot.{Slot}
 
 -- what has come of an item
 pub data State : Type 0 where

@@ -13,13 +13,13 @@ use Rattle.pf_signatures.specs.declared.conversions.Conversion.{Conversion}
 use Rattle.pf_signatures.specs.declared.conversions.Modifier.{Modifier}
 use Rattle.pf_signatures.specs.declared.conversions.Modifier.TheVariants.{Plain}
 use Rattle.pf_signatures.specs.declared.fetches.Fetch.{Fetch}
-use Rattle.pf_signatures.specs.declared.kinds.SignatureRefusalKind.{SignatureRefusalKind}
-use Rattle.pf_signatures.specs.declared.kinds.SignatureRefusalKind.TheVariants.{NulByte, Unexpected, BadPercent, Mixed}
-use Rattle.pf_signatures.specs.declared.parts.Parts.{Parts}
-use Rattle.pf_signatures.specs.declared.parts.Slot.{Slot}
-use Rattle.pf_signatures.specs.declared.parts.Slot.TheVariants.{Width, Precision}
-use Rattle.pf_signatures.specs.declared.parts.Style.{Style}
-use Rattle.pf_signatures.specs.declared.parts.Style.TheVariants.{Unnumbered, Numbered}
+use Rattle.pf_signatures.specs.declared.refusals.SignatureRefusalKind.{SignatureRefusalKind}
+use Rattle.pf_signatures.specs.declared.refusals.SignatureRefusalKind.TheVariants.{NulByte, Unexpected, BadPercent, Mixed}
+use Rattle.pf_signatures.specs.declared.partial_specification.Parts.{Parts}
+use Rattle.pf_signatures.specs.declared.partial_specification.Slot.{Slot}
+use Rattle.pf_signatures.specs.declared.partial_specification.Slot.TheVariants.{Width, Precision}
+use Rattle.pf_signatures.specs.declared.partial_specification.Style.{Style}
+use Rattle.pf_signatures.specs.declared.partial_specification.Style.TheVariants.{Unnumbered, Numbered}
 use Rattle.pf_signatures.specs.declared.types.ArgumentType.TheVariants.{Int}
 use Rattle.pf_signatures.specs.Defined.{undefined_as}
 use Rattle.pf_signatures.specs.Letters.{conversion_of, flag_of, is_digit, is_first_digit, modifier_of}

@@ -4,12 +4,12 @@ use Rattle.pf_values.specs.declared.models.Model.{Model}
 use Rattle.pf_values.specs.Text.{Text}
 use Rattle.pf_signatures.specs.declared.reader.Next.{Next}
 use Rattle.pf_signatures.specs.declared.reader.Next.TheVariants as nexts
-use Rattle.pf_signatures.specs.declared.stepping.Pair.{Pair}
-use Rattle.pf_signatures.specs.declared.stepping.Pair.TheVariants as pairs
-use Rattle.pf_signatures.specs.declared.stepping.Plain.{Plain}
-use Rattle.pf_signatures.specs.declared.stepping.Plain.TheVariants as plains
-use Rattle.pf_signatures.specs.declared.stepping.Stepped.{Stepped}
-use Rattle.pf_signatures.specs.declared.stepping.Stepped.TheVariants as steps
+use Rattle.pf_signatures.specs.declared.pairs.Pair.{Pair}
+use Rattle.pf_signatures.specs.declared.pairs.Pair.TheVariants as pairs
+use Rattle.pf_signatures.specs.declared.pairs.Plain.{Plain}
+use Rattle.pf_signatures.specs.declared.pairs.Plain.TheVariants as plains
+use Rattle.pf_signatures.specs.declared.pairs.Stepped.{Stepped}
+use Rattle.pf_signatures.specs.declared.pairs.Stepped.TheVariants as steps
 use Rattle.pf_signatures.specs.declared.tables.TheConstants.{ROOM}
 use Rattle.pf_signatures.specs.declared.types.ArgumentType.{ArgumentType}
 use Rattle.pf_signatures.specs.Items.{HasArguments}

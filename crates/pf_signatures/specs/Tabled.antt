@@ -4,7 +4,7 @@ use Rattle.std.specs.List.{AllByRecursion}
 use Rattle.pf_values.specs.declared.models.Model.{Model}
 use Rattle.pf_values.specs.Text.{Text}
 use Rattle.pf_signatures.specs.declared.fetches.Fetch.{Fetch}
-use Rattle.pf_signatures.specs.declared.parts.Style.TheVariants.{Numbered}
+use Rattle.pf_signatures.specs.declared.partial_specification.Style.TheVariants.{Numbered}
 use Rattle.pf_signatures.specs.declared.tables.Table.{Table}
 use Rattle.pf_signatures.specs.declared.tables.TheConstants.{ROOM}
 use Rattle.pf_signatures.specs.Readings.{Takes, greatest, verdict, wanted_at}

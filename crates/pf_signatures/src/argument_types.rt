@@ -1,18 +1,20 @@
-//! The argument types of a format.
-ghost use Rattle.std.specs.Prelude.{◌≡◌, ◌<◌, ◌≤◌, ℕ, None, length, MatchResult, ◌+◌, IsTrue, is_some};
-ghost use Rattle.pf_signatures.specs.Laws.{HasCount};
+//! The argument types of a format, in a slice or in a vector.
+ghost use Rattle.std.specs.Prelude.{◌≡◌, ◌<◌, ◌≤◌, ℕ, None, length, MatchResult, ◌+◌, IsTrue, is_some, IfErr, IfOk};
+ghost use Rattle.pf_signatures.specs.Laws.{HasCount, HindersList};
 ghost use Rattle.pf_signatures.specs.Readings.{Fetches, reading};
 ghost use Rattle.pf_signatures.specs.Refusals.{IsRefusedAt};
 ghost use Rattle.pf_signatures.specs.Types.{fetch};
 ghost use Rattle.pf_signatures.specs.Walks.{left};
+ghost use Rattle.pf_signatures.specs.Items.{HasArguments};
 
 use crate::fetches::Fetch;
-use crate::filling::put;
+use crate::tables::put;
 use crate::reader::{Next, Reader};
-use crate::refusals::SignatureRefusal;
+use crate::refusals::{SignatureFault, SignatureRefusal};
 use crate::tables::Table;
 use crate::types::ArgumentType;
 use pf_values::Model;
+use std::alloc::{AllocError, Global};
 
 /// The types of the arguments that a format of the whole language takes in a data model (C11
 /// 7.21.6.1, paragraphs 3 to 9; POSIX fprintf on numbered arguments), of which there are `count`.
@@ -95,4 +97,43 @@ fn by_number(
     table.copy_front(out);
     let count = table.count();
     Ok(count as u64)
+}
+
+/// The types of the arguments that a format of the whole language takes in a data model, as
+/// `arguments` has them. The format is read twice: the room is taken by one growth, of their
+/// number, and none is taken where it takes no argument.
+pub fn arguments_vec(
+    alloc: Global,
+    model: Model,
+    text: &[u8],
+) -> Result<Vec<ArgumentType>, SignatureFault>
+    ensures { MatchResult result (λ types. HasArguments model text.now types.items)
+        (HindersList model text.now) }
+{
+    let count = match arguments(model, text, &mut []) {
+        Ok(count) => count,
+        Err(refusal) => return Err(SignatureFault::Refused(refusal)),
+    };
+    let mut types = match room_for(alloc, count) {
+        Ok(types) => types,
+        Err(AllocError) => return Err(SignatureFault::Memory),
+    };
+    match arguments(model, text, &mut types) {
+        Ok(_) => Ok(types),
+        Err(refusal) => Err(SignatureFault::Refused(refusal)),
+    }
+}
+
+// Room for so many types. None of them wants no memory.
+fn room_for(alloc: Global, count: u64) -> Result<Vec<ArgumentType>, AllocError>
+    ensures room { IfOk result (λ types. length types.items ≡ count) }
+    ensures some { IfErr result (λ _. 0 < count) }
+{
+    if count == 0 {
+        return Ok(Vec::new(alloc));
+    }
+    match usize::try_from(count) {
+        Ok(count) => Vec::from_elem(alloc, ArgumentType::Int, count),
+        Err(_) => Err(AllocError),
+    }
 }

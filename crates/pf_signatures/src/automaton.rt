@@ -10,12 +10,12 @@ ghost use Rattle.pf_signatures.specs.Types.{fetch};
 
 use crate::conversions::Modifier;
 use crate::fetches::Fetch;
-use crate::kinds::SignatureRefusalKind;
+use crate::refusals::SignatureRefusalKind;
 use crate::letters::{conversion_of, flag_of, modifier_of};
-use crate::parts::{Parts, Slot, Style};
+use crate::partial_specification::{Parts, Slot, Style};
 use crate::types::ArgumentType;
-use crate::undefined::undefined_as;
-use crate::wanted::type_of;
+use crate::undefined_combinations::undefined_as;
+use crate::fetches::type_of;
 use pf_values::limits::MAX_NUMBER;
 use pf_values::{Length, Model};
 

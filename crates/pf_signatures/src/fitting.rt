@@ -8,7 +8,7 @@ ghost use Rattle.pf_signatures.specs.Steps.{AreFew, Differ};
 
 use crate::argument_types::arguments;
 use crate::refusals::SignatureRefusal;
-use crate::stepping::{Stepped, in_step};
+use crate::pairs::{Stepped, in_step};
 use crate::tables::ROOM;
 use crate::types::ArgumentType;
 use pf_values::Model;

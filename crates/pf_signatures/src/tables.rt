@@ -1,17 +1,17 @@
-//! The types of numbered arguments.
+//! The types of numbered arguments in a table, and types at the front of a slice.
 ghost use Rattle.std.specs.Prelude.{◌≡◌, ◌<◌, ◌≤◌, ◌++◌, ◌∷◌, ◌+◌, [], ℕ, max, length, is_some, IsTrue, List, Some, MatchBool, MatchResult, true, false};
 ghost use Rattle.pf_signatures.specs.declared.fetches.Fetch.{Fetch as FetchOf};
-ghost use Rattle.pf_signatures.specs.declared.kinds.SignatureRefusalKind.TheVariants.{MissingArgument};
+ghost use Rattle.pf_signatures.specs.declared.refusals.SignatureRefusalKind.TheVariants.{MissingArgument};
 ghost use Rattle.pf_signatures.specs.Laws.{filled};
 ghost use Rattle.pf_signatures.specs.Readings.{Fetches, conflicts, listed, reading};
 ghost use Rattle.pf_signatures.specs.Refusals.{HasGap, IsRefusedAt};
 ghost use Rattle.pf_signatures.specs.Walks.{left};
 ghost use Rattle.pf_signatures.specs.Tabled.{IsTabled, Keeps};
 ghost use Rattle.pf_signatures.specs.Types.{IsFetched, fetch};
+ghost use Rattle.pf_signatures.specs.declared.types.ArgumentType.{ArgumentType as ArgumentTypeOf};
 
 use crate::fetches::Fetch;
-use crate::filling::put;
-use crate::kinds::SignatureRefusalKind;
+use crate::refusals::SignatureRefusalKind;
 use crate::reader::{Next, Reader};
 use crate::refusals::SignatureRefusal;
 use crate::types::ArgumentType;
@@ -142,5 +142,17 @@ fn refusal(kind: SignatureRefusalKind, at: usize) -> SignatureRefusal
     SignatureRefusal {
         kind,
         at: at as u64,
+    }
+}
+
+/// Sets a place, if there is one.
+#[inline(always)]
+pub(crate) fn put(out: &mut [ArgumentType], place: usize, wanted: ArgumentType)
+    ensures length { length out.new ≡ length out.old }
+    ensures filled { (start types : List ArgumentTypeOf) → out.old ≡ filled start types
+        → place ≡ length types → out.new ≡ filled start (types ++ wanted ∷ []) }
+{
+    if place < out.len() {
+        out[place] = wanted;
     }
 }

@@ -1,5 +1,5 @@
 use Rattle.std.proofs.Common.{◌≡◌, ◌++◌, ◌∷◌, [], ◌-◌, ◌∙◌, ap, arith, subst, refl, sym, false}
-use Rattle.pf_signatures.specs.declared.kinds.SignatureRefusalKind.TheVariants.{TwoTypes}
+use Rattle.pf_signatures.specs.declared.refusals.SignatureRefusalKind.TheVariants.{TwoTypes}
 use Rattle.pf_signatures.specs.Readings.{conflicts}
 use Rattle.pf_signatures.specs.Refusals.{IsRefusedAt}
 use Rattle.pf_signatures.specs.Tabled.{Keeps}
