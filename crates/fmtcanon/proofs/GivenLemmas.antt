@@ -27,7 +27,7 @@ refused_within bytes kind at h =
     let both = length-append h.front h.rest in
     omega (arith, place, split, both)
 
-whole_within : (model : Model) (bytes : Text) (kind : SignatureRefusalKind) (at : ℕ) → whole.IsRefusedAt model bytes kind at → at ≤ length bytes
+whole_within : (model : Model) (bytes : Text) (kind : SignatureRefusalKind) (at : ℕ) → whole.IsPosixRefusedAt model bytes kind at → at ≤ length bytes
 whole_within model bytes kind at h =
     let place = h.place in
     let split = ap length h.split in

@@ -79,7 +79,7 @@ HindersFormats first second Memory = ⊤
 -- the same in the whole language
 abbrev pub HindersWhole : Model → Text → Fault → Type 0
 HindersWhole model format (RefusedWhole None refusal) =
-    whole.IsRefusedAt model format refusal.kind refusal.at
+    whole.IsPosixRefusedAt model format refusal.kind refusal.at
 HindersWhole model format (RefusedWhole (Some side) refusal) = ⊥
 HindersWhole model format (Refused side refusal) = ⊥
 HindersWhole model format (BadLiteral side refusal) = ⊥
@@ -94,9 +94,9 @@ IsAcceptedWhole model format = (types : List ArgumentType) × HasArguments model
 abbrev pub HindersFit : Model → Text → Text → Fault → Type 0
 HindersFit model first second (RefusedWhole None refusal) = ⊥
 HindersFit model first second (RefusedWhole (Some sides.First) refusal) =
-    whole.IsRefusedAt model first refusal.kind refusal.at
+    whole.IsPosixRefusedAt model first refusal.kind refusal.at
 HindersFit model first second (RefusedWhole (Some sides.Second) refusal) =
-    IsAcceptedWhole model first × whole.IsRefusedAt model second refusal.kind refusal.at
+    IsAcceptedWhole model first × whole.IsPosixRefusedAt model second refusal.kind refusal.at
 HindersFit model first second (Refused side refusal) = ⊥
 HindersFit model first second (BadLiteral side refusal) = ⊥
 HindersFit model first second (BadWord index) = ⊥

@@ -32,7 +32,7 @@ refusal_told side refusal =
 
 abbrev pub whole_told : Option Side → SignatureRefusal → Text
 whole_told side refusal = fault_told side (codes "refused ")
-    (signatures.number refusal.kind) (signatures.name refusal.kind) refusal.at
+    (signatures.signature_kind_number refusal.kind) (signatures.signature_kind_name refusal.kind) refusal.at
 
 abbrev pub literal_told : Option Side → LiteralRefusal → Text
 literal_told side refusal = fault_told side (codes "literal ")

@@ -52,13 +52,13 @@ is_whole_alone n = nat_le 19 n && nat_le n 22
 
 -- the kind with the number that only the whole language has, if there is one
 abbrev pub IsWholeKindOf : ℕ → Option SignatureRefusalKind → Type 0
-IsWholeKindOf n (Some kind) = (n ≡ whole.number kind) × (is_whole_alone n ≡ true)
+IsWholeKindOf n (Some kind) = (n ≡ whole.signature_kind_number kind) × (is_whole_alone n ≡ true)
 IsWholeKindOf n None = is_whole_alone n ≡ false
 
 -- the name of a kind with the number that only the whole language or literals have
 abbrev pub IsOtherNameOf : ℕ → Option Text → Type 0
-IsOtherNameOf n (Some t) = ((kind : SignatureRefusalKind) × (n ≡ whole.number kind)
-    × (is_whole_alone n ≡ true) × (t ≡ whole.name kind)) ⊎ IsLiteralNameOf n (Some t)
+IsOtherNameOf n (Some t) = ((kind : SignatureRefusalKind) × (n ≡ whole.signature_kind_number kind)
+    × (is_whole_alone n ≡ true) × (t ≡ whole.signature_kind_name kind)) ⊎ IsLiteralNameOf n (Some t)
 IsOtherNameOf n None = (is_whole_alone n ≡ false) × IsLiteralNameOf n None
 
 -- the name of a kind of refusals with the number, of formats or of literals, if there is one

@@ -5,7 +5,7 @@ use Rattle.std.specs.List.{AllByRecursion}
 use Rattle.std.proofs.lemmas.Bool.{eqb-true, cases_eq, ne_eqb}
 use Rattle.std.proofs.lemmas.Bool.Decides.{nat_tests}
 use Rattle.pf_signatures.specs.declared.fetches.Fetch.{Fetch}
-use Rattle.pf_signatures.specs.declared.partial_specification.Style.TheVariants.{Undecided}
+use Rattle.pf_signatures.specs.declared.partial_specification.Numbering.TheVariants.{Undecided}
 use Rattle.pf_signatures.specs.declared.types.ArgumentType.{ArgumentType}
 use Rattle.pf_signatures.specs.declared.types.ArgumentType.TheVariants.{Int}
 use Rattle.pf_signatures.specs.declared.types.TheConstants.ArgumentType.{ALL as all_types}

@@ -10,7 +10,7 @@ use Rattle.pf_signatures.specs.declared.tables.TheConstants.{ROOM}
 use Rattle.pf_signatures.specs.declared.types.ArgumentType.{ArgumentType}
 use Rattle.pf_signatures.specs.declared.types.ArgumentType.TheVariants.{Int}
 use Rattle.pf_signatures.specs.Kinds.{type_number}
-use Rattle.pf_signatures.specs.Laws.{Compares, HasCount, IsFirstDifference, filled}
+use Rattle.pf_signatures.specs.Laws.{ComparesArgumentTypes, HasCount, IsFirstDifference, filled}
 use Rattle.pf_signatures.specs.Steps.{AreFew}
 use Rattle.pf_signatures.proofs.Agreeing.{same_type}
 use Rattle.pf_signatures.proofs.OrderLemmas.{length_filled}
@@ -79,7 +79,7 @@ over_lists count beside k m n x y (inr over) = inr (omega (arith, y, over))
 
 -- what slices of two texts tell
 pub compared : (model : Model) (first second : Text) (old new old2 new2 : List ArgumentType) (count beside : ℕ) (result : Option ℕ) → HasCount model first old new count → HasCount model second old2 new2 beside → AreFew model first second
-    → ((a b start from : List ArgumentType) → new ≡ filled start a → new2 ≡ filled from b → count ≡ length a → beside ≡ length b → (length a ≤ ROOM) ⊎ (length b ≤ ROOM) → IsFirstDifference a b result) → Compares model first second result
+    → ((a b start from : List ArgumentType) → new ≡ filled start a → new2 ≡ filled from b → count ≡ length a → beside ≡ length b → (length a ≤ ROOM) ⊎ (length b ≤ ROOM) → IsFirstDifference a b result) → ComparesArgumentTypes model first second result
 compared model first second old new old2 new2 count beside result h k few f =
     record {
       types = h.types;

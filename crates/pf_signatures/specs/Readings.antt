@@ -6,42 +6,42 @@ use Rattle.pf_values.specs.Text.{Text}
 use Rattle.pf_signatures.specs.declared.fetches.Fetch.{Fetch}
 use Rattle.pf_signatures.specs.declared.refusals.SignatureRefusalKind.{SignatureRefusalKind}
 use Rattle.pf_signatures.specs.declared.refusals.SignatureRefusalKind.TheVariants.{Truncated, TooLong, TwoTypes}
-use Rattle.pf_signatures.specs.declared.partial_specification.Style.{Style}
-use Rattle.pf_signatures.specs.declared.partial_specification.Style.TheVariants.{Undecided}
+use Rattle.pf_signatures.specs.declared.partial_specification.Numbering.{Numbering}
+use Rattle.pf_signatures.specs.declared.partial_specification.Numbering.TheVariants.{Undecided}
 use Rattle.pf_signatures.specs.declared.types.ArgumentType.{ArgumentType}
 use Rattle.pf_signatures.specs.declared.types.ArgumentType.TheVariants.{Int}
 use Rattle.pf_signatures.specs.Kinds.{type_number}
 use Rattle.pf_signatures.specs.Refusals.{style_by}
-use Rattle.pf_signatures.specs.Stages.{State, Between}
-use Rattle.pf_signatures.specs.States.{Next, next}
+use Rattle.pf_signatures.specs.Stages.{PosixState, Between}
+use Rattle.pf_signatures.specs.States.{PosixStep, posix_step}
 
 -- what is fetched one after another, each at its byte, up to the end or a refusal
-pub data Reading : Type 0 where
-  Whole : Reading
-  Fault : (kind : SignatureRefusalKind) (at : ℕ) → Reading
-  Fetches : (f : Fetch) (at : ℕ) (rest : Reading) → Reading
+pub data FetchTrace : Type 0 where
+  Whole : FetchTrace
+  Fault : (kind : SignatureRefusalKind) (at : ℕ) → FetchTrace
+  Fetches : (f : Fetch) (at : ℕ) (rest : FetchTrace) → FetchTrace
 
 -- the text ends in a state
-abbrev pub ended : State → ℕ → Reading
-ended Between at = Whole
-ended _ at = Fault Truncated at
+abbrev pub trace_at_end : PosixState → ℕ → FetchTrace
+trace_at_end Between at = Whole
+trace_at_end _ at = Fault Truncated at
 
 -- what a byte makes, before what is read from the next one on
-abbrev pub moved : Style → ℕ → Next → (Style → State → Reading) → Reading
+abbrev pub moved : Numbering → ℕ → PosixStep → (Numbering → PosixState → FetchTrace) → FetchTrace
 moved style at (Ok (state, None)) rest = rest style state
 moved style at (Ok (state, Some f)) rest = Fetches f at (rest (style_by f.number) state)
 moved style at (Err kind) rest = Fault kind at
 
 -- what a text is read as from a style, a state and a byte on
-abbrev pub read : Model → Style → State → ℕ → Text → Reading
-read model style state at [] = ended state at
-read model style state at (byte ∷ t) =
+abbrev pub trace_from : Model → Numbering → PosixState → ℕ → Text → FetchTrace
+trace_from model style state at [] = trace_at_end state at
+trace_from model style state at (byte ∷ t) =
     if nat_le MAX_TEXT_LEN at then Fault TooLong at else
-    moved style at (next model style state byte) (λ s q. read model s q (at + 1) t)
+    moved style at (posix_step model style state byte) (λ s q. trace_from model s q (at + 1) t)
 
 -- what a text is read as
-abbrev pub reading : Model → Text → Reading
-reading model t = read model Undecided Between 0 t
+abbrev pub fetch_trace : Model → Text → FetchTrace
+fetch_trace model t = trace_from model Undecided Between 0 t
 
 -- two fetches want one argument with two types
 abbrev pub differs_at : Option ℕ → Option ℕ → Fetch → Fetch → Bool
@@ -62,19 +62,19 @@ pub data Verdict : Type 0 where
   Refused : (kind : SignatureRefusalKind) (at : ℕ) → Verdict
 
 -- the same of a reading behind some fetches
-abbrev pub settled : List Fetch → Reading → Verdict
-settled seen Whole = Takes seen
-settled seen (Fault kind at) = Refused kind at
-settled seen (Fetches f at rest) =
-    if conflicts seen f then Refused TwoTypes at else settled (seen ++ f ∷ []) rest
+abbrev pub verdict_after : List Fetch → FetchTrace → Verdict
+verdict_after seen Whole = Takes seen
+verdict_after seen (Fault kind at) = Refused kind at
+verdict_after seen (Fetches f at rest) =
+    if conflicts seen f then Refused TwoTypes at else verdict_after (seen ++ f ∷ []) rest
 
 -- the same of a text
 abbrev pub verdict : Model → Text → Verdict
-verdict model t = settled [] (reading model t)
+verdict model t = verdict_after [] (fetch_trace model t)
 
 -- the types that are wanted, in order
-abbrev pub wanted : List Fetch → List ArgumentType
-wanted fetched = map (λ f. f.wanted) fetched
+abbrev pub wanted_types : List Fetch → List ArgumentType
+wanted_types fetched = map (λ f. f.wanted) fetched
 
 -- a number is given
 abbrev pub is_number : Option ℕ → ℕ → Bool

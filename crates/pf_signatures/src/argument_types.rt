@@ -1,15 +1,15 @@
 //! The argument types of a format, in a slice or in a vector.
 ghost use Rattle.std.specs.Prelude.{◌≡◌, ◌<◌, ◌≤◌, ℕ, None, length, MatchResult, ◌+◌, IsTrue, is_some, IfErr, IfOk};
 ghost use Rattle.pf_signatures.specs.Laws.{HasCount, HindersList};
-ghost use Rattle.pf_signatures.specs.Readings.{Fetches, reading};
-ghost use Rattle.pf_signatures.specs.Refusals.{IsRefusedAt};
+ghost use Rattle.pf_signatures.specs.Readings.{Fetches, fetch_trace};
+ghost use Rattle.pf_signatures.specs.Refusals.{IsPosixRefusedAt};
 ghost use Rattle.pf_signatures.specs.Types.{fetch};
-ghost use Rattle.pf_signatures.specs.Walks.{left};
+ghost use Rattle.pf_signatures.specs.Walks.{trace_left};
 ghost use Rattle.pf_signatures.specs.Items.{HasArguments};
 
 use crate::fetches::Fetch;
 use crate::tables::put;
-use crate::reader::{Next, Reader};
+use crate::reader::{NextFetch, Reader};
 use crate::refusals::{SignatureFault, SignatureRefusal};
 use crate::tables::Table;
 use crate::types::ArgumentType;
@@ -28,14 +28,14 @@ pub fn arguments(
 ) -> Result<u64, SignatureRefusal>
     ensures types { MatchResult result
         (λ count. HasCount model text.now out.old out.new count)
-        (λ refusal. IsRefusedAt model text.now refusal.kind refusal.at) }
+        (λ refusal. IsPosixRefusedAt model text.now refusal.kind refusal.at) }
     ensures length { length out.new ≡ length out.old }
 {
     let mut reader = Reader::new();
     match reader.next_fetch(model, text) {
-        Next::End => Ok(0),
-        Next::Stop(refusal) => Err(refusal),
-        Next::Fetched(first) => match first.number {
+        NextFetch::End => Ok(0),
+        NextFetch::Stop(refusal) => Err(refusal),
+        NextFetch::Fetched(first) => match first.number {
             None => in_order(model, text, reader, first.wanted, out),
             Some(_) => by_number(model, text, reader, first, out),
         },
@@ -53,10 +53,10 @@ fn in_order(
     requires within { after_first.at ≤ length text.now }
     requires some { 0 < after_first.at }
     requires first { (at : ℕ)
-        × (reading model text.now ≡ Fetches (fetch None first) at (left model text.now after_first)) }
+        × (fetch_trace model text.now ≡ Fetches (fetch None first) at (trace_left model text.now after_first)) }
     ensures types { MatchResult result
         (λ count. HasCount model text.now out.old out.new count)
-        (λ refusal. IsRefusedAt model text.now refusal.kind refusal.at) }
+        (λ refusal. IsPosixRefusedAt model text.now refusal.kind refusal.at) }
     ensures length { length out.new ≡ length out.old }
 {
     let mut reader = after_first;
@@ -64,12 +64,12 @@ fn in_order(
     let mut count: usize = 1;
     loop {
         match reader.next_fetch(model, text) {
-            Next::Fetched(fetch) => {
+            NextFetch::Fetched(fetch) => {
                 put(out, count, fetch.wanted);
                 count += 1;
             }
-            Next::End => return Ok(count as u64),
-            Next::Stop(refusal) => return Err(refusal),
+            NextFetch::End => return Ok(count as u64),
+            NextFetch::Stop(refusal) => return Err(refusal),
         }
     }
 }
@@ -86,10 +86,10 @@ fn by_number(
     requires within { after_first.at ≤ length text.now }
     requires number { IsTrue (is_some first.number) }
     requires first { (at : ℕ) × (after_first.at ≡ at + 1)
-        × (reading model text.now ≡ Fetches first at (left model text.now after_first)) }
+        × (fetch_trace model text.now ≡ Fetches first at (trace_left model text.now after_first)) }
     ensures types { MatchResult result
         (λ count. HasCount model text.now out.old out.new count)
-        (λ refusal. IsRefusedAt model text.now refusal.kind refusal.at) }
+        (λ refusal. IsPosixRefusedAt model text.now refusal.kind refusal.at) }
     ensures length { length out.new ≡ length out.old }
 {
     let mut table = Table::new();

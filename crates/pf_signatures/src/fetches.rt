@@ -1,7 +1,7 @@
 //! An argument that is fetched, and the type of the argument of a conversion (C11 7.21.6.1,
 //! paragraphs 7 and 8).
 ghost use Rattle.std.specs.Prelude.{◌≡◌, if◌then◌else◌};
-ghost use Rattle.pf_signatures.specs.Types.{counted_type, floating_type, kind_type, plain_length, type_of, widened};
+ghost use Rattle.pf_signatures.specs.Types.{counted_type, floating_type, kind_type, integer_length, conversion_type, widened};
 ghost use Rattle.pf_signatures.specs.declared.types.ArgumentType.TheVariants.{Int, Str, WideChar, WideString};
 ghost use Rattle.pf_values.specs.DataModel.{signed_type, unsigned_type};
 ghost use Rattle.pf_values.specs.Lengths.{is_long};
@@ -21,25 +21,25 @@ pub(crate) struct Fetch {
 
 /// The type of the argument of a conversion under a length modifier.
 #[inline(always)]
-pub(crate) fn type_of(model: Model, modifier: Modifier, conversion: Conversion) -> ArgumentType
-    ensures { result ≡ type_of model modifier conversion }
+pub(crate) fn conversion_type(model: Model, modifier: Modifier, conversion: Conversion) -> ArgumentType
+    ensures { result ≡ conversion_type model modifier conversion }
 {
     match conversion {
-        Conversion::Profile(conv) => kind_type(model, conv.kind(), plain_length(modifier)),
+        Conversion::Profile(conv) => kind_type(model, conv.kind(), integer_length(modifier)),
         Conversion::Float(_) => floating_type(modifier),
         Conversion::UpperC => ArgumentType::WideChar,
         Conversion::UpperS => ArgumentType::WideString,
         Conversion::Pointer => ArgumentType::Pointer,
-        Conversion::Count => counted_type(model, plain_length(modifier)),
+        Conversion::Count => counted_type(model, integer_length(modifier)),
     }
 }
 
 #[inline(always)]
-fn plain_length(modifier: Modifier) -> Length
-    ensures { result ≡ plain_length modifier }
+fn integer_length(modifier: Modifier) -> Length
+    ensures { result ≡ integer_length modifier }
 {
     match modifier {
-        Modifier::Plain(length) => length,
+        Modifier::Integer(length) => length,
         Modifier::LongDouble => Length::None,
     }
 }
@@ -49,7 +49,7 @@ fn floating_type(modifier: Modifier) -> ArgumentType
     ensures { result ≡ floating_type modifier }
 {
     match modifier {
-        Modifier::Plain(_) => ArgumentType::Double,
+        Modifier::Integer(_) => ArgumentType::Double,
         Modifier::LongDouble => ArgumentType::LongDouble,
     }
 }

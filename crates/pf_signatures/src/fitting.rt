@@ -3,12 +3,12 @@ ghost use Rattle.std.specs.Prelude.{◌≡◌, ◌≤◌, List, length, ◌⊎�
 ghost use Rattle.pf_signatures.specs.declared.tables.TheConstants.{ROOM as MOST};
 ghost use Rattle.pf_signatures.specs.declared.types.ArgumentType.{ArgumentType as ArgumentTypeOf};
 ghost use Rattle.pf_signatures.specs.Items.{HasArguments};
-ghost use Rattle.pf_signatures.specs.Laws.{Compares, HindersFitting, IsFirstDifference, filled};
-ghost use Rattle.pf_signatures.specs.Steps.{AreFew, Differ};
+ghost use Rattle.pf_signatures.specs.Laws.{ComparesArgumentTypes, HindersFitting, IsFirstDifference, filled};
+ghost use Rattle.pf_signatures.specs.Steps.{AreFew, DifferAt};
 
 use crate::argument_types::arguments;
 use crate::refusals::SignatureRefusal;
-use crate::pairs::{Stepped, in_step};
+use crate::pairs::{InStepResult, compare_in_step};
 use crate::tables::ROOM;
 use crate::types::ArgumentType;
 use pf_values::Model;
@@ -30,13 +30,13 @@ pub enum FitsRefusal {
 /// least index from 0 at which they differ, which is the length of the shorter one where that is a
 /// front of the other. The first format is read whole before the second.
 pub fn fits(model: Model, first: &[u8], second: &[u8]) -> Result<Option<u64>, FitsRefusal>
-    ensures { MatchResult result (Compares model first.now second.now)
+    ensures { MatchResult result (ComparesArgumentTypes model first.now second.now)
         (HindersFitting model first.now second.now) }
 {
-    match in_step(model, first, second) {
-        Stepped::Equal => Ok(None),
-        Stepped::Differ(index) => by_step(model, first, second, index),
-        Stepped::Other => by_tables(model, first, second),
+    match compare_in_step(model, first, second) {
+        InStepResult::Equal => Ok(None),
+        InStepResult::Differ(index) => by_step(model, first, second, index),
+        InStepResult::Other => by_tables(model, first, second),
     }
 }
 
@@ -47,8 +47,8 @@ fn by_step(
     second: &[u8],
     index: u64,
 ) -> Result<Option<u64>, FitsRefusal>
-    requires { Differ model first.now second.now index }
-    ensures { MatchResult result (Compares model first.now second.now)
+    requires { DifferAt model first.now second.now index }
+    ensures { MatchResult result (ComparesArgumentTypes model first.now second.now)
         (HindersFitting model first.now second.now) }
 {
     match arguments(model, first, &mut []) {
@@ -64,7 +64,7 @@ fn by_step(
 #[inline(never)]
 fn by_tables(model: Model, first: &[u8], second: &[u8]) -> Result<Option<u64>, FitsRefusal>
     requires { AreFew model first.now second.now }
-    ensures { MatchResult result (Compares model first.now second.now)
+    ensures { MatchResult result (ComparesArgumentTypes model first.now second.now)
         (HindersFitting model first.now second.now) }
 {
     let mut types = [ArgumentType::Int; ROOM];

@@ -1,14 +1,14 @@
 //! Two formats that aren't numbered, read side by side.
 ghost use Rattle.std.specs.Prelude.{◌≡◌};
-ghost use Rattle.pf_signatures.specs.Steps.{IsStepped, paired, plain_of};
+ghost use Rattle.pf_signatures.specs.Steps.{IsInStepResult, paired, unnumbered_next};
 
-use crate::reader::{Next, Reader};
+use crate::reader::{NextFetch, Reader};
 use crate::types::ArgumentType;
 use pf_values::Model;
 
 /// What is found of two formats.
 #[derive(Clone, Copy, Debug)]
-pub(crate) enum Stepped {
+pub(crate) enum InStepResult {
     /// Their types are equal.
     Equal,
     /// They differ at this index, if none is refused.
@@ -19,7 +19,7 @@ pub(crate) enum Stepped {
 
 /// What comes next of a format that isn't numbered.
 #[derive(Clone, Copy, Debug)]
-pub(crate) enum Plain {
+pub(crate) enum UnnumberedNext {
     /// An argument of this type.
     Wanted(ArgumentType),
     /// The end.
@@ -30,7 +30,7 @@ pub(crate) enum Plain {
 
 /// What comes next of two of them.
 #[derive(Clone, Copy, Debug)]
-pub(crate) enum Pair {
+pub(crate) enum NextPair {
     /// Two arguments of one type.
     Same,
     /// Two ends.
@@ -42,8 +42,8 @@ pub(crate) enum Pair {
 }
 
 /// What is found of two formats, up to the first index at which they differ.
-pub(crate) fn in_step(model: Model, first: &[u8], second: &[u8]) -> Stepped
-    ensures { IsStepped model first.now second.now result }
+pub(crate) fn compare_in_step(model: Model, first: &[u8], second: &[u8]) -> InStepResult
+    ensures { IsInStepResult model first.now second.now result }
 {
     let mut one = Reader::new();
     let mut other = Reader::new();
@@ -51,47 +51,47 @@ pub(crate) fn in_step(model: Model, first: &[u8], second: &[u8]) -> Stepped
     loop {
         let next = one.next_fetch(model, first);
         let beside = other.next_fetch(model, second);
-        match paired(unnumbered(next), unnumbered(beside)) {
-            Pair::Same => index += 1,
-            Pair::End => return Stepped::Equal,
-            Pair::Differ => return Stepped::Differ(index),
-            Pair::Other => return Stepped::Other,
+        match paired(unnumbered_next(next), unnumbered_next(beside)) {
+            NextPair::Same => index += 1,
+            NextPair::End => return InStepResult::Equal,
+            NextPair::Differ => return InStepResult::Differ(index),
+            NextPair::Other => return InStepResult::Other,
         }
     }
 }
 
-fn unnumbered(next: Next) -> Plain
-    ensures { result ≡ plain_of next }
+fn unnumbered_next(next: NextFetch) -> UnnumberedNext
+    ensures { result ≡ unnumbered_next next }
 {
     match next {
-        Next::Fetched(fetch) => match fetch.number {
-            None => Plain::Wanted(fetch.wanted),
-            Some(_) => Plain::Other,
+        NextFetch::Fetched(fetch) => match fetch.number {
+            None => UnnumberedNext::Wanted(fetch.wanted),
+            Some(_) => UnnumberedNext::Other,
         },
-        Next::End => Plain::End,
-        Next::Stop(_) => Plain::Other,
+        NextFetch::End => UnnumberedNext::End,
+        NextFetch::Stop(_) => UnnumberedNext::Other,
     }
 }
 
-fn paired(next: Plain, beside: Plain) -> Pair
+fn paired(next: UnnumberedNext, beside: UnnumberedNext) -> NextPair
     ensures { result ≡ paired next beside }
 {
     match next {
-        Plain::Wanted(wanted) => match beside {
-            Plain::Wanted(other) => {
+        UnnumberedNext::Wanted(wanted) => match beside {
+            UnnumberedNext::Wanted(other) => {
                 if wanted.number() == other.number() {
-                    return Pair::Same;
+                    return NextPair::Same;
                 }
-                Pair::Differ
+                NextPair::Differ
             }
-            Plain::End => Pair::Differ,
-            Plain::Other => Pair::Other,
+            UnnumberedNext::End => NextPair::Differ,
+            UnnumberedNext::Other => NextPair::Other,
         },
-        Plain::End => match beside {
-            Plain::Wanted(_) => Pair::Differ,
-            Plain::End => Pair::End,
-            Plain::Other => Pair::Other,
+        UnnumberedNext::End => match beside {
+            UnnumberedNext::Wanted(_) => NextPair::Differ,
+            UnnumberedNext::End => NextPair::End,
+            UnnumberedNext::Other => NextPair::Other,
         },
-        Plain::Other => Pair::Other,
+        UnnumberedNext::Other => NextPair::Other,
     }
 }

@@ -7,7 +7,7 @@ use pf_values::{Flag, FlagSet};
 
 /// Which of the two amounts.
 #[derive(Clone, Copy, Debug, PartialEq, Eq)]
-pub(crate) enum Slot {
+pub(crate) enum WidthOrPrecision {
     /// The field width.
     Width,
     /// The precision.
@@ -16,7 +16,7 @@ pub(crate) enum Slot {
 
 /// Whether the specifications of a format are numbered.
 #[derive(Clone, Copy, Debug, PartialEq, Eq)]
-pub(crate) enum Style {
+pub(crate) enum Numbering {
     /// There was none yet.
     Undecided,
     /// They aren't.
@@ -27,7 +27,7 @@ pub(crate) enum Style {
 
 /// What has come of them.
 #[derive(Clone, Copy, Debug, PartialEq, Eq)]
-pub(crate) struct Parts {
+pub(crate) struct PartialSpecification {
     /// The number of the argument.
     pub(crate) position: Option<u16>,
     /// The flags.
@@ -38,13 +38,13 @@ pub(crate) struct Parts {
     pub(crate) precision: bool,
 }
 
-impl Parts {
+impl PartialSpecification {
     /// None but the number of the argument.
     #[inline(always)]
-    pub(crate) fn at(position: Option<u16>) -> Parts
+    pub(crate) fn at(position: Option<u16>) -> PartialSpecification
         ensures { result ≡ parts_at position }
     {
-        Parts {
+        PartialSpecification {
             position,
             flags: FlagSet::empty(),
             width: false,
@@ -54,10 +54,10 @@ impl Parts {
 
     /// The same with one flag more.
     #[inline(always)]
-    pub(crate) fn with_flag(self, flag: Flag) -> Parts
+    pub(crate) fn with_flag(self, flag: Flag) -> PartialSpecification
         ensures { result ≡ record self { flags = with_flag self.flags flag } }
     {
-        Parts {
+        PartialSpecification {
             position: self.position,
             flags: self.flags.with(flag),
             width: self.width,
@@ -67,10 +67,10 @@ impl Parts {
 
     /// The same with a field width.
     #[inline(always)]
-    pub(crate) fn with_width(self) -> Parts
+    pub(crate) fn with_width(self) -> PartialSpecification
         ensures { result ≡ with_width self }
     {
-        Parts {
+        PartialSpecification {
             position: self.position,
             flags: self.flags,
             width: true,
@@ -80,10 +80,10 @@ impl Parts {
 
     /// The same with a precision.
     #[inline(always)]
-    pub(crate) fn with_precision(self) -> Parts
+    pub(crate) fn with_precision(self) -> PartialSpecification
         ensures { result ≡ record self { precision = true } }
     {
-        Parts {
+        PartialSpecification {
             position: self.position,
             flags: self.flags,
             width: self.width,

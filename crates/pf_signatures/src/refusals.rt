@@ -1,6 +1,6 @@
 //! Why and where a format is refused.
 ghost use Rattle.std.specs.Prelude.{◌≡◌};
-ghost use Rattle.pf_signatures.specs.Kinds.{name, number};
+ghost use Rattle.pf_signatures.specs.Kinds.{signature_kind_name, signature_kind_number};
 
 use thiserror::Error;
 
@@ -86,7 +86,7 @@ impl SignatureRefusalKind {
 
     /// The number of the kind, from 1 to 22.
     pub fn number(self) -> u8
-        ensures { result ≡ number self }
+        ensures { result ≡ signature_kind_number self }
     {
         match self {
             SignatureRefusalKind::NulByte => 1,
@@ -110,7 +110,7 @@ impl SignatureRefusalKind {
 
     /// The name of the kind, in ASCII.
     pub fn name(self) -> &'static str
-        ensures { result.now ≡ name self }
+        ensures { result.now ≡ signature_kind_name self }
     {
         match self {
             SignatureRefusalKind::NulByte => "NulByte",

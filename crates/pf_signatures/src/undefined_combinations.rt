@@ -1,17 +1,17 @@
 //! Which specifications the standards leave undefined (C11 7.21.6.1, paragraphs 4 to 9).
 ghost use Rattle.std.specs.Prelude.{◌≡◌};
-ghost use Rattle.pf_signatures.specs.declared.conversions.Modifier.TheVariants.{Plain};
-ghost use Rattle.pf_signatures.specs.Defined.{has_some, takes_alt, takes_group, takes_modifier, takes_precision, takes_zero, undefined_as, is_count};
+ghost use Rattle.pf_signatures.specs.declared.conversions.Modifier.TheVariants.{Integer};
+ghost use Rattle.pf_signatures.specs.Defined.{has_any_flag, takes_alt, takes_group, takes_modifier, takes_precision, takes_zero, undefined_as, is_count};
 
 use crate::conversions::{Conversion, Floating, Modifier};
 use crate::refusals::SignatureRefusalKind;
-use crate::partial_specification::Parts;
+use crate::partial_specification::PartialSpecification;
 use pf_values::{Conv, Flag, FlagSet, Length};
 
 /// The least number of a kind for which a specification is undefined, if it is.
 #[inline(always)]
 pub(crate) fn undefined_as(
-    parts: Parts,
+    parts: PartialSpecification,
     modifier: Modifier,
     conversion: Conversion,
 ) -> Option<SignatureRefusalKind>
@@ -32,7 +32,7 @@ pub(crate) fn undefined_as(
     if !takes_modifier(conversion, modifier) {
         return Some(SignatureRefusalKind::LengthUndefined);
     }
-    if is_count(conversion) && (has_some(parts.flags) || parts.width || parts.precision) {
+    if is_count(conversion) && (has_any_flag(parts.flags) || parts.width || parts.precision) {
         return Some(SignatureRefusalKind::CountUndefined);
     }
     None
@@ -92,13 +92,13 @@ fn takes_modifier(conversion: Conversion, modifier: Modifier) -> bool
 {
     match modifier {
         Modifier::LongDouble => matches!(conversion, Conversion::Float(_)),
-        Modifier::Plain(length) => takes_length(conversion, length),
+        Modifier::Integer(length) => takes_length(conversion, length),
     }
 }
 
 #[inline(always)]
 fn takes_length(conversion: Conversion, length: Length) -> bool
-    ensures { result ≡ takes_modifier conversion (Plain length) }
+    ensures { result ≡ takes_modifier conversion (Integer length) }
 {
     match conversion {
         Conversion::Profile(Conv::C | Conv::S) => matches!(length, Length::None | Length::L),
@@ -117,8 +117,8 @@ fn is_count(conversion: Conversion) -> bool
 }
 
 #[inline(always)]
-fn has_some(set: FlagSet) -> bool
-    ensures { result ≡ has_some set }
+fn has_any_flag(set: FlagSet) -> bool
+    ensures { result ≡ has_any_flag set }
 {
     set.has(Flag::Minus)
         || set.has(Flag::Plus)

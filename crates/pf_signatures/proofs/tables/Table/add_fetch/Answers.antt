@@ -1,6 +1,6 @@
 use Rattle.std.proofs.Common.{◌∙◌, sym}
 use Rattle.pf_signatures.proofs.TableLemmas.{kept_new, told_some}
-use Rattle.pf_signatures.proofs.tables.Table.take.Goals as goal
+use Rattle.pf_signatures.proofs.tables.Table.add_fetch.Goals as goal
 
 pub returns-in-Some : goal.returns-in-Some
 returns-in-Some c seen h =

@@ -2,7 +2,7 @@ use Rattle.std.proofs.Common.{◌++◌, ◌∷◌, [], ◌∙◌, ap₂, arith, 
 use Rattle.std.proofs.lemmas.List.{length_push}
 use Rattle.pf_signatures.specs.Steps.{paired}
 use Rattle.pf_signatures.proofs.StepLemmas.{IsOrdered, ordered_start, pair_differs, pair_ended, pair_other, pair_same}
-use Rattle.pf_signatures.proofs.pairs.in_step.Goals as goal
+use Rattle.pf_signatures.proofs.pairs.compare_in_step.Goals as goal
 
 pub loop-index-init : goal.loop-index-init
 loop-index-init c =
