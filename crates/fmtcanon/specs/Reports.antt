@@ -36,7 +36,7 @@ whole_told side refusal = fault_told side (codes "refused ")
 
 abbrev pub literal_told : Option Side → LiteralRefusal → Text
 literal_told side refusal = fault_told side (codes "literal ")
-    (literals.number refusal.kind) (literals.name refusal.kind) refusal.at
+    (literals.literal_kind_number refusal.kind) (literals.literal_kind_name refusal.kind) refusal.at
 
 -- What is said of an outcome: nothing of answers that were written, a text on the words as it is, and
 -- else a line.

@@ -203,7 +203,7 @@ fn whole_name(kind: SignatureRefusalKind) -> &'static str
 }
 
 fn literal_name(kind: LiteralKind) -> &'static str
-    ensures name { result.now ≡ literals.name kind }
+    ensures name { result.now ≡ literals.literal_kind_name kind }
     ensures short { length result.now ≤ 18 }
 {
     kind.name()

@@ -37,14 +37,14 @@ pub record IsRefusalTold (side : Side) (refusal : Refusal) (code : ℤ) (error :
 
 -- the kind of faults of literals with the number, if there is one
 abbrev pub IsLiteralKindOf : ℕ → Option LiteralKind → Type 0
-IsLiteralKindOf n (Some kind) = n ≡ literals.number kind
-IsLiteralKindOf n None = (kind : LiteralKind) → n ≡ literals.number kind → ⊥
+IsLiteralKindOf n (Some kind) = n ≡ literals.literal_kind_number kind
+IsLiteralKindOf n None = (kind : LiteralKind) → n ≡ literals.literal_kind_number kind → ⊥
 
 -- its name, by the number with what is added to it
 abbrev pub IsLiteralNameOf : ℕ → Option Text → Type 0
 IsLiteralNameOf n (Some name) = (kind : LiteralKind)
-    × (n ≡ LITERAL_KINDS + literals.number kind) × (name ≡ literals.name kind)
-IsLiteralNameOf n None = (kind : LiteralKind) → n ≡ LITERAL_KINDS + literals.number kind → ⊥
+    × (n ≡ LITERAL_KINDS + literals.literal_kind_number kind) × (name ≡ literals.literal_kind_name kind)
+IsLiteralNameOf n None = (kind : LiteralKind) → n ≡ LITERAL_KINDS + literals.literal_kind_number kind → ⊥
 
 -- the kinds that only the whole language has, by their numbers
 abbrev pub is_whole_alone : ℕ → Bool

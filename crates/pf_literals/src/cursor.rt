@@ -2,28 +2,28 @@
 ghost use Rattle.std.specs.Prelude.{◌≡◌, ◌<◌, ◌≤◌, length, MatchOption};
 ghost use Rattle.pf_literals.specs.declared.cursor.Cursor.{Cursor};
 ghost use Rattle.pf_literals.specs.Elements.{Bytes};
-ghost use Rattle.pf_literals.specs.Walks.{GoesFurther, IsNext, left};
-ghost use Rattle.pf_literals.specs.Readings.{Fault, IsWhole, reading};
+ghost use Rattle.pf_literals.specs.Walks.{AdvancesCursor, IsNextPart, reading_left};
+ghost use Rattle.pf_literals.specs.Readings.{Fault, HasNoFault, source_reading};
 
 use crate::faults::LiteralRefusal;
 use crate::faults::LiteralKind;
-use crate::search::run_len;
-use crate::tokens::{Place, Turn, turn_at};
+use crate::search::verbatim_len;
+use crate::tokens::{Place, Token, token_at};
 
 /// A part of a source that stands for bytes.
 #[derive(Clone, Copy, Debug)]
-pub(crate) enum Part<'a> {
+pub(crate) enum SourcePart<'a> {
     /// Bytes that stand for themselves, and where the first one stands.
-    Run(&'a [u8], usize),
+    Verbatim(&'a [u8], usize),
     /// The byte that an element stands for, and where it begins.
     Byte(u8, usize),
 }
 
 /// What comes next.
 #[derive(Clone, Copy, Debug)]
-pub(crate) enum Next<'a> {
+pub(crate) enum NextPart<'a> {
     /// A part.
-    Given(Part<'a>),
+    Given(SourcePart<'a>),
     /// The end, and where the last literal closes.
     End(usize),
     /// The text is no source.
@@ -40,7 +40,7 @@ pub(crate) struct Cursor {
 impl Cursor {
     /// Nothing was read.
     pub(crate) fn new() -> Cursor
-        ensures { (t : Bytes) → left t result ≡ reading t }
+        ensures { (t : Bytes) → reading_left t result ≡ source_reading t }
     {
         Cursor {
             at: 0,
@@ -49,9 +49,9 @@ impl Cursor {
     }
 
     /// What comes next. Behind the end and behind a fault the cursor means nothing.
-    pub(crate) fn next_part<'a>(&mut self, source: &'a [u8]) -> Next<'a>
-        ensures next { IsNext source.now self.old result self.new }
-        ensures further { GoesFurther source.now self.old result self.new }
+    pub(crate) fn next_part<'a>(&mut self, source: &'a [u8]) -> NextPart<'a>
+        ensures next { IsNextPart source.now self.old result self.new }
+        ensures further { AdvancesCursor source.now self.old result self.new }
     {
         while self.at < source.len() {
             if let Some(next) = self.step(source) {
@@ -63,40 +63,40 @@ impl Cursor {
 
     /// Why the rest of a source is refused, if it is.
     pub(crate) fn refusal(self, source: &[u8]) -> Option<LiteralRefusal>
-        ensures { MatchOption result (IsWhole (left source.now self))
-            (λ refusal. left source.now self ≡ Fault refusal.kind refusal.at) }
+        ensures { MatchOption result (HasNoFault (reading_left source.now self))
+            (λ refusal. reading_left source.now self ≡ Fault refusal.kind refusal.at) }
     {
         let mut cursor = self;
         loop {
             match cursor.next_part(source) {
-                Next::Given(_) => {}
-                Next::End(_) => return None,
-                Next::Stop(refusal) => return Some(refusal),
+                NextPart::Given(_) => {}
+                NextPart::End(_) => return None,
+                NextPart::Stop(refusal) => return Some(refusal),
             }
         }
     }
 
     // One step, which may give nothing.
-    fn step<'a>(&mut self, source: &'a [u8]) -> Option<Next<'a>>
+    fn step<'a>(&mut self, source: &'a [u8]) -> Option<NextPart<'a>>
         requires { self.old.at < length source.now }
-        ensures next { MatchOption result (left source.now self.old ≡ left source.now self.new)
-            (λ next. IsNext source.now self.old next self.new) }
+        ensures next { MatchOption result (reading_left source.now self.old ≡ reading_left source.now self.new)
+            (λ next. IsNextPart source.now self.old next self.new) }
         ensures further { MatchOption result (self.old.at < self.new.at)
-            (λ next. GoesFurther source.now self.old next self.new) }
+            (λ next. AdvancesCursor source.now self.old next self.new) }
     {
-        if let Some(run) = self.run(source) {
-            return Some(Next::Given(run));
+        if let Some(verbatim) = self.verbatim_part(source) {
+            return Some(NextPart::Given(verbatim));
         }
-        self.turn(source)
+        self.take_token(source)
     }
 
     // The run of bytes that stand for themselves, if one comes next.
-    fn run<'a>(&mut self, source: &'a [u8]) -> Option<Part<'a>>
+    fn verbatim_part<'a>(&mut self, source: &'a [u8]) -> Option<SourcePart<'a>>
         requires { self.old.at < length source.now }
         ensures next { MatchOption result (self.new ≡ self.old)
-            (λ part. IsNext source.now self.old (Next.Given part) self.new) }
+            (λ part. IsNextPart source.now self.old (NextPart.Given part) self.new) }
         ensures further { MatchOption result (self.new ≡ self.old)
-            (λ part. GoesFurther source.now self.old (Next.Given part) self.new) }
+            (λ part. AdvancesCursor source.now self.old (NextPart.Given part) self.new) }
     {
         match self.place {
             Place::Inside => {}
@@ -105,63 +105,63 @@ impl Cursor {
         }
         let at = self.at;
         let rest = &source[at..];
-        let len = run_len(rest);
+        let len = verbatim_len(rest);
         if len == 0 {
             return None;
         }
         self.at += len;
-        Some(Part::Run(&rest[..len], at))
+        Some(SourcePart::Verbatim(&rest[..len], at))
     }
 
     // One turn.
-    fn turn<'a>(&mut self, source: &'a [u8]) -> Option<Next<'a>>
+    fn take_token<'a>(&mut self, source: &'a [u8]) -> Option<NextPart<'a>>
         requires { self.old.at < length source.now }
-        ensures next { MatchOption result (left source.now self.old ≡ left source.now self.new)
-            (λ next. IsNext source.now self.old next self.new) }
+        ensures next { MatchOption result (reading_left source.now self.old ≡ reading_left source.now self.new)
+            (λ next. IsNextPart source.now self.old next self.new) }
         ensures further { MatchOption result (self.old.at < self.new.at)
-            (λ next. GoesFurther source.now self.old next self.new) }
+            (λ next. AdvancesCursor source.now self.old next self.new) }
     {
         let at = self.at;
-        match turn_at(self.place, &source[at..]) {
-            Turn::White => {
+        match token_at(self.place, &source[at..]) {
+            Token::White => {
                 self.at += 1;
                 None
             }
-            Turn::Opens => {
+            Token::OpenQuote => {
                 self.place = Place::Inside;
                 self.at += 1;
                 None
             }
-            Turn::Closes => {
+            Token::CloseQuote => {
                 self.place = Place::Behind(at);
                 self.at += 1;
                 None
             }
-            Turn::Gives(value, len) => {
+            Token::Character(value, len) => {
                 self.at += len;
-                Some(Next::Given(Part::Byte(value, at)))
+                Some(NextPart::Given(SourcePart::Byte(value, at)))
             }
-            Turn::Stops(kind, on) => Some(stop(kind, at + on)),
+            Token::Invalid(kind, on) => Some(stop(kind, at + on)),
         }
     }
 
     // The text ends.
-    fn end<'a>(&mut self) -> Next<'a>
-        ensures next { (t : Bytes) → length t ≤ self.old.at → IsNext t self.old result self.new }
-        ensures further { (t : Bytes) (from : Cursor) → GoesFurther t from result self.new }
+    fn end<'a>(&mut self) -> NextPart<'a>
+        ensures next { (t : Bytes) → length t ≤ self.old.at → IsNextPart t self.old result self.new }
+        ensures further { (t : Bytes) (from : Cursor) → AdvancesCursor t from result self.new }
     {
         match self.place {
             Place::Before => stop(LiteralKind::NoLiteral, self.at),
             Place::Inside => stop(LiteralKind::Unterminated, self.at),
-            Place::Behind(close) => Next::End(close),
+            Place::Behind(close) => NextPart::End(close),
         }
     }
 }
 
-fn stop<'a>(kind: LiteralKind, at: usize) -> Next<'a>
-    ensures { result ≡ Next.Stop (record { kind = kind; at = at }) }
+fn stop<'a>(kind: LiteralKind, at: usize) -> NextPart<'a>
+    ensures { result ≡ NextPart.Stop (record { kind = kind; at = at }) }
 {
-    Next::Stop(LiteralRefusal {
+    NextPart::Stop(LiteralRefusal {
         kind,
         at: at as u64,
     })

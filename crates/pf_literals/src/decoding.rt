@@ -2,9 +2,9 @@
 ghost use Rattle.std.specs.Prelude.{◌≡◌, ◌++◌, [], IfOk, MatchResult};
 ghost use Rattle.pf_literals.specs.Answers.{HindersDecoding};
 ghost use Rattle.pf_literals.specs.Sources.{IsSourceOf};
-ghost use Rattle.pf_literals.specs.Walks.{Stops, part_bytes};
+ghost use Rattle.pf_literals.specs.Walks.{IsDecodingFault, part_bytes};
 
-use crate::cursor::{Cursor, Next, Part};
+use crate::cursor::{Cursor, NextPart, SourcePart};
 use crate::faults::LiteralFault;
 use std::alloc::{AllocError, Allocator, Global};
 
@@ -40,32 +40,32 @@ fn append_all<A: Allocator>(source: &[u8], out: &mut Vec<u8, A>) -> Result<(), L
     let mut cursor = Cursor::new();
     loop {
         match cursor.next_part(source) {
-            Next::Given(part) => match append(out, part, source.len()) {
+            NextPart::Given(part) => match append(out, part, source.len()) {
                 Ok(()) => {}
                 Err(_) => return Err(fault_of(cursor, source)),
             },
-            Next::End(_) => return Ok(()),
-            Next::Stop(refusal) => return Err(LiteralFault::Refused(refusal)),
+            NextPart::End(_) => return Ok(()),
+            NextPart::Stop(refusal) => return Err(LiteralFault::Refused(refusal)),
         }
     }
 }
 
 // Appends the bytes of a part. The room for all that may come is taken with the first.
-fn append<A: Allocator>(out: &mut Vec<u8, A>, part: Part, room: usize) -> Result<(), AllocError>
+fn append<A: Allocator>(out: &mut Vec<u8, A>, part: SourcePart, room: usize) -> Result<(), AllocError>
     ensures { IfOk result (λ _. out.new.items ≡ out.old.items ++ part_bytes part.entry) }
 {
     if out.is_empty() {
         out.reserve_exact(room)?;
     }
     match part {
-        Part::Run(run, _) => out.extend_from_slice(run),
-        Part::Byte(value, _) => out.extend_from_slice(&[value]),
+        SourcePart::Verbatim(verbatim, _) => out.extend_from_slice(verbatim),
+        SourcePart::Byte(value, _) => out.extend_from_slice(&[value]),
     }
 }
 
 // Why there are no bytes where memory wants: the rest of the text may be refused.
 fn fault_of(cursor: Cursor, source: &[u8]) -> LiteralFault
-    ensures { Stops source.now cursor result }
+    ensures { IsDecodingFault source.now cursor result }
 {
     match cursor.refusal(source) {
         Some(refusal) => LiteralFault::Refused(refusal),

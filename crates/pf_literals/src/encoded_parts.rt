@@ -1,41 +1,41 @@
 //! What is written of the front of some bytes.
 ghost use Rattle.std.specs.Prelude.{◌≡◌, ◌<◌, ◌++◌, length, IfOk};
-ghost use Rattle.pf_literals.specs.Spellings.{IsFront, ends_in_question, front_text, taken_by};
+ghost use Rattle.pf_literals.specs.Spellings.{IsEncodedPartOf, ends_in_question, encoded_part_text, source_len};
 
-use crate::search::run_len;
+use crate::search::verbatim_len;
 use crate::spellings::Spelling;
 use std::alloc::{AllocError, Allocator};
 
 /// What is written of the front of some bytes.
 #[derive(Clone, Copy, Debug)]
-pub(crate) enum Front<'a> {
+pub(crate) enum EncodedPart<'a> {
     /// A run of bytes that stand for themselves.
-    Run(&'a [u8]),
+    Verbatim(&'a [u8]),
     /// One byte, and whether that is `?`.
     Byte(Spelling, bool),
 }
 
-impl<'a> Front<'a> {
+impl<'a> EncodedPart<'a> {
     /// What is written of the front of some bytes, of which there is one at least, behind a `?` or
     /// not.
-    pub(crate) fn of(after: bool, text: &'a [u8]) -> Front<'a>
+    pub(crate) fn of(after: bool, text: &'a [u8]) -> EncodedPart<'a>
         requires { 0 < length text.now }
-        ensures { IsFront after text.now result }
+        ensures { IsEncodedPartOf after text.now result }
     {
-        let len = run_len(text);
+        let len = verbatim_len(text);
         if len == 0 {
-            return Front::Byte(Spelling::of(after, text[0]), text[0] == b'?');
+            return EncodedPart::Byte(Spelling::of(after, text[0]), text[0] == b'?');
         }
-        Front::Run(&text[..len])
+        EncodedPart::Verbatim(&text[..len])
     }
 
     /// How many bytes it is of.
-    pub(crate) fn taken(&self) -> usize
-        ensures { result ≡ taken_by self.now }
+    pub(crate) fn source_len(&self) -> usize
+        ensures { result ≡ source_len self.now }
     {
         match self {
-            Front::Run(run) => run.len(),
-            Front::Byte(_, _) => 1,
+            EncodedPart::Verbatim(verbatim) => verbatim.len(),
+            EncodedPart::Byte(_, _) => 1,
         }
     }
 
@@ -44,28 +44,28 @@ impl<'a> Front<'a> {
         ensures { result ≡ ends_in_question self.now }
     {
         match self {
-            Front::Run(_) => false,
-            Front::Byte(_, question) => *question,
+            EncodedPart::Verbatim(_) => false,
+            EncodedPart::Byte(_, question) => *question,
         }
     }
 
     /// How many bytes are written.
     pub(crate) fn written_len(&self) -> usize
-        ensures { result ≡ length (front_text self.now) }
+        ensures { result ≡ length (encoded_part_text self.now) }
     {
         match self {
-            Front::Run(run) => run.len(),
-            Front::Byte(spelling, _) => spelling.as_slice().len(),
+            EncodedPart::Verbatim(verbatim) => verbatim.len(),
+            EncodedPart::Byte(spelling, _) => spelling.as_slice().len(),
         }
     }
 
     /// Appends what is written.
     pub(crate) fn append<A: Allocator>(&self, out: &mut Vec<u8, A>) -> Result<(), AllocError>
-        ensures { IfOk result (λ _. out.new.items ≡ out.old.items ++ front_text self.now) }
+        ensures { IfOk result (λ _. out.new.items ≡ out.old.items ++ encoded_part_text self.now) }
     {
         match self {
-            Front::Run(run) => out.extend_from_slice(run),
-            Front::Byte(spelling, _) => out.extend_from_slice(spelling.as_slice()),
+            EncodedPart::Verbatim(verbatim) => out.extend_from_slice(verbatim),
+            EncodedPart::Byte(spelling, _) => out.extend_from_slice(spelling.as_slice()),
         }
     }
 }

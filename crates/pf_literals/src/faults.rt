@@ -1,6 +1,6 @@
 //! Why a text is no source, and why it has no bytes.
 ghost use Rattle.std.specs.Prelude.{◌≡◌};
-ghost use Rattle.pf_literals.specs.Kinds.{name, number};
+ghost use Rattle.pf_literals.specs.Kinds.{literal_kind_name, literal_kind_number};
 
 use thiserror::Error;
 
@@ -56,7 +56,7 @@ impl LiteralKind {
 
     /// The number of the kind, from 1 to 6.
     pub fn number(self) -> u8
-        ensures { result ≡ number self }
+        ensures { result ≡ literal_kind_number self }
     {
         match self {
             LiteralKind::NoLiteral => 1,
@@ -70,7 +70,7 @@ impl LiteralKind {
 
     /// The name of the kind, in ASCII.
     pub fn name(self) -> &'static str
-        ensures { result.now ≡ name self }
+        ensures { result.now ≡ literal_kind_name self }
     {
         match self {
             LiteralKind::NoLiteral => "NoLiteral",

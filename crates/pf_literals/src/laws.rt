@@ -7,13 +7,13 @@ ghost use Rattle.pf_literals.specs.Answers.{IsPlaceOf};
 ghost use Rattle.pf_literals.specs.Elements.{Bytes};
 ghost use Rattle.pf_literals.specs.Encoding.{encoding};
 ghost use Rattle.pf_literals.specs.Faults.{IsFaultAt};
-ghost use Rattle.pf_literals.specs.Kinds.{number};
-ghost use Rattle.pf_literals.specs.Laws.{CanGoOn, IsSettled, IsString};
+ghost use Rattle.pf_literals.specs.Kinds.{literal_kind_number};
+ghost use Rattle.pf_literals.specs.Laws.{CanGoOn, IsReadOrRefused, AreCStringBytes};
 ghost use Rattle.pf_literals.specs.Sources.{HasPlaces, IsSourceOf};
 
 /// The kinds stand in the order of their numbers.
 pub fn kinds_in_order()
-    ensures { (kind : LiteralKind) → slice_get kinds (number kind - 1) ≡ Some kind }
+    ensures { (kind : LiteralKind) → slice_get kinds (literal_kind_number kind - 1) ≡ Some kind }
 {}
 
 /// A source has one list of bytes.
@@ -43,7 +43,7 @@ pub fn refused_once()
 
 /// A text is a source, or it is refused.
 pub fn read_or_refused()
-    ensures { (t : Bytes) → IsSettled t }
+    ensures { (t : Bytes) → IsReadOrRefused t }
 {}
 
 /// And never both.
@@ -66,11 +66,11 @@ pub fn end_goes_on()
 
 /// A text without a zero byte is the bytes of its encoding.
 pub fn encoded_is_read()
-    ensures { (t : Bytes) → IsString t → IsSourceOf (encoding t) t }
+    ensures { (t : Bytes) → AreCStringBytes t → IsSourceOf (encoding t) t }
 {}
 
 /// The encoding of the bytes of an encoding is that encoding.
 pub fn encoded_once()
-    ensures { (t bytes : Bytes) → IsString t → IsSourceOf (encoding t) bytes
+    ensures { (t bytes : Bytes) → AreCStringBytes t → IsSourceOf (encoding t) bytes
         → encoding bytes ≡ encoding t }
 {}

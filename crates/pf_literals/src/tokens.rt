@@ -2,7 +2,7 @@
 ghost use Rattle.std.specs.Prelude.{◌≡◌, ◌≤◌, ◌<◌, ◌∷◌, [], ◌+◌, length};
 ghost use Rattle.pf_literals.specs.Elements.{ends_trigraph, is_third, simple_byte};
 ghost use Rattle.pf_literals.specs.Sources.{is_white};
-ghost use Rattle.pf_literals.specs.Turns.{at_end, by_letter, escaped, inside, numeric, outside, settled, turn};
+ghost use Rattle.pf_literals.specs.Tokens.{numeric_at_end, escape_by_letter, escape_token, token_inside, numeric_token, token_outside, finished_numeric, token_at};
 
 use crate::faults::LiteralKind;
 use crate::notations::Notation;
@@ -20,50 +20,50 @@ pub(crate) enum Place {
 
 /// What begins a text.
 #[derive(Clone, Copy, Debug, PartialEq, Eq)]
-pub(crate) enum Turn {
+pub(crate) enum Token {
     /// A byte of white space.
     White,
     /// The quote that opens a literal.
-    Opens,
+    OpenQuote,
     /// The quote that closes it.
-    Closes,
+    CloseQuote,
     /// An element: the byte that it stands for, and how many bytes it has.
-    Gives(u8, usize),
+    Character(u8, usize),
     /// None of these, and how many bytes on that is told.
-    Stops(LiteralKind, usize),
+    Invalid(LiteralKind, usize),
 }
 
 /// What begins a text, which has a byte at least.
-pub(crate) fn turn_at(place: Place, text: &[u8]) -> Turn
-    ensures { result ≡ turn place text.now }
+pub(crate) fn token_at(place: Place, text: &[u8]) -> Token
+    ensures { result ≡ token_at place text.now }
 {
     match place {
-        Place::Before => outside(text),
-        Place::Inside => inside(text),
-        Place::Behind(_) => outside(text),
+        Place::Before => token_outside(text),
+        Place::Inside => token_inside(text),
+        Place::Behind(_) => token_outside(text),
     }
 }
 
-fn outside(text: &[u8]) -> Turn
-    ensures { result ≡ outside text.now }
+fn token_outside(text: &[u8]) -> Token
+    ensures { result ≡ token_outside text.now }
 {
     match text {
-        [] => Turn::Stops(LiteralKind::NoLiteral, 0),
-        [byte, ..] => between(*byte),
+        [] => Token::Invalid(LiteralKind::NoLiteral, 0),
+        [byte, ..] => outside_byte(*byte),
     }
 }
 
 // A byte outside of a literal.
-fn between(byte: u8) -> Turn
-    ensures { result ≡ outside (byte ∷ []) }
+fn outside_byte(byte: u8) -> Token
+    ensures { result ≡ token_outside (byte ∷ []) }
 {
     if byte == b'"' {
-        return Turn::Opens;
+        return Token::OpenQuote;
     }
     if is_white(byte) {
-        return Turn::White;
+        return Token::White;
     }
-    Turn::Stops(LiteralKind::NoLiteral, 0)
+    Token::Invalid(LiteralKind::NoLiteral, 0)
 }
 
 fn is_white(byte: u8) -> bool
@@ -72,37 +72,37 @@ fn is_white(byte: u8) -> bool
     matches!(byte, b' ' | b'\t' | b'\n' | 11 | 12 | b'\r')
 }
 
-fn inside(text: &[u8]) -> Turn
-    ensures { result ≡ inside text.now }
+fn token_inside(text: &[u8]) -> Token
+    ensures { result ≡ token_inside text.now }
 {
     match text {
-        [] => Turn::Stops(LiteralKind::Unterminated, 0),
-        [byte, rest @ ..] => element(*byte, rest),
+        [] => Token::Invalid(LiteralKind::Unterminated, 0),
+        [byte, rest @ ..] => inside_byte(*byte, rest),
     }
 }
 
 // A byte in a literal, and what follows it.
-fn element(byte: u8, rest: &[u8]) -> Turn
-    ensures { result ≡ inside (byte ∷ rest.now) }
+fn inside_byte(byte: u8, rest: &[u8]) -> Token
+    ensures { result ≡ token_inside (byte ∷ rest.now) }
 {
     match byte {
-        b'"' => Turn::Closes,
-        b'\\' => escaped(rest),
-        b'\n' | b'\r' => Turn::Stops(LiteralKind::Unterminated, 0),
-        0 => Turn::Stops(LiteralKind::ZeroByte, 0),
-        b'?' => question(rest),
-        _ => Turn::Gives(byte, 1),
+        b'"' => Token::CloseQuote,
+        b'\\' => escape_token(rest),
+        b'\n' | b'\r' => Token::Invalid(LiteralKind::Unterminated, 0),
+        0 => Token::Invalid(LiteralKind::ZeroByte, 0),
+        b'?' => inside_question_mark(rest),
+        _ => Token::Character(byte, 1),
     }
 }
 
 // A question mark in a literal.
-fn question(rest: &[u8]) -> Turn
-    ensures { result ≡ inside (63 ∷ rest.now) }
+fn inside_question_mark(rest: &[u8]) -> Token
+    ensures { result ≡ token_inside (63 ∷ rest.now) }
 {
     if ends_trigraph(rest) {
-        return Turn::Stops(LiteralKind::Trigraph, 0);
+        return Token::Invalid(LiteralKind::Trigraph, 0);
     }
-    Turn::Gives(b'?', 1)
+    Token::Character(b'?', 1)
 }
 
 // Whether a text makes a trigraph with the `?` before it.
@@ -125,27 +125,27 @@ fn is_third(byte: u8) -> bool
 }
 
 // What stands behind `\`.
-fn escaped(text: &[u8]) -> Turn
-    ensures { result ≡ escaped text.now }
+fn escape_token(text: &[u8]) -> Token
+    ensures { result ≡ escape_token text.now }
 {
     match text {
-        [] => Turn::Stops(LiteralKind::Unterminated, 1),
+        [] => Token::Invalid(LiteralKind::Unterminated, 1),
         [byte, rest @ ..] => match simple_byte(*byte) {
-            Some(value) => Turn::Gives(value, 2),
+            Some(value) => Token::Character(value, 2),
             None => numeric_escape(*byte, text, rest),
         },
     }
 }
 
 // The same where the byte is no letter of a simple escape sequence.
-fn numeric_escape(byte: u8, text: &[u8], rest: &[u8]) -> Turn
+fn numeric_escape(byte: u8, text: &[u8], rest: &[u8]) -> Token
     requires { text.now ≡ byte ∷ rest.now }
-    ensures { result ≡ by_letter None byte rest.now }
+    ensures { result ≡ escape_by_letter None byte rest.now }
 {
     if byte == b'x' {
-        return numeric(Notation::Hexadecimal, rest);
+        return numeric_token(Notation::Hexadecimal, rest);
     }
-    numeric(Notation::Octal, text)
+    numeric_token(Notation::Octal, text)
 }
 
 // The byte that a letter stands for behind `\`.
@@ -169,55 +169,55 @@ fn simple_byte(letter: u8) -> Option<u8>
 }
 
 // The digits of a numeric escape sequence and what follows.
-fn numeric(notation: Notation, text: &[u8]) -> Turn
-    ensures { result ≡ numeric notation 0 0 text.now }
+fn numeric_token(notation: Notation, text: &[u8]) -> Token
+    ensures { result ≡ numeric_token notation 0 0 text.now }
 {
     let mut number: u16 = 0;
     let mut count = 0;
     while count < text.len() {
         if notation.is_full(count) {
-            return settled(notation, count, number);
+            return finished_numeric(notation, count, number);
         }
         match notation.digit(text[count]) {
-            None => return settled(notation, count, number),
+            None => return finished_numeric(notation, count, number),
             Some(digit) => {
                 number = notation.base() * number + digit;
                 if number > 255 {
-                    return Turn::Stops(LiteralKind::EscapeTooLarge, 0);
+                    return Token::Invalid(LiteralKind::EscapeTooLarge, 0);
                 }
                 count += 1;
             }
         }
     }
-    at_end(notation, count, number)
+    numeric_at_end(notation, count, number)
 }
 
 // A numeric escape sequence that is whole.
-fn settled(notation: Notation, count: usize, number: u16) -> Turn
+fn finished_numeric(notation: Notation, count: usize, number: u16) -> Token
     requires few { number ≤ 255 }
     requires within { count + 2 < usize.MAX }
-    ensures { result ≡ settled notation count number }
+    ensures { result ≡ finished_numeric notation count number }
 {
     if count == 0 {
-        return Turn::Stops(LiteralKind::BadEscape, 0);
+        return Token::Invalid(LiteralKind::BadEscape, 0);
     }
     if number == 0 {
-        return Turn::Stops(LiteralKind::ZeroByte, 0);
+        return Token::Invalid(LiteralKind::ZeroByte, 0);
     }
-    Turn::Gives(number as u8, notation.before_digits() + count)
+    Token::Character(number as u8, notation.before_digits() + count)
 }
 
 // The same at the end of the text.
-fn at_end(notation: Notation, count: usize, number: u16) -> Turn
+fn numeric_at_end(notation: Notation, count: usize, number: u16) -> Token
     requires few { number ≤ 255 }
     requires within { count + 2 < usize.MAX }
-    ensures { result ≡ at_end notation count number }
+    ensures { result ≡ numeric_at_end notation count number }
 {
     if number != 0 {
-        return settled(notation, count, number);
+        return finished_numeric(notation, count, number);
     }
     if notation.is_full(count) {
-        return settled(notation, count, number);
+        return finished_numeric(notation, count, number);
     }
-    Turn::Stops(LiteralKind::Unterminated, notation.before_digits() + count)
+    Token::Invalid(LiteralKind::Unterminated, notation.before_digits() + count)
 }

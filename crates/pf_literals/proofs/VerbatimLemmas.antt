@@ -9,14 +9,14 @@ use lib.Bits.{bit_xor}
 use lib.Count.{count_trailing_zeros}
 use lib.Lanes.{Each1, chunk, mask_l, top}
 use Rattle.pf_literals.specs.Elements.{Bytes}
-use Rattle.pf_literals.specs.Runs.{IsRun, StandsRun, is_special}
+use Rattle.pf_literals.specs.Verbatim.{IsVerbatim, IsVerbatimBetween, is_special}
 
 -- a run that stands from the first byte on
-pub run_taken : (text : Bytes) (n : ℕ) → n ≤ length text → StandsRun text 0 n → IsRun (take n text)
-run_taken text zero few stands = tt
-run_taken [] (suc n) few stands = absurd (omega arith)
-run_taken (byte ∷ text) (suc n) few stands =
-    (stands 0 (omega arith) (omega arith), run_taken text n (omega arith) (λ k low high. stands (suc k) (omega arith) (omega arith)))
+pub verbatim_taken : (text : Bytes) (n : ℕ) → n ≤ length text → IsVerbatimBetween text 0 n → IsVerbatim (take n text)
+verbatim_taken text zero few stands = tt
+verbatim_taken [] (suc n) few stands = absurd (omega arith)
+verbatim_taken (byte ∷ text) (suc n) few stands =
+    (stands 0 (omega arith) (omega arith), verbatim_taken text n (omega arith) (λ k low high. stands (suc k) (omega arith) (omega arith)))
 
 -- the tests that the code makes of a vector
 abbrev pub is_found : ℕ → Bool
@@ -60,7 +60,7 @@ module _ (text : Bytes) (i n : ℕ) (room : i + n ≤ length text) (few : n ≤ 
       ap (λ l. mask_l (map (top 7) l) % 2 ^ 64) lanes ∙ ap (λ l. mask_l l % 2 ^ 64) (lanes_set (chunk i n text) (chunk-fits w8 i n text fit))
       ∙ mask_l-mod (map is_special (chunk i n text)) 64 (omega (arith, length-map (chunk i n text) is_special, length-chunk i n text room))
 
-  pub none_in : mask ≡ 0 → StandsRun text i (i + n)
+  pub none_in : mask ≡ 0 → IsVerbatimBetween text i (i + n)
   none_in e k low high = none_from_empty_mask is_special text i n 0 room (sym mask_is ∙ e) k low high
 
   module _ (some : mask ≢ 0) where
@@ -71,7 +71,7 @@ module _ (text : Bytes) (i n : ℕ) (room : i + n ≤ length text) (few : n ≤ 
     pub first_few : count_trailing_zeros 64 mask ≤ n
     first_few = run_in_chunk_le is_special text i n _ 0 room counted
 
-    pub first_none : StandsRun text i (i + count_trailing_zeros 64 mask)
+    pub first_none : IsVerbatimBetween text i (i + count_trailing_zeros 64 mask)
     first_none k low high = run_in_chunk_fails is_special text i n _ 0 room counted k low high
 
     pub first_ended : count_trailing_zeros 64 mask < n → is_special (get_or text (i + count_trailing_zeros 64 mask) 0) ≡ true

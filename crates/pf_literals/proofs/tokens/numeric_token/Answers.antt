@@ -1,6 +1,6 @@
 use Rattle.std.proofs.Common.{sym, ◌∙◌}
 use Rattle.pf_literals.proofs.Numbers.{stops_full}
-use Rattle.pf_literals.proofs.tokens.numeric.Goals as goal
+use Rattle.pf_literals.proofs.tokens.numeric_token.Goals as goal
 
 pub returns-then-is_full : goal.returns-then-is_full
 returns-then-is_full c =

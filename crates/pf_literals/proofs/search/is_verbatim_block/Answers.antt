@@ -2,8 +2,8 @@ use Rattle.std.proofs.Common.{arith}
 use Rattle.std.proofs.lemmas.Bool.{eqb-true}
 use Rattle.std.proofs.lemmas.Simd.{length-chunk, splat_is_map, zip2_of_maps, zip2_splat}
 use lib.Lanes.{chunk}
-use Rattle.pf_literals.proofs.RunLemmas.{none_in}
-use Rattle.pf_literals.proofs.search.is_run.Goals as goal
+use Rattle.pf_literals.proofs.VerbatimLemmas.{none_in}
+use Rattle.pf_literals.proofs.search.is_verbatim_block.Goals as goal
 
 pub returns : goal.returns
 returns c e =

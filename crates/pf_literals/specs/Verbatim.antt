@@ -10,10 +10,10 @@ is_special byte =
     nat_lt byte 32 || byte == 127 || byte == 34 || byte == 92 || byte == 63
 
 -- bytes that stand for themselves in a literal, and are encoded as themselves
-abbrev pub IsRun : Bytes → Type 0
-IsRun bytes = AllByRecursion (λ byte. is_special byte ≡ false) bytes
+abbrev pub IsVerbatim : Bytes → Type 0
+IsVerbatim bytes = AllByRecursion (λ byte. is_special byte ≡ false) bytes
 
 -- such bytes stand in a text from one place up to another
-abbrev pub StandsRun : Bytes → ℕ → ℕ → Type 0
-StandsRun text from to =
+abbrev pub IsVerbatimBetween : Bytes → ℕ → ℕ → Type 0
+IsVerbatimBetween text from to =
     (k : ℕ) → from ≤ k → k < to → is_special (slice_index text k) ≡ false
