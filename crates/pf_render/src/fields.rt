@@ -10,11 +10,11 @@ use pf_values::limits::MAX_NUMBER;
 use pf_values::{Counted, Directive, Flag, ShortWrite, write_bytes};
 use std::io::Write;
 
-const MOST: usize = MAX_NUMBER as usize;
+const LONGEST: usize = MAX_NUMBER as usize;
 
-static SPACES: [u8; MOST] = [b' '; MOST];
+static SPACES: [u8; LONGEST] = [b' '; LONGEST];
 
-static ZEROS: [u8; MOST] = [b'0'; MOST];
+static ZEROS: [u8; LONGEST] = [b'0'; LONGEST];
 
 /// Writes a text of three parts in the field of the directive (C11 7.21.6.1, paragraph 4), and
 /// tells how many bytes that were.
@@ -72,7 +72,7 @@ pub(crate) fn write_text<W: Write>(
 {
     let width = usize::from(directive.width().unwrap_or(0));
     if width <= text.len() {
-        return write_run(text, writer);
+        return write_counted(text, writer);
     }
     write_filled(directive, spaces(width - text.len()), text, writer)
 }
@@ -105,11 +105,11 @@ fn write_two<W: Write>(
     requires { length (first.now ++ second.now) < 2 ^ 64 }
     ensures { WritesCounted W.contents writer.old writer.new (first.now ++ second.now) result }
 {
-    let before = match write_run(first, writer) {
+    let before = match write_counted(first, writer) {
         Ok(count) => count,
         Err(short) => return Err(short),
     };
-    match write_run(second, writer) {
+    match write_counted(second, writer) {
         Ok(count) => Ok(before + count),
         Err(short) => Err(ShortWrite {
             written: before + short.written,
@@ -119,11 +119,11 @@ fn write_two<W: Write>(
 
 /// Writes bytes, and tells how many they are.
 #[inline(always)]
-pub(crate) fn write_run<W: Write>(run: &[u8], writer: &mut Counted<W>) -> Result<usize, ShortWrite>
-    ensures { WritesCounted W.contents writer.old writer.new run.now result }
+pub(crate) fn write_counted<W: Write>(bytes: &[u8], writer: &mut Counted<W>) -> Result<usize, ShortWrite>
+    ensures { WritesCounted W.contents writer.old writer.new bytes.now result }
 {
-    match write_bytes(writer, run) {
-        Ok(()) => Ok(run.len()),
+    match write_bytes(writer, bytes) {
+        Ok(()) => Ok(bytes.len()),
         Err(short) => Err(short),
     }
 }
@@ -147,7 +147,7 @@ fn write_parts<W: Write>(parts: &[&[u8]], writer: &mut Counted<W>) -> Result<usi
 
 /// So many spaces.
 pub(crate) fn spaces<'a>(count: usize) -> &'a [u8]
-    requires { count ≤ MOST }
+    requires { count ≤ LONGEST }
     ensures { result.now ≡ replicate count space }
 {
     &SPACES[..count]
@@ -155,7 +155,7 @@ pub(crate) fn spaces<'a>(count: usize) -> &'a [u8]
 
 /// So many digits 0.
 pub(crate) fn zeros(count: usize) -> &'static [u8]
-    requires { count ≤ MOST }
+    requires { count ≤ LONGEST }
     ensures { result.now ≡ replicate count zero_digit }
 {
     &ZEROS[..count]

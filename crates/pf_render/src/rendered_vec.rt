@@ -1,6 +1,6 @@
 //! What a format prints, in memory.
 ghost use Rattle.std.specs.Prelude.{◌≡◌, MatchResult};
-ghost use Rattle.pf_render.specs.Rendering.{HindersVec, Renders, in_memory};
+ghost use Rattle.pf_render.specs.Rendering.{HindersVec, Renders, memory_fault};
 
 use crate::faults::{RenderFault, RenderVecFault};
 use crate::formats::render;
@@ -35,13 +35,13 @@ fn render_vec_in<A: Allocator>(
     let mut writer = Counted::new(Vec::new(alloc));
     match render(model, text, args, &mut writer) {
         Ok(()) => Ok(writer.into_inner()),
-        Err(fault) => Err(in_memory(fault)),
+        Err(fault) => Err(memory_fault(fault)),
     }
 }
 
 // The fault of a call that renders into memory: a vector fails only where a growth is refused.
-fn in_memory(fault: RenderFault) -> RenderVecFault
-    ensures { result ≡ in_memory fault }
+fn memory_fault(fault: RenderFault) -> RenderVecFault
+    ensures { result ≡ memory_fault fault }
 {
     match fault {
         RenderFault::Refused(refusal) => RenderVecFault::Refused(refusal),

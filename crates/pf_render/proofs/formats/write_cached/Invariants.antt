@@ -1,9 +1,9 @@
 use Rattle.std.proofs.Common.{◌*◌, ◌^◌, ◌≤◌, drop, map}
 use Rattle.pf_values.specs.Arg.{argument_of}
 use Rattle.pf_values.proofs.Alike.{all_printed}
-use Rattle.pf_render.specs.Keeping.{items_of_parts}
+use Rattle.pf_render.specs.Caching.{items_of_parts}
 use Rattle.pf_render.proofs.ProgressLemmas.{IsPrinting}
-use Rattle.pf_render.proofs.formats.write_kept.Given as goal
+use Rattle.pf_render.proofs.formats.write_cached.Given as goal
 
 -- the parts so far were written
 abbrev pub invariant-loop-part : goal.invariant-loop-part

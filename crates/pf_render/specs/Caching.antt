@@ -3,9 +3,9 @@ use Rattle.std.specs.Prelude.{◌≡◌, ◌≤◌, true, ℕ, List, [], ◌∷�
 use Rattle.pf_values.specs.Items.{Item, Byte, Directive, Reads}
 use Rattle.pf_values.specs.Specification.{Specification}
 use Rattle.pf_values.specs.Text.{Text}
-use Rattle.pf_render.specs.declared.piece_cache.TheConstants.{MOST}
-use Rattle.pf_render.specs.declared.piece_cache.Kept.{Kept}
-use Rattle.pf_render.specs.declared.piece_cache.Part.{Part}
+use Rattle.pf_render.specs.declared.piece_cache.TheConstants.{MAX_CACHED}
+use Rattle.pf_render.specs.declared.piece_cache.PieceCache.{PieceCache}
+use Rattle.pf_render.specs.declared.piece_cache.FormatPart.{FormatPart}
 
 -- the items of a part: a directive, or literal bytes
 abbrev pub directive_or_bytes : Option Specification → Text → List Item
@@ -13,22 +13,22 @@ directive_or_bytes (Some d) bytes = Directive d ∷ []
 directive_or_bytes None bytes = map Byte bytes
 
 -- the items of one part
-abbrev pub items_of_part : Part → List Item
-items_of_part part = directive_or_bytes part.directive part.run.now
+abbrev pub items_of_part : FormatPart → List Item
+items_of_part part = directive_or_bytes part.directive part.literal.now
 
 -- the items of some parts, in order
-abbrev pub items_of_parts : List Part → List Item
+abbrev pub items_of_parts : List FormatPart → List Item
 items_of_parts parts = flat_map items_of_part parts
 
 -- the most parts that are kept
-abbrev pub most_parts : ℕ
-most_parts = MOST
+abbrev pub max_cached_parts : ℕ
+max_cached_parts = MAX_CACHED
 
 -- These items have come, and the parts that are kept are theirs, unless they were too many.
-pub record Keeps (kept : Kept) (items : List Item) : Type 0 where
-  pub few : length kept.parts.items ≤ most_parts
-  pub same : kept.is_whole ≡ true → items_of_parts kept.parts.items ≡ items
+pub record CachesItems (cache : PieceCache) (items : List Item) : Type 0 where
+  pub few : length cache.parts.items ≤ max_cached_parts
+  pub same : cache.is_complete ≡ true → items_of_parts cache.parts.items ≡ items
 
 -- they are all of a text
-abbrev pub KeepsAll : Kept → Text → Type 0
-KeepsAll kept t = (items : List Item) × Reads t items × Keeps kept items
+abbrev pub CachesText : PieceCache → Text → Type 0
+CachesText cache t = (items : List Item) × Reads t items × CachesItems cache items

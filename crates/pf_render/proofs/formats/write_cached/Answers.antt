@@ -2,10 +2,10 @@ use Rattle.std.proofs.Common.{ap, arith, drop, ◌+◌}
 use Rattle.std.proofs.lemmas.List.{drop_all}
 use Rattle.std.proofs.lemmas.Result.{err_from_is_err_and}
 use Rattle.pf_values.proofs.Alike.{all_printed-is}
-use Rattle.pf_render.specs.Keeping.{items_of_parts}
+use Rattle.pf_render.specs.Caching.{items_of_parts}
 use Rattle.pf_render.proofs.FormatLemmas.{next_part}
 use Rattle.pf_render.proofs.ProgressLemmas.{all_written, arguments, next_typed, next_within, nothing_yet, wrote_on, wrote_part}
-use Rattle.pf_render.proofs.formats.write_kept.Goals as goal
+use Rattle.pf_render.proofs.formats.write_cached.Goals as goal
 
 pub loop-part-init : goal.loop-part-init
 loop-part-init g c =
