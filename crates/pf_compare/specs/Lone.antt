@@ -6,7 +6,7 @@ use Rattle.pf_values.specs.Specification.{Specification}
 use Rattle.pf_values.specs.Text.{Text}
 use Rattle.pf_text.specs.declared.pieces.Pieces.{Pieces}
 use Rattle.pf_text.specs.PieceHistory.{HasGiven}
-use Rattle.pf_compare.specs.declared.layouts.Hole.{Hole}
+use Rattle.pf_compare.specs.declared.layouts.DirectiveSpan.{DirectiveSpan}
 use Rattle.pf_compare.specs.declared.lone_difference.LoneDifference.{LoneDifference}
 
 -- the index of the argument that comes after those of some items
@@ -43,5 +43,5 @@ pub record HasFollowed (pieces : Pieces) (t : Text) (xs : List Item)
   pub at_most : DifferInOneAtMost xs items found
 
 -- a directive alone prints in a hole of an empty text
-abbrev pub alone : Specification → Hole
-alone s = record { directive = s; start = 0; end = 0 }
+abbrev pub span_alone : Specification → DirectiveSpan
+span_alone s = record { directive = s; start = 0; end = 0 }

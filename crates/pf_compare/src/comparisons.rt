@@ -9,7 +9,7 @@ ghost use Rattle.pf_compare.specs.declared.comparisons.CompareFault.TheVariants.
 use crate::layouts::lay_out;
 use crate::lone_difference::{LoneDifference, lone_difference};
 use crate::owned_args::OwnedArg;
-use crate::type_lists::first_other_type;
+use crate::type_lists::first_type_difference;
 use crate::witnesses::{Witness, first_witness, lone_witness};
 use pf_canon::{Side, same_text};
 use pf_text::Refusal;
@@ -53,7 +53,7 @@ fn compare_apart(
     if let Some(difference) = lone_difference(f, g) {
         return compare_lone(alloc, model, f, g, &difference);
     }
-    if let Some(index) = first_other_type(model, f, g) {
+    if let Some(index) = first_type_difference(model, f, g) {
         return Ok(Comparison {
             verdict: Verdict::Types(index),
             renderings: 0,
@@ -75,7 +75,7 @@ fn compare_lone(
     ensures { MatchResult result (IsComparisonOf model f.now g.now)
         (HindersComparison model f.now g.now) }
 {
-    if have_other_types(model, &difference.first, &difference.second) {
+    if have_different_types(model, &difference.first, &difference.second) {
         return Ok(Comparison {
             verdict: Verdict::Types(difference.index as u64),
             renderings: 0,
@@ -84,7 +84,7 @@ fn compare_lone(
     Ok(compare_directives(alloc, model, f, g, difference)?)
 }
 
-fn have_other_types(model: Model, first: &Directive, second: &Directive) -> bool
+fn have_different_types(model: Model, first: &Directive, second: &Directive) -> bool
     ensures { MatchBool result (arg_type model first.now ≢ arg_type model second.now)
         (arg_type model first.now ≡ arg_type model second.now) }
 {

@@ -6,42 +6,42 @@ ghost use Rattle.pf_values.specs.Conversions.{base_of, base_under, has_capitals,
 ghost use Rattle.pf_values.specs.Bases.{number_of};
 ghost use Rattle.pf_values.specs.Specification.{Specification};
 ghost use Rattle.pf_probes.specs.Candidate.{argument_of};
-ghost use Rattle.pf_compare.specs.Outlines.{Foretells, digit_below_ten, digits_under};
-ghost use Rattle.pf_compare.specs.Spaces.{AreAlikeFor, HasRoom, IsWithin, with_space};
+ghost use Rattle.pf_compare.specs.Outlines.{PredictsDifference, digit_below_ten, digits_under};
+ghost use Rattle.pf_compare.specs.Spaces.{PrintEqualIn, LeavesRoomForSpace, IsInEqualPrintRange, with_space};
 ghost use Rattle.std.specs.Int.Digits.{digits_of};
 ghost use Rattle.pf_values.specs.declared.conversions.Kind.TheVariants as kinds;
 
-use crate::outlines::{Outline, Run};
-use crate::values::{Counted, Value};
+use crate::outlines::{Outline, StringOutline};
+use crate::values::{CountedValue, Value};
 use pf_probes::Candidate;
 use pf_values::{Conv, Directive, Flag, FlagSet, Kind, Length, Model};
 
 /// Whether two directives print different bytes for a candidate; none where they have to be printed
 /// to tell. What is known of both serves for all candidates.
-pub(crate) fn foretell(
+pub(crate) fn predict(
     model: Model,
     first: &Directive,
     second: &Directive,
-    known: Option<Alike>,
+    equal_range: Option<EqualPrintRange>,
     candidate: Candidate,
 ) -> Option<bool>
-    requires { IfSome known (AreAlikeFor first.now second.now) }
-    ensures { IfSome result (Foretells model first.now second.now (argument_of candidate)) }
+    requires { IfSome equal_range (PrintEqualIn first.now second.now) }
+    ensures { IfSome result (PredictsDifference model first.now second.now (argument_of candidate)) }
 {
     match candidate {
-        Candidate::Number(number) => foretell_number(model, first, second, known, number),
-        Candidate::Repeat { byte: _, count } => foretell_repeat(first, second, count),
+        Candidate::Number(number) => predict_number(model, first, second, equal_range, number),
+        Candidate::Repeat { byte: _, count } => predict_repeat(first, second, count),
     }
 }
 
 // The same for a string of any byte, so many times.
-fn foretell_repeat(first: &Directive, second: &Directive, count: u16) -> Option<bool>
+fn predict_repeat(first: &Directive, second: &Directive, count: u16) -> Option<bool>
     ensures { IfSome result (λ told. (model : Model) (byte : ℕ)
-        → Foretells model first.now second.now (String (replicate count byte)) told) }
+        → PredictsDifference model first.now second.now (String (replicate count byte)) told) }
 {
     if is_string(first) {
         if is_string(second) {
-            return foretell_string(first, second, count);
+            return predict_string(first, second, count);
         }
     }
     None
@@ -54,46 +54,46 @@ fn is_string(directive: &Directive) -> bool
     matches!(directive.conv().kind(), Kind::String)
 }
 
-fn foretell_string(first: &Directive, second: &Directive, count: u16) -> Option<bool>
+fn predict_string(first: &Directive, second: &Directive, count: u16) -> Option<bool>
     requires first { IsTrue (is_string first.now.conv) }
     requires second { IsTrue (is_string second.now.conv) }
     ensures { IfSome result (λ told. (model : Model) (byte : ℕ)
-        → Foretells model first.now second.now (String (replicate count byte)) told) }
+        → PredictsDifference model first.now second.now (String (replicate count byte)) told) }
 {
-    let one = Run::of(first, count);
-    let two = Run::of(second, count);
+    let one = StringOutline::of(first, count);
+    let two = StringOutline::of(second, count);
     if one.len() != two.len() {
         return Some(true);
     }
-    if are_one_run(&one, &two) {
+    if are_equal_string_outlines(&one, &two) {
         return Some(false);
     }
     None
 }
 
 #[inline(always)]
-fn are_one_run(one: &Run, two: &Run) -> bool
+fn are_equal_string_outlines(one: &StringOutline, two: &StringOutline) -> bool
     ensures { IsTrue result → one.now ≡ two.now }
 {
     one == two
 }
 
-fn foretell_number(
+fn predict_number(
     model: Model,
     first: &Directive,
     second: &Directive,
-    known: Option<Alike>,
+    equal_range: Option<EqualPrintRange>,
     number: i128,
 ) -> Option<bool>
-    requires { IfSome known (AreAlikeFor first.now second.now) }
-    ensures { IfSome result (Foretells model first.now second.now (Number number)) }
+    requires { IfSome equal_range (PrintEqualIn first.now second.now) }
+    ensures { IfSome result (PredictsDifference model first.now second.now (Number number)) }
 {
     if is_integer(first) {
         if is_integer(second) {
-            if is_known(model, first, known, number) {
+            if is_in_equal_range(model, first, equal_range, number) {
                 return Some(false);
             }
-            return foretell_integer(model, first, second, number);
+            return predict_integer(model, first, second, number);
         }
     }
     None
@@ -111,20 +111,20 @@ fn is_integer(directive: &Directive) -> bool
 
 // Whether a number is one of those that a directive is known to print as another one does.
 #[inline(always)]
-fn is_known(model: Model, directive: &Directive, known: Option<Alike>, number: i128) -> bool
+fn is_in_equal_range(model: Model, directive: &Directive, equal_range: Option<EqualPrintRange>, number: i128) -> bool
     requires integer { IsFalse (is_text directive.now.conv) }
     ensures { IsTrue result → (other : Specification)
-        → IfSome known (AreAlikeFor directive.now other)
-        → Foretells model directive.now other (Number number) false }
+        → IfSome equal_range (PrintEqualIn directive.now other)
+        → PredictsDifference model directive.now other (Number number) false }
 {
-    match known {
-        Some(alike) => alike.has(Value::of(model, directive, number)),
+    match equal_range {
+        Some(range) => range.contains(Value::of(model, directive, number)),
         None => false,
     }
 }
 
 // The same of two that print integers: they print otherwise where the lengths differ.
-fn foretell_integer(
+fn predict_integer(
     model: Model,
     first: &Directive,
     second: &Directive,
@@ -132,15 +132,15 @@ fn foretell_integer(
 ) -> Option<bool>
     requires first { IsFalse (is_text first.now.conv) }
     requires second { IsFalse (is_text second.now.conv) }
-    ensures { IfSome result (Foretells model first.now second.now (Number number)) }
+    ensures { IfSome result (PredictsDifference model first.now second.now (Number number)) }
 {
-    let counted = Counted::of(model, first, number);
+    let counted = CountedValue::of(model, first, number);
     let one = Outline::of(first, counted);
-    let two = Outline::of(second, counted.or_of(model, first, second, number));
+    let two = Outline::of(second, counted.for_directive(model, first, second, number));
     if one.len() != two.len() {
         return Some(true);
     }
-    if have_one_outline(&one, &two) {
+    if are_equal_outlines(&one, &two) {
         if have_same_digits(first.conv(), second.conv(), one.size) {
             return Some(false);
         }
@@ -149,7 +149,7 @@ fn foretell_integer(
 }
 
 #[inline(always)]
-fn have_one_outline(one: &Outline, two: &Outline) -> bool
+fn are_equal_outlines(one: &Outline, two: &Outline) -> bool
     ensures { IsTrue result → one.now ≡ two.now }
 {
     one == two
@@ -192,19 +192,19 @@ const MOST_DIGITS: u16 = 19;
 
 /// Which values two directives print alike: negative ones, and those below a limit.
 #[derive(Clone, Copy)]
-pub(crate) struct Alike {
+pub(crate) struct EqualPrintRange {
     pub(crate) below: u64,
 }
 
-impl Alike {
+impl EqualPrintRange {
     /// What is known of two directives, if they print numbers with signs and differ in the flag ` `
     /// at most.
-    pub(crate) fn of(first: &Directive, second: &Directive) -> Option<Alike>
-        ensures { IfSome result (AreAlikeFor first.now second.now) }
+    pub(crate) fn of(first: &Directive, second: &Directive) -> Option<EqualPrintRange>
+        ensures { IfSome result (PrintEqualIn first.now second.now) }
     {
         if is_signed(first) && are_equal_beside_space(first, second) {
-            return Some(Alike {
-                below: limit(first),
+            return Some(EqualPrintRange {
+                below: space_limit(first),
             });
         }
         None
@@ -212,8 +212,8 @@ impl Alike {
 
     /// Whether this value is one of them.
     #[inline(always)]
-    pub(crate) fn has(self, value: Value) -> bool
-        ensures { IsTrue result → IsWithin self value }
+    pub(crate) fn contains(self, value: Value) -> bool
+        ensures { IsTrue result → IsInEqualPrintRange self value }
     {
         if value.is_negative {
             return true;
@@ -230,8 +230,8 @@ fn is_signed(directive: &Directive) -> bool
 }
 
 // A limit below which the digits of a number leave room for a space; 0 where none do.
-fn limit(directive: &Directive) -> u64
-    ensures { (n : ℕ) → n < result → HasRoom directive.now (length (digits_of 10 n)) }
+fn space_limit(directive: &Directive) -> u64
+    ensures { (n : ℕ) → n < result → LeavesRoomForSpace directive.now (length (digits_of 10 n)) }
 {
     if directive.flags().has(Flag::Minus) {
         return 0;
