@@ -38,7 +38,7 @@ pub fn compare(alloc: Global, model: Model, f: &[u8], g: &[u8]) -> Result<Compar
     compare_apart(alloc, model, f, g)
 }
 
-// The same of two formats that aren't equivalent.
+// Compares two formats that aren't equivalent.
 #[inline(never)]
 fn compare_apart(
     alloc: Global,
@@ -62,7 +62,7 @@ fn compare_apart(
     Ok(compare_bytes(alloc, model, f, g)?)
 }
 
-// The same of two formats that differ in one directive alone, and aren't equivalent.
+// Compares two formats that differ in one directive alone, and aren't equivalent.
 fn compare_lone(
     alloc: Global,
     model: Model,
@@ -91,7 +91,7 @@ fn have_different_types(model: Model, first: &Directive, second: &Directive) -> 
     first.arg_type(model) != second.arg_type(model)
 }
 
-// The same where these are of one type.
+// The same where the two directives take arguments of one type.
 fn compare_directives(
     alloc: Global,
     model: Model,
@@ -113,7 +113,7 @@ fn compare_directives(
     }
 }
 
-// The same of two formats with the same types, which differ in what they print.
+// Compares two formats with the same types, which differ in what they print.
 fn compare_bytes(alloc: Global, model: Model, f: &[u8], g: &[u8]) -> Result<Comparison, AllocError>
     requires apart { AreTextsSame model f.now g.now false }
     requires types { HaveSameTypes model f.now g.now }
@@ -130,7 +130,7 @@ fn compare_bytes(alloc: Global, model: Model, f: &[u8], g: &[u8]) -> Result<Comp
     }
 }
 
-/// What two formats are to each other.
+/// How two formats compare.
 #[derive(Debug, Drop)]
 pub enum Verdict {
     /// They are equivalent: equal argument types, and equal bytes for all arguments.

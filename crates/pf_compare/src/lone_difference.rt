@@ -11,7 +11,7 @@ use crate::probe_search::are_unlike;
 use pf_text::{Piece, Pieces};
 use pf_values::Directive;
 
-/// The directive in which two formats differ, as it stands in each, and the index of its argument.
+/// The directive in which two formats differ, as each has it, and the index of its argument.
 #[derive(Clone, Copy)]
 pub(crate) struct LoneDifference {
     pub(crate) index: usize,
@@ -46,13 +46,13 @@ pub(crate) fn lone_difference(f: &[u8], g: &[u8]) -> Option<LoneDifference>
     }
 }
 
-// Whether two texts part inside of what looks like a directive. Where they part or end in literal
-// bytes they differ in these, and needn't be read.
+// Whether the first bytes in which two texts differ are inside of what looks like a directive. Else
+// the texts differ in literal bytes, and needn't be read.
 fn diverge_in_directive(f: &[u8], g: &[u8]) -> bool {
     have_similar_ends(f.last(), g.last()) && ends_in_directive(&f[..common_prefix_len(f, g)])
 }
 
-// Whether two texts with these last bytes end in one byte, or each in what may be a conversion.
+// Whether two texts with these last bytes end in the same byte, or each in a letter.
 #[inline(always)]
 fn have_similar_ends(one: Option<&u8>, two: Option<&u8>) -> bool {
     if let Some(one) = one {
@@ -76,7 +76,7 @@ fn common_prefix_len(f: &[u8], g: &[u8]) -> usize
     most
 }
 
-// Whether nothing but parts of a directive stand after the last `%`.
+// Whether only parts of a directive come after the last `%`.
 fn ends_in_directive(text: &[u8]) -> bool {
     for back in 0..text.len() {
         match text[text.len() - 1 - back] {
@@ -89,8 +89,8 @@ fn ends_in_directive(text: &[u8]) -> bool {
     false
 }
 
-// Whether the second format goes on as the first does with a piece, but for one directive in all,
-// which is noted.
+// Whether the next piece of the second format is this piece of the first one. One directive in all
+// may differ, and is noted.
 fn next_piece_matches(
     found: &mut Option<LoneDifference>,
     index: usize,

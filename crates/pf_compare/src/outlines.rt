@@ -1,4 +1,4 @@
-//! How numbers stand in their fields, as far as that is told without making their digits.
+//! What a directive prints of a number but for its digits: spaces, sign or prefix, and zeros.
 ghost use Rattle.std.specs.Prelude.{◌≡◌, ◌+◌, ◌<◌, ◌≤◌, ◌++◌, ℤ, IsFalse, length, max, replicate, IsTrue};
 ghost use Rattle.pf_values.specs.declared.models.Model.{Model};
 ghost use Rattle.pf_values.specs.Bases.{alternative_of};
@@ -13,7 +13,7 @@ ghost use Rattle.pf_compare.specs.StringOutlines.{IsStringOutlineOf, string_outl
 use crate::values::{CountedValue, Value};
 use pf_values::{Alternative, Base, Directive, Flag, Kind};
 
-/// What stands before the digits of a number.
+/// What comes right before the zeros and digits of a number.
 #[derive(Clone, Copy, PartialEq, Eq)]
 pub(crate) enum SignOrPrefix {
     Nothing,
@@ -23,8 +23,8 @@ pub(crate) enum SignOrPrefix {
     Letters(Base, bool),
 }
 
-/// A number in its field: so many spaces, what stands before its digits, so many digits with the
-/// zeros before them, and spaces again. A space that stands for a sign is counted among the spaces.
+/// A number in its field: spaces, a sign or prefix, so many digits with the zeros before them, and
+/// spaces again. A space in the place of a sign is counted among the spaces.
 #[derive(Clone, Copy, PartialEq, Eq)]
 pub(crate) struct Outline {
     pub(crate) spaces_before: u16,
@@ -93,7 +93,7 @@ impl SignOrPrefix {
 }
 
 impl Outline {
-    /// How a directive prints a number that has this value.
+    /// The outline of what a directive prints for a number that has this value.
     #[inline(always)]
     pub(crate) fn of(directive: &Directive, counted: CountedValue) -> Outline
         requires integer { IsFalse (is_text directive.now.conv) }
@@ -106,7 +106,7 @@ impl Outline {
         Outline::in_field(directive, prefix, digits, counted.value.size)
     }
 
-    // So many digits in the field of a directive.
+    // The outline of so many digits in the field of a directive.
     #[inline(always)]
     fn in_field(directive: &Directive, prefix: SignOrPrefix, digits: u16, size: u64) -> Outline
         requires { digits ≤ 5000 }
@@ -121,7 +121,7 @@ impl Outline {
         Outline::between(padding, prefix, digits, size, 0)
     }
 
-    // So many spaces before them, and after them.
+    // The same between so many spaces.
     #[inline(always)]
     fn between(before: u16, prefix: SignOrPrefix, digits: u16, size: u64, spaces_after: u16) -> Outline
         requires { before + length (sign_or_prefix_text prefix) < 65536 }
@@ -159,7 +159,7 @@ impl Outline {
     }
 }
 
-// How many digits are printed of a number with so many, beside a front of so many bytes.
+// How many digits are printed of a number with so many, behind a sign or prefix of so many bytes.
 #[inline(always)]
 fn digits_after(directive: &Directive, prefix: u16, count: u16) -> u16
     requires { count ≤ 64 }
@@ -172,7 +172,7 @@ fn digits_after(directive: &Directive, prefix: u16, count: u16) -> u16
         .max(fewest_digits(directive, count))
 }
 
-// The fewest digits of a number with so many: `#` may put a zero before them.
+// The fewest digits that are printed of a number with so many: `#` may put a zero before them.
 #[inline(always)]
 fn fewest_digits(directive: &Directive, count: u16) -> u16
     requires { count ≤ 64 }
@@ -188,7 +188,7 @@ fn fewest_digits(directive: &Directive, count: u16) -> u16
     }
 }
 
-/// A string of one byte in its field: so many spaces, the byte so many times, and spaces again.
+/// A string that is one byte repeated, in its field: spaces, the byte so many times, and spaces again.
 #[derive(Clone, Copy, PartialEq, Eq)]
 pub(crate) struct StringOutline {
     pub(crate) spaces_before: u16,
@@ -197,7 +197,7 @@ pub(crate) struct StringOutline {
 }
 
 impl StringOutline {
-    /// How a directive prints a string of one byte, so many times.
+    /// The outline of what a directive prints for one byte, so many times.
     pub(crate) fn of(directive: &Directive, count: u16) -> StringOutline
         requires { IsTrue (is_string directive.now.conv) }
         ensures { IsStringOutlineOf directive.now count result }

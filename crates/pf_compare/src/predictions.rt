@@ -1,4 +1,5 @@
-//! Whether two directives print otherwise for a candidate, where that is seen without printing.
+//! Whether two directives print different bytes for a candidate, where that is known without
+//! printing them.
 ghost use Rattle.std.specs.Prelude.{◌≡◌, ℕ, false, IfSome, IsFalse, IsTrue, replicate, ◌<◌, length};
 ghost use Rattle.pf_values.specs.declared.models.Model.{Model};
 ghost use Rattle.pf_values.specs.Arguments.{Number, String};
@@ -16,8 +17,8 @@ use crate::values::{CountedValue, Value};
 use pf_probes::Candidate;
 use pf_values::{Conv, Directive, Flag, FlagSet, Kind, Length, Model};
 
-/// Whether two directives print different bytes for a candidate; none where they have to be printed
-/// to tell. What is known of both serves for all candidates.
+/// Whether two directives print different bytes for a candidate; `None` where only printing them
+/// decides. The range of equal texts is the same for all candidates.
 pub(crate) fn predict(
     model: Model,
     first: &Directive,
@@ -34,7 +35,7 @@ pub(crate) fn predict(
     }
 }
 
-// The same for a string of any byte, so many times.
+// The same for a string that is one byte, so many times.
 fn predict_repeat(first: &Directive, second: &Directive, count: u16) -> Option<bool>
     ensures { IfSome result (λ told. (model : Model) (byte : ℕ)
         → PredictsDifference model first.now second.now (String (replicate count byte)) told) }
@@ -109,7 +110,7 @@ fn is_integer(directive: &Directive) -> bool
     }
 }
 
-// Whether a number is one of those that a directive is known to print as another one does.
+// Whether a number is in the range in which a directive is known to print what another one does.
 #[inline(always)]
 fn is_in_equal_range(model: Model, directive: &Directive, equal_range: Option<EqualPrintRange>, number: i128) -> bool
     requires integer { IsFalse (is_text directive.now.conv) }
@@ -123,7 +124,7 @@ fn is_in_equal_range(model: Model, directive: &Directive, equal_range: Option<Eq
     }
 }
 
-// The same of two that print integers: they print otherwise where the lengths differ.
+// The same of two directives that print integers: the bytes differ where the lengths do.
 fn predict_integer(
     model: Model,
     first: &Directive,
@@ -155,7 +156,8 @@ fn are_equal_outlines(one: &Outline, two: &Outline) -> bool
     one == two
 }
 
-// Whether a number has the same digits: it does in one base, and as one digit below ten.
+// Whether a number has the same digits under two conversions: it does in one base, and where it is
+// one digit below ten.
 #[inline(always)]
 fn have_same_digits(first: Conv, second: Conv, number: u64) -> bool
     ensures { IsTrue result → digits_under (base_of first) (is_upper first) number
@@ -187,18 +189,17 @@ fn is_one_digit(kind: Kind, number: u64) -> bool
     number < 10 && number < kind.base().number()
 }
 
-// 10 to the power of this is below 2 to the power of 64.
+// The greatest power of 10 below 2^64 has this exponent.
 const MOST_DIGITS: u16 = 19;
 
-/// Which values two directives print alike: negative ones, and those below a limit.
+/// The values for which two directives print the same: negative ones, and those below a limit.
 #[derive(Clone, Copy)]
 pub(crate) struct EqualPrintRange {
     pub(crate) below: u64,
 }
 
 impl EqualPrintRange {
-    /// What is known of two directives, if they print numbers with signs and differ in the flag ` `
-    /// at most.
+    /// The range for two directives that print signed numbers and differ in the flag ` ` at most.
     pub(crate) fn of(first: &Directive, second: &Directive) -> Option<EqualPrintRange>
         ensures { IfSome result (PrintEqualIn first.now second.now) }
     {
@@ -210,7 +211,7 @@ impl EqualPrintRange {
         None
     }
 
-    /// Whether this value is one of them.
+    /// Whether this value is in the range.
     #[inline(always)]
     pub(crate) fn contains(self, value: Value) -> bool
         ensures { IsTrue result → IsInEqualPrintRange self value }
@@ -229,7 +230,8 @@ fn is_signed(directive: &Directive) -> bool
     matches!(directive.conv().kind(), Kind::Signed)
 }
 
-// A limit below which the digits of a number leave room for a space; 0 where none do.
+// A limit: numbers below it have so few digits that a space fits before them. It is 0 where no
+// number does.
 fn space_limit(directive: &Directive) -> u64
     ensures { (n : ℕ) → n < result → LeavesRoomForSpace directive.now (length (digits_of 10 n)) }
 {
@@ -257,7 +259,7 @@ pub(crate) fn are_equal(first: &Directive, second: &Directive) -> bool
         && same_conv(first.conv(), second.conv())
 }
 
-/// The same but for the flag ` `.
+/// Whether two directives have the same parts but for the flag ` `.
 pub(crate) fn are_equal_beside_space(first: &Directive, second: &Directive) -> bool
     ensures { IsTrue result → with_space first.now ≡ with_space second.now }
 {

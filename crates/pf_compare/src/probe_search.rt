@@ -1,5 +1,5 @@
-//! The first argument that tells two formats apart, where they print the same for neutral ones, and
-//! the first that tells two directives apart.
+//! The first candidate for which two formats print different bytes, where they print the same for
+//! neutral arguments; and the first for which two directives do.
 ghost use Rattle.std.specs.Prelude.{◌≡◌, ◌≢◌, ◌≤◌, ◌+◌, ◌-◌, [], ◌++◌, IfOk, IfSome, IsTrue, List, MatchBool, drop, length, take};
 ghost use Rattle.pf_values.specs.Arg.{argument_of};
 ghost use Rattle.pf_values.specs.Arguments.{HasType};
@@ -29,7 +29,7 @@ pub(crate) struct Probe {
 }
 
 /// The first probe for which two formats print different bytes. They print the same for neutral
-/// arguments, so what they print for a probe differs from that in one hole alone.
+/// arguments, so what each prints for a probe differs from that in one span alone.
 pub(crate) fn first_probe(
     alloc: Global,
     model: Model,
@@ -58,8 +58,8 @@ pub(crate) fn first_probe(
     Ok(None)
 }
 
-// The place of the first candidate that tells two directives apart in their holes. One directive in
-// one hole prints one text for every argument.
+// The place of the first candidate for which the bytes of two directives, put into their spans, make
+// different texts. One directive in one span makes one text for every argument.
 fn first_candidate(
     alloc: Global,
     model: Model,
@@ -89,8 +89,8 @@ fn first_candidate(
     )
 }
 
-/// The place of the first candidate for which two directives print different bytes: alone, they print
-/// in one hole of an empty text.
+/// The place of the first candidate for which two directives print different bytes: alone, each is
+/// put into one span of an empty text.
 pub(crate) fn first_candidate_alone(
     alloc: Global,
     model: Model,
@@ -135,8 +135,8 @@ fn have_same_place(first: &DirectiveSpan, second: &DirectiveSpan) -> bool
     first.start == second.start && first.end == second.end
 }
 
-// The place of the first candidate of their type that does, from a place before which none does. The
-// neutral one is the first.
+// The place of the first candidate of their type that makes different texts, from a place on before
+// which none does. The neutral one is the first.
 fn first_candidate_from(
     alloc: Global,
     model: Model,
@@ -167,7 +167,7 @@ fn first_candidate_from(
     Ok(None)
 }
 
-// Whether a candidate tells two directives apart in their holes.
+// Whether the bytes of two directives for a candidate, put into their spans, make different texts.
 fn candidate_differs(
     alloc: Global,
     model: Model,
@@ -198,8 +198,8 @@ fn candidate_differs(
     printed_differ(alloc, model, whole, first, second, argument.as_arg())
 }
 
-// Whether what two directives print for an argument tells them apart in their holes. In one place
-// only that is compared, and nothing where both print what they print for a neutral argument.
+// The same for an argument, by printing. In one place only the printed bytes are compared, and
+// nothing where both directives print what they print for a neutral argument.
 fn printed_differ(
     alloc: Global,
     model: Model,
@@ -231,7 +231,7 @@ fn printed_differ(
     replaced_differ(alloc, whole, first, second, &x, &y)
 }
 
-// Whether this stands in a hole.
+// Whether a span holds these bytes.
 fn is_unchanged(whole: &[u8], span: &DirectiveSpan, printed: &[u8]) -> bool
     requires { IsSpanIn whole.now span.now }
     ensures { IsTrue result → replace_span whole.now span.now printed.now ≡ whole.now }
@@ -239,8 +239,8 @@ fn is_unchanged(whole: &[u8], span: &DirectiveSpan, printed: &[u8]) -> bool
     !are_unlike(&whole[span.start..span.end], printed)
 }
 
-// Whether a text with one hole filled differs from it with another one filled, by the part that the
-// two holes lie in.
+// Whether a text with one span replaced differs from it with another one replaced, by the part that
+// the two spans lie in.
 fn replaced_differ(
     alloc: Global,
     whole: &[u8],
@@ -269,7 +269,7 @@ pub(crate) fn are_unlike(x: &[u8], y: &[u8]) -> bool
     x != y
 }
 
-// A part of a text that begins at `from`, with this in its hole.
+// A part of a text that begins at `from`, with these bytes in the place of its span.
 fn replace_span(
     alloc: Global,
     part: &[u8],

@@ -34,8 +34,8 @@ impl CountedValue {
         CountedValue { value, count }
     }
 
-    /// The same under another directive: where both have one conversion and one length modifier,
-    /// they make one value of a number.
+    /// The value under another directive: this one, where both directives have one conversion and
+    /// one length modifier.
     #[inline(always)]
     pub(crate) fn for_directive(
         self,

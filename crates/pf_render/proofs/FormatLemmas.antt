@@ -48,7 +48,7 @@ module _ (model : Model) (t : Text) (args : List Arg) (h : TakesArguments model 
       (typed_items h.takes.items h.takes.accepted.reads) in
       (out.0, renders_items h.takes.items h.takes.accepted.reads out.0 out.1)
 
-  -- all its parts are kept
+  -- all its parts are cached
   module _ (cache : PieceCache) (k : CachesText cache t) (whole : cache.is_complete ≡ true) where
     pub typed_parts : HasTypes model (arguments args) (types model (items_of_parts cache.parts.items))
     typed_parts = subst (λ i. HasTypes model (arguments args) (types model i)) (sym (k.2.same whole)) (typed_items k.0 k.1)

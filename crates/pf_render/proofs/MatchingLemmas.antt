@@ -1,4 +1,4 @@
--- How a tally goes on, and what it says at the end.
+-- The argument check after one more type, and what follows at the end.
 use Rattle.std.proofs.Common.{◌≡◌, ℕ, zero, suc, ◌+◌, ◌<◌, ◌≤◌, List, [], ◌∷◌, ◌++◌, length, map, take, refl, sym, ap, ◌∙◌, subst, arith, inl, inr, Ok, Err, None, Result, Some}
 use Rattle.std.specs.Prelude.{OnOk, slice_get}
 use Rattle.std.specs.List.{AllZip}
@@ -153,7 +153,7 @@ length_types model [] = omega arith
 length_types model (Byte byte ∷ items) = omega (arith, length_types model items)
 length_types model (Directive s ∷ items) = omega (arith, length_types model items)
 
--- The pieces so far were given, the arguments are held to the types that they take, and their parts are kept.
+-- The pieces so far were given, the arguments are checked against the types that they take, and their parts are cached.
 pub record IsChecked (model : Model) (pieces : Pieces) (t : Text) (args : List Arg) (check : ArgumentCheck) (cache : PieceCache) : Type 0 where
   pub types : List ArgType
   pub found : HasFound model pieces t types

@@ -1,4 +1,4 @@
--- The parts of a format that are kept. This project's own.
+-- The parts of a format that are cached. This project's own.
 use Rattle.std.specs.Prelude.{◌≡◌, ◌≤◌, true, ℕ, List, [], ◌∷◌, flat_map, length, map, Option, Some, None}
 use Rattle.pf_values.specs.Items.{Item, Byte, Directive, Reads}
 use Rattle.pf_values.specs.Specification.{Specification}
@@ -20,15 +20,15 @@ items_of_part part = directive_or_bytes part.directive part.literal.now
 abbrev pub items_of_parts : List FormatPart → List Item
 items_of_parts parts = flat_map items_of_part parts
 
--- the most parts that are kept
+-- the most parts that are cached
 abbrev pub max_cached_parts : ℕ
 max_cached_parts = MAX_CACHED
 
--- These items have come, and the parts that are kept are theirs, unless they were too many.
+-- These items were read, and the cached parts are all of theirs, unless they were too many.
 pub record CachesItems (cache : PieceCache) (items : List Item) : Type 0 where
   pub few : length cache.parts.items ≤ max_cached_parts
   pub same : cache.is_complete ≡ true → items_of_parts cache.parts.items ≡ items
 
--- they are all of a text
+-- the items are those of a whole text
 abbrev pub CachesText : PieceCache → Text → Type 0
 CachesText cache t = (items : List Item) × Reads t items × CachesItems cache items

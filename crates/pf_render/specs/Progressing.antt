@@ -31,7 +31,7 @@ module _ {W : Type 0} (contents : W → Known) (old new : Counted W) (before aft
     pub written : after.written ≡ before.written + length out
     pub taken : after.taken ≡ before.taken + count
 
-  -- only the first bytes of it, of which the fault tells how many there are with those before
+  -- only its first bytes went out, and the fault has their number, with those before
   pub record WritesPart (out : Text) (fault : WriteFault) : Type 0 where
     pub count : ℕ
     pub wrote : WritesFirst contents old new out count

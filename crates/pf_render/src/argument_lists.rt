@@ -14,8 +14,7 @@ use crate::piece_cache::PieceCache;
 use pf_text::{Piece, Pieces};
 use pf_values::{Arg, ArgType, Model};
 
-/// Whether the text is a format that takes these arguments. Its pieces are kept, if they aren't too
-/// many.
+/// Whether the text is a format that takes these arguments. Its first pieces are cached.
 #[inline(never)]
 pub(crate) fn check_arguments<'a>(
     model: Model,
@@ -37,7 +36,7 @@ pub(crate) fn check_arguments<'a>(
             Ok(piece) => piece,
             Err(refusal) => return Err(RenderFault::Refused(refusal)),
         };
-        // It is kept in each arm, where it is known which part it makes.
+        // The piece is cached in each arm, since there the prover knows which part it makes.
         match piece {
             Piece::Directive(directive) => {
                 cache.push(&piece);
@@ -49,8 +48,8 @@ pub(crate) fn check_arguments<'a>(
     check.conclude(args.len())
 }
 
-// How many arguments the directives so far take, and how many of those that are given have their
-// types, before the first one that has not.
+// How many arguments the directives so far take (`wanted`), and how many of the given arguments
+// have the wanted types, up to the first one that has another (`matched`).
 #[derive(Clone, Copy)]
 struct ArgumentCheck {
     wanted: usize,
@@ -58,7 +57,7 @@ struct ArgumentCheck {
 }
 
 impl ArgumentCheck {
-    // The tally with one more directive, which takes an argument of this type.
+    // The check after one more directive, which takes an argument of this type.
     fn with_next(self, model: Model, wanted: ArgType, args: &[Arg<'_>]) -> ArgumentCheck
         requires few { self.wanted ≤ MAX_TEXT_LEN }
         ensures { (types : List ArgType) → HasChecked model self args.now types
@@ -87,7 +86,7 @@ impl ArgumentCheck {
         self.matched == self.wanted && is_of_type_at(model, args, self.matched, wanted)
     }
 
-    // What is wrong with so many arguments.
+    // Whether so many arguments are as many as the directives take, each of its type.
     fn conclude(self, given: usize) -> Result<(), RenderFault>
         ensures { (model : Model) (t : Text) (args : List Arg) (types : List ArgType)
             → given ≡ length args

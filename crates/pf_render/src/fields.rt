@@ -10,6 +10,7 @@ use pf_values::limits::MAX_NUMBER;
 use pf_values::{Counted, Directive, Flag, ShortWrite, write_bytes};
 use std::io::Write;
 
+// The longest run that a width or a precision asks for.
 const LONGEST: usize = MAX_NUMBER as usize;
 
 static SPACES: [u8; LONGEST] = [b' '; LONGEST];
@@ -17,7 +18,7 @@ static SPACES: [u8; LONGEST] = [b' '; LONGEST];
 static ZEROS: [u8; LONGEST] = [b'0'; LONGEST];
 
 /// Writes a text of three parts in the field of the directive (C11 7.21.6.1, paragraph 4), and
-/// tells how many bytes that were.
+/// returns how many bytes that were.
 #[inline(always)]
 pub(crate) fn write_field<'a, W: Write>(
     directive: &Directive,
@@ -37,7 +38,7 @@ pub(crate) fn write_field<'a, W: Write>(
     write_three(directive, first, second, third, writer)
 }
 
-// The same, however many bytes each part has.
+// Does the same, however many bytes each part has.
 #[inline(never)]
 fn write_three<'a, W: Write>(
     directive: &Directive,
@@ -60,7 +61,7 @@ fn write_three<'a, W: Write>(
     }
 }
 
-/// Writes a text of one part in the field of the directive, and tells how many bytes that were.
+/// Writes a text of one part in the field of the directive, and returns how many bytes that were.
 #[inline(always)]
 pub(crate) fn write_text<W: Write>(
     directive: &Directive,
@@ -77,7 +78,7 @@ pub(crate) fn write_text<W: Write>(
     write_filled(directive, spaces(width - text.len()), text, writer)
 }
 
-// Writes a text in the field of the directive, which fills it up with these spaces.
+// Writes a text and these spaces, which fill up the field of the directive.
 #[inline(never)]
 fn write_filled<W: Write>(
     directive: &Directive,
@@ -117,7 +118,7 @@ fn write_two<W: Write>(
     }
 }
 
-/// Writes bytes, and tells how many they are.
+/// Writes bytes, and returns how many they are.
 #[inline(always)]
 pub(crate) fn write_counted<W: Write>(bytes: &[u8], writer: &mut Counted<W>) -> Result<usize, ShortWrite>
     ensures { WritesCounted W.contents writer.old writer.new bytes.now result }
@@ -145,7 +146,7 @@ fn write_parts<W: Write>(parts: &[&[u8]], writer: &mut Counted<W>) -> Result<usi
     Ok(written)
 }
 
-/// So many spaces.
+/// A run of so many spaces.
 pub(crate) fn spaces<'a>(count: usize) -> &'a [u8]
     requires { count ≤ LONGEST }
     ensures { result.now ≡ replicate count space }
@@ -153,7 +154,7 @@ pub(crate) fn spaces<'a>(count: usize) -> &'a [u8]
     &SPACES[..count]
 }
 
-/// So many digits 0.
+/// A run of so many digits 0.
 pub(crate) fn zeros(count: usize) -> &'static [u8]
     requires { count ≤ LONGEST }
     ensures { result.now ≡ replicate count zero_digit }

@@ -57,7 +57,7 @@ fn write_checked<W: Write>(
     }
 }
 
-// Writes what the parts that are kept print.
+// Writes what cached parts print.
 #[inline(never)]
 fn write_cached<W: Write>(
     model: Model,
@@ -79,7 +79,7 @@ fn write_cached<W: Write>(
     Ok(())
 }
 
-// Writes the same of a format with more pieces than are kept, and reads it again for that.
+// Writes the same of a format with more pieces than the cache holds: it is read once more.
 #[inline(never)]
 fn write_pieces<W: Write>(
     model: Model,

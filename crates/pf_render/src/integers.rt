@@ -76,7 +76,7 @@ fn prefix(directive: &Directive, value: &Value, base: Base, capitals: bool) -> &
     }
 }
 
-// How many zeros stand before so many digits.
+// How many zeros come before so many digits.
 fn zero_count(directive: &Directive, sign_len: usize, count: usize) -> usize
     requires sign { sign_len ≤ 2 }
     requires digits { count ≤ MAX_DIGITS }

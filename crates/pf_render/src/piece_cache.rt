@@ -1,4 +1,4 @@
-//! The pieces of a format, kept from when it is checked to when it is written.
+//! The first pieces of a format, which are cached while it is checked and then written.
 ghost use Rattle.std.specs.Prelude.{◌≡◌, ◌++◌, [], List, length};
 ghost use Rattle.pf_values.specs.declared.models.Model.{Model};
 ghost use Rattle.pf_values.specs.Items.{Item, types};
@@ -9,21 +9,21 @@ use arrayvec::ArrayVec;
 use pf_text::Piece;
 use pf_values::Directive;
 
-/// Four directives, and a run of literal bytes before and after each: few formats have more, and
-/// room for more is dear, since all of it is made for each format.
+/// Four directives, with literal bytes before and after each. Few formats have more, and room for
+/// more costs time for each format, since all of it is initialised.
 const MAX_CACHED: usize = 9;
 
-/// What a piece prints: what its directive does, or else bytes.
+/// A part of a format, as it is printed: a directive, or else literal bytes.
 #[derive(Clone, Copy, Default)]
 pub(crate) struct FormatPart<'a> {
-    /// The directive, if it is one.
+    /// The directive, if the part is one.
     pub(crate) directive: Option<Directive>,
-    /// The bytes that are printed where it is none.
+    /// The bytes that are printed where the part is no directive.
     pub(crate) literal: &'a [u8],
 }
 
 impl<'a> FormatPart<'a> {
-    /// The part of a piece.
+    /// The part that a piece is.
     #[inline(always)]
     pub(crate) fn of(piece: &Piece<'a>) -> FormatPart<'a>
         ensures { items_of_part result ≡ items_of piece.now }
@@ -44,7 +44,7 @@ impl<'a> FormatPart<'a> {
         }
     }
 
-    /// How many arguments it takes.
+    /// How many arguments the part takes.
     pub(crate) fn argument_count(&self) -> usize
         ensures { (model : Model) → result ≡ length (types model (items_of_part self.now)) }
     {
@@ -55,17 +55,17 @@ impl<'a> FormatPart<'a> {
     }
 }
 
-/// The parts of a format so far, the first ones of which are kept.
+/// The parts of a format that were read so far, of which the first ones are cached.
 #[derive(Drop)]
 pub(crate) struct PieceCache<'a> {
-    /// Those that are kept.
+    /// The parts that are cached.
     pub(crate) parts: ArrayVec<FormatPart<'a>, MAX_CACHED>,
-    /// Whether those are all.
+    /// Whether all parts that were read are cached.
     pub(crate) is_complete: bool,
 }
 
 impl<'a> PieceCache<'a> {
-    /// No part.
+    /// A cache of no part.
     pub(crate) fn new() -> PieceCache<'a>
         ensures { CachesItems result [] }
     {
@@ -75,7 +75,7 @@ impl<'a> PieceCache<'a> {
         }
     }
 
-    /// Keeps the part of one more piece, if there is room.
+    /// Caches the part of one more piece, if there is room.
     #[inline(always)]
     pub(crate) fn push(&mut self, piece: &Piece<'a>)
         ensures { (items : List Item) → CachesItems self.old items

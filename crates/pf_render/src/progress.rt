@@ -68,7 +68,7 @@ impl Progress {
     }
 }
 
-// Writes what a part prints for its own arguments, and tells how many bytes that were.
+// Writes what a part prints for its own arguments, and returns how many bytes that were.
 #[inline(always)]
 fn write_part<W: Write>(
     model: Model,

@@ -1,4 +1,4 @@
-//! What a format prints, in memory.
+//! What a format prints, as a vector of bytes.
 ghost use Rattle.std.specs.Prelude.{◌≡◌, MatchResult};
 ghost use Rattle.pf_render.specs.Rendering.{HindersVec, Renders, memory_fault};
 
