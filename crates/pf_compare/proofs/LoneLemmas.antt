@@ -98,7 +98,7 @@ module _ (model : Model) (s t : Specification) (after : List Item) where
   one_printed (Directive u ∷ before) [] n at e = absurd (cc)
   one_printed (Directive u ∷ before) (a ∷ args) n at e = one_printed before args n at (append_cancel_left (printed_text model u a) _ _ e)
 
-  -- in the hole of an empty text
+  -- in the span of an empty text
   module _ (same_type : arg_type model s ≡ arg_type model t) (a : Argument) (typed : HasType model a (arg_type model s)) where
     first_text : (p : Text) → Prints model s a p → p ≡ printed_text model s a
     first_text p f = Prints-unique model s a p typed f

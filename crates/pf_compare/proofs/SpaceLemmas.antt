@@ -90,7 +90,7 @@ room_alike s n e h =
           ap (field s) bare ∙ in_room (has s.flags Minus) (width_of s) digits h.right (omega (arith, room, long)) ∙ ap (field s) (sym spaced)
     ]
 
--- the values that are printed alike beside the flag, and without it
+-- the values that are printed the same with the flag and without it
 spaced_alike : (s : Specification) (v : ℤ) → kind_of s.conv ≡ kinds.Signed → (IsTrue (is_negative v) ⊎ LeavesRoomForSpace s (count_of 10 (nat_abs v))) → field s (value_text s v) ≡ field (with_space s) (value_text (with_space s) v)
 spaced_alike s (negsuc n) e h = ap (field s) (same_sign s (negsuc n) (minus_sign (kind_of s.conv) s n))
 spaced_alike s (pos n) e (inl h) = absurd cc

@@ -99,7 +99,7 @@ get_after : (xs ys : List ArgType) → slice_get (xs ++ ys) (length xs) ≡ slic
 get_after [] ys = refl
 get_after (x ∷ xs) ys = get_after xs ys
 
--- two lists begin alike, and then differ
+-- two lists begin with the same types, and then differ
 pub differ_after_front : (done xs ys us vs : List ArgType) (index : ℕ) → xs ≡ done ++ us → ys ≡ done ++ vs → index ≡ length done → slice_get us 0 ≢ slice_get vs 0 → DifferFirstAt xs ys index
 differ_after_front done xs ys us vs index e f at h =
     let here : DifferFirstAt (done ++ us) (done ++ vs) (length done)
@@ -157,7 +157,7 @@ same_types_of model f g a b same =
       second = record { items = b.0; accepted = b.1; types_are = same a.0 b.0 a.1.reads b.1.reads };
     }
 
--- The types of holes are those of the items.
+-- The types of spans are those of the items.
 pub length-hole_types : (model : Model) (spans : List DirectiveSpan) → length (span_types model spans) ≡ length spans
 length-hole_types model spans = length-map spans (λ span. arg_type model span.directive)
 

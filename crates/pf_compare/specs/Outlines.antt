@@ -1,4 +1,4 @@
--- What a directive prints of a number, told without its digits. This project's own.
+-- What a directive prints of a number but for its digits. This project's own.
 use Rattle.std.specs.Prelude.{◌≡◌, ◌≢◌, ℕ, zero, suc, ◌+◌, ◌-◌, ◌≤◌, ℤ, Bool, [], ◌∷◌, ◌++◌, length, map, replicate, nat_abs, codes, MatchBool}
 use Rattle.std.specs.Fmt.{digit_glyph}
 use Rattle.std.specs.Int.Digits.{digits_of}
@@ -35,7 +35,7 @@ pub record IsCountedValueOf (model : Model) (s : Specification) (number : ℤ)
   pub count : counted.count ≡ length (digits_of (base_of s.conv) counted.value.size)
   pub few : counted.count ≤ 64
 
--- what stands before the digits
+-- a sign or a prefix, as it is printed
 abbrev pub sign_or_prefix_text : SignOrPrefix → Text
 sign_or_prefix_text prefixes.Nothing = []
 sign_or_prefix_text prefixes.Minus = codes "-"
@@ -55,20 +55,20 @@ abbrev pub digit_below_ten : ℕ → Text
 digit_below_ten zero = []
 digit_below_ten (suc n) = (48 + suc n) ∷ []
 
--- digits after zeros, as many as are wanted, and a front before both
+-- a sign or prefix, zeros, and digits, which are so many with the zeros
 abbrev pub with_prefix_and_zeros : Text → ℕ → Text → Text
 with_prefix_and_zeros prefix digits t = prefix ++ (replicate (digits - length t) zero_digit ++ t)
 
--- the same in its field
+-- the text of an outline with these digits
 abbrev pub outline_text : Outline → Text → Text
 outline_text o t =
     (replicate o.spaces_before space ++ with_prefix_and_zeros (sign_or_prefix_text o.prefix) o.digits t) ++ replicate o.spaces_after space
 
--- how many bytes that are
+-- how many bytes that text has
 abbrev pub outline_len : Outline → ℕ
 outline_len o = o.spaces_before + length (sign_or_prefix_text o.prefix) + o.digits + o.spaces_after
 
--- what is drawn of digits that are not too many
+-- the text of an outline, for digits that are not too many
 pub record HasOutlineText (o : Outline) (digits size : ℕ) (text : Text → Text) : Type 0 where
   pub digits_are : o.digits ≡ digits
   pub size_is : o.size ≡ size
@@ -79,7 +79,7 @@ pub record IsOutlineOf (model : Model) (s : Specification) (number : ℤ) (o : O
   pub enough : length (directive_digits s o.size) ≤ o.digits
   pub prints : (out : Text) → Prints model s (Number number) out → out ≡ outline_text o (directive_digits s o.size)
 
--- whether two directives print otherwise for an argument
+-- whether two directives print different bytes for an argument
 abbrev pub PredictsDifference : Model → Specification → Specification → Argument → Bool → Type 0
 PredictsDifference model s t argument told = (p q : Text) → Prints model s argument p
     → Prints model t argument q → MatchBool told (p ≢ q) (p ≡ q)

@@ -13,7 +13,7 @@ use Rattle.pf_compare.specs.declared.predictions.EqualPrintRange.{EqualPrintRang
 use Rattle.pf_compare.specs.declared.values.Value.{Value}
 use Rattle.pf_compare.specs.Outlines.{PredictsDifference, IsOfValue}
 
--- the same with the flag ` `
+-- a specification with the flag ` ` added
 abbrev pub with_space : Specification → Specification
 with_space s = record s { flags = with_flag s.flags Space }
 
@@ -23,11 +23,11 @@ pub record LeavesRoomForSpace (s : Specification) (digits : ℕ) : Type 0 where
   pub not_filled : is_zero_filled s ≡ false
   pub room : max (precision_of s) digits + 1 ≤ width_of s
 
--- a negative value, or one below a limit
+-- a value in the range: a negative one, or one below the limit
 abbrev pub IsInEqualPrintRange : EqualPrintRange → Value → Type 0
 IsInEqualPrintRange range value = IsTrue value.is_negative ⊎ (value.size < range.below)
 
--- two directives print such values alike
+-- two directives print the same for such values
 abbrev pub PrintEqualIn : Specification → Specification → EqualPrintRange → Type 0
 PrintEqualIn s t range = (model : Model) (number : ℤ) (value : Value)
     → IsOfValue (is_signed s.conv) (bit_count (bits_under model s.length)) number value

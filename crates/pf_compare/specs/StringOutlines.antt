@@ -7,7 +7,7 @@ use Rattle.pf_values.specs.Specification.{Specification}
 use Rattle.pf_values.specs.Text.{Text, space}
 use Rattle.pf_compare.specs.declared.outlines.StringOutline.{StringOutline}
 
--- the byte between spaces
+-- the byte so many times, between spaces
 abbrev pub string_outline_text : StringOutline → ℕ → Text
 string_outline_text outline byte =
     (replicate outline.spaces_before space ++ replicate outline.count byte) ++ replicate outline.spaces_after space

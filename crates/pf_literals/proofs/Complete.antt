@@ -114,7 +114,7 @@ read_from-behind elements white rest at h clear =
     ∙ ap (λ n. read_from (Behind (at + length text)) 0 n rest) long
     )
 
--- where a text goes on behind some literals
+-- where the text after some literals begins
 abbrev pub place_behind : Place → ℕ → List StringLiteral → Place
 place_behind place at [] = place
 place_behind place at (l ∷ literals) = place_behind (Behind (at + 1 + length (flat_map written l.elements))) (at + length (literal_text l)) literals

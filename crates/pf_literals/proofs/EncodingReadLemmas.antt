@@ -40,7 +40,7 @@ octal_each byte h =
       is : (d : ℕ) → d < 8 → is_escape_digit Octal (d + 48) ≡ true
       is d h = grind (arith, nat_tests)
 
--- an element stands for its byte
+-- an element denotes its byte
 record IsFor (element : Element) (byte : ℕ) : Type 0 where
   element_is : IsElement element
   value_is : value element ≡ byte

@@ -1,4 +1,4 @@
--- A fault stays, however the text goes on; and at the end of the text it may go on to be a source.
+-- A fault stays, whatever bytes follow; and a text with a fault at its end is a source with some more bytes.
 use Rattle.std.proofs.Common.{◌≡◌, ◌≢◌, ℕ, ◌+◌, ◌*◌, ◌<◌, true, false, List, [], ◌∷◌, ◌++◌, length, refl, sym, ap, ◌∙◌, subst, arith, inl, inr, length-append}
 use Rattle.std.specs.Prelude.{◌⊎◌, ◌&&◌, ◌==◌, flat_map, not, Option, Some, None}
 use Rattle.std.specs.List.{AllByRecursion}
@@ -16,7 +16,7 @@ use Rattle.pf_literals.specs.Sources.{AreWhite, IsStringLiteral, IsSource, Strin
 use Rattle.pf_literals.proofs.Judging.{AreDigits-push, escape-push}
 use Rattle.pf_literals.proofs.Numbers.{number_after-push}
 
--- the text goes on behind its first byte, which isn't a `?` if it is the last one
+-- the text continues after its first byte, which isn't a `?` if it is the last one
 record IsSure (rest : Bytes) : Type 0 where
   byte : ℕ
   after : Bytes
@@ -83,7 +83,7 @@ last_longer : (P : Type 0) (rest more : Bytes) → P ⊎ (rest ≢ []) → P ⊎
 last_longer P rest more (inl p) = inl p
 last_longer P rest more (inr some) = inr (some_longer rest more some)
 
--- it stops there however it goes on
+-- it stops there whatever bytes follow
 stopped_longer : (rest more : Bytes) (kind : LiteralKind) (on : ℕ) → IsElementFault rest kind on → on < length rest → IsElementFault (rest ++ more) kind on
 stopped_longer rest more NoLiteral on h less = absurd h
 stopped_longer rest more Unterminated on (inl h) less = inl (h.0, h.1 ++ more, ap (λ r. r ++ more) h.2, h.3, h.4)

@@ -1,4 +1,4 @@
--- In a literal a text goes on with a quote or an element, or it can't.
+-- In a literal a text continues with a quote or an element, or has a fault.
 use Rattle.std.proofs.Common.{◌≡◌, ◌≢◌, ℕ, ◌≤◌, Bool, true, false, [], ◌∷◌, ◌++◌, length, refl, sym, ap, ◌∙◌, subst, arith, inl, inr}
 use Rattle.std.specs.Prelude.{◌⊎◌, ◌&&◌, ◌==◌, Option, Some, None}
 use Rattle.std.proofs.lemmas.Bool.{and_parts, cases_eq, cases_lt, eqb-true, not-true, not_from_false}
@@ -42,7 +42,7 @@ escape-push notation digits rest d =
 judged_as : (t u : Bytes) → t ≡ u → Judgement u → Judgement t
 judged_as t u e h = subst Judgement (sym e) h
 
--- no byte stands for one more digit, and the number is zero
+-- no byte is one more digit, and the number is zero
 module _ (notation : Notation) (digits : Bytes) (are : AreEscapeDigits notation digits) (none : escape_number notation digits ≡ 0) (some : digits ≢ []) where
   zero_at_end : (b : Bool) → is_full notation (length digits) ≡ b → has_more_digits notation (length digits) [] ≡ false → Judgement (escape notation digits ++ [])
   zero_at_end true full no_more = Stuck ZeroByte 0 (([], inr (notation, digits, some, record { digits_are = are; last = inl full; no_more = no_more }, none, refl)), refl)

@@ -13,14 +13,14 @@ use Rattle.pf_literals.specs.Faults.{AreOpen, IsFaultCause, IsFaultAt, IsElement
 use Rattle.pf_literals.proofs.Complete.{stands_quote}
 use Rattle.pf_literals.proofs.Judging.{Judgement, Quote, Found, Stuck, judge}
 
--- what stands outside of a literal: white space, literals, and nothing more or what can't go on
+-- outside of a literal: white space, literals, and the end or a fault
 pub data Outside (t : Bytes) : Type 0 where
   Good : (front : Bytes) (literals : List StringLiteral) → AreWhite front → AllByRecursion IsStringLiteral literals → t ≡ front ++ flat_map literal_text literals → Outside t
   Bad : (front : Bytes) (literals : List StringLiteral) (begun : Option (List Element)) (rest : Bytes) (kind : LiteralKind) (on : ℕ)
       → AreWhite front → AllByRecursion IsStringLiteral literals → AreOpen begun rest → ((others : List StringLiteral) → IsFaultCause others begun rest kind on)
       → t ≡ front ++ flat_map literal_text literals ++ open_text begun ++ rest → Outside t
 
--- what stands in one: elements that end in a quote, or in what can't go on
+-- in a literal: elements that end in a quote or in a fault
 pub data Inside (t : Bytes) : Type 0 where
   Closed : (elements : List Element) (rest : Bytes) → AreElements elements (quote ∷ []) → Outside rest → t ≡ flat_map written elements ++ (quote ∷ rest) → Inside t
   Open : (elements : List Element) (rest : Bytes) (kind : LiteralKind) (on : ℕ) → AreElements elements rest → IsElementFault rest kind on → t ≡ flat_map written elements ++ rest → Inside t
@@ -41,7 +41,7 @@ more_inside t rest element is stands whole (Open elements after kind on are stop
     Open (element ∷ elements) after kind on (is, subst (λ r. may_precede element r ≡ true) e stands, are) stop
     (whole ∙ ap (λ r. written element ++ r) e ∙ sym (append_assoc (written element) (flat_map written elements) after))
 
--- what stands behind a quote, side by side
+-- what follows a quote, side by side
 side_by_side : (text front more begun rest : Bytes) → text ++ (quote ∷ (front ++ more ++ begun ++ rest)) ≡ (text ++ (quote ∷ front)) ++ more ++ begun ++ rest
 side_by_side text front more begun rest =
     let behind = quote ∷ front in
@@ -51,7 +51,7 @@ side_by_side text front more begun rest =
     ∙ append_assoc text (behind ++ more ++ begun) rest
     )
 
--- a quote in front of what stands in a literal
+-- a quote in front of what is in a literal
 opened : (rest : Bytes) → Inside rest → Outside (quote ∷ rest)
 opened rest (Open elements after kind on are stop e) = Bad [] [] (Some elements) after kind on tt tt are (λ others. stop) (ap (λ r. quote ∷ r) e)
 opened rest (Closed elements after are (Good front literals clear each e) f) =

@@ -1,4 +1,4 @@
--- Where a search finds the end of a run.
+-- Where a search finds the end of verbatim bytes.
 use Rattle.std.proofs.Common.{◌≡◌, ◌≢◌, ℕ, zero, suc, ◌+◌, ◌%◌, ◌^◌, ◌<◌, ◌≤◌, Bool, true, false, cond, ◌||◌, not, List, [], ◌∷◌, length, get_or, map, take, bit_or, Fits, w8, refl, sym, ap, ap₂, ◌∙◌, arith}
 use Rattle.std.specs.Prelude.{◌==◌, nat_lt}
 use Rattle.std.specs.List.{prefix_len}
@@ -11,7 +11,7 @@ use lib.Lanes.{Each1, chunk, mask_l, top}
 use Rattle.pf_literals.specs.Elements.{Bytes}
 use Rattle.pf_literals.specs.Verbatim.{IsVerbatim, IsVerbatimBetween, is_special}
 
--- a run that stands from the first byte on
+-- bytes that are verbatim from the first one on
 pub verbatim_taken : (text : Bytes) (n : ℕ) → n ≤ length text → IsVerbatimBetween text 0 n → IsVerbatim (take n text)
 verbatim_taken text zero few stands = tt
 verbatim_taken [] (suc n) few stands = absurd (omega arith)
@@ -25,7 +25,7 @@ is_found byte = nat_lt (bit_xor byte 2) 33 || bit_or byte 64 == 127 || byte == 9
 found_is : (byte : ℕ) → byte < 256 → is_found byte ≡ is_special byte
 found_is byte few = agree_below_at is_found is_special 256 byte refl few
 
--- what a vector holds where it stands for the special bytes
+-- what a vector holds as the mask of the special bytes
 abbrev pub lane : ℕ → ℕ
 lane byte = bit_or (bit_or (cond (nat_lt (bit_xor byte 2) 33) 255 0) (cond (bit_or byte 64 == 127) 255 0)) (cond (byte == 92) 255 0)
 

@@ -1,4 +1,4 @@
--- What stands in a string literal of C source.
+-- The elements of a string literal of C source.
 use Rattle.std.specs.Prelude.{◌≡◌, ◌≢◌, ℕ, ◌+◌, ◌-◌, ◌*◌, ◌<◌, ◌≤◌, Bool, true, false, ◌&&◌, ◌||◌, not, nat_le, ◌==◌, List, [], ◌∷◌, ◌++◌, length, flat_map, Option, Some, None, if◌then◌else◌}
 use Rattle.std.specs.List.{AllByRecursion}
 use Rattle.pf_literals.specs.declared.notations.Notation.{Notation}
@@ -29,14 +29,14 @@ hexadecimal_letter = 120
 abbrev pub is_line_end : ℕ → Bool
 is_line_end byte = byte == 10 || byte == 13
 
--- A byte that stands for itself, or an escape sequence: a simple one has a letter, and stands for
--- a byte; a numeric one has digits (C11 6.4.5 p1, 6.4.4.4 p1).
+-- A byte as itself, or an escape sequence: a simple one has a letter, and denotes a byte; a numeric
+-- one has digits (C11 6.4.5 p1, 6.4.4.4 p1).
 pub data Element : Type 0 where
   Plain : (byte : ℕ) → Element
   Simple : (letter byte : ℕ) → Element
   Numeric : (notation : Notation) (digits : Bytes) → Element
 
--- the byte that a letter stands for after `\` (C11 6.4.4.4 p3 and p8, 5.2.2 p2; ASCII)
+-- the byte that a letter denotes after `\` (C11 6.4.4.4 p3 and p8, 5.2.2 p2; ASCII)
 abbrev pub simple_byte : ℕ → Option ℕ
 simple_byte letter =
     if letter == 34 then Some 34 else
@@ -84,7 +84,7 @@ abbrev pub is_full : Notation → ℕ → Bool
 is_full Octal count = count == 3
 is_full Hexadecimal count = false
 
--- so many digits may stand in an escape sequence
+-- an escape sequence may have so many digits
 abbrev pub AllowsDigitCount : Notation → ℕ → Type 0
 AllowsDigitCount Octal count = count ≤ 3
 AllowsDigitCount Hexadecimal count = Unit {0}
@@ -105,13 +105,13 @@ written (Plain byte) = byte ∷ []
 written (Simple letter byte) = backslash ∷ letter ∷ []
 written (Numeric notation digits) = escape notation digits
 
--- the byte that it stands for (C11 6.4.4.4 p3 to p8)
+-- the byte that it denotes (C11 6.4.4.4 p3 to p8)
 abbrev pub value : Element → ℕ
 value (Plain byte) = byte
 value (Simple letter byte) = byte
 value (Numeric notation digits) = escape_number notation digits
 
--- a byte that may stand for itself (C11 6.4.5 p1); a zero byte would end the string
+-- a byte that may be an element as itself (C11 6.4.5 p1); a zero byte would end the string
 pub record IsPlainByte (byte : ℕ) : Type 0 where
   pub no_quote : byte ≢ quote
   pub no_backslash : byte ≢ backslash
@@ -136,17 +136,17 @@ is_third byte =
     byte == 61 || byte == 47 || byte == 39 || byte == 40 || byte == 41 || byte == 33
     || byte == 60 || byte == 62 || byte == 45
 
--- after `?`, the text goes on as a trigraph does
+-- after `?`, the text continues as a trigraph does
 abbrev pub ends_trigraph : Bytes → Bool
 ends_trigraph (second ∷ third ∷ rest) = second == question && is_third third
 ends_trigraph _ = false
 
--- after so many digits, the text goes on with one more
+-- after so many digits, the text continues with one more
 abbrev pub has_more_digits : Notation → ℕ → Bytes → Bool
 has_more_digits notation count [] = false
 has_more_digits notation count (byte ∷ rest) = not (is_full notation count) && is_escape_digit notation byte
 
--- An element may stand before a text. A numeric one has as many digits as there are (C11 6.4.4.4
+-- An element may come before a text. A numeric one has as many digits as there are (C11 6.4.4.4
 -- p7), and a `?` begins no trigraph.
 abbrev pub may_precede : Element → Bytes → Bool
 may_precede (Plain byte) rest = not (byte == question && ends_trigraph rest)

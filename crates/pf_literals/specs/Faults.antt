@@ -32,7 +32,7 @@ IsNoEscape rest = (byte : ℕ) × (after : Bytes) × (
     × (byte ≢ hexadecimal_letter) × (is_escape_digit Octal byte ≡ false))
     ⊎ ((rest ≡ backslash ∷ hexadecimal_letter ∷ byte ∷ after) × (is_escape_digit Hexadecimal byte ≡ false)))
 
--- a numeric escape sequence of a number above 255, however it goes on (C11 6.4.4.4 p9)
+-- a numeric escape sequence of a number above 255, whatever follows (C11 6.4.4.4 p9)
 abbrev pub IsEscapeTooLarge : Bytes → Type 0
 IsEscapeTooLarge rest = (notation : Notation) × (digits : Bytes) × (after : Bytes)
     × AreEscapeDigits notation digits × (255 < escape_number notation digits)
@@ -45,8 +45,8 @@ IsZero rest = (after : Bytes) × (
     ⊎ ((notation : Notation) × (digits : Bytes) × (digits ≢ []) × IsFinishedEscape notation digits after
     × (escape_number notation digits ≡ 0) × (rest ≡ escape notation digits ++ after)))
 
--- Why no element stands at the front of a text in a literal, and how many bytes on that is told: at
--- once, but at the end of the text, where it ends in the literal.
+-- Why a text in a literal begins with no element, and how many bytes on that is reported: at its
+-- first byte, but at the end of the text, where that ends in the literal.
 abbrev pub IsElementFault : Bytes → LiteralKind → ℕ → Type 0
 IsElementFault rest NoLiteral on = ⊥
 IsElementFault rest Unterminated on =
@@ -58,7 +58,7 @@ IsElementFault rest ZeroByte on = IsZero rest × (on ≡ 0)
 IsElementFault rest Trigraph on = (third : ℕ) × (after : Bytes)
     × (rest ≡ question ∷ question ∷ third ∷ after) × (is_third third ≡ true) × (on ≡ 0)
 
--- a byte outside of a literal that can't stand there
+-- a byte outside of a literal that isn't allowed there
 abbrev pub IsStrayByte : Bytes → Type 0
 IsStrayByte rest = (byte : ℕ) × (after : Bytes) × (rest ≡ byte ∷ after) × (byte ≢ quote)
     × (is_white byte ≡ false)
@@ -73,14 +73,14 @@ abbrev pub AreOpen : Option (List Element) → Bytes → Type 0
 AreOpen None rest = Unit {0}
 AreOpen (Some elements) rest = AreElements elements rest
 
--- why a text can't go on behind whole literals and one that is open, if there is one
+-- why a text can't follow whole literals and one that is open, if there is one
 abbrev pub IsFaultCause : List StringLiteral → Option (List Element) → Bytes → LiteralKind → ℕ → Type 0
 IsFaultCause literals (Some elements) rest kind on = IsElementFault rest kind on
 IsFaultCause literals None rest kind on =
     (kind ≡ NoLiteral) × (on ≡ 0) × (((rest ≡ []) × (literals ≡ [])) ⊎ IsStrayByte rest)
 
 -- The text is no source. Its front is good: white space, whole literals, and elements of a literal
--- that is open, if there is one. What follows can't.
+-- that is open, if there is one. What follows isn't, for this cause.
 pub record IsFaultAt (t : Bytes) (kind : LiteralKind) (at : ℕ) : Type 0 where
   pub front : Bytes
   pub literals : List StringLiteral

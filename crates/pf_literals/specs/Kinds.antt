@@ -5,7 +5,7 @@ use Rattle.pf_literals.specs.declared.faults.LiteralKind.{LiteralKind}
 use Rattle.pf_literals.specs.declared.faults.LiteralKind.TheVariants.{NoLiteral, Unterminated, BadEscape, EscapeTooLarge, ZeroByte, Trigraph}
 use Rattle.pf_literals.specs.Elements.{Bytes}
 
--- the number that a fault is told by
+-- the number of a kind of fault
 abbrev pub literal_kind_number : LiteralKind → ℕ
 literal_kind_number NoLiteral = 1
 literal_kind_number Unterminated = 2
@@ -14,7 +14,7 @@ literal_kind_number EscapeTooLarge = 4
 literal_kind_number ZeroByte = 5
 literal_kind_number Trigraph = 6
 
--- the name that is told with it
+-- the name of a kind of fault
 abbrev pub literal_kind_name : LiteralKind → Bytes
 literal_kind_name NoLiteral = codes "NoLiteral"
 literal_kind_name Unterminated = codes "Unterminated"

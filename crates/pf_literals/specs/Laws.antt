@@ -12,7 +12,7 @@ IsReadOrRefused t =
     ((bytes : Bytes) × IsSourceOf t bytes)
     ⊎ ((kind : LiteralKind) × (at : ℕ) × IsFaultAt t kind at)
 
--- a text is the front of a source
+-- a text is a source with some more bytes
 abbrev pub CanGoOn : Bytes → Type 0
 CanGoOn t = (more bytes : Bytes) × IsSourceOf (t ++ more) bytes
 

@@ -1,4 +1,4 @@
--- String literals of C source, and the bytes that they stand for.
+-- String literals of C source, and the bytes that they denote.
 use Rattle.std.specs.Prelude.{◌≡◌, ◌≢◌, ℕ, ◌+◌, true, Bool, ◌||◌, ◌==◌, List, [], ◌∷◌, ◌++◌, length, map, flat_map}
 use Rattle.std.specs.List.{AllByRecursion}
 use Rattle.pf_literals.specs.Elements.{AreElements, Bytes, Element, quote, value, written}
@@ -26,8 +26,8 @@ literal_text l = quote ∷ flat_map written l.elements ++ quote ∷ l.behind
 abbrev pub IsStringLiteral : StringLiteral → Type 0
 IsStringLiteral l = AreElements l.elements (quote ∷ []) × AreWhite l.behind
 
--- One or more literals, with white space or none before, between and behind them. Literals that
--- stand side by side are one string (C11 6.4.5 p5).
+-- One or more literals, with white space or none before, between and behind them. Literals side
+-- by side are one string (C11 6.4.5 p5).
 pub record IsSource (t : Bytes) (literals : List StringLiteral) : Type 0 where
   pub front : Bytes
   pub front_white : AreWhite front
@@ -35,7 +35,7 @@ pub record IsSource (t : Bytes) (literals : List StringLiteral) : Type 0 where
   pub some : literals ≢ []
   pub whole : t ≡ front ++ flat_map literal_text literals
 
--- the bytes that literals stand for
+-- the bytes that literals denote
 abbrev pub literal_bytes : List StringLiteral → Bytes
 literal_bytes literals = flat_map (λ l. map value l.elements) literals
 
@@ -61,8 +61,8 @@ close_of before at [] = before
 close_of before at (l ∷ literals) =
     close_of (at + 1 + length (flat_map written l.elements)) (at + length (literal_text l)) literals
 
--- Where the bytes of a source come from: each byte from the place where its element begins, and
--- behind them stands the last closing quote.
+-- Where the bytes of a source come from: each byte from the place where its element begins; and the
+-- place of the last closing quote.
 pub record HasPlaces (t : Bytes) (found : List ℕ) (close : ℕ) : Type 0 where
   pub literals : List StringLiteral
   pub source : IsSource t literals

@@ -13,22 +13,22 @@ spelling_bytes (Plain bytes) = bytes
 spelling_bytes (Simple bytes) = bytes
 spelling_bytes (Octal bytes) = bytes
 
--- what is written of a front
+-- what is written for a part
 abbrev pub encoded_part_text : EncodedPart → Bytes
 encoded_part_text (Verbatim verbatim) = verbatim.now
 encoded_part_text (Byte spelling question) = spelling_bytes spelling
 
--- how many bytes it is of
+-- how many bytes it is written for
 abbrev pub source_len : EncodedPart → ℕ
 source_len (Verbatim verbatim) = length verbatim.now
 source_len (Byte spelling question) = 1
 
--- it ends in a `?`
+-- the last of these bytes is a `?`
 abbrev pub ends_in_question : EncodedPart → Bool
 ends_in_question (Verbatim verbatim) = false
 ends_in_question (Byte spelling question) = question
 
--- what is written of the front of a text, and of the rest
+-- what is written for a text is what is written for its first bytes, and for the rest
 pub record IsEncodedPartOf (after : Bool) (t : Bytes) (part : EncodedPart) : Type 0 where
   pub text : spelled after t ≡ encoded_part_text part ++ spelled (ends_in_question part) (drop (source_len part) t)
   pub some : 0 < source_len part

@@ -1,4 +1,4 @@
--- A walk through a source, as the code makes it. No public contract speaks of it.
+-- The cursor over a source, as the code has it. No public contract names these.
 use Rattle.std.specs.Prelude.{◌≡◌, ℕ, ◌+◌, ◌<◌, ◌≤◌, List, [], ◌∷◌, length, drop, Option, Some, None}
 use Rattle.std.specs.List.{range_with_len}
 use Rattle.pf_literals.specs.declared.cursor.Cursor.{Cursor}
@@ -44,7 +44,7 @@ AdvancesCursor t old (Given part) new =
     × PartEndsBy part (length t)
 AdvancesCursor t old _ new = Unit {0}
 
--- why reading stops from a cursor on, if it does: else memory wants
+-- the fault of decoding from a cursor on: the refusal, or want of memory where there is none
 abbrev pub IsDecodingFault : Bytes → Cursor → LiteralFault → Type 0
 IsDecodingFault t cursor (Refused refusal) = reading_left t cursor ≡ Fault refusal.kind refusal.at
 IsDecodingFault t cursor Memory = HasNoFault (reading_left t cursor)

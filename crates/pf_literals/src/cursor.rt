@@ -1,4 +1,4 @@
-//! A walk through a source, part by part.
+//! A cursor over a source, which gives its parts one after another.
 ghost use Rattle.std.specs.Prelude.{◌≡◌, ◌<◌, ◌≤◌, length, MatchOption};
 ghost use Rattle.pf_literals.specs.declared.cursor.Cursor.{Cursor};
 ghost use Rattle.pf_literals.specs.Elements.{Bytes};
@@ -10,16 +10,16 @@ use crate::faults::LiteralKind;
 use crate::search::verbatim_len;
 use crate::tokens::{Place, Token, token_at};
 
-/// A part of a source that stands for bytes.
+/// A part of a source that denotes bytes.
 #[derive(Clone, Copy, Debug)]
 pub(crate) enum SourcePart<'a> {
-    /// Bytes that stand for themselves, and where the first one stands.
+    /// Verbatim bytes, and where the first one is.
     Verbatim(&'a [u8], usize),
-    /// The byte that an element stands for, and where it begins.
+    /// The byte that an element denotes, and where the element begins.
     Byte(u8, usize),
 }
 
-/// What comes next.
+/// What comes next in a source.
 #[derive(Clone, Copy, Debug)]
 pub(crate) enum NextPart<'a> {
     /// A part.
@@ -30,7 +30,7 @@ pub(crate) enum NextPart<'a> {
     Stop(LiteralRefusal),
 }
 
-/// How far a source was read.
+/// The place up to which a source was read.
 #[derive(Clone, Copy, Debug)]
 pub(crate) struct Cursor {
     at: usize,
@@ -38,7 +38,7 @@ pub(crate) struct Cursor {
 }
 
 impl Cursor {
-    /// Nothing was read.
+    /// A cursor before the first byte.
     pub(crate) fn new() -> Cursor
         ensures { (t : Bytes) → reading_left t result ≡ source_reading t }
     {
@@ -48,7 +48,7 @@ impl Cursor {
         }
     }
 
-    /// What comes next. Behind the end and behind a fault the cursor means nothing.
+    /// The next part, the end, or the fault. After the end and after a fault the cursor is of no use.
     pub(crate) fn next_part<'a>(&mut self, source: &'a [u8]) -> NextPart<'a>
         ensures next { IsNextPart source.now self.old result self.new }
         ensures further { AdvancesCursor source.now self.old result self.new }
@@ -76,7 +76,7 @@ impl Cursor {
         }
     }
 
-    // One step, which may give nothing.
+    // Takes verbatim bytes or a token; `None` where that gives no bytes.
     fn step<'a>(&mut self, source: &'a [u8]) -> Option<NextPart<'a>>
         requires { self.old.at < length source.now }
         ensures next { MatchOption result (reading_left source.now self.old ≡ reading_left source.now self.new)
@@ -90,7 +90,7 @@ impl Cursor {
         self.take_token(source)
     }
 
-    // The run of bytes that stand for themselves, if one comes next.
+    // A run of verbatim bytes, if one comes next.
     fn verbatim_part<'a>(&mut self, source: &'a [u8]) -> Option<SourcePart<'a>>
         requires { self.old.at < length source.now }
         ensures next { MatchOption result (self.new ≡ self.old)
@@ -113,7 +113,7 @@ impl Cursor {
         Some(SourcePart::Verbatim(&rest[..len], at))
     }
 
-    // One turn.
+    // Takes one token; `None` where it gives no byte.
     fn take_token<'a>(&mut self, source: &'a [u8]) -> Option<NextPart<'a>>
         requires { self.old.at < length source.now }
         ensures next { MatchOption result (reading_left source.now self.old ≡ reading_left source.now self.new)
@@ -145,7 +145,7 @@ impl Cursor {
         }
     }
 
-    // The text ends.
+    // The answer at the end of the text.
     fn end<'a>(&mut self) -> NextPart<'a>
         ensures next { (t : Bytes) → length t ≤ self.old.at → IsNextPart t self.old result self.new }
         ensures further { (t : Bytes) (from : Cursor) → AdvancesCursor t from result self.new }

@@ -1,4 +1,4 @@
-//! The bytes of a source.
+//! The bytes of a source of string literals.
 ghost use Rattle.std.specs.Prelude.{◌≡◌, ◌++◌, [], IfOk, MatchResult};
 ghost use Rattle.pf_literals.specs.Answers.{HindersDecoding};
 ghost use Rattle.pf_literals.specs.Sources.{IsSourceOf};
@@ -11,7 +11,7 @@ use std::alloc::{AllocError, Allocator, Global};
 #[cfg(test)]
 mod tests;
 
-/// The bytes that a source of string literals stands for (C11 6.4.5, paragraphs 4 to 6), without
+/// The bytes that a source of string literals denotes (C11 6.4.5, paragraphs 4 to 6), without
 /// the zero byte behind them. Their room is taken by one growth of the source's length, and none is
 /// taken where there are no bytes.
 pub fn decode(alloc: Global, source: &[u8]) -> Result<Vec<u8>, LiteralFault>
@@ -63,7 +63,7 @@ fn append<A: Allocator>(out: &mut Vec<u8, A>, part: SourcePart, room: usize) -> 
     }
 }
 
-// Why there are no bytes where memory wants: the rest of the text may be refused.
+// Why there are no bytes where a growth was refused: the rest of the text may be refused, too.
 fn fault_of(cursor: Cursor, source: &[u8]) -> LiteralFault
     ensures { IsDecodingFault source.now cursor result }
 {

@@ -1,4 +1,4 @@
-//! What is written of the front of some bytes.
+//! Parts of the literal of some bytes: a run of verbatim bytes, or the spelling of one byte.
 ghost use Rattle.std.specs.Prelude.{◌≡◌, ◌<◌, ◌++◌, length, IfOk};
 ghost use Rattle.pf_literals.specs.Spellings.{IsEncodedPartOf, ends_in_question, encoded_part_text, source_len};
 
@@ -6,18 +6,18 @@ use crate::search::verbatim_len;
 use crate::spellings::Spelling;
 use std::alloc::{AllocError, Allocator};
 
-/// What is written of the front of some bytes.
+/// What is written for the first bytes of a text.
 #[derive(Clone, Copy, Debug)]
 pub(crate) enum EncodedPart<'a> {
-    /// A run of bytes that stand for themselves.
+    /// A run of verbatim bytes.
     Verbatim(&'a [u8]),
-    /// One byte, and whether that is `?`.
+    /// The spelling of one byte, and whether that is `?`.
     Byte(Spelling, bool),
 }
 
 impl<'a> EncodedPart<'a> {
-    /// What is written of the front of some bytes, of which there is one at least, behind a `?` or
-    /// not.
+    /// What is written for the first bytes of a text, of which there is one at least, behind a `?`
+    /// or not.
     pub(crate) fn of(after: bool, text: &'a [u8]) -> EncodedPart<'a>
         requires { 0 < length text.now }
         ensures { IsEncodedPartOf after text.now result }
@@ -29,7 +29,7 @@ impl<'a> EncodedPart<'a> {
         EncodedPart::Verbatim(&text[..len])
     }
 
-    /// How many bytes it is of.
+    /// How many bytes of the text it is written for.
     pub(crate) fn source_len(&self) -> usize
         ensures { result ≡ source_len self.now }
     {
@@ -39,7 +39,7 @@ impl<'a> EncodedPart<'a> {
         }
     }
 
-    /// Whether it ends in a `?`.
+    /// Whether the last of these bytes is a `?`.
     pub(crate) fn ends_in_question(&self) -> bool
         ensures { result ≡ ends_in_question self.now }
     {

@@ -18,7 +18,7 @@ pub fn encode(alloc: Global, text: &[u8]) -> Result<Vec<u8>, AllocError>
     encode_in(alloc, text)
 }
 
-/// How many bytes that literal has, with its quotes.
+/// How many bytes the literal of a text has, with its quotes.
 pub fn encoded_len(text: &[u8]) -> u128
     ensures { result ≡ length (encoding text.now) }
 {
@@ -29,7 +29,7 @@ pub fn encoded_len(text: &[u8]) -> u128
 pub(crate) fn encode_in<A: Allocator>(alloc: A, text: &[u8]) -> Result<Vec<u8, A>, AllocError>
     ensures { IfOk result (λ v. v.items ≡ encoding text.now) }
 {
-    // Most texts are one run, which is gone over once.
+    // Most texts are verbatim bytes throughout, which are searched only once.
     let verbatim = verbatim_len(text);
     let len = verbatim as u128 + written_len(text, verbatim) + 2;
     let room = usize::try_from(len).unwrap_or(usize::MAX);
@@ -41,7 +41,7 @@ pub(crate) fn encode_in<A: Allocator>(alloc: A, text: &[u8]) -> Result<Vec<u8, A
     Ok(out)
 }
 
-// How many bytes are written of a text from a byte on that doesn't stand behind a `?`.
+// How many bytes are written for a text from a byte on that doesn't follow a `?`.
 fn written_len(text: &[u8], from: usize) -> u128
     requires { from ≤ length text.now }
     ensures len { result ≡ length (spelled false (drop from text.now)) }
@@ -59,7 +59,7 @@ fn written_len(text: &[u8], from: usize) -> u128
     len
 }
 
-// Appends what is written of it.
+// Appends what is written for a text from a byte on that doesn't follow a `?`.
 fn append_from<A: Allocator>(
     text: &[u8],
     from: usize,

@@ -1,4 +1,4 @@
-//! String literals of C source: the bytes that they stand for, and the literal of some bytes.
+//! String literals of C source: the bytes that they denote, and the literal of some bytes.
 #![tactic(auto)]
 
 mod cursor;

@@ -22,7 +22,7 @@ impl Notation {
         }
     }
 
-    /// How many bytes stand before the digits.
+    /// How many bytes come before the digits.
     pub(crate) fn before_digits(self) -> usize
         ensures { result ≡ before_digits self }
     {
@@ -32,7 +32,7 @@ impl Notation {
         }
     }
 
-    /// Whether there may be no more digits behind so many.
+    /// Whether an escape sequence of so many digits can have no more.
     pub(crate) fn is_full(self, count: usize) -> bool
         ensures { result ≡ is_full self count }
     {

@@ -1,4 +1,4 @@
-//! Where in a source its bytes come from.
+//! Where in a source each of its bytes comes from.
 ghost use Rattle.std.specs.Prelude.{◌≡◌, ◌<◌, length, MatchOption, slice_get};
 ghost use Rattle.pf_literals.specs.Answers.{HasNoPlace, IsPlaceOf};
 ghost use Rattle.pf_literals.specs.Readings.{HasNoFault};
@@ -49,7 +49,7 @@ fn len_of(part: SourcePart) -> u64
     }
 }
 
-// Behind the bytes stands the closing quote.
+// The place of the last closing quote, where no byte is left to pass over.
 fn last_place(close: usize, index: u64) -> Option<u64>
     ensures { MatchOption result (0 < index) (λ at. (index ≡ 0) × (at ≡ close)) }
 {

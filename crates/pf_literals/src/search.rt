@@ -1,4 +1,4 @@
-//! The search for the end of a run of bytes that stand for themselves.
+//! The search for the end of a run of verbatim bytes: those that are themselves in a literal.
 ghost use Rattle.std.specs.Prelude.{◌≡◌, ◌+◌, ◌-◌, ◌<◌, ◌≤◌, true, length, slice_index, take, IsTrue};
 ghost use Rattle.pf_literals.specs.Verbatim.{IsVerbatim, IsVerbatimBetween, is_special};
 
@@ -6,10 +6,10 @@ use std::simd::prelude::*;
 
 const LANES: usize = 16;
 
-// How many bytes the search goes on by, where there are so many.
+// How many bytes are tested at a time, where there are so many.
 const BLOCK: usize = 64;
 
-/// How many bytes at the front of a text stand for themselves, in a literal and as it is encoded.
+/// How many bytes at the front of a text are verbatim: themselves in a literal, read or written.
 #[inline(always)]
 pub(crate) fn verbatim_len(text: &[u8]) -> usize
     ensures within { result ≤ length text.now }
@@ -25,7 +25,7 @@ pub(crate) fn verbatim_len(text: &[u8]) -> usize
     search(text)
 }
 
-// The same. It is never inlined, so that the search stands in the program once.
+// The same. It is never inlined, so that the program has the search only once.
 #[inline(never)]
 fn search(text: &[u8]) -> usize
     ensures within { result ≤ length text.now }
@@ -45,7 +45,7 @@ fn search(text: &[u8]) -> usize
     verbatim_len_from(text, at)
 }
 
-// Of a text whose first bytes are a run.
+// The same, where the first bytes are known to be verbatim.
 fn verbatim_len_from(text: &[u8], seen: usize) -> usize
     requires room { LANES ≤ length text.now }
     requires within { seen ≤ length text.now }
@@ -87,7 +87,8 @@ fn is_special(byte: u8) -> bool
     byte < b' ' || byte == 127 || byte == b'"' || byte == b'\\' || byte == b'?'
 }
 
-// Of a text whose first bytes are a run, all but the last few: the last vector overlaps those.
+// The same, where all but the last few bytes are known to be verbatim: the last vector overlaps
+// bytes that were tested.
 #[inline(always)]
 fn verbatim_at_end(text: &[u8], seen: usize) -> usize
     requires room { LANES ≤ length text.now }
@@ -101,7 +102,7 @@ fn verbatim_at_end(text: &[u8], seen: usize) -> usize
     at + verbatim_in_vector(text, at)
 }
 
-// Whether a block is a run, by the tests of `verbatim_in_vector`.
+// Whether a block is verbatim, by the tests of `verbatim_in_vector`.
 #[inline(always)]
 fn is_verbatim_block(text: &[u8], at: usize) -> bool
     requires { at + BLOCK ≤ length text.now }
@@ -114,7 +115,7 @@ fn is_verbatim_block(text: &[u8], at: usize) -> bool
     special.to_bitmask() == 0
 }
 
-// How many bytes of a vector are of the run that begins it.
+// How many bytes at the front of a vector are verbatim.
 #[inline(always)]
 fn verbatim_in_vector(text: &[u8], at: usize) -> usize
     requires { at + LANES ≤ length text.now }

@@ -40,7 +40,7 @@ impl Spelling {
     }
 }
 
-// The same behind another byte than `?`.
+// How a byte is written that doesn't follow a `?`.
 fn of_byte(byte: u8) -> Spelling
     ensures { spelling_bytes result ≡ written (element_for false byte) }
 {

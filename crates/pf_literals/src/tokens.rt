@@ -1,4 +1,4 @@
-//! What begins a text, outside of a literal or in one.
+//! The token at the front of a text, outside of a literal or in one.
 ghost use Rattle.std.specs.Prelude.{◌≡◌, ◌≤◌, ◌<◌, ◌∷◌, [], ◌+◌, length};
 ghost use Rattle.pf_literals.specs.Elements.{ends_trigraph, is_third, simple_byte};
 ghost use Rattle.pf_literals.specs.Sources.{is_white};
@@ -7,7 +7,7 @@ ghost use Rattle.pf_literals.specs.Tokens.{numeric_at_end, escape_by_letter, esc
 use crate::faults::LiteralKind;
 use crate::notations::Notation;
 
-/// Where a text goes on.
+/// Where in a source the rest of a text begins.
 #[derive(Clone, Copy, Debug, PartialEq, Eq)]
 pub(crate) enum Place {
     /// Before the first literal.
@@ -18,7 +18,7 @@ pub(crate) enum Place {
     Behind(usize),
 }
 
-/// What begins a text.
+/// The token at the front of a text.
 #[derive(Clone, Copy, Debug, PartialEq, Eq)]
 pub(crate) enum Token {
     /// A byte of white space.
@@ -27,13 +27,13 @@ pub(crate) enum Token {
     OpenQuote,
     /// The quote that closes it.
     CloseQuote,
-    /// An element: the byte that it stands for, and how many bytes it has.
+    /// An element of a literal: the byte that it denotes, and how many bytes it has.
     Character(u8, usize),
-    /// None of these, and how many bytes on that is told.
+    /// No token: the kind of the fault, and how many bytes on it is reported.
     Invalid(LiteralKind, usize),
 }
 
-/// What begins a text, which has a byte at least.
+/// The token at the front of a text, which has a byte at least.
 pub(crate) fn token_at(place: Place, text: &[u8]) -> Token
     ensures { result ≡ token_at place text.now }
 {
@@ -124,7 +124,7 @@ fn is_third(byte: u8) -> bool
     )
 }
 
-// What stands behind `\`.
+// An escape sequence, by what follows its `\`.
 fn escape_token(text: &[u8]) -> Token
     ensures { result ≡ escape_token text.now }
 {
@@ -137,7 +137,7 @@ fn escape_token(text: &[u8]) -> Token
     }
 }
 
-// The same where the byte is no letter of a simple escape sequence.
+// The same, where the byte is no letter of a simple escape sequence.
 fn numeric_escape(byte: u8, text: &[u8], rest: &[u8]) -> Token
     requires { text.now ≡ byte ∷ rest.now }
     ensures { result ≡ escape_by_letter None byte rest.now }
@@ -148,7 +148,7 @@ fn numeric_escape(byte: u8, text: &[u8], rest: &[u8]) -> Token
     numeric_token(Notation::Octal, text)
 }
 
-// The byte that a letter stands for behind `\`.
+// The byte that a simple escape sequence with this letter denotes.
 fn simple_byte(letter: u8) -> Option<u8>
     ensures { result ≡ simple_byte letter }
 {
@@ -168,7 +168,7 @@ fn simple_byte(letter: u8) -> Option<u8>
     }
 }
 
-// The digits of a numeric escape sequence and what follows.
+// A numeric escape sequence, by its digits and what follows them.
 fn numeric_token(notation: Notation, text: &[u8]) -> Token
     ensures { result ≡ numeric_token notation 0 0 text.now }
 {
@@ -192,7 +192,7 @@ fn numeric_token(notation: Notation, text: &[u8]) -> Token
     numeric_at_end(notation, count, number)
 }
 
-// A numeric escape sequence that is whole.
+// A numeric escape sequence with all its digits.
 fn finished_numeric(notation: Notation, count: usize, number: u16) -> Token
     requires few { number ≤ 255 }
     requires within { count + 2 < usize.MAX }
@@ -207,7 +207,7 @@ fn finished_numeric(notation: Notation, count: usize, number: u16) -> Token
     Token::Character(number as u8, notation.before_digits() + count)
 }
 
-// The same at the end of the text.
+// The same, where the text ends behind the digits.
 fn numeric_at_end(notation: Notation, count: usize, number: u16) -> Token
     requires few { number ≤ 255 }
     requires within { count + 2 < usize.MAX }
