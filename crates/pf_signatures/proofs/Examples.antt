@@ -52,7 +52,7 @@ mixed_by_a_digit model = refused model _ Mixed 2 refl
 mixed_by_a_star : (model : Model) → IsPosixRefusedAt model (codes "%1$*d") Mixed 4
 mixed_by_a_star model = refused model _ Mixed 4 refl
 
--- a number is too large at the digit with which it is, and before a `$` it is told as a width
+-- a number is refused at the digit with which it is too large, before a `$` as a width
 width_too_large : (model : Model) → IsPosixRefusedAt model (codes "%4096$d") WidthTooLarge 4
 width_too_large model = refused model _ WidthTooLarge 4 refl
 
@@ -73,7 +73,7 @@ gap model = missing model _ (fetch (Some 2) Int ∷ []) (told_taken model _ _ re
 count_with_a_width : (model : Model) → IsPosixRefusedAt model (codes "%5n") CountUndefined 2
 count_with_a_width model = refused model _ CountUndefined 2 refl
 
--- what can't stand where it does: a zero byte and `%` have kinds of their own
+-- bytes that aren't allowed where they are: a zero byte and `%` have kinds of their own
 zero_inside : (model : Model) → IsPosixRefusedAt model (37 ∷ 0 ∷ []) NulByte 1
 zero_inside model = refused model _ NulByte 1 refl
 

@@ -69,7 +69,7 @@ too_large_defined : (slot : WidthOrPrecision) → is_undefined_kind (too_large s
 too_large_defined Width = refl
 too_large_defined Precision = refl
 
--- what stands up to a width or a precision, with it
+-- what comes up to a width or a precision, with it
 abbrev pub IsBehind : WidthOrPrecision → Text → PartialSpecification → List Fetch → Type 0
 IsBehind Width t parts own = (width : Option Amount) × SpellsUpToWidth t parts.position parts.flags width × (parts.width ≡ is_some width) × (parts.precision ≡ false) × (own ≡ star_fetches width)
 IsBehind Precision t parts own = HasNumbers t parts own

@@ -59,7 +59,7 @@ unequal : (byte k : ℕ) → (byte == k) ≡ false → byte ≢ k
 unequal byte k e = grind (arith, nat_tests)
 
 module _ (model : Model) (style : Numbering) (state : PosixState) (byte : ℕ) where
-  -- why a byte is refused that is neither zero nor `%`, but for where it could stand
+  -- why a byte is refused that is neither zero nor `%`, but for where it is allowed
   abbrev pub Reason : SignatureRefusalKind → Type 0
   Reason kind = ((kind ≡ Mixed) × IsMixed state style byte) ⊎ IsNumberTooLarge state byte kind ⊎ (is_undefined_kind kind ≡ true) ⊎ (kind ≡ Unexpected)
 

@@ -65,7 +65,7 @@ run model from t = fold (advance model) from t
 pub run-append : (model : Model) (p : Progress) (t u : Text) → run model p (t ++ u) ≡ run model (run model p t) u
 run-append model p t u = fold-append (advance model) p t u
 
--- bytes that may stand behind numbers: `.` and letters
+-- bytes that may follow numbers: `.` and letters
 pub record IsLater (byte : ℕ) : Type 0 where
   pub flag : flag_of byte ≡ None
   pub digit : is_digit byte ≡ false
@@ -245,7 +245,7 @@ module _ (model : Model) (style : Numbering) (slot : WidthOrPrecision) (from : P
     go None (Some m) p d e = cc
     go (Some n) None p d e = cc
 
--- what stands before a width
+-- what comes before a width
 pub record Ready (model : Model) (style : Numbering) (slot : WidthOrPrecision) (t : Text) (parts : PartialSpecification) (own : List Fetch) : Type 0 where
   pub behind : Numbering
   pub from : PosixState
@@ -253,7 +253,7 @@ pub record Ready (model : Model) (style : Numbering) (slot : WidthOrPrecision) (
   pub star : posix_step model behind from 42 ≡ star_at slot parts parts.position
   pub digit : (byte : ℕ) → IsNotFirst slot t → (flag_of byte ≡ None) ⊎ (slot ≡ Precision) → is_digit byte ≡ true → posix_step model behind from byte ≡ move_to (Digits slot parts (byte - 48))
 
--- what stands up to an amount, with it
+-- what comes up to an amount, with it
 pub record Reached (model : Model) (style : Numbering) (slot : WidthOrPrecision) (t : Text) (parts : PartialSpecification) (own : List Fetch) : Type 0 where
   pub behind : Numbering
   pub to : PosixState

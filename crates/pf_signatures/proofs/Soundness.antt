@@ -49,7 +49,7 @@ fetched_append model (Byte c ∷ items) more = fetched_append model items more
 fetched_append model (Specification s ∷ items) more = ap (λ r. fetches model s ++ r) (fetched_append model items more) ∙ sym (append_assoc (fetches model s) (fetched model items) (fetched model more))
 
 module _ (model : Model) where
-  -- a front that is good, and a byte that goes on with it
+  -- a front that is good, and one more byte
   module _ (front : Text) (seen : List Fetch) (state : PosixState) (g : IsGoodPosixFront model front seen state) (byte : ℕ) where
     item_split : (front ++ byte ∷ []) ≡ (g.whole ++ (g.part ++ byte ∷ []))
     item_split = ap (λ f. f ++ byte ∷ []) g.split ∙ append_assoc g.whole g.part (byte ∷ [])

@@ -36,7 +36,7 @@ pub record IsOrdered (model : Model) (t : Text) (seen : List Fetch) (trace_left 
   pub verdict_is : verdict model t ≡ verdict_after seen trace_left
   pub unnumbered : AllByRecursion (λ f. f.number ≡ None) seen
 
--- what is settled goes on with what was seen
+-- what a verdict takes begins with what was seen
 settled_front : (behind : FetchTrace) (seen fs : List Fetch) → verdict_after seen behind ≡ Takes fs → (more : List Fetch) × (fs ≡ seen ++ more)
 settled_front Whole seen fs e = ([], same_takes e ∙ sym (append-nil seen)) where
   same_takes : Takes seen ≡ Takes fs → fs ≡ seen

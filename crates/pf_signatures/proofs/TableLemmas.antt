@@ -109,7 +109,7 @@ module _ (table : Table) (seen : List Fetch) (h : TableHolds table seen) (place 
           let other = ne_eqb (place + 1) (p + 1) (λ same. q (omega (arith, same))) in
           get_or-set_other table.types place p (Some wanted) None q ∙ h.types p less ∙ sym (wanted_other p seen f other)
 
-  -- what is told of an argument that has a type
+  -- an argument that is there with a type
   pub told_some : (there : ArgumentType) (a b : ℕ) → get_or table.types place None ≡ Some there → a ≡ type_number there → b ≡ type_number wanted
       → MatchBool (a == b) ((conflicts seen f ≡ false) × TableHolds (record table { count = max table.count (place + 1) }) (seen ++ f ∷ [])) (conflicts seen f ≡ true)
   told_some there a b e x y = go (a == b) refl where
@@ -190,7 +190,7 @@ pub numbered_of : (o : Option ℕ) → is_some o ≡ true → style_by o ≡ Num
 numbered_of None e = cc
 numbered_of (Some n) e = refl
 
--- what is told at the end
+-- the end of a text
 pub finished : (model : Model) (t : Text) (table : Table) (seen : List Fetch) (at : ℕ) (r : Result (Unit {0}) SignatureRefusal) → verdict model t ≡ Takes seen → AllByRecursion (λ g. style_by g.number ≡ Numbered) seen → TableHolds table seen → at ≡ length t
     → MatchResult r (λ _. (place : ℕ) → place < table.count → IsFetched place seen) (λ refusal. (refusal ≡ record { kind = MissingArgument; at = at }) × HasGap seen)
     → MatchResult r (λ _. IsTabled model t table) (λ refusal. IsPosixRefusedAt model t refusal.kind refusal.at)

@@ -152,7 +152,7 @@ types_or_gap (f ∷ fs) agreed within = go f.number refl where
   go None e = inl (wanted_types (f ∷ fs), inl (in_order (f ∷ fs) agreed within (all_map _ _ (f ∷ fs) (λ g s. s ∙ ap style_by e) agreed.one_style)))
   go (Some n) e = by_number (all_map _ _ (f ∷ fs) (λ g s. s ∙ ap style_by e) agreed.one_style)
 
--- types tell that all is fetched
+-- all arguments are fetched, as the types show
 pub no_gap : (fs : List Fetch) (types : List ArgumentType) → HaveTypes fs types → ¬ HasGap fs
 no_gap fs types (inl h) g = none fs h.unnumbered g.1 g.3 where
   none : (fs : List Fetch) → AllByRecursion (λ f. f.number ≡ None) fs → (place : ℕ) → IsFetched place fs → ⊥

@@ -61,7 +61,7 @@ module _ (model : Model) (style : Numbering) (t : Text) where
       passed n at (omega (arith, fits, long)) short
       (λ k less. subst (λ x. is_byte2 37 0 x ≢ true) (ap (λ u. get_or u k 0) rest ∙ get_or-drop at t k 0) (none k (omega arith) less))
 
--- a reader that stands as another does
+-- a reader with as much left as another
 pub carried : (model : Model) (t : Text) (old self : Reader) (n : NextFetch) (new : Reader) → trace_left model t old ≡ trace_left model t self → IsNextFetch model t self n new → IsNextFetch model t old n new
 carried model t old self (nexts.Fetched f) new e h = (h.0, h.1, e ∙ h.2)
 carried model t old self nexts.End new e h = e ∙ h

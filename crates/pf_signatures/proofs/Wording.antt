@@ -1,4 +1,4 @@
--- The table refuses a byte exactly for the reasons that the definitions tell.
+-- The table refuses a byte exactly for the reasons that the definitions give.
 use Rattle.std.proofs.Common.{◌≡◌, ◌≢◌, ℕ, ◌+◌, ◌-◌, ◌*◌, ◌<◌, Bool, true, false, List, [], ◌∷◌, ◌++◌, length, refl, sym, ap, ◌∙◌, arith, subst, inl, inr, Ok, Err, Result}
 use Rattle.std.specs.Prelude.{Option, Some, None, nat_lt, ◌==◌, MatchBool, ◌⊎◌}
 use Rattle.std.specs.List.{AllByRecursion}
@@ -35,7 +35,7 @@ use Rattle.pf_signatures.proofs.Reaching.{Came, came, spelled_ends}
 use Rattle.pf_signatures.proofs.Reasons.{IsOther, Reason, Went, Why, undefined_kind, why}
 use Rattle.pf_signatures.proofs.Running.{Progress, run, run-append, stand, went}
 
--- a byte that stands for nothing in a specification
+-- a byte that is no part of a specification
 record IsStrange (byte : ℕ) (kind : SignatureRefusalKind) : Type 0 where
   flag : flag_of byte ≡ None
   digit : is_digit byte ≡ false
@@ -149,7 +149,7 @@ by_slot : (slot : WidthOrPrecision) → too_large slot ≢ Unexpected
 by_slot Width e = cc
 by_slot Precision e = cc
 
--- a byte that can't stand somewhere is refused there behind specifications of any style
+-- a byte that isn't allowed in a place is refused there behind specifications of any style
 record StaysRefused (model : Model) (style : Numbering) (state : PosixState) (byte : ℕ) : Type 0 where
   kind : SignatureRefusalKind
   refused : posix_step model style state byte ≡ Err kind
@@ -169,7 +169,7 @@ module _ (model : Model) (byte : ℕ) where
   one_refused : (a b : SignatureRefusalKind) (x : PosixStep) → x ≡ Err a → x ≡ Err b → a ≡ b
   one_refused a b x e f = let both : Result.Err a ≡ Result.Err b = sym e ∙ f in cc
 
-  -- where numbered specifications are told from others
+  -- where numbered specifications differ from others
   module _ (state : PosixState) (rest : PosixStep) (mixed : posix_step model Numbered state byte ≡ Err (stray byte Mixed)) (plain : (s : Numbering) → s ≢ Numbered → posix_step model s state byte ≡ rest) where
     styles_stay : (a b : Numbering) → posix_step model a state byte ≡ Err Unexpected → StaysRefused model b state byte
     styles_stay Numbered b e = absurd (never_stray _ _ refl refl (one_refused _ _ _ mixed e))

@@ -15,19 +15,19 @@ use Rattle.pf_signatures.specs.declared.refusals.SignatureRefusalKind.{Signature
 use Rattle.pf_signatures.specs.declared.refusals.SignatureRefusalKind.TheVariants.{AltUndefined, ZeroUndefined, GroupUndefined, PrecisionUndefined, LengthUndefined, CountUndefined}
 use Rattle.pf_signatures.specs.Specifications.{PosixSpecification}
 
--- `#` says something of it (C11 7.21.6.1 p6)
+-- the flag `#` is defined for it (C11 7.21.6.1 p6)
 abbrev pub takes_alt : Conversion → Bool
 takes_alt (Profile conv) = has_alternative_form conv
 takes_alt (Float floating) = true
 takes_alt _ = false
 
--- `0` does: an integer or a floating number (C11 7.21.6.1 p6)
+-- the flag `0` is: it prints an integer or a floating number (C11 7.21.6.1 p6)
 abbrev pub takes_zero : Conversion → Bool
 takes_zero (Profile conv) = not (is_text conv)
 takes_zero (Float floating) = true
 takes_zero _ = false
 
--- `f F g G`
+-- `f F g G`, whose digits the flag `'` groups
 abbrev pub is_grouped_floating : Floating → Bool
 is_grouped_floating floats.F = true
 is_grouped_floating floats.UpperF = true
@@ -35,20 +35,20 @@ is_grouped_floating floats.G = true
 is_grouped_floating floats.UpperG = true
 is_grouped_floating _ = false
 
--- `'` does (POSIX fprintf)
+-- the flag `'` is (POSIX fprintf)
 abbrev pub takes_group : Conversion → Bool
 takes_group (Profile conv) = is_decimal conv
 takes_group (Float floating) = is_grouped_floating floating
 takes_group _ = false
 
--- a precision does (C11 7.21.6.1 p4)
+-- a precision is (C11 7.21.6.1 p4)
 abbrev pub takes_precision : Conversion → Bool
 takes_precision (Profile conv) = not (is_char conv)
 takes_precision (Float floating) = true
 takes_precision UpperS = true
 takes_precision _ = false
 
--- a length modifier of integers does (C11 7.21.6.1 p7); `lf` is `f`, and `lc` and `ls` are wide
+-- a length modifier is (C11 7.21.6.1 p7); `lf` is `f`, and `lc` and `ls` are wide
 abbrev pub takes_modifier : Conversion → Modifier → Bool
 takes_modifier (Profile conv) (Integer length) =
     not (is_text conv) || is_plain length || is_long length
@@ -69,7 +69,7 @@ abbrev pub has_any_flag : FlagSet → Bool
 has_any_flag set =
     has set Minus || has set Plus || has set Space || has set Alt || has set Zero || has set Group
 
--- which kinds of refusal a specification gives, by whether there are a width and a precision
+-- the kinds for which a specification is undefined, by whether there are a width and a precision
 abbrev pub is_undefined_as : FlagSet → Bool → Bool → Modifier → Conversion → SignatureRefusalKind → Bool
 is_undefined_as set width precision modifier conversion AltUndefined =
     has set Alt && not (takes_alt conversion)
@@ -85,7 +85,7 @@ is_undefined_as set width precision modifier conversion CountUndefined =
     is_count conversion && (has_any_flag set || width || precision)
 is_undefined_as set width precision modifier conversion _ = false
 
--- the least number that it gives
+-- the first of these kinds in the order of their numbers
 abbrev pub undefined_as : FlagSet → Bool → Bool → Modifier → Conversion
     → Option SignatureRefusalKind
 undefined_as set width precision modifier conversion =

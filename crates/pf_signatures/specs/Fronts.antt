@@ -1,4 +1,4 @@
--- What has come of a specification, and what it has fetched by then.
+-- What was read of a specification, and what it has fetched by then.
 use Rattle.std.specs.Prelude.{◌≡◌, ◌≢◌, ℕ, ◌≤◌, true, false, List, [], ◌∷◌, ◌++◌, map, Option, Some, None, is_some, ⊤}
 use Rattle.std.specs.Fmt.{digit_glyph}
 use Rattle.pf_values.specs.declared.lengths.Length.TheVariants as lengths
@@ -16,7 +16,7 @@ use Rattle.pf_signatures.specs.Spelling.{SpellsUpToFlags, SpellsUpToWidth, Spell
 use Rattle.pf_signatures.specs.Stages.{PosixState, Between, Opened, First, Flags, Digits, Star, StarDigits, Placed, Point, Modified}
 use Rattle.pf_signatures.specs.Types.{fetch, star_fetches}
 
--- what stands before a width, or before a precision and behind its point (C11 7.21.6.1 p4)
+-- what comes before a width, or before a precision and behind its point (C11 7.21.6.1 p4)
 abbrev pub IsBefore : WidthOrPrecision → Text → PartialSpecification → List Fetch → Type 0
 IsBefore Width t parts own = SpellsUpToFlags t parts.position parts.flags × (parts.width ≡ true)
     × (parts.precision ≡ false) × (own ≡ [])
@@ -24,7 +24,7 @@ IsBefore Precision t parts own = (before : Text) × (width : Option Amount)
     × SpellsUpToWidth before parts.position parts.flags width × (t ≡ before ++ point ∷ [])
     × (parts.width ≡ is_some width) × (parts.precision ≡ true) × (own ≡ star_fetches width)
 
--- what stands before a modifier (C11 7.21.6.1 p4)
+-- what comes before a modifier (C11 7.21.6.1 p4)
 pub record HasNumbers (t : Text) (parts : PartialSpecification) (own : List Fetch) : Type 0 where
   pub width : Option Amount
   pub precision : Option Amount
@@ -39,7 +39,7 @@ SpellsDigits Width t n = SpellsPositive t n
 SpellsDigits Precision t n = (ds : List ℕ) × AreDigits 10 n ds × (ds ≢ []) × (n ≤ MAX_NUMBER)
     × (t ≡ map (digit_glyph false) ds)
 
--- a width is told from the number of an argument by what stands before it
+-- digits right behind `%` may be a width or the number of an argument, others are a width
 abbrev pub IsNotFirst : WidthOrPrecision → Text → Type 0
 IsNotFirst Width before = before ≢ percent ∷ []
 IsNotFirst Precision before = ⊤
@@ -49,7 +49,7 @@ abbrev pub at_star : Option ℕ → List Fetch
 at_star None = fetch None Int ∷ []
 at_star (Some n) = []
 
--- the state says what has come, and what was fetched
+-- a state says which part of an item was read, and what it has fetched
 abbrev pub IsStateAfter : PosixState → Text → List Fetch → Type 0
 IsStateAfter Between part own = (part ≡ []) × (own ≡ [])
 IsStateAfter Opened part own = (part ≡ percent ∷ []) × (own ≡ [])

@@ -7,7 +7,7 @@ use Rattle.pf_signatures.specs.declared.refusals.SignatureRefusalKind.TheVariant
 use Rattle.pf_signatures.specs.declared.types.ArgumentType.{ArgumentType}
 use Rattle.pf_signatures.specs.declared.types.ArgumentType.TheVariants.{Int, UInt, Long, ULong, LongLong, ULongLong, Str, Double, LongDouble, WideChar, WideString, Pointer, PointerToSChar, PointerToShort, PointerToInt, PointerToLong, PointerToLongLong}
 
--- the number that a refusal is told by
+-- the number of a kind of refusal
 abbrev pub signature_kind_number : SignatureRefusalKind → ℕ
 signature_kind_number NulByte = 1
 signature_kind_number Truncated = 2
@@ -26,7 +26,7 @@ signature_kind_number Mixed = 20
 signature_kind_number MissingArgument = 21
 signature_kind_number TwoTypes = 22
 
--- the name that is told with it
+-- the name of a kind of refusal
 abbrev pub signature_kind_name : SignatureRefusalKind → Text
 signature_kind_name NulByte = codes "NulByte"
 signature_kind_name Truncated = codes "Truncated"

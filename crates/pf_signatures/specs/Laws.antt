@@ -17,14 +17,14 @@ IsAcceptedOrRefused model t =
     ((types : List ArgumentType) × HasArguments model t types)
     ⊎ ((kind : SignatureRefusalKind) × (at : ℕ) × IsPosixRefusedAt model t kind at)
 
--- as many types as there is room for, and behind them what was there
+-- types at the front of a slice, as many as there is room for, and then what was there
 abbrev pub filled : List ArgumentType → List ArgumentType → List ArgumentType
 filled [] types = []
 filled (o ∷ old) [] = o ∷ old
 filled (o ∷ old) (type ∷ types) = type ∷ filled old types
 
--- of the types of a text there are so many, and the first of them stand at the front of a slice, as
--- many as there is room for; behind them it is as it was
+-- a text has so many types, and the first of them are at the front of a slice, as many as there is
+-- room for; the rest of the slice is as it was
 pub record HasCount (model : Model) (t : Text) (old new : List ArgumentType)
     (count : ℕ) : Type 0 where
   pub types : List ArgumentType

@@ -1,4 +1,4 @@
--- What single bytes stand for in a specification.
+-- Single bytes of a specification: length modifiers and conversions.
 use Rattle.std.specs.Prelude.{ℕ, ◌&&◌, Bool, nat_le, ◌==◌, List, [], ◌∷◌, Option, Some, None, find, if◌then◌else◌}
 use Rattle.pf_values.specs.declared.conversions.Conv.TheVariants.{D, I, U, O, X, UpperX, B, C, S}
 use Rattle.pf_values.specs.declared.lengths.Length.TheVariants as lengths

@@ -1,4 +1,4 @@
--- What the automaton answers of a byte. No public contract speaks of it.
+-- What the automaton answers to a byte. No public contract names these.
 use Rattle.std.specs.Prelude.{ℕ, Some, Result, Ok, Err}
 use Rattle.pf_signatures.specs.declared.automaton.Automaton.{Automaton}
 use Rattle.pf_signatures.specs.declared.automaton.Move.{Move}
@@ -8,7 +8,7 @@ use Rattle.pf_signatures.specs.declared.refusals.SignatureRefusalKind.{Signature
 use Rattle.pf_signatures.specs.Stages.{PosixState, posix_state_in_phase, posix_state_of}
 use Rattle.pf_signatures.specs.States.{PosixStep, move_to}
 
--- what an answer, and the automaton after it, say of the byte
+-- the step that an answer of the automaton and its state after it make
 abbrev pub posix_step_by : Result Move SignatureRefusalKind → Automaton → PosixStep
 posix_step_by (Ok moves.More) a = move_to (posix_state_of a)
 posix_step_by (Ok moves.Fetched) a = Ok (posix_state_of a, Some a.fetch)

@@ -28,12 +28,12 @@ abbrev pub style_by : Option ℕ → Numbering
 style_by None = Unnumbered
 style_by (Some n) = Numbered
 
--- whether the first one is
+-- whether the first one is fetched by its number
 abbrev pub style_of : List Fetch → Numbering
 style_of [] = Undecided
 style_of (f ∷ fetched) = style_by f.number
 
--- the style of a specification, where that much has come
+-- the style of a specification, where it shows in what was read
 abbrev pub style_in : PosixState → Option Numbering
 style_in Between = None
 style_in Opened = None
@@ -65,8 +65,8 @@ abbrev pub HasGap : List Fetch → Type 0
 HasGap fetched = (place : ℕ) × (later : ℕ) × (place < later) × IsFetched later fetched
     × ¬ IsFetched place fetched
 
--- Items, and what has come of one more. Each is defined, its numbers are within the limits, and what
--- was fetched agrees.
+-- Items, and the front of one more. Each is defined, its numbers are within the limits, and what was
+-- fetched agrees.
 pub record IsGoodPosixFront (model : Model) (front : Text) (fetches : List Fetch)
     (state : PosixState) : Type 0 where
   pub items : List PosixItem
@@ -85,23 +85,23 @@ abbrev pub IsInSpecification : PosixState → Type 0
 IsInSpecification Between = ⊥
 IsInSpecification _ = ⊤
 
--- and more of it than its `%` has come
+-- more of a specification than its `%` was read
 abbrev pub IsPastPercent : PosixState → Type 0
 IsPastPercent Between = ⊥
 IsPastPercent Opened = ⊥
 IsPastPercent _ = ⊤
 
 -- The byte shows that numbered specifications and others are mixed, which is undefined (POSIX
--- fprintf): a `$` does behind others, and behind numbered ones whatever stands in the place of a
--- number or of its `$`.
+-- fprintf): it is a `$`, where earlier ones aren't numbered; or where they are, it is in the place of
+-- a number or of its `$`, and is neither.
 abbrev pub MixesNumbers : PosixState → Numbering → ℕ → Type 0
 MixesNumbers Opened style byte = (style ≡ Numbered) × (is_first_digit byte ≡ false)
 MixesNumbers (First n) style byte = ((style ≡ Unnumbered) × (byte ≡ dollar))
     ⊎ ((style ≡ Numbered) × (is_digit byte ≡ false) × (byte ≢ dollar))
 MixesNumbers _ style byte = ⊥
 
--- So does a digit behind the `*` of a specification that isn't numbered, and in a numbered one
--- whatever stands in the place of its number or of the `$` (POSIX fprintf on `*m$`).
+-- The same behind a `*`: it is a digit, where the specification isn't numbered; or where it is, it is
+-- in the place of a number or of its `$`, and is neither (POSIX fprintf on `*m$`).
 abbrev pub MixesStar : Option ℕ → ℕ → Type 0
 MixesStar None byte = is_digit byte ≡ true
 MixesStar (Some n) byte = is_first_digit byte ≡ false
@@ -120,8 +120,8 @@ too_large Precision = PrecisionTooLarge
 abbrev pub PassesLimit : ℕ → ℕ → Type 0
 PassesLimit n byte = (is_digit byte ≡ true) × (MAX_NUMBER < 10 * n + (byte - zero_digit))
 
--- So does a width, a precision, or the number of the argument of one; what stands before a `$` is
--- told as a width.
+-- The byte is such a digit of a width, of a precision, or of the number of an argument. A number right
+-- behind `%` is refused as a width.
 abbrev pub IsNumberTooLarge : PosixState → ℕ → SignatureRefusalKind → Type 0
 IsNumberTooLarge (First n) byte kind = PassesLimit n byte × (kind ≡ WidthTooLarge)
 IsNumberTooLarge (Digits slot parts n) byte kind = PassesLimit n byte × (kind ≡ too_large slot)
@@ -134,7 +134,7 @@ pub record CompletesSpecification (style : Numbering) (part : Text) (byte : ℕ)
   pub spelled : SpellsPosix (part ++ byte ∷ []) s
   pub follows : Follows style (Some (style_by s.position))
 
--- that isn't defined, for this reason first (C11 7.21.6.1 p4 to p9)
+-- the byte ends a specification that isn't defined, for this reason first (C11 7.21.6.1 p4 to p9)
 abbrev pub CompletesUndefined : Numbering → Text → ℕ → SignatureRefusalKind → Type 0
 CompletesUndefined style part byte kind =
     (end : CompletesSpecification style part byte) × (undefined_of end.s ≡ Some kind)
@@ -144,17 +144,17 @@ abbrev pub FetchesStar : PosixState → ℕ → Fetch → Type 0
 FetchesStar (StarDigits slot parts n) byte f = (byte ≡ dollar) × (f ≡ fetch (Some n) Int)
 FetchesStar _ byte f = ⊥
 
--- or the conversion, which fetches the last argument of a specification
+-- the byte is the conversion, which fetches the last argument of a specification
 abbrev pub FetchesLast : Model → Numbering → Text → ℕ → Fetch → Type 0
 FetchesLast model style part byte f = (end : CompletesSpecification style part byte) × IsPosixDefined end.s
     × (f ≡ fetch end.s.position (conversion_type model end.s.modifier end.s.conversion))
 
--- with the byte, neither a specification nor the beginning of one has come
+-- with the byte, the part of the item is neither a specification nor the beginning of one
 pub record CannotStand (part : Text) (byte : ℕ) : Type 0 where
   pub no_whole : (s : PosixSpecification) → ¬ SpellsPosix (part ++ byte ∷ []) s
   pub no_part : (to : PosixState) (own : List Fetch) → ¬ IsStateAfter to (part ++ byte ∷ []) own
 
--- the byte stands where none can, and no other reason holds
+-- the byte isn't allowed where it is, and no other reason holds
 pub record IsUnexpected (style : Numbering) (part : Text) (state : PosixState) (byte : ℕ) : Type 0 where
   pub begun : IsInSpecification state
   pub one_kind : ¬ IsMixed state style byte
@@ -172,7 +172,7 @@ IsWrong model fetches part state byte kind =
     × ¬ AllByRecursion (IsOneType f) fetches)
     ⊎ ((kind ≡ Unexpected) × IsUnexpected (style_of fetches) part state byte)
 
--- why a byte is refused where so much has come: a zero byte everywhere, `%` inside a specification
+-- why a byte is refused behind a front: a zero byte everywhere, `%` inside a specification
 abbrev pub IsPosixRefusedByte : Model → List Fetch → Text → PosixState → ℕ → SignatureRefusalKind → Type 0
 IsPosixRefusedByte model fetches part state byte kind = MatchBool (byte == 0) (kind ≡ NulByte)
     (MatchBool (byte == percent) ((kind ≡ BadPercent) × IsPastPercent state)

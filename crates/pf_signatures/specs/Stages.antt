@@ -1,4 +1,4 @@
--- How far a specification has come. The parts come in the order of C11 7.21.6.1 p4.
+-- The states of the automaton. The parts come in the order of C11 7.21.6.1 p4.
 use Rattle.std.specs.Prelude.{ℕ}
 use Rattle.pf_signatures.specs.declared.automaton.Automaton.{Automaton}
 use Rattle.pf_signatures.specs.declared.automaton.Phase.{Phase}
@@ -7,9 +7,9 @@ use Rattle.pf_signatures.specs.declared.conversions.Modifier.{Modifier}
 use Rattle.pf_signatures.specs.declared.partial_specification.PartialSpecification.{PartialSpecification}
 use Rattle.pf_signatures.specs.declared.partial_specification.WidthOrPrecision.{WidthOrPrecision}
 
--- what has come of an item
+-- what was read of an item
 pub data PosixState : Type 0 where
-  -- nothing has come
+  -- nothing
   Between : PosixState
   -- the opening `%`
   Opened : PosixState
@@ -43,6 +43,6 @@ posix_state_in_phase phases.Placed a = Placed a.slot a.parts
 posix_state_in_phase phases.Point a = Point a.parts
 posix_state_in_phase phases.Modified a = Modified a.parts a.modifier
 
--- the state that the fields of an automaton stand for; in each phase only some of them count
+-- the state that the fields of an automaton give; in each phase only some of them count
 abbrev pub posix_state_of : Automaton → PosixState
 posix_state_of a = posix_state_in_phase a.phase a

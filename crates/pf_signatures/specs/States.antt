@@ -1,7 +1,6 @@
--- What one more byte makes of what has come of an item, as the code reads it; no public contract
--- speaks of it. The parts come in the order of C11 7.21.6.1 p4; that a format mixes numbered
--- specifications and others is undefined (POSIX fprintf), and is told by the first byte that shows
--- it.
+-- What one more byte makes of the state of an item, as the code reads it; no public contract names
+-- these. The parts come in the order of C11 7.21.6.1 p4; that a format mixes numbered specifications
+-- and others is undefined (POSIX fprintf), and the first byte that shows it is refused.
 use Rattle.std.specs.Prelude.{ℕ, ◌+◌, ◌-◌, ◌*◌, true, false, nat_lt, ◌==◌, Option, Some, None, Result, Ok, Err, if◌then◌else◌}
 use Rattle.pf_values.specs.declared.flags.Flag.{Flag}
 use Rattle.pf_values.specs.declared.lengths.Length.TheVariants as lengths
@@ -33,7 +32,7 @@ use Rattle.pf_signatures.specs.Types.{fetch, conversion_type}
 abbrev pub PosixStep : Type 0
 PosixStep = Result (PosixState × Option Fetch) SignatureRefusalKind
 
--- the item goes on
+-- the byte leads to a state and fetches nothing
 abbrev pub move_to : PosixState → PosixStep
 move_to state = Ok (state, None)
 
@@ -42,7 +41,7 @@ abbrev pub parts_at : Option ℕ → PartialSpecification
 parts_at position =
     record { position = position; flags = no_flags; width = false; precision = false }
 
--- why a byte is refused that can't stand where it does: a zero byte and `%` have reasons of their
+-- why a byte is refused in a place where it isn't allowed: a zero byte and `%` have reasons of their
 -- own
 abbrev pub stray : ℕ → SignatureRefusalKind → SignatureRefusalKind
 stray byte kind = if byte == 0 then NulByte else if byte == percent then BadPercent else kind

@@ -1,4 +1,4 @@
--- Two formats read side by side, as the code reads them. No public contract speaks of it.
+-- Two formats read side by side, as the code reads them. No public contract names these.
 use Rattle.std.specs.Prelude.{ℕ, ◌≤◌, List, length, Option, Some, None, ◌⊎◌, if◌then◌else◌, ◌==◌}
 use Rattle.pf_values.specs.declared.models.Model.{Model}
 use Rattle.pf_values.specs.Text.{Text}
@@ -16,7 +16,7 @@ use Rattle.pf_signatures.specs.Items.{HasArguments}
 use Rattle.pf_signatures.specs.Kinds.{type_number}
 use Rattle.pf_signatures.specs.Laws.{ComparesArgumentTypes, IsFirstDifference}
 
--- what comes next, if it isn't by its number
+-- the next argument, if it isn't fetched by its number
 abbrev pub unnumbered_fetch : Option ℕ → ArgumentType → UnnumberedNext
 unnumbered_fetch None wanted = unnumbered.Wanted wanted
 unnumbered_fetch (Some n) wanted = unnumbered.Other
@@ -36,19 +36,19 @@ paired unnumbered.End unnumbered.End = pairs.End
 paired unnumbered.End unnumbered.Other = pairs.Other
 paired unnumbered.Other beside = pairs.Other
 
--- where none of two texts is refused, this is where their types differ
+-- if neither text is refused, this is the first index at which their types differ
 abbrev pub DifferAt : Model → Text → Text → ℕ → Type 0
 DifferAt model first second index = (types others : List ArgumentType)
     → HasArguments model first types → HasArguments model second others
     → IsFirstDifference types others (Some index)
 
--- and one has no more arguments than a numbered one can have
+-- if neither text is refused, one has no more arguments than a numbered one can have
 abbrev pub AreFew : Model → Text → Text → Type 0
 AreFew model first second = (types others : List ArgumentType)
     → HasArguments model first types → HasArguments model second others
     → (length types ≤ ROOM) ⊎ (length others ≤ ROOM)
 
--- what is found of two texts
+-- what the comparison of two texts finds
 abbrev pub IsInStepResult : Model → Text → Text → InStepResult → Type 0
 IsInStepResult model first second steps.Equal = ComparesArgumentTypes model first second None
 IsInStepResult model first second (steps.Differ index) = DifferAt model first second index

@@ -1,4 +1,4 @@
--- The types of numbered arguments, as the code keeps them. No public contract speaks of it.
+-- The types of numbered arguments in a table, as the code has it. No public contract names these.
 use Rattle.std.specs.Prelude.{◌≡◌, ℕ, ◌<◌, ◌≤◌, List, None, length, slice_index_or}
 use Rattle.std.specs.List.{AllByRecursion}
 use Rattle.pf_values.specs.declared.models.Model.{Model}

@@ -89,7 +89,7 @@ abbrev pub HasTypeIn : List ArgumentType → Fetch → Type 0
 HasTypeIn types f =
     (place : ℕ) × (f.number ≡ Some (place + 1)) × (slice_get types place ≡ Some f.wanted)
 
--- an argument is fetched, before which so many stand
+-- the argument at a place, counted from 0, is fetched
 abbrev pub IsFetched : ℕ → List Fetch → Type 0
 IsFetched place [] = ⊥
 IsFetched place (f ∷ fetched) = (f.number ≡ Some (place + 1)) ⊎ IsFetched place fetched
@@ -104,7 +104,7 @@ pub record AreNumbered (fetched : List Fetch) (types : List ArgumentType) : Type
   pub each : AllByRecursion (HasTypeIn types) fetched
   pub all : (place : ℕ) → place < length types → IsFetched place fetched
 
--- the types of the arguments that are fetched; both kinds of specifications never stand in one
--- format (POSIX fprintf)
+-- the types of the arguments that are fetched; a format never has specifications of both kinds
+-- (POSIX fprintf)
 abbrev pub HaveTypes : List Fetch → List ArgumentType → Type 0
 HaveTypes fetched types = AreInOrder fetched types ⊎ AreNumbered fetched types

@@ -1,4 +1,4 @@
--- A walk through a text, as the code makes it. No public contract speaks of it.
+-- The reader of a text, as the code has it. No public contract names these.
 use Rattle.std.specs.Prelude.{◌≡◌, ℕ, ◌+◌, ◌<◌, ◌≤◌, length, drop}
 use Rattle.pf_values.specs.declared.models.Model.{Model}
 use Rattle.pf_values.specs.Text.{Text}
@@ -8,7 +8,7 @@ use Rattle.pf_signatures.specs.declared.reader.Reader.{Reader}
 use Rattle.pf_signatures.specs.Readings.{Fault, Fetches, FetchTrace, Whole, trace_from}
 use Rattle.pf_signatures.specs.Stages.{posix_state_of}
 
--- what is read from a reader on
+-- the trace of the text that a reader has left
 abbrev pub trace_left : Model → Text → Reader → FetchTrace
 trace_left model t reader = trace_from model reader.style (posix_state_of reader.automaton) reader.at (drop reader.at t)
 

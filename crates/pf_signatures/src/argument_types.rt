@@ -18,9 +18,9 @@ use std::alloc::{AllocError, Global};
 
 /// The types of the arguments that a format of the whole language takes in a data model (C11
 /// 7.21.6.1, paragraphs 3 to 9; POSIX fprintf on numbered arguments), of which there are `count`.
-/// The first of them, as many as `out` has room for, stand at its front, and what is behind them
-/// in `out` is as it was. Where the format is refused, `out` is of the same length, and nothing is
-/// said of what it holds.
+/// The first of them, as many as `out` has room for, are put at its front, and the rest of `out` is
+/// as it was. Where the format is refused, `out` has the same length, and its contents are
+/// unspecified.
 pub fn arguments(
     model: Model,
     text: &[u8],
@@ -42,7 +42,7 @@ pub fn arguments(
     }
 }
 
-// The rest of a format that isn't numbered.
+// The types of a format that isn't numbered, of which the first argument was read.
 fn in_order(
     model: Model,
     text: &[u8],
@@ -74,7 +74,7 @@ fn in_order(
     }
 }
 
-// The rest of a numbered format.
+// The types of a numbered format, of which the first argument was read.
 #[inline(never)]
 fn by_number(
     model: Model,
@@ -124,7 +124,7 @@ pub fn arguments_vec(
     }
 }
 
-// Room for so many types. None of them wants no memory.
+// Room for so many types. Where that is none, no memory is taken.
 fn room_for(alloc: Global, count: u64) -> Result<Vec<ArgumentType>, AllocError>
     ensures room { IfOk result (λ types. length types.items ≡ count) }
     ensures some { IfErr result (λ _. 0 < count) }

@@ -1,4 +1,4 @@
-//! How far an item has come, and what one more byte makes of it.
+//! The automaton that reads items: what was read of an item, and what one more byte makes of it.
 ghost use Rattle.std.specs.Prelude.{◌≡◌, ◌<◌, ◌↔◌, ℕ, false, IsTrue, Some, None, Ok};
 ghost use Rattle.pf_signatures.specs.declared.types.ArgumentType.TheVariants.{Int};
 ghost use Rattle.pf_signatures.specs.Letters.{is_first_digit};
@@ -19,7 +19,7 @@ use crate::fetches::conversion_type;
 use pf_values::limits::MAX_NUMBER;
 use pf_values::{Length, Model};
 
-/// What has come of an item.
+/// What was read of an item.
 #[derive(Clone, Copy, Debug)]
 pub(crate) enum Phase {
     /// Nothing.
@@ -44,7 +44,7 @@ pub(crate) enum Phase {
     Modified,
 }
 
-/// What a byte makes. It holds nothing, so that it goes in a register.
+/// What a byte does. It holds nothing, so that it is returned in a register.
 #[derive(Clone, Copy, Debug)]
 pub(crate) enum Move {
     /// The byte is inside an item, or a whole one.
@@ -53,22 +53,22 @@ pub(crate) enum Move {
     Fetched,
 }
 
-/// What has come of an item, in fields that are changed in place. In each phase only some of them
+/// What was read of an item, in fields that are changed in place. In each phase only some of them
 /// count.
 #[derive(Clone, Copy, Debug)]
 pub(crate) struct Automaton {
     phase: Phase,
     slot: WidthOrPrecision,
     parts: PartialSpecification,
-    /// The digits so far of a number.
+    /// The number of the digits so far.
     number: u16,
     modifier: Modifier,
-    /// What was fetched last.
+    /// The argument that was fetched last.
     fetch: Fetch,
 }
 
 impl Automaton {
-    /// Nothing has come.
+    /// An automaton before an item.
     #[inline(always)]
     pub(crate) fn new() -> Automaton
         ensures { posix_state_of result ≡ Between }
@@ -86,7 +86,7 @@ impl Automaton {
         }
     }
 
-    /// Whether nothing of an item has come.
+    /// Whether the automaton is between two items.
     #[inline(always)]
     pub(crate) fn is_between(&self) -> bool
         ensures { IsTrue result ↔ (posix_state_of self.now ≡ Between) }
@@ -94,7 +94,7 @@ impl Automaton {
         matches!(self.phase, Phase::Between)
     }
 
-    /// What was fetched last.
+    /// The argument that was fetched last.
     #[inline(always)]
     pub(crate) fn fetch(&self) -> Fetch
         ensures { result ≡ self.now.fetch }
@@ -102,8 +102,8 @@ impl Automaton {
         self.fetch
     }
 
-    /// Takes one more byte, where earlier specifications are of a style. After a refusal the state
-    /// means nothing.
+    /// Takes one more byte, behind specifications that are numbered or aren't. After a refusal the
+    /// automaton is of no use.
     #[inline(always)]
     pub(crate) fn step(
         &mut self,
@@ -266,7 +266,7 @@ impl Automaton {
         }
     }
 
-    // A `*`.
+    // Takes a `*`.
     #[inline(always)]
     fn star_at(&mut self, slot: WidthOrPrecision) -> Result<Move, SignatureRefusalKind>
         ensures { posix_step_by result self.new ≡ star_at slot self.old.parts self.old.parts.position }
@@ -282,7 +282,7 @@ impl Automaton {
         }
     }
 
-    // The `$` behind the number of a `*`.
+    // Takes the `$` behind the number of a `*`, which fetches an argument.
     #[inline(always)]
     fn fetches(&mut self, number: Option<u16>) -> Result<Move, SignatureRefusalKind>
         ensures { posix_step_by result self.new
@@ -327,7 +327,7 @@ impl Automaton {
         }
     }
 
-    /// After a width a precision may begin.
+    /// Takes a byte after a width or a precision: after a width a precision may begin.
     #[inline(always)]
     fn after_amount(&mut self, model: Model, byte: u8) -> Result<Move, SignatureRefusalKind>
         ensures { posix_step_by result self.new
@@ -345,7 +345,7 @@ impl Automaton {
         }
     }
 
-    /// After the numbers a modifier may begin, or the specification ends.
+    /// Takes a byte after the numbers: a modifier may begin, or the specification ends.
     #[inline(always)]
     fn after_numbers(&mut self, model: Model, byte: u8) -> Result<Move, SignatureRefusalKind>
         ensures { posix_step_by result self.new ≡ after_numbers model self.old.parts byte }
@@ -357,7 +357,7 @@ impl Automaton {
         self.conversion_at(model, Modifier::Integer(Length::None), byte)
     }
 
-    /// A second letter of a modifier, or the end.
+    /// Takes the second letter of a modifier, or the conversion.
     #[inline(always)]
     fn after_modifier_letter(&mut self, model: Model, byte: u8) -> Result<Move, SignatureRefusalKind>
         ensures { posix_step_by result self.new
@@ -376,7 +376,7 @@ impl Automaton {
         }
     }
 
-    /// The specification ends, or nothing goes on with it.
+    /// The byte is the conversion, which ends the specification, or is refused.
     #[inline(always)]
     fn conversion_at(
         &mut self,
@@ -420,7 +420,7 @@ fn too_large(slot: WidthOrPrecision) -> SignatureRefusalKind
     }
 }
 
-// Why a byte is refused that can't stand where it does.
+// Why a byte is refused in a place where it isn't allowed.
 fn stray(byte: u8, kind: SignatureRefusalKind) -> SignatureRefusalKind
     ensures { result ≡ stray byte kind }
 {

@@ -28,7 +28,7 @@ pub enum FitsRefusal {
 /// Whether the second format takes just the arguments of the first (C11 7.21.6.1, paragraph 3;
 /// POSIX fprintf on numbered arguments): `None` where the lists of their types are equal, else the
 /// least index from 0 at which they differ, which is the length of the shorter one where that is a
-/// front of the other. The first format is read whole before the second.
+/// prefix of the other. Where both are refused, the refusal is that of the first.
 pub fn fits(model: Model, first: &[u8], second: &[u8]) -> Result<Option<u64>, FitsRefusal>
     ensures { MatchResult result (ComparesArgumentTypes model first.now second.now)
         (HindersFitting model first.now second.now) }
@@ -40,7 +40,7 @@ pub fn fits(model: Model, first: &[u8], second: &[u8]) -> Result<Option<u64>, Fi
     }
 }
 
-// Where two formats differ, unless one is refused.
+// The index at which two formats differ, unless one is refused.
 fn by_step(
     model: Model,
     first: &[u8],
@@ -60,7 +60,7 @@ fn by_step(
     }
 }
 
-// The same where one is refused or numbered, by the lists of their types.
+// The same by the lists of their types, where one of the formats is refused or numbered.
 #[inline(never)]
 fn by_tables(model: Model, first: &[u8], second: &[u8]) -> Result<Option<u64>, FitsRefusal>
     requires { AreFew model first.now second.now }
@@ -78,7 +78,7 @@ fn by_tables(model: Model, first: &[u8], second: &[u8]) -> Result<Option<u64>, F
     }
 }
 
-// Where two lists differ, of which the first types stand in slices, and one has no more than these.
+// The first index at which two lists differ. Slices hold their first types, and all of one list's.
 fn difference(
     types: &[ArgumentType],
     count: u64,

@@ -1,5 +1,5 @@
-//! Laws of the definitions: a text has one list of argument types, or is refused for one reason at one
-//! place.
+//! Laws of the definitions: a text has one list of argument types, or is refused for one reason and
+//! at one place.
 ghost use Rattle.std.specs.Prelude.{◌≡◌, ◌++◌, ◌<◌, ℕ, List, None, length, map};
 ghost use Rattle.pf_values.specs.declared.models.Model.{Model as model_of_data};
 ghost use Rattle.pf_values.specs.Items.{HasItems, IsAccepted, Item, types};
@@ -20,7 +20,7 @@ pub fn accepted_or_refused()
     ensures { (model : model_of_data) (t : Text) → IsAcceptedOrRefused model t }
 {}
 
-/// And never both.
+/// No text is both accepted and refused.
 pub fn never_both()
     ensures { (model : model_of_data) (t : Text) (types : List ArgumentType)
         (kind : SignatureRefusalKind) (at : ℕ) → HasArguments model t types
@@ -39,7 +39,7 @@ pub fn refused_once()
         → IsPosixRefusedAt model t kind p → IsPosixRefusedAt model t other q → (kind ≡ other) × (p ≡ q) }
 {}
 
-/// A text that is refused before its end is refused so however it goes on.
+/// A text that is refused before its end is refused so whatever bytes follow.
 pub fn refused_for_good()
     ensures { (model : model_of_data) (t more : Text) (kind : SignatureRefusalKind) (at : ℕ)
         → IsPosixRefusedAt model t kind at → at < length t → IsPosixRefusedAt model (t ++ more) kind at }
@@ -51,7 +51,7 @@ pub fn profile_types()
         → HasArguments model t (map widened (types model items)) }
 {}
 
-/// Two texts of the profile with one meaning fit.
+/// Two texts of the profile that are equivalent take the same arguments here.
 pub fn same_fits()
     ensures { (model : model_of_data) (t u : Text) → IsAccepted t → IsAccepted u
         → AreEquivalent model t u → ComparesArgumentTypes model t u None }

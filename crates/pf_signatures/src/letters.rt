@@ -1,4 +1,5 @@
-//! What single bytes stand for in a specification (C11 7.21.6.1, paragraphs 4 to 8).
+//! Single bytes of a specification: flags, length modifiers and conversions (C11 7.21.6.1,
+//! paragraphs 4 to 8).
 ghost use Rattle.std.specs.Prelude.{◌≡◌};
 ghost use Rattle.pf_signatures.specs.Letters.{conversion_of, length_modifier_of};
 ghost use Rattle.pf_text.specs.Letters.{flag_of};

@@ -6,18 +6,18 @@ use crate::reader::{NextFetch, Reader};
 use crate::types::ArgumentType;
 use pf_values::Model;
 
-/// What is found of two formats.
+/// How the arguments of two formats compare.
 #[derive(Clone, Copy, Debug)]
 pub(crate) enum InStepResult {
     /// Their types are equal.
     Equal,
-    /// They differ at this index, if none is refused.
+    /// They differ at this index, unless a format is refused.
     Differ(u64),
-    /// One is refused, or numbered.
+    /// One of the formats is refused or numbered.
     Other,
 }
 
-/// What comes next of a format that isn't numbered.
+/// What comes next in a format that isn't numbered.
 #[derive(Clone, Copy, Debug)]
 pub(crate) enum UnnumberedNext {
     /// An argument of this type.
@@ -28,20 +28,20 @@ pub(crate) enum UnnumberedNext {
     Other,
 }
 
-/// What comes next of two of them.
+/// What comes next in two such formats.
 #[derive(Clone, Copy, Debug)]
 pub(crate) enum NextPair {
     /// Two arguments of one type.
     Same,
     /// Two ends.
     End,
-    /// Two types, or a type and an end.
+    /// Two arguments of different types, or one argument and the end.
     Differ,
-    /// For one of them neither.
+    /// In one of them neither an argument nor the end.
     Other,
 }
 
-/// What is found of two formats, up to the first index at which they differ.
+/// Compares the arguments of two formats up to the first index at which they differ.
 pub(crate) fn compare_in_step(model: Model, first: &[u8], second: &[u8]) -> InStepResult
     ensures { IsInStepResult model first.now second.now result }
 {

@@ -5,7 +5,7 @@ ghost use Rattle.pf_signatures.specs.States.{parts_at, with_width};
 
 use pf_values::{Flag, FlagSet};
 
-/// Which of the two amounts.
+/// Whether a number or a `*` is for the width or for the precision.
 #[derive(Clone, Copy, Debug, PartialEq, Eq)]
 pub(crate) enum WidthOrPrecision {
     /// The field width.
@@ -17,7 +17,7 @@ pub(crate) enum WidthOrPrecision {
 /// Whether the specifications of a format are numbered.
 #[derive(Clone, Copy, Debug, PartialEq, Eq)]
 pub(crate) enum Numbering {
-    /// There was none yet.
+    /// There was no specification yet.
     Undecided,
     /// They aren't.
     Unnumbered,
@@ -25,7 +25,7 @@ pub(crate) enum Numbering {
     Numbered,
 }
 
-/// What has come of them.
+/// The parts of a specification before its length modifier, as far as they were read.
 #[derive(Clone, Copy, Debug, PartialEq, Eq)]
 pub(crate) struct PartialSpecification {
     /// The number of the argument.
@@ -39,7 +39,7 @@ pub(crate) struct PartialSpecification {
 }
 
 impl PartialSpecification {
-    /// None but the number of the argument.
+    /// No parts but the number of the argument.
     #[inline(always)]
     pub(crate) fn at(position: Option<u16>) -> PartialSpecification
         ensures { result ≡ parts_at position }
@@ -52,7 +52,7 @@ impl PartialSpecification {
         }
     }
 
-    /// The same with one flag more.
+    /// These parts with one flag more.
     #[inline(always)]
     pub(crate) fn with_flag(self, flag: Flag) -> PartialSpecification
         ensures { result ≡ record self { flags = with_flag self.flags flag } }
@@ -65,7 +65,7 @@ impl PartialSpecification {
         }
     }
 
-    /// The same with a field width.
+    /// These parts with a field width.
     #[inline(always)]
     pub(crate) fn with_width(self) -> PartialSpecification
         ensures { result ≡ with_width self }
@@ -78,7 +78,7 @@ impl PartialSpecification {
         }
     }
 
-    /// The same with a precision.
+    /// These parts with a precision.
     #[inline(always)]
     pub(crate) fn with_precision(self) -> PartialSpecification
         ensures { result ≡ record self { precision = true } }

@@ -1,4 +1,4 @@
-//! A walk through a text, from one argument that is fetched to the next.
+//! The reader of a text, which goes from one fetched argument to the next.
 ghost use Rattle.std.specs.Prelude.{◌≡◌, ◌+◌, ◌<◌, ◌≤◌, length, slice_index, MatchOption, ◌≢◌, ⊤, drop};
 ghost use Rattle.memchr.specs.Find.{Nowhere, Passes, is_byte2};
 ghost use Rattle.pf_values.specs.declared.limits.TheConstants.{MAX_TEXT_LEN as LIMIT};
@@ -23,7 +23,7 @@ use pf_text::literal_len;
 use pf_values::limits::MAX_TEXT_LEN;
 use pf_values::{Length, Model};
 
-/// What comes next.
+/// What comes next in a text.
 #[derive(Clone, Copy, Debug)]
 pub(crate) enum NextFetch {
     /// An argument is fetched.
@@ -34,7 +34,7 @@ pub(crate) enum NextFetch {
     Stop(SignatureRefusal),
 }
 
-/// How far a text was read.
+/// A reader of a text: its place, the automaton, and whether arguments are numbered.
 #[derive(Clone, Copy, Debug)]
 pub(crate) struct Reader {
     automaton: Automaton,
@@ -43,7 +43,7 @@ pub(crate) struct Reader {
 }
 
 impl Reader {
-    /// Nothing was read.
+    /// A reader before the first byte.
     #[inline(always)]
     pub(crate) fn new() -> Reader
         ensures start { result.at ≡ 0 }
@@ -56,7 +56,7 @@ impl Reader {
         }
     }
 
-    /// Behind which byte the last argument was fetched.
+    /// The place behind the byte at which the last argument was fetched.
     #[inline(always)]
     pub(crate) fn at(&self) -> usize
         ensures { result ≡ self.now.at }
@@ -64,7 +64,8 @@ impl Reader {
         self.at
     }
 
-    /// What comes next. Behind the end and behind a refusal the reader means nothing.
+    /// The next fetched argument, the end, or the refusal. After the end and after a refusal the
+    /// reader is of no use.
     #[inline(always)]
     pub(crate) fn next_fetch(&mut self, model: Model, text: &[u8]) -> NextFetch
         ensures next { IsNextFetch model text.now self.old result self.new }
@@ -78,7 +79,7 @@ impl Reader {
         self.end()
     }
 
-    // One turn, which may fetch nothing.
+    // Reads on by one byte or more; `None` where no argument is fetched by that.
     #[inline(always)]
     fn advance(&mut self, model: Model, text: &[u8]) -> Option<NextFetch>
         requires { self.old.at < length text.now }
@@ -105,7 +106,7 @@ impl Reader {
         self.take_byte(model, text)
     }
 
-    // Between items the bytes of a run are passed over.
+    // Passes over literal bytes between items.
     #[inline(always)]
     fn skip_literal(&mut self, text: &[u8]) -> Option<NextFetch>
         requires within { self.old.at < length text.now }
@@ -127,7 +128,8 @@ impl Reader {
         None
     }
 
-    // What is fetched where a specification of two bytes begins here, and none was numbered.
+    // The argument that is fetched where a specification of two bytes begins here, as `%d`, and no
+    // earlier one was numbered.
     #[inline(always)]
     fn two_byte_fetch(&self, model: Model, text: &[u8]) -> Option<Fetch>
         requires within { self.now.at < length text.now }
@@ -185,7 +187,7 @@ impl Reader {
         }
     }
 
-    // The text ends.
+    // The answer at the end of the text.
     #[inline(always)]
     fn end(&self) -> NextFetch
         ensures next { (model : ModelOf) (t : Text) (new : ReaderOf) → length t ≤ self.now.at
@@ -199,7 +201,7 @@ impl Reader {
     }
 }
 
-// How many literal bytes begin the rest of a text, as far as the limit allows.
+// How many bytes at the front of the rest of a text are literal, up to the limit of a text.
 #[inline(always)]
 fn run_len(rest: &[u8], at: usize) -> usize
     requires { at < LIMIT }

@@ -20,7 +20,7 @@ use pf_values::Model;
 /// As many arguments as a numbered format can have.
 pub(crate) const ROOM: usize = 4095;
 
-/// The type of each argument that is fetched, at its place, and the number of the greatest.
+/// The type of each fetched argument, at its place, and the greatest number of them.
 #[derive(Drop)]
 pub(crate) struct Table {
     types: [Option<ArgumentType>; ROOM],
@@ -28,7 +28,7 @@ pub(crate) struct Table {
 }
 
 impl Table {
-    /// No argument is fetched.
+    /// A table of no argument.
     pub(crate) fn new() -> Table
         ensures { TableHolds result [] }
     {
@@ -45,7 +45,7 @@ impl Table {
         self.count
     }
 
-    /// Fetches the rest of a text, and before it one argument.
+    /// Adds one argument, and after it those of the rest of a text.
     pub(crate) fn fill(
         &mut self,
         model: Model,
@@ -76,7 +76,7 @@ impl Table {
         }
     }
 
-    // Fetches an argument, unless it has another type.
+    // Adds an argument; `false` where it is there with another type.
     fn add_fetch(&mut self, place: usize, wanted: ArgumentType) -> bool
         requires { place < ROOM }
         ensures { (seen : List FetchOf) → TableHolds self.old seen
@@ -95,7 +95,7 @@ impl Table {
         }
     }
 
-    // Whether each argument is fetched, at the end of a text.
+    // Refuses a text at its end where an argument is missing.
     fn finish(&self, at: usize) -> Result<(), SignatureRefusal>
         requires room { self.now.count ≤ ROOM }
         ensures { (seen : List FetchOf) → TableHolds self.now seen → MatchResult result
@@ -112,7 +112,7 @@ impl Table {
         Ok(())
     }
 
-    /// Puts the first types at the front of a slice.
+    /// Copies the types to the front of a slice, as many as it has room for.
     pub(crate) fn copy_front(&self, out: &mut [ArgumentType])
         requires room { self.now.count ≤ ROOM }
         ensures types { (seen : List FetchOf) → TableHolds self.now seen
@@ -145,7 +145,7 @@ fn refusal(kind: SignatureRefusalKind, at: usize) -> SignatureRefusal
     }
 }
 
-/// Sets a place, if there is one.
+/// Sets the type at a place, if the slice has that place.
 #[inline(always)]
 pub(crate) fn put(out: &mut [ArgumentType], place: usize, wanted: ArgumentType)
     ensures length { length out.new ≡ length out.old }

@@ -8,7 +8,7 @@ use crate::refusals::SignatureRefusalKind;
 use crate::partial_specification::PartialSpecification;
 use pf_values::{Conv, Flag, FlagSet, Length};
 
-/// The least number of a kind for which a specification is undefined, if it is.
+/// The first kind, in the order of numbers, for which a specification is undefined, if it is.
 #[inline(always)]
 pub(crate) fn undefined_as(
     parts: PartialSpecification,
