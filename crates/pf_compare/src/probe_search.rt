@@ -13,9 +13,9 @@ ghost use Rattle.pf_compare.specs.Layouts.{HaveSameTypesAndBytes, AreTriedBelow,
 ghost use Rattle.pf_compare.specs.Lone.{span_alone};
 ghost use Rattle.pf_compare.specs.Spaces.{PrintEqualIn};
 
-use crate::predictions::{EqualPrintRange, are_equal, predict};
 use crate::layouts::{DirectiveSpan, Layout, print};
 use crate::owned_args::OwnedArg;
+use crate::predictions::{EqualPrintRange, are_equal, predict};
 use pf_probes::{Candidate, candidate_row};
 use pf_values::{Arg, ArgType, Directive, Model};
 use std::alloc::{AllocError, Global};

@@ -5,8 +5,7 @@ ghost use Rattle.pf_literals.specs.Elements.{Bytes};
 ghost use Rattle.pf_literals.specs.Walks.{AdvancesCursor, IsNextPart, reading_left};
 ghost use Rattle.pf_literals.specs.Readings.{Fault, HasNoFault, source_reading};
 
-use crate::faults::LiteralRefusal;
-use crate::faults::LiteralKind;
+use crate::faults::{LiteralKind, LiteralRefusal};
 use crate::search::verbatim_len;
 use crate::tokens::{Place, Token, token_at};
 

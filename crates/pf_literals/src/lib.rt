@@ -3,9 +3,9 @@
 
 mod cursor;
 mod decoding;
+mod encoded_parts;
 mod encoding;
 mod faults;
-mod encoded_parts;
 pub mod laws;
 mod notations;
 mod places;
@@ -17,6 +17,5 @@ mod tokens;
 
 pub use decoding::decode;
 pub use encoding::{encode, encoded_len};
-pub use faults::{LiteralFault, LiteralRefusal};
-pub use faults::LiteralKind;
+pub use faults::{LiteralFault, LiteralKind, LiteralRefusal};
 pub use places::source_offset;

@@ -12,7 +12,7 @@ ghost use Rattle.pf_render.specs.Rendering.{RendersInto, RendersTo};
 
 use crate::argument_lists::check_arguments;
 use crate::faults::{RenderFault, WriteFault};
-use crate::piece_cache::{PieceCache, FormatPart};
+use crate::piece_cache::{FormatPart, PieceCache};
 use crate::progress::Progress;
 use pf_text::Pieces;
 use pf_values::{Arg, Counted, Model};

@@ -9,8 +9,8 @@ ghost use Rattle.pf_values.specs.Text.{Text};
 ghost use Rattle.pf_render.specs.Counts.{WritesCounted};
 ghost use Rattle.pf_render.specs.Zeros.{fewest_digits, zeros_for};
 
-use crate::fields;
 use crate::digits::{MAX_DIGITS, write_digits_of};
+use crate::fields;
 use crate::fields::write_field;
 use crate::values::Value;
 use pf_values::{Alternative, Base, Counted, Directive, Flag, Kind, Model, ShortWrite};

@@ -7,10 +7,10 @@ mod directives;
 mod faults;
 mod fields;
 mod formats;
-mod rendered_vec;
 mod integers;
 mod piece_cache;
 mod progress;
+mod rendered_vec;
 #[cfg(test)]
 mod tests;
 mod texts;

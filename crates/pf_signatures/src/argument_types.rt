@@ -8,10 +8,9 @@ ghost use Rattle.pf_signatures.specs.Walks.{trace_left};
 ghost use Rattle.pf_signatures.specs.Items.{HasArguments};
 
 use crate::fetches::Fetch;
-use crate::tables::put;
 use crate::reader::{NextFetch, Reader};
 use crate::refusals::{SignatureFault, SignatureRefusal};
-use crate::tables::Table;
+use crate::tables::{Table, put};
 use crate::types::ArgumentType;
 use pf_values::Model;
 use std::alloc::{AllocError, Global};

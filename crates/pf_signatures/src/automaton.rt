@@ -9,13 +9,12 @@ ghost use Rattle.pf_signatures.specs.States.{after_amount, after_first, among_fl
 ghost use Rattle.pf_signatures.specs.Types.{fetch};
 
 use crate::conversions::Modifier;
-use crate::fetches::Fetch;
-use crate::refusals::SignatureRefusalKind;
+use crate::fetches::{Fetch, conversion_type};
 use crate::letters::{conversion_of, flag_of, length_modifier_of};
-use crate::partial_specification::{PartialSpecification, WidthOrPrecision, Numbering};
+use crate::partial_specification::{Numbering, PartialSpecification, WidthOrPrecision};
+use crate::refusals::SignatureRefusalKind;
 use crate::types::ArgumentType;
 use crate::undefined_combinations::undefined_as;
-use crate::fetches::conversion_type;
 use pf_values::limits::MAX_NUMBER;
 use pf_values::{Length, Model};
 

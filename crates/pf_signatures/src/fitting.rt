@@ -7,8 +7,8 @@ ghost use Rattle.pf_signatures.specs.Laws.{ComparesArgumentTypes, HindersFitting
 ghost use Rattle.pf_signatures.specs.Steps.{AreFew, DifferAt};
 
 use crate::argument_types::arguments;
-use crate::refusals::SignatureRefusal;
 use crate::pairs::{InStepResult, compare_in_step};
+use crate::refusals::SignatureRefusal;
 use crate::tables::ROOM;
 use crate::types::ArgumentType;
 use pf_values::Model;

@@ -9,19 +9,17 @@ mod fetches;
 mod fitting;
 pub mod laws;
 mod letters;
+mod pairs;
 mod partial_specification;
 mod reader;
 mod refusals;
-mod pairs;
 mod tables;
 #[cfg(test)]
 mod tests;
 mod types;
 mod undefined_combinations;
 
-pub use argument_types::arguments;
+pub use argument_types::{arguments, arguments_vec};
 pub use fitting::{FitsRefusal, fits};
-pub use argument_types::arguments_vec;
-pub use refusals::SignatureRefusalKind;
-pub use refusals::{SignatureFault, SignatureRefusal};
+pub use refusals::{SignatureFault, SignatureRefusal, SignatureRefusalKind};
 pub use types::ArgumentType;

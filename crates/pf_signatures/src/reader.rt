@@ -13,12 +13,10 @@ ghost use Rattle.pf_signatures.specs.Walks.{AdvancesReader, IsNextFetch, trace_l
 
 use crate::automaton::{Automaton, Move};
 use crate::conversions::Modifier;
-use crate::fetches::Fetch;
-use crate::refusals::SignatureRefusalKind;
+use crate::fetches::{Fetch, conversion_type};
 use crate::letters::conversion_of;
 use crate::partial_specification::Numbering;
-use crate::refusals::SignatureRefusal;
-use crate::fetches::conversion_type;
+use crate::refusals::{SignatureRefusal, SignatureRefusalKind};
 use pf_text::literal_len;
 use pf_values::limits::MAX_TEXT_LEN;
 use pf_values::{Length, Model};

@@ -11,9 +11,8 @@ ghost use Rattle.pf_signatures.specs.Types.{IsFetched, fetch};
 ghost use Rattle.pf_signatures.specs.declared.types.ArgumentType.{ArgumentType as ArgumentTypeOf};
 
 use crate::fetches::Fetch;
-use crate::refusals::SignatureRefusalKind;
 use crate::reader::{NextFetch, Reader};
-use crate::refusals::SignatureRefusal;
+use crate::refusals::{SignatureRefusal, SignatureRefusalKind};
 use crate::types::ArgumentType;
 use pf_values::Model;
 

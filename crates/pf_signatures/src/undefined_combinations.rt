@@ -4,8 +4,8 @@ ghost use Rattle.pf_signatures.specs.declared.conversions.Modifier.TheVariants.{
 ghost use Rattle.pf_signatures.specs.Defined.{has_any_flag, takes_alt, takes_group, takes_modifier, takes_precision, takes_zero, undefined_as, is_count};
 
 use crate::conversions::{Conversion, Floating, Modifier};
-use crate::refusals::SignatureRefusalKind;
 use crate::partial_specification::PartialSpecification;
+use crate::refusals::SignatureRefusalKind;
 use pf_values::{Conv, Flag, FlagSet, Length};
 
 /// The first kind, in the order of numbers, for which a specification is undefined, if it is.
