@@ -51,7 +51,11 @@ fn append_all<A: Allocator>(source: &[u8], out: &mut Vec<u8, A>) -> Result<(), L
 }
 
 // Appends the bytes of a part. The room for all that may come is taken with the first.
-fn append<A: Allocator>(out: &mut Vec<u8, A>, part: SourcePart, room: usize) -> Result<(), AllocError>
+fn append<A: Allocator>(
+    out: &mut Vec<u8, A>,
+    part: SourcePart,
+    room: usize,
+) -> Result<(), AllocError>
     ensures { IfOk result (λ _. out.new.items ≡ out.old.items ++ part_bytes part.entry) }
 {
     if out.is_empty() {
