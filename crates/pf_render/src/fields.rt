@@ -120,7 +120,10 @@ fn write_two<W: Write>(
 
 /// Writes bytes, and returns how many they are.
 #[inline(always)]
-pub(crate) fn write_counted<W: Write>(bytes: &[u8], writer: &mut Counted<W>) -> Result<usize, ShortWrite>
+pub(crate) fn write_counted<W: Write>(
+    bytes: &[u8],
+    writer: &mut Counted<W>,
+) -> Result<usize, ShortWrite>
     ensures { WritesCounted W.contents writer.old writer.new bytes.now result }
 {
     match write_bytes(writer, bytes) {
