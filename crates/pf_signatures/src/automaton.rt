@@ -293,7 +293,11 @@ impl Automaton {
     }
 
     #[inline(always)]
-    fn with_digit(&mut self, slot: WidthOrPrecision, digit: u8) -> Result<Move, SignatureRefusalKind>
+    fn with_digit(
+        &mut self,
+        slot: WidthOrPrecision,
+        digit: u8,
+    ) -> Result<Move, SignatureRefusalKind>
         requires { digit < 10 }
         ensures { posix_step_by result self.new
             ≡ with_digit slot (numbered self.old.phase self.old) self.old.number digit }
@@ -358,7 +362,11 @@ impl Automaton {
 
     /// Takes the second letter of a modifier, or the conversion.
     #[inline(always)]
-    fn after_modifier_letter(&mut self, model: Model, byte: u8) -> Result<Move, SignatureRefusalKind>
+    fn after_modifier_letter(
+        &mut self,
+        model: Model,
+        byte: u8,
+    ) -> Result<Move, SignatureRefusalKind>
         ensures { posix_step_by result self.new
             ≡ after_modifier_letter model self.old.parts self.old.modifier byte }
     {

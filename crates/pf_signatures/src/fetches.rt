@@ -21,7 +21,11 @@ pub(crate) struct Fetch {
 
 /// The type of the argument of a conversion under a length modifier.
 #[inline(always)]
-pub(crate) fn conversion_type(model: Model, modifier: Modifier, conversion: Conversion) -> ArgumentType
+pub(crate) fn conversion_type(
+    model: Model,
+    modifier: Modifier,
+    conversion: Conversion,
+) -> ArgumentType
     ensures { result ≡ conversion_type model modifier conversion }
 {
     match conversion {
