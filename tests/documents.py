@@ -1,5 +1,5 @@
 #!/usr/bin/env python3
-"""Holds the documents to the code: their names, paths, callers and numbers, and the map.
+"""Holds the documents to the code: their names, paths, callers and numbers, and the map; and the names of definitions to each other.
 
 Usage: tests/documents.py
 
@@ -15,6 +15,7 @@ sys.dont_write_bytecode = True
 sys.path.insert(0, str(Path(__file__).resolve().parent))
 
 import arguments  # noqa: E402
+import definition_names  # noqa: E402
 import literals  # noqa: E402
 import turned  # noqa: E402
 from harness import TOP, Trials, fences, model_rows, usage_texts  # noqa: E402
@@ -29,7 +30,7 @@ FOREIGN_NAMES = set("""
     cents errno memset intmax_t ptrdiff_t strerror uintmax_t I64
     xargs git msgfmt msgunfmt pipefail fix fmt imports plant PYTHONPATH PKG_CONFIG_PATH ldconfig pip pkg config cflags libs pkgconfig sudo
     AllocFailed Display WHAT logic dac8208d650f15bf ed8637e01fc3206ec782c5daf8d913b1fcd4ddf4efb850537416d13256281534 the_type write_all
-    NAME PATH TEXT allow lemma is_left_justified
+    NAME PATH TEXT allow holes lemma is_left_justified
 """.split())
 # Folders whose files are the code that names are looked up in.
 CODE = ["crates/*/src/**/*.rt", "crates/*/specs/**/*.antt", "crates/*/proofs/**/*.antt", "bench/**/*", "include/*", "python/**/*.py", "examples/*", "crates.txt", "Makefile", "HANDLES"]
@@ -235,6 +236,13 @@ def try_edits(trials):
     trials.expect("exceptions of tests/turned.py that are none", needless, [])
 
 
+def try_definitions(trials):
+    """No name is defined in the specs/ of two crates, but for a few with a reason each."""
+    found = definition_names.clashes()
+    trials.expect("names that definitions of two crates have", {name: found[name] for name in sorted(found.keys() - definition_names.EXCEPTIONS.keys())}, {})
+    trials.expect("exceptions of tests/definition_names.py that are none", sorted(definition_names.EXCEPTIONS.keys() - found.keys()), [])
+
+
 def plain_code(text):
     """Code without comments, imports and layout."""
     text = re.sub(r"//[^\n]*|^(ghost )?use .*?;$|^#!\[.*$", "", text, flags=re.DOTALL | re.MULTILINE)
@@ -261,6 +269,7 @@ def main():
     try_graph(trials)
     try_callers(trials)
     try_edits(trials)
+    try_definitions(trials)
     try_numbers(trials)
     return trials.end()
 

@@ -86,12 +86,12 @@ def try_header(trials):
     plain = {name: (result, [kind.replace("unsigned ", "") for kind in kinds]) for name, (result, kinds) in calls.items()}
     trials.expect("functions of the header", plain, dict(source_calls()))
     kinds = source_numbers("pf_values/src/refusals.rt", r"RefusalKind::(\w+) => (\d+),", {})
-    whole = source_numbers("pf_signatures/src/kinds.rt", r"SignatureRefusalKind::(\w+) => (\d+),", {})
+    whole = source_numbers("pf_signatures/src/refusals.rt", r"SignatureRefusalKind::(\w+) => (\d+),", {})
     trials.expect("kinds that both languages have", {name: kinds[name] for name in whole if name in kinds}, {name: whole[name] for name in whole if name in kinds})
     trials.expect("kinds of refusals", header_numbers("fmtcanon_kind"), {**kinds, **whole})
     text = (SOURCES / "interface.rt").read_text(encoding="utf-8")
     front = int(re.search(r"LITERAL_KINDS: u32 = (\d+);", text).group(1))
-    kinds = source_numbers("pf_literals/src/kinds.rt", r"LiteralKind::(\w+) => (\d+),", {})
+    kinds = source_numbers("pf_literals/src/faults.rt", r"LiteralKind::(\w+) => (\d+),", {})
     wanted = {name: front + number for name, number in kinds.items()}
     trials.expect("kinds of faults of literals", header_numbers("fmtcanon_literal_kind"), wanted)
     names = {"UInt": "UINT", "ULong": "ULONG", "ULongLong": "ULONG_LONG", "Str": "STRING"}

@@ -5,7 +5,7 @@ use Rattle.pf_canon.specs.declared.faults.Side.TheVariants as sides
 use Rattle.pf_literals.specs.Answers.{HasNoPlace, IsPlaceOf}
 use Rattle.pf_literals.specs.Sources.{IsSourceOf}
 use Rattle.pf_literals.proofs.HasPlaceLemmas.{has_place}
-use Rattle.pf_signatures.specs.declared.kinds.SignatureRefusalKind.{SignatureRefusalKind}
+use Rattle.pf_signatures.specs.declared.refusals.SignatureRefusalKind.{SignatureRefusalKind}
 use Rattle.pf_signatures.specs.Refusals as whole
 use Rattle.pf_values.specs.declared.models.Model.{Model}
 use Rattle.pf_values.specs.declared.refusals.RefusalKind.{RefusalKind}
@@ -27,7 +27,7 @@ refused_within bytes kind at h =
     let both = length-append h.front h.rest in
     omega (arith, place, split, both)
 
-whole_within : (model : Model) (bytes : Text) (kind : SignatureRefusalKind) (at : ℕ) → whole.IsRefusedAt model bytes kind at → at ≤ length bytes
+whole_within : (model : Model) (bytes : Text) (kind : SignatureRefusalKind) (at : ℕ) → whole.IsPosixRefusedAt model bytes kind at → at ≤ length bytes
 whole_within model bytes kind at h =
     let place = h.place in
     let split = ap length h.split in

@@ -69,7 +69,7 @@ IsPairFault first second _ = ⊥
 -- the same in the whole language
 abbrev pub IsWholeFault : Model → Text → Fault → Type 0
 IsWholeFault model format (RefusedWhole None refusal) =
-    whole.IsRefusedAt model format refusal.kind refusal.at
+    whole.IsPosixRefusedAt model format refusal.kind refusal.at
 IsWholeFault model format Memory = ⊤
 IsWholeFault model format _ = ⊥
 
@@ -78,9 +78,9 @@ IsAcceptedWhole model format = (types : List ArgumentType) × HasArguments model
 
 abbrev pub IsFitFault : Model → Text → Text → Fault → Type 0
 IsFitFault model first second (RefusedWhole (Some sides.First) refusal) =
-    whole.IsRefusedAt model first refusal.kind refusal.at
+    whole.IsPosixRefusedAt model first refusal.kind refusal.at
 IsFitFault model first second (RefusedWhole (Some sides.Second) refusal) =
-    IsAcceptedWhole model first × whole.IsRefusedAt model second refusal.kind refusal.at
+    IsAcceptedWhole model first × whole.IsPosixRefusedAt model second refusal.kind refusal.at
 IsFitFault model first second Memory = ⊤
 IsFitFault model first second _ = ⊥
 

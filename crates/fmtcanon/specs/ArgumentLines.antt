@@ -4,7 +4,7 @@ use Rattle.std.specs.Prelude.{◌≡◌, ℕ, List, ◌++◌, Option, Some, None
 use Rattle.pf_signatures.specs.declared.types.ArgumentType.{ArgumentType}
 use Rattle.pf_signatures.specs.declared.types.ArgumentType.TheVariants.{Int, UInt, Long, ULong, LongLong, ULongLong, Str, Double, LongDouble, WideChar, WideString, Pointer, PointerToSChar, PointerToShort, PointerToInt, PointerToLong, PointerToLongLong}
 use Rattle.pf_signatures.specs.Items.{HasArguments}
-use Rattle.pf_signatures.specs.Laws.{Compares}
+use Rattle.pf_signatures.specs.Laws.{ComparesArgumentTypes}
 use Rattle.pf_values.specs.declared.models.Model.{Model}
 use Rattle.pf_values.specs.Text.{Text}
 use Rattle.fmtcanon.specs.declared.answer.Ending.{Ending}
@@ -53,6 +53,6 @@ fit_ending (Some index) = endings.Different
 -- the line on whether the second of two accepted formats takes just the arguments of the first
 pub record IsFitAnswer (model : Model) (first second out : Text) (ending : Ending) : Type 0 where
   pub index : Option ℕ
-  pub compares : Compares model first second index
+  pub compares : ComparesArgumentTypes model first second index
   pub is_line : out ≡ fit_line index
   pub ends : ending ≡ fit_ending index

@@ -32,11 +32,11 @@ refusal_words side refusal =
 
 abbrev pub whole_words : Option Side → SignatureRefusal → Text
 whole_words side refusal = fault_words side (codes "refused ")
-    (signatures.number refusal.kind) (signatures.name refusal.kind) refusal.at
+    (signatures.signature_kind_number refusal.kind) (signatures.signature_kind_name refusal.kind) refusal.at
 
 abbrev pub literal_words : Option Side → LiteralRefusal → Text
 literal_words side refusal = fault_words side (codes "literal ")
-    (literals.number refusal.kind) (literals.name refusal.kind) refusal.at
+    (literals.literal_kind_number refusal.kind) (literals.literal_kind_name refusal.kind) refusal.at
 
 -- What is said of an outcome: nothing of answers that were written, a text on the words as it is, and
 -- else a line.

@@ -196,14 +196,14 @@ fn kind_name(kind: RefusalKind) -> &'static str
 }
 
 fn whole_name(kind: SignatureRefusalKind) -> &'static str
-    ensures name { result.now ≡ signatures.name kind }
+    ensures name { result.now ≡ signatures.signature_kind_name kind }
     ensures short { length result.now ≤ 18 }
 {
     kind.name()
 }
 
 fn literal_name(kind: LiteralKind) -> &'static str
-    ensures name { result.now ≡ literals.name kind }
+    ensures name { result.now ≡ literals.literal_kind_name kind }
     ensures short { length result.now ≤ 18 }
 {
     kind.name()

@@ -1,8 +1,8 @@
 -- Refusals as numbers. This project's own.
 use Rattle.std.specs.Prelude.{◌≡◌, ◌⊎◌, ℕ, ◌+◌, Bool, true, false, ◌&&◌, nat_le, ℤ, pos, neg_ℤ, Option, Some, None}
-use Rattle.pf_literals.specs.declared.kinds.LiteralKind.{LiteralKind}
+use Rattle.pf_literals.specs.declared.faults.LiteralKind.{LiteralKind}
 use Rattle.pf_literals.specs.Kinds as literals
-use Rattle.pf_signatures.specs.declared.kinds.SignatureRefusalKind.{SignatureRefusalKind}
+use Rattle.pf_signatures.specs.declared.refusals.SignatureRefusalKind.{SignatureRefusalKind}
 use Rattle.pf_signatures.specs.Kinds as whole
 use Rattle.pf_values.specs.declared.refusals.RefusalKind.{RefusalKind}
 use Rattle.pf_values.specs.RefusalKinds.{name, number}
@@ -37,14 +37,14 @@ pub record IsRefusalCode (side : Side) (refusal : Refusal) (code : ℤ) (error :
 
 -- the kind of faults of literals with the number, if there is one
 abbrev pub IsLiteralKindOf : ℕ → Option LiteralKind → Type 0
-IsLiteralKindOf n (Some kind) = n ≡ literals.number kind
-IsLiteralKindOf n None = (kind : LiteralKind) → n ≡ literals.number kind → ⊥
+IsLiteralKindOf n (Some kind) = n ≡ literals.literal_kind_number kind
+IsLiteralKindOf n None = (kind : LiteralKind) → n ≡ literals.literal_kind_number kind → ⊥
 
 -- its name, by the number with what is added to it
 abbrev pub IsLiteralNameOf : ℕ → Option Text → Type 0
 IsLiteralNameOf n (Some name) = (kind : LiteralKind)
-    × (n ≡ LITERAL_KINDS + literals.number kind) × (name ≡ literals.name kind)
-IsLiteralNameOf n None = (kind : LiteralKind) → n ≡ LITERAL_KINDS + literals.number kind → ⊥
+    × (n ≡ LITERAL_KINDS + literals.literal_kind_number kind) × (name ≡ literals.literal_kind_name kind)
+IsLiteralNameOf n None = (kind : LiteralKind) → n ≡ LITERAL_KINDS + literals.literal_kind_number kind → ⊥
 
 -- the kinds that only the whole language has, by their numbers
 abbrev pub is_whole_alone : ℕ → Bool
@@ -52,13 +52,13 @@ is_whole_alone n = nat_le 19 n && nat_le n 22
 
 -- the kind with the number that only the whole language has, if there is one
 abbrev pub IsWholeKindOf : ℕ → Option SignatureRefusalKind → Type 0
-IsWholeKindOf n (Some kind) = (n ≡ whole.number kind) × (is_whole_alone n ≡ true)
+IsWholeKindOf n (Some kind) = (n ≡ whole.signature_kind_number kind) × (is_whole_alone n ≡ true)
 IsWholeKindOf n None = is_whole_alone n ≡ false
 
 -- the name of a kind with the number that only the whole language or literals have
 abbrev pub IsOtherNameOf : ℕ → Option Text → Type 0
-IsOtherNameOf n (Some t) = ((kind : SignatureRefusalKind) × (n ≡ whole.number kind)
-    × (is_whole_alone n ≡ true) × (t ≡ whole.name kind)) ⊎ IsLiteralNameOf n (Some t)
+IsOtherNameOf n (Some t) = ((kind : SignatureRefusalKind) × (n ≡ whole.signature_kind_number kind)
+    × (is_whole_alone n ≡ true) × (t ≡ whole.signature_kind_name kind)) ⊎ IsLiteralNameOf n (Some t)
 IsOtherNameOf n None = (is_whole_alone n ≡ false) × IsLiteralNameOf n None
 
 -- the name of a kind of refusals with the number, of formats or of literals, if there is one

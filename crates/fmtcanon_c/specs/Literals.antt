@@ -1,11 +1,11 @@
 -- What the calls about string literals answer. This project's own.
 use Rattle.std.specs.Prelude.{◌≡◌, ◌≢◌, ◌⊎◌, ◌≤◌, ◌<◌, ◌^◌, ℕ, ◌+◌, ℤ, pos, neg_ℤ, [], ◌∷◌, ◌++◌, length}
-use Rattle.pf_literals.specs.declared.kinds.LiteralKind.{LiteralKind}
+use Rattle.pf_literals.specs.declared.faults.LiteralKind.{LiteralKind}
 use Rattle.pf_literals.specs.Answers.{HasNoPlace, IsPlaceOf}
 use Rattle.pf_literals.specs.Elements.{Bytes}
 use Rattle.pf_literals.specs.Encoding.{encoding}
 use Rattle.pf_literals.specs.Faults.{IsFaultAt}
-use Rattle.pf_literals.specs.Kinds.{number}
+use Rattle.pf_literals.specs.Kinds.{literal_kind_number}
 use Rattle.pf_literals.specs.Sources.{IsSourceOf}
 use Rattle.pf_values.specs.Text.{Text}
 use Rattle.fmtcanon_c.specs.declared.interface.CError.{CError}
@@ -17,8 +17,8 @@ use Rattle.fmtcanon_c.specs.Calls.{IsOut}
 pub record IsNoSource (t : Text) (code : ℤ) (error : CError) : Type 0 where
   pub kind : LiteralKind
   pub fault : IsFaultAt t kind error.at
-  pub code_is : code ≡ neg_ℤ (pos (LITERAL_KINDS + number kind))
-  pub kind_is : error.kind ≡ LITERAL_KINDS + number kind
+  pub code_is : code ≡ neg_ℤ (pos (LITERAL_KINDS + literal_kind_number kind))
+  pub kind_is : error.kind ≡ LITERAL_KINDS + literal_kind_number kind
   pub side_is : error.side ≡ 0
 
 -- the bytes of a source and a zero are put, where the buffer has room for them, and their number is

@@ -2,11 +2,11 @@
 use Rattle.std.specs.Prelude.{◌≡◌, ◌≢◌, ◌⊎◌, ℤ, pos, neg_ℤ, List, [], length, map}
 use Rattle.pf_canon.specs.declared.faults.Side.{Side}
 use Rattle.pf_canon.specs.declared.faults.Side.TheVariants.{First, Second}
-use Rattle.pf_signatures.specs.declared.kinds.SignatureRefusalKind.{SignatureRefusalKind}
+use Rattle.pf_signatures.specs.declared.refusals.SignatureRefusalKind.{SignatureRefusalKind}
 use Rattle.pf_signatures.specs.declared.types.ArgumentType.{ArgumentType}
 use Rattle.pf_signatures.specs.Items.{HasArguments}
-use Rattle.pf_signatures.specs.Kinds.{number, type_number}
-use Rattle.pf_signatures.specs.Refusals.{IsRefusedAt}
+use Rattle.pf_signatures.specs.Kinds.{signature_kind_number, type_number}
+use Rattle.pf_signatures.specs.Refusals.{IsPosixRefusedAt}
 use Rattle.pf_values.specs.declared.models.Model.{Model}
 use Rattle.pf_values.specs.Text.{Text}
 use Rattle.fmtcanon_c.specs.declared.interface.CError.{CError}
@@ -18,9 +18,9 @@ use Rattle.fmtcanon_c.specs.Errors.{side_number}
 pub record IsRefusedWhole (model : Model) (side : Side) (t : Text) (code : ℤ)
     (error : CError) : Type 0 where
   pub kind : SignatureRefusalKind
-  pub refused : IsRefusedAt model t kind error.at
-  pub code_is : code ≡ neg_ℤ (pos (number kind))
-  pub kind_is : error.kind ≡ number kind
+  pub refused : IsPosixRefusedAt model t kind error.at
+  pub code_is : code ≡ neg_ℤ (pos (signature_kind_number kind))
+  pub kind_is : error.kind ≡ signature_kind_number kind
   pub side_is : error.side ≡ side_number side
 
 -- the numbers of the types are put, where the buffer has room for them, and how many they are is

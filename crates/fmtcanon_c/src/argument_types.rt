@@ -3,7 +3,7 @@ ghost use Rattle.std.specs.Prelude.{◌≡◌, ◌≤◌, ◌++◌, length, drop
 ghost use Rattle.fmtcanon_c.specs.Buffers.{type_code};
 ghost use Rattle.fmtcanon_c.specs.Calls.{PutsTypes};
 ghost use Rattle.fmtcanon_c.specs.Models.{InModel};
-ghost use Rattle.pf_signatures.specs.Kinds.{number, type_number};
+ghost use Rattle.pf_signatures.specs.Kinds.{signature_kind_number, type_number};
 ghost use Rattle.fmtcanon_c.specs.Errors.{side_number};
 ghost use Rattle.fmtcanon_c.specs.Signatures.{PutsArguments, AnswersFit};
 
@@ -155,9 +155,9 @@ fn tell_fit(model: Model, first: &[u8], second: &[u8], error: &mut CError) -> i6
 
 // Leaves a refusal there, and gives its code.
 fn put_signature(error: &mut CError, side: Side, refusal: SignatureRefusal) -> i64
-    ensures code { result ≡ neg_ℤ (pos (number refusal.kind)) }
+    ensures code { result ≡ neg_ℤ (pos (signature_kind_number refusal.kind)) }
     ensures at { error.new.at ≡ refusal.at }
-    ensures kind { error.new.kind ≡ number refusal.kind }
+    ensures kind { error.new.kind ≡ signature_kind_number refusal.kind }
     ensures side { error.new.side ≡ side_number side }
 {
     let number = refusal.kind.number();

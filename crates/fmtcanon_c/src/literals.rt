@@ -1,6 +1,6 @@
 //! String literals of C source.
 ghost use Rattle.std.specs.Prelude.{◌≡◌, ◌+◌, neg_ℤ, pos};
-ghost use Rattle.pf_literals.specs.Kinds.{number};
+ghost use Rattle.pf_literals.specs.Kinds.{literal_kind_number};
 ghost use Rattle.fmtcanon_c.specs.Literals.{IsPlaceCode, PutsDecoded, PutsEncoded, AnswersPlace};
 
 use crate::interface::{CError, LITERAL_KINDS, NO_MEMORY, NO_PLACE, put_string};
@@ -65,9 +65,9 @@ fn place_code(at: u64) -> i64
 
 // Leaves a refusal of literals there, and gives its code.
 fn put_literal_refusal(error: &mut CError, refusal: LiteralRefusal) -> i64
-    ensures code { result ≡ neg_ℤ (pos (LITERAL_KINDS + number refusal.kind)) }
+    ensures code { result ≡ neg_ℤ (pos (LITERAL_KINDS + literal_kind_number refusal.kind)) }
     ensures at { error.new.at ≡ refusal.at }
-    ensures kind { error.new.kind ≡ LITERAL_KINDS + number refusal.kind }
+    ensures kind { error.new.kind ≡ LITERAL_KINDS + literal_kind_number refusal.kind }
     ensures side { error.new.side ≡ 0 }
 {
     let number = LITERAL_KINDS + u32::from(refusal.kind.number());

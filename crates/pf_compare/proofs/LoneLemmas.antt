@@ -11,7 +11,7 @@ use Rattle.pf_values.specs.Items.{Item, Byte, Directive, Reads, types}
 use Rattle.pf_values.specs.Printing.{Prints}
 use Rattle.pf_values.specs.Specification.{Specification}
 use Rattle.pf_values.specs.Text.{Text}
-use Rattle.pf_values.proofs.Alike.{PrintsAll-unique, all_printed, all_printed-is}
+use Rattle.pf_values.proofs.EqualPrintRange.{PrintsAll-unique, all_printed, all_printed-is}
 use Rattle.pf_values.proofs.ItemTypes.{types-append}
 use Rattle.pf_values.proofs.PrintsOnce.{Prints-unique, printed_text}
 use Rattle.pf_probes.proofs.Probes.{probe_typed}
@@ -24,8 +24,8 @@ use Rattle.pf_compare.specs.declared.lone_difference.LoneDifference.{LoneDiffere
 use Rattle.pf_compare.specs.declared.owned_args.OwnedArg.{OwnedArg}
 use Rattle.pf_compare.specs.declared.witnesses.Witness.{Witness}
 use Rattle.pf_compare.specs.Answers.{HaveSameTypes, IsCandidateAt, PrintTheSame, PrintUnlike, probe_at}
-use Rattle.pf_compare.specs.Layouts.{FillAlike, FillUnlike, FindsUnlike, IsFirstUnlike}
-use Rattle.pf_compare.specs.Lone.{DifferInOne, DifferInOneAtMost, FormatsDifferInOne, HasFollowed, IsIndexAfter, alone}
+use Rattle.pf_compare.specs.Layouts.{ReplacementsEqual, ReplacementsDiffer, FindsUnlike, IsFirstUnlike}
+use Rattle.pf_compare.specs.Lone.{DifferInOne, DifferInOneAtMost, FormatsDifferInOne, HasFollowed, IsIndexAfter, span_alone}
 use Rattle.pf_compare.specs.Witnesses.{AreNeutral, AwaitsCandidate, FindsWitness, IsWitnessAt}
 use Rattle.pf_compare.proofs.CandidateLemmas.{candidate_has_type, contains_at}
 use Rattle.pf_compare.proofs.ProbeLemmas.{neutral_first, set_neutral}
@@ -98,7 +98,7 @@ module _ (model : Model) (s t : Specification) (after : List Item) where
   one_printed (Directive u ∷ before) [] n at e = absurd (cc)
   one_printed (Directive u ∷ before) (a ∷ args) n at e = one_printed before args n at (append_cancel_left (printed_text model u a) _ _ e)
 
-  -- in the hole of an empty text
+  -- in the span of an empty text
   module _ (same_type : arg_type model s ≡ arg_type model t) (a : Argument) (typed : HasType model a (arg_type model s)) where
     first_text : (p : Text) → Prints model s a p → p ≡ printed_text model s a
     first_text p f = Prints-unique model s a p typed f
@@ -106,10 +106,10 @@ module _ (model : Model) (s t : Specification) (after : List Item) where
     second_text : (q : Text) → Prints model t a q → q ≡ printed_text model t a
     second_text q g = Prints-unique model t a q (subst (HasType model a) same_type typed) g
 
-    alike_alone : FillAlike model [] (alone s) (alone t) a → printed_text model s a ≡ printed_text model t a
+    alike_alone : ReplacementsEqual model [] (span_alone s) (span_alone t) a → printed_text model s a ≡ printed_text model t a
     alike_alone h = sym (first_text h.0 h.2) ∙ append_cancel_right h.0 h.1 [] h.4 ∙ second_text h.1 h.3
 
-    unlike_alone : FillUnlike model [] (alone s) (alone t) a → printed_text model s a ≢ printed_text model t a
+    unlike_alone : ReplacementsDiffer model [] (span_alone s) (span_alone t) a → printed_text model s a ≢ printed_text model t a
     unlike_alone h e = h.4 (ap (λ u. u ++ []) (first_text h.0 h.2 ∙ e ∙ sym (second_text h.1 h.3)))
 
   module _ (before : List Item) (same_type : arg_type model s ≡ arg_type model t) where
@@ -157,10 +157,10 @@ module _ (model : Model) (s t : Specification) (after : List Item) where
         let is : c.type ≡ arg_type model s = cc in
         subst (λ type. slice_get (candidates model type) k ≡ Some other) is c.argument_is
 
-    alike_texts : (k : ℕ) (other : Argument) → slice_get (candidates model (arg_type model s)) k ≡ Some other → FillAlike model [] (alone s) (alone t) other → printed_text model s other ≡ printed_text model t other
+    alike_texts : (k : ℕ) (other : Argument) → slice_get (candidates model (arg_type model s)) k ≡ Some other → ReplacementsEqual model [] (span_alone s) (span_alone t) other → printed_text model s other ≡ printed_text model t other
     alike_texts k other e h = alike_alone same_type other (candidate_has_type model (arg_type model s) k other e) h
 
-    module _ (level : FillAlike model [] (alone s) (alone t) (neutral (arg_type model s))) where
+    module _ (level : ReplacementsEqual model [] (span_alone s) (span_alone t) (neutral (arg_type model s))) where
       neutral_texts : printed_text model s (neutral (arg_type model s)) ≡ printed_text model t (neutral (arg_type model s))
       neutral_texts = alike_texts 0 (neutral (arg_type model s)) (neutral_first model (arg_type model s)) level
 
@@ -170,14 +170,14 @@ module _ (model : Model) (s t : Specification) (after : List Item) where
       beside : (i k : ℕ) (other : Argument) → IsCandidateAt model (types model first_items) i k other → i ≢ place_of → PrintTheSame model first_items second_items (probe_at (types model first_items) i other)
       beside i k other c differ = prints_same (probe_at (types model first_items) i other) (probes_typed i k other c) (neutral (arg_type model s)) (neutral_beside i other differ) neutral_texts
 
-      here : (i k : ℕ) (other : Argument) → IsCandidateAt model (types model first_items) i k other → i ≡ place_of → (slice_get (candidates model (arg_type model s)) k ≡ Some other → FillAlike model [] (alone s) (alone t) other)
+      here : (i k : ℕ) (other : Argument) → IsCandidateAt model (types model first_items) i k other → i ≡ place_of → (slice_get (candidates model (arg_type model s)) k ≡ Some other → ReplacementsEqual model [] (span_alone s) (span_alone t) other)
           → PrintTheSame model first_items second_items (probe_at (types model first_items) i other)
       here i k other c at alike =
           let e = candidate_here i k other at c in
           prints_same (probe_at (types model first_items) i other) (probes_typed i k other c) other
           (subst (λ (j : ℕ). slice_get (probe_at (types model first_items) j other) place_of ≡ Some other) (sym at) (neutral_set other)) (alike_texts k other e (alike e))
 
-      anywhere : (i k : ℕ) (other : Argument) → IsCandidateAt model (types model first_items) i k other → (i ≡ place_of → slice_get (candidates model (arg_type model s)) k ≡ Some other → FillAlike model [] (alone s) (alone t) other)
+      anywhere : (i k : ℕ) (other : Argument) → IsCandidateAt model (types model first_items) i k other → (i ≡ place_of → slice_get (candidates model (arg_type model s)) k ≡ Some other → ReplacementsEqual model [] (span_alone s) (span_alone t) other)
           → PrintTheSame model first_items second_items (probe_at (types model first_items) i other)
       anywhere i k other c alike = elim (cases_lt i place_of) [
         | inl less ↦ beside i k other c (λ e. absurd (omega (arith, less, e)))
@@ -187,21 +187,21 @@ module _ (model : Model) (s t : Specification) (after : List Item) where
         ]
       ]
 
-    unlike_here : (place : ℕ) (argument : Argument) → slice_get (candidates model (arg_type model s)) place ≡ Some argument → FillUnlike model [] (alone s) (alone t) argument
+    unlike_here : (place : ℕ) (argument : Argument) → slice_get (candidates model (arg_type model s)) place ≡ Some argument → ReplacementsDiffer model [] (span_alone s) (span_alone t) argument
         → PrintUnlike model first_items second_items (probe_at (types model first_items) place_of argument)
     unlike_here place argument e h =
         prints_unlike (probe_at (types model first_items) place_of argument)
         (probes_typed place_of place argument (record { type = arg_type model s; type_is = type_at before; argument_is = e })) argument (neutral_set argument)
         (unlike_alone same_type argument (candidate_has_type model (arg_type model s) place argument e) h)
 
-    neutral_level : (place : ℕ) → IsFirstUnlike model [] (alone s) (alone t) (arg_type model s) (suc place) → FillAlike model [] (alone s) (alone t) (neutral (arg_type model s))
+    neutral_level : (place : ℕ) → IsFirstUnlike model [] (span_alone s) (span_alone t) (arg_type model s) (suc place) → ReplacementsEqual model [] (span_alone s) (span_alone t) (neutral (arg_type model s))
     neutral_level place h = h.earlier 0 (neutral (arg_type model s)) (omega arith) (neutral_first model (arg_type model s))
 
     -- the one candidate that is named
     argument_is : (place : ℕ) (one other : Argument) → slice_get (candidates model (arg_type model s)) place ≡ Some one → IsCandidateAt model (types model first_items) place_of place other → one ≡ other
     argument_is place one other e c = let both : Some one ≡ Some other = sym e ∙ candidate_here place_of place other refl c in cc
 
-    pub found_alone : (place : ℕ) (witness : Witness) → IsFirstUnlike model [] (alone s) (alone t) (arg_type model s) place → IsWitnessAt model (types model first_items) (record { index = place_of; place = place }) witness
+    pub found_alone : (place : ℕ) (witness : Witness) → IsFirstUnlike model [] (span_alone s) (span_alone t) (arg_type model s) place → IsWitnessAt model (types model first_items) (record { index = place_of; place = place }) witness
         → FindsWitness model first_items second_items (Some witness)
     found_alone zero witness h w =
         let is = argument_is 0 h.argument w.argument h.argument_is w.candidate in
@@ -238,7 +238,7 @@ module _ (model : Model) (s t : Specification) (after : List Item) where
           }),
         )
 
-    pub none_alone : FindsUnlike model [] (alone s) (alone t) (arg_type model s) None → FindsWitness model first_items second_items None
+    pub none_alone : FindsUnlike model [] (span_alone s) (span_alone t) (arg_type model s) None → FindsWitness model first_items second_items None
     none_alone h =
         let level = h 0 (neutral (arg_type model s)) (neutral_first model (arg_type model s)) in
         (all_neutral level, λ i k other c. anywhere level i k other c (λ at e. h k other e))
@@ -295,7 +295,7 @@ module _ (model : Model) (xs ys : List Item) (difference : LoneDifference) (h : 
     lone_type_at : slice_get (types model xs) difference.index ≡ Some (arg_type model difference.first)
     lone_type_at = ap (slice_get (types model xs)) (h.index_is model) ∙ ap (λ l. slice_get (types model l) (length (types model h.before))) h.first_is ∙ type_at model difference.first difference.second h.after h.before
 
-    pub lone_awaits : (place : ℕ) (args : List OwnedArg) → FindsUnlike model [] (alone difference.first) (alone difference.second) (arg_type model difference.first) (Some place) → AreNeutral (types model xs) args
+    pub lone_awaits : (place : ℕ) (args : List OwnedArg) → FindsUnlike model [] (span_alone difference.first) (span_alone difference.second) (arg_type model difference.first) (Some place) → AreNeutral (types model xs) args
         → AwaitsCandidate model (types model xs) args (arg_type model difference.first) (record { index = difference.index; place = place })
     lone_awaits place args found neutral = record {
       neutral = neutral;
@@ -306,7 +306,7 @@ module _ (model : Model) (xs ys : List Item) (difference : LoneDifference) (h : 
     back_in : (found : Option Witness) → FindsWitness model (h.before ++ Directive difference.first ∷ h.after) (h.before ++ Directive difference.second ∷ h.after) found → FindsWitness model xs ys found
     back_in found w = subst (λ l. FindsWitness model l ys found) (sym h.first_is) (subst (λ l. FindsWitness model (h.before ++ Directive difference.first ∷ h.after) l found) (sym h.second_is) w)
 
-    pub lone_found : (place : ℕ) (witness : Witness) → FindsUnlike model [] (alone difference.first) (alone difference.second) (arg_type model difference.first) (Some place)
+    pub lone_found : (place : ℕ) (witness : Witness) → FindsUnlike model [] (span_alone difference.first) (span_alone difference.second) (arg_type model difference.first) (Some place)
         → IsWitnessAt model (types model xs) (record { index = difference.index; place = place }) witness → FindsWitness model xs ys (Some witness)
     lone_found place witness found w =
         let there : IsWitnessAt model (types model (h.before ++ Directive difference.first ∷ h.after)) (record { index = difference.index; place = place }) witness
@@ -314,7 +314,7 @@ module _ (model : Model) (xs ys : List Item) (difference : LoneDifference) (h : 
         back_in (Some witness) (found_alone model difference.first difference.second h.after h.before same_type place witness found
         (subst (λ i. IsWitnessAt model (types model (h.before ++ Directive difference.first ∷ h.after)) (record { index = i; place = place }) witness) (h.index_is model) there))
 
-    pub lone_none : FindsUnlike model [] (alone difference.first) (alone difference.second) (arg_type model difference.first) None → FindsWitness model xs ys None
+    pub lone_none : FindsUnlike model [] (span_alone difference.first) (span_alone difference.second) (arg_type model difference.first) None → FindsWitness model xs ys None
     lone_none found = back_in None (none_alone model difference.first difference.second h.after h.before same_type found)
 
 module _ (model : Model) (f g : Text) (difference : LoneDifference) (h : FormatsDifferInOne f g difference) where

@@ -25,12 +25,12 @@ use Rattle.pf_values.proofs.PrintsOnce.{PrintsNumber-is, value_text}
 use Rattle.pf_values.proofs.Values.{IsConverted-unique}
 use Rattle.pf_probes.proofs.Digits.{natural_small}
 use Rattle.pf_render.specs.Zeros.{fewest_digits}
-use Rattle.pf_compare.specs.declared.outlines.Front.{Front}
+use Rattle.pf_compare.specs.declared.outlines.SignOrPrefix.{SignOrPrefix}
 use Rattle.pf_compare.specs.declared.outlines.Outline.{Outline}
-use Rattle.pf_compare.specs.declared.values.Counted.{Counted}
+use Rattle.pf_compare.specs.declared.values.CountedValue.{CountedValue}
 use Rattle.pf_compare.specs.declared.values.Value.{Value}
 use Rattle.pf_values.specs.declared.lengths.Length.{Length}
-use Rattle.pf_compare.specs.Outlines.{Draws, Foretells, HasCounted, HasSignAndSize, IsOfValue, IsOutlineOf, digit_below_ten, digits_under, drawn, fronted, front_text, glyphs, outline_len}
+use Rattle.pf_compare.specs.Outlines.{HasOutlineText, PredictsDifference, IsCountedValueOf, HasSignAndSize, IsOfValue, IsOutlineOf, digit_below_ten, digits_under, outline_text, with_prefix_and_zeros, sign_or_prefix_text, directive_digits, outline_len}
 
 -- one digit below ten
 glyph_below : (upper : Bool) (n : ℕ) → n < 10 → digit_glyph upper n ≡ 48 + n
@@ -49,8 +49,8 @@ fewest_under O true n = omega arith
 fewest_under O false n = refl
 fewest_under _ alt n = refl
 
-filled_max : (width front natural : ℕ) → max (max (width - front) 1) natural ≡ max (filled_precision width front natural) natural
-filled_max width front natural = grind (arith, nat_tests)
+filled_max : (width prefix natural : ℕ) → max (max (width - prefix) 1) natural ≡ max (filled_precision width prefix natural) natural
+filled_max width prefix natural = grind (arith, nat_tests)
 
 precision_is : (b : Bool) (s : Specification) (v : ℤ) (natural : ℕ) → natural ≡ natural_of s (nat_abs v)
     → max (if b then max (width_of s - length (sign_or_prefix s v)) 1 else precision_of s) natural
@@ -78,54 +78,54 @@ printed_number model s n v out e h g =
     let same : number.value ≡ v = IsConverted-unique (bits_under model s.length) (is_signed s.conv) n number.value v number.value_is h in
     g.2 ∙ ap (field s) (PrintsNumber-is model s n g.0 number ∙ ap (value_text s) same)
 
-pub outlined : (model : Model) (s : Specification) (number : ℤ) (value : Value) (front : Front) (count digits : ℕ) (o : Outline) → IsFalse (is_text s.conv)
+pub outlined : (model : Model) (s : Specification) (number : ℤ) (value : Value) (prefix : SignOrPrefix) (count digits : ℕ) (o : Outline) → IsFalse (is_text s.conv)
     → IsOfValue (is_signed s.conv) (bit_count (bits_under model s.length)) number value
-    → ((v : ℤ) → HasSignAndSize value v → front_text front ≡ sign_or_prefix s v)
+    → ((v : ℤ) → HasSignAndSize value v → sign_or_prefix_text prefix ≡ sign_or_prefix s v)
     → count ≡ length (digits_of (base_of s.conv) value.size)
-    → digits ≡ max (effective_precision s (length (front_text front))) (fewest_digits s count)
-    → Draws o digits value.size (λ t. field s (fronted (front_text front) digits t))
+    → digits ≡ max (effective_precision s (length (sign_or_prefix_text prefix))) (fewest_digits s count)
+    → HasOutlineText o digits value.size (λ t. field s (with_prefix_and_zeros (sign_or_prefix_text prefix) digits t))
     → IsOutlineOf model s number o
-outlined model s number value front count digits o integer h fronts e f draws =
+outlined model s number value prefix count digits o integer h prefixes e f draws =
     let v = h.whole in
-    let before : front_text front ≡ sign_or_prefix s v = fronts v h.parts in
+    let before : sign_or_prefix_text prefix ≡ sign_or_prefix s v = prefixes v h.parts in
     let counted : count ≡ count_of (base_of s.conv) (nat_abs v) = e ∙ ap (λ n. length (digits_of (base_of s.conv) n)) h.parts.size in
     let len : digits ≡ max (printed_precision s v) (natural_of s (nat_abs v))
     = f ∙ ap (λ t. max (effective_precision s (length t)) (fewest_digits s count)) before ∙ ap (λ k. max (effective_precision s (length (sign_or_prefix s v))) (fewest_digits s k)) counted ∙ len_is s v in
-    let long : length (glyphs s value.size) ≡ count = length-map _ _ ∙ sym e in
-    let fits : length (glyphs s value.size) ≤ digits = omega (arith, long, f, fewest_most (is_octal s.conv && has s.flags Alt) count) in
-    let zeros : digits - length (glyphs s value.size) ≡ max (printed_precision s v) (natural_of s (nat_abs v)) - count_of (base_of s.conv) (nat_abs v) = omega (arith, len, long, counted) in
-    let text : fronted (front_text front) digits (glyphs s value.size) ≡ value_text s v
-    = ap (λ t. t ++ (replicate (digits - length (glyphs s value.size)) zero_digit ++ glyphs s value.size)) before
-    ∙ ap (λ k. sign_or_prefix s v ++ (replicate k zero_digit ++ glyphs s value.size)) zeros
-    ∙ ap (λ n. sign_or_prefix s v ++ (replicate (max (printed_precision s v) (natural_of s (nat_abs v)) - count_of (base_of s.conv) (nat_abs v)) zero_digit ++ glyphs s n)) h.parts.size
+    let long : length (directive_digits s value.size) ≡ count = length-map _ _ ∙ sym e in
+    let fits : length (directive_digits s value.size) ≤ digits = omega (arith, long, f, fewest_most (is_octal s.conv && has s.flags Alt) count) in
+    let zeros : digits - length (directive_digits s value.size) ≡ max (printed_precision s v) (natural_of s (nat_abs v)) - count_of (base_of s.conv) (nat_abs v) = omega (arith, len, long, counted) in
+    let text : with_prefix_and_zeros (sign_or_prefix_text prefix) digits (directive_digits s value.size) ≡ value_text s v
+    = ap (λ t. t ++ (replicate (digits - length (directive_digits s value.size)) zero_digit ++ directive_digits s value.size)) before
+    ∙ ap (λ k. sign_or_prefix s v ++ (replicate k zero_digit ++ directive_digits s value.size)) zeros
+    ∙ ap (λ n. sign_or_prefix s v ++ (replicate (max (printed_precision s v) (natural_of s (nat_abs v)) - count_of (base_of s.conv) (nat_abs v)) zero_digit ++ directive_digits s n)) h.parts.size
     ∙ sym (value_text-is s v) in
     record {
-      enough = subst (λ n. length (glyphs s n) ≤ o.digits) (sym draws.size_is) (subst (λ k. length (glyphs s value.size) ≤ k) (sym draws.digits_are) fits);
+      enough = subst (λ n. length (directive_digits s n) ≤ o.digits) (sym draws.size_is) (subst (λ k. length (directive_digits s value.size) ≤ k) (sym draws.digits_are) fits);
       prints = λ out g.
           printed_number model s number v out integer h.converted g
           ∙ ap (field s) (sym text)
-          ∙ sym (draws.drawn_is (glyphs s value.size) fits)
-          ∙ ap (λ n. drawn o (glyphs s n)) (sym draws.size_is);
+          ∙ sym (draws.drawn_is (directive_digits s value.size) fits)
+          ∙ ap (λ n. outline_text o (directive_digits s n)) (sym draws.size_is);
     }
 
-length_drawn : (o : Outline) (t : Text) → length t ≤ o.digits → length (drawn o t) ≡ outline_len o
+length_drawn : (o : Outline) (t : Text) → length t ≤ o.digits → length (outline_text o t) ≡ outline_len o
 length_drawn o t h =
-    let front = front_text o.front in
+    let prefix = sign_or_prefix_text o.prefix in
     let zeros = replicate (o.digits - length t) zero_digit in
     omega (
       arith,
       h,
-      length-append (replicate o.lead space ++ (front ++ (zeros ++ t))) (replicate o.trail space),
-      length-append (replicate o.lead space) (front ++ (zeros ++ t)),
-      length-append front (zeros ++ t),
+      length-append (replicate o.spaces_before space ++ (prefix ++ (zeros ++ t))) (replicate o.spaces_after space),
+      length-append (replicate o.spaces_before space) (prefix ++ (zeros ++ t)),
+      length-append prefix (zeros ++ t),
       length-append zeros t,
-      length-replicate {A = ℕ} o.lead space,
-      length-replicate {A = ℕ} o.trail space,
+      length-replicate {A = ℕ} o.spaces_before space,
+      length-replicate {A = ℕ} o.spaces_after space,
       length-replicate {A = ℕ} (o.digits - length t) zero_digit,
     )
 
 -- one conversion and one length modifier make one value
-pub one_value : (model : Model) (s t : Specification) (number : ℤ) (counted : Counted) → s.conv ≡ t.conv → s.length ≡ t.length → HasCounted model s number counted → HasCounted model t number counted
+pub one_value : (model : Model) (s t : Specification) (number : ℤ) (counted : CountedValue) → s.conv ≡ t.conv → s.length ≡ t.length → IsCountedValueOf model s number counted → IsCountedValueOf model t number counted
 one_value model s t number counted e f h =
     record {
       value = subst (λ (l : Length). IsOfValue (is_signed t.conv) (bit_count (bits_under model l)) number counted.value) f
@@ -136,14 +136,14 @@ one_value model s t number counted e f h =
 
 module _ (model : Model) (s t : Specification) (n : ℤ) (x y : Outline) (h : IsOutlineOf model s n x) (g : IsOutlineOf model t n y) where
   -- texts of other lengths differ
-  pub foretold_unlike : outline_len x ≢ outline_len y → Foretells model s t (Number n) true
-  foretold_unlike e p q a b = λ same. e (
-      sym (length_drawn x (glyphs s x.size) h.enough)
+  pub predicted_unlike : outline_len x ≢ outline_len y → PredictsDifference model s t (Number n) true
+  predicted_unlike e p q a b = λ same. e (
+      sym (length_drawn x (directive_digits s x.size) h.enough)
       ∙ ap length (sym (h.prints p a) ∙ same ∙ g.prints q b)
-      ∙ length_drawn y (glyphs t y.size) g.enough
+      ∙ length_drawn y (directive_digits t y.size) g.enough
       )
 
   -- one outline of the same digits is one text
-  pub foretold_alike : x ≡ y → glyphs s x.size ≡ glyphs t x.size → Foretells model s t (Number n) false
-  foretold_alike e f p q a b =
-      h.prints p a ∙ ap (drawn x) f ∙ ap (λ (o : Outline). drawn o (glyphs t o.size)) e ∙ sym (g.prints q b)
+  pub predicted_alike : x ≡ y → directive_digits s x.size ≡ directive_digits t x.size → PredictsDifference model s t (Number n) false
+  predicted_alike e f p q a b =
+      h.prints p a ∙ ap (outline_text x) f ∙ ap (λ (o : Outline). outline_text o (directive_digits t o.size)) e ∙ sym (g.prints q b)

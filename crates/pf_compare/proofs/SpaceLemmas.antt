@@ -19,10 +19,10 @@ use Rattle.pf_values.specs.Specification.{Specification, width_of}
 use Rattle.pf_values.specs.Text.{Text, space}
 use Rattle.pf_values.proofs.Printed.{count_of, filled_precision, length-printed_digits, natural_len, natural_of, precision_under, printed_digits, printed_precision}
 use Rattle.pf_values.proofs.PrintsOnce.{value_text}
-use Rattle.pf_compare.specs.declared.foresight.Alike.{Alike}
+use Rattle.pf_compare.specs.declared.predictions.EqualPrintRange.{EqualPrintRange}
 use Rattle.pf_compare.specs.declared.values.Value.{Value}
 use Rattle.pf_compare.specs.Outlines.{HasSignAndSize}
-use Rattle.pf_compare.specs.Spaces.{AreAlikeFor, HasRoom, IsWithin, with_space}
+use Rattle.pf_compare.specs.Spaces.{PrintEqualIn, LeavesRoomForSpace, IsInEqualPrintRange, with_space}
 use Rattle.pf_compare.proofs.OutlineLemmas.{printed_number}
 
 same_precision : (b : Bool) (s : Specification) (v : ℤ) → sign_or_prefix s v ≡ sign_or_prefix (with_space s) v → precision_under b s v ≡ precision_under b (with_space s) v
@@ -75,7 +75,7 @@ natural_signed kinds.String alt n e = absurd cc
 unfilled : (s : Specification) (v : ℤ) → is_zero_filled s ≡ false → printed_precision s v ≡ precision_of s
 unfilled s v e = ap (λ b. precision_under b s v) e
 
-room_alike : (s : Specification) (n : ℕ) → kind_of s.conv ≡ kinds.Signed → HasRoom s (count_of 10 n) → field s (value_text s (pos n)) ≡ field (with_space s) (value_text (with_space s) (pos n))
+room_alike : (s : Specification) (n : ℕ) → kind_of s.conv ≡ kinds.Signed → LeavesRoomForSpace s (count_of 10 n) → field s (value_text s (pos n)) ≡ field (with_space s) (value_text (with_space s) (pos n))
 room_alike s n e h =
     let one : sign_or_prefix s (pos n) ≡ sign_by s.flags.plus s.flags.space = ap (λ k. front_under k s (pos n)) e in
     let two : sign_or_prefix (with_space s) (pos n) ≡ sign_by s.flags.plus true = ap (λ k. front_under k (with_space s) (pos n)) e in
@@ -90,33 +90,33 @@ room_alike s n e h =
           ap (field s) bare ∙ in_room (has s.flags Minus) (width_of s) digits h.right (omega (arith, room, long)) ∙ ap (field s) (sym spaced)
     ]
 
--- the values that are printed alike beside the flag, and without it
-spaced_alike : (s : Specification) (v : ℤ) → kind_of s.conv ≡ kinds.Signed → (IsTrue (is_negative v) ⊎ HasRoom s (count_of 10 (nat_abs v))) → field s (value_text s v) ≡ field (with_space s) (value_text (with_space s) v)
+-- the values that are printed the same with the flag and without it
+spaced_alike : (s : Specification) (v : ℤ) → kind_of s.conv ≡ kinds.Signed → (IsTrue (is_negative v) ⊎ LeavesRoomForSpace s (count_of 10 (nat_abs v))) → field s (value_text s v) ≡ field (with_space s) (value_text (with_space s) v)
 spaced_alike s (negsuc n) e h = ap (field s) (same_sign s (negsuc n) (minus_sign (kind_of s.conv) s n))
 spaced_alike s (pos n) e (inl h) = absurd cc
 spaced_alike s (pos n) e (inr h) = room_alike s n e h
 
 -- what the values of two directives that are one beside the flag ` ` print
-module _ (s t : Specification) (alike : Alike) (e : kind_of s.conv ≡ kinds.Signed) (same : with_space s ≡ with_space t) (room : (n : ℕ) → n < alike.below → HasRoom s (count_of 10 n)) where
+module _ (s t : Specification) (range : EqualPrintRange) (e : kind_of s.conv ≡ kinds.Signed) (same : with_space s ≡ with_space t) (room : (n : ℕ) → n < range.below → LeavesRoomForSpace s (count_of 10 n)) where
   conv_same : s.conv ≡ t.conv
   conv_same = ap (λ (r : Specification). r.conv) same
 
-  room_same : (n : ℕ) → HasRoom s n → HasRoom t n
+  room_same : (n : ℕ) → LeavesRoomForSpace s n → LeavesRoomForSpace t n
   room_same n h = record {
     right = sym (ap (λ (r : Specification). has r.flags Minus) same) ∙ h.right;
     not_filled = sym (ap is_zero_filled same) ∙ h.not_filled;
     room = subst (λ (r : Specification). max (precision_of r) n + 1 ≤ width_of r) same h.room;
   }
 
-  has_case : (v : ℤ) (value : Value) → HasSignAndSize value v → IsWithin alike value → IsTrue (is_negative v) ⊎ HasRoom s (count_of 10 (nat_abs v))
+  has_case : (v : ℤ) (value : Value) → HasSignAndSize value v → IsInEqualPrintRange range value → IsTrue (is_negative v) ⊎ LeavesRoomForSpace s (count_of 10 (nat_abs v))
   has_case v value parts (inl h) = inl (subst IsTrue parts.sign h)
-  has_case v value parts (inr h) = inr (subst (λ n. HasRoom s (count_of 10 n)) parts.size (room value.size h))
+  has_case v value parts (inr h) = inr (subst (λ n. LeavesRoomForSpace s (count_of 10 n)) parts.size (room value.size h))
 
-  other_case : (v : ℤ) → IsTrue (is_negative v) ⊎ HasRoom s (count_of 10 (nat_abs v)) → IsTrue (is_negative v) ⊎ HasRoom t (count_of 10 (nat_abs v))
+  other_case : (v : ℤ) → IsTrue (is_negative v) ⊎ LeavesRoomForSpace s (count_of 10 (nat_abs v)) → IsTrue (is_negative v) ⊎ LeavesRoomForSpace t (count_of 10 (nat_abs v))
   other_case v (inl h) = inl h
   other_case v (inr h) = inr (room_same (count_of 10 (nat_abs v)) h)
 
-  pub alike_for : AreAlikeFor s t alike
+  pub alike_for : PrintEqualIn s t range
   alike_for model number value h within p q f g =
       let v = h.whole in
       let which = has_case v value h.parts within in
@@ -127,7 +127,7 @@ module _ (s t : Specification) (alike : Alike) (e : kind_of s.conv ≡ kinds.Sig
       one ∙ spaced_alike s v e which ∙ ap (λ (r : Specification). field r (value_text r v)) same ∙ sym (spaced_alike t v signed (other_case v which)) ∙ sym two
 
 -- a limit of a directive that isn't filled, to the right of its field
-pub limit_leaves : (s : Specification) (k limit : ℕ) → has s.flags Minus ≡ false → is_zero_filled s ≡ false → precision_of s < width_of s → k + 1 ≤ width_of s → limit ≡ 10 ^ k → (n : ℕ) → n < limit → HasRoom s (count_of 10 n)
+pub limit_leaves : (s : Specification) (k limit : ℕ) → has s.flags Minus ≡ false → is_zero_filled s ≡ false → precision_of s < width_of s → k + 1 ≤ width_of s → limit ≡ 10 ^ k → (n : ℕ) → n < limit → LeavesRoomForSpace s (count_of 10 n)
 limit_leaves s k limit right not_filled less room is n h =
     let few : count_of 10 n ≤ k = length-digits_of-le 10 k n (omega arith) (subst (λ m. n < m) is h) in
     record { right = right; not_filled = not_filled; room = omega (arith, less, room, few) }

@@ -25,11 +25,11 @@ use Rattle.pf_text.proofs.Runs.{moved, run, run-append, run-refused}
 use Rattle.pf_text.proofs.SignatureLemmas.{HasFound, all_found, more_found, refused}
 use Rattle.pf_text.proofs.Texts.{Reads-unique, items_in, run-reads, start}
 use Rattle.pf_render.specs.Rendering.{DifferFirstAt}
-use Rattle.pf_compare.specs.declared.layouts.Hole.{Hole}
+use Rattle.pf_compare.specs.declared.layouts.DirectiveSpan.{DirectiveSpan}
 use Rattle.pf_compare.specs.declared.layouts.Layout.{Layout}
 use Rattle.pf_compare.specs.Answers.{HaveSameTypes}
-use Rattle.pf_compare.specs.Layouts.{IsLayoutOf, hole_types}
-use Rattle.pf_compare.specs.TypeLists.{HasTaken}
+use Rattle.pf_compare.specs.Layouts.{IsLayoutOf, span_types}
+use Rattle.pf_compare.specs.TypeLists.{HasGivenTypes}
 use Rattle.pf_compare.proofs.ListLemmas.{get_map, get_some, get_within, take_whole}
 
 -- The items of a front are the first items of the text.
@@ -58,7 +58,7 @@ front_items t read rest items xs e h g =
     (sym (ap (λ p. run p rest) (run-reads items read [] h)) ∙ sym (run-append start read rest) ∙ sym (ap (run start) e) ∙ run-reads xs t [] g)
 
 -- what is taken comes first
-taken_first : (model : Model) (pieces : Pieces) (t : Text) (done : List ArgType) (xs : List Item) → HasTaken model pieces t done → Reads t xs → (rest : List ArgType) × (types model xs ≡ done ++ rest)
+taken_first : (model : Model) (pieces : Pieces) (t : Text) (done : List ArgType) (xs : List Item) → HasGivenTypes model pieces t done → Reads t xs → (rest : List ArgType) × (types model xs ≡ done ++ rest)
 taken_first model pieces t done xs h g =
     let more = front_items t h.read pieces.rest.now h.items xs h.given.split h.given.reads g in
     (types model more.0, ap (types model) more.1 ∙ types-append model h.items more.0 ∙ ap (λ ts. ts ++ types model more.0) (sym h.types_are))
@@ -67,20 +67,20 @@ pub types_of_all : (model : Model) (t : Text) (wanted : List ArgType) (xs : List
 types_of_all model t wanted xs h g = ap (types model) (Reads-unique t xs h.items g h.accepted.reads)
     ∙ sym h.types_are
 
-taken_as : (model : Model) (pieces : Pieces) (t : Text) (done : List ArgType) → HasFound model pieces t done → HasTaken model pieces t done
+taken_as : (model : Model) (pieces : Pieces) (t : Text) (done : List ArgType) → HasFound model pieces t done → HasGivenTypes model pieces t done
 taken_as model pieces t done h = record { read = h.read; items = h.items; given = h.given; types_are = h.types_are }
 
-found_as : (model : Model) (pieces : Pieces) (t : Text) (done : List ArgType) → HasTaken model pieces t done → HasFound model pieces t done
+found_as : (model : Model) (pieces : Pieces) (t : Text) (done : List ArgType) → HasGivenTypes model pieces t done → HasFound model pieces t done
 found_as model pieces t done h = record { read = h.read; items = h.items; given = h.given; types_are = h.types_are }
 
 -- one piece more
-module _ (model : Model) (old new : Pieces) (t : Text) (done : List ArgType) (h : HasTaken model old t done) where
+module _ (model : Model) (old new : Pieces) (t : Text) (done : List ArgType) (h : HasGivenTypes model old t done) where
   module _ (given : Result Piece Refusal) (steps : Gives old (Some given) new) where
-    pub taken_more : (piece : Piece) (more : List ArgType) → given ≡ Ok piece → more ≡ types model (items_of piece) → HasTaken model new t (done ++ more)
+    pub taken_more : (piece : Piece) (more : List ArgType) → given ≡ Ok piece → more ≡ types model (items_of piece) → HasGivenTypes model new t (done ++ more)
     taken_more piece more e same = taken_as model new t (done ++ more) (more_found model old new t done (found_as model old t done h) given steps piece more e same)
 
-    pub taken_same : (piece : Piece) → given ≡ Ok piece → [] ≡ types model (items_of piece) → HasTaken model new t done
-    taken_same piece e same = subst (HasTaken model new t) (append-nil done) (taken_more piece [] e same)
+    pub taken_same : (piece : Piece) → given ≡ Ok piece → [] ≡ types model (items_of piece) → HasGivenTypes model new t done
+    taken_same piece e same = subst (HasGivenTypes model new t) (append-nil done) (taken_more piece [] e same)
 
     pub not_refused : IsAccepted t → (refusal : Refusal) → given ≡ Err refusal → ⊥
     not_refused accepted refusal e = (refused model old new t done (found_as model old t done h) given steps refusal e).refused.not_accepted accepted
@@ -91,15 +91,15 @@ module _ (model : Model) (old new : Pieces) (t : Text) (done : List ArgType) (h 
 -- both have taken the same types so far
 pub record AreInStep (model : Model) (first second : Pieces) (f g : Text) (index : ℕ) : Type 0 where
   pub done : List ArgType
-  pub first_taken : HasTaken model first f done
-  pub second_taken : HasTaken model second g done
+  pub first_taken : HasGivenTypes model first f done
+  pub second_taken : HasGivenTypes model second g done
   pub count : index ≡ length done
 
 get_after : (xs ys : List ArgType) → slice_get (xs ++ ys) (length xs) ≡ slice_get ys 0
 get_after [] ys = refl
 get_after (x ∷ xs) ys = get_after xs ys
 
--- two lists begin alike, and then differ
+-- two lists begin with the same types, and then differ
 pub differ_after_front : (done xs ys us vs : List ArgType) (index : ℕ) → xs ≡ done ++ us → ys ≡ done ++ vs → index ≡ length done → slice_get us 0 ≢ slice_get vs 0 → DifferFirstAt xs ys index
 differ_after_front done xs ys us vs index e f at h =
     let here : DifferFirstAt (done ++ us) (done ++ vs) (length done)
@@ -112,12 +112,12 @@ differ_after_front done xs ys us vs index e f at h =
 none_there : (done xs : List ArgType) → xs ≡ done → xs ≡ done ++ []
 none_there done xs e = e ∙ sym (append-nil done)
 
-some_there : (model : Model) (pieces : Pieces) (t : Text) (done : List ArgType) (type : ArgType) (xs : List Item) → HasTaken model pieces t (done ++ type ∷ []) → Reads t xs → (rest : List ArgType) × (types model xs ≡ done ++ type ∷ rest)
+some_there : (model : Model) (pieces : Pieces) (t : Text) (done : List ArgType) (type : ArgType) (xs : List Item) → HasGivenTypes model pieces t (done ++ type ∷ []) → Reads t xs → (rest : List ArgType) × (types model xs ≡ done ++ type ∷ rest)
 some_there model pieces t done type xs h g = let more = taken_first model pieces t (done ++ type ∷ []) xs h g in (more.0, more.1 ∙ append_assoc done (type ∷ []) more.0)
 
 -- Another type comes in the second list, or none.
 pub differ_here : (model : Model) (first second : Pieces) (f g : Text) (done : List ArgType) (index : ℕ) (wanted : ArgType) (given : Option ArgType) (xs ys : List Item) → index ≡ length done
-    → HasTaken model first f (done ++ wanted ∷ []) → MatchOption given (TakesTypes model g done) (λ type. HasTaken model second g (done ++ type ∷ [])) → given ≢ Some wanted → Reads f xs → Reads g ys → DifferFirstAt (types model xs) (types model ys) index
+    → HasGivenTypes model first f (done ++ wanted ∷ []) → MatchOption given (TakesTypes model g done) (λ type. HasGivenTypes model second g (done ++ type ∷ [])) → given ≢ Some wanted → Reads f xs → Reads g ys → DifferFirstAt (types model xs) (types model ys) index
 differ_here model first second f g done index wanted None xs ys at h k other a b =
     let one = some_there model first f done wanted xs h a in
     differ_after_front done (types model xs) (types model ys) (wanted ∷ one.0) [] index one.1 (none_there done (types model ys) (types_of_all model g done ys k b)) at (λ e. cc)
@@ -128,20 +128,20 @@ differ_here model first second f g done index wanted (Some type) xs ys at h k ot
 
 -- The same type comes in both.
 pub stepped : (model : Model) (first second : Pieces) (f g : Text) (done : List ArgType) (index : ℕ) (wanted : ArgType) (given : Option ArgType) → index ≡ length done
-    → HasTaken model first f (done ++ wanted ∷ []) → MatchOption given (TakesTypes model g done) (λ type. HasTaken model second g (done ++ type ∷ [])) → given ≡ Some wanted → AreInStep model first second f g (index + 1)
+    → HasGivenTypes model first f (done ++ wanted ∷ []) → MatchOption given (TakesTypes model g done) (λ type. HasGivenTypes model second g (done ++ type ∷ [])) → given ≡ Some wanted → AreInStep model first second f g (index + 1)
 stepped model first second f g done index wanted None at h k same = absurd (cc)
 stepped model first second f g done index wanted (Some type) at h k same =
     let is : type ≡ wanted = cc in
     record {
       done = done ++ wanted ∷ [];
       first_taken = h;
-      second_taken = subst (λ (t : ArgType). HasTaken model second g (done ++ t ∷ [])) is k;
+      second_taken = subst (λ (t : ArgType). HasGivenTypes model second g (done ++ t ∷ [])) is k;
       count = omega (arith, at, length_push done wanted);
     }
 
 -- The second list is longer.
 pub differ_after : (model : Model) (second : Pieces) (f g : Text) (done : List ArgType) (index : ℕ) (type : ArgType) (xs ys : List Item) → index ≡ length done
-    → TakesTypes model f done → HasTaken model second g (done ++ type ∷ []) → Reads f xs → Reads g ys → DifferFirstAt (types model xs) (types model ys) index
+    → TakesTypes model f done → HasGivenTypes model second g (done ++ type ∷ []) → Reads f xs → Reads g ys → DifferFirstAt (types model xs) (types model ys) index
 differ_after model second f g done index type xs ys at h k a b =
     let two = some_there model second g done type ys k b in
     differ_after_front done (types model xs) (types model ys) [] (type ∷ two.0) index (none_there done (types model xs) (types_of_all model f done xs h a)) two.1 at (λ e. cc)
@@ -157,17 +157,17 @@ same_types_of model f g a b same =
       second = record { items = b.0; accepted = b.1; types_are = same a.0 b.0 a.1.reads b.1.reads };
     }
 
--- The types of holes are those of the items.
-pub length-hole_types : (model : Model) (holes : List Hole) → length (hole_types model holes) ≡ length holes
-length-hole_types model holes = length-map holes (λ hole. arg_type model hole.directive)
+-- The types of spans are those of the items.
+pub length-hole_types : (model : Model) (spans : List DirectiveSpan) → length (span_types model spans) ≡ length spans
+length-hole_types model spans = length-map spans (λ span. arg_type model span.directive)
 
-pub hole_type_at : (model : Model) (holes : List Hole) (i : ℕ) (d : Hole) → i < length holes → slice_get (hole_types model holes) i ≡ Some (arg_type model (get_or holes i d).directive)
-hole_type_at model holes i d h = get_map (λ hole. arg_type model hole.directive) holes i d h
+pub hole_type_at : (model : Model) (spans : List DirectiveSpan) (i : ℕ) (d : DirectiveSpan) → i < length spans → slice_get (span_types model spans) i ≡ Some (arg_type model (get_or spans i d).directive)
+hole_type_at model spans i d h = get_map (λ span. arg_type model span.directive) spans i d h
 
-hole_type_got : (model : Model) (holes : List Hole) (i : ℕ) (hole : Hole) → slice_get holes i ≡ Some hole → slice_get (hole_types model holes) i ≡ Some (arg_type model hole.directive)
-hole_type_got model [] i hole e = absurd (cc)
-hole_type_got model (h ∷ holes) zero hole e = let is : h ≡ hole = cc in ap (λ (o : Hole). Some (arg_type model o.directive)) is
-hole_type_got model (h ∷ holes) (suc i) hole e = hole_type_got model holes i hole e
+hole_type_got : (model : Model) (spans : List DirectiveSpan) (i : ℕ) (span : DirectiveSpan) → slice_get spans i ≡ Some span → slice_get (span_types model spans) i ≡ Some (arg_type model span.directive)
+hole_type_got model [] i span e = absurd (cc)
+hole_type_got model (h ∷ spans) zero span e = let is : h ≡ span = cc in ap (λ (o : DirectiveSpan). Some (arg_type model o.directive)) is
+hole_type_got model (h ∷ spans) (suc i) span e = hole_type_got model spans i span e
 
 same_lists : (xs ys : List ArgType) → length xs ≡ length ys → ((i : ℕ) (x : ArgType) → slice_get xs i ≡ Some x → slice_get ys i ≡ Some x) → xs ≡ ys
 same_lists [] [] e h = refl
@@ -179,9 +179,9 @@ same_lists (x ∷ xs) (y ∷ ys) e h =
     let same : y ≡ x = cc in
     cc
 
-pub hole_types_are : (model : Model) (items : List Item) (layout : Layout) → IsLayoutOf model items layout → hole_types model layout.holes.items ≡ types model items
-hole_types_are model items layout h = same_lists (hole_types model layout.holes.items) (types model items) (length-hole_types model layout.holes.items ∙ h.count) (λ i x e.
-    let less = get_within (hole_types model layout.holes.items) i x e in
-    let hole = get_some layout.holes.items i (omega (arith, less, length-hole_types model layout.holes.items)) in
-    let is = h.holes i hole.0 hole.1 in
-    is.type_is ∙ sym (hole_type_got model layout.holes.items i hole.0 hole.1) ∙ e)
+pub hole_types_are : (model : Model) (items : List Item) (layout : Layout) → IsLayoutOf model items layout → span_types model layout.spans.items ≡ types model items
+hole_types_are model items layout h = same_lists (span_types model layout.spans.items) (types model items) (length-hole_types model layout.spans.items ∙ h.count) (λ i x e.
+    let less = get_within (span_types model layout.spans.items) i x e in
+    let span = get_some layout.spans.items i (omega (arith, less, length-hole_types model layout.spans.items)) in
+    let is = h.spans i span.0 span.1 in
+    is.type_is ∙ sym (hole_type_got model layout.spans.items i span.0 span.1) ∙ e)

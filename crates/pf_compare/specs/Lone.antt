@@ -6,7 +6,7 @@ use Rattle.pf_values.specs.Specification.{Specification}
 use Rattle.pf_values.specs.Text.{Text}
 use Rattle.pf_text.specs.declared.pieces.Pieces.{Pieces}
 use Rattle.pf_text.specs.PieceHistory.{HasGiven}
-use Rattle.pf_compare.specs.declared.layouts.Hole.{Hole}
+use Rattle.pf_compare.specs.declared.layouts.DirectiveSpan.{DirectiveSpan}
 use Rattle.pf_compare.specs.declared.lone_difference.LoneDifference.{LoneDifference}
 
 -- the index of the argument that comes after those of some items
@@ -21,7 +21,7 @@ pub record DifferInOne (xs ys : List Item) (difference : LoneDifference) : Type 
   pub second_is : ys ≡ before ++ Directive difference.second ∷ after
   pub index_is : IsIndexAfter before difference.index
 
--- or they are the same
+-- the same, or the two lists are equal
 abbrev pub DifferInOneAtMost : List Item → List Item → Option LoneDifference → Type 0
 DifferInOneAtMost xs ys (Some difference) = DifferInOne xs ys difference
 DifferInOneAtMost xs ys None = xs ≡ ys
@@ -42,6 +42,6 @@ pub record HasFollowed (pieces : Pieces) (t : Text) (xs : List Item)
   pub given : HasGiven pieces t read items
   pub at_most : DifferInOneAtMost xs items found
 
--- a directive alone prints in a hole of an empty text
-abbrev pub alone : Specification → Hole
-alone s = record { directive = s; start = 0; end = 0 }
+-- a directive alone, with the one span of an empty text
+abbrev pub span_alone : Specification → DirectiveSpan
+span_alone s = record { directive = s; start = 0; end = 0 }

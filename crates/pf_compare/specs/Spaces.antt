@@ -9,26 +9,26 @@ use Rattle.pf_values.specs.Flags.{has, with_flag}
 use Rattle.pf_values.specs.Normal.{precision_of}
 use Rattle.pf_values.specs.Printing.{is_zero_filled}
 use Rattle.pf_values.specs.Specification.{Specification, width_of}
-use Rattle.pf_compare.specs.declared.foresight.Alike.{Alike}
+use Rattle.pf_compare.specs.declared.predictions.EqualPrintRange.{EqualPrintRange}
 use Rattle.pf_compare.specs.declared.values.Value.{Value}
-use Rattle.pf_compare.specs.Outlines.{Foretells, IsOfValue}
+use Rattle.pf_compare.specs.Outlines.{PredictsDifference, IsOfValue}
 
--- the same with the flag ` `
+-- a specification with the flag ` ` added
 abbrev pub with_space : Specification → Specification
 with_space s = record s { flags = with_flag s.flags Space }
 
 -- to the right of its field, where spaces come first, at most `digits` digits leave room for a space
-pub record HasRoom (s : Specification) (digits : ℕ) : Type 0 where
+pub record LeavesRoomForSpace (s : Specification) (digits : ℕ) : Type 0 where
   pub right : has s.flags Minus ≡ false
   pub not_filled : is_zero_filled s ≡ false
   pub room : max (precision_of s) digits + 1 ≤ width_of s
 
--- a negative value, or one below a limit
-abbrev pub IsWithin : Alike → Value → Type 0
-IsWithin alike value = IsTrue value.is_negative ⊎ (value.size < alike.below)
+-- a value in the range: a negative one, or one below the limit
+abbrev pub IsInEqualPrintRange : EqualPrintRange → Value → Type 0
+IsInEqualPrintRange range value = IsTrue value.is_negative ⊎ (value.size < range.below)
 
--- two directives print such values alike
-abbrev pub AreAlikeFor : Specification → Specification → Alike → Type 0
-AreAlikeFor s t alike = (model : Model) (number : ℤ) (value : Value)
+-- two directives print the same for such values
+abbrev pub PrintEqualIn : Specification → Specification → EqualPrintRange → Type 0
+PrintEqualIn s t range = (model : Model) (number : ℤ) (value : Value)
     → IsOfValue (is_signed s.conv) (bit_count (bits_under model s.length)) number value
-    → IsWithin alike value → Foretells model s t (Number number) false
+    → IsInEqualPrintRange range value → PredictsDifference model s t (Number number) false

@@ -8,7 +8,7 @@ use Rattle.pf_text.specs.declared.pieces.Pieces.{Pieces}
 use Rattle.pf_text.specs.PieceHistory.{HasGiven}
 
 -- the pieces of a text that were given take arguments of these types
-pub record HasTaken (model : Model) (pieces : Pieces) (t : Text)
+pub record HasGivenTypes (model : Model) (pieces : Pieces) (t : Text)
     (done : List ArgType) : Type 0 where
   pub read : Text
   pub items : List Item

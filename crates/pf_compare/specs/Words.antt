@@ -1,4 +1,4 @@
--- The words by which the program takes arguments and tells them. This project's own.
+-- The words by which the program reads and prints arguments. This project's own.
 use Rattle.std.specs.Prelude.{◌≡◌, ◌++◌, codes}
 use Rattle.std.specs.Fmt.{signed_decimal}
 use Rattle.pf_values.specs.Arguments.{Argument, Number, String}

@@ -9,7 +9,7 @@ ghost use Rattle.pf_compare.specs.declared.comparisons.CompareFault.TheVariants.
 use crate::layouts::lay_out;
 use crate::lone_difference::{LoneDifference, lone_difference};
 use crate::owned_args::OwnedArg;
-use crate::type_lists::first_other_type;
+use crate::type_lists::first_type_difference;
 use crate::witnesses::{Witness, first_witness, lone_witness};
 use pf_canon::{Side, same_text};
 use pf_text::Refusal;
@@ -38,7 +38,7 @@ pub fn compare(alloc: Global, model: Model, f: &[u8], g: &[u8]) -> Result<Compar
     compare_apart(alloc, model, f, g)
 }
 
-// The same of two formats that aren't equivalent.
+// Compares two formats that aren't equivalent.
 #[inline(never)]
 fn compare_apart(
     alloc: Global,
@@ -53,7 +53,7 @@ fn compare_apart(
     if let Some(difference) = lone_difference(f, g) {
         return compare_lone(alloc, model, f, g, &difference);
     }
-    if let Some(index) = first_other_type(model, f, g) {
+    if let Some(index) = first_type_difference(model, f, g) {
         return Ok(Comparison {
             verdict: Verdict::Types(index),
             renderings: 0,
@@ -62,7 +62,7 @@ fn compare_apart(
     Ok(compare_bytes(alloc, model, f, g)?)
 }
 
-// The same of two formats that differ in one directive alone, and aren't equivalent.
+// Compares two formats that differ in one directive alone, and aren't equivalent.
 fn compare_lone(
     alloc: Global,
     model: Model,
@@ -75,7 +75,7 @@ fn compare_lone(
     ensures { MatchResult result (IsComparisonOf model f.now g.now)
         (HindersComparison model f.now g.now) }
 {
-    if have_other_types(model, &difference.first, &difference.second) {
+    if have_different_types(model, &difference.first, &difference.second) {
         return Ok(Comparison {
             verdict: Verdict::Types(difference.index as u64),
             renderings: 0,
@@ -84,14 +84,14 @@ fn compare_lone(
     Ok(compare_directives(alloc, model, f, g, difference)?)
 }
 
-fn have_other_types(model: Model, first: &Directive, second: &Directive) -> bool
+fn have_different_types(model: Model, first: &Directive, second: &Directive) -> bool
     ensures { MatchBool result (arg_type model first.now ≢ arg_type model second.now)
         (arg_type model first.now ≡ arg_type model second.now) }
 {
     first.arg_type(model) != second.arg_type(model)
 }
 
-// The same where these are of one type.
+// The same where the two directives take arguments of one type.
 fn compare_directives(
     alloc: Global,
     model: Model,
@@ -113,7 +113,7 @@ fn compare_directives(
     }
 }
 
-// The same of two formats with the same types, which differ in what they print.
+// Compares two formats with the same types, which differ in what they print.
 fn compare_bytes(alloc: Global, model: Model, f: &[u8], g: &[u8]) -> Result<Comparison, AllocError>
     requires apart { AreTextsSame model f.now g.now false }
     requires types { HaveSameTypes model f.now g.now }
@@ -130,7 +130,7 @@ fn compare_bytes(alloc: Global, model: Model, f: &[u8], g: &[u8]) -> Result<Comp
     }
 }
 
-/// What two formats are to each other.
+/// How two formats compare.
 #[derive(Debug, Drop)]
 pub enum Verdict {
     /// They are equivalent: equal argument types, and equal bytes for all arguments.

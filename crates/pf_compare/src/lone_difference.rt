@@ -6,12 +6,12 @@ ghost use Rattle.pf_values.specs.Text.{Text, percent};
 ghost use Rattle.pf_text.specs.PieceHistory.{items_of};
 ghost use Rattle.pf_compare.specs.Lone.{DifferInOneAtMost, FormatsDifferInOne, HasFollowed, IsIndexAfter};
 
-use crate::foresight::are_equal;
+use crate::predictions::are_equal;
 use crate::probe_search::are_unlike;
 use pf_text::{Piece, Pieces};
 use pf_values::Directive;
 
-/// The directive in which two formats differ, as it stands in each, and the index of its argument.
+/// The directive in which two formats differ, as each has it, and the index of its argument.
 #[derive(Clone, Copy)]
 pub(crate) struct LoneDifference {
     pub(crate) index: usize,
@@ -23,7 +23,7 @@ pub(crate) struct LoneDifference {
 pub(crate) fn lone_difference(f: &[u8], g: &[u8]) -> Option<LoneDifference>
     ensures { IfSome result (FormatsDifferInOne f.now g.now) }
 {
-    if !part_in_directive(f, g) {
+    if !diverge_in_directive(f, g) {
         return None;
     }
     let mut found = None;
@@ -32,7 +32,7 @@ pub(crate) fn lone_difference(f: &[u8], g: &[u8]) -> Option<LoneDifference>
     for piece in Pieces::new(f) {
         match piece {
             Ok(piece) => {
-                if !go_on_alike(&mut found, index, &piece, &mut others) {
+                if !next_piece_matches(&mut found, index, &piece, &mut others) {
                     return None;
                 }
                 index += arg_count(&piece);
@@ -46,15 +46,15 @@ pub(crate) fn lone_difference(f: &[u8], g: &[u8]) -> Option<LoneDifference>
     }
 }
 
-// Whether two texts part inside of what looks like a directive. Where they part or end in literal
-// bytes they differ in these, and needn't be read.
-fn part_in_directive(f: &[u8], g: &[u8]) -> bool {
-    end_alike(f.last(), g.last()) && ends_in_directive(&f[..common_len(f, g)])
+// Whether the first bytes in which two texts differ are inside of what looks like a directive. Else
+// the texts differ in literal bytes, and needn't be read.
+fn diverge_in_directive(f: &[u8], g: &[u8]) -> bool {
+    have_similar_ends(f.last(), g.last()) && ends_in_directive(&f[..common_prefix_len(f, g)])
 }
 
-// Whether two texts with these last bytes end in one byte, or each in what may be a conversion.
+// Whether two texts with these last bytes end in the same byte, or each in a letter.
 #[inline(always)]
-fn end_alike(one: Option<&u8>, two: Option<&u8>) -> bool {
+fn have_similar_ends(one: Option<&u8>, two: Option<&u8>) -> bool {
     if let Some(one) = one {
         if let Some(two) = two {
             return one == two || (one.is_ascii_alphabetic() && two.is_ascii_alphabetic());
@@ -64,7 +64,7 @@ fn end_alike(one: Option<&u8>, two: Option<&u8>) -> bool {
 }
 
 // How many bytes two texts begin with in common.
-fn common_len(f: &[u8], g: &[u8]) -> usize
+fn common_prefix_len(f: &[u8], g: &[u8]) -> usize
     ensures { result ≤ length f.now }
 {
     let most = f.len().min(g.len());
@@ -76,7 +76,7 @@ fn common_len(f: &[u8], g: &[u8]) -> usize
     most
 }
 
-// Whether nothing but parts of a directive stand after the last `%`.
+// Whether only parts of a directive come after the last `%`.
 fn ends_in_directive(text: &[u8]) -> bool {
     for back in 0..text.len() {
         match text[text.len() - 1 - back] {
@@ -89,9 +89,9 @@ fn ends_in_directive(text: &[u8]) -> bool {
     false
 }
 
-// Whether the second format goes on as the first does with a piece, but for one directive in all,
-// which is noted.
-fn go_on_alike(
+// Whether the next piece of the second format is this piece of the first one. One directive in all
+// may differ, and is noted.
+fn next_piece_matches(
     found: &mut Option<LoneDifference>,
     index: usize,
     piece: &Piece<'_>,
@@ -103,7 +103,7 @@ fn go_on_alike(
 {
     match others.next() {
         Some(next) => match next {
-            Ok(other) => are_alike(found, index, piece, &other),
+            Ok(other) => match_or_note(found, index, piece, &other),
             Err(_) => false,
         },
         None => false,
@@ -111,7 +111,7 @@ fn go_on_alike(
 }
 
 #[inline(always)]
-fn are_alike(
+fn match_or_note(
     found: &mut Option<LoneDifference>,
     index: usize,
     one: &Piece<'_>,
@@ -121,7 +121,7 @@ fn are_alike(
         → DifferInOneAtMost xs ys found.old → IsIndexAfter xs index
         → DifferInOneAtMost (xs ++ items_of one.now) (ys ++ items_of two.now) found.new }
 {
-    if are_same(one, two) {
+    if are_equal_pieces(one, two) {
         return true;
     }
     if found.is_some() {
@@ -144,22 +144,22 @@ fn are_alike(
 }
 
 #[inline(always)]
-fn are_same(one: &Piece<'_>, two: &Piece<'_>) -> bool
+fn are_equal_pieces(one: &Piece<'_>, two: &Piece<'_>) -> bool
     ensures { IsTrue result → items_of one.now ≡ items_of two.now }
 {
     match one {
-        Piece::Literal(run) => is_run(two, run),
+        Piece::Literal(literal) => is_literal(two, literal),
         Piece::Percent => is_percent(two),
         Piece::Directive(directive) => is_directive(two, directive),
     }
 }
 
 #[inline(always)]
-fn is_run(piece: &Piece<'_>, wanted: &[u8]) -> bool
+fn is_literal(piece: &Piece<'_>, wanted: &[u8]) -> bool
     ensures { IsTrue result → map Byte wanted.now ≡ items_of piece.now }
 {
     match piece {
-        Piece::Literal(run) => !are_unlike(wanted, run),
+        Piece::Literal(literal) => !are_unlike(wanted, literal),
         Piece::Percent => false,
         Piece::Directive(_) => false,
     }

@@ -1,5 +1,5 @@
-//! The first argument that tells two formats apart, where they print the same for neutral ones, and
-//! the first that tells two directives apart.
+//! The first candidate for which two formats print different bytes, where they print the same for
+//! neutral arguments; and the first for which two directives do.
 ghost use Rattle.std.specs.Prelude.{◌≡◌, ◌≢◌, ◌≤◌, ◌+◌, ◌-◌, [], ◌++◌, IfOk, IfSome, IsTrue, List, MatchBool, drop, length, take};
 ghost use Rattle.pf_values.specs.Arg.{argument_of};
 ghost use Rattle.pf_values.specs.Arguments.{HasType};
@@ -9,13 +9,13 @@ ghost use Rattle.pf_values.specs.Items.{Item, types};
 ghost use Rattle.pf_values.specs.declared.models.Model.TheVariants.{Lp64};
 ghost use Rattle.pf_probes.specs.Candidate as probes;
 ghost use Rattle.pf_compare.specs.Answers.{FindsProbe};
-ghost use Rattle.pf_compare.specs.Layouts.{AreLevel, AreTriedBelow, FillAlike, FillUnlike, FindsUnlike, IsInside, IsLayoutOf, fill};
-ghost use Rattle.pf_compare.specs.Lone.{alone};
-ghost use Rattle.pf_compare.specs.Spaces.{AreAlikeFor};
+ghost use Rattle.pf_compare.specs.Layouts.{HaveSameTypesAndBytes, AreTriedBelow, ReplacementsEqual, ReplacementsDiffer, FindsUnlike, IsSpanIn, IsLayoutOf, replace_span};
+ghost use Rattle.pf_compare.specs.Lone.{span_alone};
+ghost use Rattle.pf_compare.specs.Spaces.{PrintEqualIn};
 
-use crate::foresight::{Alike, are_equal, foretell};
-use crate::layouts::{Hole, Layout, print};
+use crate::layouts::{DirectiveSpan, Layout, print};
 use crate::owned_args::OwnedArg;
+use crate::predictions::{EqualPrintRange, are_equal, predict};
 use pf_probes::{Candidate, candidate_row};
 use pf_values::{Arg, ArgType, Directive, Model};
 use std::alloc::{AllocError, Global};
@@ -29,26 +29,26 @@ pub(crate) struct Probe {
 }
 
 /// The first probe for which two formats print different bytes. They print the same for neutral
-/// arguments, so what they print for a probe differs from that in one hole alone.
+/// arguments, so what each prints for a probe differs from that in one span alone.
 pub(crate) fn first_probe(
     alloc: Global,
     model: Model,
     first: &Layout,
     second: &Layout,
 ) -> Result<Option<Probe>, AllocError>
-    requires level { AreLevel model first.now second.now }
+    requires equal { HaveSameTypesAndBytes model first.now second.now }
     ensures { IfOk result (λ found.
         (xs ys : List Item) → IsLayoutOf model xs first.now → IsLayoutOf model ys second.now
         → types model xs ≡ types model ys → FindsProbe model xs ys found) }
 {
     let mut index = 0;
-    while index < first.holes.len() {
+    while index < first.spans.len() {
         let found = first_candidate(
             alloc,
             model,
             &first.bytes,
-            &first.holes[index],
-            &second.holes[index],
+            &first.spans[index],
+            &second.spans[index],
         )?;
         match found {
             Some(place) => return Ok(Some(Probe { index, place })),
@@ -58,27 +58,27 @@ pub(crate) fn first_probe(
     Ok(None)
 }
 
-// The place of the first candidate that tells two directives apart in their holes. One directive in
-// one hole prints one text for every argument.
+// The place of the first candidate for which the bytes of two directives, put into their spans, make
+// different texts. One directive in one span makes one text for every argument.
 fn first_candidate(
     alloc: Global,
     model: Model,
     whole: &[u8],
-    first: &Hole,
-    second: &Hole,
+    first: &DirectiveSpan,
+    second: &DirectiveSpan,
 ) -> Result<Option<usize>, AllocError>
     requires one_type { arg_type model first.now.directive ≡ arg_type model second.now.directive }
-    requires neutral { FillAlike model whole.now first.now second.now
+    requires neutral { ReplacementsEqual model whole.now first.now second.now
         (neutral (arg_type model first.now.directive)) }
-    requires first { IsInside whole.now first.now }
-    requires second { IsInside whole.now second.now }
+    requires first { IsSpanIn whole.now first.now }
+    requires second { IsSpanIn whole.now second.now }
     ensures { IfOk result
         (FindsUnlike model whole.now first.now second.now (arg_type model first.now.directive)) }
 {
-    if are_one(first, second) {
+    if are_equal_spans(first, second) {
         return Ok(None);
     }
-    first_of(
+    first_candidate_from(
         alloc,
         model,
         whole,
@@ -89,76 +89,76 @@ fn first_candidate(
     )
 }
 
-/// The place of the first candidate for which two directives print different bytes: alone, they print
-/// in one hole of an empty text.
-pub(crate) fn first_apart(
+/// The place of the first candidate for which two directives print different bytes: alone, each is
+/// put into one span of an empty text.
+pub(crate) fn first_candidate_alone(
     alloc: Global,
     model: Model,
     first: &Directive,
     second: &Directive,
 ) -> Result<Option<usize>, AllocError>
     requires one_type { arg_type model first.now ≡ arg_type model second.now }
-    ensures { IfOk result (FindsUnlike model [] (alone first.now) (alone second.now)
+    ensures { IfOk result (FindsUnlike model [] (span_alone first.now) (span_alone second.now)
         (arg_type model first.now)) }
 {
-    first_of(
+    first_candidate_from(
         alloc,
         model,
         b"",
-        &alone(first),
-        &alone(second),
+        &span_alone(first),
+        &span_alone(second),
         first.arg_type(model),
         0,
     )
 }
 
-fn alone(directive: &Directive) -> Hole
-    ensures { result ≡ alone directive.now }
+fn span_alone(directive: &Directive) -> DirectiveSpan
+    ensures { result ≡ span_alone directive.now }
 {
-    Hole {
+    DirectiveSpan {
         directive: *directive,
         start: 0,
         end: 0,
     }
 }
 
-fn are_one(first: &Hole, second: &Hole) -> bool
+fn are_equal_spans(first: &DirectiveSpan, second: &DirectiveSpan) -> bool
     ensures { IsTrue result → first.now ≡ second.now }
 {
-    have_one_place(first, second) && are_equal(&first.directive, &second.directive)
+    have_same_place(first, second) && are_equal(&first.directive, &second.directive)
 }
 
-fn have_one_place(first: &Hole, second: &Hole) -> bool
+fn have_same_place(first: &DirectiveSpan, second: &DirectiveSpan) -> bool
     ensures { IsTrue result
         → (first.now.start ≡ second.now.start) × (first.now.end ≡ second.now.end) }
 {
     first.start == second.start && first.end == second.end
 }
 
-// The place of the first candidate of their type that does, from a place before which none does. The
-// neutral one is the first.
-fn first_of(
+// The place of the first candidate of their type that makes different texts, from a place on before
+// which none does. The neutral one is the first.
+fn first_candidate_from(
     alloc: Global,
     model: Model,
     whole: &[u8],
-    first: &Hole,
-    second: &Hole,
+    first: &DirectiveSpan,
+    second: &DirectiveSpan,
     wanted: ArgType,
     from: usize,
 ) -> Result<Option<usize>, AllocError>
     requires first_type { arg_type model first.now.directive ≡ wanted }
     requires second_type { arg_type model second.now.directive ≡ wanted }
     requires tried { AreTriedBelow model whole.now first.now second.now wanted from }
-    requires first { IsInside whole.now first.now }
-    requires second { IsInside whole.now second.now }
+    requires first { IsSpanIn whole.now first.now }
+    requires second { IsSpanIn whole.now second.now }
     ensures { IfOk result (FindsUnlike model whole.now first.now second.now wanted) }
 {
     let row = candidate_row(model, wanted);
-    let known = Alike::of(&first.directive, &second.directive);
+    let equal_range = EqualPrintRange::of(&first.directive, &second.directive);
     let mut place = from;
     while place < row.len() {
-        if tell_apart(
-            alloc, model, whole, first, second, known, wanted, row[place],
+        if candidate_differs(
+            alloc, model, whole, first, second, equal_range, wanted, row[place],
         )? {
             return Ok(Some(place));
         }
@@ -167,98 +167,98 @@ fn first_of(
     Ok(None)
 }
 
-// Whether a candidate tells two directives apart in their holes.
-fn tell_apart(
+// Whether the bytes of two directives for a candidate, put into their spans, make different texts.
+fn candidate_differs(
     alloc: Global,
     model: Model,
     whole: &[u8],
-    first: &Hole,
-    second: &Hole,
-    known: Option<Alike>,
+    first: &DirectiveSpan,
+    second: &DirectiveSpan,
+    equal_range: Option<EqualPrintRange>,
     wanted: ArgType,
     candidate: Candidate,
 ) -> Result<bool, AllocError>
-    requires known { IfSome known (AreAlikeFor first.now.directive second.now.directive) }
+    requires equal_range { IfSome equal_range (PrintEqualIn first.now.directive second.now.directive) }
     requires first_type { arg_type model first.now.directive ≡ wanted }
     requires second_type { arg_type model second.now.directive ≡ wanted }
     requires typed { HasType model (probes.argument_of candidate) wanted }
     requires held { HasType Lp64 (probes.argument_of candidate) wanted }
-    requires first { IsInside whole.now first.now }
-    requires second { IsInside whole.now second.now }
+    requires first { IsSpanIn whole.now first.now }
+    requires second { IsSpanIn whole.now second.now }
     ensures { IfOk result (λ told. MatchBool told
-        (FillUnlike model whole.now first.now second.now (probes.argument_of candidate))
-        (FillAlike model whole.now first.now second.now (probes.argument_of candidate))) }
+        (ReplacementsDiffer model whole.now first.now second.now (probes.argument_of candidate))
+        (ReplacementsEqual model whole.now first.now second.now (probes.argument_of candidate))) }
 {
-    if have_one_place(first, second) {
-        if let Some(told) = foretell(model, &first.directive, &second.directive, known, candidate) {
+    if have_same_place(first, second) {
+        if let Some(told) = predict(model, &first.directive, &second.directive, equal_range, candidate) {
             return Ok(told);
         }
     }
     let argument = OwnedArg::of(alloc, wanted, candidate)?;
-    print_apart(alloc, model, whole, first, second, argument.as_arg())
+    printed_differ(alloc, model, whole, first, second, argument.as_arg())
 }
 
-// Whether what two directives print for an argument tells them apart in their holes. In one place
-// only that is compared, and nothing where both print what they print for a neutral argument.
-fn print_apart(
+// The same for an argument, by printing. In one place only the printed bytes are compared, and
+// nothing where both directives print what they print for a neutral argument.
+fn printed_differ(
     alloc: Global,
     model: Model,
     whole: &[u8],
-    first: &Hole,
-    second: &Hole,
+    first: &DirectiveSpan,
+    second: &DirectiveSpan,
     argument: Arg<'_>,
 ) -> Result<bool, AllocError>
     requires typed_first { HasType model (argument_of argument)
         (arg_type model first.now.directive) }
     requires typed_second { HasType model (argument_of argument)
         (arg_type model second.now.directive) }
-    requires first { IsInside whole.now first.now }
-    requires second { IsInside whole.now second.now }
+    requires first { IsSpanIn whole.now first.now }
+    requires second { IsSpanIn whole.now second.now }
     ensures { IfOk result (λ told. MatchBool told
-        (FillUnlike model whole.now first.now second.now (argument_of argument.entry))
-        (FillAlike model whole.now first.now second.now (argument_of argument.entry))) }
+        (ReplacementsDiffer model whole.now first.now second.now (argument_of argument.entry))
+        (ReplacementsEqual model whole.now first.now second.now (argument_of argument.entry))) }
 {
     let x = print(alloc, model, &first.directive, argument)?;
     let y = print(alloc, model, &second.directive, argument)?;
-    if have_one_place(first, second) {
+    if have_same_place(first, second) {
         return Ok(are_unlike(&x, &y));
     }
-    if stays(whole, first, &x) {
-        if stays(whole, second, &y) {
+    if is_unchanged(whole, first, &x) {
+        if is_unchanged(whole, second, &y) {
             return Ok(false);
         }
     }
-    differ_filled(alloc, whole, first, second, &x, &y)
+    replaced_differ(alloc, whole, first, second, &x, &y)
 }
 
-// Whether this stands in a hole.
-fn stays(whole: &[u8], hole: &Hole, printed: &[u8]) -> bool
-    requires { IsInside whole.now hole.now }
-    ensures { IsTrue result → fill whole.now hole.now printed.now ≡ whole.now }
+// Whether a span holds these bytes.
+fn is_unchanged(whole: &[u8], span: &DirectiveSpan, printed: &[u8]) -> bool
+    requires { IsSpanIn whole.now span.now }
+    ensures { IsTrue result → replace_span whole.now span.now printed.now ≡ whole.now }
 {
-    !are_unlike(&whole[hole.start..hole.end], printed)
+    !are_unlike(&whole[span.start..span.end], printed)
 }
 
-// Whether a text with one hole filled differs from it with another one filled, by the part that the
-// two holes lie in.
-fn differ_filled(
+// Whether a text with one span replaced differs from it with another one replaced, by the part that
+// the two spans lie in.
+fn replaced_differ(
     alloc: Global,
     whole: &[u8],
-    first: &Hole,
-    second: &Hole,
+    first: &DirectiveSpan,
+    second: &DirectiveSpan,
     x: &[u8],
     y: &[u8],
 ) -> Result<bool, AllocError>
-    requires first { IsInside whole.now first.now }
-    requires second { IsInside whole.now second.now }
+    requires first { IsSpanIn whole.now first.now }
+    requires second { IsSpanIn whole.now second.now }
     ensures { IfOk result (λ told. MatchBool told
-        (fill whole.now first.now x.now ≢ fill whole.now second.now y.now)
-        (fill whole.now first.now x.now ≡ fill whole.now second.now y.now)) }
+        (replace_span whole.now first.now x.now ≢ replace_span whole.now second.now y.now)
+        (replace_span whole.now first.now x.now ≡ replace_span whole.now second.now y.now)) }
 {
     let from = first.start.min(second.start);
     let to = first.end.max(second.end);
-    let one = fill(alloc, &whole[from..to], from, first, x)?;
-    let two = fill(alloc, &whole[from..to], from, second, y)?;
+    let one = replace_span(alloc, &whole[from..to], from, first, x)?;
+    let two = replace_span(alloc, &whole[from..to], from, second, y)?;
     Ok(are_unlike(&one, &two))
 }
 
@@ -269,24 +269,24 @@ pub(crate) fn are_unlike(x: &[u8], y: &[u8]) -> bool
     x != y
 }
 
-// A part of a text that begins at `from`, with this in its hole.
-fn fill(
+// A part of a text that begins at `from`, with these bytes in the place of its span.
+fn replace_span(
     alloc: Global,
     part: &[u8],
     from: usize,
-    hole: &Hole,
+    span: &DirectiveSpan,
     printed: &[u8],
 ) -> Result<Vec<u8>, AllocError>
-    requires ordered { hole.now.start ≤ hole.now.end }
-    requires after { from ≤ hole.now.start }
-    requires before { hole.now.end ≤ from + length part.now }
+    requires ordered { span.now.start ≤ span.now.end }
+    requires after { from ≤ span.now.start }
+    requires before { span.now.end ≤ from + length part.now }
     ensures { IfOk result (λ bytes.
-        bytes.items ≡ take (hole.now.start - from) part.now ++ printed.now
-        ++ drop (hole.now.end - from) part.now) }
+        bytes.items ≡ take (span.now.start - from) part.now ++ printed.now
+        ++ drop (span.now.end - from) part.now) }
 {
     let mut out = Vec::new(alloc);
-    out.extend_from_slice(&part[..hole.start - from])?;
+    out.extend_from_slice(&part[..span.start - from])?;
     out.extend_from_slice(printed)?;
-    out.extend_from_slice(&part[hole.end - from..])?;
+    out.extend_from_slice(&part[span.end - from..])?;
     Ok(out)
 }

@@ -7,14 +7,14 @@ ghost use Rattle.pf_values.specs.Text.{Text};
 ghost use Rattle.pf_text.specs.PieceHistory.{items_of};
 ghost use Rattle.pf_text.specs.Signatures.{TakesTypes};
 ghost use Rattle.pf_render.specs.Rendering.{DifferFirstAt};
-ghost use Rattle.pf_compare.specs.TypeLists.{HasTaken};
+ghost use Rattle.pf_compare.specs.TypeLists.{HasGivenTypes};
 
 use pf_text::{Piece, Pieces};
 use pf_values::{ArgType, Model};
 
 /// The first index at which the argument types of two accepted formats differ, if they do. It takes
 /// no memory.
-pub(crate) fn first_other_type(model: Model, f: &[u8], g: &[u8]) -> Option<u64>
+pub(crate) fn first_type_difference(model: Model, f: &[u8], g: &[u8]) -> Option<u64>
     requires first { IsAccepted f.now }
     requires second { IsAccepted g.now }
     ensures { (xs ys : List Item) → Reads f.now xs → Reads g.now ys
@@ -44,9 +44,9 @@ pub(crate) fn first_other_type(model: Model, f: &[u8], g: &[u8]) -> Option<u64>
 
 // The type of the next argument of an accepted format, if one comes.
 fn next_type(model: Model, pieces: &mut Pieces<'_>) -> Option<ArgType>
-    ensures { (t : Text) (done : List ArgType) → IsAccepted t → HasTaken model pieces.old t done
+    ensures { (t : Text) (done : List ArgType) → IsAccepted t → HasGivenTypes model pieces.old t done
         → MatchOption result (TakesTypes model t done)
-        (λ next. HasTaken model pieces.new t (done ++ next ∷ [])) }
+        (λ next. HasGivenTypes model pieces.new t (done ++ next ∷ [])) }
 {
     while let Some(piece) = pieces.next() {
         if let Ok(piece) = piece {

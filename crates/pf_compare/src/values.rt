@@ -3,9 +3,9 @@ ghost use Rattle.std.specs.Prelude.{◌≡◌, ◌≤◌, IsFalse, IsTrue, lengt
 ghost use Rattle.std.specs.Int.Digits.{digits_of};
 ghost use Rattle.pf_values.specs.Conversions.{is_signed, is_text};
 ghost use Rattle.pf_values.specs.DataModel.{Bits, bit_count, bits_under};
-ghost use Rattle.pf_compare.specs.Outlines.{HasCounted, IsOfValue};
+ghost use Rattle.pf_compare.specs.Outlines.{IsCountedValueOf, IsOfValue};
 
-use crate::foresight::{same_conv, same_length};
+use crate::predictions::{same_conv, same_length};
 use pf_values::{Directive, Kind, Model, ValueKind};
 
 /// The value that a directive prints for a number, by its sign and its size.
@@ -17,46 +17,46 @@ pub(crate) struct Value {
 
 /// A value, and how many digits it has, none for 0.
 #[derive(Clone, Copy)]
-pub(crate) struct Counted {
+pub(crate) struct CountedValue {
     pub(crate) value: Value,
     pub(crate) count: u16,
 }
 
-impl Counted {
+impl CountedValue {
     /// The value of a number under a directive, counted.
     #[inline(always)]
-    pub(crate) fn of(model: Model, directive: &Directive, number: i128) -> Counted
+    pub(crate) fn of(model: Model, directive: &Directive, number: i128) -> CountedValue
         requires { IsFalse (is_text directive.now.conv) }
-        ensures { HasCounted model directive.now number result }
+        ensures { IsCountedValueOf model directive.now number result }
     {
         let value = Value::of(model, directive, number);
         let count = count_digits(value.size, directive.conv().kind().base().number());
-        Counted { value, count }
+        CountedValue { value, count }
     }
 
-    /// The same under another directive: where both have one conversion and one length modifier,
-    /// they make one value of a number.
+    /// The value under another directive: this one, where both directives have one conversion and
+    /// one length modifier.
     #[inline(always)]
-    pub(crate) fn or_of(
+    pub(crate) fn for_directive(
         self,
         model: Model,
         first: &Directive,
         directive: &Directive,
         number: i128,
-    ) -> Counted
-        requires first { HasCounted model first.now number self }
+    ) -> CountedValue
+        requires first { IsCountedValueOf model first.now number self }
         requires integer { IsFalse (is_text directive.now.conv) }
-        ensures { HasCounted model directive.now number result }
+        ensures { IsCountedValueOf model directive.now number result }
     {
-        if make_one_value(first, directive) {
+        if have_same_value(first, directive) {
             return self;
         }
-        Counted::of(model, directive, number)
+        CountedValue::of(model, directive, number)
     }
 }
 
 #[inline(always)]
-fn make_one_value(first: &Directive, second: &Directive) -> bool
+fn have_same_value(first: &Directive, second: &Directive) -> bool
     ensures { IsTrue result → (first.now.conv ≡ second.now.conv)
         × (first.now.length ≡ second.now.length) }
 {

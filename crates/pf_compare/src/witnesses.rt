@@ -4,14 +4,14 @@ ghost use Rattle.pf_values.specs.declared.types.ArgType.{ArgType};
 ghost use Rattle.pf_values.specs.DataModel.{arg_type};
 ghost use Rattle.pf_values.specs.Items.{HasItems, IsAccepted, Item, Reads, types};
 ghost use Rattle.pf_text.specs.PieceHistory.{items_of};
-ghost use Rattle.pf_compare.specs.Layouts.{HaveOneTypes, IsLayoutOf, hole_types};
+ghost use Rattle.pf_compare.specs.Layouts.{HaveSameTypeLists, IsLayoutOf, span_types};
 ghost use Rattle.pf_compare.specs.Lone.{DifferInOne};
 ghost use Rattle.pf_compare.specs.Witnesses.{AreNeutral, AwaitsCandidate, FindsWitness, HasCandidate, IsWitnessAt};
 
-use crate::layouts::{Hole, Layout};
+use crate::layouts::{DirectiveSpan, Layout};
 use crate::lone_difference::LoneDifference;
 use crate::owned_args::OwnedArg;
-use crate::probe_search::{Probe, are_unlike, first_apart, first_probe};
+use crate::probe_search::{Probe, are_unlike, first_candidate_alone, first_probe};
 use crate::type_lists::arg_type;
 use pf_probes::candidate_row;
 use pf_text::{Piece, Pieces};
@@ -32,13 +32,13 @@ pub(crate) fn first_witness(
     first: &Layout,
     second: &Layout,
 ) -> Result<Option<Witness>, AllocError>
-    requires { HaveOneTypes model first.now second.now }
+    requires { HaveSameTypeLists model first.now second.now }
     ensures { IfOk result (λ found.
         (xs ys : List Item) → IsLayoutOf model xs first.now → IsLayoutOf model ys second.now
         → types model xs ≡ types model ys → FindsWitness model xs ys found) }
 {
     if are_unlike(&first.bytes, &second.bytes) {
-        let args = neutrals(alloc, model, &first.holes)?;
+        let args = neutrals(alloc, model, &first.spans)?;
         return Ok(Some(Witness {
             args,
             renderings: 1,
@@ -47,19 +47,19 @@ pub(crate) fn first_witness(
     let found = first_probe(alloc, model, first, second)?;
     match found {
         Some(probe) => {
-            let witness = witness_of(alloc, model, &first.holes, probe)?;
+            let witness = witness_of(alloc, model, &first.spans, probe)?;
             Ok(Some(witness))
         }
         None => Ok(None),
     }
 }
 
-fn neutrals(alloc: Global, model: Model, holes: &[Hole]) -> Result<Vec<OwnedArg>, AllocError>
-    ensures { IfOk result (λ args. AreNeutral (hole_types model holes.now) args.items) }
+fn neutrals(alloc: Global, model: Model, spans: &[DirectiveSpan]) -> Result<Vec<OwnedArg>, AllocError>
+    ensures { IfOk result (λ args. AreNeutral (span_types model spans.now) args.items) }
 {
-    let mut args = Vec::with_capacity(alloc, holes.len())?;
-    for hole in holes {
-        args.push(OwnedArg::neutral(alloc, hole.directive.arg_type(model)))?;
+    let mut args = Vec::with_capacity(alloc, spans.len())?;
+    for span in spans {
+        args.push(OwnedArg::neutral(alloc, span.directive.arg_type(model)))?;
     }
     Ok(args)
 }
@@ -67,14 +67,14 @@ fn neutrals(alloc: Global, model: Model, holes: &[Hole]) -> Result<Vec<OwnedArg>
 fn witness_of(
     alloc: Global,
     model: Model,
-    holes: &[Hole],
+    spans: &[DirectiveSpan],
     probe: Probe,
 ) -> Result<Witness, AllocError>
-    requires { HasCandidate model (hole_types model holes.now) probe }
-    ensures { IfOk result (IsWitnessAt model (hole_types model holes.now) probe) }
+    requires { HasCandidate model (span_types model spans.now) probe }
+    ensures { IfOk result (IsWitnessAt model (span_types model spans.now) probe) }
 {
-    let args = neutrals(alloc, model, holes)?;
-    let arg_type = holes[probe.index].directive.arg_type(model);
+    let args = neutrals(alloc, model, spans)?;
+    let arg_type = spans[probe.index].directive.arg_type(model);
     with_candidate(alloc, model, args, arg_type, probe)
 }
 
@@ -90,7 +90,7 @@ pub(crate) fn lone_witness(
     ensures { IfOk result (λ found. (xs ys : List Item)
         → Reads f.now xs → DifferInOne xs ys difference.now → FindsWitness model xs ys found) }
 {
-    let found = first_apart(alloc, model, &difference.first, &difference.second)?;
+    let found = first_candidate_alone(alloc, model, &difference.first, &difference.second)?;
     match found {
         Some(place) => {
             let args = neutrals_of(alloc, model, f)?;

@@ -1,24 +1,24 @@
 -- The bytes of a source, part by part.
 use Rattle.std.proofs.Common.{sym, ◌≡◌, ◌≢◌, ℕ, ◌<◌, List, [], ◌++◌, length, ap, ap₂, ◌∙◌, arith, length-append}
 use Rattle.std.proofs.lemmas.List.{append-nil}
-use Rattle.pf_literals.specs.declared.cursors.Cursor.{Cursor}
+use Rattle.pf_literals.specs.declared.cursor.Cursor.{Cursor}
 use Rattle.pf_literals.specs.declared.faults.LiteralFault.{LiteralFault}
 use Rattle.pf_literals.specs.declared.faults.LiteralFault.TheVariants.{Refused, Memory}
-use Rattle.pf_literals.specs.declared.kinds.LiteralKind.{LiteralKind}
+use Rattle.pf_literals.specs.declared.faults.LiteralKind.{LiteralKind}
 use Rattle.pf_literals.specs.Answers.{HindersDecoding}
 use Rattle.pf_literals.specs.Elements.{Bytes}
 use Rattle.pf_literals.specs.Faults.{IsFaultAt}
-use Rattle.pf_literals.specs.Readings.{Fault, Reading, Whole, prefixed, reading}
+use Rattle.pf_literals.specs.Readings.{Fault, SourceReading, Whole, prefixed, source_reading}
 use Rattle.pf_literals.specs.Sources.{HasPlaces, IsSourceOf}
-use Rattle.pf_literals.specs.Walks.{Stops, left}
+use Rattle.pf_literals.specs.Walks.{IsDecodingFault, reading_left}
 use Rattle.pf_literals.proofs.Complete.{prefixed-prefixed}
 use Rattle.pf_literals.proofs.Unique.{read_faulty, read_whole}
 
-module _ (t : Bytes) (out places : List ℕ) (old : Reading) (so_far : reading t ≡ prefixed out places old) where
-  pub moved : (more others : List ℕ) (new : Reading) → old ≡ prefixed more others new → reading t ≡ prefixed (out ++ more) (places ++ others) new
+module _ (t : Bytes) (out places : List ℕ) (old : SourceReading) (so_far : source_reading t ≡ prefixed out places old) where
+  pub moved : (more others : List ℕ) (new : SourceReading) → old ≡ prefixed more others new → source_reading t ≡ prefixed (out ++ more) (places ++ others) new
   moved more others new e = so_far ∙ ap (prefixed out places) e ∙ prefixed-prefixed out more places others new
 
-  pub appended : (more others grown : List ℕ) (new : Reading) → old ≡ prefixed more others new → grown ≡ out ++ more → reading t ≡ prefixed grown (places ++ others) new
+  pub appended : (more others grown : List ℕ) (new : SourceReading) → old ≡ prefixed more others new → grown ≡ out ++ more → source_reading t ≡ prefixed grown (places ++ others) new
   appended more others grown new e g = moved more others new e ∙ ap (λ bytes. prefixed bytes (places ++ others) new) (sym g)
 
   pub all_read : (close : ℕ) → old ≡ Whole [] [] close → IsSourceOf t out × HasPlaces t places close
@@ -35,12 +35,12 @@ some_bytes out more rest some e =
     omega (arith, none, long, part, some)
 
 -- memory wants for a part
-pub hindered : (t : Bytes) (out places more others : List ℕ) (old : Reading) (cursor : Cursor) (fault : LiteralFault) → reading t ≡ prefixed out places old
-    → old ≡ prefixed more others (left t cursor) → 0 < length more → Stops t cursor fault → HindersDecoding t fault
+pub hindered : (t : Bytes) (out places more others : List ℕ) (old : SourceReading) (cursor : Cursor) (fault : LiteralFault) → source_reading t ≡ prefixed out places old
+    → old ≡ prefixed more others (reading_left t cursor) → 0 < length more → IsDecodingFault t cursor fault → HindersDecoding t fault
 hindered t out places more others old cursor (Refused refusal) so_far e some stop =
-    refused t (out ++ more) (places ++ others) (left t cursor) (moved t out places old so_far more others (left t cursor) e) refusal.kind refusal.at stop
+    refused t (out ++ more) (places ++ others) (reading_left t cursor) (moved t out places old so_far more others (reading_left t cursor) e) refusal.kind refusal.at stop
 hindered t out places more others old cursor Memory so_far e some (bytes, found, close, stop) = (
   out ++ more ++ bytes,
-  (read_whole t (out ++ more ++ bytes) (places ++ others ++ found) close (moved t out places old so_far more others (left t cursor) e ∙ ap (prefixed (out ++ more) (places ++ others)) stop)).0,
+  (read_whole t (out ++ more ++ bytes) (places ++ others ++ found) close (moved t out places old so_far more others (reading_left t cursor) e ∙ ap (prefixed (out ++ more) (places ++ others)) stop)).0,
   some_bytes out more bytes some,
 )

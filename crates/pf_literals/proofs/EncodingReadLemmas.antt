@@ -5,14 +5,14 @@ use Rattle.std.proofs.lemmas.Bool.{and_parts, eqb-true, not_from_false}
 use Rattle.std.proofs.lemmas.Bool.Decides.{nat_tests}
 use Rattle.std.proofs.lemmas.List.{append-nil}
 use Rattle.pf_literals.specs.declared.notations.Notation.TheVariants.{Octal}
-use Rattle.pf_literals.specs.Elements.{AreDigits, AreElements, Bytes, Element, IsElement, Numeric, Plain, Simple, digit_value, ends_trigraph, is_digit, is_line_end, number_of, simple_byte, question, quote, stands_before, value, written}
+use Rattle.pf_literals.specs.Elements.{AreEscapeDigits, AreElements, Bytes, Element, IsElement, Numeric, Plain, Simple, digit_value, ends_trigraph, is_escape_digit, is_line_end, escape_number, simple_byte, question, quote, may_precede, value, written}
 use Rattle.pf_literals.specs.Encoding.{element_by, element_for, elements_for, encoding, is_printed, octal_digits, simple_letter, spelled}
-use Rattle.pf_literals.specs.Laws.{IsString}
+use Rattle.pf_literals.specs.Laws.{AreCStringBytes}
 use Rattle.pf_literals.specs.Sources.{IsSourceOf}
 use Rattle.pf_literals.proofs.Unique.{one_source}
 
 -- three octal digits
-octal_number : (byte : ℕ) → byte < 256 → number_of Octal (octal_digits byte) ≡ byte
+octal_number : (byte : ℕ) → byte < 256 → escape_number Octal (octal_digits byte) ≡ byte
 octal_number byte h =
     let a : (byte / 64) ≤ 3 = omega (arith, h) in
     let b : (byte / 8 % 8) < 8 = omega arith in
@@ -24,23 +24,23 @@ octal_number byte h =
       digit : (d : ℕ) → d < 8 → digit_value (d + 48) ≡ d
       digit d h = grind (arith, nat_tests)
 
-      worth : (a b c : ℕ) → a < 8 → b < 8 → c < 8 → number_of Octal ((a + 48) ∷ (b + 48) ∷ (c + 48) ∷ []) ≡ 8 * (8 * a + b) + c
+      worth : (a b c : ℕ) → a < 8 → b < 8 → c < 8 → escape_number Octal ((a + 48) ∷ (b + 48) ∷ (c + 48) ∷ []) ≡ 8 * (8 * a + b) + c
       worth a b c p q r =
           let x = digit a p in
           let y = digit b q in
           let z = digit c r in
           omega (arith, x, y, z)
 
-octal_each : (byte : ℕ) → byte < 256 → AreDigits Octal (octal_digits byte)
+octal_each : (byte : ℕ) → byte < 256 → AreEscapeDigits Octal (octal_digits byte)
 octal_each byte h =
     let a : (byte / 64) < 8 = omega (arith, h) in
     let b : (byte / 8 % 8) < 8 = omega arith in
     let c : (byte % 8) < 8 = omega arith in
     record { each = (is (byte / 64) a, (is (byte / 8 % 8) b, (is (byte % 8) c, tt))); room = omega arith } where
-      is : (d : ℕ) → d < 8 → is_digit Octal (d + 48) ≡ true
+      is : (d : ℕ) → d < 8 → is_escape_digit Octal (d + 48) ≡ true
       is d h = grind (arith, nat_tests)
 
--- an element stands for its byte
+-- an element denotes its byte
 record IsFor (element : Element) (byte : ℕ) : Type 0 where
   element_is : IsElement element
   value_is : value element ≡ byte
@@ -100,37 +100,37 @@ question_stands (byte ∷ bytes) =
     let h = head_behind byte in
     ap (λ t. ends_trigraph (t ++ spelled (byte == question) bytes ++ (quote ∷ []))) h.is ∙ no_trigraph h.head (h.more ++ spelled (byte == question) bytes ++ (quote ∷ [])) h.other
 
-full_stands : (byte : ℕ) (t : Bytes) → stands_before (Numeric Octal (octal_digits byte)) t ≡ true
+full_stands : (byte : ℕ) (t : Bytes) → may_precede (Numeric Octal (octal_digits byte)) t ≡ true
 full_stands byte [] = refl
 full_stands byte (b ∷ t) = refl
 
 -- each element has all its digits, and begins no trigraph
-stands_by : (byte : ℕ) (bytes : Bytes) (o : Option ℕ) → stands_before (element_by o byte) (spelled (byte == question) bytes ++ (quote ∷ [])) ≡ true
+stands_by : (byte : ℕ) (bytes : Bytes) (o : Option ℕ) → may_precede (element_by o byte) (spelled (byte == question) bytes ++ (quote ∷ [])) ≡ true
 stands_by byte bytes (Some letter) = refl
 stands_by byte bytes None = go (is_printed byte) where
   plain : (b : Bool) → not (b && ends_trigraph (spelled b bytes ++ (quote ∷ []))) ≡ true
   plain true = not_from_false _ (question_stands bytes)
   plain false = refl
 
-  go : (b : Bool) → stands_before (if b then Plain byte else Numeric Octal (octal_digits byte)) (spelled (byte == question) bytes ++ (quote ∷ [])) ≡ true
+  go : (b : Bool) → may_precede (if b then Plain byte else Numeric Octal (octal_digits byte)) (spelled (byte == question) bytes ++ (quote ∷ [])) ≡ true
   go true = plain (byte == question)
   go false = full_stands byte _
 
-stands_for : (after : Bool) (byte : ℕ) (bytes : Bytes) → stands_before (element_for after byte) (spelled (byte == question) bytes ++ (quote ∷ [])) ≡ true
+stands_for : (after : Bool) (byte : ℕ) (bytes : Bytes) → may_precede (element_for after byte) (spelled (byte == question) bytes ++ (quote ∷ [])) ≡ true
 stands_for after byte bytes = go (after && byte == question) where
-  go : (b : Bool) → stands_before (if b then Simple question question else element_by (simple_letter byte) byte) (spelled (byte == question) bytes ++ (quote ∷ [])) ≡ true
+  go : (b : Bool) → may_precede (if b then Simple question question else element_by (simple_letter byte) byte) (spelled (byte == question) bytes ++ (quote ∷ [])) ≡ true
   go true = refl
   go false = stands_by byte bytes (simple_letter byte)
 
-elements_stand : (after : Bool) (bytes : Bytes) → IsString bytes → AreElements (elements_for after bytes) (quote ∷ [])
+elements_stand : (after : Bool) (bytes : Bytes) → AreCStringBytes bytes → AreElements (elements_for after bytes) (quote ∷ [])
 elements_stand after [] h = tt
 elements_stand after (byte ∷ bytes) h = ((for_byte after byte h.0.0 h.0.1).element_is, stands_for after byte bytes, elements_stand (byte == question) bytes h.1)
 
-values_are : (after : Bool) (bytes : Bytes) → IsString bytes → map value (elements_for after bytes) ≡ bytes
+values_are : (after : Bool) (bytes : Bytes) → AreCStringBytes bytes → map value (elements_for after bytes) ≡ bytes
 values_are after [] h = refl
 values_are after (byte ∷ bytes) h = ap₂ (λ b bs. b ∷ bs) (for_byte after byte h.0.0 h.0.1).value_is (values_are (byte == question) bytes h.1)
 
-pub encoding_read : (t : Bytes) → IsString t → IsSourceOf (encoding t) t
+pub encoding_read : (t : Bytes) → AreCStringBytes t → IsSourceOf (encoding t) t
 encoding_read t h =
     let elements = elements_for false t in (
       record { elements = elements; behind = [] } ∷ [],
@@ -144,5 +144,5 @@ encoding_read t h =
       sym (append-nil (map value elements) ∙ values_are false t h),
     )
 
-pub encoding_once : (t bytes : Bytes) → IsString t → IsSourceOf (encoding t) bytes → encoding bytes ≡ encoding t
+pub encoding_once : (t bytes : Bytes) → AreCStringBytes t → IsSourceOf (encoding t) bytes → encoding bytes ≡ encoding t
 encoding_once t bytes h s = ap encoding (one_source (encoding t) bytes t s (encoding_read t h))

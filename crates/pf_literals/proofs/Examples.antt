@@ -1,7 +1,7 @@
 -- Sources with their bytes and places, texts that are none, and literals of texts, each by the whole definition, as the reader
 -- and the definitions compute. docs/DEFINITIONS.md goes through them.
 use Rattle.std.proofs.Common.{◌≡◌, ◌∷◌, [], List, ℕ, codes, refl}
-use Rattle.pf_literals.specs.declared.kinds.LiteralKind.TheVariants.{NoLiteral, Unterminated, BadEscape, EscapeTooLarge, ZeroByte, Trigraph}
+use Rattle.pf_literals.specs.declared.faults.LiteralKind.TheVariants.{NoLiteral, Unterminated, BadEscape, EscapeTooLarge, ZeroByte, Trigraph}
 use Rattle.pf_literals.specs.Elements.{Bytes}
 use Rattle.pf_literals.specs.Encoding.{encoding}
 use Rattle.pf_literals.specs.Faults.{IsFaultAt}

@@ -1,22 +1,22 @@
--- A fault stays, however the text goes on; and at the end of the text it may go on to be a source.
+-- A fault stays, whatever bytes follow; and a text with a fault at its end is a source with some more bytes.
 use Rattle.std.proofs.Common.{◌≡◌, ◌≢◌, ℕ, ◌+◌, ◌*◌, ◌<◌, true, false, List, [], ◌∷◌, ◌++◌, length, refl, sym, ap, ◌∙◌, subst, arith, inl, inr, length-append}
 use Rattle.std.specs.Prelude.{◌⊎◌, ◌&&◌, ◌==◌, flat_map, not, Option, Some, None}
 use Rattle.std.specs.List.{AllByRecursion}
 use Rattle.std.proofs.lemmas.Bool.{and_left, and_right, not_from_false, not_from_true}
 use Rattle.std.proofs.lemmas.Bool.Decides.{nat_tests}
 use Rattle.std.proofs.lemmas.List.{append-nil, append_assoc}
-use Rattle.pf_literals.specs.declared.kinds.LiteralKind.{LiteralKind}
-use Rattle.pf_literals.specs.declared.kinds.LiteralKind.TheVariants.{NoLiteral, Unterminated, BadEscape, EscapeTooLarge, ZeroByte, Trigraph}
+use Rattle.pf_literals.specs.declared.faults.LiteralKind.{LiteralKind}
+use Rattle.pf_literals.specs.declared.faults.LiteralKind.TheVariants.{NoLiteral, Unterminated, BadEscape, EscapeTooLarge, ZeroByte, Trigraph}
 use Rattle.pf_literals.specs.declared.notations.Notation.{Notation}
 use Rattle.pf_literals.specs.declared.notations.Notation.TheVariants.{Octal, Hexadecimal}
-use Rattle.pf_literals.specs.Elements.{AreDigits, AreElements, Bytes, Element, IsElement, Numeric, Plain, Simple, base, escape, goes_on, is_digit, is_full, is_line_end, number_of, quote, stands_before, written}
-use Rattle.pf_literals.specs.Faults.{AreOpen, HasCause, IsBegun, IsFaultAt, IsStopped, open_text}
+use Rattle.pf_literals.specs.Elements.{AreEscapeDigits, AreElements, Bytes, Element, IsElement, Numeric, Plain, Simple, base, escape, has_more_digits, is_escape_digit, is_full, is_line_end, escape_number, quote, may_precede, written}
+use Rattle.pf_literals.specs.Faults.{AreOpen, IsFaultCause, IsUnfinishedEscape, IsFaultAt, IsElementFault, open_text}
 use Rattle.pf_literals.specs.Laws.{CanGoOn}
-use Rattle.pf_literals.specs.Sources.{AreWhite, IsLiteral, IsSource, Literal, bytes_of, literal_text}
+use Rattle.pf_literals.specs.Sources.{AreWhite, IsStringLiteral, IsSource, StringLiteral, literal_bytes, literal_text}
 use Rattle.pf_literals.proofs.Judging.{AreDigits-push, escape-push}
 use Rattle.pf_literals.proofs.Numbers.{number_after-push}
 
--- the text goes on behind its first byte, which isn't a `?` if it is the last one
+-- the text continues after its first byte, which isn't a `?` if it is the last one
 record IsSure (rest : Bytes) : Type 0 where
   byte : ℕ
   after : Bytes
@@ -24,7 +24,7 @@ record IsSure (rest : Bytes) : Type 0 where
   sure : ((byte == 63) ≡ false) ⊎ (after ≢ [])
 
 stands_longer : (element : Element) (before : Bytes) (byte : ℕ) (after more : Bytes) → ((byte == 63) ≡ false) ⊎ (after ≢ [])
-    → stands_before element (before ++ (byte ∷ after)) ≡ stands_before element (before ++ (byte ∷ (after ++ more)))
+    → may_precede element (before ++ (byte ∷ after)) ≡ may_precede element (before ++ (byte ∷ (after ++ more)))
 stands_longer (Plain b) [] byte [] [] h = refl
 stands_longer (Plain b) [] byte [] (c ∷ more) (inl h) = rw h refl
 stands_longer (Plain b) [] byte [] (c ∷ more) (inr h) = absurd (h refl)
@@ -40,9 +40,9 @@ elements_longer [] rest more h are = tt
 elements_longer (element ∷ elements) rest more h are =
     let text = flat_map written elements in (
       are.0,
-      ap (λ r. stands_before element (text ++ (r ++ more))) h.whole
+      ap (λ r. may_precede element (text ++ (r ++ more))) h.whole
           ∙ sym (stands_longer element text h.byte h.after more h.sure)
-          ∙ ap (λ r. stands_before element (text ++ r)) (sym h.whole)
+          ∙ ap (λ r. may_precede element (text ++ r)) (sym h.whole)
           ∙ are.1,
       elements_longer elements rest more h are.2,
     )
@@ -58,7 +58,7 @@ sure_as : (t u : Bytes) → t ≡ u → IsSure u → IsSure t
 sure_as t u e h = subst IsSure (sym e) h
 
 -- what stops before the end of the text
-stopped_sure : (rest : Bytes) (kind : LiteralKind) (on : ℕ) → IsStopped rest kind on → on < length rest → IsSure rest
+stopped_sure : (rest : Bytes) (kind : LiteralKind) (on : ℕ) → IsElementFault rest kind on → on < length rest → IsSure rest
 stopped_sure rest NoLiteral on h less = absurd h
 stopped_sure rest Unterminated on (inl h) less = record { byte = h.0; after = h.1; whole = h.2; sure = inl (line_end_sure h.0 h.3) }
 stopped_sure rest Unterminated on (inr h) less = absurd (omega (arith, less, h.1))
@@ -69,9 +69,9 @@ stopped_sure rest ZeroByte on ((after, inl h), g) less = record { byte = 0; afte
 stopped_sure rest ZeroByte on ((after, inr h), g) less = sure_as rest _ h.5 (escape_sure h.0 h.1 after)
 stopped_sure rest Trigraph on h less = record { byte = 63; after = 63 ∷ h.0 ∷ h.1; whole = h.2; sure = inr (λ e. cc) }
 
-goes_longer : (notation : Notation) (count : ℕ) (rest more : Bytes) → (is_full notation count ≡ true) ⊎ (rest ≢ []) → goes_on notation count rest ≡ false → goes_on notation count (rest ++ more) ≡ false
+goes_longer : (notation : Notation) (count : ℕ) (rest more : Bytes) → (is_full notation count ≡ true) ⊎ (rest ≢ []) → has_more_digits notation count rest ≡ false → has_more_digits notation count (rest ++ more) ≡ false
 goes_longer notation count [] [] h none = refl
-goes_longer notation count [] (b ∷ more) (inl full) none = and_left (not (is_full notation count)) (is_digit notation b) (not_from_true _ full)
+goes_longer notation count [] (b ∷ more) (inl full) none = and_left (not (is_full notation count)) (is_escape_digit notation b) (not_from_true _ full)
 goes_longer notation count [] (b ∷ more) (inr some) none = absurd (some refl)
 goes_longer notation count (b ∷ rest) more h none = none
 
@@ -83,8 +83,8 @@ last_longer : (P : Type 0) (rest more : Bytes) → P ⊎ (rest ≢ []) → P ⊎
 last_longer P rest more (inl p) = inl p
 last_longer P rest more (inr some) = inr (some_longer rest more some)
 
--- it stops there however it goes on
-stopped_longer : (rest more : Bytes) (kind : LiteralKind) (on : ℕ) → IsStopped rest kind on → on < length rest → IsStopped (rest ++ more) kind on
+-- it stops there whatever bytes follow
+stopped_longer : (rest more : Bytes) (kind : LiteralKind) (on : ℕ) → IsElementFault rest kind on → on < length rest → IsElementFault (rest ++ more) kind on
 stopped_longer rest more NoLiteral on h less = absurd h
 stopped_longer rest more Unterminated on (inl h) less = inl (h.0, h.1 ++ more, ap (λ r. r ++ more) h.2, h.3, h.4)
 stopped_longer rest more Unterminated on (inr h) less = absurd (omega (arith, less, h.1))
@@ -109,8 +109,8 @@ stopped_longer rest more ZeroByte on ((after, inr (notation, digits, some, are, 
 )
 stopped_longer rest more Trigraph on h less = (h.0, h.1 ++ more, ap (λ r. r ++ more) h.2, h.3, h.4)
 
-open_longer : (literals : List Literal) (begun : Option (List Element)) (rest more : Bytes) (kind : LiteralKind) (on : ℕ) → AreOpen begun rest → HasCause literals begun rest kind on → on < length rest
-    → AreOpen begun (rest ++ more) × HasCause literals begun (rest ++ more) kind on
+open_longer : (literals : List StringLiteral) (begun : Option (List Element)) (rest more : Bytes) (kind : LiteralKind) (on : ℕ) → AreOpen begun rest → IsFaultCause literals begun rest kind on → on < length rest
+    → AreOpen begun (rest ++ more) × IsFaultCause literals begun (rest ++ more) kind on
 open_longer literals None rest more kind on are (is, none, inl (e, empty)) less = let nothing = ap length e in absurd (omega (arith, less, nothing))
 open_longer literals None rest more kind on are (is, none, inr (byte, after, e, other, black)) less = (tt, (is, none, inr (byte, after ++ more, ap (λ r. r ++ more) e, other, black)))
 open_longer literals (Some elements) rest more kind on are h less = (elements_longer elements rest more (stopped_sure rest kind on h less) are, stopped_longer rest more kind on h less)
@@ -136,22 +136,22 @@ refused_longer t more kind at f less =
     }
 
 -- a text that ends in a literal is closed by a quote, behind a digit where one is wanted
-all_push : (literals : List Literal) (l : Literal) → AllByRecursion IsLiteral literals → IsLiteral l → AllByRecursion IsLiteral (literals ++ l ∷ [])
+all_push : (literals : List StringLiteral) (l : StringLiteral) → AllByRecursion IsStringLiteral literals → IsStringLiteral l → AllByRecursion IsStringLiteral (literals ++ l ∷ [])
 all_push [] l each is = (is, tt)
 all_push (x ∷ literals) l each is = (each.0, all_push literals l each.1 is)
 
-texts_push : (literals : List Literal) (l : Literal) → flat_map literal_text (literals ++ l ∷ []) ≡ flat_map literal_text literals ++ literal_text l
+texts_push : (literals : List StringLiteral) (l : StringLiteral) → flat_map literal_text (literals ++ l ∷ []) ≡ flat_map literal_text literals ++ literal_text l
 texts_push [] l = append-nil (literal_text l)
 texts_push (x ∷ literals) l = ap (λ r. literal_text x ++ r) (texts_push literals l) ∙ sym (append_assoc (literal_text x) (flat_map literal_text literals) (literal_text l))
 
-pushed_literal : (literals : List Literal) (l : Literal) → literals ++ l ∷ [] ≢ []
+pushed_literal : (literals : List StringLiteral) (l : StringLiteral) → literals ++ l ∷ [] ≢ []
 pushed_literal [] l e = cc
 pushed_literal (x ∷ literals) l e = cc
 
-closes : (t front : Bytes) (literals : List Literal) (elements : List Element) → AreWhite front → AllByRecursion IsLiteral literals → AreElements elements (quote ∷ [])
+closes : (t front : Bytes) (literals : List StringLiteral) (elements : List Element) → AreWhite front → AllByRecursion IsStringLiteral literals → AreElements elements (quote ∷ [])
     → t ≡ front ++ flat_map literal_text literals ++ (quote ∷ (flat_map written elements ++ (quote ∷ []))) → IsSource t (literals ++ (record { elements = elements; behind = [] }) ∷ [])
 closes t front literals elements clear each are e =
-    let l : Literal = record { elements = elements; behind = [] } in
+    let l : StringLiteral = record { elements = elements; behind = [] } in
     record {
       front = front;
       front_white = clear;
@@ -160,7 +160,7 @@ closes t front literals elements clear each are e =
       whole = e ∙ append_assoc front (flat_map literal_text literals) (literal_text l) ∙ ap (λ r. front ++ r) (sym (texts_push literals l));
     }
 
-stands_closed : (element : Element) (before : Bytes) → stands_before element (before ++ []) ≡ true → stands_before element (before ++ (quote ∷ [])) ≡ true
+stands_closed : (element : Element) (before : Bytes) → may_precede element (before ++ []) ≡ true → may_precede element (before ++ (quote ∷ [])) ≡ true
 stands_closed (Plain b) [] h = h
 stands_closed (Plain b) (x ∷ []) h =
     let none : ((x == 63) && false) ≡ false = and_right (x == 63) false refl in
@@ -182,17 +182,17 @@ written_push (x ∷ elements) element rest =
     ∙ ap (λ r. written x ++ r) (written_push elements element rest)
     ∙ sym (append_assoc (written x) (flat_map written elements) (written element ++ rest))
 
-elements_push : (elements : List Element) (element : Element) (rest : Bytes) → AreElements elements (written element ++ rest) → IsElement element → stands_before element rest ≡ true
+elements_push : (elements : List Element) (element : Element) (rest : Bytes) → AreElements elements (written element ++ rest) → IsElement element → may_precede element rest ≡ true
     → AreElements (elements ++ element ∷ []) rest
 elements_push [] element rest are is stands = (is, stands, tt)
 elements_push (x ∷ elements) element rest are is stands =
-    (are.0, ap (stands_before x) (written_push elements element rest) ∙ are.1, elements_push elements element rest are.2 is stands)
+    (are.0, ap (may_precede x) (written_push elements element rest) ∙ are.1, elements_push elements element rest are.2 is stands)
 
-one_is_digit : (notation : Notation) → is_digit notation 49 ≡ true
+one_is_digit : (notation : Notation) → is_escape_digit notation 49 ≡ true
 one_is_digit Octal = refl
 one_is_digit Hexadecimal = refl
 
-quote_is_none : (notation : Notation) → is_digit notation 34 ≡ false
+quote_is_none : (notation : Notation) → is_escape_digit notation 34 ≡ false
 quote_is_none Octal = refl
 quote_is_none Hexadecimal = refl
 
@@ -201,18 +201,18 @@ times_zero Octal n e = omega (arith, e)
 times_zero Hexadecimal n e = omega (arith, e)
 
 -- one more digit, which is 1
-one_more : (notation : Notation) (digits : Bytes) → AreDigits notation digits → number_of notation digits ≡ 0 → is_full notation (length digits) ≡ false → IsElement (Numeric notation (digits ++ 49 ∷ []))
+one_more : (notation : Notation) (digits : Bytes) → AreEscapeDigits notation digits → escape_number notation digits ≡ 0 → is_full notation (length digits) ≡ false → IsElement (Numeric notation (digits ++ 49 ∷ []))
 one_more notation digits are none room =
-    let n : number_of notation (digits ++ 49 ∷ []) ≡ 1 = number_after-push notation digits 0 49 ∙ times_zero notation (number_of notation digits) none in
+    let n : escape_number notation (digits ++ 49 ∷ []) ≡ 1 = number_after-push notation digits 0 49 ∙ times_zero notation (escape_number notation digits) none in
     record { digits_are = AreDigits-push notation digits 49 are room (one_is_digit notation); some = omega (arith, n); fits = omega (arith, n) }
 
-one_stands : (notation : Notation) (digits : Bytes) → stands_before (Numeric notation digits) (quote ∷ []) ≡ true
-one_stands notation digits = not_from_false _ (and_right (not (is_full notation (length digits))) (is_digit notation 34) (quote_is_none notation))
+one_stands : (notation : Notation) (digits : Bytes) → may_precede (Numeric notation digits) (quote ∷ []) ≡ true
+one_stands notation digits = not_from_false _ (and_right (not (is_full notation (length digits))) (is_escape_digit notation 34) (quote_is_none notation))
 
-goes_on_by : (t more : Bytes) (literals : List Literal) → IsSource (t ++ more) literals → CanGoOn t
-goes_on_by t more literals s = (more, bytes_of literals, (literals, s, refl))
+goes_on_by : (t more : Bytes) (literals : List StringLiteral) → IsSource (t ++ more) literals → CanGoOn t
+goes_on_by t more literals s = (more, literal_bytes literals, (literals, s, refl))
 
-module _ (t front : Bytes) (literals : List Literal) (clear : AreWhite front) (each : AllByRecursion IsLiteral literals) where
+module _ (t front : Bytes) (literals : List StringLiteral) (clear : AreWhite front) (each : AllByRecursion IsStringLiteral literals) where
   front_text : Bytes
   front_text = front ++ flat_map literal_text literals
 
@@ -229,7 +229,7 @@ module _ (t front : Bytes) (literals : List Literal) (clear : AreWhite front) (e
       ∙ append_assoc before (quote ∷ text) (quote ∷ [])
       ))
 
-  close_begun : (elements : List Element) (rest : Bytes) → t ≡ front ++ flat_map literal_text literals ++ (quote ∷ flat_map written elements) ++ rest → IsBegun rest → AreElements elements rest → CanGoOn t
+  close_begun : (elements : List Element) (rest : Bytes) → t ≡ front ++ flat_map literal_text literals ++ (quote ∷ flat_map written elements) ++ rest → IsUnfinishedEscape rest → AreElements elements rest → CanGoOn t
   close_begun elements rest e h are =
       let text = flat_map written elements in
       let before = front ++ flat_map literal_text literals in
@@ -248,7 +248,7 @@ module _ (t front : Bytes) (literals : List Literal) (clear : AreWhite front) (e
 some_byte : (rest : Bytes) (byte : ℕ) (after : Bytes) → rest ≡ byte ∷ after → 0 < length rest
 some_byte rest byte after e = let long = ap length e in omega arith
 
-stopped_at_end : (rest : Bytes) (kind : LiteralKind) (on : ℕ) → IsStopped rest kind on → on ≡ length rest → (rest ≡ []) ⊎ IsBegun rest
+stopped_at_end : (rest : Bytes) (kind : LiteralKind) (on : ℕ) → IsElementFault rest kind on → on ≡ length rest → (rest ≡ []) ⊎ IsUnfinishedEscape rest
 stopped_at_end rest NoLiteral on h e = absurd h
 stopped_at_end rest Unterminated on (inl h) e = absurd (omega (arith, some_byte rest h.0 h.1 h.2, h.4, e))
 stopped_at_end rest Unterminated on (inr h) e = h.0
@@ -263,8 +263,8 @@ stopped_at_end rest ZeroByte on ((after, inr h), g) e =
     absurd (omega (arith, some_byte rest s.byte s.after s.whole, g, e))
 stopped_at_end rest Trigraph on h e = absurd (omega (arith, some_byte rest 63 _ h.2, h.4, e))
 
-ends_begun : (t front : Bytes) (literals : List Literal) (begun : Option (List Element)) (rest : Bytes) (kind : LiteralKind) (on : ℕ) → AreWhite front → AllByRecursion IsLiteral literals → AreOpen begun rest
-    → t ≡ front ++ flat_map literal_text literals ++ open_text begun ++ rest → HasCause literals begun rest kind on → on ≡ length rest → CanGoOn t
+ends_begun : (t front : Bytes) (literals : List StringLiteral) (begun : Option (List Element)) (rest : Bytes) (kind : LiteralKind) (on : ℕ) → AreWhite front → AllByRecursion IsStringLiteral literals → AreOpen begun rest
+    → t ≡ front ++ flat_map literal_text literals ++ open_text begun ++ rest → IsFaultCause literals begun rest kind on → on ≡ length rest → CanGoOn t
 ends_begun t front literals None rest kind on clear each are e (is, none, inl (nothing, empty)) there =
     close_bare t front literals clear each (e ∙ ap (λ ls. front ++ flat_map literal_text ls ++ [] ++ rest) empty ∙ ap (λ r. front ++ [] ++ [] ++ r) nothing ∙ append-nil (front ++ [] ++ []) ∙ append-nil (front ++ [])) empty
 ends_begun t front literals None rest kind on clear each are e (is, none, inr h) there = absurd (omega (arith, some_byte rest h.0 h.1 h.2, none, there))

@@ -5,19 +5,19 @@ use Rattle.std.specs.List.{AllByRecursion}
 use Rattle.std.proofs.lemmas.Option.{slice_get-get_or}
 use Rattle.pf_literals.specs.Answers.{IsPlaceOf}
 use Rattle.pf_literals.specs.Elements.{Bytes, Element, quote, value, written}
-use Rattle.pf_literals.specs.Sources.{IsSourceOf, Literal, bytes_of, close_of, element_places, literal_text, places}
+use Rattle.pf_literals.specs.Sources.{IsSourceOf, StringLiteral, literal_bytes, close_of, element_places, literal_text, places}
 
 count_elements : (at : ℕ) (elements : List Element) → length (element_places at elements) ≡ length (map value elements)
 count_elements at [] = refl
 count_elements at (element ∷ elements) = ap suc (count_elements (at + length (written element)) elements)
 
-count_places : (at : ℕ) (literals : List Literal) → length (places at literals) ≡ length (bytes_of literals)
+count_places : (at : ℕ) (literals : List StringLiteral) → length (places at literals) ≡ length (literal_bytes literals)
 count_places at [] = refl
 count_places at (l ∷ literals) =
     let behind = places (at + length (literal_text l)) literals in
     length-append (element_places (at + 1) l.elements) behind
     ∙ ap₂ (λ n m. n + m) (count_elements (at + 1) l.elements) (count_places (at + length (literal_text l)) literals)
-    ∙ sym (length-append (map value l.elements) (bytes_of literals))
+    ∙ sym (length-append (map value l.elements) (literal_bytes literals))
 
 -- places within a bound
 abbrev AreWithin : ℕ → List ℕ → Type 0
@@ -39,10 +39,10 @@ elements_within bound at (element ∷ elements) h =
     (omega (arith, h), elements_within bound (at + length (written element)) elements (omega (arith, h, long)))
 
 -- how long a literal is
-literal_length : (l : Literal) → length (literal_text l) ≡ 2 + length (flat_map written l.elements) + length l.behind
+literal_length : (l : StringLiteral) → length (literal_text l) ≡ 2 + length (flat_map written l.elements) + length l.behind
 literal_length l = let both = length-append (flat_map written l.elements) (quote ∷ l.behind) in omega (arith, both)
 
-literals_within : (bound at : ℕ) (literals : List Literal) → at + length (flat_map literal_text literals) ≤ bound → AreWithin bound (places at literals)
+literals_within : (bound at : ℕ) (literals : List StringLiteral) → at + length (flat_map literal_text literals) ≤ bound → AreWithin bound (places at literals)
 literals_within bound at [] h = tt
 literals_within bound at (l ∷ literals) h =
     let long = length-append (literal_text l) (flat_map literal_text literals) in
@@ -51,7 +51,7 @@ literals_within bound at (l ∷ literals) h =
     (elements_within bound (at + 1) l.elements (omega (arith, h, long, one)))
     (literals_within bound (at + length (literal_text l)) literals (omega (arith, h, long)))
 
-close_within : (bound before at : ℕ) (literals : List Literal) → before ≤ bound → at + length (flat_map literal_text literals) ≤ bound → close_of before at literals ≤ bound
+close_within : (bound before at : ℕ) (literals : List StringLiteral) → before ≤ bound → at + length (flat_map literal_text literals) ≤ bound → close_of before at literals ≤ bound
 close_within bound before at [] b h = b
 close_within bound before at (l ∷ literals) b h =
     let long = length-append (literal_text l) (flat_map literal_text literals) in

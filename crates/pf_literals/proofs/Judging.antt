@@ -1,34 +1,34 @@
--- In a literal a text goes on with a quote or an element, or it can't.
+-- In a literal a text continues with a quote or an element, or has a fault.
 use Rattle.std.proofs.Common.{◌≡◌, ◌≢◌, ℕ, ◌≤◌, Bool, true, false, [], ◌∷◌, ◌++◌, length, refl, sym, ap, ◌∙◌, subst, arith, inl, inr}
 use Rattle.std.specs.Prelude.{◌⊎◌, ◌&&◌, ◌==◌, Option, Some, None}
 use Rattle.std.proofs.lemmas.Bool.{and_parts, cases_eq, cases_lt, eqb-true, not-true, not_from_false}
 use Rattle.std.proofs.lemmas.Bool.Decides.{nat_tests}
 use Rattle.std.proofs.lemmas.List.{append-nil, append_assoc, length_push}
-use Rattle.pf_literals.specs.declared.kinds.LiteralKind.{LiteralKind}
-use Rattle.pf_literals.specs.declared.kinds.LiteralKind.TheVariants.{Unterminated, BadEscape, EscapeTooLarge, ZeroByte, Trigraph}
+use Rattle.pf_literals.specs.declared.faults.LiteralKind.{LiteralKind}
+use Rattle.pf_literals.specs.declared.faults.LiteralKind.TheVariants.{Unterminated, BadEscape, EscapeTooLarge, ZeroByte, Trigraph}
 use Rattle.pf_literals.specs.declared.notations.Notation.{Notation}
 use Rattle.pf_literals.specs.declared.notations.Notation.TheVariants.{Octal, Hexadecimal}
-use Rattle.pf_literals.specs.Elements.{AreDigits, Bytes, Element, HasRoom, IsElement, Numeric, Plain, Simple, ends_trigraph, escape, goes_on, is_digit, is_full, is_line_end, number_of, question, simple_byte, stands_before, written}
-use Rattle.pf_literals.specs.Faults.{IsStopped}
+use Rattle.pf_literals.specs.Elements.{AreEscapeDigits, Bytes, Element, AllowsDigitCount, IsElement, Numeric, Plain, Simple, ends_trigraph, escape, has_more_digits, is_escape_digit, is_full, is_line_end, escape_number, question, simple_byte, may_precede, written}
+use Rattle.pf_literals.specs.Faults.{IsElementFault}
 use Rattle.pf_literals.proofs.Numbers.{Each}
 
 pub data Judgement (rest : Bytes) : Type 0 where
   Quote : (after : Bytes) → rest ≡ 34 ∷ after → Judgement rest
-  Found : (element : Element) (after : Bytes) → IsElement element → stands_before element after ≡ true → rest ≡ written element ++ after → Judgement rest
-  Stuck : (kind : LiteralKind) (on : ℕ) → IsStopped rest kind on → Judgement rest
+  Found : (element : Element) (after : Bytes) → IsElement element → may_precede element after ≡ true → rest ≡ written element ++ after → Judgement rest
+  Stuck : (kind : LiteralKind) (on : ℕ) → IsElementFault rest kind on → Judgement rest
 
-each-push : (notation : Notation) (digits : Bytes) (d : ℕ) → Each notation digits → is_digit notation d ≡ true → Each notation (digits ++ d ∷ [])
+each-push : (notation : Notation) (digits : Bytes) (d : ℕ) → Each notation digits → is_escape_digit notation d ≡ true → Each notation (digits ++ d ∷ [])
 each-push notation [] d h digit = (digit, tt)
 each-push notation (e ∷ digits) d h digit = (h.0, each-push notation digits d h.1 digit)
 
-room-push : (notation : Notation) (digits : Bytes) (d : ℕ) → HasRoom notation (length digits) → is_full notation (length digits) ≡ false → HasRoom notation (length (digits ++ d ∷ []))
+room-push : (notation : Notation) (digits : Bytes) (d : ℕ) → AllowsDigitCount notation (length digits) → is_full notation (length digits) ≡ false → AllowsDigitCount notation (length (digits ++ d ∷ []))
 room-push Octal digits d room open_ =
     let long = length_push digits d in
     let other : length digits ≢ 3 = grind (arith, nat_tests) in
     omega (arith, room, long, other)
 room-push Hexadecimal digits d room open_ = tt
 
-pub AreDigits-push : (notation : Notation) (digits : Bytes) (d : ℕ) → AreDigits notation digits → is_full notation (length digits) ≡ false → is_digit notation d ≡ true → AreDigits notation (digits ++ d ∷ [])
+pub AreDigits-push : (notation : Notation) (digits : Bytes) (d : ℕ) → AreEscapeDigits notation digits → is_full notation (length digits) ≡ false → is_escape_digit notation d ≡ true → AreEscapeDigits notation (digits ++ d ∷ [])
 AreDigits-push notation digits d h open_ digit = record { each = each-push notation digits d h.each digit; room = room-push notation digits d h.room open_ }
 
 escape-append : (notation : Notation) (digits more : Bytes) → escape notation digits ++ more ≡ escape notation (digits ++ more)
@@ -42,13 +42,13 @@ escape-push notation digits rest d =
 judged_as : (t u : Bytes) → t ≡ u → Judgement u → Judgement t
 judged_as t u e h = subst Judgement (sym e) h
 
--- no byte stands for one more digit, and the number is zero
-module _ (notation : Notation) (digits : Bytes) (are : AreDigits notation digits) (none : number_of notation digits ≡ 0) (some : digits ≢ []) where
-  zero_at_end : (b : Bool) → is_full notation (length digits) ≡ b → goes_on notation (length digits) [] ≡ false → Judgement (escape notation digits ++ [])
+-- no byte is one more digit, and the number is zero
+module _ (notation : Notation) (digits : Bytes) (are : AreEscapeDigits notation digits) (none : escape_number notation digits ≡ 0) (some : digits ≢ []) where
+  zero_at_end : (b : Bool) → is_full notation (length digits) ≡ b → has_more_digits notation (length digits) [] ≡ false → Judgement (escape notation digits ++ [])
   zero_at_end true full no_more = Stuck ZeroByte 0 (([], inr (notation, digits, some, record { digits_are = are; last = inl full; no_more = no_more }, none, refl)), refl)
   zero_at_end false open_ no_more = Stuck Unterminated (length (escape notation digits ++ [])) (inr (inr (record { notation = notation; digits = digits; digits_are = are; zeros = none; room = open_; whole = append-nil (escape notation digits) }), refl))
 
-  zero_ended : (rest : Bytes) → goes_on notation (length digits) rest ≡ false → Judgement (escape notation digits ++ rest)
+  zero_ended : (rest : Bytes) → has_more_digits notation (length digits) rest ≡ false → Judgement (escape notation digits ++ rest)
   zero_ended [] no_more = zero_at_end (is_full notation (length digits)) refl no_more
   zero_ended (byte ∷ rest) no_more = Stuck ZeroByte 0 ((byte ∷ rest, inr (notation, digits, some, record { digits_are = are; last = inr (λ e. cc); no_more = no_more }, none, refl)), refl)
 
@@ -57,13 +57,13 @@ is_none [] = inl refl
 is_none (d ∷ digits) = inr (λ e. cc)
 
 -- `\x` with no digit
-bare_hexadecimal : (rest : Bytes) → goes_on Hexadecimal 0 rest ≡ false → Judgement (92 ∷ 120 ∷ rest)
+bare_hexadecimal : (rest : Bytes) → has_more_digits Hexadecimal 0 rest ≡ false → Judgement (92 ∷ 120 ∷ rest)
 bare_hexadecimal [] h = Stuck Unterminated 2 (inr (inr (record { notation = Hexadecimal; digits = []; digits_are = record { each = tt; room = tt }; zeros = refl; room = refl; whole = refl }), refl))
 bare_hexadecimal (byte ∷ rest) h = Stuck BadEscape 0 ((byte, rest, inr (refl, h)), refl)
 
 -- what is known where no digit has come
 abbrev Start : Notation → Bytes → Type 0
-Start notation digits = digits ≡ [] → (rest : Bytes) → goes_on notation 0 rest ≡ false → Judgement (escape notation [] ++ rest)
+Start notation digits = digits ≡ [] → (rest : Bytes) → has_more_digits notation 0 rest ≡ false → Judgement (escape notation [] ++ rest)
 
 pushed_some : (digits : Bytes) (d : ℕ) → digits ++ d ∷ [] ≢ []
 pushed_some [] d e = cc
@@ -71,43 +71,43 @@ pushed_some (x ∷ digits) d e = cc
 
 -- digits that have come
 module _ (notation : Notation) where
-  no_more_digits : (digits rest : Bytes) → Start notation digits → AreDigits notation digits → number_of notation digits ≤ 255 → goes_on notation (length digits) rest ≡ false → Judgement (escape notation digits ++ rest)
-  no_more_digits digits rest start are few no_more = elim (cases_lt 0 (number_of notation digits)) [
+  no_more_digits : (digits rest : Bytes) → Start notation digits → AreEscapeDigits notation digits → escape_number notation digits ≤ 255 → has_more_digits notation (length digits) rest ≡ false → Judgement (escape notation digits ++ rest)
+  no_more_digits digits rest start are few no_more = elim (cases_lt 0 (escape_number notation digits)) [
     | inl some ↦ Found (Numeric notation digits) rest (record { digits_are = are; some = some; fits = few }) (not_from_false _ no_more) refl
     | inr none ↦
-        let zero_is : number_of notation digits ≡ 0 = omega (arith, none) in
+        let zero_is : escape_number notation digits ≡ 0 = omega (arith, none) in
         elim (is_none digits) [
-          | inl e ↦ judged_as _ _ (ap (λ d. escape notation d ++ rest) e) (start e rest (subst (λ d. goes_on notation (length d) rest ≡ false) e no_more))
+          | inl e ↦ judged_as _ _ (ap (λ d. escape notation d ++ rest) e) (start e rest (subst (λ d. has_more_digits notation (length d) rest ≡ false) e no_more))
           | inr some ↦ zero_ended notation digits are zero_is some rest no_more
         ]
   ]
 
-  judge_digits : (rest digits : Bytes) → Start notation digits → AreDigits notation digits → number_of notation digits ≤ 255 → Judgement (escape notation digits ++ rest)
+  judge_digits : (rest digits : Bytes) → Start notation digits → AreEscapeDigits notation digits → escape_number notation digits ≤ 255 → Judgement (escape notation digits ++ rest)
   judge_digits [] digits start are few = no_more_digits digits [] start are few refl
-  judge_digits (d ∷ rest) digits start are few = go (goes_on notation (length digits) (d ∷ rest)) refl (judge_digits rest (digits ++ d ∷ []) (λ e. absurd (pushed_some digits d e))) where
-    go : (b : Bool) → goes_on notation (length digits) (d ∷ rest) ≡ b
-        → (AreDigits notation (digits ++ d ∷ []) → number_of notation (digits ++ d ∷ []) ≤ 255 → Judgement (escape notation (digits ++ d ∷ []) ++ rest))
+  judge_digits (d ∷ rest) digits start are few = go (has_more_digits notation (length digits) (d ∷ rest)) refl (judge_digits rest (digits ++ d ∷ []) (λ e. absurd (pushed_some digits d e))) where
+    go : (b : Bool) → has_more_digits notation (length digits) (d ∷ rest) ≡ b
+        → (AreEscapeDigits notation (digits ++ d ∷ []) → escape_number notation (digits ++ d ∷ []) ≤ 255 → Judgement (escape notation (digits ++ d ∷ []) ++ rest))
         → Judgement (escape notation digits ++ (d ∷ rest))
     go false no_more later = no_more_digits digits (d ∷ rest) start are few no_more
     go true more later =
         let parts = and_parts _ _ more in
         let longer = AreDigits-push notation digits d are (not-true _ parts.0) parts.1 in
-        judged_as _ _ (escape-push notation digits rest d) (elim (cases_lt 255 (number_of notation (digits ++ d ∷ []))) [
+        judged_as _ _ (escape-push notation digits rest d) (elim (cases_lt 255 (escape_number notation (digits ++ d ∷ []))) [
           | inl many ↦ Stuck EscapeTooLarge 0 ((notation, digits ++ d ∷ [], rest, longer, many, refl), refl)
           | inr fits ↦ later longer fits
         ])
 
-one_octal : (d : ℕ) → is_digit Octal d ≡ true → number_of Octal (d ∷ []) ≤ 255
+one_octal : (d : ℕ) → is_escape_digit Octal d ≡ true → escape_number Octal (d ∷ []) ≤ 255
 one_octal d h = grind (arith, nat_tests)
 
-none_yet : (notation : Notation) → AreDigits notation []
+none_yet : (notation : Notation) → AreEscapeDigits notation []
 none_yet Octal = record { each = tt; room = omega arith }
 none_yet Hexadecimal = record { each = tt; room = tt }
 
 -- `\` and a byte
 judge_escape : (byte : ℕ) (after : Bytes) → Judgement (92 ∷ byte ∷ after)
 judge_escape byte after = go (simple_byte byte) refl where
-  octal : simple_byte byte ≡ None → byte ≢ 120 → (b : Bool) → is_digit Octal byte ≡ b → Judgement (92 ∷ byte ∷ after)
+  octal : simple_byte byte ≡ None → byte ≢ 120 → (b : Bool) → is_escape_digit Octal byte ≡ b → Judgement (92 ∷ byte ∷ after)
   octal none other false no_digit = Stuck BadEscape 0 ((byte, after, inl (refl, none, other, no_digit)), refl)
   octal none other true digit =
       judge_digits Octal after (byte ∷ []) (λ e. absurd (cc)) (record { each = (digit, tt); room = omega arith }) (one_octal byte digit)
@@ -116,7 +116,7 @@ judge_escape byte after = go (simple_byte byte) refl where
   go (Some v) is = Found (Simple byte v) after is refl refl
   go None none = elim (cases_eq byte 120) [
     | inl e ↦ judged_as _ _ (ap (λ b. 92 ∷ b ∷ after) e) (judge_digits Hexadecimal after [] (λ none rest. bare_hexadecimal rest) (none_yet Hexadecimal) (omega arith))
-    | inr other ↦ octal none other (is_digit Octal byte) refl
+    | inr other ↦ octal none other (is_escape_digit Octal byte) refl
   ]
 
 -- a byte that isn't `"` or `\`

@@ -1,6 +1,6 @@
 pub mod Numbers
-pub mod RunLemmas
-pub mod Turning
+pub mod VerbatimLemmas
+pub mod TokenLemmas
 pub mod Judging
 pub mod Complete
 pub mod Total

@@ -5,15 +5,15 @@ use Rattle.std.specs.List.{range_with_len}
 use Rattle.std.proofs.lemmas.Bool.{cases_lt}
 use Rattle.std.proofs.lemmas.List.FromFn.{get_or-range_with_len, length-range_with_len}
 use Rattle.std.proofs.lemmas.Option.{slice_get-get_or, slice_get_within}
-use Rattle.pf_literals.specs.declared.cursors.Cursor.{Cursor}
-use Rattle.pf_literals.specs.declared.kinds.LiteralKind.{LiteralKind}
+use Rattle.pf_literals.specs.declared.cursor.Cursor.{Cursor}
+use Rattle.pf_literals.specs.declared.faults.LiteralKind.{LiteralKind}
 use Rattle.pf_literals.specs.Answers.{HasNoPlace, IsPlaceOf}
 use Rattle.pf_literals.specs.Elements.{Bytes}
-use Rattle.pf_literals.specs.Readings.{Fault, IsWhole, Reading, Whole, prefixed, reading}
-use Rattle.pf_literals.specs.Sources.{HasPlaces, bytes_of}
-use Rattle.pf_literals.specs.Walks.{IsThere}
-use Rattle.pf_literals.specs.Walks.{left as rest_of}
-use Rattle.pf_literals.proofs.Complete.{read-source}
+use Rattle.pf_literals.specs.Readings.{Fault, HasNoFault, SourceReading, Whole, prefixed, source_reading}
+use Rattle.pf_literals.specs.Sources.{HasPlaces, literal_bytes}
+use Rattle.pf_literals.specs.Walks.{IsFoundPlace}
+use Rattle.pf_literals.specs.Walks.{reading_left as rest_of}
+use Rattle.pf_literals.proofs.Complete.{read_from-source}
 use Rattle.pf_literals.proofs.DecodingLemmas.{all_read, moved}
 use Rattle.pf_literals.proofs.Unique.{read_whole}
 
@@ -32,10 +32,10 @@ get_front (y ∷ xs) ys zero x e = e
 get_front (y ∷ xs) ys (suc n) x e = get_front xs ys n x e
 
 -- the places of a source are those that are read
-places_read : (t : Bytes) (found : List ℕ) (close : ℕ) → HasPlaces t found close → (bytes : List ℕ) × (reading t ≡ Whole bytes found close)
+places_read : (t : Bytes) (found : List ℕ) (close : ℕ) → HasPlaces t found close → (bytes : List ℕ) × (source_reading t ≡ Whole bytes found close)
 places_read t found close h = (
-  bytes_of h.literals,
-  read-source t h.literals h.source ∙ ap₂ (λ p c. Whole (bytes_of h.literals) p c) (sym h.places_are) (sym h.close_is),
+  literal_bytes h.literals,
+  read_from-source t h.literals h.source ∙ ap₂ (λ p c. Whole (literal_bytes h.literals) p c) (sym h.places_are) (sym h.close_is),
 )
 
 same_places : (bytes found : List ℕ) (close : ℕ) (others there : List ℕ) (last : ℕ) → Whole bytes found close ≡ Whole others there last → (found ≡ there) × (close ≡ last)
@@ -47,10 +47,10 @@ one_place t found others close last h g =
     let b = places_read t others last g in
     same_places a.0 found close b.0 others last (sym a.1 ∙ b.1)
 
-pub no_place : (t : Bytes) (index at : ℕ) (kind : LiteralKind) → reading t ≡ Fault kind at → HasNoPlace t index
+pub no_place : (t : Bytes) (index at : ℕ) (kind : LiteralKind) → source_reading t ≡ Fault kind at → HasNoPlace t index
 no_place t index at kind e there (found, close, h, is) = let whole = sym e ∙ (places_read t found close h).1 in absurd (cc)
 
-module _ (t : Bytes) (bytes found : List ℕ) (old : Reading) (so_far : reading t ≡ prefixed bytes found old) where
+module _ (t : Bytes) (bytes found : List ℕ) (old : SourceReading) (so_far : source_reading t ≡ prefixed bytes found old) where
   -- a fault behind
   pub none_behind : (index at : ℕ) (kind : LiteralKind) → old ≡ Fault kind at → HasNoPlace t index
   none_behind index at kind e = no_place t index at kind (so_far ∙ ap (prefixed bytes found) e)
@@ -81,25 +81,25 @@ module _ (t : Bytes) (bytes found : List ℕ) (old : Reading) (so_far : reading 
     at_end index left (Some at) all h = last_is index left at all h.0 h.1
 
   -- a place that is found in what comes next
-  found_there : (more others : List ℕ) (new : Reading) (index left at : ℕ) → old ≡ prefixed more others new → index ≡ length found + left → slice_get others left ≡ Some at → IsWhole new → IsPlaceOf t index at
+  found_there : (more others : List ℕ) (new : SourceReading) (index left at : ℕ) → old ≡ prefixed more others new → index ≡ length found + left → slice_get others left ≡ Some at → HasNoFault new → IsPlaceOf t index at
   found_there more others new index left at e all is (rest, last, close, whole) =
       let all_found = found ++ others ++ last in
       let known = read_whole t (bytes ++ more ++ rest) all_found close (moved t bytes found old so_far more others new e ∙ ap (prefixed (bytes ++ more) (found ++ others)) whole) in
       let there : slice_get (found ++ others) index ≡ Some at = ap (slice_get (found ++ others)) all ∙ get_behind found others left ∙ is in
       (all_found, close, known.1, get_front all_found (close ∷ []) index at (get_front (found ++ others) last index at there))
 
-  none_there : (more others : List ℕ) (new : Reading) (index at : ℕ) (kind : LiteralKind) → old ≡ prefixed more others new → new ≡ Fault kind at → HasNoPlace t index
+  none_there : (more others : List ℕ) (new : SourceReading) (index at : ℕ) (kind : LiteralKind) → old ≡ prefixed more others new → new ≡ Fault kind at → HasNoPlace t index
   none_there more others new index at kind e stop = no_place t index at kind (moved t bytes found old so_far more others new e ∙ ap (prefixed (bytes ++ more) (found ++ others)) stop)
 
   pub there_or_not : (more others : List ℕ) (cursor : Cursor) (index left at : ℕ) (result : Option ℕ) → old ≡ prefixed more others (rest_of t cursor) → index ≡ length found + left
-      → Some at ≡ slice_get others left → IsThere t cursor at result → MatchOption result (HasNoPlace t index) (IsPlaceOf t index)
+      → Some at ≡ slice_get others left → IsFoundPlace t cursor at result → MatchOption result (HasNoPlace t index) (IsPlaceOf t index)
   there_or_not more others cursor index left at None e all is (kind, place, stop) = none_there more others (rest_of t cursor) index place kind e stop
   there_or_not more others cursor index left at (Some there) e all is (same, whole) =
       found_there more others (rest_of t cursor) index left there e all (sym is ∙ ap Some (sym same)) whole
 
   -- one part further
-  pub further : (more others : List ℕ) (new : Reading) (index left len : ℕ) → old ≡ prefixed more others new → index ≡ length found + left → len ≡ length others → len ≤ left
-      → (b p : List ℕ) × (reading t ≡ prefixed b p new) × (index ≡ length p + (left - len))
+  pub further : (more others : List ℕ) (new : SourceReading) (index left len : ℕ) → old ≡ prefixed more others new → index ≡ length found + left → len ≡ length others → len ≤ left
+      → (b p : List ℕ) × (source_reading t ≡ prefixed b p new) × (index ≡ length p + (left - len))
   further more others new index left len e all long few = (
     bytes ++ more,
     found ++ others,

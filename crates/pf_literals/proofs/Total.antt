@@ -4,26 +4,26 @@ use Rattle.std.specs.Prelude.{◌⊎◌, flat_map, Option, Some, None}
 use Rattle.std.specs.List.{AllByRecursion}
 use Rattle.std.proofs.lemmas.Bool.{cases_eq}
 use Rattle.std.proofs.lemmas.List.{append-nil, append_assoc}
-use Rattle.pf_literals.specs.declared.kinds.LiteralKind.{LiteralKind}
-use Rattle.pf_literals.specs.declared.kinds.LiteralKind.TheVariants.{NoLiteral, Unterminated}
+use Rattle.pf_literals.specs.declared.faults.LiteralKind.{LiteralKind}
+use Rattle.pf_literals.specs.declared.faults.LiteralKind.TheVariants.{NoLiteral, Unterminated}
 use Rattle.pf_literals.specs.declared.notations.Notation.TheVariants.{Octal, Hexadecimal}
-use Rattle.pf_literals.specs.Elements.{AreElements, Bytes, Element, IsElement, Numeric, Plain, Simple, quote, stands_before, written}
-use Rattle.pf_literals.specs.Sources.{AreWhite, IsLiteral, IsSource, Literal, is_white, literal_text}
-use Rattle.pf_literals.specs.Faults.{AreOpen, HasCause, IsFaultAt, IsStopped, open_text}
+use Rattle.pf_literals.specs.Elements.{AreElements, Bytes, Element, IsElement, Numeric, Plain, Simple, quote, may_precede, written}
+use Rattle.pf_literals.specs.Sources.{AreWhite, IsStringLiteral, IsSource, StringLiteral, is_white, literal_text}
+use Rattle.pf_literals.specs.Faults.{AreOpen, IsFaultCause, IsFaultAt, IsElementFault, open_text}
 use Rattle.pf_literals.proofs.Complete.{stands_quote}
 use Rattle.pf_literals.proofs.Judging.{Judgement, Quote, Found, Stuck, judge}
 
--- what stands outside of a literal: white space, literals, and nothing more or what can't go on
+-- outside of a literal: white space, literals, and the end or a fault
 pub data Outside (t : Bytes) : Type 0 where
-  Good : (front : Bytes) (literals : List Literal) → AreWhite front → AllByRecursion IsLiteral literals → t ≡ front ++ flat_map literal_text literals → Outside t
-  Bad : (front : Bytes) (literals : List Literal) (begun : Option (List Element)) (rest : Bytes) (kind : LiteralKind) (on : ℕ)
-      → AreWhite front → AllByRecursion IsLiteral literals → AreOpen begun rest → ((others : List Literal) → HasCause others begun rest kind on)
+  Good : (front : Bytes) (literals : List StringLiteral) → AreWhite front → AllByRecursion IsStringLiteral literals → t ≡ front ++ flat_map literal_text literals → Outside t
+  Bad : (front : Bytes) (literals : List StringLiteral) (begun : Option (List Element)) (rest : Bytes) (kind : LiteralKind) (on : ℕ)
+      → AreWhite front → AllByRecursion IsStringLiteral literals → AreOpen begun rest → ((others : List StringLiteral) → IsFaultCause others begun rest kind on)
       → t ≡ front ++ flat_map literal_text literals ++ open_text begun ++ rest → Outside t
 
--- what stands in one: elements that end in a quote, or in what can't go on
+-- in a literal: elements that end in a quote or in a fault
 pub data Inside (t : Bytes) : Type 0 where
   Closed : (elements : List Element) (rest : Bytes) → AreElements elements (quote ∷ []) → Outside rest → t ≡ flat_map written elements ++ (quote ∷ rest) → Inside t
-  Open : (elements : List Element) (rest : Bytes) (kind : LiteralKind) (on : ℕ) → AreElements elements rest → IsStopped rest kind on → t ≡ flat_map written elements ++ rest → Inside t
+  Open : (elements : List Element) (rest : Bytes) (kind : LiteralKind) (on : ℕ) → AreElements elements rest → IsElementFault rest kind on → t ≡ flat_map written elements ++ rest → Inside t
 
 written_some : (element : Element) (rest : Bytes) → length rest < length (written element ++ rest)
 written_some (Plain byte) rest = omega arith
@@ -32,16 +32,16 @@ written_some (Numeric Octal digits) rest = omega (arith, length-append digits re
 written_some (Numeric Hexadecimal digits) rest = omega (arith, length-append digits rest)
 
 -- an element in front
-more_inside : (t rest : Bytes) (element : Element) → IsElement element → stands_before element rest ≡ true → t ≡ written element ++ rest → Inside rest → Inside t
+more_inside : (t rest : Bytes) (element : Element) → IsElement element → may_precede element rest ≡ true → t ≡ written element ++ rest → Inside rest → Inside t
 more_inside t rest element is stands whole (Closed elements after are out e) =
-    let behind = subst (λ r. stands_before element r ≡ true) e stands in
+    let behind = subst (λ r. may_precede element r ≡ true) e stands in
     Closed (element ∷ elements) after (is, stands_quote element (flat_map written elements) after ∙ behind, are) out
     (whole ∙ ap (λ r. written element ++ r) e ∙ sym (append_assoc (written element) (flat_map written elements) (quote ∷ after)))
 more_inside t rest element is stands whole (Open elements after kind on are stop e) =
-    Open (element ∷ elements) after kind on (is, subst (λ r. stands_before element r ≡ true) e stands, are) stop
+    Open (element ∷ elements) after kind on (is, subst (λ r. may_precede element r ≡ true) e stands, are) stop
     (whole ∙ ap (λ r. written element ++ r) e ∙ sym (append_assoc (written element) (flat_map written elements) after))
 
--- what stands behind a quote, side by side
+-- what follows a quote, side by side
 side_by_side : (text front more begun rest : Bytes) → text ++ (quote ∷ (front ++ more ++ begun ++ rest)) ≡ (text ++ (quote ∷ front)) ++ more ++ begun ++ rest
 side_by_side text front more begun rest =
     let behind = quote ∷ front in
@@ -51,7 +51,7 @@ side_by_side text front more begun rest =
     ∙ append_assoc text (behind ++ more ++ begun) rest
     )
 
--- a quote in front of what stands in a literal
+-- a quote in front of what is in a literal
 opened : (rest : Bytes) → Inside rest → Outside (quote ∷ rest)
 opened rest (Open elements after kind on are stop e) = Bad [] [] (Some elements) after kind on tt tt are (λ others. stop) (ap (λ r. quote ∷ r) e)
 opened rest (Closed elements after are (Good front literals clear each e) f) =
@@ -104,7 +104,7 @@ both (suc n) t few = from_both n (both n) t (omega (arith, few))
 
 -- a source, or where and why it is none
 abbrev pub IsSettled : Bytes → Type 0
-IsSettled t = ((literals : List Literal) × IsSource t literals) ⊎ ((kind : LiteralKind) × (at : ℕ) × IsFaultAt t kind at)
+IsSettled t = ((literals : List StringLiteral) × IsSource t literals) ⊎ ((kind : LiteralKind) × (at : ℕ) × IsFaultAt t kind at)
 
 by_outside : (t : Bytes) → Outside t → IsSettled t
 by_outside t (Good front [] clear each e) =

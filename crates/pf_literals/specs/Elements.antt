@@ -1,4 +1,4 @@
--- What stands in a string literal of C source.
+-- The elements of a string literal of C source.
 use Rattle.std.specs.Prelude.{◌≡◌, ◌≢◌, ℕ, ◌+◌, ◌-◌, ◌*◌, ◌<◌, ◌≤◌, Bool, true, false, ◌&&◌, ◌||◌, not, nat_le, ◌==◌, List, [], ◌∷◌, ◌++◌, length, flat_map, Option, Some, None, if◌then◌else◌}
 use Rattle.std.specs.List.{AllByRecursion}
 use Rattle.pf_literals.specs.declared.notations.Notation.{Notation}
@@ -29,14 +29,14 @@ hexadecimal_letter = 120
 abbrev pub is_line_end : ℕ → Bool
 is_line_end byte = byte == 10 || byte == 13
 
--- A byte that stands for itself, or an escape sequence: a simple one has a letter, and stands for
--- a byte; a numeric one has digits (C11 6.4.5 p1, 6.4.4.4 p1).
+-- A byte as itself, or an escape sequence: a simple one has a letter, and denotes a byte; a numeric
+-- one has digits (C11 6.4.5 p1, 6.4.4.4 p1).
 pub data Element : Type 0 where
   Plain : (byte : ℕ) → Element
   Simple : (letter byte : ℕ) → Element
   Numeric : (notation : Notation) (digits : Bytes) → Element
 
--- the byte that a letter stands for after `\` (C11 6.4.4.4 p3 and p8, 5.2.2 p2; ASCII)
+-- the byte that a letter denotes after `\` (C11 6.4.4.4 p3 and p8, 5.2.2 p2; ASCII)
 abbrev pub simple_byte : ℕ → Option ℕ
 simple_byte letter =
     if letter == 34 then Some 34 else
@@ -58,9 +58,9 @@ base Octal = 8
 base Hexadecimal = 16
 
 -- `0` to `7`; or `0` to `9`, `A` to `F` and `a` to `f` (C11 6.4.4.4 p1, 6.4.4.1 p1)
-abbrev pub is_digit : Notation → ℕ → Bool
-is_digit Octal byte = nat_le 48 byte && nat_le byte 55
-is_digit Hexadecimal byte =
+abbrev pub is_escape_digit : Notation → ℕ → Bool
+is_escape_digit Octal byte = nat_le 48 byte && nat_le byte 55
+is_escape_digit Hexadecimal byte =
     (nat_le 48 byte && nat_le byte 57) || (nat_le 65 byte && nat_le byte 70)
     || (nat_le 97 byte && nat_le byte 102)
 
@@ -70,29 +70,29 @@ digit_value byte =
     if nat_le byte 57 then byte - 48 else if nat_le byte 70 then byte - 55 else byte - 87
 
 -- the number of some digits behind others, which are of this number
-abbrev pub number_after : Notation → ℕ → Bytes → ℕ
-number_after notation number [] = number
-number_after notation number (digit ∷ digits) =
-    number_after notation (base notation * number + digit_value digit) digits
+abbrev pub escape_number_after : Notation → ℕ → Bytes → ℕ
+escape_number_after notation number [] = number
+escape_number_after notation number (digit ∷ digits) =
+    escape_number_after notation (base notation * number + digit_value digit) digits
 
 -- the number of some digits (C11 6.4.4.4 p5 and p6)
-abbrev pub number_of : Notation → Bytes → ℕ
-number_of notation digits = number_after notation 0 digits
+abbrev pub escape_number : Notation → Bytes → ℕ
+escape_number notation digits = escape_number_after notation 0 digits
 
 -- an octal escape sequence has three digits at most (C11 6.4.4.4 p1)
 abbrev pub is_full : Notation → ℕ → Bool
 is_full Octal count = count == 3
 is_full Hexadecimal count = false
 
--- so many digits may stand in an escape sequence
-abbrev pub HasRoom : Notation → ℕ → Type 0
-HasRoom Octal count = count ≤ 3
-HasRoom Hexadecimal count = Unit {0}
+-- an escape sequence may have so many digits
+abbrev pub AllowsDigitCount : Notation → ℕ → Type 0
+AllowsDigitCount Octal count = count ≤ 3
+AllowsDigitCount Hexadecimal count = Unit {0}
 
 -- the digits of an escape sequence
-pub record AreDigits (notation : Notation) (digits : Bytes) : Type 0 where
-  pub each : AllByRecursion (λ digit. is_digit notation digit ≡ true) digits
-  pub room : HasRoom notation (length digits)
+pub record AreEscapeDigits (notation : Notation) (digits : Bytes) : Type 0 where
+  pub each : AllByRecursion (λ digit. is_escape_digit notation digit ≡ true) digits
+  pub room : AllowsDigitCount notation (length digits)
 
 -- how a numeric escape sequence is written (C11 6.4.4.4 p1)
 abbrev pub escape : Notation → Bytes → Bytes
@@ -105,14 +105,14 @@ written (Plain byte) = byte ∷ []
 written (Simple letter byte) = backslash ∷ letter ∷ []
 written (Numeric notation digits) = escape notation digits
 
--- the byte that it stands for (C11 6.4.4.4 p3 to p8)
+-- the byte that it denotes (C11 6.4.4.4 p3 to p8)
 abbrev pub value : Element → ℕ
 value (Plain byte) = byte
 value (Simple letter byte) = byte
-value (Numeric notation digits) = number_of notation digits
+value (Numeric notation digits) = escape_number notation digits
 
--- a byte that may stand for itself (C11 6.4.5 p1); a zero byte would end the string
-pub record IsPlain (byte : ℕ) : Type 0 where
+-- a byte that may be an element as itself (C11 6.4.5 p1); a zero byte would end the string
+pub record IsPlainByte (byte : ℕ) : Type 0 where
   pub no_quote : byte ≢ quote
   pub no_backslash : byte ≢ backslash
   pub in_line : is_line_end byte ≡ false
@@ -120,13 +120,13 @@ pub record IsPlain (byte : ℕ) : Type 0 where
 
 -- A number that fits a byte (C11 6.4.4.4 p9), and isn't zero, which would end the string.
 pub record IsNumeric (notation : Notation) (digits : Bytes) : Type 0 where
-  pub digits_are : AreDigits notation digits
-  pub some : 0 < number_of notation digits
-  pub fits : number_of notation digits ≤ 255
+  pub digits_are : AreEscapeDigits notation digits
+  pub some : 0 < escape_number notation digits
+  pub fits : escape_number notation digits ≤ 255
 
 -- an element is one of the three
 abbrev pub IsElement : Element → Type 0
-IsElement (Plain byte) = IsPlain byte
+IsElement (Plain byte) = IsPlainByte byte
 IsElement (Simple letter byte) = simple_byte letter ≡ Some byte
 IsElement (Numeric notation digits) = IsNumeric notation digits
 
@@ -136,26 +136,26 @@ is_third byte =
     byte == 61 || byte == 47 || byte == 39 || byte == 40 || byte == 41 || byte == 33
     || byte == 60 || byte == 62 || byte == 45
 
--- after `?`, the text goes on as a trigraph does
+-- after `?`, the text continues as a trigraph does
 abbrev pub ends_trigraph : Bytes → Bool
 ends_trigraph (second ∷ third ∷ rest) = second == question && is_third third
 ends_trigraph _ = false
 
--- after so many digits, the text goes on with one more
-abbrev pub goes_on : Notation → ℕ → Bytes → Bool
-goes_on notation count [] = false
-goes_on notation count (byte ∷ rest) = not (is_full notation count) && is_digit notation byte
+-- after so many digits, the text continues with one more
+abbrev pub has_more_digits : Notation → ℕ → Bytes → Bool
+has_more_digits notation count [] = false
+has_more_digits notation count (byte ∷ rest) = not (is_full notation count) && is_escape_digit notation byte
 
--- An element may stand before a text. A numeric one has as many digits as there are (C11 6.4.4.4
+-- An element may come before a text. A numeric one has as many digits as there are (C11 6.4.4.4
 -- p7), and a `?` begins no trigraph.
-abbrev pub stands_before : Element → Bytes → Bool
-stands_before (Plain byte) rest = not (byte == question && ends_trigraph rest)
-stands_before (Simple letter byte) rest = true
-stands_before (Numeric notation digits) rest = not (goes_on notation (length digits) rest)
+abbrev pub may_precede : Element → Bytes → Bool
+may_precede (Plain byte) rest = not (byte == question && ends_trigraph rest)
+may_precede (Simple letter byte) rest = true
+may_precede (Numeric notation digits) rest = not (has_more_digits notation (length digits) rest)
 
 -- elements one after another, and a text behind them
 abbrev pub AreElements : List Element → Bytes → Type 0
 AreElements [] rest = Unit {0}
 AreElements (element ∷ elements) rest =
-    IsElement element × (stands_before element (flat_map written elements ++ rest) ≡ true)
+    IsElement element × (may_precede element (flat_map written elements ++ rest) ≡ true)
     × AreElements elements rest

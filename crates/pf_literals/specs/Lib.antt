@@ -3,9 +3,9 @@ pub mod Sources
 pub mod Kinds
 pub mod Faults
 pub mod Encoding
-pub mod Turns
+pub mod Tokens
 pub mod Readings
-pub mod Runs
+pub mod Verbatim
 pub mod Spellings
 pub mod Walks
 pub mod Answers

@@ -1,4 +1,4 @@
--- String literals of C source, and the bytes that they stand for.
+-- String literals of C source, and the bytes that they denote.
 use Rattle.std.specs.Prelude.{◌≡◌, ◌≢◌, ℕ, ◌+◌, true, Bool, ◌||◌, ◌==◌, List, [], ◌∷◌, ◌++◌, length, map, flat_map}
 use Rattle.std.specs.List.{AllByRecursion}
 use Rattle.pf_literals.specs.Elements.{AreElements, Bytes, Element, quote, value, written}
@@ -14,34 +14,34 @@ abbrev pub AreWhite : Bytes → Type 0
 AreWhite bytes = AllByRecursion (λ byte. is_white byte ≡ true) bytes
 
 -- a string literal, by its elements, and the white space behind it
-pub record Literal : Type 0 where
+pub record StringLiteral : Type 0 where
   pub elements : List Element
   pub behind : Bytes
 
 -- how it is written (C11 6.4.5 p1)
-abbrev pub literal_text : Literal → Bytes
+abbrev pub literal_text : StringLiteral → Bytes
 literal_text l = quote ∷ flat_map written l.elements ++ quote ∷ l.behind
 
 -- A literal, whose elements end where it ends, and white space.
-abbrev pub IsLiteral : Literal → Type 0
-IsLiteral l = AreElements l.elements (quote ∷ []) × AreWhite l.behind
+abbrev pub IsStringLiteral : StringLiteral → Type 0
+IsStringLiteral l = AreElements l.elements (quote ∷ []) × AreWhite l.behind
 
--- One or more literals, with white space or none before, between and behind them. Literals that
--- stand side by side are one string (C11 6.4.5 p5).
-pub record IsSource (t : Bytes) (literals : List Literal) : Type 0 where
+-- One or more literals, with white space or none before, between and behind them. Literals side
+-- by side are one string (C11 6.4.5 p5).
+pub record IsSource (t : Bytes) (literals : List StringLiteral) : Type 0 where
   pub front : Bytes
   pub front_white : AreWhite front
-  pub each : AllByRecursion IsLiteral literals
+  pub each : AllByRecursion IsStringLiteral literals
   pub some : literals ≢ []
   pub whole : t ≡ front ++ flat_map literal_text literals
 
--- the bytes that literals stand for
-abbrev pub bytes_of : List Literal → Bytes
-bytes_of literals = flat_map (λ l. map value l.elements) literals
+-- the bytes that literals denote
+abbrev pub literal_bytes : List StringLiteral → Bytes
+literal_bytes literals = flat_map (λ l. map value l.elements) literals
 
 -- a text is a source of these bytes
 abbrev pub IsSourceOf : Bytes → Bytes → Type 0
-IsSourceOf t bytes = (literals : List Literal) × IsSource t literals × (bytes ≡ bytes_of literals)
+IsSourceOf t bytes = (literals : List StringLiteral) × IsSource t literals × (bytes ≡ literal_bytes literals)
 
 -- where each element begins, if the first one begins at `at`
 abbrev pub element_places : ℕ → List Element → List ℕ
@@ -50,21 +50,21 @@ element_places at (element ∷ elements) =
     at ∷ element_places (at + length (written element)) elements
 
 -- where each element of some literals begins, if the first of these begins at `at`
-abbrev pub places : ℕ → List Literal → List ℕ
+abbrev pub places : ℕ → List StringLiteral → List ℕ
 places at [] = []
 places at (l ∷ literals) =
     element_places (at + 1) l.elements ++ places (at + length (literal_text l)) literals
 
 -- where the last of some literals closes, or `before` if there are none
-abbrev pub close_of : ℕ → ℕ → List Literal → ℕ
+abbrev pub close_of : ℕ → ℕ → List StringLiteral → ℕ
 close_of before at [] = before
 close_of before at (l ∷ literals) =
     close_of (at + 1 + length (flat_map written l.elements)) (at + length (literal_text l)) literals
 
--- Where the bytes of a source come from: each byte from the place where its element begins, and
--- behind them stands the last closing quote.
+-- Where the bytes of a source come from: each byte from the place where its element begins; and the
+-- place of the last closing quote.
 pub record HasPlaces (t : Bytes) (found : List ℕ) (close : ℕ) : Type 0 where
-  pub literals : List Literal
+  pub literals : List StringLiteral
   pub source : IsSource t literals
   pub places_are : found ≡ places (length source.front) literals
   pub close_is : close ≡ close_of 0 (length source.front) literals

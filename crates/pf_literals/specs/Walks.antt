@@ -1,56 +1,56 @@
--- A walk through a source, as the code makes it. No public contract speaks of it.
+-- The cursor over a source, as the code has it. No public contract names these.
 use Rattle.std.specs.Prelude.{◌≡◌, ℕ, ◌+◌, ◌<◌, ◌≤◌, List, [], ◌∷◌, length, drop, Option, Some, None}
 use Rattle.std.specs.List.{range_with_len}
-use Rattle.pf_literals.specs.declared.cursors.Cursor.{Cursor}
-use Rattle.pf_literals.specs.declared.cursors.Part.{Part}
-use Rattle.pf_literals.specs.declared.cursors.Part.TheVariants.{Run, Byte}
-use Rattle.pf_literals.specs.declared.cursors.Next.{Next}
-use Rattle.pf_literals.specs.declared.cursors.Next.TheVariants.{Given, End, Stop}
+use Rattle.pf_literals.specs.declared.cursor.Cursor.{Cursor}
+use Rattle.pf_literals.specs.declared.cursor.SourcePart.{SourcePart}
+use Rattle.pf_literals.specs.declared.cursor.SourcePart.TheVariants.{Verbatim, Byte}
+use Rattle.pf_literals.specs.declared.cursor.NextPart.{NextPart}
+use Rattle.pf_literals.specs.declared.cursor.NextPart.TheVariants.{Given, End, Stop}
 use Rattle.pf_literals.specs.declared.faults.LiteralFault.{LiteralFault}
 use Rattle.pf_literals.specs.declared.faults.LiteralFault.TheVariants.{Refused, Memory}
-use Rattle.pf_literals.specs.declared.kinds.LiteralKind.{LiteralKind}
+use Rattle.pf_literals.specs.declared.faults.LiteralKind.{LiteralKind}
 use Rattle.pf_literals.specs.Elements.{Bytes}
-use Rattle.pf_literals.specs.Readings.{Fault, IsWhole, Reading, Whole, prefixed, read}
+use Rattle.pf_literals.specs.Readings.{Fault, HasNoFault, SourceReading, Whole, prefixed, read_from}
 
 -- what is read from a cursor on
-abbrev pub left : Bytes → Cursor → Reading
-left t cursor = read cursor.place 0 cursor.at (drop cursor.at t)
+abbrev pub reading_left : Bytes → Cursor → SourceReading
+reading_left t cursor = read_from cursor.place 0 cursor.at (drop cursor.at t)
 
 -- the bytes of a part, and where each comes from
-abbrev pub part_bytes : Part → Bytes
-part_bytes (Run run at) = run.now
+abbrev pub part_bytes : SourcePart → Bytes
+part_bytes (Verbatim verbatim at) = verbatim.now
 part_bytes (Byte value at) = value ∷ []
 
-abbrev pub part_places : Part → List ℕ
-part_places (Run run at) = range_with_len at (length run.now)
+abbrev pub part_places : SourcePart → List ℕ
+part_places (Verbatim verbatim at) = range_with_len at (length verbatim.now)
 part_places (Byte value at) = at ∷ []
 
 -- what comes next, between a cursor before it and behind it
-abbrev pub IsNext : Bytes → Cursor → Next → Cursor → Type 0
-IsNext t old (Given part) new =
-    left t old ≡ prefixed (part_bytes part) (part_places part) (left t new)
-IsNext t old (End close) new = left t old ≡ Whole [] [] close
-IsNext t old (Stop refusal) new = left t old ≡ Fault refusal.kind refusal.at
+abbrev pub IsNextPart : Bytes → Cursor → NextPart → Cursor → Type 0
+IsNextPart t old (Given part) new =
+    reading_left t old ≡ prefixed (part_bytes part) (part_places part) (reading_left t new)
+IsNextPart t old (End close) new = reading_left t old ≡ Whole [] [] close
+IsNextPart t old (Stop refusal) new = reading_left t old ≡ Fault refusal.kind refusal.at
 
 -- a part ends at this byte or before it
-abbrev pub IsWithin : Part → ℕ → Type 0
-IsWithin (Run run at) end = at + length run.now ≤ end
-IsWithin (Byte value at) end = at + 1 ≤ end
+abbrev pub PartEndsBy : SourcePart → ℕ → Type 0
+PartEndsBy (Verbatim verbatim at) end = at + length verbatim.now ≤ end
+PartEndsBy (Byte value at) end = at + 1 ≤ end
 
 -- a part has a byte, and the cursor moves on
-abbrev pub GoesFurther : Bytes → Cursor → Next → Cursor → Type 0
-GoesFurther t old (Given part) new =
+abbrev pub AdvancesCursor : Bytes → Cursor → NextPart → Cursor → Type 0
+AdvancesCursor t old (Given part) new =
     (old.at < new.at) × (new.at ≤ length t) × (0 < length (part_bytes part))
-    × IsWithin part (length t)
-GoesFurther t old _ new = Unit {0}
+    × PartEndsBy part (length t)
+AdvancesCursor t old _ new = Unit {0}
 
--- why reading stops from a cursor on, if it does: else memory wants
-abbrev pub Stops : Bytes → Cursor → LiteralFault → Type 0
-Stops t cursor (Refused refusal) = left t cursor ≡ Fault refusal.kind refusal.at
-Stops t cursor Memory = IsWhole (left t cursor)
+-- the fault of decoding from a cursor on: the refusal, or want of memory where there is none
+abbrev pub IsDecodingFault : Bytes → Cursor → LiteralFault → Type 0
+IsDecodingFault t cursor (Refused refusal) = reading_left t cursor ≡ Fault refusal.kind refusal.at
+IsDecodingFault t cursor Memory = HasNoFault (reading_left t cursor)
 
 -- a place that was found, if the rest of the text is read
-abbrev pub IsThere : Bytes → Cursor → ℕ → Option ℕ → Type 0
-IsThere t cursor at (Some there) = (there ≡ at) × IsWhole (left t cursor)
-IsThere t cursor at None =
-    (kind : LiteralKind) × (place : ℕ) × (left t cursor ≡ Fault kind place)
+abbrev pub IsFoundPlace : Bytes → Cursor → ℕ → Option ℕ → Type 0
+IsFoundPlace t cursor at (Some there) = (there ≡ at) × HasNoFault (reading_left t cursor)
+IsFoundPlace t cursor at None =
+    (kind : LiteralKind) × (place : ℕ) × (reading_left t cursor ≡ Fault kind place)

@@ -1,17 +1,17 @@
-//! The bytes of a source.
+//! The bytes of a source of string literals.
 ghost use Rattle.std.specs.Prelude.{◌≡◌, ◌++◌, [], IfOk, MatchResult};
 ghost use Rattle.pf_literals.specs.Answers.{HindersDecoding};
 ghost use Rattle.pf_literals.specs.Sources.{IsSourceOf};
-ghost use Rattle.pf_literals.specs.Walks.{Stops, part_bytes};
+ghost use Rattle.pf_literals.specs.Walks.{IsDecodingFault, part_bytes};
 
-use crate::cursors::{Cursor, Next, Part};
+use crate::cursor::{Cursor, NextPart, SourcePart};
 use crate::faults::LiteralFault;
 use std::alloc::{AllocError, Allocator, Global};
 
 #[cfg(test)]
 mod tests;
 
-/// The bytes that a source of string literals stands for (C11 6.4.5, paragraphs 4 to 6), without
+/// The bytes that a source of string literals denotes (C11 6.4.5, paragraphs 4 to 6), without
 /// the zero byte behind them. Their room is taken by one growth of the source's length, and none is
 /// taken where there are no bytes.
 pub fn decode(alloc: Global, source: &[u8]) -> Result<Vec<u8>, LiteralFault>
@@ -40,32 +40,36 @@ fn append_all<A: Allocator>(source: &[u8], out: &mut Vec<u8, A>) -> Result<(), L
     let mut cursor = Cursor::new();
     loop {
         match cursor.next_part(source) {
-            Next::Given(part) => match append(out, part, source.len()) {
+            NextPart::Given(part) => match append(out, part, source.len()) {
                 Ok(()) => {}
                 Err(_) => return Err(fault_of(cursor, source)),
             },
-            Next::End(_) => return Ok(()),
-            Next::Stop(refusal) => return Err(LiteralFault::Refused(refusal)),
+            NextPart::End(_) => return Ok(()),
+            NextPart::Stop(refusal) => return Err(LiteralFault::Refused(refusal)),
         }
     }
 }
 
 // Appends the bytes of a part. The room for all that may come is taken with the first.
-fn append<A: Allocator>(out: &mut Vec<u8, A>, part: Part, room: usize) -> Result<(), AllocError>
+fn append<A: Allocator>(
+    out: &mut Vec<u8, A>,
+    part: SourcePart,
+    room: usize,
+) -> Result<(), AllocError>
     ensures { IfOk result (λ _. out.new.items ≡ out.old.items ++ part_bytes part.entry) }
 {
     if out.is_empty() {
         out.reserve_exact(room)?;
     }
     match part {
-        Part::Run(run, _) => out.extend_from_slice(run),
-        Part::Byte(value, _) => out.extend_from_slice(&[value]),
+        SourcePart::Verbatim(verbatim, _) => out.extend_from_slice(verbatim),
+        SourcePart::Byte(value, _) => out.extend_from_slice(&[value]),
     }
 }
 
-// Why there are no bytes where memory wants: the rest of the text may be refused.
+// Why there are no bytes where a growth was refused: the rest of the text may be refused, too.
 fn fault_of(cursor: Cursor, source: &[u8]) -> LiteralFault
-    ensures { Stops source.now cursor result }
+    ensures { IsDecodingFault source.now cursor result }
 {
     match cursor.refusal(source) {
         Some(refusal) => LiteralFault::Refused(refusal),

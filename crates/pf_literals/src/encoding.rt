@@ -2,8 +2,8 @@
 ghost use Rattle.std.specs.Prelude.{◌≡◌, ◌≤◌, ◌*◌, ◌++◌, false, drop, length, IfOk};
 ghost use Rattle.pf_literals.specs.Encoding.{encoding, spelled};
 
-use crate::fronts::Front;
-use crate::search::run_len;
+use crate::encoded_parts::EncodedPart;
+use crate::search::verbatim_len;
 use std::alloc::{AllocError, Allocator, Global};
 
 #[cfg(test)]
@@ -18,7 +18,7 @@ pub fn encode(alloc: Global, text: &[u8]) -> Result<Vec<u8>, AllocError>
     encode_in(alloc, text)
 }
 
-/// How many bytes that literal has, with its quotes.
+/// How many bytes the literal of a text has, with its quotes.
 pub fn encoded_len(text: &[u8]) -> u128
     ensures { result ≡ length (encoding text.now) }
 {
@@ -29,19 +29,19 @@ pub fn encoded_len(text: &[u8]) -> u128
 pub(crate) fn encode_in<A: Allocator>(alloc: A, text: &[u8]) -> Result<Vec<u8, A>, AllocError>
     ensures { IfOk result (λ v. v.items ≡ encoding text.now) }
 {
-    // Most texts are one run, which is gone over once.
-    let run = run_len(text);
-    let len = run as u128 + written_len(text, run) + 2;
+    // Most texts are verbatim bytes throughout, which are searched only once.
+    let verbatim = verbatim_len(text);
+    let len = verbatim as u128 + written_len(text, verbatim) + 2;
     let room = usize::try_from(len).unwrap_or(usize::MAX);
     let mut out = Vec::with_capacity(alloc, room)?;
     out.extend_from_slice(b"\"")?;
-    out.extend_from_slice(&text[..run])?;
-    append_from(text, run, &mut out)?;
+    out.extend_from_slice(&text[..verbatim])?;
+    append_from(text, verbatim, &mut out)?;
     out.extend_from_slice(b"\"")?;
     Ok(out)
 }
 
-// How many bytes are written of a text from a byte on that doesn't stand behind a `?`.
+// How many bytes are written for a text from a byte on that doesn't follow a `?`.
 fn written_len(text: &[u8], from: usize) -> u128
     requires { from ≤ length text.now }
     ensures len { result ≡ length (spelled false (drop from text.now)) }
@@ -51,15 +51,15 @@ fn written_len(text: &[u8], from: usize) -> u128
     let mut at = from;
     let mut after = false;
     while at < text.len() {
-        let front = Front::of(after, &text[at..]);
-        len += front.written_len() as u128;
-        at += front.taken();
-        after = front.ends_in_question();
+        let part = EncodedPart::of(after, &text[at..]);
+        len += part.written_len() as u128;
+        at += part.source_len();
+        after = part.ends_in_question();
     }
     len
 }
 
-// Appends what is written of it.
+// Appends what is written for a text from a byte on that doesn't follow a `?`.
 fn append_from<A: Allocator>(
     text: &[u8],
     from: usize,
@@ -71,10 +71,10 @@ fn append_from<A: Allocator>(
     let mut at = from;
     let mut after = false;
     while at < text.len() {
-        let front = Front::of(after, &text[at..]);
-        front.append(out)?;
-        at += front.taken();
-        after = front.ends_in_question();
+        let part = EncodedPart::of(after, &text[at..]);
+        part.append(out)?;
+        at += part.source_len();
+        after = part.ends_in_question();
     }
     Ok(())
 }

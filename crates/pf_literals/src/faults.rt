@@ -1,6 +1,7 @@
-//! Why a text has no bytes.
+//! Why a text is no source, and why it has no bytes.
+ghost use Rattle.std.specs.Prelude.{◌≡◌};
+ghost use Rattle.pf_literals.specs.Kinds.{literal_kind_name, literal_kind_number};
 
-use crate::kinds::LiteralKind;
 use thiserror::Error;
 
 /// The kind, and the byte at which a text is refused that is no source, counted from 0.
@@ -22,4 +23,62 @@ pub enum LiteralFault {
     /// A growth was refused.
     #[error("out of memory")]
     Memory,
+}
+
+/// Why a text is no source of string literals. Each kind has a number and a name of its own.
+#[derive(Clone, Copy, Debug, PartialEq, Eq)]
+pub enum LiteralKind {
+    /// A byte outside of a literal that is neither white space nor `"`, or the end of a text that
+    /// has no literal.
+    NoLiteral,
+    /// The end of a line, or of the text, in a literal.
+    Unterminated,
+    /// `\` and what it makes no escape sequence with.
+    BadEscape,
+    /// A numeric escape sequence of a number above 255.
+    EscapeTooLarge,
+    /// A zero byte in a literal, as such or by an escape sequence: a C string would end there.
+    ZeroByte,
+    /// `??` and a third byte that make a trigraph, for which not all compilers put another byte.
+    Trigraph,
+}
+
+impl LiteralKind {
+    /// All kinds, in the order of their numbers.
+    pub const ALL: [LiteralKind; 6] = [
+        LiteralKind::NoLiteral,
+        LiteralKind::Unterminated,
+        LiteralKind::BadEscape,
+        LiteralKind::EscapeTooLarge,
+        LiteralKind::ZeroByte,
+        LiteralKind::Trigraph,
+    ];
+
+    /// The number of the kind, from 1 to 6.
+    pub fn number(self) -> u8
+        ensures { result ≡ literal_kind_number self }
+    {
+        match self {
+            LiteralKind::NoLiteral => 1,
+            LiteralKind::Unterminated => 2,
+            LiteralKind::BadEscape => 3,
+            LiteralKind::EscapeTooLarge => 4,
+            LiteralKind::ZeroByte => 5,
+            LiteralKind::Trigraph => 6,
+        }
+    }
+
+    /// The name of the kind, in ASCII.
+    pub fn name(self) -> &'static str
+        ensures { result.now ≡ literal_kind_name self }
+    {
+        match self {
+            LiteralKind::NoLiteral => "NoLiteral",
+            LiteralKind::Unterminated => "Unterminated",
+            LiteralKind::BadEscape => "BadEscape",
+            LiteralKind::EscapeTooLarge => "EscapeTooLarge",
+            LiteralKind::ZeroByte => "ZeroByte",
+            LiteralKind::Trigraph => "Trigraph",
+        }
+    }
 }

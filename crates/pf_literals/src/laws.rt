@@ -1,19 +1,19 @@
-//! Laws of the definitions: a text is a source of one list of bytes, or has one fault, where it can't
-//! go on; and a text is the bytes of its encoding.
+//! Laws of the definitions: a text is a source of one list of bytes, or has one fault, at the byte
+//! from which on it can't be a source; and a text is the bytes of its encoding.
 ghost use Rattle.std.specs.Prelude.{◌≡◌, ◌++◌, ◌-◌, ◌<◌, ◌≤◌, ℕ, Some, length, slice_get};
-ghost use Rattle.pf_literals.specs.declared.kinds.LiteralKind.{LiteralKind};
-ghost use Rattle.pf_literals.specs.declared.kinds.TheConstants.LiteralKind.{ALL as kinds};
+ghost use Rattle.pf_literals.specs.declared.faults.LiteralKind.{LiteralKind};
+ghost use Rattle.pf_literals.specs.declared.faults.TheConstants.LiteralKind.{ALL as kinds};
 ghost use Rattle.pf_literals.specs.Answers.{IsPlaceOf};
 ghost use Rattle.pf_literals.specs.Elements.{Bytes};
 ghost use Rattle.pf_literals.specs.Encoding.{encoding};
 ghost use Rattle.pf_literals.specs.Faults.{IsFaultAt};
-ghost use Rattle.pf_literals.specs.Kinds.{number};
-ghost use Rattle.pf_literals.specs.Laws.{CanGoOn, IsSettled, IsString};
+ghost use Rattle.pf_literals.specs.Kinds.{literal_kind_number};
+ghost use Rattle.pf_literals.specs.Laws.{CanGoOn, IsReadOrRefused, AreCStringBytes};
 ghost use Rattle.pf_literals.specs.Sources.{HasPlaces, IsSourceOf};
 
-/// The kinds stand in the order of their numbers.
+/// The table of kinds is in the order of their numbers.
 pub fn kinds_in_order()
-    ensures { (kind : LiteralKind) → slice_get kinds (number kind - 1) ≡ Some kind }
+    ensures { (kind : LiteralKind) → slice_get kinds (literal_kind_number kind - 1) ≡ Some kind }
 {}
 
 /// A source has one list of bytes.
@@ -22,7 +22,7 @@ pub fn bytes_once()
         → bytes ≡ others }
 {}
 
-/// The bytes of a source come from one list of places, and behind them stands one last quote.
+/// A source has one list of places of its bytes, and one place of its last quote.
 pub fn places_once()
     ensures { (t found others : Bytes) (close last : ℕ) → HasPlaces t found close
         → HasPlaces t others last → (found ≡ others) × (close ≡ last) }
@@ -43,22 +43,22 @@ pub fn refused_once()
 
 /// A text is a source, or it is refused.
 pub fn read_or_refused()
-    ensures { (t : Bytes) → IsSettled t }
+    ensures { (t : Bytes) → IsReadOrRefused t }
 {}
 
-/// And never both.
+/// No text is both a source and refused.
 pub fn never_both()
     ensures { (t bytes : Bytes) (kind : LiteralKind) (at : ℕ) → IsSourceOf t bytes
         → IsFaultAt t kind at → ⊥ }
 {}
 
-/// A text that is refused before its end is refused so however it goes on.
+/// A text that is refused before its end is refused so whatever bytes follow.
 pub fn refused_for_good()
     ensures { (t more : Bytes) (kind : LiteralKind) (at : ℕ) → IsFaultAt t kind at
         → at < length t → IsFaultAt (t ++ more) kind at }
 {}
 
-/// And one that is refused at its end can go on to be a source.
+/// A text that is refused at its end is a source with some more bytes.
 pub fn end_goes_on()
     ensures { (t : Bytes) (kind : LiteralKind) (at : ℕ) → IsFaultAt t kind at
         → at ≡ length t → CanGoOn t }
@@ -66,11 +66,11 @@ pub fn end_goes_on()
 
 /// A text without a zero byte is the bytes of its encoding.
 pub fn encoded_is_read()
-    ensures { (t : Bytes) → IsString t → IsSourceOf (encoding t) t }
+    ensures { (t : Bytes) → AreCStringBytes t → IsSourceOf (encoding t) t }
 {}
 
 /// The encoding of the bytes of an encoding is that encoding.
 pub fn encoded_once()
-    ensures { (t bytes : Bytes) → IsString t → IsSourceOf (encoding t) bytes
+    ensures { (t bytes : Bytes) → AreCStringBytes t → IsSourceOf (encoding t) bytes
         → encoding bytes ≡ encoding t }
 {}

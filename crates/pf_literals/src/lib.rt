@@ -1,12 +1,11 @@
-//! String literals of C source: the bytes that they stand for, and the literal of some bytes.
+//! String literals of C source: the bytes that they denote, and the literal of some bytes.
 #![tactic(auto)]
 
-mod cursors;
+mod cursor;
 mod decoding;
+mod encoded_parts;
 mod encoding;
 mod faults;
-mod fronts;
-mod kinds;
 pub mod laws;
 mod notations;
 mod places;
@@ -14,10 +13,9 @@ mod search;
 mod spellings;
 #[cfg(test)]
 mod tests;
-mod turns;
+mod tokens;
 
 pub use decoding::decode;
 pub use encoding::{encode, encoded_len};
-pub use faults::{LiteralFault, LiteralRefusal};
-pub use kinds::LiteralKind;
+pub use faults::{LiteralFault, LiteralKind, LiteralRefusal};
 pub use places::source_offset;

@@ -1,7 +1,7 @@
 //! The notations of numeric escape sequences, and their digits.
 ghost use Rattle.std.specs.Prelude.{◌≡◌, ◌<◌, ◌+◌, true, false, MatchOption, length, ◌==◌, not, ◌&&◌};
-ghost use Rattle.pf_literals.specs.Elements.{base, digit_value, is_digit, is_full};
-ghost use Rattle.pf_literals.specs.Turns.{before_digits};
+ghost use Rattle.pf_literals.specs.Elements.{base, digit_value, is_escape_digit, is_full};
+ghost use Rattle.pf_literals.specs.Tokens.{before_digits};
 
 /// The notation of a numeric escape sequence (C11 6.4.4.4, paragraph 1).
 #[derive(Clone, Copy, Debug, PartialEq, Eq)]
@@ -22,7 +22,7 @@ impl Notation {
         }
     }
 
-    /// How many bytes stand before the digits.
+    /// How many bytes come before the digits.
     pub(crate) fn before_digits(self) -> usize
         ensures { result ≡ before_digits self }
     {
@@ -32,7 +32,7 @@ impl Notation {
         }
     }
 
-    /// Whether there may be no more digits behind so many.
+    /// Whether an escape sequence of so many digits can have no more.
     pub(crate) fn is_full(self, count: usize) -> bool
         ensures { result ≡ is_full self count }
     {
@@ -44,8 +44,8 @@ impl Notation {
 
     /// What a digit is worth, if the byte is one.
     pub(crate) fn digit(self, byte: u8) -> Option<u16>
-        ensures { MatchOption result (is_digit self byte ≡ false)
-            (λ value. (is_digit self byte ≡ true) × (value ≡ digit_value byte) × (value < base self)) }
+        ensures { MatchOption result (is_escape_digit self byte ≡ false)
+            (λ value. (is_escape_digit self byte ≡ true) × (value ≡ digit_value byte) × (value < base self)) }
     {
         match self {
             Notation::Octal => octal_digit(byte),
@@ -55,8 +55,8 @@ impl Notation {
 }
 
 fn octal_digit(byte: u8) -> Option<u16>
-    ensures { MatchOption result (is_digit Notation.Octal byte ≡ false)
-        (λ value. (is_digit Notation.Octal byte ≡ true) × (value ≡ digit_value byte) × (value < 8)) }
+    ensures { MatchOption result (is_escape_digit Notation.Octal byte ≡ false)
+        (λ value. (is_escape_digit Notation.Octal byte ≡ true) × (value ≡ digit_value byte) × (value < 8)) }
 {
     match byte {
         b'0'..=b'7' => Some(u16::from(byte - b'0')),
@@ -65,8 +65,8 @@ fn octal_digit(byte: u8) -> Option<u16>
 }
 
 fn hexadecimal_digit(byte: u8) -> Option<u16>
-    ensures { MatchOption result (is_digit Notation.Hexadecimal byte ≡ false)
-        (λ value. (is_digit Notation.Hexadecimal byte ≡ true) × (value ≡ digit_value byte) × (value < 16)) }
+    ensures { MatchOption result (is_escape_digit Notation.Hexadecimal byte ≡ false)
+        (λ value. (is_escape_digit Notation.Hexadecimal byte ≡ true) × (value ≡ digit_value byte) × (value < 16)) }
 {
     match byte {
         b'0'..=b'9' => Some(u16::from(byte - b'0')),

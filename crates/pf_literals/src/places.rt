@@ -1,10 +1,10 @@
-//! Where in a source its bytes come from.
+//! Where in a source each of its bytes comes from.
 ghost use Rattle.std.specs.Prelude.{◌≡◌, ◌<◌, length, MatchOption, slice_get};
 ghost use Rattle.pf_literals.specs.Answers.{HasNoPlace, IsPlaceOf};
-ghost use Rattle.pf_literals.specs.Readings.{IsWhole};
-ghost use Rattle.pf_literals.specs.Walks.{IsThere, IsWithin, left, part_places};
+ghost use Rattle.pf_literals.specs.Readings.{HasNoFault};
+ghost use Rattle.pf_literals.specs.Walks.{IsFoundPlace, PartEndsBy, reading_left, part_places};
 
-use crate::cursors::{Cursor, Next, Part};
+use crate::cursor::{Cursor, NextPart, SourcePart};
 
 /// The place in a source where the element begins that gives the byte of this index; at the count of
 /// the bytes, the place of the last closing quote. There is none for a greater index, and where the
@@ -16,40 +16,40 @@ pub fn source_offset(source: &[u8], index: u64) -> Option<u64>
     let mut left = index;
     loop {
         match cursor.next_part(source) {
-            Next::Given(part) => match place_in(part, left) {
-                Some(at) => return if_whole(cursor, source, at),
+            NextPart::Given(part) => match place_in(part, left) {
+                Some(at) => return if_accepted(cursor, source, at),
                 None => left -= len_of(part),
             },
-            Next::End(close) => return last_place(close, left),
-            Next::Stop(_) => return None,
+            NextPart::End(close) => return last_place(close, left),
+            NextPart::Stop(_) => return None,
         }
     }
 }
 
 // The place of a byte of a part.
-fn place_in(part: Part, index: u64) -> Option<u64>
-    requires { IsWithin part usize.MAX }
+fn place_in(part: SourcePart, index: u64) -> Option<u64>
+    requires { PartEndsBy part usize.MAX }
     ensures { result ≡ slice_get (part_places part.entry) index }
 {
     if index >= len_of(part) {
         return None;
     }
     match part {
-        Part::Run(_, at) => Some(at as u64 + index),
-        Part::Byte(_, at) => Some(at as u64),
+        SourcePart::Verbatim(_, at) => Some(at as u64 + index),
+        SourcePart::Byte(_, at) => Some(at as u64),
     }
 }
 
-fn len_of(part: Part) -> u64
+fn len_of(part: SourcePart) -> u64
     ensures { result ≡ length (part_places part.entry) }
 {
     match part {
-        Part::Run(run, _) => run.len() as u64,
-        Part::Byte(_, _) => 1,
+        SourcePart::Verbatim(verbatim, _) => verbatim.len() as u64,
+        SourcePart::Byte(_, _) => 1,
     }
 }
 
-// Behind the bytes stands the closing quote.
+// The place of the last closing quote, where no byte is left to pass over.
 fn last_place(close: usize, index: u64) -> Option<u64>
     ensures { MatchOption result (0 < index) (λ at. (index ≡ 0) × (at ≡ close)) }
 {
@@ -60,8 +60,8 @@ fn last_place(close: usize, index: u64) -> Option<u64>
 }
 
 // The place, if the rest of the text is not refused.
-fn if_whole(cursor: Cursor, source: &[u8], at: u64) -> Option<u64>
-    ensures { IsThere source.now cursor at result }
+fn if_accepted(cursor: Cursor, source: &[u8], at: u64) -> Option<u64>
+    ensures { IsFoundPlace source.now cursor at result }
 {
     match cursor.refusal(source) {
         Some(_) => None,

@@ -1,19 +1,19 @@
-//! The search for the end of a run of bytes that stand for themselves.
+//! The search for the end of a run of verbatim bytes: those that are themselves in a literal.
 ghost use Rattle.std.specs.Prelude.{◌≡◌, ◌+◌, ◌-◌, ◌<◌, ◌≤◌, true, length, slice_index, take, IsTrue};
-ghost use Rattle.pf_literals.specs.Runs.{IsRun, StandsRun, is_special};
+ghost use Rattle.pf_literals.specs.Verbatim.{IsVerbatim, IsVerbatimBetween, is_special};
 
 use std::simd::prelude::*;
 
 const LANES: usize = 16;
 
-// How many bytes the search goes on by, where there are so many.
+// How many bytes are tested at a time, where there are so many.
 const BLOCK: usize = 64;
 
-/// How many bytes at the front of a text stand for themselves, in a literal and as it is encoded.
+/// How many bytes at the front of a text are verbatim: themselves in a literal, read or written.
 #[inline(always)]
-pub(crate) fn run_len(text: &[u8]) -> usize
+pub(crate) fn verbatim_len(text: &[u8]) -> usize
     ensures within { result ≤ length text.now }
-    ensures run { IsRun (take result text.now) }
+    ensures verbatim { IsVerbatim (take result text.now) }
     ensures ended { result < length text.now → is_special (slice_index text.now result) ≡ true }
 {
     if text.is_empty() {
@@ -25,49 +25,49 @@ pub(crate) fn run_len(text: &[u8]) -> usize
     search(text)
 }
 
-// The same. It is never inlined, so that the search stands in the program once.
+// The same. It is never inlined, so that the program has the search only once.
 #[inline(never)]
 fn search(text: &[u8]) -> usize
     ensures within { result ≤ length text.now }
-    ensures run { IsRun (take result text.now) }
+    ensures verbatim { IsVerbatim (take result text.now) }
     ensures ended { result < length text.now → is_special (slice_index text.now result) ≡ true }
 {
     if text.len() < LANES {
-        return run_by_one(text);
+        return verbatim_len_bytewise(text);
     }
     let mut at = 0;
     while text.len() - at >= BLOCK {
-        if !is_run(text, at) {
-            return run_behind(text, at);
+        if !is_verbatim_block(text, at) {
+            return verbatim_len_from(text, at);
         }
         at += BLOCK;
     }
-    run_behind(text, at)
+    verbatim_len_from(text, at)
 }
 
-// Of a text whose first bytes are a run.
-fn run_behind(text: &[u8], seen: usize) -> usize
+// The same, where the first bytes are known to be verbatim.
+fn verbatim_len_from(text: &[u8], seen: usize) -> usize
     requires room { LANES ≤ length text.now }
     requires within { seen ≤ length text.now }
-    requires run { StandsRun text.now 0 seen }
+    requires verbatim { IsVerbatimBetween text.now 0 seen }
     ensures within { result ≤ length text.now }
-    ensures run { IsRun (take result text.now) }
+    ensures verbatim { IsVerbatim (take result text.now) }
     ensures ended { result < length text.now → is_special (slice_index text.now result) ≡ true }
 {
     let mut at = seen;
     while text.len() - at >= LANES {
-        let run = run_at(text, at);
-        if run < LANES {
-            return at + run;
+        let verbatim = verbatim_in_vector(text, at);
+        if verbatim < LANES {
+            return at + verbatim;
         }
         at += LANES;
     }
-    run_at_end(text, at)
+    verbatim_at_end(text, at)
 }
 
-fn run_by_one(text: &[u8]) -> usize
+fn verbatim_len_bytewise(text: &[u8]) -> usize
     ensures within { result ≤ length text.now }
-    ensures run { IsRun (take result text.now) }
+    ensures verbatim { IsVerbatim (take result text.now) }
     ensures ended { result < length text.now → is_special (slice_index text.now result) ≡ true }
 {
     let mut at = 0;
@@ -87,25 +87,26 @@ fn is_special(byte: u8) -> bool
     byte < b' ' || byte == 127 || byte == b'"' || byte == b'\\' || byte == b'?'
 }
 
-// Of a text whose first bytes are a run, all but the last few: the last vector overlaps those.
+// The same, where all but the last few bytes are known to be verbatim: the last vector overlaps
+// bytes that were tested.
 #[inline(always)]
-fn run_at_end(text: &[u8], seen: usize) -> usize
+fn verbatim_at_end(text: &[u8], seen: usize) -> usize
     requires room { LANES ≤ length text.now }
     requires few { length text.now - LANES ≤ seen }
-    requires run { StandsRun text.now 0 seen }
+    requires verbatim { IsVerbatimBetween text.now 0 seen }
     ensures within { result ≤ length text.now }
-    ensures run { IsRun (take result text.now) }
+    ensures verbatim { IsVerbatim (take result text.now) }
     ensures ended { result < length text.now → is_special (slice_index text.now result) ≡ true }
 {
     let at = text.len() - LANES;
-    at + run_at(text, at)
+    at + verbatim_in_vector(text, at)
 }
 
-// Whether a block is a run, by the tests of `run_at`.
+// Whether a block is verbatim, by the tests of `verbatim_in_vector`.
 #[inline(always)]
-fn is_run(text: &[u8], at: usize) -> bool
+fn is_verbatim_block(text: &[u8], at: usize) -> bool
     requires { at + BLOCK ≤ length text.now }
-    ensures { IsTrue result → StandsRun text.now at (at + BLOCK) }
+    ensures { IsTrue result → IsVerbatimBetween text.now at (at + BLOCK) }
 {
     let bytes = u8x64::from_slice(&text[at..]);
     let special = (bytes ^ u8x64::splat(2)).simd_lt(u8x64::splat(33))
@@ -114,12 +115,12 @@ fn is_run(text: &[u8], at: usize) -> bool
     special.to_bitmask() == 0
 }
 
-// How many bytes of a vector are of the run that begins it.
+// How many bytes at the front of a vector are verbatim.
 #[inline(always)]
-fn run_at(text: &[u8], at: usize) -> usize
+fn verbatim_in_vector(text: &[u8], at: usize) -> usize
     requires { at + LANES ≤ length text.now }
     ensures few { result ≤ LANES }
-    ensures run { StandsRun text.now at (at + result) }
+    ensures verbatim { IsVerbatimBetween text.now at (at + result) }
     ensures ended { result < LANES → is_special (slice_index text.now (at + result)) ≡ true }
 {
     let bytes = u8x16::from_slice(&text[at..]);

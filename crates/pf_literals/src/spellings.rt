@@ -2,7 +2,7 @@
 ghost use Rattle.std.specs.Prelude.{◌≡◌, false, ◌≤◌, ◌<◌, length, Option, Some, None};
 ghost use Rattle.pf_literals.specs.Elements.{written};
 ghost use Rattle.pf_literals.specs.Encoding.{element_by, element_for, is_printed, simple_letter};
-ghost use Rattle.pf_literals.specs.Spellings.{spelling_text};
+ghost use Rattle.pf_literals.specs.Spellings.{spelling_bytes};
 
 /// How a byte is written in a literal.
 #[derive(Clone, Copy, Debug, PartialEq, Eq)]
@@ -18,7 +18,7 @@ pub(crate) enum Spelling {
 impl Spelling {
     /// How a byte is written, behind a `?` or not.
     pub(crate) fn of(after: bool, byte: u8) -> Spelling
-        ensures { spelling_text result ≡ written (element_for after byte) }
+        ensures { spelling_bytes result ≡ written (element_for after byte) }
     {
         if !after {
             return of_byte(byte);
@@ -30,7 +30,7 @@ impl Spelling {
     }
 
     pub(crate) fn as_slice(&self) -> &[u8]
-        ensures { result.now ≡ spelling_text self.now }
+        ensures { result.now ≡ spelling_bytes self.now }
     {
         match self {
             Spelling::Plain(bytes) => bytes,
@@ -40,9 +40,9 @@ impl Spelling {
     }
 }
 
-// The same behind another byte than `?`.
+// How a byte is written that doesn't follow a `?`.
 fn of_byte(byte: u8) -> Spelling
-    ensures { spelling_text result ≡ written (element_for false byte) }
+    ensures { spelling_bytes result ≡ written (element_for false byte) }
 {
     match simple_letter(byte) {
         Some(letter) => Spelling::Simple([b'\\', letter]),
@@ -51,7 +51,7 @@ fn of_byte(byte: u8) -> Spelling
 }
 
 fn of_other(byte: u8) -> Spelling
-    ensures { spelling_text result ≡ written (element_by None byte) }
+    ensures { spelling_bytes result ≡ written (element_by None byte) }
 {
     if is_printed(byte) {
         return Spelling::Plain([byte]);

@@ -1,4 +1,4 @@
-//! What the calls answer, by rows from outside.
+//! What the calls return for rows from other sources.
 use crate::laws::{
     bytes_once, encoded_is_read, encoded_once, end_goes_on, kinds_in_order, never_both,
     places_once, read_or_refused, refused_for_good, refused_once,
@@ -186,7 +186,7 @@ fn each_byte_has_its_place(rt: HostRuntime) {
     places_once();
 }
 
-// Each byte but zero after another, so that all runs and escapes stand beside one another.
+// Each byte but zero after another, so that all runs and escapes come next to one another.
 #[test]
 fn all_bytes_are_read_back(rt: HostRuntime) -> Result<(), Fail> {
     let alloc = rt.alloc();

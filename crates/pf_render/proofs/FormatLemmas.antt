@@ -15,10 +15,10 @@ use Rattle.pf_text.specs.declared.pieces.Pieces.{Pieces}
 use Rattle.pf_text.specs.declared.refusal.Refusal.{Refusal}
 use Rattle.pf_text.specs.PieceHistory.{Gives, GivesNext, GivesPiece, HasGiven, IsPieceBefore, items_of}
 use Rattle.pf_text.proofs.Texts.{Reads-unique}
-use Rattle.pf_render.specs.declared.kept.Kept.{Kept}
-use Rattle.pf_render.specs.declared.kept.Part.{Part}
+use Rattle.pf_render.specs.declared.piece_cache.PieceCache.{PieceCache}
+use Rattle.pf_render.specs.declared.piece_cache.FormatPart.{FormatPart}
 use Rattle.pf_render.specs.declared.progress.Progress.{Progress}
-use Rattle.pf_render.specs.Keeping.{KeepsAll, items_of_part, items_of_parts}
+use Rattle.pf_render.specs.Caching.{CachesText, items_of_part, items_of_parts}
 use Rattle.pf_render.specs.Matching.{TakesArguments}
 use Rattle.pf_render.specs.Progressing.{WritesOn, arity, next_arguments}
 use Rattle.pf_render.specs.Rendering.{Renders, RendersTo}
@@ -48,16 +48,16 @@ module _ (model : Model) (t : Text) (args : List Arg) (h : TakesArguments model 
       (typed_items h.takes.items h.takes.accepted.reads) in
       (out.0, renders_items h.takes.items h.takes.accepted.reads out.0 out.1)
 
-  -- all its parts are kept
-  module _ (kept : Kept) (k : KeepsAll kept t) (whole : kept.is_whole ≡ true) where
-    pub typed_parts : HasTypes model (arguments args) (types model (items_of_parts kept.parts.items))
+  -- all its parts are cached
+  module _ (cache : PieceCache) (k : CachesText cache t) (whole : cache.is_complete ≡ true) where
+    pub typed_parts : HasTypes model (arguments args) (types model (items_of_parts cache.parts.items))
     typed_parts = subst (λ i. HasTypes model (arguments args) (types model i)) (sym (k.2.same whole)) (typed_items k.0 k.1)
 
-    pub renders_parts : (out : Text) → PrintsAll model (items_of_parts kept.parts.items) (arguments args) out → Renders model t args out
+    pub renders_parts : (out : Text) → PrintsAll model (items_of_parts cache.parts.items) (arguments args) out → Renders model t args out
     renders_parts out prints = renders_items k.0 k.1 out (subst (λ i. PrintsAll model i (arguments args) out) (k.2.same whole) prints)
 
 -- the part that comes next, and those after it
-pub next_part : (parts : List Part) (n : ℕ) (part : Part) → n < length parts → part ≡ get_or parts n part → items_of_parts (drop n parts) ≡ items_of_part part ++ items_of_parts (drop (n + 1) parts)
+pub next_part : (parts : List FormatPart) (n : ℕ) (part : FormatPart) → n < length parts → part ≡ get_or parts n part → items_of_parts (drop n parts) ≡ items_of_part part ++ items_of_parts (drop (n + 1) parts)
 next_part parts n part less e =
     let one_more : suc n ≡ n + 1 = omega arith in
     ap items_of_parts (drop-cons parts n part less ∙ ap (λ k. get_or parts n part ∷ drop k parts) one_more ∙ ap (λ p. p ∷ drop (n + 1) parts) (sym e))
@@ -122,7 +122,7 @@ module _ (model : Model) {W : Type 0} {contents : W → Known} {old : Counted W}
           g.refused.not_accepted (h.renders.takes.items, h.renders.takes.accepted)
 
       -- one more piece was given
-      module _ {piece : Piece} (is : r ≡ Ok piece) (part : Part) (same : items_of_part part ≡ items_of piece) where
+      module _ {piece : Piece} (is : r ≡ Ok piece) (part : FormatPart) (same : items_of_part part ≡ items_of piece) where
         pub piece_given : GivesPiece new t h.read h.items piece
         piece_given = subst (λ x. GivesNext (Some x) new t h.read h.items) is (steps.next t h.read h.items h.given)
 

@@ -1,4 +1,4 @@
--- How a tally goes on, and what it says at the end.
+-- The argument check after one more type, and what follows at the end.
 use Rattle.std.proofs.Common.{◌≡◌, ℕ, zero, suc, ◌+◌, ◌<◌, ◌≤◌, List, [], ◌∷◌, ◌++◌, length, map, take, refl, sym, ap, ◌∙◌, subst, arith, inl, inr, Ok, Err, None, Result, Some}
 use Rattle.std.specs.Prelude.{OnOk, slice_get}
 use Rattle.std.specs.List.{AllZip}
@@ -22,10 +22,10 @@ use Rattle.pf_text.specs.PieceHistory.{Gives, HasGiven, items_of}
 use Rattle.pf_values.proofs.ItemTypes.{types-append, types-bytes}
 use Rattle.pf_text.proofs.SignatureLemmas.{HasFound, all_found, more_given}
 use Rattle.pf_text.specs.Signatures as signatures
-use Rattle.pf_render.specs.declared.kept.Kept.{Kept}
-use Rattle.pf_render.specs.declared.argument_lists.Tally.{Tally}
-use Rattle.pf_render.specs.Keeping.{Keeps, KeepsAll}
-use Rattle.pf_render.specs.Matching.{IsOfTypeAt, TakesArguments, Tallies}
+use Rattle.pf_render.specs.declared.piece_cache.PieceCache.{PieceCache}
+use Rattle.pf_render.specs.declared.argument_lists.ArgumentCheck.{ArgumentCheck}
+use Rattle.pf_render.specs.Caching.{CachesItems, CachesText}
+use Rattle.pf_render.specs.Matching.{IsOfTypeAt, TakesArguments, HasChecked}
 use Rattle.pf_render.specs.Rendering.{HasWrongType, IsOfType}
 use Rattle.pf_render.proofs.ItemLemmas.{length_items}
 
@@ -94,9 +94,9 @@ no_types model (pieces.Directive d) other = absurd (other d refl)
 
 module _ (model : Model) (args : List Arg) (types : List ArgType) (type : ArgType) (matched : ℕ) where
   -- the argument that comes next is of the type that comes next
-  pub tallies_matched : (wanted : ℕ) → Tallies model (record { wanted = wanted; matched = matched }) args types → matched ≡ wanted → IsOfTypeAt model args matched type
-      → Tallies model (record { wanted = wanted + 1; matched = wanted + 1 }) args (types ++ type ∷ [])
-  tallies_matched wanted h e g =
+  pub checked_matched : (wanted : ℕ) → HasChecked model (record { wanted = wanted; matched = matched }) args types → matched ≡ wanted → IsOfTypeAt model args matched type
+      → HasChecked model (record { wanted = wanted + 1; matched = wanted + 1 }) args (types ++ type ∷ [])
+  checked_matched wanted h e g =
       let all : matched ≡ length types = e ∙ h.wanted_is in
       let count : wanted + 1 ≡ length (types ++ type ∷ []) = omega (arith, h.wanted_is, length_push types type) in
       let front : Match model (take (length types) args) types = subst (λ ts. Match model (take (length types) args) ts) (take_all (length types) types (omega arith)) (subst (λ n. Match model (take n args) (take n types)) all h.matching) in
@@ -109,9 +109,9 @@ module _ (model : Model) (args : List Arg) (types : List ArgType) (type : ArgTyp
       }
 
   -- it is not, or one before it was not
-  pub tallies_unmatched : (wanted : ℕ) → Tallies model (record { wanted = wanted; matched = matched }) args types → (matched ≡ wanted → IsOfTypeAt model args matched type → ⊥)
-      → Tallies model (record { wanted = wanted + 1; matched = matched }) args (types ++ type ∷ [])
-  tallies_unmatched wanted h other =
+  pub checked_unmatched : (wanted : ℕ) → HasChecked model (record { wanted = wanted; matched = matched }) args types → (matched ≡ wanted → IsOfTypeAt model args matched type → ⊥)
+      → HasChecked model (record { wanted = wanted + 1; matched = matched }) args (types ++ type ∷ [])
+  checked_unmatched wanted h other =
       record {
         wanted_is = omega (arith, h.wanted_is, length_push types type);
         within = omega (arith, h.within, length_push types type);
@@ -120,11 +120,11 @@ module _ (model : Model) (args : List Arg) (types : List ArgType) (type : ArgTyp
       }
 
 -- what so many arguments are, where the tally is of all types
-module _ (model : Model) (tally : Tally) (t : Text) (args : List Arg) (types : List ArgType) (h : Tallies model tally args types) (takes : signatures.TakesTypes model t types) (same : tally.wanted ≡ length args) where
-  pub wrong_type : (tally.matched ≡ tally.wanted → ⊥) → HasWrongType model t args tally.matched
+module _ (model : Model) (check : ArgumentCheck) (t : Text) (args : List Arg) (types : List ArgType) (h : HasChecked model check args types) (takes : signatures.TakesTypes model t types) (same : check.wanted ≡ length args) where
+  pub wrong_type : (check.matched ≡ check.wanted → ⊥) → HasWrongType model t args check.matched
   wrong_type less =
-      let arg = get_some args tally.matched (omega (arith, h.within, h.wanted_is)) in
-      let wanted = get_some types tally.matched (omega (arith, h.within, h.wanted_is)) in
+      let arg = get_some args check.matched (omega (arith, h.within, h.wanted_is)) in
+      let wanted = get_some types check.matched (omega (arith, h.within, h.wanted_is)) in
       record {
         types = types;
         takes = takes;
@@ -137,11 +137,11 @@ module _ (model : Model) (tally : Tally) (t : Text) (args : List Arg) (types : L
         wrong = λ is. h.wrong wanted.0 wanted.1 (arg.0, arg.1, is);
       }
 
-  pub all_matched : tally.matched ≡ tally.wanted → TakesArguments model t args
+  pub all_matched : check.matched ≡ check.wanted → TakesArguments model t args
   all_matched e =
-      let given = take_all tally.matched args (omega arith) in
-      let wanted = take_all tally.matched types (omega (arith, h.wanted_is)) in
-      let all : Match model args types = subst (λ ts. Match model args ts) wanted (subst (λ xs. Match model xs (take tally.matched types)) given h.matching) in
+      let given = take_all check.matched args (omega arith) in
+      let wanted = take_all check.matched types (omega (arith, h.wanted_is)) in
+      let all : Match model args types = subst (λ ts. Match model args ts) wanted (subst (λ xs. Match model xs (take check.matched types)) given h.matching) in
       let types_are = types_matched model args types all in
       record {
         takes = subst (signatures.TakesTypes model t) (sym types_are) takes;
@@ -153,36 +153,36 @@ length_types model [] = omega arith
 length_types model (Byte byte ∷ items) = omega (arith, length_types model items)
 length_types model (Directive s ∷ items) = omega (arith, length_types model items)
 
--- The pieces so far were given, the arguments are held to the types that they take, and their parts are kept.
-pub record IsChecked (model : Model) (pieces : Pieces) (t : Text) (args : List Arg) (tally : Tally) (kept : Kept) : Type 0 where
+-- The pieces so far were given, the arguments are checked against the types that they take, and their parts are cached.
+pub record IsChecked (model : Model) (pieces : Pieces) (t : Text) (args : List Arg) (check : ArgumentCheck) (cache : PieceCache) : Type 0 where
   pub types : List ArgType
   pub found : HasFound model pieces t types
-  pub tallies : Tallies model tally args types
-  pub keeps : Keeps kept found.items
+  pub checked : HasChecked model check args types
+  pub keeps : CachesItems cache found.items
 
 -- no piece was given yet
-pub none_checked : (model : Model) (pieces : Pieces) (t : Text) (args : List Arg) (kept : Kept) → HasGiven pieces t [] [] → Keeps kept [] → IsChecked model pieces t args (record { wanted = 0; matched = 0 }) kept
-none_checked model pieces t args kept given keeps =
+pub none_checked : (model : Model) (pieces : Pieces) (t : Text) (args : List Arg) (cache : PieceCache) → HasGiven pieces t [] [] → CachesItems cache [] → IsChecked model pieces t args (record { wanted = 0; matched = 0 }) cache
+none_checked model pieces t args cache given keeps =
     record {
       types = [];
       found = record { read = []; items = []; given = given; types_are = refl };
-      tallies = record { wanted_is = refl; within = omega arith; matching = tt; wrong = λ type is. cc };
+      checked = record { wanted_is = refl; within = omega arith; matching = tt; wrong = λ type is. cc };
       keeps = keeps;
     }
 
-module _ (model : Model) {before : Pieces} {t : Text} {args : List Arg} {tally : Tally} {kept : Kept} (h : IsChecked model before t args tally kept) where
+module _ (model : Model) {before : Pieces} {t : Text} {args : List Arg} {check : ArgumentCheck} {cache : PieceCache} (h : IsChecked model before t args check cache) where
   -- a text has few directives
   pub few_found : length h.types ≤ MAX_TEXT_LEN
   few_found = let found = h.found in omega (arith, ap length found.types_are, length_types model found.items, length_items found.read found.items found.given.reads, found.given.scanned.limit)
 
-  pub all_checked : {new : Pieces} → Gives before None new → signatures.TakesTypes model t h.types × KeepsAll kept t
+  pub all_checked : {new : Pieces} → Gives before None new → signatures.TakesTypes model t h.types × CachesText cache t
   all_checked {new} steps =
       let end = steps.next t h.found.read h.found.items h.found.given in
       (all_found model before new t h.types h.found steps, (h.found.items, end.reads, h.keeps))
 
-  module _ {new : Pieces} {r : Result Piece Refusal} (steps : Gives before (Some r) new) {piece : Piece} (is : r ≡ Ok piece) (after : Tally) (more : Kept) (keeps : Keeps more (h.found.items ++ items_of piece)) where
-    piece_checked : (wanted : List ArgType) → wanted ≡ types model (items_of piece) → Tallies model after args (h.types ++ wanted) → IsChecked model new t args after more
-    piece_checked wanted same tallies =
+  module _ {new : Pieces} {r : Result Piece Refusal} (steps : Gives before (Some r) new) {piece : Piece} (is : r ≡ Ok piece) (after : ArgumentCheck) (more : PieceCache) (keeps : CachesItems more (h.found.items ++ items_of piece)) where
+    piece_checked : (wanted : List ArgType) → wanted ≡ types model (items_of piece) → HasChecked model after args (h.types ++ wanted) → IsChecked model new t args after more
+    piece_checked wanted same checked =
         let found = h.found in
         let g = more_given model before new t h.types found r steps piece is in
         record {
@@ -193,15 +193,15 @@ module _ (model : Model) {before : Pieces} {t : Text} {args : List Arg} {tally :
             given = g.given;
             types_are = ap (λ f. f ++ wanted) found.types_are ∙ ap (λ m. types model found.items ++ m) same ∙ sym (types-append model found.items (items_of piece));
           };
-          tallies = tallies;
+          checked = checked;
           keeps = keeps;
         }
 
-    pub directive_checked : (d : Specification) (type : ArgType) → piece ≡ pieces.Directive d → type ≡ arg_type model d → Tallies model after args (h.types ++ type ∷ []) → IsChecked model new t args after more
-    directive_checked d type e same tallies = piece_checked (type ∷ []) (ap (λ x. x ∷ []) same ∙ sym (ap (λ p. types model (items_of p)) e)) tallies
+    pub directive_checked : (d : Specification) (type : ArgType) → piece ≡ pieces.Directive d → type ≡ arg_type model d → HasChecked model after args (h.types ++ type ∷ []) → IsChecked model new t args after more
+    directive_checked d type e same checked = piece_checked (type ∷ []) (ap (λ x. x ∷ []) same ∙ sym (ap (λ p. types model (items_of p)) e)) checked
 
-    pub other_checked : ((d : Specification) → piece ≡ pieces.Directive d → ⊥) → Tallies model after args h.types → IsChecked model new t args after more
-    other_checked other tallies = piece_checked [] (sym (no_types model piece other)) (subst (Tallies model after args) (sym (append-nil h.types)) tallies)
+    pub other_checked : ((d : Specification) → piece ≡ pieces.Directive d → ⊥) → HasChecked model after args h.types → IsChecked model new t args after more
+    other_checked other checked = piece_checked [] (sym (no_types model piece other)) (subst (HasChecked model after args) (sym (append-nil h.types)) checked)
 
 pub on_ok : {T E P : Type 0} (r : Result T E) → P → OnOk r P
 on_ok (Ok x) p = p

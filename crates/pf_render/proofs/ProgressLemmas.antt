@@ -15,9 +15,9 @@ use Rattle.pf_values.specs.Text.{Text}
 use Rattle.pf_values.proofs.ItemTypes.{types-append}
 use Rattle.pf_values.proofs.WriteLemmas.{WritesFirst-more}
 use Rattle.pf_render.specs.declared.faults.WriteFault.{WriteFault}
-use Rattle.pf_render.specs.declared.kept.Part.{Part}
+use Rattle.pf_render.specs.declared.piece_cache.FormatPart.{FormatPart}
 use Rattle.pf_render.specs.declared.progress.Progress.{Progress}
-use Rattle.pf_render.specs.Keeping.{directive_or_bytes, items_of_part}
+use Rattle.pf_render.specs.Caching.{directive_or_bytes, items_of_part}
 use Rattle.pf_render.specs.Progressing.{WritesOn, WritesPart, arity, next_arguments}
 use Rattle.pf_render.proofs.PrintingLemmas.{HasTypes-split, PrintsAll-bytes, PrintsAll-none, PrintsAll-split, PrintsAll-unique}
 
@@ -31,14 +31,14 @@ one_printed model s (a ∷ []) first out e h g = (out, [], subst (λ x. Prints m
 one_printed model s (a ∷ (b ∷ args)) first out e h g = absurd h.1
 
 -- what one part prints
-module _ (model : Model) (part : Part) (own : List Arg) (typed : HasTypes model (arguments own) (types model (items_of_part part))) where
-  pub bytes_printed : part.directive ≡ None → PrintsAll model (items_of_part part) (arguments own) part.run.now
+module _ (model : Model) (part : FormatPart) (own : List Arg) (typed : HasTypes model (arguments own) (types model (items_of_part part))) where
+  pub bytes_printed : part.directive ≡ None → PrintsAll model (items_of_part part) (arguments own) part.literal.now
   bytes_printed e =
-      subst (λ d. HasTypes model (arguments own) (types model (directive_or_bytes d part.run.now)) → PrintsAll model (directive_or_bytes d part.run.now) (arguments own) part.run.now) (sym e) (PrintsAll-bytes model part.run.now (arguments own)) typed
+      subst (λ d. HasTypes model (arguments own) (types model (directive_or_bytes d part.literal.now)) → PrintsAll model (directive_or_bytes d part.literal.now) (arguments own) part.literal.now) (sym e) (PrintsAll-bytes model part.literal.now (arguments own)) typed
 
   pub directive_printed : (s : Specification) (first : Arg) (out : Text) → part.directive ≡ Some s → first ≡ get_or own 0 first → Prints model s (argument_of first) out → PrintsAll model (items_of_part part) (arguments own) out
   directive_printed s first out e same h =
-      subst (λ d. HasTypes model (arguments own) (types model (directive_or_bytes d part.run.now)) → PrintsAll model (directive_or_bytes d part.run.now) (arguments own) out) (sym e) (λ t. one_printed model s own first out same t h) typed
+      subst (λ d. HasTypes model (arguments own) (types model (directive_or_bytes d part.literal.now)) → PrintsAll model (directive_or_bytes d part.literal.now) (arguments own) out) (sym e) (λ t. one_printed model s own first out same t h) typed
 
 -- The first items were written, for the first arguments. What all of them print is that, and what the others print.
 module _ (model : Model) {W : Type 0} (contents : W → Known) (old : Counted W) (args : List Arg) (out : Text) where
@@ -77,7 +77,7 @@ module _ (model : Model) {W : Type 0} {contents : W → Known} {old : Counted W}
         subst (WritesAll contents old now) (sym (h.split ∙ ap (λ b. h.front ++ b) back ∙ append-nil h.front)) h.wrote
 
     -- one more part is to be written
-    module _ (part : Part) (later : List Item) (others_are : others ≡ items_of_part part ++ later) where
+    module _ (part : FormatPart) (later : List Item) (others_are : others ≡ items_of_part part ++ later) where
       types_split : HasTypes model (take (arity model part) left) (types model (items_of_part part)) × HasTypes model (drop (arity model part) left) (types model later) × (arity model part ≤ length left)
       types_split = HasTypes-split model (types model (items_of_part part)) (types model later) left (subst (HasTypes model left) (ap (types model) others_are ∙ types-append model (items_of_part part) later) h.typed)
 

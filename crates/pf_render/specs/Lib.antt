@@ -4,5 +4,5 @@ pub mod Parts
 pub mod Counts
 pub mod Matching
 pub mod Rendering
-pub mod Keeping
+pub mod Caching
 pub mod Progressing

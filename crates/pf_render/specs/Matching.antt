@@ -8,7 +8,7 @@ use Rattle.pf_values.specs.Arg.{argument_of, type_of}
 use Rattle.pf_values.specs.Arguments.{HasTypes}
 use Rattle.pf_values.specs.Text.{Text}
 use Rattle.pf_text.specs.Signatures as signatures
-use Rattle.pf_render.specs.declared.argument_lists.Tally.{Tally}
+use Rattle.pf_render.specs.declared.argument_lists.ArgumentCheck.{ArgumentCheck}
 use Rattle.pf_render.specs.Rendering.{IsOfType}
 
 -- there is an argument with this number, and it is of a type
@@ -18,13 +18,13 @@ IsOfTypeAt model args index type =
 
 -- So many types are wanted. The first arguments are of them, and the next one is not, unless those
 -- are all. This project's own.
-pub record Tallies (model : Model) (tally : Tally) (args : List Arg)
+pub record HasChecked (model : Model) (check : ArgumentCheck) (args : List Arg)
     (types : List ArgType) : Type 0 where
-  pub wanted_is : tally.wanted ≡ length types
-  pub within : tally.matched ≤ length types
-  pub matching : AllZip (IsOfType model) (take tally.matched args) (take tally.matched types)
-  pub wrong : (type : ArgType) → slice_get types tally.matched ≡ Some type
-      → IsOfTypeAt model args tally.matched type → ⊥
+  pub wanted_is : check.wanted ≡ length types
+  pub within : check.matched ≤ length types
+  pub matching : AllZip (IsOfType model) (take check.matched args) (take check.matched types)
+  pub wrong : (type : ArgType) → slice_get types check.matched ≡ Some type
+      → IsOfTypeAt model args check.matched type → ⊥
 
 -- an accepted text takes just these arguments (C11 7.21.6.1 p2, p9)
 pub record TakesArguments (model : Model) (t : Text) (args : List Arg) : Type 0 where

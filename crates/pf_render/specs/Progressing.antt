@@ -10,16 +10,16 @@ use Rattle.pf_values.specs.Items.{types}
 use Rattle.pf_values.specs.Printing.{PrintsAll}
 use Rattle.pf_values.specs.Text.{Text}
 use Rattle.pf_render.specs.declared.faults.WriteFault.{WriteFault}
-use Rattle.pf_render.specs.declared.kept.Part.{Part}
+use Rattle.pf_render.specs.declared.piece_cache.FormatPart.{FormatPart}
 use Rattle.pf_render.specs.declared.progress.Progress.{Progress}
-use Rattle.pf_render.specs.Keeping.{items_of_part}
+use Rattle.pf_render.specs.Caching.{items_of_part}
 
 -- how many arguments a part takes
-abbrev pub arity : Model → Part → ℕ
+abbrev pub arity : Model → FormatPart → ℕ
 arity model part = length (types model (items_of_part part))
 
 -- the arguments that a part takes, after those that were taken before
-abbrev pub next_arguments : Model → Progress → Part → List Arg → List Argument
+abbrev pub next_arguments : Model → Progress → FormatPart → List Arg → List Argument
 next_arguments model progress part args =
     map argument_of (take (arity model part) (drop progress.taken args))
 
@@ -31,7 +31,7 @@ module _ {W : Type 0} (contents : W → Known) (old new : Counted W) (before aft
     pub written : after.written ≡ before.written + length out
     pub taken : after.taken ≡ before.taken + count
 
-  -- only the first bytes of it, of which the fault tells how many there are with those before
+  -- only its first bytes went out, and the fault has their number, with those before
   pub record WritesPart (out : Text) (fault : WriteFault) : Type 0 where
     pub count : ℕ
     pub wrote : WritesFirst contents old new out count
@@ -46,7 +46,7 @@ module _ {W : Type 0} (contents : W → Known) (old new : Counted W) (before aft
 module _ (model : Model) {W : Type 0} (contents : W → Known) (old new : Counted W)
     (before after : Progress) where
   -- what the part prints goes out, all of it or its first bytes
-  abbrev pub WritesNext : Part → List Arg → Result (Unit {0}) WriteFault → Type 0
+  abbrev pub WritesNext : FormatPart → List Arg → Result (Unit {0}) WriteFault → Type 0
   WritesNext part args result =
       (out : Text)
       × PrintsAll model (items_of_part part) (next_arguments model before part args) out

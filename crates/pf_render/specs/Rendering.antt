@@ -96,8 +96,8 @@ HindersVec model t args (vec_faults.WrongType index) =
 HindersVec model t args vec_faults.Memory = RendersTo model t args (λ out. out ≢ [])
 
 -- the fault of a call that renders into memory: there a write fails only where a growth is refused
-abbrev pub in_memory : RenderFault → RenderVecFault
-in_memory (faults.Refused refusal) = vec_faults.Refused refusal
-in_memory (faults.WrongCount wanted given) = vec_faults.WrongCount wanted given
-in_memory (faults.WrongType index) = vec_faults.WrongType index
-in_memory (faults.Write written) = vec_faults.Memory
+abbrev pub memory_fault : RenderFault → RenderVecFault
+memory_fault (faults.Refused refusal) = vec_faults.Refused refusal
+memory_fault (faults.WrongCount wanted given) = vec_faults.WrongCount wanted given
+memory_fault (faults.WrongType index) = vec_faults.WrongType index
+memory_fault (faults.Write written) = vec_faults.Memory

@@ -1,4 +1,4 @@
--- How many zeros stand before the digits of a number.
+-- How many zeros come before the digits of a number.
 use Rattle.std.specs.Prelude.{ℕ, ◌+◌, ◌-◌, max, ◌&&◌, if◌then◌else◌}
 use Rattle.pf_values.specs.declared.flags.Flag.TheVariants.{Alt}
 use Rattle.pf_values.specs.Conversions.{is_octal}

@@ -5,30 +5,29 @@ ghost use Rattle.pf_values.specs.declared.models.Model.{Model};
 ghost use Rattle.pf_values.specs.declared.types.ArgType.{ArgType};
 ghost use Rattle.pf_values.specs.Text.{Text};
 ghost use Rattle.pf_text.specs.Signatures.{TakesTypes};
-ghost use Rattle.pf_render.specs.Keeping.{Keeps, KeepsAll};
-ghost use Rattle.pf_render.specs.Matching.{IsOfTypeAt, TakesArguments, Tallies};
+ghost use Rattle.pf_render.specs.Caching.{CachesItems, CachesText};
+ghost use Rattle.pf_render.specs.Matching.{IsOfTypeAt, TakesArguments, HasChecked};
 ghost use Rattle.pf_render.specs.Rendering.{HindersRender, IsOfType};
 
 use crate::faults::RenderFault;
-use crate::kept::Kept;
+use crate::piece_cache::PieceCache;
 use pf_text::{Piece, Pieces};
 use pf_values::{Arg, ArgType, Model};
 
-/// Whether the text is a format that takes these arguments. Its pieces are kept, if they aren't too
-/// many.
+/// Whether the text is a format that takes these arguments. Its first pieces are cached.
 #[inline(never)]
 pub(crate) fn check_arguments<'a>(
     model: Model,
     text: &'a [u8],
     args: &[Arg<'_>],
-    kept: &mut Kept<'a>,
+    cache: &mut PieceCache<'a>,
 ) -> Result<(), RenderFault>
-    requires { Keeps kept.old [] }
+    requires { CachesItems cache.old [] }
     ensures matched { MatchResult result (λ _. TakesArguments model text.now args.now)
         (HindersRender model text.now args.now) }
-    ensures kept { OnOk result (KeepsAll kept.new text.now) }
+    ensures cache { OnOk result (CachesText cache.new text.now) }
 {
-    let mut tally = Tally {
+    let mut check = ArgumentCheck {
         wanted: 0,
         matched: 0,
     };
@@ -37,48 +36,48 @@ pub(crate) fn check_arguments<'a>(
             Ok(piece) => piece,
             Err(refusal) => return Err(RenderFault::Refused(refusal)),
         };
-        // It is kept in each arm, where it is known which part it makes.
+        // The piece is cached in each arm, since there the prover knows which part it makes.
         match piece {
             Piece::Directive(directive) => {
-                kept.push(&piece);
-                tally = tally.with(model, directive.arg_type(model), args);
+                cache.push(&piece);
+                check = check.with_next(model, directive.arg_type(model), args);
             }
-            _ => kept.push(&piece),
+            _ => cache.push(&piece),
         }
     }
-    tally.judge(args.len())
+    check.conclude(args.len())
 }
 
-// How many arguments the directives so far take, and how many of those that are given have their
-// types, before the first one that has not.
+// How many arguments the directives so far take (`wanted`), and how many of the given arguments
+// have the wanted types, up to the first one that has another (`matched`).
 #[derive(Clone, Copy)]
-struct Tally {
+struct ArgumentCheck {
     wanted: usize,
     matched: usize,
 }
 
-impl Tally {
-    // The tally with one more directive, which takes an argument of this type.
-    fn with(self, model: Model, wanted: ArgType, args: &[Arg<'_>]) -> Tally
+impl ArgumentCheck {
+    // The check after one more directive, which takes an argument of this type.
+    fn with_next(self, model: Model, wanted: ArgType, args: &[Arg<'_>]) -> ArgumentCheck
         requires few { self.wanted ≤ MAX_TEXT_LEN }
-        ensures { (types : List ArgType) → Tallies model self args.now types
-            → Tallies model result args.now (types ++ wanted ∷ []) }
+        ensures { (types : List ArgType) → HasChecked model self args.now types
+            → HasChecked model result args.now (types ++ wanted ∷ []) }
     {
         let count = self.wanted + 1;
-        if self.goes_on(model, wanted, args) {
-            return Tally {
+        if self.next_matches(model, wanted, args) {
+            return ArgumentCheck {
                 wanted: count,
                 matched: count,
             };
         }
-        Tally {
+        ArgumentCheck {
             wanted: count,
             matched: self.matched,
         }
     }
 
     // Whether the arguments so far all have their types, and the next one has this type.
-    fn goes_on(self, model: Model, wanted: ArgType, args: &[Arg<'_>]) -> bool
+    fn next_matches(self, model: Model, wanted: ArgType, args: &[Arg<'_>]) -> bool
         ensures yes { IsTrue result
             → (self.matched ≡ self.wanted) × IsOfTypeAt model args.now self.matched wanted }
         ensures other { IsFalse result → self.matched ≡ self.wanted
@@ -87,11 +86,11 @@ impl Tally {
         self.matched == self.wanted && is_of_type_at(model, args, self.matched, wanted)
     }
 
-    // What is wrong with so many arguments.
-    fn judge(self, given: usize) -> Result<(), RenderFault>
+    // Whether so many arguments are as many as the directives take, each of its type.
+    fn conclude(self, given: usize) -> Result<(), RenderFault>
         ensures { (model : Model) (t : Text) (args : List Arg) (types : List ArgType)
             → given ≡ length args
-            → TakesTypes model t types → Tallies model self args types
+            → TakesTypes model t types → HasChecked model self args types
             → MatchResult result (λ _. TakesArguments model t args) (HindersRender model t args) }
     {
         if self.wanted != given {

@@ -31,8 +31,8 @@ pub fn render_one<W: Write>(
     Ok(())
 }
 
-/// The same, and tells how many bytes were written.
-// Never inlined, so that a run of literal bytes is written without what this sets up.
+/// Writes the same, and returns how many bytes that were.
+// Never inlined, so that literal bytes are written without the setup of this function.
 #[inline(never)]
 pub(crate) fn write_argument<W: Write>(
     model: Model,

@@ -1,16 +1,24 @@
-//! Fields: texts with spaces up to a width.
-ghost use Rattle.std.specs.Prelude.{◌≡◌, ◌+◌, ◌++◌, ◌<◌, ◌^◌, length};
+//! Fields: texts with spaces up to a width; runs of spaces and zeros.
+ghost use Rattle.std.specs.Prelude.{◌≡◌, ◌+◌, ◌++◌, ◌<◌, ◌^◌, length, ◌≤◌, replicate};
 ghost use Rattle.pf_render.specs.Counts.{WritesCounted};
 ghost use Rattle.pf_render.specs.Parts.{join};
 ghost use Rattle.pf_values.specs.Printing.{field, padding};
 ghost use Rattle.pf_values.specs.Specification.{width_of};
+ghost use Rattle.pf_values.specs.Text.{space, zero_digit};
 
-use crate::blocks::spaces;
+use pf_values::limits::MAX_NUMBER;
 use pf_values::{Counted, Directive, Flag, ShortWrite, write_bytes};
 use std::io::Write;
 
+// The longest run that a width or a precision asks for.
+const LONGEST: usize = MAX_NUMBER as usize;
+
+static SPACES: [u8; LONGEST] = [b' '; LONGEST];
+
+static ZEROS: [u8; LONGEST] = [b'0'; LONGEST];
+
 /// Writes a text of three parts in the field of the directive (C11 7.21.6.1, paragraph 4), and
-/// tells how many bytes that were.
+/// returns how many bytes that were.
 #[inline(always)]
 pub(crate) fn write_field<'a, W: Write>(
     directive: &Directive,
@@ -30,7 +38,7 @@ pub(crate) fn write_field<'a, W: Write>(
     write_three(directive, first, second, third, writer)
 }
 
-// The same, however many bytes each part has.
+// Does the same, however many bytes each part has.
 #[inline(never)]
 fn write_three<'a, W: Write>(
     directive: &Directive,
@@ -53,7 +61,7 @@ fn write_three<'a, W: Write>(
     }
 }
 
-/// Writes a text of one part in the field of the directive, and tells how many bytes that were.
+/// Writes a text of one part in the field of the directive, and returns how many bytes that were.
 #[inline(always)]
 pub(crate) fn write_text<W: Write>(
     directive: &Directive,
@@ -65,12 +73,12 @@ pub(crate) fn write_text<W: Write>(
 {
     let width = usize::from(directive.width().unwrap_or(0));
     if width <= text.len() {
-        return write_run(text, writer);
+        return write_counted(text, writer);
     }
     write_filled(directive, spaces(width - text.len()), text, writer)
 }
 
-// Writes a text in the field of the directive, which fills it up with these spaces.
+// Writes a text and these spaces, which fill up the field of the directive.
 #[inline(never)]
 fn write_filled<W: Write>(
     directive: &Directive,
@@ -98,11 +106,11 @@ fn write_two<W: Write>(
     requires { length (first.now ++ second.now) < 2 ^ 64 }
     ensures { WritesCounted W.contents writer.old writer.new (first.now ++ second.now) result }
 {
-    let before = match write_run(first, writer) {
+    let before = match write_counted(first, writer) {
         Ok(count) => count,
         Err(short) => return Err(short),
     };
-    match write_run(second, writer) {
+    match write_counted(second, writer) {
         Ok(count) => Ok(before + count),
         Err(short) => Err(ShortWrite {
             written: before + short.written,
@@ -110,13 +118,16 @@ fn write_two<W: Write>(
     }
 }
 
-/// Writes bytes, and tells how many they are.
+/// Writes bytes, and returns how many they are.
 #[inline(always)]
-pub(crate) fn write_run<W: Write>(run: &[u8], writer: &mut Counted<W>) -> Result<usize, ShortWrite>
-    ensures { WritesCounted W.contents writer.old writer.new run.now result }
+pub(crate) fn write_counted<W: Write>(
+    bytes: &[u8],
+    writer: &mut Counted<W>,
+) -> Result<usize, ShortWrite>
+    ensures { WritesCounted W.contents writer.old writer.new bytes.now result }
 {
-    match write_bytes(writer, run) {
-        Ok(()) => Ok(run.len()),
+    match write_bytes(writer, bytes) {
+        Ok(()) => Ok(bytes.len()),
         Err(short) => Err(short),
     }
 }
@@ -136,4 +147,20 @@ fn write_parts<W: Write>(parts: &[&[u8]], writer: &mut Counted<W>) -> Result<usi
         written += part.len();
     }
     Ok(written)
+}
+
+/// A run of so many spaces.
+pub(crate) fn spaces<'a>(count: usize) -> &'a [u8]
+    requires { count ≤ LONGEST }
+    ensures { result.now ≡ replicate count space }
+{
+    &SPACES[..count]
+}
+
+/// A run of so many digits 0.
+pub(crate) fn zeros(count: usize) -> &'static [u8]
+    requires { count ≤ LONGEST }
+    ensures { result.now ≡ replicate count zero_digit }
+{
+    &ZEROS[..count]
 }

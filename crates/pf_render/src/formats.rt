@@ -6,13 +6,13 @@ ghost use Rattle.pf_values.specs.Counting.{WritesUpTo};
 ghost use Rattle.pf_values.specs.Items.{types};
 ghost use Rattle.pf_values.specs.Printing.{PrintsAll};
 ghost use Rattle.pf_values.specs.Text.{Text};
-ghost use Rattle.pf_render.specs.Keeping.{KeepsAll, items_of_parts, most_parts};
+ghost use Rattle.pf_render.specs.Caching.{CachesText, items_of_parts, max_cached_parts};
 ghost use Rattle.pf_render.specs.Matching.{TakesArguments};
 ghost use Rattle.pf_render.specs.Rendering.{RendersInto, RendersTo};
 
 use crate::argument_lists::check_arguments;
 use crate::faults::{RenderFault, WriteFault};
-use crate::kept::{Kept, Part};
+use crate::piece_cache::{FormatPart, PieceCache};
 use crate::progress::Progress;
 use pf_text::Pieces;
 use pf_values::{Arg, Counted, Model};
@@ -31,9 +31,9 @@ pub fn render<W: Write>(
 ) -> Result<(), RenderFault>
     ensures { RendersInto model W.contents writer.old writer.new text.now args.now result }
 {
-    let mut kept = Kept::new();
-    check_arguments(model, text, args, &mut kept)?;
-    write_checked(model, text, &kept, args, writer)?;
+    let mut cache = PieceCache::new();
+    check_arguments(model, text, args, &mut cache)?;
+    write_checked(model, text, &cache, args, writer)?;
     Ok(())
 }
 
@@ -41,31 +41,31 @@ pub fn render<W: Write>(
 fn write_checked<W: Write>(
     model: Model,
     text: &[u8],
-    kept: &Kept<'_>,
+    cache: &PieceCache<'_>,
     args: &[Arg<'_>],
     writer: &mut Counted<W>,
 ) -> Result<(), WriteFault>
     requires takes { TakesArguments model text.now args.now }
-    requires kept { KeepsAll kept.now text.now }
+    requires cache { CachesText cache.now text.now }
     ensures { RendersTo model text.now args.now
         (λ out. WritesUpTo W.contents writer.old writer.new out (λ fault. fault.written) result) }
 {
-    if kept.is_whole {
-        write_kept(model, kept.parts.as_slice(), args, writer)
+    if cache.is_complete {
+        write_cached(model, cache.parts.as_slice(), args, writer)
     } else {
         write_pieces(model, text, args, writer)
     }
 }
 
-// Writes what the parts that are kept print.
+// Writes what cached parts print.
 #[inline(never)]
-fn write_kept<W: Write>(
+fn write_cached<W: Write>(
     model: Model,
-    parts: &[Part<'_>],
+    parts: &[FormatPart<'_>],
     args: &[Arg<'_>],
     writer: &mut Counted<W>,
 ) -> Result<(), WriteFault>
-    requires few { length parts.now ≤ most_parts }
+    requires few { length parts.now ≤ max_cached_parts }
     requires typed { HasTypes model (map argument_of args.now)
         (types model (items_of_parts parts.now)) }
     ensures { (out : Text)
@@ -79,7 +79,7 @@ fn write_kept<W: Write>(
     Ok(())
 }
 
-// Writes the same of a format with more pieces than are kept, and reads it again for that.
+// Writes the same of a format with more pieces than the cache holds: it is read once more.
 #[inline(never)]
 fn write_pieces<W: Write>(
     model: Model,
@@ -97,7 +97,7 @@ fn write_pieces<W: Write>(
             Ok(piece) => piece,
             Err(_) => unreachable!(),
         };
-        progress.write(model, &Part::of(&piece), args, writer)?;
+        progress.write(model, &FormatPart::of(&piece), args, writer)?;
     }
     Ok(())
 }

@@ -9,8 +9,8 @@ ghost use Rattle.pf_values.specs.Text.{Text};
 ghost use Rattle.pf_render.specs.Counts.{WritesCounted};
 ghost use Rattle.pf_render.specs.Zeros.{fewest_digits, zeros_for};
 
-use crate::blocks;
 use crate::digits::{MAX_DIGITS, write_digits_of};
+use crate::fields;
 use crate::fields::write_field;
 use crate::values::Value;
 use pf_values::{Alternative, Base, Counted, Directive, Flag, Kind, Model, ShortWrite};
@@ -32,7 +32,7 @@ pub(crate) fn write_integer<W: Write>(
     let start = write_digits_of(value.size(), directive.conv().kind(), &mut buf);
     let (_, digits) = buf.split_at(start);
     let sign = sign_or_prefix(directive, &value);
-    let zeros = blocks::zeros(zero_count(directive, sign.len(), digits.len()));
+    let zeros = fields::zeros(zero_count(directive, sign.len(), digits.len()));
     write_field(directive, sign, zeros, digits, writer)
 }
 
@@ -76,7 +76,7 @@ fn prefix(directive: &Directive, value: &Value, base: Base, capitals: bool) -> &
     }
 }
 
-// How many zeros stand before so many digits.
+// How many zeros come before so many digits.
 fn zero_count(directive: &Directive, sign_len: usize, count: usize) -> usize
     requires sign { sign_len ≤ 2 }
     requires digits { count ≤ MAX_DIGITS }

@@ -2,16 +2,15 @@
 #![tactic(auto)]
 
 mod argument_lists;
-mod blocks;
 mod digits;
 mod directives;
 mod faults;
 mod fields;
 mod formats;
-mod in_memory;
 mod integers;
-mod kept;
+mod piece_cache;
 mod progress;
+mod rendered_vec;
 #[cfg(test)]
 mod tests;
 mod texts;
@@ -20,4 +19,4 @@ mod values;
 pub use directives::render_one;
 pub use faults::{RenderFault, RenderVecFault, WriteFault};
 pub use formats::render;
-pub use in_memory::render_vec;
+pub use rendered_vec::render_vec;

@@ -6,13 +6,13 @@ ghost use Rattle.pf_values.specs.Items.{types};
 ghost use Rattle.pf_values.specs.Printing.{PrintsAll};
 ghost use Rattle.pf_values.specs.Text.{Text};
 ghost use Rattle.pf_render.specs.Counts.{WritesCounted};
-ghost use Rattle.pf_render.specs.Keeping.{items_of_part};
+ghost use Rattle.pf_render.specs.Caching.{items_of_part};
 ghost use Rattle.pf_render.specs.Progressing.{WritesNext, next_arguments};
 
 use crate::directives::write_argument;
 use crate::faults::WriteFault;
-use crate::fields::write_run;
-use crate::kept::Part;
+use crate::fields::write_counted;
+use crate::piece_cache::FormatPart;
 use pf_values::{Arg, Counted, Model, ShortWrite};
 use std::io::Write;
 
@@ -41,7 +41,7 @@ impl Progress {
     pub(crate) fn write<W: Write>(
         &mut self,
         model: Model,
-        part: &Part<'_>,
+        part: &FormatPart<'_>,
         args: &[Arg<'_>],
         writer: &mut Counted<W>,
     ) -> Result<(), WriteFault>
@@ -68,11 +68,11 @@ impl Progress {
     }
 }
 
-// Writes what a part prints for its own arguments, and tells how many bytes that were.
+// Writes what a part prints for its own arguments, and returns how many bytes that were.
 #[inline(always)]
 fn write_part<W: Write>(
     model: Model,
-    part: &Part<'_>,
+    part: &FormatPart<'_>,
     own: &[Arg<'_>],
     writer: &mut Counted<W>,
 ) -> Result<usize, ShortWrite>
@@ -83,6 +83,6 @@ fn write_part<W: Write>(
 {
     match part.directive {
         Some(directive) => write_argument(model, &directive, own[0], writer),
-        None => write_run(part.run, writer),
+        None => write_counted(part.literal, writer),
     }
 }

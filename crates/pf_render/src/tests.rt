@@ -1,5 +1,5 @@
-//! What directives and formats print. It was told by others: the C standard's readers, test suites of other
-//! programs, and two C libraries.
+//! What directives and formats print. The expected texts are from elsewhere: worked out from the C
+//! standard, from test suites of other programs, and from two C libraries.
 
 use crate::{WriteFault, render, render_one, render_vec};
 use pf_text::{Piece, Pieces, signature};
@@ -59,7 +59,7 @@ fn write_number<W: Write>(
     }
 }
 
-// The argument of a type that a word stands for: a number after `n:`, or a string after `s:`.
+// The argument of a type that a word gives: a number after `n:`, or a string after `s:`.
 fn argument(word: &'static str, arg_type: ArgType) -> Option<Arg<'static>> {
     if let Some(text) = word.strip_prefix("s:") {
         return Some(Arg::Str(CBytes::new(text.as_bytes())?));
@@ -68,7 +68,7 @@ fn argument(word: &'static str, arg_type: ArgType) -> Option<Arg<'static>> {
     number_of(arg_type, digits.parse::<i128>().ok()?)
 }
 
-// The arguments that words with `¦` between them stand for, as many as the format takes.
+// The arguments that words with `¦` between them give, as many as the format takes.
 fn arguments(
     alloc: Global,
     format: &[u8],

@@ -5,7 +5,7 @@ use Rattle.std.specs.List.{AllByRecursion}
 use Rattle.std.proofs.lemmas.Bool.{eqb-true, cases_eq, ne_eqb}
 use Rattle.std.proofs.lemmas.Bool.Decides.{nat_tests}
 use Rattle.pf_signatures.specs.declared.fetches.Fetch.{Fetch}
-use Rattle.pf_signatures.specs.declared.parts.Style.TheVariants.{Undecided}
+use Rattle.pf_signatures.specs.declared.partial_specification.Numbering.TheVariants.{Undecided}
 use Rattle.pf_signatures.specs.declared.types.ArgumentType.{ArgumentType}
 use Rattle.pf_signatures.specs.declared.types.ArgumentType.TheVariants.{Int}
 use Rattle.pf_signatures.specs.declared.types.TheConstants.ArgumentType.{ALL as all_types}
@@ -13,7 +13,7 @@ use Rattle.pf_signatures.specs.Kinds.{type_number}
 use Rattle.pf_signatures.specs.Readings.{conflicts, differs, differs_at}
 use Rattle.pf_signatures.specs.Refusals.{AreAgreed, Follows, IsOneType, style_by, style_of}
 
--- a type is told by its number
+-- types of equal numbers are equal
 number_tells : (type : ArgumentType) → slice_get all_types (type_number type - 1) ≡ Some type
 number_tells Int = refl
 number_tells _ = refl
@@ -84,7 +84,7 @@ pub conflicts_not : (seen : List Fetch) (f : Fetch) → AllByRecursion (IsOneTyp
 conflicts_not [] f h = refl
 conflicts_not (g ∷ seen) f h = let one = differs_not g f (turned f g h.0) in rw one (conflicts_not seen f h.1)
 
--- the style of what was fetched goes on
+-- the style of what was fetched stays
 pub style_push : (seen : List Fetch) (f : Fetch) → Follows (style_of seen) (Some (style_by f.number)) → style_of (seen ++ f ∷ []) ≡ style_by f.number
 style_push [] f h = refl
 style_push (g ∷ seen) f (inr h) = h

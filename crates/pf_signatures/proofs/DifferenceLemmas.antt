@@ -1,4 +1,4 @@
--- Where two lists differ, of which the first types stand in slices.
+-- Where two lists differ, of which slices hold the first types.
 use Rattle.std.proofs.Common.{◌≡◌, ◌≢◌, ℕ, zero, suc, ◌+◌, ◌<◌, ◌≤◌, List, [], ◌∷◌, length, get_or, refl, sym, ap, ◌∙◌, arith, subst, inl, inr}
 use Rattle.std.specs.Prelude.{Option, Some, None, ◌⊎◌, slice_get}
 use Rattle.std.proofs.lemmas.Bool.{cases_eq}
@@ -10,7 +10,7 @@ use Rattle.pf_signatures.specs.declared.tables.TheConstants.{ROOM}
 use Rattle.pf_signatures.specs.declared.types.ArgumentType.{ArgumentType}
 use Rattle.pf_signatures.specs.declared.types.ArgumentType.TheVariants.{Int}
 use Rattle.pf_signatures.specs.Kinds.{type_number}
-use Rattle.pf_signatures.specs.Laws.{Compares, HasCount, IsFirstDifference, filled}
+use Rattle.pf_signatures.specs.Laws.{ComparesArgumentTypes, HasCount, IsFirstDifference, filled}
 use Rattle.pf_signatures.specs.Steps.{AreFew}
 use Rattle.pf_signatures.proofs.Agreeing.{same_type}
 use Rattle.pf_signatures.proofs.OrderLemmas.{length_filled}
@@ -49,7 +49,7 @@ one_longer a b n h other x y (inl full) =
 one_longer a b n h other x y (inr full) =
     (λ e. let no : Some (get_or a n Int) ≡ None = sym (slice_get-get_or a n Int (omega (arith, x, y, full, other))) ∙ e ∙ slice_get_past b n full in cc, h)
 
--- what the numbers of two types tell
+-- what follows from the numbers of two types
 module _ (types others start from a b : List ArgumentType) (k : ℕ) (c d : ArgumentType) (x y : ℕ) (e : types ≡ filled start a) (f : others ≡ filled from b) (long : length types ≡ ROOM) (long2 : length others ≡ ROOM) (room : k < ROOM) (less : k < length a) (less2 : k < length b)
     (p : x ≡ type_number (get_or types k c)) (q : y ≡ type_number (get_or others k d)) where
   at_a : slice_get a k ≡ Some (get_or types k c)
@@ -77,9 +77,9 @@ pub over_lists : (count beside k m n : ℕ) → count ≡ m → beside ≡ n →
 over_lists count beside k m n x y (inl over) = inl (omega (arith, x, over))
 over_lists count beside k m n x y (inr over) = inr (omega (arith, y, over))
 
--- what slices of two texts tell
+-- what follows from the slices of two texts
 pub compared : (model : Model) (first second : Text) (old new old2 new2 : List ArgumentType) (count beside : ℕ) (result : Option ℕ) → HasCount model first old new count → HasCount model second old2 new2 beside → AreFew model first second
-    → ((a b start from : List ArgumentType) → new ≡ filled start a → new2 ≡ filled from b → count ≡ length a → beside ≡ length b → (length a ≤ ROOM) ⊎ (length b ≤ ROOM) → IsFirstDifference a b result) → Compares model first second result
+    → ((a b start from : List ArgumentType) → new ≡ filled start a → new2 ≡ filled from b → count ≡ length a → beside ≡ length b → (length a ≤ ROOM) ⊎ (length b ≤ ROOM) → IsFirstDifference a b result) → ComparesArgumentTypes model first second result
 compared model first second old new old2 new2 count beside result h k few f =
     record {
       types = h.types;

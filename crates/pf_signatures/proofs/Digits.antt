@@ -8,11 +8,12 @@ use Rattle.std.proofs.lemmas.List.{length_push, map_push}
 use Rattle.pf_values.specs.declared.limits.TheConstants.{MAX_NUMBER}
 use Rattle.pf_values.specs.Digits.{AreDigits, AreLeastDigits, place_sum}
 use Rattle.pf_values.specs.Text.{Text}
-use Rattle.pf_signatures.specs.declared.parts.Slot.{Slot}
-use Rattle.pf_signatures.specs.declared.parts.Slot.TheVariants.{Width, Precision}
+use Rattle.pf_text.specs.States.{is_digit}
+use Rattle.pf_signatures.specs.declared.partial_specification.WidthOrPrecision.{WidthOrPrecision}
+use Rattle.pf_signatures.specs.declared.partial_specification.WidthOrPrecision.TheVariants.{Width, Precision}
 use Rattle.pf_signatures.specs.Fronts.{SpellsDigits}
-use Rattle.pf_signatures.specs.Letters.{is_digit, is_first_digit}
-use Rattle.pf_signatures.specs.Spelling.{SpellsNumber}
+use Rattle.pf_signatures.specs.Letters.{is_first_digit}
+use Rattle.pf_signatures.specs.Spelling.{SpellsPositive}
 
 carried : (x q p b d : ℕ) → x * (q * b) + (p * b + d) ≡ (x * q + p) * b + d
 carried x q p b d = grind arith
@@ -57,7 +58,7 @@ glyph_push : (ds : List ℕ) (byte : ℕ) → is_digit byte ≡ true → map (di
 glyph_push ds byte d = let digit = digit_of byte d in ap (λ b. map (digit_glyph false) ds ++ b ∷ []) (sym digit.1) ∙ sym (map_push (digit_glyph false) ds (byte - 48))
 
 -- one more digit of a number
-pub number_push : (t : Text) (n byte : ℕ) → is_digit byte ≡ true → 10 * n + (byte - 48) ≤ MAX_NUMBER → SpellsNumber t n → SpellsNumber (t ++ byte ∷ []) (10 * n + (byte - 48))
+pub number_push : (t : Text) (n byte : ℕ) → is_digit byte ≡ true → 10 * n + (byte - 48) ≤ MAX_NUMBER → SpellsPositive t n → SpellsPositive (t ++ byte ∷ []) (10 * n + (byte - 48))
 number_push t n byte d few h =
     let digit = digit_of byte d in
     let ds = h.numeral.0 in
@@ -71,14 +72,14 @@ pub is_some_digit : (byte : ℕ) → is_first_digit byte ≡ true → (is_digit 
 is_some_digit byte h = (grind (arith, nat_tests), grind (arith, nat_tests))
 
 -- the first one
-pub number_one : (byte : ℕ) → is_first_digit byte ≡ true → SpellsNumber (byte ∷ []) (byte - 48)
+pub number_one : (byte : ℕ) → is_first_digit byte ≡ true → SpellsPositive (byte ∷ []) (byte - 48)
 number_one byte h =
     let first = is_some_digit byte h in
     let digit = digit_of byte first.0 in
     record { some = first.1; numeral = ((byte - 48) ∷ [], one_digit (byte - 48) first.1 digit.0, ap (λ b. b ∷ []) (sym digit.1)); within = omega (arith, digit.0) }
 
 -- digits of a precision
-pub digits_more : (slot : Slot) (t : Text) (n byte : ℕ) → is_digit byte ≡ true → 10 * n + (byte - 48) ≤ MAX_NUMBER → SpellsDigits slot t n → SpellsDigits slot (t ++ byte ∷ []) (10 * n + (byte - 48))
+pub digits_more : (slot : WidthOrPrecision) (t : Text) (n byte : ℕ) → is_digit byte ≡ true → 10 * n + (byte - 48) ≤ MAX_NUMBER → SpellsDigits slot t n → SpellsDigits slot (t ++ byte ∷ []) (10 * n + (byte - 48))
 digits_more Width t n byte d few h = number_push t n byte d few h
 digits_more Precision t n byte d few h =
     let digit = digit_of byte d in

@@ -9,7 +9,7 @@ pub mod Bounds
 pub mod TypeLists
 pub mod Telling
 pub mod WalkLemmas
-pub mod BareLemmas
+pub mod TwoByteLemmas
 pub mod OrderLemmas
 pub mod TableLemmas
 pub mod Running

@@ -5,13 +5,13 @@ use Rattle.std.specs.List.{AllByRecursion}
 use Rattle.pf_values.specs.declared.models.Model.{Model}
 use Rattle.pf_values.specs.Text.{Text}
 use Rattle.pf_signatures.specs.declared.fetches.Fetch.{Fetch}
-use Rattle.pf_signatures.specs.declared.kinds.SignatureRefusalKind.{SignatureRefusalKind}
-use Rattle.pf_signatures.specs.declared.parts.Style.TheVariants.{Undecided, Unnumbered}
+use Rattle.pf_signatures.specs.declared.refusals.SignatureRefusalKind.{SignatureRefusalKind}
+use Rattle.pf_signatures.specs.declared.partial_specification.Numbering.TheVariants.{Undecided, Unnumbered}
 use Rattle.pf_signatures.specs.declared.types.ArgumentType.{ArgumentType}
 use Rattle.pf_signatures.specs.Items.{HasArguments}
 use Rattle.pf_signatures.specs.Laws.{filled}
-use Rattle.pf_signatures.specs.Readings.{Fault, Fetches, Reading, Whole, conflicts, differs, reading, settled, verdict, wanted}
-use Rattle.pf_signatures.specs.Refusals.{Follows, IsRefusedAt, style_by}
+use Rattle.pf_signatures.specs.Readings.{Fault, Fetches, FetchTrace, Whole, conflicts, differs, fetch_trace, verdict_after, verdict, wanted_types}
+use Rattle.pf_signatures.specs.Refusals.{Follows, IsPosixRefusedAt, style_by}
 use Rattle.pf_signatures.specs.Types.{fetch}
 use Rattle.pf_signatures.proofs.Agreeing.{all_push}
 use Rattle.pf_signatures.proofs.Bounds.{reading_bounded}
@@ -20,8 +20,8 @@ use Rattle.pf_signatures.proofs.Telling.{accepted, told_taken}
 use Rattle.pf_signatures.proofs.Within.{IsBounded}
 
 -- what was fetched has no numbers, and what is left is read so
-pub record IsInOrder (model : Model) (t : Text) (seen : List Fetch) (left : Reading) : Type 0 where
-  pub verdict_is : verdict model t ≡ settled seen left
+pub record IsInOrder (model : Model) (t : Text) (seen : List Fetch) (left : FetchTrace) : Type 0 where
+  pub verdict_is : verdict model t ≡ verdict_after seen left
   pub unnumbered : AllByRecursion (λ f. f.number ≡ None) seen
   pub bounded : IsBounded Unnumbered left
 
@@ -34,30 +34,30 @@ pub no_conflict : (seen : List Fetch) (f : Fetch) → AllByRecursion (λ f. f.nu
 no_conflict [] f h = refl
 no_conflict (g ∷ seen) f h = let none : differs g f ≡ false = rw (h.0) refl in rw none (no_conflict seen f h.1)
 
-pub first_in_order : (model : Model) (t : Text) (type : ArgumentType) (at : ℕ) (left : Reading) → reading model t ≡ Fetches (fetch None type) at left → IsInOrder model t (fetch None type ∷ []) left
+pub first_in_order : (model : Model) (t : Text) (type : ArgumentType) (at : ℕ) (left : FetchTrace) → fetch_trace model t ≡ Fetches (fetch None type) at left → IsInOrder model t (fetch None type ∷ []) left
 first_in_order model t type at left e =
     let bounded = subst (IsBounded Undecided) e (reading_bounded model t) in
-    record { verdict_is = ap (settled []) e; unnumbered = (refl, tt); bounded = bounded.2 }
+    record { verdict_is = ap (verdict_after []) e; unnumbered = (refl, tt); bounded = bounded.2 }
 
-module _ (model : Model) (t : Text) (seen : List Fetch) (old : Reading) (h : IsInOrder model t seen old) where
-  pub next_in_order : (f : Fetch) (at : ℕ) (left : Reading) → old ≡ Fetches f at left → IsInOrder model t (seen ++ f ∷ []) left
+module _ (model : Model) (t : Text) (seen : List Fetch) (old : FetchTrace) (h : IsInOrder model t seen old) where
+  pub next_in_order : (f : Fetch) (at : ℕ) (left : FetchTrace) → old ≡ Fetches f at left → IsInOrder model t (seen ++ f ∷ []) left
   next_in_order f at left e =
       let bounded = subst (IsBounded Unnumbered) e h.bounded in
       let none = no_number f.number bounded.1 in
       let clear = no_conflict seen f h.unnumbered in
       record {
-        verdict_is = h.verdict_is ∙ ap (settled seen) e ∙ rw clear refl;
+        verdict_is = h.verdict_is ∙ ap (verdict_after seen) e ∙ rw clear refl;
         unnumbered = all_push (λ g. g.number ≡ None) seen f h.unnumbered none;
         bounded = subst (λ o. IsBounded (style_by o) left) none bounded.2;
       }
 
-  pub end_in_order : old ≡ Whole → HasArguments model t (wanted seen)
+  pub end_in_order : old ≡ Whole → HasArguments model t (wanted_types seen)
   end_in_order e =
-      let taken = told_taken model t seen (h.verdict_is ∙ ap (settled seen) e) in
-      accepted model t seen taken (wanted seen) (inl (record { unnumbered = h.unnumbered; types_are = refl }))
+      let taken = told_taken model t seen (h.verdict_is ∙ ap (verdict_after seen) e) in
+      accepted model t seen taken (wanted_types seen) (inl (record { unnumbered = h.unnumbered; types_are = refl }))
 
-  pub stop_in_order : (kind : SignatureRefusalKind) (at : ℕ) → old ≡ Fault kind at → IsRefusedAt model t kind at
-  stop_in_order kind at e = subst (Tells model t) (h.verdict_is ∙ ap (settled seen) e) (told model t)
+  pub stop_in_order : (kind : SignatureRefusalKind) (at : ℕ) → old ≡ Fault kind at → IsPosixRefusedAt model t kind at
+  stop_in_order kind at e = subst (Tells model t) (h.verdict_is ∙ ap (verdict_after seen) e) (told model t)
 
 -- the places of a slice
 pub length_filled : (old types : List ArgumentType) → length (filled old types) ≡ length old
@@ -80,8 +80,8 @@ filled_full (o ∷ old) [] more full = absurd (omega arith)
 filled_full (o ∷ old) (t ∷ types) more full = ap (λ l. t ∷ l) (filled_full old types more (omega (arith, full)))
 
 -- a text that fetches nothing, or is refused before
-pub no_arguments : (model : Model) (t : Text) → reading model t ≡ Whole → HasArguments model t []
-no_arguments model t e = accepted model t [] (told_taken model t [] (ap (settled []) e)) [] (inl (record { unnumbered = tt; types_are = refl }))
+pub no_arguments : (model : Model) (t : Text) → fetch_trace model t ≡ Whole → HasArguments model t []
+no_arguments model t e = accepted model t [] (told_taken model t [] (ap (verdict_after []) e)) [] (inl (record { unnumbered = tt; types_are = refl }))
 
-pub refused_first : (model : Model) (t : Text) (kind : SignatureRefusalKind) (at : ℕ) → reading model t ≡ Fault kind at → IsRefusedAt model t kind at
-refused_first model t kind at e = subst (Tells model t) (ap (settled []) e) (told model t)
+pub refused_first : (model : Model) (t : Text) (kind : SignatureRefusalKind) (at : ℕ) → fetch_trace model t ≡ Fault kind at → IsPosixRefusedAt model t kind at
+refused_first model t kind at e = subst (Tells model t) (ap (verdict_after []) e) (told model t)

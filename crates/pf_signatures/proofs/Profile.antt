@@ -21,13 +21,13 @@ use Rattle.pf_values.specs.Specification.{Specification as ProfileSpecification}
 use Rattle.pf_values.specs.Spelling.{Spells, SpellsPrecision, SpellsWidth as SpellsProfileWidth}
 use Rattle.pf_values.specs.Text.{Text}
 use Rattle.pf_signatures.specs.declared.conversions.Conversion.TheVariants.{Profile}
-use Rattle.pf_signatures.specs.declared.conversions.Modifier.TheVariants.{Plain}
+use Rattle.pf_signatures.specs.declared.conversions.Modifier.TheVariants.{Integer}
 use Rattle.pf_signatures.specs.declared.types.ArgumentType.{ArgumentType}
-use Rattle.pf_signatures.specs.Defined.{IsDefined}
-use Rattle.pf_signatures.specs.Items.{Byte, HasArguments, IsReadAs, Reads, Specification, WholeItem, fetched}
-use Rattle.pf_signatures.specs.Laws.{Compares}
-use Rattle.pf_signatures.specs.Specifications.{Amount, Given, WholeSpecification}
-use Rattle.pf_signatures.specs.Spelling.{SpellsAmount, SpellsWhole, SpellsWidth}
+use Rattle.pf_signatures.specs.Defined.{IsPosixDefined}
+use Rattle.pf_signatures.specs.Items.{Byte, HasArguments, SpellsPosixItem, ReadsPosix, Specification, PosixItem, fetched}
+use Rattle.pf_signatures.specs.Laws.{ComparesArgumentTypes}
+use Rattle.pf_signatures.specs.Specifications.{Amount, Given, PosixSpecification}
+use Rattle.pf_signatures.specs.Spelling.{SpellsPosixPrecision, SpellsPosix, SpellsPosixWidth}
 use Rattle.pf_signatures.specs.Types.{fetch, fetches, kind_type, star_fetches, widened}
 
 abbrev given : Option ℕ → Option Amount
@@ -35,10 +35,10 @@ given None = None
 given (Some n) = Some (Given n)
 
 -- a directive of the profile
-abbrev pub whole_of : ProfileSpecification → WholeSpecification
-whole_of s = record { position = None; flags = s.flags; width = given s.width; precision = given s.precision; modifier = Plain s.length; conversion = Profile s.conv }
+abbrev pub whole_of : ProfileSpecification → PosixSpecification
+whole_of s = record { position = None; flags = s.flags; width = given s.width; precision = given s.precision; modifier = Integer s.length; conversion = Profile s.conv }
 
-abbrev item_of : Item → WholeItem
+abbrev item_of : Item → PosixItem
 item_of (ProfileByte byte) = Byte byte
 item_of (Directive s) = Specification (whole_of s)
 
@@ -77,7 +77,7 @@ module _ (s : ProfileSpecification) (h : IsProfileDefined s) where
   some_given None = refl
   some_given (Some n) = refl
 
-  defined_here : IsDefined (whole_of s)
+  defined_here : IsPosixDefined (whole_of s)
   defined_here =
       let wide = all.1.1.0 in
       let alt = turned (has_alternative_form s.conv) (has s.flags Alt) all.1.1.1.0 in
@@ -91,15 +91,15 @@ module _ (s : ProfileSpecification) (h : IsProfileDefined s) where
 few : (n : ℕ) → is_above_limit (Some n) ≡ false → n ≤ MAX_NUMBER
 few n e = grind (arith, nat_tests)
 
-width_spelled : (t : Text) (width : Option ℕ) → SpellsProfileWidth t width → is_above_limit width ≡ false → SpellsWidth t None (given width)
+width_spelled : (t : Text) (width : Option ℕ) → SpellsProfileWidth t width → is_above_limit width ≡ false → SpellsPosixWidth t None (given width)
 width_spelled t None h e = h
 width_spelled t (Some n) h e = record { some = h.0; numeral = h.1; within = few n e }
 
-precision_spelled : (t : Text) (precision : Option ℕ) → SpellsPrecision t precision → is_above_limit precision ≡ false → SpellsAmount t None (given precision)
+precision_spelled : (t : Text) (precision : Option ℕ) → SpellsPrecision t precision → is_above_limit precision ≡ false → SpellsPosixPrecision t None (given precision)
 precision_spelled t None h e = h
 precision_spelled t (Some n) h e = (h, few n e)
 
-spelled_here : (t : Text) (s : ProfileSpecification) → Spells t s → IsProfileDefined s → SpellsWhole t (whole_of s)
+spelled_here : (t : Text) (s : ProfileSpecification) → Spells t s → IsProfileDefined s → SpellsPosix t (whole_of s)
 spelled_here t s h d =
     let flags = 37 ∷ map flag_byte h.flags in
     let limits = all s d in
@@ -121,11 +121,11 @@ spelled_here t s h d =
       whole = h.whole;
     }
 
-read_here : (t : Text) (item : Item) → IsProfileReadAs t item → IsReadAs t (item_of item)
+read_here : (t : Text) (item : Item) → IsProfileReadAs t item → SpellsPosixItem t (item_of item)
 read_here t (ProfileByte byte) h = h
 read_here t (Directive s) h = (spelled_here t s h.0 h.1, defined_here s h.1)
 
-reads_here : (t : Text) (items : List Item) → ProfileReads t items → Reads t (map item_of items)
+reads_here : (t : Text) (items : List Item) → ProfileReads t items → ReadsPosix t (map item_of items)
 reads_here t [] h = h
 reads_here t (item ∷ items) h = (h.0, h.1, read_here h.0 item h.2, reads_here h.1 items h.3, h.4)
 
@@ -170,7 +170,7 @@ profile_types model t items h =
       });
     }
 
-pub profile_fits : (model : Model) (t u : Text) → IsAccepted t → IsAccepted u → AreEquivalent model t u → Compares model t u None
+pub profile_fits : (model : Model) (t u : Text) → IsAccepted t → IsAccepted u → AreEquivalent model t u → ComparesArgumentTypes model t u None
 profile_fits model t u a b e =
     record {
       types = map widened (types model e.first);

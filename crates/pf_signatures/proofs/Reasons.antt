@@ -8,30 +8,32 @@ use Rattle.pf_values.specs.declared.flags.FlagSet.{FlagSet}
 use Rattle.pf_values.specs.declared.lengths.Length.TheVariants as lengths
 use Rattle.pf_values.specs.declared.limits.TheConstants.{MAX_NUMBER}
 use Rattle.pf_values.specs.declared.models.Model.{Model}
+use Rattle.pf_text.specs.Letters.{flag_of}
+use Rattle.pf_text.specs.States.{is_digit}
 use Rattle.pf_signatures.specs.declared.conversions.Conversion.{Conversion}
 use Rattle.pf_signatures.specs.declared.conversions.Modifier.{Modifier}
-use Rattle.pf_signatures.specs.declared.conversions.Modifier.TheVariants.{Plain, LongDouble}
+use Rattle.pf_signatures.specs.declared.conversions.Modifier.TheVariants.{Integer, LongDouble}
 use Rattle.pf_signatures.specs.declared.fetches.Fetch.{Fetch}
-use Rattle.pf_signatures.specs.declared.kinds.SignatureRefusalKind.{SignatureRefusalKind}
-use Rattle.pf_signatures.specs.declared.kinds.SignatureRefusalKind.TheVariants.{NulByte, Unexpected, BadPercent, AltUndefined, ZeroUndefined, GroupUndefined, PrecisionUndefined, LengthUndefined, Mixed, CountUndefined}
-use Rattle.pf_signatures.specs.declared.parts.Parts.{Parts}
-use Rattle.pf_signatures.specs.declared.parts.Slot.{Slot}
-use Rattle.pf_signatures.specs.declared.parts.Slot.TheVariants.{Width, Precision}
-use Rattle.pf_signatures.specs.declared.parts.Style.{Style}
-use Rattle.pf_signatures.specs.declared.parts.Style.TheVariants.{Undecided, Unnumbered, Numbered}
-use Rattle.pf_signatures.specs.Defined.{breaks, undefined_as}
-use Rattle.pf_signatures.specs.Letters.{conversion_of, flag_of, is_digit, is_first_digit, modifier_of}
-use Rattle.pf_signatures.specs.Refusals.{FetchesStar, IsBegun, IsInside, IsMixed, IsTooLarge, MixesStar, too_large}
-use Rattle.pf_signatures.specs.Stages.{State, Between, Opened, First, Flags, Digits, Star, StarDigits, Placed, Point, Modified}
-use Rattle.pf_signatures.specs.States.{Next, after_amount, after_first, after_flags, after_modifier, after_numbers, after_percent, after_star, dollar_after, end_at, end_by, flag_or_after, judgement, modifier_or_end, next, parts_at, star_at, stray, with_digit, with_width}
-use Rattle.pf_signatures.specs.Types.{fetch, type_of}
+use Rattle.pf_signatures.specs.declared.refusals.SignatureRefusalKind.{SignatureRefusalKind}
+use Rattle.pf_signatures.specs.declared.refusals.SignatureRefusalKind.TheVariants.{NulByte, Unexpected, BadPercent, AltUndefined, ZeroUndefined, GroupUndefined, PrecisionUndefined, LengthUndefined, Mixed, CountUndefined}
+use Rattle.pf_signatures.specs.declared.partial_specification.PartialSpecification.{PartialSpecification}
+use Rattle.pf_signatures.specs.declared.partial_specification.WidthOrPrecision.{WidthOrPrecision}
+use Rattle.pf_signatures.specs.declared.partial_specification.WidthOrPrecision.TheVariants.{Width, Precision}
+use Rattle.pf_signatures.specs.declared.partial_specification.Numbering.{Numbering}
+use Rattle.pf_signatures.specs.declared.partial_specification.Numbering.TheVariants.{Undecided, Unnumbered, Numbered}
+use Rattle.pf_signatures.specs.Defined.{is_undefined_as, undefined_as}
+use Rattle.pf_signatures.specs.Letters.{conversion_of, is_first_digit, length_modifier_of}
+use Rattle.pf_signatures.specs.Refusals.{FetchesStar, IsInSpecification, IsPastPercent, IsMixed, IsNumberTooLarge, MixesStar, too_large}
+use Rattle.pf_signatures.specs.Stages.{PosixState, Between, Opened, First, Flags, Digits, Star, StarDigits, Placed, Point, Modified}
+use Rattle.pf_signatures.specs.States.{PosixStep, after_amount, after_first, among_flags, after_modifier_letter, after_numbers, after_percent, after_star, dollar_after, conversion_at, conversion_by, flag_or_width, judgement, modifier_or_conversion, posix_step, parts_at, star_at, stray, with_digit, with_width}
+use Rattle.pf_signatures.specs.Types.{fetch, conversion_type}
 use Rattle.pf_signatures.proofs.Judging.{is_undefined_kind}
 use Rattle.pf_text.proofs.Sound.{find_holds}
 
 -- an undefined specification gives a kind of its own
 pub undefined_kind : (set : FlagSet) (width precision : Bool) (modifier : Modifier) (conversion : Conversion) (kind : SignatureRefusalKind) → undefined_as set width precision modifier conversion ≡ Some kind → is_undefined_kind kind ≡ true
-undefined_kind set width precision modifier conversion kind e = go kind (find_holds (breaks set width precision modifier conversion) (AltUndefined ∷ ZeroUndefined ∷ GroupUndefined ∷ PrecisionUndefined ∷ LengthUndefined ∷ CountUndefined ∷ []) kind e) where
-  go : (kind : SignatureRefusalKind) → breaks set width precision modifier conversion kind ≡ true → is_undefined_kind kind ≡ true
+undefined_kind set width precision modifier conversion kind e = go kind (find_holds (is_undefined_as set width precision modifier conversion) (AltUndefined ∷ ZeroUndefined ∷ GroupUndefined ∷ PrecisionUndefined ∷ LengthUndefined ∷ CountUndefined ∷ []) kind e) where
+  go : (kind : SignatureRefusalKind) → is_undefined_as set width precision modifier conversion kind ≡ true → is_undefined_kind kind ≡ true
   go AltUndefined e = refl
   go ZeroUndefined e = refl
   go GroupUndefined e = refl
@@ -56,116 +58,116 @@ other_byte byte k e some other = (grind (arith, nat_tests), grind (arith, nat_te
 unequal : (byte k : ℕ) → (byte == k) ≡ false → byte ≢ k
 unequal byte k e = grind (arith, nat_tests)
 
-module _ (model : Model) (style : Style) (state : State) (byte : ℕ) where
-  -- why a byte is refused that is neither zero nor `%`, but for where it could stand
+module _ (model : Model) (style : Numbering) (state : PosixState) (byte : ℕ) where
+  -- why a byte is refused that is neither zero nor `%`, but for where it is allowed
   abbrev pub Reason : SignatureRefusalKind → Type 0
-  Reason kind = ((kind ≡ Mixed) × IsMixed state style byte) ⊎ IsTooLarge state byte kind ⊎ (is_undefined_kind kind ≡ true) ⊎ (kind ≡ Unexpected)
+  Reason kind = ((kind ≡ Mixed) × IsMixed state style byte) ⊎ IsNumberTooLarge state byte kind ⊎ (is_undefined_kind kind ≡ true) ⊎ (kind ≡ Unexpected)
 
   -- by what an argument is fetched
-  abbrev pub Fetching : State → Fetch → Type 0
+  abbrev pub Fetching : PosixState → Fetch → Type 0
   Fetching to f = IsOther byte × ((f.number ≡ None) ⊎ FetchesStar state byte f ⊎ (to ≡ Between))
 
-  abbrev pub Went : State → Option Fetch → Type 0
-  Went Between None = IsBegun state → (byte == 37) ≡ true
+  abbrev pub Went : PosixState → Option Fetch → Type 0
+  Went Between None = IsInSpecification state → (byte == 37) ≡ true
   Went to None = ⊤
   Went to (Some f) = Fetching to f
 
-  abbrev pub Why : Next → Type 0
+  abbrev pub Why : PosixStep → Type 0
   Why (Ok p) = Went p.0 p.1
-  Why (Err kind) = MatchBool (byte == 0) (kind ≡ NulByte) (MatchBool (byte == 37) ((kind ≡ BadPercent) × IsInside state) (Reason kind))
+  Why (Err kind) = MatchBool (byte == 0) (kind ≡ NulByte) (MatchBool (byte == 37) ((kind ≡ BadPercent) × IsPastPercent state) (Reason kind))
 
-  choose : (c : Bool) (x y : Next) → (c ≡ true → Why x) → (c ≡ false → Why y) → Why (if c then x else y)
+  choose : (c : Bool) (x y : PosixStep) → (c ≡ true → Why x) → (c ≡ false → Why y) → Why (if c then x else y)
   choose true x y f g = f refl
   choose false x y f g = g refl
 
   why_kind : (kind : SignatureRefusalKind) → IsOther byte → Reason kind → Why (Err kind)
   why_kind kind other r = let zero = other.0 in let percent = other.1 in rw (zero, percent) r
 
-  why_stray : (kind : SignatureRefusalKind) → Reason kind → ((byte == 37) ≡ true → IsInside state) → Why (Err (stray byte kind))
+  why_stray : (kind : SignatureRefusalKind) → Reason kind → ((byte == 37) ≡ true → IsPastPercent state) → Why (Err (stray byte kind))
   why_stray kind r inside = go (byte == 0) refl (byte == 37) refl where
     go : (z : Bool) → (byte == 0) ≡ z → (p : Bool) → (byte == 37) ≡ p → Why (Err (stray byte kind))
     go true e p f = rw e refl
     go false e true f = rw (e, f) (refl, inside f)
     go false e false f = rw (e, f) r
 
-  why_digit : (slot : Slot) (st : ℕ → State) (n : ℕ) → is_digit byte ≡ true → (MAX_NUMBER < 10 * n + (byte - 48) → IsTooLarge state byte (too_large slot)) → Went (st (10 * n + (byte - 48))) None → Why (with_digit slot st n (byte - 48))
+  why_digit : (slot : WidthOrPrecision) (st : ℕ → PosixState) (n : ℕ) → is_digit byte ≡ true → (MAX_NUMBER < 10 * n + (byte - 48) → IsNumberTooLarge state byte (too_large slot)) → Went (st (10 * n + (byte - 48))) None → Why (with_digit slot st n (byte - 48))
   why_digit slot st n d large small = choose (nat_lt MAX_NUMBER (10 * n + (byte - 48))) _ _ (λ e. why_kind (too_large slot) (other_digit byte d) (inr (inl (large (grind (arith, nat_tests)))))) (λ _. small)
 
-  module _ (inside : (byte == 37) ≡ true → IsInside state) (parts : Parts) where
-    why_end : (modifier : Modifier) → Why (end_at model parts modifier byte)
+  module _ (inside : (byte == 37) ≡ true → IsPastPercent state) (parts : PartialSpecification) where
+    why_end : (modifier : Modifier) → Why (conversion_at model parts modifier byte)
     why_end modifier = go (conversion_of byte) refl where
-      judged : (conversion : Conversion) (o : Option SignatureRefusalKind) → conversion_of byte ≡ Some conversion → undefined_as parts.flags parts.width parts.precision modifier conversion ≡ o → Why (judgement o (fetch parts.position (type_of model modifier conversion)))
+      judged : (conversion : Conversion) (o : Option SignatureRefusalKind) → conversion_of byte ≡ Some conversion → undefined_as parts.flags parts.width parts.precision modifier conversion ≡ o → Why (judgement o (fetch parts.position (conversion_type model modifier conversion)))
       judged conversion None c u = (other_letter byte conversion c, inr (inr refl))
       judged conversion (Some kind) c u = why_kind kind (other_letter byte conversion c) (inr (inr (inl (undefined_kind parts.flags parts.width parts.precision modifier conversion kind u))))
 
-      go : (o : Option Conversion) → conversion_of byte ≡ o → Why (end_by model parts modifier byte o)
+      go : (o : Option Conversion) → conversion_of byte ≡ o → Why (conversion_by model parts modifier byte o)
       go None c = why_stray Unexpected (inr (inr (inr refl))) inside
       go (Some conversion) c = judged conversion _ c refl
 
     why_numbers : Why (after_numbers model parts byte)
-    why_numbers = go (modifier_of byte) where
-      go : (o : Option Modifier) → Why (modifier_or_end model parts byte o)
-      go None = why_end (Plain lengths.None)
+    why_numbers = go (length_modifier_of byte) where
+      go : (o : Option Modifier) → Why (modifier_or_conversion model parts byte o)
+      go None = why_end (Integer lengths.None)
       go (Some modifier) = tt
 
-    why_amount : (slot : Slot) → Why (after_amount model slot parts byte)
+    why_amount : (slot : WidthOrPrecision) → Why (after_amount model slot parts byte)
     why_amount Width = choose (byte == 46) _ _ (λ _. tt) (λ _. why_numbers)
     why_amount Precision = why_numbers
 
-    why_star_at : (slot : Slot) (number : Option ℕ) → (byte == 42) ≡ true → Why (star_at slot parts number)
+    why_star_at : (slot : WidthOrPrecision) (number : Option ℕ) → (byte == 42) ≡ true → Why (star_at slot parts number)
     why_star_at slot None e = (other_byte byte 42 e (omega arith) refl, inl refl)
     why_star_at slot (Some n) e = tt
 
-  why_flags : ((byte == 37) ≡ true → IsInside state) → (parts : Parts) → Why (after_flags model parts byte)
+  why_flags : ((byte == 37) ≡ true → IsPastPercent state) → (parts : PartialSpecification) → Why (among_flags model parts byte)
   why_flags inside parts = go (flag_of byte) where
-    go : (o : Option Flag) → Why (flag_or_after model parts byte o)
+    go : (o : Option Flag) → Why (flag_or_width model parts byte o)
     go (Some flag) = tt
     go None = choose (is_digit byte) _ _ (λ _. tt) (λ _. choose (byte == 42) _ _ (why_star_at inside (with_width parts) Width parts.position) (λ _. why_amount inside parts Width))
 
-module _ (model : Model) (style : Style) (byte : ℕ) where
-  why_percent : (known : Style) → style ≡ known → (byte == 37) ≡ false → Why model style Opened byte (after_percent model known byte)
+module _ (model : Model) (style : Numbering) (byte : ℕ) where
+  why_percent : (known : Numbering) → style ≡ known → (byte == 37) ≡ false → Why model style Opened byte (after_percent model known byte)
   why_percent known s p = go known s where
-    outside : (byte == 37) ≡ true → IsInside Opened
+    outside : (byte == 37) ≡ true → IsPastPercent Opened
     outside e = let both : true ≡ false = sym e ∙ p in cc
 
-    go : (known : Style) → style ≡ known → Why model style Opened byte (after_percent model known byte)
+    go : (known : Numbering) → style ≡ known → Why model style Opened byte (after_percent model known byte)
     go Numbered s = choose model style Opened byte (is_first_digit byte) _ _ (λ _. tt) (λ f. why_stray model style Opened byte Mixed (inl (refl, (s, f))) outside)
     go Unnumbered s = choose model style Opened byte (is_first_digit byte) _ _ (λ _. tt) (λ _. why_flags model style Opened byte outside (parts_at None))
     go Undecided s = choose model style Opened byte (is_first_digit byte) _ _ (λ _. tt) (λ _. why_flags model style Opened byte outside (parts_at None))
 
-  why_first : (n : ℕ) → Why model style (First n) byte (next model style (First n) byte)
+  why_first : (n : ℕ) → Why model style (First n) byte (posix_step model style (First n) byte)
   why_first n = choose model style (First n) byte (is_digit byte) _ _ (λ d. why_digit model style (First n) byte Width First n d (λ l. ((d, l), refl)) tt)
       (λ d. choose model style (First n) byte (byte == 36) _ _ (dollar style refl) (after style refl d)) where
-        dollar : (known : Style) → style ≡ known → (byte == 36) ≡ true → Why model style (First n) byte (dollar_after known n)
+        dollar : (known : Numbering) → style ≡ known → (byte == 36) ≡ true → Why model style (First n) byte (dollar_after known n)
         dollar Unnumbered s e = why_kind model style (First n) byte Mixed (other_byte byte 36 e (omega arith) refl) (inl (refl, inl (s, eqb-true byte 36 e)))
         dollar Numbered s e = tt
         dollar Undecided s e = tt
 
-        after : (known : Style) → style ≡ known → is_digit byte ≡ false → (byte == 36) ≡ false → Why model style (First n) byte (after_first model known byte)
+        after : (known : Numbering) → style ≡ known → is_digit byte ≡ false → (byte == 36) ≡ false → Why model style (First n) byte (after_first model known byte)
         after Numbered s d e = why_stray model style (First n) byte Mixed (inl (refl, inr (s, d, unequal byte 36 e))) (λ _. tt)
         after Unnumbered s d e = why_amount model style (First n) byte (λ _. tt) (with_width (parts_at None)) Width
         after Undecided s d e = why_amount model style (First n) byte (λ _. tt) (with_width (parts_at None)) Width
 
-  why_star : (slot : Slot) (parts : Parts) → Why model style (Star slot parts) byte (next model style (Star slot parts) byte)
+  why_star : (slot : WidthOrPrecision) (parts : PartialSpecification) → Why model style (Star slot parts) byte (posix_step model style (Star slot parts) byte)
   why_star slot parts = go parts.position refl where
     go : (o : Option ℕ) → parts.position ≡ o → Why model style (Star slot parts) byte (after_star model slot parts o byte)
     go None p = choose model style (Star slot parts) byte (is_digit byte) _ _ (λ d. why_kind model style (Star slot parts) byte Mixed (other_digit byte d) (inl (refl, subst (λ o. MixesStar o byte) (sym p) d)))
         (λ _. why_amount model style (Star slot parts) byte (λ _. tt) parts slot)
     go (Some n) p = choose model style (Star slot parts) byte (is_first_digit byte) _ _ (λ _. tt) (λ f. why_stray model style (Star slot parts) byte Mixed (inl (refl, subst (λ o. MixesStar o byte) (sym p) f)) (λ _. tt))
 
-  why_modified : (parts : Parts) (modifier : Modifier) → Why model style (Modified parts modifier) byte (after_modifier model parts modifier byte)
+  why_modified : (parts : PartialSpecification) (modifier : Modifier) → Why model style (Modified parts modifier) byte (after_modifier_letter model parts modifier byte)
   why_modified parts modifier = go modifier where
-    ends : (m : Modifier) → Why model style (Modified parts modifier) byte (end_at model parts m byte)
+    ends : (m : Modifier) → Why model style (Modified parts modifier) byte (conversion_at model parts m byte)
     ends = why_end model style (Modified parts modifier) byte (λ _. tt) parts
 
-    go : (m : Modifier) → Why model style (Modified parts modifier) byte (after_modifier model parts m byte)
-    go (Plain lengths.H) = choose model style (Modified parts modifier) byte (byte == 104) _ _ (λ _. tt) (λ _. ends (Plain lengths.H))
-    go (Plain lengths.L) = choose model style (Modified parts modifier) byte (byte == 108) _ _ (λ _. tt) (λ _. ends (Plain lengths.L))
+    go : (m : Modifier) → Why model style (Modified parts modifier) byte (after_modifier_letter model parts m byte)
+    go (Integer lengths.H) = choose model style (Modified parts modifier) byte (byte == 104) _ _ (λ _. tt) (λ _. ends (Integer lengths.H))
+    go (Integer lengths.L) = choose model style (Modified parts modifier) byte (byte == 108) _ _ (λ _. tt) (λ _. ends (Integer lengths.L))
     go LongDouble = ends LongDouble
-    go (Plain length) = ends (Plain length)
+    go (Integer length) = ends (Integer length)
 
 -- what the table answers of a byte has its reason
-pub why : (model : Model) (style : Style) (byte : ℕ) (state : State) → Why model style state byte (next model style state byte)
+pub why : (model : Model) (style : Numbering) (byte : ℕ) (state : PosixState) → Why model style state byte (posix_step model style state byte)
 why model style byte Between = choose model style Between byte (byte == 0) _ _ (λ e. rw e refl) (λ _. choose model style Between byte (byte == 37) _ _ (λ _. tt) (λ _. λ none. absurd none))
 why model style byte Opened = choose model style Opened byte (byte == 37) _ _ (λ e. λ _. e) (why_percent model style byte style refl)
 why model style byte (First n) = why_first model style byte n

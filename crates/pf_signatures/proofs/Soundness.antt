@@ -8,15 +8,15 @@ use Rattle.pf_values.specs.declared.limits.TheConstants.{MAX_TEXT_LEN}
 use Rattle.pf_values.specs.declared.models.Model.{Model}
 use Rattle.pf_values.specs.Text.{Text}
 use Rattle.pf_signatures.specs.declared.fetches.Fetch.{Fetch}
-use Rattle.pf_signatures.specs.declared.kinds.SignatureRefusalKind.{SignatureRefusalKind}
-use Rattle.pf_signatures.specs.declared.kinds.SignatureRefusalKind.TheVariants.{Truncated, TooLong, TwoTypes}
-use Rattle.pf_signatures.specs.declared.parts.Style.{Style}
-use Rattle.pf_signatures.specs.Fronts.{IsAt}
-use Rattle.pf_signatures.specs.Items.{Byte, IsReadAs, Reads, Specification, WholeItem, fetched}
-use Rattle.pf_signatures.specs.Readings.{Reading, Takes, Refused, Verdict, conflicts, ended, moved, read, settled, verdict}
-use Rattle.pf_signatures.specs.Refusals.{AreAgreed, Follows, HasCause, IsGoodFront, IsOneType, IsRefusedAt, style_by, style_in, style_of}
-use Rattle.pf_signatures.specs.Stages.{State, Between, Opened, First, Flags, Digits, Star, StarDigits, Placed, Point, Modified}
-use Rattle.pf_signatures.specs.States.{Next, next}
+use Rattle.pf_signatures.specs.declared.refusals.SignatureRefusalKind.{SignatureRefusalKind}
+use Rattle.pf_signatures.specs.declared.refusals.SignatureRefusalKind.TheVariants.{Truncated, TooLong, TwoTypes}
+use Rattle.pf_signatures.specs.declared.partial_specification.Numbering.{Numbering}
+use Rattle.pf_signatures.specs.Fronts.{IsStateAfter}
+use Rattle.pf_signatures.specs.Items.{Byte, SpellsPosixItem, ReadsPosix, Specification, PosixItem, fetched}
+use Rattle.pf_signatures.specs.Readings.{FetchTrace, Takes, Refused, Verdict, conflicts, trace_at_end, moved, trace_from, verdict_after, verdict}
+use Rattle.pf_signatures.specs.Refusals.{AreAgreed, Follows, IsPosixRefusalCause, IsGoodPosixFront, IsOneType, IsPosixRefusedAt, style_by, style_in, style_of}
+use Rattle.pf_signatures.specs.Stages.{PosixState, Between, Opened, First, Flags, Digits, Star, StarDigits, Placed, Point, Modified}
+use Rattle.pf_signatures.specs.States.{PosixStep, posix_step}
 use Rattle.pf_signatures.specs.Types.{fetches}
 use Rattle.pf_signatures.proofs.Agreeing.{agreed_none, agreed_push, conflicts_not, style_push}
 use Rattle.pf_signatures.proofs.Judging.{Arrives, Brings, Judges, judge}
@@ -24,41 +24,41 @@ use Rattle.pf_signatures.proofs.Wording.{conflict_in_words, refused_in_words}
 
 -- a text is read as items that fetch this
 pub record Taken (model : Model) (t : Text) (seen : List Fetch) : Type 0 where
-  pub items : List WholeItem
-  pub reads : Reads t items
+  pub items : List PosixItem
+  pub reads : ReadsPosix t items
   pub seen_are : seen ≡ fetched model items
   pub agreed : AreAgreed seen
   pub limit : length t ≤ MAX_TEXT_LEN
 
 abbrev pub Tells : Model → Text → Verdict → Type 0
 Tells model t (Takes seen) = Taken model t seen
-Tells model t (Refused kind at) = IsRefusedAt model t kind at
+Tells model t (Refused kind at) = IsPosixRefusedAt model t kind at
 
-pub reads_push : (whole first : Text) (items : List WholeItem) (item : WholeItem) → Reads whole items → IsReadAs first item → Reads (whole ++ first) (items ++ item ∷ [])
+pub reads_push : (whole first : Text) (items : List PosixItem) (item : PosixItem) → ReadsPosix whole items → SpellsPosixItem first item → ReadsPosix (whole ++ first) (items ++ item ∷ [])
 reads_push whole first [] item h g = (first, [], g, refl, ap (λ w. w ++ first) h ∙ sym (append-nil first))
 reads_push whole first (i ∷ items) item h g = (h.0, h.1 ++ first, h.2, reads_push h.1 first items item h.3 g, ap (λ w. w ++ first) h.4 ∙ append_assoc h.0 h.1 first)
 
-fetched_byte : (model : Model) (items : List WholeItem) (b : ℕ) → fetched model (items ++ Byte b ∷ []) ≡ fetched model items
+fetched_byte : (model : Model) (items : List PosixItem) (b : ℕ) → fetched model (items ++ Byte b ∷ []) ≡ fetched model items
 fetched_byte model [] b = refl
 fetched_byte model (Byte c ∷ items) b = fetched_byte model items b
 fetched_byte model (Specification s ∷ items) b = ap (λ r. fetches model s ++ r) (fetched_byte model items b)
 
-pub fetched_append : (model : Model) (items more : List WholeItem) → fetched model (items ++ more) ≡ fetched model items ++ fetched model more
+pub fetched_append : (model : Model) (items more : List PosixItem) → fetched model (items ++ more) ≡ fetched model items ++ fetched model more
 fetched_append model [] more = refl
 fetched_append model (Byte c ∷ items) more = fetched_append model items more
 fetched_append model (Specification s ∷ items) more = ap (λ r. fetches model s ++ r) (fetched_append model items more) ∙ sym (append_assoc (fetches model s) (fetched model items) (fetched model more))
 
 module _ (model : Model) where
-  -- a front that is good, and a byte that goes on with it
-  module _ (front : Text) (seen : List Fetch) (state : State) (g : IsGoodFront model front seen state) (byte : ℕ) where
+  -- a front that is good, and one more byte
+  module _ (front : Text) (seen : List Fetch) (state : PosixState) (g : IsGoodPosixFront model front seen state) (byte : ℕ) where
     item_split : (front ++ byte ∷ []) ≡ (g.whole ++ (g.part ++ byte ∷ []))
     item_split = ap (λ f. f ++ byte ∷ []) g.split ∙ append_assoc g.whole g.part (byte ∷ [])
 
-    on_part : (to : State) → IsAt to (g.part ++ byte ∷ []) g.own → Follows (style_of seen) (style_in to) → IsGoodFront model (front ++ byte ∷ []) seen to
+    on_part : (to : PosixState) → IsStateAfter to (g.part ++ byte ∷ []) g.own → Follows (style_of seen) (style_in to) → IsGoodPosixFront model (front ++ byte ∷ []) seen to
     on_part to at follows =
         record { items = g.items; whole = g.whole; part = g.part ++ byte ∷ []; own = g.own; reads = g.reads; at = at; split = item_split; fetches_are = g.fetches_are; agreed = g.agreed; style = follows }
 
-    on_arrived : (to : State) → Arrives model (style_of seen) g.part g.own byte to → IsGoodFront model (front ++ byte ∷ []) seen to
+    on_arrived : (to : PosixState) → Arrives model (style_of seen) g.part g.own byte to → IsGoodPosixFront model (front ++ byte ∷ []) seen to
     on_arrived Between h =
         record {
           items = g.items ++ Byte h.0 ∷ [];
@@ -83,8 +83,8 @@ module _ (model : Model) where
     on_arrived (Modified parts modifier) h = on_part (Modified parts modifier) h.0 h.1
 
     module _ (f : Fetch) (clear : conflicts seen f ≡ false) where
-      on_fetch : (to : State) → IsAt to (g.part ++ byte ∷ []) (g.own ++ f ∷ []) → Follows (style_of seen) (Some (style_by f.number)) → style_in to ≡ Some (style_by f.number)
-          → IsGoodFront model (front ++ byte ∷ []) (seen ++ f ∷ []) to
+      on_fetch : (to : PosixState) → IsStateAfter to (g.part ++ byte ∷ []) (g.own ++ f ∷ []) → Follows (style_of seen) (Some (style_by f.number)) → style_in to ≡ Some (style_by f.number)
+          → IsGoodPosixFront model (front ++ byte ∷ []) (seen ++ f ∷ []) to
       on_fetch to at follows known =
           record {
             items = g.items;
@@ -99,7 +99,7 @@ module _ (model : Model) where
             style = subst (Follows (style_of (seen ++ f ∷ []))) (sym known) (inr (style_push seen f follows));
           }
 
-      on_brought : (to : State) → Brings model (style_of seen) g.part g.own byte f to → IsGoodFront model (front ++ byte ∷ []) (seen ++ f ∷ []) to
+      on_brought : (to : PosixState) → Brings model (style_of seen) g.part g.own byte f to → IsGoodPosixFront model (front ++ byte ∷ []) (seen ++ f ∷ []) to
       on_brought Between h =
           record {
             items = g.items ++ Specification h.0 ∷ [];
@@ -125,14 +125,14 @@ module _ (model : Model) where
       on_brought (Modified parts modifier) h = on_fetch (Modified parts modifier) h.0 h.1 h.2
 
   -- the text ends in a state
-  at_end : (front : Text) (seen : List Fetch) (state : State) → IsGoodFront model front seen state → length front ≤ MAX_TEXT_LEN → (state ≢ Between → IsRefusedAt model (front ++ []) Truncated (length front))
+  at_end : (front : Text) (seen : List Fetch) (state : PosixState) → IsGoodPosixFront model front seen state → length front ≤ MAX_TEXT_LEN → (state ≢ Between → IsPosixRefusedAt model (front ++ []) Truncated (length front))
   at_end front seen state g few open_ = record { front = front; rest = []; fetches = seen; state = state; split = refl; place = refl; limit = few; good = g; cause = inl (refl, open_) }
 
-  sound_end : (front : Text) (seen : List Fetch) (state : State) → IsGoodFront model front seen state → length front ≤ MAX_TEXT_LEN → Tells model (front ++ []) (settled seen (ended state (length front)))
+  sound_end : (front : Text) (seen : List Fetch) (state : PosixState) → IsGoodPosixFront model front seen state → length front ≤ MAX_TEXT_LEN → Tells model (front ++ []) (verdict_after seen (trace_at_end state (length front)))
   sound_end front seen Between g few =
       record {
         items = g.items;
-        reads = subst (λ t. Reads t g.items) (sym (append-nil front ∙ g.split ∙ ap (λ p. g.whole ++ p) g.at.0 ∙ append-nil g.whole)) g.reads;
+        reads = subst (λ t. ReadsPosix t g.items) (sym (append-nil front ∙ g.split ∙ ap (λ p. g.whole ++ p) g.at.0 ∙ append-nil g.whole)) g.reads;
         seen_are = g.fetches_are ∙ ap (λ o. fetched model g.items ++ o) g.at.1 ∙ append-nil _;
         agreed = g.agreed;
         limit = omega (arith, few, ap length (append-nil front));
@@ -147,29 +147,29 @@ module _ (model : Model) where
   sound_end front seen (Point parts) g few = at_end front seen (Point parts) g few (λ e. cc)
   sound_end front seen (Modified parts modifier) g few = at_end front seen (Modified parts modifier) g few (λ e. cc)
 
-  module _ (front rest : Text) (seen : List Fetch) (state : State) (g : IsGoodFront model front seen state) (few : length front ≤ MAX_TEXT_LEN) (byte : ℕ) where
-    at_byte : (kind : SignatureRefusalKind) → HasCause model seen g.part state (length front) (byte ∷ rest) kind → IsRefusedAt model (front ++ (byte ∷ rest)) kind (length front)
+  module _ (front rest : Text) (seen : List Fetch) (state : PosixState) (g : IsGoodPosixFront model front seen state) (few : length front ≤ MAX_TEXT_LEN) (byte : ℕ) where
+    at_byte : (kind : SignatureRefusalKind) → IsPosixRefusalCause model seen g.part state (length front) (byte ∷ rest) kind → IsPosixRefusedAt model (front ++ (byte ∷ rest)) kind (length front)
     at_byte kind cause = record { front = front; rest = byte ∷ rest; fetches = seen; state = state; split = refl; place = refl; limit = few; good = g; cause = cause }
 
     no_conflict : (f : Fetch) → conflicts seen f ≡ true → ¬ AllByRecursion (IsOneType f) seen
     no_conflict f e all = let none = conflicts_not seen f all in cc
 
-    module _ (behind : (others : List Fetch) (to : State) → IsGoodFront model (front ++ byte ∷ []) others to → length (front ++ byte ∷ []) ≤ MAX_TEXT_LEN
-        → Tells model (front ++ byte ∷ [] ++ rest) (settled others (read model (style_of others) to (length (front ++ byte ∷ [])) rest))) where
-      later : (others : List Fetch) (to : State) (style : Style) → length front < MAX_TEXT_LEN → style ≡ style_of others → IsGoodFront model (front ++ byte ∷ []) others to
-          → Tells model (front ++ (byte ∷ rest)) (settled others (read model style to (length front + 1) rest))
+    module _ (behind : (others : List Fetch) (to : PosixState) → IsGoodPosixFront model (front ++ byte ∷ []) others to → length (front ++ byte ∷ []) ≤ MAX_TEXT_LEN
+        → Tells model (front ++ byte ∷ [] ++ rest) (verdict_after others (trace_from model (style_of others) to (length (front ++ byte ∷ [])) rest))) where
+      later : (others : List Fetch) (to : PosixState) (style : Numbering) → length front < MAX_TEXT_LEN → style ≡ style_of others → IsGoodPosixFront model (front ++ byte ∷ []) others to
+          → Tells model (front ++ (byte ∷ rest)) (verdict_after others (trace_from model style to (length front + 1) rest))
       later others to style less e good =
-          subst (λ t. Tells model t (settled others (read model style to (length front + 1) rest))) (append_assoc front (byte ∷ []) rest)
-          (subst (λ s. Tells model (front ++ byte ∷ [] ++ rest) (settled others (read model s to (length front + 1) rest))) (sym e)
-          (subst (λ n. Tells model (front ++ byte ∷ [] ++ rest) (settled others (read model (style_of others) to n rest))) (length_push front byte)
+          subst (λ t. Tells model t (verdict_after others (trace_from model style to (length front + 1) rest))) (append_assoc front (byte ∷ []) rest)
+          (subst (λ s. Tells model (front ++ byte ∷ [] ++ rest) (verdict_after others (trace_from model s to (length front + 1) rest))) (sym e)
+          (subst (λ n. Tells model (front ++ byte ∷ [] ++ rest) (verdict_after others (trace_from model (style_of others) to n rest))) (length_push front byte)
           (behind others to good (omega (arith, length_push front byte)))))
 
-      by_conflict : (f : Fetch) (to : State) (c : Bool) → conflicts seen f ≡ c → length front < MAX_TEXT_LEN → (length front == MAX_TEXT_LEN) ≡ false → next model (style_of seen) state byte ≡ Ok (to, Some f) → Brings model (style_of seen) g.part g.own byte f to
-          → Tells model (front ++ (byte ∷ rest)) (if c then Refused TwoTypes (length front) else settled (seen ++ f ∷ []) (read model (style_by f.number) to (length front + 1) rest))
+      by_conflict : (f : Fetch) (to : PosixState) (c : Bool) → conflicts seen f ≡ c → length front < MAX_TEXT_LEN → (length front == MAX_TEXT_LEN) ≡ false → posix_step model (style_of seen) state byte ≡ Ok (to, Some f) → Brings model (style_of seen) g.part g.own byte f to
+          → Tells model (front ++ (byte ∷ rest)) (if c then Refused TwoTypes (length front) else verdict_after (seen ++ f ∷ []) (trace_from model (style_by f.number) to (length front + 1) rest))
       by_conflict f to true c less no_end e h =
           at_byte TwoTypes (rw no_end (conflict_in_words model seen g.part g.own state g.at byte g.style to f e (no_conflict f c)))
       by_conflict f to false c less no_end e h = later (seen ++ f ∷ []) to (style_by f.number) less (sym (style_push seen f (brought_follows to h))) (on_brought front seen state g byte f c to h) where
-        brought_follows : (to : State) → Brings model (style_of seen) g.part g.own byte f to → Follows (style_of seen) (Some (style_by f.number))
+        brought_follows : (to : PosixState) → Brings model (style_of seen) g.part g.own byte f to → Follows (style_of seen) (Some (style_by f.number))
         brought_follows Between h = h.4
         brought_follows Opened h = h.1
         brought_follows (First n) h = h.1
@@ -181,18 +181,18 @@ module _ (model : Model) where
         brought_follows (Point parts) h = h.1
         brought_follows (Modified parts modifier) h = h.1
 
-      by_next : (n : Next) → length front < MAX_TEXT_LEN → (length front == MAX_TEXT_LEN) ≡ false → next model (style_of seen) state byte ≡ n → Judges model (style_of seen) g.part g.own byte n
-          → Tells model (front ++ (byte ∷ rest)) (settled seen (moved (style_of seen) (length front) n (λ s q. read model s q (length front + 1) rest)))
+      by_next : (n : PosixStep) → length front < MAX_TEXT_LEN → (length front == MAX_TEXT_LEN) ≡ false → posix_step model (style_of seen) state byte ≡ n → Judges model (style_of seen) g.part g.own byte n
+          → Tells model (front ++ (byte ∷ rest)) (verdict_after seen (moved (style_of seen) (length front) n (λ s q. trace_from model s q (length front + 1) rest)))
       by_next (Err kind) less no_end e h = at_byte kind (rw no_end (refused_in_words model seen g.part g.own state g.at byte g.style kind e))
       by_next (Ok (to, None)) less no_end e h = later seen to (style_of seen) less refl (on_arrived front seen state g byte to h)
       by_next (Ok (to, Some f)) less no_end e h = by_conflict f to (conflicts seen f) refl less no_end e h
 
       by_limit : (b : Bool) → nat_le MAX_TEXT_LEN (length front) ≡ b
-          → Tells model (front ++ (byte ∷ rest)) (settled seen (if b then Reading.Fault TooLong (length front) else moved (style_of seen) (length front) (next model (style_of seen) state byte) (λ s q. read model s q (length front + 1) rest)))
+          → Tells model (front ++ (byte ∷ rest)) (verdict_after seen (if b then FetchTrace.Fault TooLong (length front) else moved (style_of seen) (length front) (posix_step model (style_of seen) state byte) (λ s q. trace_from model s q (length front + 1) rest)))
       by_limit true e = let last = reached (length front) few e in at_byte TooLong (rw last refl) where
         reached : (n : ℕ) → n ≤ MAX_TEXT_LEN → nat_le MAX_TEXT_LEN n ≡ true → (n == MAX_TEXT_LEN) ≡ true
         reached n few e = grind (arith, nat_tests)
-      by_limit false e = by_next (next model (style_of seen) state byte) (below (length front) few e) (not_yet (length front) e) refl (judge model (style_of seen) g.part g.own byte state g.at g.style) where
+      by_limit false e = by_next (posix_step model (style_of seen) state byte) (below (length front) few e) (not_yet (length front) e) refl (judge model (style_of seen) g.part g.own byte state g.at g.style) where
         below : (n : ℕ) → n ≤ MAX_TEXT_LEN → nat_le MAX_TEXT_LEN n ≡ false → n < MAX_TEXT_LEN
         below n few e = grind (arith, nat_tests)
 
@@ -200,13 +200,13 @@ module _ (model : Model) where
         not_yet n e = grind (arith, nat_tests)
 
   -- what is read from a good front on
-  sound : (rest front : Text) (seen : List Fetch) (state : State) → IsGoodFront model front seen state → length front ≤ MAX_TEXT_LEN
-      → Tells model (front ++ rest) (settled seen (read model (style_of seen) state (length front) rest))
+  sound : (rest front : Text) (seen : List Fetch) (state : PosixState) → IsGoodPosixFront model front seen state → length front ≤ MAX_TEXT_LEN
+      → Tells model (front ++ rest) (verdict_after seen (trace_from model (style_of seen) state (length front) rest))
   sound [] front seen state g few = sound_end front seen state g few
   sound (byte ∷ rest) front seen state g few =
       by_limit front rest seen state g few byte (λ others to good more. sound rest (front ++ byte ∷ []) others to good more) (nat_le MAX_TEXT_LEN (length front)) refl
 
-  at_start : IsGoodFront model [] [] Between
+  at_start : IsGoodPosixFront model [] [] Between
   at_start = record { items = []; whole = []; part = []; own = []; reads = refl; at = (refl, refl); split = refl; fetches_are = refl; agreed = agreed_none; style = tt }
 
   pub told : (t : Text) → Tells model t (verdict model t)

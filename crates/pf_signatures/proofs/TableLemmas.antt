@@ -8,18 +8,18 @@ use Rattle.std.proofs.lemmas.List.{get_or-set_other, get_or-set_same, length-set
 use Rattle.pf_values.specs.declared.models.Model.{Model}
 use Rattle.pf_values.specs.Text.{Text}
 use Rattle.pf_signatures.specs.declared.fetches.Fetch.{Fetch}
-use Rattle.pf_signatures.specs.declared.kinds.SignatureRefusalKind.{SignatureRefusalKind}
-use Rattle.pf_signatures.specs.declared.kinds.SignatureRefusalKind.TheVariants.{MissingArgument, TwoTypes}
+use Rattle.pf_signatures.specs.declared.refusals.SignatureRefusalKind.{SignatureRefusalKind}
+use Rattle.pf_signatures.specs.declared.refusals.SignatureRefusalKind.TheVariants.{MissingArgument, TwoTypes}
 use Rattle.pf_signatures.specs.declared.refusals.SignatureRefusal.{SignatureRefusal}
-use Rattle.pf_signatures.specs.declared.parts.Style.TheVariants.{Undecided, Numbered}
+use Rattle.pf_signatures.specs.declared.partial_specification.Numbering.TheVariants.{Undecided, Numbered}
 use Rattle.pf_signatures.specs.declared.tables.Table.{Table}
 use Rattle.pf_signatures.specs.declared.tables.TheConstants.{ROOM}
 use Rattle.pf_signatures.specs.declared.types.ArgumentType.{ArgumentType}
 use Rattle.pf_signatures.specs.declared.types.ArgumentType.TheVariants.{Int}
 use Rattle.pf_signatures.specs.Kinds.{type_number}
-use Rattle.pf_signatures.specs.Readings.{Fault, Fetches, Reading, Refused, Takes, Whole, conflicts, greatest, is_number, listed, reading, settled, verdict, wanted_at}
-use Rattle.pf_signatures.specs.Refusals.{Follows, HasGap, IsOneType, IsRefusedAt, style_by}
-use Rattle.pf_signatures.specs.Tabled.{IsTabled, Keeps}
+use Rattle.pf_signatures.specs.Readings.{Fault, Fetches, FetchTrace, Refused, Takes, Whole, conflicts, greatest, is_number, listed, fetch_trace, verdict_after, verdict, wanted_at}
+use Rattle.pf_signatures.specs.Refusals.{Follows, HasGap, IsOneType, IsPosixRefusedAt, style_by}
+use Rattle.pf_signatures.specs.Tabled.{IsTabled, TableHolds}
 use Rattle.pf_signatures.specs.Types.{AreNumbered, IsFetched, fetch}
 use Rattle.pf_signatures.specs.Items.{HasArguments}
 use Rattle.pf_signatures.proofs.Agreeing.{all_push, conflicts_no, conflicts_not, one_type_push, same_type}
@@ -65,7 +65,7 @@ all_same : (place : ℕ) (all seen : List Fetch) (f : Fetch) → f.number ≡ So
 all_same place all [] f n e h = tt
 all_same place all (g ∷ seen) f n e h = ((λ m a b. let same : Some m ≡ Some (place + 1) = sym a ∙ n in wanted_one place all g h.0 (b ∙ same) f.wanted e), all_same place all seen f n e h.1)
 
-module _ (table : Table) (seen : List Fetch) (h : Keeps table seen) (place : ℕ) (wanted : ArgumentType) (room : place < ROOM) where
+module _ (table : Table) (seen : List Fetch) (h : TableHolds table seen) (place : ℕ) (wanted : ArgumentType) (room : place < ROOM) where
   abbrev f : Fetch
   f = fetch (Some (place + 1)) wanted
 
@@ -80,7 +80,7 @@ module _ (table : Table) (seen : List Fetch) (h : Keeps table seen) (place : ℕ
     clear : AllByRecursion (IsOneType f) seen
     clear = all_same place seen seen f refl e h.one_type
 
-    pub kept_again : (conflicts seen f ≡ false) × Keeps (record table { count = max table.count (place + 1) }) (seen ++ f ∷ [])
+    pub kept_again : (conflicts seen f ≡ false) × TableHolds (record table { count = max table.count (place + 1) }) (seen ++ f ∷ [])
     kept_again = (conflicts_not seen f clear, record { full = h.full; types = λ p less. h.types p less ∙ at p (cases_eq p place); count = count_is; room = few; one_type = one_type_push seen f h.one_type clear }) where
       at : (p : ℕ) → ((p ≡ place) ⊎ (p ≢ place)) → wanted_at p seen ≡ wanted_at p (seen ++ f ∷ [])
       at p (inl q) = let here : wanted_at p seen ≡ Some wanted = ap (λ k. wanted_at k seen) q ∙ e in here ∙ sym (wanted_push p seen f wanted here)
@@ -98,7 +98,7 @@ module _ (table : Table) (seen : List Fetch) (h : Keeps table seen) (place : ℕ
     unlike : AllByRecursion (IsOneType f) seen
     unlike = none_same place seen f refl (fetched_none place seen e)
 
-    pub kept_new : (conflicts seen f ≡ false) × Keeps (record { types = set table.types place (Some wanted); count = max table.count (place + 1) }) (seen ++ f ∷ [])
+    pub kept_new : (conflicts seen f ≡ false) × TableHolds (record { types = set table.types place (Some wanted); count = max table.count (place + 1) }) (seen ++ f ∷ [])
     kept_new = (conflicts_not seen f unlike, record { full = length-set table.types place (Some wanted) ∙ h.full; types = λ p less. at p less (cases_eq p place); count = count_is; room = few; one_type = one_type_push seen f h.one_type unlike }) where
       at : (p : ℕ) → p < ROOM → ((p ≡ place) ⊎ (p ≢ place)) → get_or (set table.types place (Some wanted)) p None ≡ wanted_at p (seen ++ f ∷ [])
       at p less (inl q) =
@@ -109,14 +109,14 @@ module _ (table : Table) (seen : List Fetch) (h : Keeps table seen) (place : ℕ
           let other = ne_eqb (place + 1) (p + 1) (λ same. q (omega (arith, same))) in
           get_or-set_other table.types place p (Some wanted) None q ∙ h.types p less ∙ sym (wanted_other p seen f other)
 
-  -- what is told of an argument that has a type
+  -- an argument that is there with a type
   pub told_some : (there : ArgumentType) (a b : ℕ) → get_or table.types place None ≡ Some there → a ≡ type_number there → b ≡ type_number wanted
-      → MatchBool (a == b) ((conflicts seen f ≡ false) × Keeps (record table { count = max table.count (place + 1) }) (seen ++ f ∷ [])) (conflicts seen f ≡ true)
+      → MatchBool (a == b) ((conflicts seen f ≡ false) × TableHolds (record table { count = max table.count (place + 1) }) (seen ++ f ∷ [])) (conflicts seen f ≡ true)
   told_some there a b e x y = go (a == b) refl where
     here : wanted_at place seen ≡ Some there
     here = sym (h.types place room) ∙ e
 
-    go : (c : Bool) → (a == b) ≡ c → MatchBool c ((conflicts seen f ≡ false) × Keeps (record table { count = max table.count (place + 1) }) (seen ++ f ∷ [])) (conflicts seen f ≡ true)
+    go : (c : Bool) → (a == b) ≡ c → MatchBool c ((conflicts seen f ≡ false) × TableHolds (record table { count = max table.count (place + 1) }) (seen ++ f ∷ [])) (conflicts seen f ≡ true)
     go true c = kept_again (here ∙ ap Some (same_type there wanted (sym x ∙ eqb-true a b c ∙ y)))
     go false c = other_type there here (λ same. eqb_no a b c (x ∙ ap type_number same ∙ sym y)) where
       eqb_no : (a b : ℕ) → (a == b) ≡ false → a ≢ b
@@ -128,7 +128,7 @@ listed_push seen from (suc n) =
     let same : from + 1 + n ≡ from + suc n = omega arith in
     ap (λ l. unwrap_or (wanted_at from seen) Int ∷ l) (listed_push seen (from + 1) n ∙ ap (λ k. listed seen (from + 1) n ++ unwrap_or (wanted_at k seen) Int ∷ []) same)
 
-pub listed_more : (table : Table) (seen : List Fetch) (place : ℕ) → Keeps table seen → place < ROOM → listed seen 0 place ++ unwrap_or (get_or table.types place None) Int ∷ [] ≡ listed seen 0 (place + 1)
+pub listed_more : (table : Table) (seen : List Fetch) (place : ℕ) → TableHolds table seen → place < ROOM → listed seen 0 place ++ unwrap_or (get_or table.types place None) Int ∷ [] ≡ listed seen 0 (place + 1)
 listed_more table seen place h less =
     let next : suc place ≡ place + 1 = omega arith in
     let same : 0 + place ≡ place = omega arith in
@@ -138,43 +138,43 @@ pub length_of_listed : (seen : List Fetch) (place : ℕ) → place ≡ length (l
 length_of_listed seen place = sym (length_listed seen 0 place)
 
 -- a numbered format, read one argument after another
-pub record IsByNumber (model : Model) (t : Text) (seen : List Fetch) (f : Fetch) (at : ℕ) (left : Reading) : Type 0 where
-  pub verdict_is : verdict model t ≡ settled seen (Fetches f at left)
+pub record IsByNumber (model : Model) (t : Text) (seen : List Fetch) (f : Fetch) (at : ℕ) (left : FetchTrace) : Type 0 where
+  pub verdict_is : verdict model t ≡ verdict_after seen (Fetches f at left)
   pub within : IsWithin f
   pub number : style_by f.number ≡ Numbered
   pub numbered : AllByRecursion (λ g. style_by g.number ≡ Numbered) seen
   pub bounded : IsBounded Numbered left
 
-pub first_by_number : (model : Model) (t : Text) (f : Fetch) (at : ℕ) (left : Reading) → style_by f.number ≡ Numbered → reading model t ≡ Fetches f at left → IsByNumber model t [] f at left
+pub first_by_number : (model : Model) (t : Text) (f : Fetch) (at : ℕ) (left : FetchTrace) → style_by f.number ≡ Numbered → fetch_trace model t ≡ Fetches f at left → IsByNumber model t [] f at left
 first_by_number model t f at left n e =
     let bounded = subst (IsBounded Undecided) e (reading_bounded model t) in
-    record { verdict_is = ap (settled []) e; within = bounded.0; number = n; numbered = tt; bounded = subst (λ s. IsBounded s left) n bounded.2 }
+    record { verdict_is = ap (verdict_after []) e; within = bounded.0; number = n; numbered = tt; bounded = subst (λ s. IsBounded s left) n bounded.2 }
 
-module _ (model : Model) (t : Text) (seen : List Fetch) (f : Fetch) (at : ℕ) (left : Reading) (h : IsByNumber model t seen f at left) where
-  pub conflict_refused : conflicts seen f ≡ true → IsRefusedAt model t TwoTypes at
+module _ (model : Model) (t : Text) (seen : List Fetch) (f : Fetch) (at : ℕ) (left : FetchTrace) (h : IsByNumber model t seen f at left) where
+  pub conflict_refused : conflicts seen f ≡ true → IsPosixRefusedAt model t TwoTypes at
   conflict_refused c = let e : verdict model t ≡ Refused TwoTypes at = h.verdict_is ∙ rw c refl in subst (Tells model t) e (told model t)
 
   module _ (c : conflicts seen f ≡ false) where
-    goes_on : verdict model t ≡ settled (seen ++ f ∷ []) left
+    goes_on : verdict model t ≡ verdict_after (seen ++ f ∷ []) left
     goes_on = h.verdict_is ∙ rw c refl
 
     pub all_numbered : AllByRecursion (λ g. style_by g.number ≡ Numbered) (seen ++ f ∷ [])
     all_numbered = all_push _ seen f h.numbered h.number
 
-    pub next_by_number : (g : Fetch) (place : ℕ) (rest : Reading) → left ≡ Fetches g place rest → IsByNumber model t (seen ++ f ∷ []) g place rest
+    pub next_by_number : (g : Fetch) (place : ℕ) (rest : FetchTrace) → left ≡ Fetches g place rest → IsByNumber model t (seen ++ f ∷ []) g place rest
     next_by_number g place rest e =
         let bounded = subst (IsBounded Numbered) e h.bounded in
         let n = follows g.number bounded.1 in
-        record { verdict_is = goes_on ∙ ap (settled (seen ++ f ∷ [])) e; within = bounded.0; number = n; numbered = all_numbered; bounded = subst (λ s. IsBounded s rest) n bounded.2 } where
+        record { verdict_is = goes_on ∙ ap (verdict_after (seen ++ f ∷ [])) e; within = bounded.0; number = n; numbered = all_numbered; bounded = subst (λ s. IsBounded s rest) n bounded.2 } where
           follows : (o : Option ℕ) → Follows Numbered (Some (style_by o)) → style_by o ≡ Numbered
           follows o (inl e) = cc
           follows o (inr e) = sym e
 
     pub end_by_number : left ≡ Whole → verdict model t ≡ Takes (seen ++ f ∷ [])
-    end_by_number e = goes_on ∙ ap (settled (seen ++ f ∷ [])) e
+    end_by_number e = goes_on ∙ ap (verdict_after (seen ++ f ∷ [])) e
 
-    pub stop_by_number : (kind : SignatureRefusalKind) (place : ℕ) → left ≡ Fault kind place → IsRefusedAt model t kind place
-    stop_by_number kind place e = subst (Tells model t) (goes_on ∙ ap (settled (seen ++ f ∷ [])) e) (told model t)
+    pub stop_by_number : (kind : SignatureRefusalKind) (place : ℕ) → left ≡ Fault kind place → IsPosixRefusedAt model t kind place
+    stop_by_number kind place e = subst (Tells model t) (goes_on ∙ ap (verdict_after (seen ++ f ∷ [])) e) (told model t)
 
 pub same_fetch : (f : Fetch) (m : ℕ) → style_by f.number ≡ Numbered → IsWithin f → m ≡ unwrap_or f.number 1 → fetch (Some (m - 1 + 1)) f.wanted ≡ f
 same_fetch f m n w e = go f.number refl n where
@@ -190,13 +190,13 @@ pub numbered_of : (o : Option ℕ) → is_some o ≡ true → style_by o ≡ Num
 numbered_of None e = cc
 numbered_of (Some n) e = refl
 
--- what is told at the end
-pub finished : (model : Model) (t : Text) (table : Table) (seen : List Fetch) (at : ℕ) (r : Result (Unit {0}) SignatureRefusal) → verdict model t ≡ Takes seen → AllByRecursion (λ g. style_by g.number ≡ Numbered) seen → Keeps table seen → at ≡ length t
+-- the end of a text
+pub finished : (model : Model) (t : Text) (table : Table) (seen : List Fetch) (at : ℕ) (r : Result (Unit {0}) SignatureRefusal) → verdict model t ≡ Takes seen → AllByRecursion (λ g. style_by g.number ≡ Numbered) seen → TableHolds table seen → at ≡ length t
     → MatchResult r (λ _. (place : ℕ) → place < table.count → IsFetched place seen) (λ refusal. (refusal ≡ record { kind = MissingArgument; at = at }) × HasGap seen)
-    → MatchResult r (λ _. IsTabled model t table) (λ refusal. IsRefusedAt model t refusal.kind refusal.at)
+    → MatchResult r (λ _. IsTabled model t table) (λ refusal. IsPosixRefusedAt model t refusal.kind refusal.at)
 finished model t table seen at (Ok done) v n k e h = record { seen = seen; verdict_is = v; kept = k; numbered = n; all = h }
 finished model t table seen at (Err refusal) v n k e h =
-    subst (λ r. IsRefusedAt model t r.kind r.at) (sym h.0) (subst (IsRefusedAt model t MissingArgument) (sym e) (missing model t seen (told_taken model t seen v) h.1))
+    subst (λ r. IsPosixRefusedAt model t r.kind r.at) (sym h.0) (subst (IsPosixRefusedAt model t MissingArgument) (sym e) (missing model t seen (told_taken model t seen v) h.1))
 
 pub tabled_types : (model : Model) (t : Text) (table : Table) (h : IsTabled model t table) → HasArguments model t (listed h.seen 0 table.count)
 tabled_types model t table h =
@@ -205,7 +205,7 @@ tabled_types model t table h =
     accepted model t h.seen taken (listed h.seen 0 table.count) (inr (subst (λ n. AreNumbered h.seen (listed h.seen 0 n)) (sym count) (numbered_types h.seen taken.agreed (seen_within model t h.seen taken) h.numbered (λ p less. h.all p (omega (arith, less, count))))))
 
 -- a place that is empty, and one that isn't
-module _ (table : Table) (seen : List Fetch) (h : Keeps table seen) (place : ℕ) (room : place < ROOM) where
+module _ (table : Table) (seen : List Fetch) (h : TableHolds table seen) (place : ℕ) (room : place < ROOM) where
   at_place : get_or table.types place None ≡ wanted_at place seen
   at_place = h.types place room
 

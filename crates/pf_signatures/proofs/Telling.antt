@@ -5,12 +5,12 @@ use Rattle.std.proofs.lemmas.List.{append-nil}
 use Rattle.pf_values.specs.declared.models.Model.{Model}
 use Rattle.pf_values.specs.Text.{Text}
 use Rattle.pf_signatures.specs.declared.fetches.Fetch.{Fetch}
-use Rattle.pf_signatures.specs.declared.kinds.SignatureRefusalKind.TheVariants.{MissingArgument}
+use Rattle.pf_signatures.specs.declared.refusals.SignatureRefusalKind.TheVariants.{MissingArgument}
 use Rattle.pf_signatures.specs.declared.types.ArgumentType.{ArgumentType}
 use Rattle.pf_signatures.specs.Items.{HasArguments}
-use Rattle.pf_signatures.specs.Laws.{IsSettled}
+use Rattle.pf_signatures.specs.Laws.{IsAcceptedOrRefused}
 use Rattle.pf_signatures.specs.Readings.{Refused, Takes, Verdict, verdict}
-use Rattle.pf_signatures.specs.Refusals.{HasGap, IsRefusedAt}
+use Rattle.pf_signatures.specs.Refusals.{HasGap, IsPosixRefusedAt}
 use Rattle.pf_signatures.specs.Stages.{Between}
 use Rattle.pf_signatures.specs.Types.{HaveTypes}
 use Rattle.pf_signatures.proofs.Bounds.{items_within}
@@ -22,7 +22,7 @@ module _ (model : Model) (t : Text) (fs : List Fetch) (h : Taken model t fs) whe
   pub accepted : (types : List ArgumentType) → HaveTypes fs types → HasArguments model t types
   accepted types g = record { items = h.items; reads = h.reads; limit = h.limit; types_are = subst (λ f. HaveTypes f types) h.seen_are g }
 
-  pub missing : HasGap fs → IsRefusedAt model t MissingArgument (length t)
+  pub missing : HasGap fs → IsPosixRefusedAt model t MissingArgument (length t)
   missing gap =
       record {
         front = t;
@@ -50,7 +50,7 @@ module _ (model : Model) (t : Text) (fs : List Fetch) (h : Taken model t fs) whe
   pub seen_within : AllByRecursion IsWithin fs
   seen_within = subst (AllByRecursion IsWithin) (sym h.seen_are) (items_within model t h.items h.reads)
 
-  settled_taken : IsSettled model t
+  settled_taken : IsAcceptedOrRefused model t
   settled_taken = elim (types_or_gap fs h.agreed seen_within) [
     | inl g ↦ inl (g.0, accepted g.0 g.1)
     | inr gap ↦ inr (MissingArgument, length t, missing gap)
@@ -60,8 +60,8 @@ pub told_taken : (model : Model) (t : Text) (fs : List Fetch) → verdict model 
 told_taken model t fs e = subst (Tells model t) e (told model t)
 
 -- a text is accepted, or refused
-pub one_of_both : (model : Model) (t : Text) → IsSettled model t
+pub one_of_both : (model : Model) (t : Text) → IsAcceptedOrRefused model t
 one_of_both model t = go (verdict model t) (told model t) where
-  go : (v : Verdict) → Tells model t v → IsSettled model t
+  go : (v : Verdict) → Tells model t v → IsAcceptedOrRefused model t
   go (Takes fs) h = settled_taken model t fs h
   go (Refused kind at) h = inr (kind, at, h)

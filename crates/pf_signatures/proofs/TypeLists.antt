@@ -6,12 +6,12 @@ use Rattle.std.proofs.lemmas.Bool.{eqb-true, cases_eq, cases_lt}
 use Rattle.std.proofs.lemmas.Bool.Decides.{nat_tests}
 use Rattle.std.proofs.lemmas.Option.{slice_get_within}
 use Rattle.pf_signatures.specs.declared.fetches.Fetch.{Fetch}
-use Rattle.pf_signatures.specs.declared.parts.Style.TheVariants.{Unnumbered, Numbered}
+use Rattle.pf_signatures.specs.declared.partial_specification.Numbering.TheVariants.{Unnumbered, Numbered}
 use Rattle.pf_signatures.specs.declared.types.ArgumentType.{ArgumentType}
 use Rattle.pf_signatures.specs.declared.types.ArgumentType.TheVariants.{Int}
-use Rattle.pf_signatures.specs.Readings.{greatest, is_number, listed, wanted, wanted_at}
+use Rattle.pf_signatures.specs.Readings.{greatest, is_number, listed, wanted_types, wanted_at}
 use Rattle.pf_signatures.specs.Refusals.{AreAgreed, HasGap, IsOneType, style_by}
-use Rattle.pf_signatures.specs.Types.{AreInOrder, AreNumbered, HaveTypes, IsFetched, IsOfType}
+use Rattle.pf_signatures.specs.Types.{AreInOrder, AreNumbered, HaveTypes, IsFetched, HasTypeIn}
 use Rattle.pf_signatures.proofs.Agreeing.{all_map}
 use Rattle.pf_signatures.proofs.Within.{IsWithin}
 
@@ -104,13 +104,13 @@ gap_is fs p less none =
 module _ (fs : List Fetch) (agreed : AreAgreed fs) (within : AllByRecursion IsWithin fs) where
   -- of numbered arguments
   module _ (numbered : AllByRecursion (λ f. style_by f.number ≡ Numbered) fs) (all : (p : ℕ) → p < greatest fs → IsFetched p fs) where
-    one : (f : Fetch) → AllByRecursion (IsOneType f) fs → style_by f.number ≡ Numbered → IsWithin f → ((n : ℕ) → f.number ≡ Some n → n ≤ greatest fs) → IsOfType (listed fs 0 (greatest fs)) f
+    one : (f : Fetch) → AllByRecursion (IsOneType f) fs → style_by f.number ≡ Numbered → IsWithin f → ((n : ℕ) → f.number ≡ Some n → n ≤ greatest fs) → HasTypeIn (listed fs 0 (greatest fs)) f
     one f same s w few = go f.number refl s where
       by_wanted : (place : ℕ) (o : Option ArgumentType) → wanted_at place fs ≡ o → f.number ≡ Some (place + 1) → IsFetched place fs → unwrap_or o Int ≡ f.wanted
       by_wanted place None e n h = absurd (fetched_none place fs e h)
       by_wanted place (Some type) e n h = wanted_one place fs f same n type e
 
-      go : (o : Option ℕ) → f.number ≡ o → style_by o ≡ Numbered → IsOfType (listed fs 0 (greatest fs)) f
+      go : (o : Option ℕ) → f.number ≡ o → style_by o ≡ Numbered → HasTypeIn (listed fs 0 (greatest fs)) f
       go None e s = cc
       go (Some n) e s =
           let some = (w n e).0 in
@@ -122,7 +122,7 @@ module _ (fs : List Fetch) (agreed : AreAgreed fs) (within : AllByRecursion IsWi
           (n - 1, own, get_listed fs 0 (greatest fs) (n - 1) there ∙ ap (λ p. Some (unwrap_or (wanted_at p fs) Int)) zero_plus ∙ ap Some (by_wanted (n - 1) _ refl own (all (n - 1) there)))
 
     each_one : (gs : List Fetch) → AllByRecursion (λ f. AllByRecursion (IsOneType f) fs) gs → AllByRecursion (λ f. style_by f.number ≡ Numbered) gs → AllByRecursion IsWithin gs
-        → AllByRecursion (λ f. (n : ℕ) → f.number ≡ Some n → n ≤ greatest fs) gs → AllByRecursion (IsOfType (listed fs 0 (greatest fs))) gs
+        → AllByRecursion (λ f. (n : ℕ) → f.number ≡ Some n → n ≤ greatest fs) gs → AllByRecursion (HasTypeIn (listed fs 0 (greatest fs))) gs
     each_one [] a b c d = tt
     each_one (g ∷ gs) a b c d = (one g a.0 b.0 c.0 d.0, each_one gs a.1 b.1 c.1 d.1)
 
@@ -133,7 +133,7 @@ module _ (fs : List Fetch) (agreed : AreAgreed fs) (within : AllByRecursion IsWi
           all = λ place less. all place (omega (arith, less, length_listed fs 0 (greatest fs)));
         }
 
-  in_order : AllByRecursion (λ f. style_by f.number ≡ Unnumbered) fs → AreInOrder fs (wanted fs)
+  in_order : AllByRecursion (λ f. style_by f.number ≡ Unnumbered) fs → AreInOrder fs (wanted_types fs)
   in_order h = record { unnumbered = all_map _ _ fs (λ f e. none f.number e) h; types_are = refl } where
     none : (o : Option ℕ) → style_by o ≡ Unnumbered → o ≡ None
     none None e = refl
@@ -149,10 +149,10 @@ types_or_gap (f ∷ fs) agreed within = go f.number refl where
   ]
 
   go : (o : Option ℕ) → f.number ≡ o → ((types : List ArgumentType) × HaveTypes (f ∷ fs) types) ⊎ HasGap (f ∷ fs)
-  go None e = inl (wanted (f ∷ fs), inl (in_order (f ∷ fs) agreed within (all_map _ _ (f ∷ fs) (λ g s. s ∙ ap style_by e) agreed.one_style)))
+  go None e = inl (wanted_types (f ∷ fs), inl (in_order (f ∷ fs) agreed within (all_map _ _ (f ∷ fs) (λ g s. s ∙ ap style_by e) agreed.one_style)))
   go (Some n) e = by_number (all_map _ _ (f ∷ fs) (λ g s. s ∙ ap style_by e) agreed.one_style)
 
--- types tell that all is fetched
+-- all arguments are fetched, as the types show
 pub no_gap : (fs : List Fetch) (types : List ArgumentType) → HaveTypes fs types → ¬ HasGap fs
 no_gap fs types (inl h) g = none fs h.unnumbered g.1 g.3 where
   none : (fs : List Fetch) → AllByRecursion (λ f. f.number ≡ None) fs → (place : ℕ) → IsFetched place fs → ⊥
@@ -160,7 +160,7 @@ no_gap fs types (inl h) g = none fs h.unnumbered g.1 g.3 where
   none (f ∷ fs) h place (inl e) = let no = h.0 in cc
   none (f ∷ fs) h place (inr e) = none fs h.1 place e
 no_gap fs types (inr h) g = g.4 (h.all g.0 (omega (arith, g.2, there fs h.each g.1 g.3))) where
-  there : (gs : List Fetch) → AllByRecursion (IsOfType types) gs → (place : ℕ) → IsFetched place gs → place < length types
+  there : (gs : List Fetch) → AllByRecursion (HasTypeIn types) gs → (place : ℕ) → IsFetched place gs → place < length types
   there [] h place g = absurd g
   there (f ∷ fs) h place (inl e) = let same : Some (h.0.0 + 1) ≡ Some (place + 1) = sym h.0.1 ∙ e in let at : h.0.0 + 1 ≡ place + 1 = cc in omega (arith, at, slice_get_within types h.0.0 f.wanted h.0.2)
   there (f ∷ fs) h place (inr e) = there fs h.1 place e

@@ -7,13 +7,13 @@ use Rattle.std.proofs.lemmas.Option.{slice_get-get_or, slice_get_within}
 use Rattle.pf_values.specs.declared.models.Model.{Model}
 use Rattle.pf_values.specs.Text.{Text}
 use Rattle.pf_signatures.specs.declared.fetches.Fetch.{Fetch}
-use Rattle.pf_signatures.specs.declared.kinds.SignatureRefusalKind.{SignatureRefusalKind}
+use Rattle.pf_signatures.specs.declared.refusals.SignatureRefusalKind.{SignatureRefusalKind}
 use Rattle.pf_signatures.specs.declared.types.ArgumentType.{ArgumentType}
 use Rattle.pf_signatures.specs.declared.types.ArgumentType.TheVariants.{Int}
 use Rattle.pf_signatures.specs.Items.{HasArguments, fetched}
 use Rattle.pf_signatures.specs.Readings.{Refused, Takes, Verdict, verdict}
-use Rattle.pf_signatures.specs.Refusals.{AreAgreed, HasCause, IsOneType, IsRefusedAt, style_by, style_of}
-use Rattle.pf_signatures.specs.Types.{AreInOrder, AreNumbered, HaveTypes, IsFetched, IsOfType}
+use Rattle.pf_signatures.specs.Refusals.{AreAgreed, IsPosixRefusalCause, IsOneType, IsPosixRefusedAt, style_by, style_of}
+use Rattle.pf_signatures.specs.Types.{AreInOrder, AreNumbered, HaveTypes, IsFetched, HasTypeIn}
 use Rattle.pf_signatures.proofs.Agreeing.{all_map}
 use Rattle.pf_signatures.proofs.Following.{IsSaid, items_verdict, said}
 use Rattle.pf_signatures.proofs.TypeLists.{no_gap}
@@ -33,10 +33,10 @@ types_agreed fs types (inl h) =
     }
 types_agreed fs types (inr h) =
     record {
-      one_style = style_head fs (IsOfType types) (λ o. o ≡ o) h.each (λ f g p q. ap style_by p.1 ∙ sym (ap style_by q.1));
-      one_type = two_of (IsOfType types) fs fs one h.each h.each;
+      one_style = style_head fs (HasTypeIn types) (λ o. o ≡ o) h.each (λ f g p q. ap style_by p.1 ∙ sym (ap style_by q.1));
+      one_type = two_of (HasTypeIn types) fs fs one h.each h.each;
     } where
-      one : (f g : Fetch) → IsOfType types f → IsOfType types g → IsOneType f g
+      one : (f g : Fetch) → HasTypeIn types f → HasTypeIn types g → IsOneType f g
       one f g p q n a b =
           let same : Some (p.0 + 1) ≡ Some (q.0 + 1) = sym p.1 ∙ a ∙ sym b ∙ q.1 in
           let next : p.0 + 1 ≡ q.0 + 1 = cc in
@@ -44,7 +44,7 @@ types_agreed fs types (inr h) =
           let wanted : Some f.wanted ≡ Some g.wanted = sym p.2 ∙ ap (slice_get types) place ∙ q.2 in cc
 
 -- a place of a numbered list has the type of its fetch
-place_type : (fs : List Fetch) (types others : List ArgumentType) (place : ℕ) → AllByRecursion (IsOfType types) fs → AllByRecursion (IsOfType others) fs → IsFetched place fs → slice_get types place ≡ slice_get others place
+place_type : (fs : List Fetch) (types others : List ArgumentType) (place : ℕ) → AllByRecursion (HasTypeIn types) fs → AllByRecursion (HasTypeIn others) fs → IsFetched place fs → slice_get types place ≡ slice_get others place
 place_type [] types others place h k f = absurd f
 place_type (g ∷ fs) types others place h k (inl e) =
     let a : Some (h.0.0 + 1) ≡ Some (place + 1) = sym h.0.1 ∙ e in
@@ -104,7 +104,7 @@ types_of_verdict model t types fs h e = subst (λ f. HaveTypes f types) (same_ta
 pub one_list : (model : Model) (t : Text) (types others : List ArgumentType) → HasArguments model t types → HasArguments model t others → types ≡ others
 one_list model t types others h k = types_unique _ types others (types_of_verdict model t types (fetched model k.items) h (arguments_verdict model t others k)) k.types_are
 
-pub never_both : (model : Model) (t : Text) (types : List ArgumentType) (kind : SignatureRefusalKind) (at : ℕ) → HasArguments model t types → IsRefusedAt model t kind at → ⊥
+pub never_both : (model : Model) (t : Text) (types : List ArgumentType) (kind : SignatureRefusalKind) (at : ℕ) → HasArguments model t types → IsPosixRefusedAt model t kind at → ⊥
 never_both model t types kind at h r = go (said model t kind at r) where
   go : IsSaid model t kind at → ⊥
   go (inl e) = let no : Takes (fetched model h.items) ≡ Refused kind at = sym (arguments_verdict model t types h) ∙ e in cc
@@ -113,7 +113,7 @@ never_both model t types kind at h r = go (said model t kind at r) where
 same_refused : (kind other : SignatureRefusalKind) (p q : ℕ) → Refused kind p ≡ Refused other q → (kind ≡ other) × (p ≡ q)
 same_refused kind other p q e = (cc, cc)
 
-pub one_refusal : (model : Model) (t : Text) (kind other : SignatureRefusalKind) (p q : ℕ) → IsRefusedAt model t kind p → IsRefusedAt model t other q → (kind ≡ other) × (p ≡ q)
+pub one_refusal : (model : Model) (t : Text) (kind other : SignatureRefusalKind) (p q : ℕ) → IsPosixRefusedAt model t kind p → IsPosixRefusedAt model t other q → (kind ≡ other) × (p ≡ q)
 one_refusal model t kind other p q h k = go (said model t kind p h) (said model t other q k) where
   go : IsSaid model t kind p → IsSaid model t other q → (kind ≡ other) × (p ≡ q)
   go (inl a) (inl b) = same_refused kind other p q (sym a ∙ b)
@@ -121,9 +121,9 @@ one_refusal model t kind other p q h k = go (said model t kind p h) (said model 
   go (inr a) (inl b) = let no : Takes a.2 ≡ Refused other q = sym a.3 ∙ b in cc
   go (inr a) (inr b) = (a.0 ∙ sym b.0, a.1 ∙ sym b.1)
 
-pub refused_longer : (model : Model) (t more : Text) (kind : SignatureRefusalKind) (at : ℕ) → IsRefusedAt model t kind at → at < length t → IsRefusedAt model (t ++ more) kind at
+pub refused_longer : (model : Model) (t more : Text) (kind : SignatureRefusalKind) (at : ℕ) → IsPosixRefusedAt model t kind at → at < length t → IsPosixRefusedAt model (t ++ more) kind at
 refused_longer model t more kind at h less = go h.rest h.split h.cause where
-  go : (rest : Text) → t ≡ h.front ++ rest → HasCause model h.fetches h.good.part h.state at rest kind → IsRefusedAt model (t ++ more) kind at
+  go : (rest : Text) → t ≡ h.front ++ rest → IsPosixRefusalCause model h.fetches h.good.part h.state at rest kind → IsPosixRefusedAt model (t ++ more) kind at
   go [] e c = absurd (omega (arith, less, h.place, ap length e, length-append h.front []))
   go (byte ∷ rest) e c =
       record {

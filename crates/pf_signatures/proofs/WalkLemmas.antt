@@ -7,14 +7,14 @@ use Rattle.memchr.specs.Find.{Nowhere, Passes, is_byte2}
 use Rattle.pf_values.specs.declared.limits.TheConstants.{MAX_TEXT_LEN}
 use Rattle.pf_values.specs.declared.models.Model.{Model}
 use Rattle.pf_values.specs.Text.{Text}
-use Rattle.pf_signatures.specs.declared.kinds.SignatureRefusalKind.TheVariants.{TooLong}
-use Rattle.pf_signatures.specs.declared.parts.Style.{Style}
-use Rattle.pf_signatures.specs.Readings.{Fault, read}
-use Rattle.pf_signatures.specs.Stages.{State, Between}
-use Rattle.pf_signatures.specs.declared.reader.Next.{Next}
-use Rattle.pf_signatures.specs.declared.reader.Next.TheVariants as nexts
+use Rattle.pf_signatures.specs.declared.refusals.SignatureRefusalKind.TheVariants.{TooLong}
+use Rattle.pf_signatures.specs.declared.partial_specification.Numbering.{Numbering}
+use Rattle.pf_signatures.specs.Readings.{Fault, trace_from}
+use Rattle.pf_signatures.specs.Stages.{PosixState, Between}
+use Rattle.pf_signatures.specs.declared.reader.NextFetch.{NextFetch}
+use Rattle.pf_signatures.specs.declared.reader.NextFetch.TheVariants as nexts
 use Rattle.pf_signatures.specs.declared.reader.Reader.{Reader}
-use Rattle.pf_signatures.specs.Walks.{IsNext, left}
+use Rattle.pf_signatures.specs.Walks.{IsNextFetch, trace_left}
 
 within_limit : (n : ℕ) → n < MAX_TEXT_LEN → nat_le MAX_TEXT_LEN n ≡ false
 within_limit n h = grind (arith, nat_tests)
@@ -29,31 +29,31 @@ literal byte h = go (byte == 37) (byte == 0) refl refl h where
   go false true e f h = absurd (h refl)
   go false false e f h = (f, e)
 
-module _ (model : Model) (style : Style) (t : Text) where
-  pub too_long : (state : State) (at : ℕ) → at < length t → MAX_TEXT_LEN ≤ at → read model style state at (drop at t) ≡ Fault TooLong at
-  too_long state at less past = let split = drop_more t at 0 less in let full = past_limit at past in ap (read model style state at) split ∙ rw full refl
+module _ (model : Model) (style : Numbering) (t : Text) where
+  pub too_long : (state : PosixState) (at : ℕ) → at < length t → MAX_TEXT_LEN ≤ at → trace_from model style state at (drop at t) ≡ Fault TooLong at
+  too_long state at less past = let split = drop_more t at 0 less in let full = past_limit at past in ap (trace_from model style state at) split ∙ rw full refl
 
-  one_passed : (at : ℕ) → at < length t → at < MAX_TEXT_LEN → is_byte2 37 0 (get_or t at 0) ≢ true → read model style Between at (drop at t) ≡ read model style Between (at + 1) (drop (at + 1) t)
+  one_passed : (at : ℕ) → at < length t → at < MAX_TEXT_LEN → is_byte2 37 0 (get_or t at 0) ≢ true → trace_from model style Between at (drop at t) ≡ trace_from model style Between (at + 1) (drop (at + 1) t)
   one_passed at less short plain =
       let split = drop_more t at 0 less in
       let room = within_limit at short in
       let tests = literal (get_or t at 0) plain in
-      ap (read model style Between at) split ∙ rw (room, tests.0, tests.1) refl
+      ap (trace_from model style Between at) split ∙ rw (room, tests.0, tests.1) refl
 
   passed : (n at : ℕ) → at + n ≤ length t → at + n ≤ MAX_TEXT_LEN → ((k : ℕ) → k < n → is_byte2 37 0 (get_or t (at + k) 0) ≢ true)
-      → read model style Between at (drop at t) ≡ read model style Between (at + n) (drop (at + n) t)
-  passed zero at few short plain = let same : at ≡ at + 0 = omega arith in ap (λ k. read model style Between k (drop k t)) same
+      → trace_from model style Between at (drop at t) ≡ trace_from model style Between (at + n) (drop (at + n) t)
+  passed zero at few short plain = let same : at ≡ at + 0 = omega arith in ap (λ k. trace_from model style Between k (drop k t)) same
   passed (suc n) at few short plain =
       let here : at + 0 ≡ at = omega arith in
       let there : at + 1 + n ≡ at + suc n = omega arith in
       let first : is_byte2 37 0 (get_or t at 0) ≢ true = subst (λ k. is_byte2 37 0 (get_or t k 0) ≢ true) here (plain 0 (omega arith)) in
       one_passed at (omega arith) (omega arith) first
       ∙ passed n (at + 1) (omega arith) (omega arith) (λ k less. let next : at + suc k ≡ at + 1 + k = omega arith in subst (λ j. is_byte2 37 0 (get_or t j 0) ≢ true) next (plain (suc k) (omega arith)))
-      ∙ ap (λ k. read model style Between k (drop k t)) there
+      ∙ ap (λ k. trace_from model style Between k (drop k t)) there
 
   -- a run that a search found
   pub run_passed : (at n : ℕ) → at ≤ length t → n ≤ length (take (length t - at) (drop at t)) → at + n ≤ MAX_TEXT_LEN → Nowhere (Passes (is_byte2 37 0) (take (length t - at) (drop at t))) 0 n
-      → read model style Between at (drop at t) ≡ read model style Between (at + n) (drop (at + n) t)
+      → trace_from model style Between at (drop at t) ≡ trace_from model style Between (at + n) (drop (at + n) t)
   run_passed at n low few short none =
       let rest = take_rest t at in
       let long = length-drop at t in
@@ -61,8 +61,8 @@ module _ (model : Model) (style : Style) (t : Text) where
       passed n at (omega (arith, fits, long)) short
       (λ k less. subst (λ x. is_byte2 37 0 x ≢ true) (ap (λ u. get_or u k 0) rest ∙ get_or-drop at t k 0) (none k (omega arith) less))
 
--- a reader that stands as another does
-pub carried : (model : Model) (t : Text) (old self : Reader) (n : Next) (new : Reader) → left model t old ≡ left model t self → IsNext model t self n new → IsNext model t old n new
+-- a reader with as much left as another
+pub carried : (model : Model) (t : Text) (old self : Reader) (n : NextFetch) (new : Reader) → trace_left model t old ≡ trace_left model t self → IsNextFetch model t self n new → IsNextFetch model t old n new
 carried model t old self (nexts.Fetched f) new e h = (h.0, h.1, e ∙ h.2)
 carried model t old self nexts.End new e h = e ∙ h
 carried model t old self (nexts.Stop refusal) new e h = e ∙ h

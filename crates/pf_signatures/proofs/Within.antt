@@ -2,8 +2,8 @@
 use Rattle.std.specs.Prelude.{◌≡◌, ℕ, ◌<◌, ◌≤◌, Some, ⊤}
 use Rattle.pf_values.specs.declared.limits.TheConstants.{MAX_NUMBER}
 use Rattle.pf_signatures.specs.declared.fetches.Fetch.{Fetch}
-use Rattle.pf_signatures.specs.declared.parts.Style.{Style}
-use Rattle.pf_signatures.specs.Readings.{Fault, Fetches, Reading, Whole}
+use Rattle.pf_signatures.specs.declared.partial_specification.Numbering.{Numbering}
+use Rattle.pf_signatures.specs.Readings.{Fault, Fetches, FetchTrace, Whole}
 use Rattle.pf_signatures.specs.Refusals.{Follows, style_by}
 
 -- the number of an argument is one of those that there are
@@ -11,7 +11,7 @@ abbrev pub IsWithin : Fetch → Type 0
 IsWithin f = (n : ℕ) → f.number ≡ Some n → (0 < n) × (n ≤ MAX_NUMBER)
 
 -- each number that is read is, and all fetches are of one style, that of those before them
-abbrev pub IsBounded : Style → Reading → Type 0
+abbrev pub IsBounded : Numbering → FetchTrace → Type 0
 IsBounded style Whole = ⊤
 IsBounded style (Fault kind at) = ⊤
 IsBounded style (Fetches f at rest) =

@@ -10,54 +10,54 @@ use Rattle.pf_signatures.specs.declared.conversions.Conversion.TheVariants.{Prof
 use Rattle.pf_signatures.specs.declared.conversions.Floating.{Floating}
 use Rattle.pf_signatures.specs.declared.conversions.Floating.TheVariants as floats
 use Rattle.pf_signatures.specs.declared.conversions.Modifier.{Modifier}
-use Rattle.pf_signatures.specs.declared.conversions.Modifier.TheVariants.{Plain, LongDouble}
-use Rattle.pf_signatures.specs.declared.kinds.SignatureRefusalKind.{SignatureRefusalKind}
-use Rattle.pf_signatures.specs.declared.kinds.SignatureRefusalKind.TheVariants.{AltUndefined, ZeroUndefined, GroupUndefined, PrecisionUndefined, LengthUndefined, CountUndefined}
-use Rattle.pf_signatures.specs.Specifications.{WholeSpecification}
+use Rattle.pf_signatures.specs.declared.conversions.Modifier.TheVariants.{Integer, LongDouble}
+use Rattle.pf_signatures.specs.declared.refusals.SignatureRefusalKind.{SignatureRefusalKind}
+use Rattle.pf_signatures.specs.declared.refusals.SignatureRefusalKind.TheVariants.{AltUndefined, ZeroUndefined, GroupUndefined, PrecisionUndefined, LengthUndefined, CountUndefined}
+use Rattle.pf_signatures.specs.Specifications.{PosixSpecification}
 
--- `#` says something of it (C11 7.21.6.1 p6)
+-- the flag `#` is defined for it (C11 7.21.6.1 p6)
 abbrev pub takes_alt : Conversion → Bool
 takes_alt (Profile conv) = has_alternative_form conv
 takes_alt (Float floating) = true
 takes_alt _ = false
 
--- `0` does: an integer or a floating number (C11 7.21.6.1 p6)
+-- the flag `0` is: it prints an integer or a floating number (C11 7.21.6.1 p6)
 abbrev pub takes_zero : Conversion → Bool
 takes_zero (Profile conv) = not (is_text conv)
 takes_zero (Float floating) = true
 takes_zero _ = false
 
--- `f F g G`
-abbrev pub is_grouped : Floating → Bool
-is_grouped floats.F = true
-is_grouped floats.UpperF = true
-is_grouped floats.G = true
-is_grouped floats.UpperG = true
-is_grouped _ = false
+-- `f F g G`, whose digits the flag `'` groups
+abbrev pub is_grouped_floating : Floating → Bool
+is_grouped_floating floats.F = true
+is_grouped_floating floats.UpperF = true
+is_grouped_floating floats.G = true
+is_grouped_floating floats.UpperG = true
+is_grouped_floating _ = false
 
--- `'` does (POSIX fprintf)
+-- the flag `'` is (POSIX fprintf)
 abbrev pub takes_group : Conversion → Bool
 takes_group (Profile conv) = is_decimal conv
-takes_group (Float floating) = is_grouped floating
+takes_group (Float floating) = is_grouped_floating floating
 takes_group _ = false
 
--- a precision does (C11 7.21.6.1 p4)
+-- a precision is (C11 7.21.6.1 p4)
 abbrev pub takes_precision : Conversion → Bool
 takes_precision (Profile conv) = not (is_char conv)
 takes_precision (Float floating) = true
 takes_precision UpperS = true
 takes_precision _ = false
 
--- a length modifier of integers does (C11 7.21.6.1 p7); `lf` is `f`, and `lc` and `ls` are wide
+-- a length modifier is (C11 7.21.6.1 p7); `lf` is `f`, and `lc` and `ls` are wide
 abbrev pub takes_modifier : Conversion → Modifier → Bool
-takes_modifier (Profile conv) (Plain length) =
+takes_modifier (Profile conv) (Integer length) =
     not (is_text conv) || is_plain length || is_long length
 takes_modifier (Profile conv) LongDouble = false
-takes_modifier (Float floating) (Plain length) = is_plain length || is_long length
+takes_modifier (Float floating) (Integer length) = is_plain length || is_long length
 takes_modifier (Float floating) LongDouble = true
-takes_modifier Count (Plain length) = true
+takes_modifier Count (Integer length) = true
 takes_modifier Count LongDouble = false
-takes_modifier _ (Plain length) = is_plain length
+takes_modifier _ (Integer length) = is_plain length
 takes_modifier _ LongDouble = false
 
 abbrev pub is_count : Conversion → Bool
@@ -65,39 +65,39 @@ is_count Count = true
 is_count _ = false
 
 -- there is a flag
-abbrev pub has_some : FlagSet → Bool
-has_some set =
+abbrev pub has_any_flag : FlagSet → Bool
+has_any_flag set =
     has set Minus || has set Plus || has set Space || has set Alt || has set Zero || has set Group
 
--- which kinds of refusal a specification gives, by whether there are a width and a precision
-abbrev pub breaks : FlagSet → Bool → Bool → Modifier → Conversion → SignatureRefusalKind → Bool
-breaks set width precision modifier conversion AltUndefined =
+-- the kinds for which a specification is undefined, by whether there are a width and a precision
+abbrev pub is_undefined_as : FlagSet → Bool → Bool → Modifier → Conversion → SignatureRefusalKind → Bool
+is_undefined_as set width precision modifier conversion AltUndefined =
     has set Alt && not (takes_alt conversion)
-breaks set width precision modifier conversion ZeroUndefined =
+is_undefined_as set width precision modifier conversion ZeroUndefined =
     has set Zero && not (takes_zero conversion)
-breaks set width precision modifier conversion GroupUndefined =
+is_undefined_as set width precision modifier conversion GroupUndefined =
     has set Group && not (takes_group conversion)
-breaks set width precision modifier conversion PrecisionUndefined =
+is_undefined_as set width precision modifier conversion PrecisionUndefined =
     precision && not (takes_precision conversion)
-breaks set width precision modifier conversion LengthUndefined =
+is_undefined_as set width precision modifier conversion LengthUndefined =
     not (takes_modifier conversion modifier)
-breaks set width precision modifier conversion CountUndefined =
-    is_count conversion && (has_some set || width || precision)
-breaks set width precision modifier conversion _ = false
+is_undefined_as set width precision modifier conversion CountUndefined =
+    is_count conversion && (has_any_flag set || width || precision)
+is_undefined_as set width precision modifier conversion _ = false
 
--- the least number that it gives
+-- the first of these kinds in the order of their numbers
 abbrev pub undefined_as : FlagSet → Bool → Bool → Modifier → Conversion
     → Option SignatureRefusalKind
 undefined_as set width precision modifier conversion =
-    find (breaks set width precision modifier conversion)
+    find (is_undefined_as set width precision modifier conversion)
     (AltUndefined ∷ ZeroUndefined ∷ GroupUndefined ∷ PrecisionUndefined ∷ LengthUndefined
     ∷ CountUndefined ∷ [])
 
 -- why a specification isn't defined, if it isn't
-abbrev pub undefined_of : WholeSpecification → Option SignatureRefusalKind
+abbrev pub undefined_of : PosixSpecification → Option SignatureRefusalKind
 undefined_of s =
     undefined_as s.flags (is_some s.width) (is_some s.precision) s.modifier s.conversion
 
 -- (C11 7.21.6.1 p4 to p9)
-abbrev pub IsDefined : WholeSpecification → Type 0
-IsDefined s = undefined_of s ≡ None
+abbrev pub IsPosixDefined : PosixSpecification → Type 0
+IsPosixDefined s = undefined_of s ≡ None

@@ -5,38 +5,38 @@ use Rattle.pf_values.specs.declared.models.Model.{Model}
 use Rattle.pf_values.specs.Text.{Text, percent}
 use Rattle.pf_signatures.specs.declared.fetches.Fetch.{Fetch}
 use Rattle.pf_signatures.specs.declared.types.ArgumentType.{ArgumentType}
-use Rattle.pf_signatures.specs.Defined.{IsDefined}
-use Rattle.pf_signatures.specs.Specifications.{WholeSpecification}
-use Rattle.pf_signatures.specs.Spelling.{SpellsWhole}
+use Rattle.pf_signatures.specs.Defined.{IsPosixDefined}
+use Rattle.pf_signatures.specs.Specifications.{PosixSpecification}
+use Rattle.pf_signatures.specs.Spelling.{SpellsPosix}
 use Rattle.pf_signatures.specs.Types.{HaveTypes, fetches}
 
 -- an ordinary character, or a conversion specification (C11 7.21.6.1 p3)
-pub data WholeItem : Type 0 where
-  Byte : (byte : ℕ) → WholeItem
-  Specification : (s : WholeSpecification) → WholeItem
+pub data PosixItem : Type 0 where
+  Byte : (byte : ℕ) → PosixItem
+  Specification : (s : PosixSpecification) → PosixItem
 
 -- `%%` for the byte `%` (C11 7.21.6.1 p8), any other byte but zero for itself (p3), and a
 -- specification for its parts (p4), if they are defined together (p4 to p9)
-abbrev pub IsReadAs : Text → WholeItem → Type 0
-IsReadAs t (Byte byte) =
+abbrev pub SpellsPosixItem : Text → PosixItem → Type 0
+SpellsPosixItem t (Byte byte) =
     MatchBool (byte == percent) (t ≡ percent ∷ percent ∷ []) ((byte ≢ 0) × (t ≡ byte ∷ []))
-IsReadAs t (Specification s) = SpellsWhole t s × IsDefined s
+SpellsPosixItem t (Specification s) = SpellsPosix t s × IsPosixDefined s
 
 -- a text is the texts of its items, one after another (C11 7.21.6.1 p3)
-abbrev pub Reads : Text → List WholeItem → Type 0
-Reads t [] = t ≡ []
-Reads t (item ∷ items) =
-    (first rest : Text) × IsReadAs first item × Reads rest items × (t ≡ first ++ rest)
+abbrev pub ReadsPosix : Text → List PosixItem → Type 0
+ReadsPosix t [] = t ≡ []
+ReadsPosix t (item ∷ items) =
+    (first rest : Text) × SpellsPosixItem first item × ReadsPosix rest items × (t ≡ first ++ rest)
 
 -- what the items fetch, in order (C11 7.21.6.1 p3)
-abbrev pub fetched : Model → List WholeItem → List Fetch
+abbrev pub fetched : Model → List PosixItem → List Fetch
 fetched model [] = []
 fetched model (Byte byte ∷ items) = fetched model items
 fetched model (Specification s ∷ items) = fetches model s ++ fetched model items
 
 -- a text is accepted, and takes arguments of these types; the limit is this project's own
 pub record HasArguments (model : Model) (t : Text) (types : List ArgumentType) : Type 0 where
-  pub items : List WholeItem
-  pub reads : Reads t items
+  pub items : List PosixItem
+  pub reads : ReadsPosix t items
   pub limit : length t ≤ MAX_TEXT_LEN
   pub types_are : HaveTypes (fetched model items) types

@@ -2,48 +2,48 @@
 -- own: the standards leave a wrong specification undefined (C11 7.21.6.1 p9).
 use Rattle.std.specs.Prelude.{ℕ, codes}
 use Rattle.pf_values.specs.Text.{Text}
-use Rattle.pf_signatures.specs.declared.kinds.SignatureRefusalKind.{SignatureRefusalKind}
-use Rattle.pf_signatures.specs.declared.kinds.SignatureRefusalKind.TheVariants.{NulByte, Truncated, Unexpected, BadPercent, WidthTooLarge, PrecisionTooLarge, AltUndefined, ZeroUndefined, GroupUndefined, PrecisionUndefined, LengthUndefined, TooLong, CountUndefined, Mixed, MissingArgument, TwoTypes}
+use Rattle.pf_signatures.specs.declared.refusals.SignatureRefusalKind.{SignatureRefusalKind}
+use Rattle.pf_signatures.specs.declared.refusals.SignatureRefusalKind.TheVariants.{NulByte, Truncated, Unexpected, BadPercent, WidthTooLarge, PrecisionTooLarge, AltUndefined, ZeroUndefined, GroupUndefined, PrecisionUndefined, LengthUndefined, TooLong, CountUndefined, Mixed, MissingArgument, TwoTypes}
 use Rattle.pf_signatures.specs.declared.types.ArgumentType.{ArgumentType}
 use Rattle.pf_signatures.specs.declared.types.ArgumentType.TheVariants.{Int, UInt, Long, ULong, LongLong, ULongLong, Str, Double, LongDouble, WideChar, WideString, Pointer, PointerToSChar, PointerToShort, PointerToInt, PointerToLong, PointerToLongLong}
 
--- the number that a refusal is told by
-abbrev pub number : SignatureRefusalKind → ℕ
-number NulByte = 1
-number Truncated = 2
-number Unexpected = 3
-number BadPercent = 4
-number WidthTooLarge = 7
-number PrecisionTooLarge = 8
-number AltUndefined = 13
-number ZeroUndefined = 14
-number GroupUndefined = 15
-number PrecisionUndefined = 16
-number LengthUndefined = 17
-number TooLong = 18
-number CountUndefined = 19
-number Mixed = 20
-number MissingArgument = 21
-number TwoTypes = 22
+-- the number of a kind of refusal
+abbrev pub signature_kind_number : SignatureRefusalKind → ℕ
+signature_kind_number NulByte = 1
+signature_kind_number Truncated = 2
+signature_kind_number Unexpected = 3
+signature_kind_number BadPercent = 4
+signature_kind_number WidthTooLarge = 7
+signature_kind_number PrecisionTooLarge = 8
+signature_kind_number AltUndefined = 13
+signature_kind_number ZeroUndefined = 14
+signature_kind_number GroupUndefined = 15
+signature_kind_number PrecisionUndefined = 16
+signature_kind_number LengthUndefined = 17
+signature_kind_number TooLong = 18
+signature_kind_number CountUndefined = 19
+signature_kind_number Mixed = 20
+signature_kind_number MissingArgument = 21
+signature_kind_number TwoTypes = 22
 
--- the name that is told with it
-abbrev pub name : SignatureRefusalKind → Text
-name NulByte = codes "NulByte"
-name Truncated = codes "Truncated"
-name Unexpected = codes "Unexpected"
-name BadPercent = codes "BadPercent"
-name WidthTooLarge = codes "WidthTooLarge"
-name PrecisionTooLarge = codes "PrecisionTooLarge"
-name AltUndefined = codes "AltUndefined"
-name ZeroUndefined = codes "ZeroUndefined"
-name GroupUndefined = codes "GroupUndefined"
-name PrecisionUndefined = codes "PrecisionUndefined"
-name LengthUndefined = codes "LengthUndefined"
-name TooLong = codes "TooLong"
-name CountUndefined = codes "CountUndefined"
-name Mixed = codes "Mixed"
-name MissingArgument = codes "MissingArgument"
-name TwoTypes = codes "TwoTypes"
+-- the name of a kind of refusal
+abbrev pub signature_kind_name : SignatureRefusalKind → Text
+signature_kind_name NulByte = codes "NulByte"
+signature_kind_name Truncated = codes "Truncated"
+signature_kind_name Unexpected = codes "Unexpected"
+signature_kind_name BadPercent = codes "BadPercent"
+signature_kind_name WidthTooLarge = codes "WidthTooLarge"
+signature_kind_name PrecisionTooLarge = codes "PrecisionTooLarge"
+signature_kind_name AltUndefined = codes "AltUndefined"
+signature_kind_name ZeroUndefined = codes "ZeroUndefined"
+signature_kind_name GroupUndefined = codes "GroupUndefined"
+signature_kind_name PrecisionUndefined = codes "PrecisionUndefined"
+signature_kind_name LengthUndefined = codes "LengthUndefined"
+signature_kind_name TooLong = codes "TooLong"
+signature_kind_name CountUndefined = codes "CountUndefined"
+signature_kind_name Mixed = codes "Mixed"
+signature_kind_name MissingArgument = codes "MissingArgument"
+signature_kind_name TwoTypes = codes "TwoTypes"
 
 -- the number of a type
 abbrev pub type_number : ArgumentType → ℕ

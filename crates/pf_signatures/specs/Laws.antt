@@ -4,27 +4,27 @@ use Rattle.pf_values.specs.declared.models.Model.{Model}
 use Rattle.pf_values.specs.Text.{Text}
 use Rattle.pf_signatures.specs.declared.fitting.FitsRefusal.{FitsRefusal}
 use Rattle.pf_signatures.specs.declared.fitting.FitsRefusal.TheVariants as refusals
-use Rattle.pf_signatures.specs.declared.kinds.SignatureRefusalKind.{SignatureRefusalKind}
+use Rattle.pf_signatures.specs.declared.refusals.SignatureRefusalKind.{SignatureRefusalKind}
 use Rattle.pf_signatures.specs.declared.refusals.SignatureFault.{SignatureFault}
 use Rattle.pf_signatures.specs.declared.refusals.SignatureFault.TheVariants as faults
 use Rattle.pf_signatures.specs.declared.types.ArgumentType.{ArgumentType}
 use Rattle.pf_signatures.specs.Items.{HasArguments}
-use Rattle.pf_signatures.specs.Refusals.{IsRefusedAt}
+use Rattle.pf_signatures.specs.Refusals.{IsPosixRefusedAt}
 
 -- a text is accepted, or refused
-abbrev pub IsSettled : Model → Text → Type 0
-IsSettled model t =
+abbrev pub IsAcceptedOrRefused : Model → Text → Type 0
+IsAcceptedOrRefused model t =
     ((types : List ArgumentType) × HasArguments model t types)
-    ⊎ ((kind : SignatureRefusalKind) × (at : ℕ) × IsRefusedAt model t kind at)
+    ⊎ ((kind : SignatureRefusalKind) × (at : ℕ) × IsPosixRefusedAt model t kind at)
 
--- as many types as there is room for, and behind them what was there
+-- types at the front of a slice, as many as there is room for, and then what was there
 abbrev pub filled : List ArgumentType → List ArgumentType → List ArgumentType
 filled [] types = []
 filled (o ∷ old) [] = o ∷ old
 filled (o ∷ old) (type ∷ types) = type ∷ filled old types
 
--- of the types of a text there are so many, and the first of them stand at the front of a slice, as
--- many as there is room for; behind them it is as it was
+-- a text has so many types, and the first of them are at the front of a slice, as many as there is
+-- room for; the rest of the slice is as it was
 pub record HasCount (model : Model) (t : Text) (old new : List ArgumentType)
     (count : ℕ) : Type 0 where
   pub types : List ArgumentType
@@ -41,7 +41,7 @@ IsFirstDifference types others (Some index) =
     × ((k : ℕ) → k < index → slice_get types k ≡ slice_get others k)
 
 -- two texts are accepted, and this is where their types differ
-pub record Compares (model : Model) (first second : Text) (index : Option ℕ) : Type 0 where
+pub record ComparesArgumentTypes (model : Model) (first second : Text) (index : Option ℕ) : Type 0 where
   pub types : List ArgumentType
   pub others : List ArgumentType
   pub first_accepted : HasArguments model first types
@@ -51,13 +51,13 @@ pub record Compares (model : Model) (first second : Text) (index : Option ℕ) :
 -- one of two texts is refused, and the first of them that is
 abbrev pub HindersFitting : Model → Text → Text → FitsRefusal → Type 0
 HindersFitting model first second (refusals.First refusal) =
-    IsRefusedAt model first refusal.kind refusal.at
+    IsPosixRefusedAt model first refusal.kind refusal.at
 HindersFitting model first second (refusals.Second refusal) =
     ((types : List ArgumentType) × HasArguments model first types)
-    × IsRefusedAt model second refusal.kind refusal.at
+    × IsPosixRefusedAt model second refusal.kind refusal.at
 
 -- why there is no list of types: want of memory only where a text is accepted and takes arguments
 abbrev pub HindersList : Model → Text → SignatureFault → Type 0
-HindersList model t (faults.Refused refusal) = IsRefusedAt model t refusal.kind refusal.at
+HindersList model t (faults.Refused refusal) = IsPosixRefusedAt model t refusal.kind refusal.at
 HindersList model t faults.Memory =
     (types : List ArgumentType) × HasArguments model t types × (types ≢ [])

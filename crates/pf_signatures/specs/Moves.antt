@@ -1,19 +1,19 @@
--- What the automaton answers of a byte. No public contract speaks of it.
+-- What the automaton answers to a byte. No public contract names these.
 use Rattle.std.specs.Prelude.{ℕ, Some, Result, Ok, Err}
 use Rattle.pf_signatures.specs.declared.automaton.Automaton.{Automaton}
 use Rattle.pf_signatures.specs.declared.automaton.Move.{Move}
 use Rattle.pf_signatures.specs.declared.automaton.Move.TheVariants as moves
 use Rattle.pf_signatures.specs.declared.automaton.Phase.{Phase}
-use Rattle.pf_signatures.specs.declared.kinds.SignatureRefusalKind.{SignatureRefusalKind}
-use Rattle.pf_signatures.specs.Stages.{State, state_in_phase, state_of}
-use Rattle.pf_signatures.specs.States.{Next, inside}
+use Rattle.pf_signatures.specs.declared.refusals.SignatureRefusalKind.{SignatureRefusalKind}
+use Rattle.pf_signatures.specs.Stages.{PosixState, posix_state_in_phase, posix_state_of}
+use Rattle.pf_signatures.specs.States.{PosixStep, move_to}
 
--- what an answer, and the automaton after it, say of the byte
-abbrev pub next_by : Result Move SignatureRefusalKind → Automaton → Next
-next_by (Ok moves.More) a = inside (state_of a)
-next_by (Ok moves.Fetched) a = Ok (state_of a, Some a.fetch)
-next_by (Err kind) a = Err kind
+-- the step that an answer of the automaton and its state after it make
+abbrev pub posix_step_by : Result Move SignatureRefusalKind → Automaton → PosixStep
+posix_step_by (Ok moves.More) a = move_to (posix_state_of a)
+posix_step_by (Ok moves.Fetched) a = Ok (posix_state_of a, Some a.fetch)
+posix_step_by (Err kind) a = Err kind
 
 -- the state of a phase, with a number
-abbrev pub numbered : Phase → Automaton → ℕ → State
-numbered phase a n = state_in_phase phase (record a { number = n })
+abbrev pub numbered : Phase → Automaton → ℕ → PosixState
+numbered phase a n = posix_state_in_phase phase (record a { number = n })

@@ -1,47 +1,47 @@
--- What a text is read as, as the code reads it. No public contract speaks of it.
+-- What a text fetches, as the code reads it. No public contract names these.
 use Rattle.std.specs.Prelude.{ℕ, zero, suc, ◌+◌, Bool, false, ◌&&◌, ◌||◌, not, nat_le, ◌==◌, List, [], ◌∷◌, ◌++◌, Option, Some, None, Ok, Err, if◌then◌else◌, map, max, unwrap_or}
 use Rattle.pf_values.specs.declared.limits.TheConstants.{MAX_TEXT_LEN}
 use Rattle.pf_values.specs.declared.models.Model.{Model}
 use Rattle.pf_values.specs.Text.{Text}
 use Rattle.pf_signatures.specs.declared.fetches.Fetch.{Fetch}
-use Rattle.pf_signatures.specs.declared.kinds.SignatureRefusalKind.{SignatureRefusalKind}
-use Rattle.pf_signatures.specs.declared.kinds.SignatureRefusalKind.TheVariants.{Truncated, TooLong, TwoTypes}
-use Rattle.pf_signatures.specs.declared.parts.Style.{Style}
-use Rattle.pf_signatures.specs.declared.parts.Style.TheVariants.{Undecided}
+use Rattle.pf_signatures.specs.declared.refusals.SignatureRefusalKind.{SignatureRefusalKind}
+use Rattle.pf_signatures.specs.declared.refusals.SignatureRefusalKind.TheVariants.{Truncated, TooLong, TwoTypes}
+use Rattle.pf_signatures.specs.declared.partial_specification.Numbering.{Numbering}
+use Rattle.pf_signatures.specs.declared.partial_specification.Numbering.TheVariants.{Undecided}
 use Rattle.pf_signatures.specs.declared.types.ArgumentType.{ArgumentType}
 use Rattle.pf_signatures.specs.declared.types.ArgumentType.TheVariants.{Int}
 use Rattle.pf_signatures.specs.Kinds.{type_number}
 use Rattle.pf_signatures.specs.Refusals.{style_by}
-use Rattle.pf_signatures.specs.Stages.{State, Between}
-use Rattle.pf_signatures.specs.States.{Next, next}
+use Rattle.pf_signatures.specs.Stages.{PosixState, Between}
+use Rattle.pf_signatures.specs.States.{PosixStep, posix_step}
 
 -- what is fetched one after another, each at its byte, up to the end or a refusal
-pub data Reading : Type 0 where
-  Whole : Reading
-  Fault : (kind : SignatureRefusalKind) (at : ℕ) → Reading
-  Fetches : (f : Fetch) (at : ℕ) (rest : Reading) → Reading
+pub data FetchTrace : Type 0 where
+  Whole : FetchTrace
+  Fault : (kind : SignatureRefusalKind) (at : ℕ) → FetchTrace
+  Fetches : (f : Fetch) (at : ℕ) (rest : FetchTrace) → FetchTrace
 
--- the text ends in a state
-abbrev pub ended : State → ℕ → Reading
-ended Between at = Whole
-ended _ at = Fault Truncated at
+-- the trace where the text ends in a state
+abbrev pub trace_at_end : PosixState → ℕ → FetchTrace
+trace_at_end Between at = Whole
+trace_at_end _ at = Fault Truncated at
 
--- what a byte makes, before what is read from the next one on
-abbrev pub moved : Style → ℕ → Next → (Style → State → Reading) → Reading
+-- the trace of a step, before the trace of the rest of the text
+abbrev pub moved : Numbering → ℕ → PosixStep → (Numbering → PosixState → FetchTrace) → FetchTrace
 moved style at (Ok (state, None)) rest = rest style state
 moved style at (Ok (state, Some f)) rest = Fetches f at (rest (style_by f.number) state)
 moved style at (Err kind) rest = Fault kind at
 
--- what a text is read as from a style, a state and a byte on
-abbrev pub read : Model → Style → State → ℕ → Text → Reading
-read model style state at [] = ended state at
-read model style state at (byte ∷ t) =
+-- the trace of a text from a byte on, in a state and behind specifications of a style
+abbrev pub trace_from : Model → Numbering → PosixState → ℕ → Text → FetchTrace
+trace_from model style state at [] = trace_at_end state at
+trace_from model style state at (byte ∷ t) =
     if nat_le MAX_TEXT_LEN at then Fault TooLong at else
-    moved style at (next model style state byte) (λ s q. read model s q (at + 1) t)
+    moved style at (posix_step model style state byte) (λ s q. trace_from model s q (at + 1) t)
 
--- what a text is read as
-abbrev pub reading : Model → Text → Reading
-reading model t = read model Undecided Between 0 t
+-- the trace of a text
+abbrev pub fetch_trace : Model → Text → FetchTrace
+fetch_trace model t = trace_from model Undecided Between 0 t
 
 -- two fetches want one argument with two types
 abbrev pub differs_at : Option ℕ → Option ℕ → Fetch → Fetch → Bool
@@ -51,7 +51,7 @@ differs_at _ _ f g = false
 abbrev pub differs : Fetch → Fetch → Bool
 differs f g = differs_at f.number g.number f g
 
--- one of them does with a fetch behind them
+-- one of some fetches does with a later fetch
 abbrev pub conflicts : List Fetch → Fetch → Bool
 conflicts [] f = false
 conflicts (g ∷ fetched) f = differs g f || conflicts fetched f
@@ -61,33 +61,33 @@ pub data Verdict : Type 0 where
   Takes : (fetched : List Fetch) → Verdict
   Refused : (kind : SignatureRefusalKind) (at : ℕ) → Verdict
 
--- the same of a reading behind some fetches
-abbrev pub settled : List Fetch → Reading → Verdict
-settled seen Whole = Takes seen
-settled seen (Fault kind at) = Refused kind at
-settled seen (Fetches f at rest) =
-    if conflicts seen f then Refused TwoTypes at else settled (seen ++ f ∷ []) rest
+-- the verdict on a trace behind some fetches
+abbrev pub verdict_after : List Fetch → FetchTrace → Verdict
+verdict_after seen Whole = Takes seen
+verdict_after seen (Fault kind at) = Refused kind at
+verdict_after seen (Fetches f at rest) =
+    if conflicts seen f then Refused TwoTypes at else verdict_after (seen ++ f ∷ []) rest
 
--- the same of a text
+-- the verdict on a text
 abbrev pub verdict : Model → Text → Verdict
-verdict model t = settled [] (reading model t)
+verdict model t = verdict_after [] (fetch_trace model t)
 
 -- the types that are wanted, in order
-abbrev pub wanted : List Fetch → List ArgumentType
-wanted fetched = map (λ f. f.wanted) fetched
+abbrev pub wanted_types : List Fetch → List ArgumentType
+wanted_types fetched = map (λ f. f.wanted) fetched
 
--- a number is given
+-- there is a number, and it is this one
 abbrev pub is_number : Option ℕ → ℕ → Bool
 is_number None n = false
 is_number (Some m) n = m == n
 
--- the type of the first fetch of an argument before which so many stand
+-- the type of the first fetch of the argument at a place, counted from 0
 abbrev pub wanted_at : ℕ → List Fetch → Option ArgumentType
 wanted_at place [] = None
 wanted_at place (f ∷ fetched) =
     if is_number f.number (place + 1) then Some f.wanted else wanted_at place fetched
 
--- the greatest number
+-- the greatest number of an argument that is fetched
 abbrev pub greatest : List Fetch → ℕ
 greatest [] = 0
 greatest (f ∷ fetched) = max (unwrap_or f.number 0) (greatest fetched)

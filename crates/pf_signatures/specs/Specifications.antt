@@ -9,7 +9,7 @@ use Rattle.pf_signatures.specs.declared.conversions.Conversion.TheVariants.{Prof
 use Rattle.pf_signatures.specs.declared.conversions.Floating.{Floating}
 use Rattle.pf_signatures.specs.declared.conversions.Floating.TheVariants as floats
 use Rattle.pf_signatures.specs.declared.conversions.Modifier.{Modifier}
-use Rattle.pf_signatures.specs.declared.conversions.Modifier.TheVariants.{Plain, LongDouble}
+use Rattle.pf_signatures.specs.declared.conversions.Modifier.TheVariants.{Integer, LongDouble}
 
 -- A field width or a precision: a number, or an argument, which has a number of its own in a
 -- numbered specification (C11 7.21.6.1 p4 and p5; POSIX fprintf on `*m$`).
@@ -19,7 +19,7 @@ pub data Amount : Type 0 where
 
 -- The parts of a specification (C11 7.21.6.1 p4); in a numbered one, the number of its argument
 -- (POSIX fprintf on `%n$`).
-pub record WholeSpecification : Type 0 where
+pub record PosixSpecification : Type 0 where
   pub position : Option ℕ
   pub flags : FlagSet
   pub width : Option Amount
@@ -49,5 +49,5 @@ conversion_letter Count = 110
 
 -- (C11 7.21.6.1 p7)
 abbrev pub modifier_letters : Modifier → Text
-modifier_letters (Plain length) = length_letters length
+modifier_letters (Integer length) = length_letters length
 modifier_letters LongDouble = codes "L"

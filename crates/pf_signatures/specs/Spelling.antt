@@ -7,11 +7,11 @@ use Rattle.pf_values.specs.Digits.{IsNumeral}
 use Rattle.pf_values.specs.Flags.{flag_byte, flag_set}
 use Rattle.pf_values.specs.Spelling.{SpellsPrecision}
 use Rattle.pf_values.specs.Text.{Text, dollar, percent, point, star}
-use Rattle.pf_signatures.specs.Specifications.{Amount, Given, Fetched, WholeSpecification, conversion_letter, modifier_letters}
+use Rattle.pf_signatures.specs.Specifications.{Amount, Given, Fetched, PosixSpecification, conversion_letter, modifier_letters}
 
 -- a number from 1 on within the limit; its digits don't begin with 0, which is a flag
 -- (C11 7.21.6.1 p4, POSIX fprintf)
-pub record SpellsNumber (t : Text) (n : ℕ) : Type 0 where
+pub record SpellsPositive (t : Text) (n : ℕ) : Type 0 where
   pub some : 0 < n
   pub numeral : IsNumeral 10 false 1 n t
   pub within : n ≤ MAX_NUMBER
@@ -19,7 +19,7 @@ pub record SpellsNumber (t : Text) (n : ℕ) : Type 0 where
 -- the number of an argument and `$`, or nothing (POSIX fprintf on `%n$`)
 abbrev pub SpellsPosition : Text → Option ℕ → Type 0
 SpellsPosition t None = t ≡ []
-SpellsPosition t (Some n) = (digits : Text) × SpellsNumber digits n × (t ≡ digits ++ dollar ∷ [])
+SpellsPosition t (Some n) = (digits : Text) × SpellsPositive digits n × (t ≡ digits ++ dollar ∷ [])
 
 -- `*`, with the number of its argument in a numbered specification alone (C11 7.21.6.1 p5, POSIX
 -- fprintf on `*m$`)
@@ -30,21 +30,21 @@ pub record SpellsStar (t : Text) (position number : Option ℕ) : Type 0 where
   pub whole : t ≡ star ∷ digits
 
 -- a number, `*`, or nothing (C11 7.21.6.1 p4)
-abbrev pub SpellsWidth : Text → Option ℕ → Option Amount → Type 0
-SpellsWidth t position None = t ≡ []
-SpellsWidth t position (Some (Given n)) = SpellsNumber t n
-SpellsWidth t position (Some (Fetched number)) = SpellsStar t position number
+abbrev pub SpellsPosixWidth : Text → Option ℕ → Option Amount → Type 0
+SpellsPosixWidth t position None = t ≡ []
+SpellsPosixWidth t position (Some (Given n)) = SpellsPositive t n
+SpellsPosixWidth t position (Some (Fetched number)) = SpellsStar t position number
 
 -- a point and any number of digits or `*`, or nothing (C11 7.21.6.1 p4)
-abbrev pub SpellsAmount : Text → Option ℕ → Option Amount → Type 0
-SpellsAmount t position None = t ≡ []
-SpellsAmount t position (Some (Given n)) = SpellsPrecision t (Some n) × (n ≤ MAX_NUMBER)
-SpellsAmount t position (Some (Fetched number)) =
+abbrev pub SpellsPosixPrecision : Text → Option ℕ → Option Amount → Type 0
+SpellsPosixPrecision t position None = t ≡ []
+SpellsPosixPrecision t position (Some (Given n)) = SpellsPrecision t (Some n) × (n ≤ MAX_NUMBER)
+SpellsPosixPrecision t position (Some (Fetched number)) =
     (rest : Text) × SpellsStar rest position number × (t ≡ point ∷ rest)
 
 -- `%`, the number of the argument, and flags in any order and number (C11 7.21.6.1 p4, POSIX
 -- fprintf)
-pub record IsToFlags (t : Text) (position : Option ℕ) (set : FlagSet) : Type 0 where
+pub record SpellsUpToFlags (t : Text) (position : Option ℕ) (set : FlagSet) : Type 0 where
   pub place : Text
   pub flags : List Flag
   pub place_is : SpellsPosition place position
@@ -52,25 +52,25 @@ pub record IsToFlags (t : Text) (position : Option ℕ) (set : FlagSet) : Type 0
   pub whole : t ≡ percent ∷ place ++ map flag_byte flags
 
 -- the same and a width (C11 7.21.6.1 p4)
-pub record IsToWidth (t : Text) (position : Option ℕ) (set : FlagSet)
+pub record SpellsUpToWidth (t : Text) (position : Option ℕ) (set : FlagSet)
     (width : Option Amount) : Type 0 where
   pub before : Text
   pub text : Text
-  pub before_is : IsToFlags before position set
-  pub width_is : SpellsWidth text position width
+  pub before_is : SpellsUpToFlags before position set
+  pub width_is : SpellsPosixWidth text position width
   pub whole : t ≡ before ++ text
 
 -- the same and a precision (C11 7.21.6.1 p4)
-pub record IsToPrecision (t : Text) (position : Option ℕ) (set : FlagSet)
+pub record SpellsUpToPrecision (t : Text) (position : Option ℕ) (set : FlagSet)
     (width precision : Option Amount) : Type 0 where
   pub before : Text
   pub text : Text
-  pub before_is : IsToWidth before position set width
-  pub precision_is : SpellsAmount text position precision
+  pub before_is : SpellsUpToWidth before position set width
+  pub precision_is : SpellsPosixPrecision text position precision
   pub whole : t ≡ before ++ text
 
 -- all of it, with a length modifier and the conversion (C11 7.21.6.1 p4)
-pub record SpellsWhole (t : Text) (s : WholeSpecification) : Type 0 where
+pub record SpellsPosix (t : Text) (s : PosixSpecification) : Type 0 where
   pub before : Text
-  pub before_is : IsToPrecision before s.position s.flags s.width s.precision
+  pub before_is : SpellsUpToPrecision before s.position s.flags s.width s.precision
   pub whole : t ≡ before ++ modifier_letters s.modifier ++ conversion_letter s.conversion ∷ []

@@ -1,55 +1,55 @@
--- Two formats read side by side, as the code reads them. No public contract speaks of it.
+-- Two formats read side by side, as the code reads them. No public contract names these.
 use Rattle.std.specs.Prelude.{ℕ, ◌≤◌, List, length, Option, Some, None, ◌⊎◌, if◌then◌else◌, ◌==◌}
 use Rattle.pf_values.specs.declared.models.Model.{Model}
 use Rattle.pf_values.specs.Text.{Text}
-use Rattle.pf_signatures.specs.declared.reader.Next.{Next}
-use Rattle.pf_signatures.specs.declared.reader.Next.TheVariants as nexts
-use Rattle.pf_signatures.specs.declared.stepping.Pair.{Pair}
-use Rattle.pf_signatures.specs.declared.stepping.Pair.TheVariants as pairs
-use Rattle.pf_signatures.specs.declared.stepping.Plain.{Plain}
-use Rattle.pf_signatures.specs.declared.stepping.Plain.TheVariants as plains
-use Rattle.pf_signatures.specs.declared.stepping.Stepped.{Stepped}
-use Rattle.pf_signatures.specs.declared.stepping.Stepped.TheVariants as steps
+use Rattle.pf_signatures.specs.declared.reader.NextFetch.{NextFetch}
+use Rattle.pf_signatures.specs.declared.reader.NextFetch.TheVariants as nexts
+use Rattle.pf_signatures.specs.declared.pairs.NextPair.{NextPair}
+use Rattle.pf_signatures.specs.declared.pairs.NextPair.TheVariants as pairs
+use Rattle.pf_signatures.specs.declared.pairs.UnnumberedNext.{UnnumberedNext}
+use Rattle.pf_signatures.specs.declared.pairs.UnnumberedNext.TheVariants as unnumbered
+use Rattle.pf_signatures.specs.declared.pairs.InStepResult.{InStepResult}
+use Rattle.pf_signatures.specs.declared.pairs.InStepResult.TheVariants as steps
 use Rattle.pf_signatures.specs.declared.tables.TheConstants.{ROOM}
 use Rattle.pf_signatures.specs.declared.types.ArgumentType.{ArgumentType}
 use Rattle.pf_signatures.specs.Items.{HasArguments}
 use Rattle.pf_signatures.specs.Kinds.{type_number}
-use Rattle.pf_signatures.specs.Laws.{Compares, IsFirstDifference}
+use Rattle.pf_signatures.specs.Laws.{ComparesArgumentTypes, IsFirstDifference}
 
--- what comes next, if it isn't by its number
-abbrev pub plain_fetch : Option ℕ → ArgumentType → Plain
-plain_fetch None wanted = plains.Wanted wanted
-plain_fetch (Some n) wanted = plains.Other
+-- the next argument, if it isn't fetched by its number
+abbrev pub unnumbered_fetch : Option ℕ → ArgumentType → UnnumberedNext
+unnumbered_fetch None wanted = unnumbered.Wanted wanted
+unnumbered_fetch (Some n) wanted = unnumbered.Other
 
-abbrev pub plain_of : Next → Plain
-plain_of (nexts.Fetched f) = plain_fetch f.number f.wanted
-plain_of nexts.End = plains.End
-plain_of (nexts.Stop refusal) = plains.Other
+abbrev pub unnumbered_next : NextFetch → UnnumberedNext
+unnumbered_next (nexts.Fetched f) = unnumbered_fetch f.number f.wanted
+unnumbered_next nexts.End = unnumbered.End
+unnumbered_next (nexts.Stop refusal) = unnumbered.Other
 
-abbrev pub paired : Plain → Plain → Pair
-paired (plains.Wanted a) (plains.Wanted b) =
+abbrev pub paired : UnnumberedNext → UnnumberedNext → NextPair
+paired (unnumbered.Wanted a) (unnumbered.Wanted b) =
     if type_number a == type_number b then pairs.Same else pairs.Differ
-paired (plains.Wanted a) plains.End = pairs.Differ
-paired (plains.Wanted a) plains.Other = pairs.Other
-paired plains.End (plains.Wanted b) = pairs.Differ
-paired plains.End plains.End = pairs.End
-paired plains.End plains.Other = pairs.Other
-paired plains.Other beside = pairs.Other
+paired (unnumbered.Wanted a) unnumbered.End = pairs.Differ
+paired (unnumbered.Wanted a) unnumbered.Other = pairs.Other
+paired unnumbered.End (unnumbered.Wanted b) = pairs.Differ
+paired unnumbered.End unnumbered.End = pairs.End
+paired unnumbered.End unnumbered.Other = pairs.Other
+paired unnumbered.Other beside = pairs.Other
 
--- where none of two texts is refused, this is where their types differ
-abbrev pub Differ : Model → Text → Text → ℕ → Type 0
-Differ model first second index = (types others : List ArgumentType)
+-- if neither text is refused, this is the first index at which their types differ
+abbrev pub DifferAt : Model → Text → Text → ℕ → Type 0
+DifferAt model first second index = (types others : List ArgumentType)
     → HasArguments model first types → HasArguments model second others
     → IsFirstDifference types others (Some index)
 
--- and one has no more arguments than a numbered one can have
+-- if neither text is refused, one has no more arguments than a numbered one can have
 abbrev pub AreFew : Model → Text → Text → Type 0
 AreFew model first second = (types others : List ArgumentType)
     → HasArguments model first types → HasArguments model second others
     → (length types ≤ ROOM) ⊎ (length others ≤ ROOM)
 
--- what is found of two texts
-abbrev pub IsStepped : Model → Text → Text → Stepped → Type 0
-IsStepped model first second steps.Equal = Compares model first second None
-IsStepped model first second (steps.Differ index) = Differ model first second index
-IsStepped model first second steps.Other = AreFew model first second
+-- what the comparison of two texts finds
+abbrev pub IsInStepResult : Model → Text → Text → InStepResult → Type 0
+IsInStepResult model first second steps.Equal = ComparesArgumentTypes model first second None
+IsInStepResult model first second (steps.Differ index) = DifferAt model first second index
+IsInStepResult model first second steps.Other = AreFew model first second

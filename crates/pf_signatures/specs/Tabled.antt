@@ -1,10 +1,10 @@
--- The types of numbered arguments, as the code keeps them. No public contract speaks of it.
+-- The types of numbered arguments in a table, as the code has it. No public contract names these.
 use Rattle.std.specs.Prelude.{◌≡◌, ℕ, ◌<◌, ◌≤◌, List, None, length, slice_index_or}
 use Rattle.std.specs.List.{AllByRecursion}
 use Rattle.pf_values.specs.declared.models.Model.{Model}
 use Rattle.pf_values.specs.Text.{Text}
 use Rattle.pf_signatures.specs.declared.fetches.Fetch.{Fetch}
-use Rattle.pf_signatures.specs.declared.parts.Style.TheVariants.{Numbered}
+use Rattle.pf_signatures.specs.declared.partial_specification.Numbering.TheVariants.{Numbered}
 use Rattle.pf_signatures.specs.declared.tables.Table.{Table}
 use Rattle.pf_signatures.specs.declared.tables.TheConstants.{ROOM}
 use Rattle.pf_signatures.specs.Readings.{Takes, greatest, verdict, wanted_at}
@@ -12,7 +12,7 @@ use Rattle.pf_signatures.specs.Refusals.{IsOneType, style_by}
 use Rattle.pf_signatures.specs.Types.{IsFetched}
 
 -- each place has the type of its first fetch
-pub record Keeps (table : Table) (seen : List Fetch) : Type 0 where
+pub record TableHolds (table : Table) (seen : List Fetch) : Type 0 where
   pub full : length table.types ≡ ROOM
   pub types : (place : ℕ) → place < ROOM → slice_index_or table.types place None ≡ wanted_at place seen
   pub count : table.count ≡ greatest seen
@@ -23,6 +23,6 @@ pub record Keeps (table : Table) (seen : List Fetch) : Type 0 where
 pub record IsTabled (model : Model) (t : Text) (table : Table) : Type 0 where
   pub seen : List Fetch
   pub verdict_is : verdict model t ≡ Takes seen
-  pub kept : Keeps table seen
+  pub kept : TableHolds table seen
   pub numbered : AllByRecursion (λ f. style_by f.number ≡ Numbered) seen
   pub all : (place : ℕ) → place < table.count → IsFetched place seen

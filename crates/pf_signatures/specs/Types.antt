@@ -14,11 +14,11 @@ use Rattle.pf_values.specs.Lengths.{is_long}
 use Rattle.pf_signatures.specs.declared.conversions.Conversion.{Conversion}
 use Rattle.pf_signatures.specs.declared.conversions.Conversion.TheVariants as conversions
 use Rattle.pf_signatures.specs.declared.conversions.Modifier.{Modifier}
-use Rattle.pf_signatures.specs.declared.conversions.Modifier.TheVariants.{Plain, LongDouble as long_double}
+use Rattle.pf_signatures.specs.declared.conversions.Modifier.TheVariants.{Integer, LongDouble as long_double}
 use Rattle.pf_signatures.specs.declared.fetches.Fetch.{Fetch}
 use Rattle.pf_signatures.specs.declared.types.ArgumentType.{ArgumentType}
 use Rattle.pf_signatures.specs.declared.types.ArgumentType.TheVariants.{Int, UInt, Long, ULong, LongLong, ULongLong, Str, Double, LongDouble, WideChar, WideString, Pointer, PointerToSChar, PointerToShort, PointerToInt, PointerToLong, PointerToLongLong}
-use Rattle.pf_signatures.specs.Specifications.{Amount, Given, Fetched, WholeSpecification}
+use Rattle.pf_signatures.specs.Specifications.{Amount, Given, Fetched, PosixSpecification}
 
 -- the types of the profile are the same here
 abbrev pub widened : ArgType → ArgumentType
@@ -50,23 +50,23 @@ kind_type model kinds.Char length = if is_long length then WideChar else Int
 kind_type model kinds.String length = if is_long length then WideString else Str
 
 -- the length that a modifier of integers names
-abbrev pub plain_length : Modifier → Length
-plain_length (Plain length) = length
-plain_length long_double = lengths.None
+abbrev pub integer_length : Modifier → Length
+integer_length (Integer length) = length
+integer_length long_double = lengths.None
 
 abbrev pub floating_type : Modifier → ArgumentType
-floating_type (Plain length) = Double
+floating_type (Integer length) = Double
 floating_type long_double = LongDouble
 
 -- the type of a conversion's argument (C11 7.21.6.1 p7 and p8; POSIX fprintf on `C` and `S`)
-abbrev pub type_of : Model → Modifier → Conversion → ArgumentType
-type_of model modifier (conversions.Profile conv) =
-    kind_type model (kind_of conv) (plain_length modifier)
-type_of model modifier (conversions.Float floating) = floating_type modifier
-type_of model modifier conversions.UpperC = WideChar
-type_of model modifier conversions.UpperS = WideString
-type_of model modifier conversions.Pointer = Pointer
-type_of model modifier conversions.Count = counted_type model (plain_length modifier)
+abbrev pub conversion_type : Model → Modifier → Conversion → ArgumentType
+conversion_type model modifier (conversions.Profile conv) =
+    kind_type model (kind_of conv) (integer_length modifier)
+conversion_type model modifier (conversions.Float floating) = floating_type modifier
+conversion_type model modifier conversions.UpperC = WideChar
+conversion_type model modifier conversions.UpperS = WideString
+conversion_type model modifier conversions.Pointer = Pointer
+conversion_type model modifier conversions.Count = counted_type model (integer_length modifier)
 
 abbrev pub fetch : Option ℕ → ArgumentType → Fetch
 fetch number wanted = record { number = number; wanted = wanted }
@@ -79,17 +79,17 @@ star_fetches (Some (Fetched number)) = fetch number Int ∷ []
 
 -- what a specification fetches: the width before the precision, and then the conversion's argument
 -- (C11 7.21.6.1 p5)
-abbrev pub fetches : Model → WholeSpecification → List Fetch
+abbrev pub fetches : Model → PosixSpecification → List Fetch
 fetches model s =
     star_fetches s.width ++ star_fetches s.precision
-    ++ fetch s.position (type_of model s.modifier s.conversion) ∷ []
+    ++ fetch s.position (conversion_type model s.modifier s.conversion) ∷ []
 
 -- the argument that is fetched has its type in a list
-abbrev pub IsOfType : List ArgumentType → Fetch → Type 0
-IsOfType types f =
+abbrev pub HasTypeIn : List ArgumentType → Fetch → Type 0
+HasTypeIn types f =
     (place : ℕ) × (f.number ≡ Some (place + 1)) × (slice_get types place ≡ Some f.wanted)
 
--- an argument is fetched, before which so many stand
+-- the argument at a place, counted from 0, is fetched
 abbrev pub IsFetched : ℕ → List Fetch → Type 0
 IsFetched place [] = ⊥
 IsFetched place (f ∷ fetched) = (f.number ≡ Some (place + 1)) ⊎ IsFetched place fetched
@@ -101,10 +101,10 @@ pub record AreInOrder (fetched : List Fetch) (types : List ArgumentType) : Type 
 
 -- numbered ones fetch each argument at least once, always with one type (POSIX fprintf on `%n$`)
 pub record AreNumbered (fetched : List Fetch) (types : List ArgumentType) : Type 0 where
-  pub each : AllByRecursion (IsOfType types) fetched
+  pub each : AllByRecursion (HasTypeIn types) fetched
   pub all : (place : ℕ) → place < length types → IsFetched place fetched
 
--- the types of the arguments that are fetched; both kinds of specifications never stand in one
--- format (POSIX fprintf)
+-- the types of the arguments that are fetched; a format never has specifications of both kinds
+-- (POSIX fprintf)
 abbrev pub HaveTypes : List Fetch → List ArgumentType → Type 0
 HaveTypes fetched types = AreInOrder fetched types ⊎ AreNumbered fetched types

@@ -1,24 +1,25 @@
-//! The argument types of a format.
-ghost use Rattle.std.specs.Prelude.{◌≡◌, ◌<◌, ◌≤◌, ℕ, None, length, MatchResult, ◌+◌, IsTrue, is_some};
-ghost use Rattle.pf_signatures.specs.Laws.{HasCount};
-ghost use Rattle.pf_signatures.specs.Readings.{Fetches, reading};
-ghost use Rattle.pf_signatures.specs.Refusals.{IsRefusedAt};
+//! The argument types of a format, in a slice or in a vector.
+ghost use Rattle.std.specs.Prelude.{◌≡◌, ◌<◌, ◌≤◌, ℕ, None, length, MatchResult, ◌+◌, IsTrue, is_some, IfErr, IfOk};
+ghost use Rattle.pf_signatures.specs.Laws.{HasCount, HindersList};
+ghost use Rattle.pf_signatures.specs.Readings.{Fetches, fetch_trace};
+ghost use Rattle.pf_signatures.specs.Refusals.{IsPosixRefusedAt};
 ghost use Rattle.pf_signatures.specs.Types.{fetch};
-ghost use Rattle.pf_signatures.specs.Walks.{left};
+ghost use Rattle.pf_signatures.specs.Walks.{trace_left};
+ghost use Rattle.pf_signatures.specs.Items.{HasArguments};
 
 use crate::fetches::Fetch;
-use crate::filling::put;
-use crate::reader::{Next, Reader};
-use crate::refusals::SignatureRefusal;
-use crate::tables::Table;
+use crate::reader::{NextFetch, Reader};
+use crate::refusals::{SignatureFault, SignatureRefusal};
+use crate::tables::{Table, put};
 use crate::types::ArgumentType;
 use pf_values::Model;
+use std::alloc::{AllocError, Global};
 
 /// The types of the arguments that a format of the whole language takes in a data model (C11
 /// 7.21.6.1, paragraphs 3 to 9; POSIX fprintf on numbered arguments), of which there are `count`.
-/// The first of them, as many as `out` has room for, stand at its front, and what is behind them
-/// in `out` is as it was. Where the format is refused, `out` is of the same length, and nothing is
-/// said of what it holds.
+/// The first of them, as many as `out` has room for, are put at its front, and the rest of `out` is
+/// as it was. Where the format is refused, `out` has the same length, and its contents are
+/// unspecified.
 pub fn arguments(
     model: Model,
     text: &[u8],
@@ -26,21 +27,21 @@ pub fn arguments(
 ) -> Result<u64, SignatureRefusal>
     ensures types { MatchResult result
         (λ count. HasCount model text.now out.old out.new count)
-        (λ refusal. IsRefusedAt model text.now refusal.kind refusal.at) }
+        (λ refusal. IsPosixRefusedAt model text.now refusal.kind refusal.at) }
     ensures length { length out.new ≡ length out.old }
 {
     let mut reader = Reader::new();
     match reader.next_fetch(model, text) {
-        Next::End => Ok(0),
-        Next::Stop(refusal) => Err(refusal),
-        Next::Fetched(first) => match first.number {
+        NextFetch::End => Ok(0),
+        NextFetch::Stop(refusal) => Err(refusal),
+        NextFetch::Fetched(first) => match first.number {
             None => in_order(model, text, reader, first.wanted, out),
             Some(_) => by_number(model, text, reader, first, out),
         },
     }
 }
 
-// The rest of a format that isn't numbered.
+// The types of a format that isn't numbered, of which the first argument was read.
 fn in_order(
     model: Model,
     text: &[u8],
@@ -51,10 +52,10 @@ fn in_order(
     requires within { after_first.at ≤ length text.now }
     requires some { 0 < after_first.at }
     requires first { (at : ℕ)
-        × (reading model text.now ≡ Fetches (fetch None first) at (left model text.now after_first)) }
+        × (fetch_trace model text.now ≡ Fetches (fetch None first) at (trace_left model text.now after_first)) }
     ensures types { MatchResult result
         (λ count. HasCount model text.now out.old out.new count)
-        (λ refusal. IsRefusedAt model text.now refusal.kind refusal.at) }
+        (λ refusal. IsPosixRefusedAt model text.now refusal.kind refusal.at) }
     ensures length { length out.new ≡ length out.old }
 {
     let mut reader = after_first;
@@ -62,17 +63,17 @@ fn in_order(
     let mut count: usize = 1;
     loop {
         match reader.next_fetch(model, text) {
-            Next::Fetched(fetch) => {
+            NextFetch::Fetched(fetch) => {
                 put(out, count, fetch.wanted);
                 count += 1;
             }
-            Next::End => return Ok(count as u64),
-            Next::Stop(refusal) => return Err(refusal),
+            NextFetch::End => return Ok(count as u64),
+            NextFetch::Stop(refusal) => return Err(refusal),
         }
     }
 }
 
-// The rest of a numbered format.
+// The types of a numbered format, of which the first argument was read.
 #[inline(never)]
 fn by_number(
     model: Model,
@@ -84,10 +85,10 @@ fn by_number(
     requires within { after_first.at ≤ length text.now }
     requires number { IsTrue (is_some first.number) }
     requires first { (at : ℕ) × (after_first.at ≡ at + 1)
-        × (reading model text.now ≡ Fetches first at (left model text.now after_first)) }
+        × (fetch_trace model text.now ≡ Fetches first at (trace_left model text.now after_first)) }
     ensures types { MatchResult result
         (λ count. HasCount model text.now out.old out.new count)
-        (λ refusal. IsRefusedAt model text.now refusal.kind refusal.at) }
+        (λ refusal. IsPosixRefusedAt model text.now refusal.kind refusal.at) }
     ensures length { length out.new ≡ length out.old }
 {
     let mut table = Table::new();
@@ -95,4 +96,43 @@ fn by_number(
     table.copy_front(out);
     let count = table.count();
     Ok(count as u64)
+}
+
+/// The types of the arguments that a format of the whole language takes in a data model, as
+/// `arguments` has them. The format is read twice: the room is taken by one growth, of their
+/// number, and none is taken where it takes no argument.
+pub fn arguments_vec(
+    alloc: Global,
+    model: Model,
+    text: &[u8],
+) -> Result<Vec<ArgumentType>, SignatureFault>
+    ensures { MatchResult result (λ types. HasArguments model text.now types.items)
+        (HindersList model text.now) }
+{
+    let count = match arguments(model, text, &mut []) {
+        Ok(count) => count,
+        Err(refusal) => return Err(SignatureFault::Refused(refusal)),
+    };
+    let mut types = match room_for(alloc, count) {
+        Ok(types) => types,
+        Err(AllocError) => return Err(SignatureFault::Memory),
+    };
+    match arguments(model, text, &mut types) {
+        Ok(_) => Ok(types),
+        Err(refusal) => Err(SignatureFault::Refused(refusal)),
+    }
+}
+
+// Room for so many types. Where that is none, no memory is taken.
+fn room_for(alloc: Global, count: u64) -> Result<Vec<ArgumentType>, AllocError>
+    ensures room { IfOk result (λ types. length types.items ≡ count) }
+    ensures some { IfErr result (λ _. 0 < count) }
+{
+    if count == 0 {
+        return Ok(Vec::new(alloc));
+    }
+    match usize::try_from(count) {
+        Ok(count) => Vec::from_elem(alloc, ArgumentType::Int, count),
+        Err(_) => Err(AllocError),
+    }
 }

@@ -1,25 +1,24 @@
-//! How far an item has come, and what one more byte makes of it.
+//! The automaton that reads items: what was read of an item, and what one more byte makes of it.
 ghost use Rattle.std.specs.Prelude.{◌≡◌, ◌<◌, ◌↔◌, ℕ, false, IsTrue, Some, None, Ok};
 ghost use Rattle.pf_signatures.specs.declared.types.ArgumentType.TheVariants.{Int};
 ghost use Rattle.pf_signatures.specs.Letters.{is_first_digit};
-ghost use Rattle.pf_signatures.specs.Moves.{next_by, numbered};
+ghost use Rattle.pf_signatures.specs.Moves.{posix_step_by, numbered};
 ghost use Rattle.pf_signatures.specs.Refusals.{too_large};
-ghost use Rattle.pf_signatures.specs.Stages.{Between, Placed, state_in_phase, state_of};
-ghost use Rattle.pf_signatures.specs.States.{after_amount, after_first, after_flags, after_modifier, after_numbers, after_percent, after_star, dollar_after, end_at, flag_or_after, inside, next, star_at, stray, with_digit};
+ghost use Rattle.pf_signatures.specs.Stages.{Between, Placed, posix_state_in_phase, posix_state_of};
+ghost use Rattle.pf_signatures.specs.States.{after_amount, after_first, among_flags, after_modifier_letter, after_numbers, after_percent, after_star, dollar_after, conversion_at, flag_or_width, move_to, posix_step, star_at, stray, with_digit};
 ghost use Rattle.pf_signatures.specs.Types.{fetch};
 
 use crate::conversions::Modifier;
-use crate::fetches::Fetch;
-use crate::kinds::SignatureRefusalKind;
-use crate::letters::{conversion_of, flag_of, modifier_of};
-use crate::parts::{Parts, Slot, Style};
+use crate::fetches::{Fetch, conversion_type};
+use crate::letters::{conversion_of, flag_of, length_modifier_of};
+use crate::partial_specification::{Numbering, PartialSpecification, WidthOrPrecision};
+use crate::refusals::SignatureRefusalKind;
 use crate::types::ArgumentType;
-use crate::undefined::undefined_as;
-use crate::wanted::type_of;
+use crate::undefined_combinations::undefined_as;
 use pf_values::limits::MAX_NUMBER;
 use pf_values::{Length, Model};
 
-/// What has come of an item.
+/// What was read of an item.
 #[derive(Clone, Copy, Debug)]
 pub(crate) enum Phase {
     /// Nothing.
@@ -44,7 +43,7 @@ pub(crate) enum Phase {
     Modified,
 }
 
-/// What a byte makes. It holds nothing, so that it goes in a register.
+/// What a byte does. It holds nothing, so that it is returned in a register.
 #[derive(Clone, Copy, Debug)]
 pub(crate) enum Move {
     /// The byte is inside an item, or a whole one.
@@ -53,32 +52,32 @@ pub(crate) enum Move {
     Fetched,
 }
 
-/// What has come of an item, in fields that are changed in place. In each phase only some of them
+/// What was read of an item, in fields that are changed in place. In each phase only some of them
 /// count.
 #[derive(Clone, Copy, Debug)]
 pub(crate) struct Automaton {
     phase: Phase,
-    slot: Slot,
-    parts: Parts,
-    /// The digits so far of a number.
+    slot: WidthOrPrecision,
+    parts: PartialSpecification,
+    /// The number of the digits so far.
     number: u16,
     modifier: Modifier,
-    /// What was fetched last.
+    /// The argument that was fetched last.
     fetch: Fetch,
 }
 
 impl Automaton {
-    /// Nothing has come.
+    /// An automaton before an item.
     #[inline(always)]
     pub(crate) fn new() -> Automaton
-        ensures { state_of result ≡ Between }
+        ensures { posix_state_of result ≡ Between }
     {
         Automaton {
             phase: Phase::Between,
-            slot: Slot::Width,
-            parts: Parts::at(None),
+            slot: WidthOrPrecision::Width,
+            parts: PartialSpecification::at(None),
             number: 0,
-            modifier: Modifier::Plain(Length::None),
+            modifier: Modifier::Integer(Length::None),
             fetch: Fetch {
                 number: None,
                 wanted: ArgumentType::Int,
@@ -86,15 +85,15 @@ impl Automaton {
         }
     }
 
-    /// Whether nothing of an item has come.
+    /// Whether the automaton is between two items.
     #[inline(always)]
     pub(crate) fn is_between(&self) -> bool
-        ensures { IsTrue result ↔ (state_of self.now ≡ Between) }
+        ensures { IsTrue result ↔ (posix_state_of self.now ≡ Between) }
     {
         matches!(self.phase, Phase::Between)
     }
 
-    /// What was fetched last.
+    /// The argument that was fetched last.
     #[inline(always)]
     pub(crate) fn fetch(&self) -> Fetch
         ensures { result ≡ self.now.fetch }
@@ -102,33 +101,33 @@ impl Automaton {
         self.fetch
     }
 
-    /// Takes one more byte, where earlier specifications are of a style. After a refusal the state
-    /// means nothing.
+    /// Takes one more byte, behind specifications that are numbered or aren't. After a refusal the
+    /// automaton is of no use.
     #[inline(always)]
     pub(crate) fn step(
         &mut self,
         model: Model,
-        style: Style,
+        style: Numbering,
         byte: u8,
     ) -> Result<Move, SignatureRefusalKind>
-        ensures { next_by result self.new ≡ next model style (state_of self.old) byte }
+        ensures { posix_step_by result self.new ≡ posix_step model style (posix_state_of self.old) byte }
     {
         match self.phase {
             Phase::Between => match byte {
                 0 => Err(SignatureRefusalKind::NulByte),
-                b'%' => self.go(Phase::Opened),
-                _ => self.go(Phase::Between),
+                b'%' => self.move_to(Phase::Opened),
+                _ => self.move_to(Phase::Between),
             },
             Phase::Opened => match byte {
-                b'%' => self.go(Phase::Between),
+                b'%' => self.move_to(Phase::Between),
                 _ => self.after_percent(model, style, byte),
             },
             Phase::First => match byte {
-                b'0'..=b'9' => self.with_digit(Slot::Width, byte - b'0'),
+                b'0'..=b'9' => self.with_digit(WidthOrPrecision::Width, byte - b'0'),
                 b'$' => self.dollar_after(style),
                 _ => self.after_first(model, style, byte),
             },
-            Phase::Flags => self.after_flags(model, byte),
+            Phase::Flags => self.among_flags(model, byte),
             Phase::Digits => match byte {
                 b'0'..=b'9' => self.with_digit(self.slot, byte - b'0'),
                 _ => self.after_amount(model, byte),
@@ -142,23 +141,23 @@ impl Automaton {
             Phase::Placed => self.after_amount(model, byte),
             Phase::Point => match byte {
                 b'0'..=b'9' => {
-                    self.slot = Slot::Precision;
+                    self.slot = WidthOrPrecision::Precision;
                     self.number = u16::from(byte - b'0');
-                    self.go(Phase::Digits)
+                    self.move_to(Phase::Digits)
                 }
-                b'*' => self.star_at(Slot::Precision),
+                b'*' => self.star_at(WidthOrPrecision::Precision),
                 _ => {
-                    self.slot = Slot::Precision;
+                    self.slot = WidthOrPrecision::Precision;
                     self.after_amount(model, byte)
                 }
             },
-            Phase::Modified => self.after_modifier(model, byte),
+            Phase::Modified => self.after_modifier_letter(model, byte),
         }
     }
 
     #[inline(always)]
-    fn go(&mut self, phase: Phase) -> Result<Move, SignatureRefusalKind>
-        ensures { next_by result self.new ≡ inside (state_in_phase phase self.old) }
+    fn move_to(&mut self, phase: Phase) -> Result<Move, SignatureRefusalKind>
+        ensures { posix_step_by result self.new ≡ move_to (posix_state_in_phase phase self.old) }
     {
         self.phase = phase;
         Ok(Move::More)
@@ -168,15 +167,15 @@ impl Automaton {
     fn after_percent(
         &mut self,
         model: Model,
-        style: Style,
+        style: Numbering,
         byte: u8,
     ) -> Result<Move, SignatureRefusalKind>
-        ensures { next_by result self.new ≡ after_percent model style byte }
+        ensures { posix_step_by result self.new ≡ after_percent model style byte }
     {
         match byte {
             b'1'..=b'9' => {
                 self.number = u16::from(byte - b'0');
-                self.go(Phase::First)
+                self.move_to(Phase::First)
             }
             _ => self.flags_after_percent(model, style, byte),
         }
@@ -186,30 +185,30 @@ impl Automaton {
     fn flags_after_percent(
         &mut self,
         model: Model,
-        style: Style,
+        style: Numbering,
         byte: u8,
     ) -> Result<Move, SignatureRefusalKind>
         requires { is_first_digit byte ≡ false }
-        ensures { next_by result self.new ≡ after_percent model style byte }
+        ensures { posix_step_by result self.new ≡ after_percent model style byte }
     {
         match style {
-            Style::Numbered => Err(stray(byte, SignatureRefusalKind::Mixed)),
-            Style::Undecided | Style::Unnumbered => {
-                self.parts = Parts::at(None);
-                self.after_flags(model, byte)
+            Numbering::Numbered => Err(stray(byte, SignatureRefusalKind::Mixed)),
+            Numbering::Undecided | Numbering::Unnumbered => {
+                self.parts = PartialSpecification::at(None);
+                self.among_flags(model, byte)
             }
         }
     }
 
     #[inline(always)]
-    fn dollar_after(&mut self, style: Style) -> Result<Move, SignatureRefusalKind>
-        ensures { next_by result self.new ≡ dollar_after style self.old.number }
+    fn dollar_after(&mut self, style: Numbering) -> Result<Move, SignatureRefusalKind>
+        ensures { posix_step_by result self.new ≡ dollar_after style self.old.number }
     {
         match style {
-            Style::Unnumbered => Err(SignatureRefusalKind::Mixed),
-            Style::Undecided | Style::Numbered => {
-                self.parts = Parts::at(Some(self.number));
-                self.go(Phase::Flags)
+            Numbering::Unnumbered => Err(SignatureRefusalKind::Mixed),
+            Numbering::Undecided | Numbering::Numbered => {
+                self.parts = PartialSpecification::at(Some(self.number));
+                self.move_to(Phase::Flags)
             }
         }
     }
@@ -218,58 +217,58 @@ impl Automaton {
     fn after_first(
         &mut self,
         model: Model,
-        style: Style,
+        style: Numbering,
         byte: u8,
     ) -> Result<Move, SignatureRefusalKind>
-        ensures { next_by result self.new ≡ after_first model style byte }
+        ensures { posix_step_by result self.new ≡ after_first model style byte }
     {
         match style {
-            Style::Numbered => Err(stray(byte, SignatureRefusalKind::Mixed)),
-            Style::Undecided | Style::Unnumbered => {
-                self.slot = Slot::Width;
-                self.parts = Parts::at(None).with_width();
+            Numbering::Numbered => Err(stray(byte, SignatureRefusalKind::Mixed)),
+            Numbering::Undecided | Numbering::Unnumbered => {
+                self.slot = WidthOrPrecision::Width;
+                self.parts = PartialSpecification::at(None).with_width();
                 self.after_amount(model, byte)
             }
         }
     }
 
     #[inline(always)]
-    fn after_flags(&mut self, model: Model, byte: u8) -> Result<Move, SignatureRefusalKind>
-        ensures { next_by result self.new ≡ after_flags model self.old.parts byte }
+    fn among_flags(&mut self, model: Model, byte: u8) -> Result<Move, SignatureRefusalKind>
+        ensures { posix_step_by result self.new ≡ among_flags model self.old.parts byte }
     {
         if let Some(flag) = flag_of(byte) {
             self.parts = self.parts.with_flag(flag);
-            return self.go(Phase::Flags);
+            return self.move_to(Phase::Flags);
         }
         self.after_no_flag(model, byte)
     }
 
     #[inline(always)]
     fn after_no_flag(&mut self, model: Model, byte: u8) -> Result<Move, SignatureRefusalKind>
-        ensures { next_by result self.new ≡ flag_or_after model self.old.parts byte None }
+        ensures { posix_step_by result self.new ≡ flag_or_width model self.old.parts byte None }
     {
         match byte {
             b'0'..=b'9' => {
-                self.slot = Slot::Width;
+                self.slot = WidthOrPrecision::Width;
                 self.parts = self.parts.with_width();
                 self.number = u16::from(byte - b'0');
-                self.go(Phase::Digits)
+                self.move_to(Phase::Digits)
             }
             b'*' => {
                 self.parts = self.parts.with_width();
-                self.star_at(Slot::Width)
+                self.star_at(WidthOrPrecision::Width)
             }
             _ => {
-                self.slot = Slot::Width;
+                self.slot = WidthOrPrecision::Width;
                 self.after_amount(model, byte)
             }
         }
     }
 
-    // A `*`.
+    // Takes a `*`.
     #[inline(always)]
-    fn star_at(&mut self, slot: Slot) -> Result<Move, SignatureRefusalKind>
-        ensures { next_by result self.new ≡ star_at slot self.old.parts self.old.parts.position }
+    fn star_at(&mut self, slot: WidthOrPrecision) -> Result<Move, SignatureRefusalKind>
+        ensures { posix_step_by result self.new ≡ star_at slot self.old.parts self.old.parts.position }
     {
         self.slot = slot;
         self.phase = Phase::Star;
@@ -282,10 +281,10 @@ impl Automaton {
         }
     }
 
-    // The `$` behind the number of a `*`.
+    // Takes the `$` behind the number of a `*`, which fetches an argument.
     #[inline(always)]
     fn fetches(&mut self, number: Option<u16>) -> Result<Move, SignatureRefusalKind>
-        ensures { next_by result self.new
+        ensures { posix_step_by result self.new
             ≡ Ok (Placed self.old.slot self.old.parts, Some (fetch number Int)) }
     {
         self.phase = Phase::Placed;
@@ -294,9 +293,13 @@ impl Automaton {
     }
 
     #[inline(always)]
-    fn with_digit(&mut self, slot: Slot, digit: u8) -> Result<Move, SignatureRefusalKind>
+    fn with_digit(
+        &mut self,
+        slot: WidthOrPrecision,
+        digit: u8,
+    ) -> Result<Move, SignatureRefusalKind>
         requires { digit < 10 }
-        ensures { next_by result self.new
+        ensures { posix_step_by result self.new
             ≡ with_digit slot (numbered self.old.phase self.old) self.old.number digit }
     {
         let wider = 10 * u32::from(self.number) + u32::from(digit);
@@ -309,7 +312,7 @@ impl Automaton {
 
     #[inline(always)]
     fn after_star(&mut self, model: Model, byte: u8) -> Result<Move, SignatureRefusalKind>
-        ensures { next_by result self.new
+        ensures { posix_step_by result self.new
             ≡ after_star model self.old.slot self.old.parts self.old.parts.position byte }
     {
         match self.parts.position {
@@ -320,71 +323,75 @@ impl Automaton {
             Some(_) => match byte {
                 b'1'..=b'9' => {
                     self.number = u16::from(byte - b'0');
-                    self.go(Phase::StarDigits)
+                    self.move_to(Phase::StarDigits)
                 }
                 _ => Err(stray(byte, SignatureRefusalKind::Mixed)),
             },
         }
     }
 
-    /// After a width a precision may begin.
+    /// Takes a byte after a width or a precision: after a width a precision may begin.
     #[inline(always)]
     fn after_amount(&mut self, model: Model, byte: u8) -> Result<Move, SignatureRefusalKind>
-        ensures { next_by result self.new
+        ensures { posix_step_by result self.new
             ≡ after_amount model self.old.slot self.old.parts byte }
     {
         match self.slot {
-            Slot::Precision => self.after_numbers(model, byte),
-            Slot::Width => match byte {
+            WidthOrPrecision::Precision => self.after_numbers(model, byte),
+            WidthOrPrecision::Width => match byte {
                 b'.' => {
                     self.parts = self.parts.with_precision();
-                    self.go(Phase::Point)
+                    self.move_to(Phase::Point)
                 }
                 _ => self.after_numbers(model, byte),
             },
         }
     }
 
-    /// After the numbers a modifier may begin, or the specification ends.
+    /// Takes a byte after the numbers: a modifier may begin, or the specification ends.
     #[inline(always)]
     fn after_numbers(&mut self, model: Model, byte: u8) -> Result<Move, SignatureRefusalKind>
-        ensures { next_by result self.new ≡ after_numbers model self.old.parts byte }
+        ensures { posix_step_by result self.new ≡ after_numbers model self.old.parts byte }
     {
-        if let Some(modifier) = modifier_of(byte) {
+        if let Some(modifier) = length_modifier_of(byte) {
             self.modifier = modifier;
-            return self.go(Phase::Modified);
+            return self.move_to(Phase::Modified);
         }
-        self.end_at(model, Modifier::Plain(Length::None), byte)
+        self.conversion_at(model, Modifier::Integer(Length::None), byte)
     }
 
-    /// A second letter of a modifier, or the end.
+    /// Takes the second letter of a modifier, or the conversion.
     #[inline(always)]
-    fn after_modifier(&mut self, model: Model, byte: u8) -> Result<Move, SignatureRefusalKind>
-        ensures { next_by result self.new
-            ≡ after_modifier model self.old.parts self.old.modifier byte }
+    fn after_modifier_letter(
+        &mut self,
+        model: Model,
+        byte: u8,
+    ) -> Result<Move, SignatureRefusalKind>
+        ensures { posix_step_by result self.new
+            ≡ after_modifier_letter model self.old.parts self.old.modifier byte }
     {
         match (self.modifier, byte) {
-            (Modifier::Plain(Length::H), b'h') => {
-                self.modifier = Modifier::Plain(Length::Hh);
-                self.go(Phase::Modified)
+            (Modifier::Integer(Length::H), b'h') => {
+                self.modifier = Modifier::Integer(Length::Hh);
+                self.move_to(Phase::Modified)
             }
-            (Modifier::Plain(Length::L), b'l') => {
-                self.modifier = Modifier::Plain(Length::Ll);
-                self.go(Phase::Modified)
+            (Modifier::Integer(Length::L), b'l') => {
+                self.modifier = Modifier::Integer(Length::Ll);
+                self.move_to(Phase::Modified)
             }
-            _ => self.end_at(model, self.modifier, byte),
+            _ => self.conversion_at(model, self.modifier, byte),
         }
     }
 
-    /// The specification ends, or nothing goes on with it.
+    /// The byte is the conversion, which ends the specification, or is refused.
     #[inline(always)]
-    fn end_at(
+    fn conversion_at(
         &mut self,
         model: Model,
         modifier: Modifier,
         byte: u8,
     ) -> Result<Move, SignatureRefusalKind>
-        ensures { next_by result self.new ≡ end_at model self.old.parts modifier byte }
+        ensures { posix_step_by result self.new ≡ conversion_at model self.old.parts modifier byte }
     {
         let Some(conversion) = conversion_of(byte) else {
             return Err(stray(byte, SignatureRefusalKind::Unexpected));
@@ -395,7 +402,7 @@ impl Automaton {
         self.phase = Phase::Between;
         self.fetch = Fetch {
             number: self.parts.position,
-            wanted: type_of(model, modifier, conversion),
+            wanted: conversion_type(model, modifier, conversion),
         };
         Ok(Move::Fetched)
     }
@@ -411,16 +418,16 @@ fn int_at(number: Option<u16>) -> Fetch
     }
 }
 
-fn too_large(slot: Slot) -> SignatureRefusalKind
+fn too_large(slot: WidthOrPrecision) -> SignatureRefusalKind
     ensures { result ≡ too_large slot }
 {
     match slot {
-        Slot::Width => SignatureRefusalKind::WidthTooLarge,
-        Slot::Precision => SignatureRefusalKind::PrecisionTooLarge,
+        WidthOrPrecision::Width => SignatureRefusalKind::WidthTooLarge,
+        WidthOrPrecision::Precision => SignatureRefusalKind::PrecisionTooLarge,
     }
 }
 
-// Why a byte is refused that can't stand where it does.
+// Why a byte is refused in a place where it isn't allowed.
 fn stray(byte: u8, kind: SignatureRefusalKind) -> SignatureRefusalKind
     ensures { result ≡ stray byte kind }
 {

@@ -43,7 +43,7 @@ pub(crate) enum Conversion {
 #[derive(Clone, Copy, Debug, PartialEq, Eq)]
 pub(crate) enum Modifier {
     /// None, or one of integers.
-    Plain(Length),
+    Integer(Length),
     /// `L`
     LongDouble,
 }

@@ -3,12 +3,12 @@ ghost use Rattle.std.specs.Prelude.{◌≡◌, ◌≤◌, List, length, ◌⊎�
 ghost use Rattle.pf_signatures.specs.declared.tables.TheConstants.{ROOM as MOST};
 ghost use Rattle.pf_signatures.specs.declared.types.ArgumentType.{ArgumentType as ArgumentTypeOf};
 ghost use Rattle.pf_signatures.specs.Items.{HasArguments};
-ghost use Rattle.pf_signatures.specs.Laws.{Compares, HindersFitting, IsFirstDifference, filled};
-ghost use Rattle.pf_signatures.specs.Steps.{AreFew, Differ};
+ghost use Rattle.pf_signatures.specs.Laws.{ComparesArgumentTypes, HindersFitting, IsFirstDifference, filled};
+ghost use Rattle.pf_signatures.specs.Steps.{AreFew, DifferAt};
 
 use crate::argument_types::arguments;
+use crate::pairs::{InStepResult, compare_in_step};
 use crate::refusals::SignatureRefusal;
-use crate::stepping::{Stepped, in_step};
 use crate::tables::ROOM;
 use crate::types::ArgumentType;
 use pf_values::Model;
@@ -28,27 +28,27 @@ pub enum FitsRefusal {
 /// Whether the second format takes just the arguments of the first (C11 7.21.6.1, paragraph 3;
 /// POSIX fprintf on numbered arguments): `None` where the lists of their types are equal, else the
 /// least index from 0 at which they differ, which is the length of the shorter one where that is a
-/// front of the other. The first format is read whole before the second.
+/// prefix of the other. Where both are refused, the refusal is that of the first.
 pub fn fits(model: Model, first: &[u8], second: &[u8]) -> Result<Option<u64>, FitsRefusal>
-    ensures { MatchResult result (Compares model first.now second.now)
+    ensures { MatchResult result (ComparesArgumentTypes model first.now second.now)
         (HindersFitting model first.now second.now) }
 {
-    match in_step(model, first, second) {
-        Stepped::Equal => Ok(None),
-        Stepped::Differ(index) => by_step(model, first, second, index),
-        Stepped::Other => by_tables(model, first, second),
+    match compare_in_step(model, first, second) {
+        InStepResult::Equal => Ok(None),
+        InStepResult::Differ(index) => by_step(model, first, second, index),
+        InStepResult::Other => by_tables(model, first, second),
     }
 }
 
-// Where two formats differ, unless one is refused.
+// The index at which two formats differ, unless one is refused.
 fn by_step(
     model: Model,
     first: &[u8],
     second: &[u8],
     index: u64,
 ) -> Result<Option<u64>, FitsRefusal>
-    requires { Differ model first.now second.now index }
-    ensures { MatchResult result (Compares model first.now second.now)
+    requires { DifferAt model first.now second.now index }
+    ensures { MatchResult result (ComparesArgumentTypes model first.now second.now)
         (HindersFitting model first.now second.now) }
 {
     match arguments(model, first, &mut []) {
@@ -60,11 +60,11 @@ fn by_step(
     }
 }
 
-// The same where one is refused or numbered, by the lists of their types.
+// The same by the lists of their types, where one of the formats is refused or numbered.
 #[inline(never)]
 fn by_tables(model: Model, first: &[u8], second: &[u8]) -> Result<Option<u64>, FitsRefusal>
     requires { AreFew model first.now second.now }
-    ensures { MatchResult result (Compares model first.now second.now)
+    ensures { MatchResult result (ComparesArgumentTypes model first.now second.now)
         (HindersFitting model first.now second.now) }
 {
     let mut types = [ArgumentType::Int; ROOM];
@@ -78,7 +78,7 @@ fn by_tables(model: Model, first: &[u8], second: &[u8]) -> Result<Option<u64>, F
     }
 }
 
-// Where two lists differ, of which the first types stand in slices, and one has no more than these.
+// The first index at which two lists differ. Slices hold their first types, and all of one list's.
 fn difference(
     types: &[ArgumentType],
     count: u64,

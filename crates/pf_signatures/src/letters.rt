@@ -1,6 +1,8 @@
-//! What single bytes stand for in a specification (C11 7.21.6.1, paragraphs 4 to 8).
+//! Single bytes of a specification: flags, length modifiers and conversions (C11 7.21.6.1,
+//! paragraphs 4 to 8).
 ghost use Rattle.std.specs.Prelude.{◌≡◌};
-ghost use Rattle.pf_signatures.specs.Letters.{conversion_of, flag_of, modifier_of};
+ghost use Rattle.pf_signatures.specs.Letters.{conversion_of, length_modifier_of};
+ghost use Rattle.pf_text.specs.Letters.{flag_of};
 
 use crate::conversions::{Conversion, Floating, Modifier};
 use pf_values::{Conv, Flag, Length};
@@ -22,15 +24,15 @@ pub(crate) fn flag_of(byte: u8) -> Option<Flag>
 
 /// The modifier that a letter is or begins.
 #[inline(always)]
-pub(crate) fn modifier_of(byte: u8) -> Option<Modifier>
-    ensures { result ≡ modifier_of byte }
+pub(crate) fn length_modifier_of(byte: u8) -> Option<Modifier>
+    ensures { result ≡ length_modifier_of byte }
 {
     match byte {
-        b'h' => Some(Modifier::Plain(Length::H)),
-        b'l' => Some(Modifier::Plain(Length::L)),
-        b'j' => Some(Modifier::Plain(Length::J)),
-        b'z' => Some(Modifier::Plain(Length::Z)),
-        b't' => Some(Modifier::Plain(Length::T)),
+        b'h' => Some(Modifier::Integer(Length::H)),
+        b'l' => Some(Modifier::Integer(Length::L)),
+        b'j' => Some(Modifier::Integer(Length::J)),
+        b'z' => Some(Modifier::Integer(Length::Z)),
+        b't' => Some(Modifier::Integer(Length::T)),
         b'L' => Some(Modifier::LongDouble),
         _ => None,
     }

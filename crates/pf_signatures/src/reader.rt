@@ -1,31 +1,29 @@
-//! A walk through a text, from one argument that is fetched to the next.
+//! The reader of a text, which goes from one fetched argument to the next.
 ghost use Rattle.std.specs.Prelude.{◌≡◌, ◌+◌, ◌<◌, ◌≤◌, length, slice_index, MatchOption, ◌≢◌, ⊤, drop};
 ghost use Rattle.memchr.specs.Find.{Nowhere, Passes, is_byte2};
 ghost use Rattle.pf_values.specs.declared.limits.TheConstants.{MAX_TEXT_LEN as LIMIT};
 ghost use Rattle.pf_values.specs.declared.models.Model.{Model as ModelOf};
 ghost use Rattle.pf_values.specs.Text.{Text, percent};
 ghost use Rattle.pf_signatures.specs.declared.reader.Reader.{Reader as ReaderOf};
-ghost use Rattle.pf_signatures.specs.Readings.{Fetches, read, reading};
-ghost use Rattle.pf_signatures.specs.declared.parts.Style.TheVariants.{Unnumbered};
+ghost use Rattle.pf_signatures.specs.Readings.{Fetches, trace_from, fetch_trace};
+ghost use Rattle.pf_signatures.specs.declared.partial_specification.Numbering.TheVariants.{Unnumbered};
 ghost use Rattle.pf_signatures.specs.Refusals.{style_by};
-ghost use Rattle.pf_signatures.specs.Stages.{Between, state_of};
-ghost use Rattle.pf_signatures.specs.Walks.{GoesFurther, IsNext, left};
+ghost use Rattle.pf_signatures.specs.Stages.{Between, posix_state_of};
+ghost use Rattle.pf_signatures.specs.Walks.{AdvancesReader, IsNextFetch, trace_left};
 
 use crate::automaton::{Automaton, Move};
 use crate::conversions::Modifier;
-use crate::fetches::Fetch;
-use crate::kinds::SignatureRefusalKind;
+use crate::fetches::{Fetch, conversion_type};
 use crate::letters::conversion_of;
-use crate::parts::Style;
-use crate::refusals::SignatureRefusal;
-use crate::wanted::type_of;
+use crate::partial_specification::Numbering;
+use crate::refusals::{SignatureRefusal, SignatureRefusalKind};
 use pf_text::literal_len;
 use pf_values::limits::MAX_TEXT_LEN;
 use pf_values::{Length, Model};
 
-/// What comes next.
+/// What comes next in a text.
 #[derive(Clone, Copy, Debug)]
-pub(crate) enum Next {
+pub(crate) enum NextFetch {
     /// An argument is fetched.
     Fetched(Fetch),
     /// The end.
@@ -34,29 +32,29 @@ pub(crate) enum Next {
     Stop(SignatureRefusal),
 }
 
-/// How far a text was read.
+/// A reader of a text: its place, the automaton, and whether arguments are numbered.
 #[derive(Clone, Copy, Debug)]
 pub(crate) struct Reader {
     automaton: Automaton,
-    style: Style,
+    style: Numbering,
     at: usize,
 }
 
 impl Reader {
-    /// Nothing was read.
+    /// A reader before the first byte.
     #[inline(always)]
     pub(crate) fn new() -> Reader
         ensures start { result.at ≡ 0 }
-        ensures left { (model : ModelOf) (t : Text) → left model t result ≡ reading model t }
+        ensures left { (model : ModelOf) (t : Text) → trace_left model t result ≡ fetch_trace model t }
     {
         Reader {
             automaton: Automaton::new(),
-            style: Style::Undecided,
+            style: Numbering::Undecided,
             at: 0,
         }
     }
 
-    /// Behind which byte the last argument was fetched.
+    /// The place behind the byte at which the last argument was fetched.
     #[inline(always)]
     pub(crate) fn at(&self) -> usize
         ensures { result ≡ self.now.at }
@@ -64,60 +62,61 @@ impl Reader {
         self.at
     }
 
-    /// What comes next. Behind the end and behind a refusal the reader means nothing.
+    /// The next fetched argument, the end, or the refusal. After the end and after a refusal the
+    /// reader is of no use.
     #[inline(always)]
-    pub(crate) fn next_fetch(&mut self, model: Model, text: &[u8]) -> Next
-        ensures next { IsNext model text.now self.old result self.new }
-        ensures further { GoesFurther text.now self.old result self.new }
+    pub(crate) fn next_fetch(&mut self, model: Model, text: &[u8]) -> NextFetch
+        ensures next { IsNextFetch model text.now self.old result self.new }
+        ensures further { AdvancesReader text.now self.old result self.new }
     {
         while self.at < text.len() {
-            if let Some(next) = self.turn(model, text) {
+            if let Some(next) = self.advance(model, text) {
                 return next;
             }
         }
         self.end()
     }
 
-    // One turn, which may fetch nothing.
+    // Reads on by one byte or more; `None` where no argument is fetched by that.
     #[inline(always)]
-    fn turn(&mut self, model: Model, text: &[u8]) -> Option<Next>
+    fn advance(&mut self, model: Model, text: &[u8]) -> Option<NextFetch>
         requires { self.old.at < length text.now }
         ensures next { MatchOption result
-            (left model text.now self.old ≡ left model text.now self.new)
-            (λ next. IsNext model text.now self.old next self.new) }
+            (trace_left model text.now self.old ≡ trace_left model text.now self.new)
+            (λ next. IsNextFetch model text.now self.old next self.new) }
         ensures further { MatchOption result
             ((self.old.at < self.new.at) × (self.new.at ≤ length text.now))
-            (λ next. GoesFurther text.now self.old next self.new) }
+            (λ next. AdvancesReader text.now self.old next self.new) }
     {
         if self.at as u64 >= MAX_TEXT_LEN {
             return Some(stop(SignatureRefusalKind::TooLong, self.at));
         }
         if self.automaton.is_between() {
             if text[self.at] != b'%' {
-                return self.pass(text);
+                return self.skip_literal(text);
             }
-            if let Some(fetch) = self.bare(model, text) {
+            if let Some(fetch) = self.two_byte_fetch(model, text) {
                 self.at += 2;
-                self.style = Style::Unnumbered;
-                return Some(Next::Fetched(fetch));
+                self.style = Numbering::Unnumbered;
+                return Some(NextFetch::Fetched(fetch));
             }
         }
-        self.take(model, text)
+        self.take_byte(model, text)
     }
 
-    // Between items the bytes of a run are passed over.
+    // Passes over literal bytes between items.
     #[inline(always)]
-    fn pass(&mut self, text: &[u8]) -> Option<Next>
+    fn skip_literal(&mut self, text: &[u8]) -> Option<NextFetch>
         requires within { self.old.at < length text.now }
         requires short { self.old.at < LIMIT }
-        requires between { state_of self.old.automaton ≡ Between }
+        requires between { posix_state_of self.old.automaton ≡ Between }
         requires other { slice_index text.now self.old.at ≢ percent }
         ensures next { (model : ModelOf) → MatchOption result
-            (left model text.now self.old ≡ left model text.now self.new)
-            (λ next. IsNext model text.now self.old next self.new) }
+            (trace_left model text.now self.old ≡ trace_left model text.now self.new)
+            (λ next. IsNextFetch model text.now self.old next self.new) }
         ensures further { MatchOption result
             ((self.old.at < self.new.at) × (self.new.at ≤ length text.now))
-            (λ next. GoesFurther text.now self.old next self.new) }
+            (λ next. AdvancesReader text.now self.old next self.new) }
     {
         let run = run_len(&text[self.at..], self.at);
         if run == 0 {
@@ -127,16 +126,17 @@ impl Reader {
         None
     }
 
-    // What is fetched where a specification of two bytes begins here, and none was numbered.
+    // The argument that is fetched where a specification of two bytes begins here, as `%d`, and no
+    // earlier one was numbered.
     #[inline(always)]
-    fn bare(&self, model: Model, text: &[u8]) -> Option<Fetch>
+    fn two_byte_fetch(&self, model: Model, text: &[u8]) -> Option<Fetch>
         requires within { self.now.at < length text.now }
         requires short { self.now.at < LIMIT }
-        requires between { state_of self.now.automaton ≡ Between }
+        requires between { posix_state_of self.now.automaton ≡ Between }
         requires first { slice_index text.now self.now.at ≡ percent }
         ensures { MatchOption result ⊤ (λ f. (self.now.at + 2 ≤ length text.now)
-            × (left model text.now self.now ≡ Fetches f (self.now.at + 1)
-            (read model Unnumbered Between (self.now.at + 2)
+            × (trace_left model text.now self.now ≡ Fetches f (self.now.at + 1)
+            (trace_from model Unnumbered Between (self.now.at + 2)
             (drop (self.now.at + 2) text.now)))) }
     {
         let next = self.at + 1;
@@ -147,12 +147,12 @@ impl Reader {
             return None;
         }
         match self.style {
-            Style::Numbered => None,
-            Style::Undecided | Style::Unnumbered => match conversion_of(text[next]) {
+            Numbering::Numbered => None,
+            Numbering::Undecided | Numbering::Unnumbered => match conversion_of(text[next]) {
                 None => None,
                 Some(conversion) => Some(Fetch {
                     number: None,
-                    wanted: type_of(model, Modifier::Plain(Length::None), conversion),
+                    wanted: conversion_type(model, Modifier::Integer(Length::None), conversion),
                 }),
             },
         }
@@ -160,15 +160,15 @@ impl Reader {
 
     // Takes one more byte.
     #[inline(always)]
-    fn take(&mut self, model: Model, text: &[u8]) -> Option<Next>
+    fn take_byte(&mut self, model: Model, text: &[u8]) -> Option<NextFetch>
         requires within { self.old.at < length text.now }
         requires short { self.old.at < LIMIT }
         ensures next { MatchOption result
-            (left model text.now self.old ≡ left model text.now self.new)
-            (λ next. IsNext model text.now self.old next self.new) }
+            (trace_left model text.now self.old ≡ trace_left model text.now self.new)
+            (λ next. IsNextFetch model text.now self.old next self.new) }
         ensures further { MatchOption result
             ((self.old.at < self.new.at) × (self.new.at ≤ length text.now))
-            (λ next. GoesFurther text.now self.old next self.new) }
+            (λ next. AdvancesReader text.now self.old next self.new) }
     {
         match self.automaton.step(model, self.style, text[self.at]) {
             Ok(Move::More) => {
@@ -179,27 +179,27 @@ impl Reader {
                 self.at += 1;
                 let fetch = self.automaton.fetch();
                 self.style = style_by(fetch.number);
-                Some(Next::Fetched(fetch))
+                Some(NextFetch::Fetched(fetch))
             }
             Err(kind) => Some(stop(kind, self.at)),
         }
     }
 
-    // The text ends.
+    // The answer at the end of the text.
     #[inline(always)]
-    fn end(&self) -> Next
+    fn end(&self) -> NextFetch
         ensures next { (model : ModelOf) (t : Text) (new : ReaderOf) → length t ≤ self.now.at
-            → IsNext model t self.now result new }
-        ensures further { (t : Text) (old new : ReaderOf) → GoesFurther t old result new }
+            → IsNextFetch model t self.now result new }
+        ensures further { (t : Text) (old new : ReaderOf) → AdvancesReader t old result new }
     {
         if self.automaton.is_between() {
-            return Next::End;
+            return NextFetch::End;
         }
         stop(SignatureRefusalKind::Truncated, self.at)
     }
 }
 
-// How many literal bytes begin the rest of a text, as far as the limit allows.
+// How many bytes at the front of the rest of a text are literal, up to the limit of a text.
 #[inline(always)]
 fn run_len(rest: &[u8], at: usize) -> usize
     requires { at < LIMIT }
@@ -217,19 +217,19 @@ fn run_len(rest: &[u8], at: usize) -> usize
 }
 
 #[inline(always)]
-fn style_by(number: Option<u16>) -> Style
+fn style_by(number: Option<u16>) -> Numbering
     ensures { result ≡ style_by number }
 {
     match number {
-        Some(_) => Style::Numbered,
-        None => Style::Unnumbered,
+        Some(_) => Numbering::Numbered,
+        None => Numbering::Unnumbered,
     }
 }
 
-fn stop(kind: SignatureRefusalKind, at: usize) -> Next
-    ensures { result ≡ Next.Stop (record { kind = kind; at = at }) }
+fn stop(kind: SignatureRefusalKind, at: usize) -> NextFetch
+    ensures { result ≡ NextFetch.Stop (record { kind = kind; at = at }) }
 {
-    Next::Stop(SignatureRefusal {
+    NextFetch::Stop(SignatureRefusal {
         kind,
         at: at as u64,
     })

@@ -1,26 +1,25 @@
-//! The types of numbered arguments.
+//! The types of numbered arguments in a table, and types at the front of a slice.
 ghost use Rattle.std.specs.Prelude.{◌≡◌, ◌<◌, ◌≤◌, ◌++◌, ◌∷◌, ◌+◌, [], ℕ, max, length, is_some, IsTrue, List, Some, MatchBool, MatchResult, true, false};
 ghost use Rattle.pf_signatures.specs.declared.fetches.Fetch.{Fetch as FetchOf};
-ghost use Rattle.pf_signatures.specs.declared.kinds.SignatureRefusalKind.TheVariants.{MissingArgument};
+ghost use Rattle.pf_signatures.specs.declared.refusals.SignatureRefusalKind.TheVariants.{MissingArgument};
 ghost use Rattle.pf_signatures.specs.Laws.{filled};
-ghost use Rattle.pf_signatures.specs.Readings.{Fetches, conflicts, listed, reading};
-ghost use Rattle.pf_signatures.specs.Refusals.{HasGap, IsRefusedAt};
-ghost use Rattle.pf_signatures.specs.Walks.{left};
-ghost use Rattle.pf_signatures.specs.Tabled.{IsTabled, Keeps};
+ghost use Rattle.pf_signatures.specs.Readings.{Fetches, conflicts, listed, fetch_trace};
+ghost use Rattle.pf_signatures.specs.Refusals.{HasGap, IsPosixRefusedAt};
+ghost use Rattle.pf_signatures.specs.Walks.{trace_left};
+ghost use Rattle.pf_signatures.specs.Tabled.{IsTabled, TableHolds};
 ghost use Rattle.pf_signatures.specs.Types.{IsFetched, fetch};
+ghost use Rattle.pf_signatures.specs.declared.types.ArgumentType.{ArgumentType as ArgumentTypeOf};
 
 use crate::fetches::Fetch;
-use crate::filling::put;
-use crate::kinds::SignatureRefusalKind;
-use crate::reader::{Next, Reader};
-use crate::refusals::SignatureRefusal;
+use crate::reader::{NextFetch, Reader};
+use crate::refusals::{SignatureRefusal, SignatureRefusalKind};
 use crate::types::ArgumentType;
 use pf_values::Model;
 
 /// As many arguments as a numbered format can have.
 pub(crate) const ROOM: usize = 4095;
 
-/// The type of each argument that is fetched, at its place, and the number of the greatest.
+/// The type of each fetched argument, at its place, and the greatest number of them.
 #[derive(Drop)]
 pub(crate) struct Table {
     types: [Option<ArgumentType>; ROOM],
@@ -28,9 +27,9 @@ pub(crate) struct Table {
 }
 
 impl Table {
-    /// No argument is fetched.
+    /// A table of no argument.
     pub(crate) fn new() -> Table
-        ensures { Keeps result [] }
+        ensures { TableHolds result [] }
     {
         Table {
             types: [None; ROOM],
@@ -45,7 +44,7 @@ impl Table {
         self.count
     }
 
-    /// Fetches the rest of a text, and before it one argument.
+    /// Adds one argument, and after it those of the rest of a text.
     pub(crate) fn fill(
         &mut self,
         model: Model,
@@ -53,36 +52,36 @@ impl Table {
         after_first: Reader,
         first: Fetch,
     ) -> Result<(), SignatureRefusal>
-        requires empty { Keeps self.old [] }
+        requires empty { TableHolds self.old [] }
         requires within { after_first.at ≤ length text.now }
         requires number { IsTrue (is_some first.number) }
         requires first { (at : ℕ) × (after_first.at ≡ at + 1)
-            × (reading model text.now ≡ Fetches first at (left model text.now after_first)) }
+            × (fetch_trace model text.now ≡ Fetches first at (trace_left model text.now after_first)) }
         ensures { MatchResult result (λ _. IsTabled model text.now self.new)
-            (λ refusal. IsRefusedAt model text.now refusal.kind refusal.at) }
+            (λ refusal. IsPosixRefusedAt model text.now refusal.kind refusal.at) }
     {
         let mut reader = after_first;
         let mut fetch = first;
         loop {
             let number = usize::from(fetch.number.unwrap_or(1));
-            if !self.take(number - 1, fetch.wanted) {
+            if !self.add_fetch(number - 1, fetch.wanted) {
                 return Err(refusal(SignatureRefusalKind::TwoTypes, reader.at() - 1));
             }
             match reader.next_fetch(model, text) {
-                Next::Fetched(next) => fetch = next,
-                Next::End => return self.finish(text.len()),
-                Next::Stop(refusal) => return Err(refusal),
+                NextFetch::Fetched(next) => fetch = next,
+                NextFetch::End => return self.finish(text.len()),
+                NextFetch::Stop(refusal) => return Err(refusal),
             }
         }
     }
 
-    // Fetches an argument, unless it has another type.
-    fn take(&mut self, place: usize, wanted: ArgumentType) -> bool
+    // Adds an argument; `false` where it is there with another type.
+    fn add_fetch(&mut self, place: usize, wanted: ArgumentType) -> bool
         requires { place < ROOM }
-        ensures { (seen : List FetchOf) → Keeps self.old seen
+        ensures { (seen : List FetchOf) → TableHolds self.old seen
             → MatchBool result
             ((conflicts seen (fetch (Some (place + 1)) wanted) ≡ false)
-            × Keeps self.new (seen ++ fetch (Some (place + 1)) wanted ∷ []))
+            × TableHolds self.new (seen ++ fetch (Some (place + 1)) wanted ∷ []))
             (conflicts seen (fetch (Some (place + 1)) wanted) ≡ true) }
     {
         self.count = larger(self.count, place + 1);
@@ -95,10 +94,10 @@ impl Table {
         }
     }
 
-    // Whether each argument is fetched, at the end of a text.
+    // Refuses a text at its end where an argument is missing.
     fn finish(&self, at: usize) -> Result<(), SignatureRefusal>
         requires room { self.now.count ≤ ROOM }
-        ensures { (seen : List FetchOf) → Keeps self.now seen → MatchResult result
+        ensures { (seen : List FetchOf) → TableHolds self.now seen → MatchResult result
             (λ _. (place : ℕ) → place < self.now.count → IsFetched place seen)
             (λ refusal. (refusal ≡ record { kind = MissingArgument; at = at }) × HasGap seen) }
     {
@@ -112,10 +111,10 @@ impl Table {
         Ok(())
     }
 
-    /// Puts the first types at the front of a slice.
+    /// Copies the types to the front of a slice, as many as it has room for.
     pub(crate) fn copy_front(&self, out: &mut [ArgumentType])
         requires room { self.now.count ≤ ROOM }
-        ensures types { (seen : List FetchOf) → Keeps self.now seen
+        ensures types { (seen : List FetchOf) → TableHolds self.now seen
             → out.new ≡ filled out.old (listed seen 0 self.now.count) }
         ensures length { length out.new ≡ length out.old }
     {
@@ -142,5 +141,17 @@ fn refusal(kind: SignatureRefusalKind, at: usize) -> SignatureRefusal
     SignatureRefusal {
         kind,
         at: at as u64,
+    }
+}
+
+/// Sets the type at a place, if the slice has that place.
+#[inline(always)]
+pub(crate) fn put(out: &mut [ArgumentType], place: usize, wanted: ArgumentType)
+    ensures length { length out.new ≡ length out.old }
+    ensures filled { (start types : List ArgumentTypeOf) → out.old ≡ filled start types
+        → place ≡ length types → out.new ≡ filled start (types ++ wanted ∷ []) }
+{
+    if place < out.len() {
+        out[place] = wanted;
     }
 }

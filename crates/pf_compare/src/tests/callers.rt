@@ -4,7 +4,7 @@ use pf_values::{Arg, Model};
 use std::alloc::Global;
 use std::test::Fail;
 
-/// Whether one format may stand for another, and else the first argument that shows why.
+/// Whether one format may replace another, and else the first argument that shows why not.
 #[derive(Drop)]
 enum Standing {
     Fits,

@@ -11,7 +11,7 @@ fn text_that_ends(alloc: Global, len: usize, end: &[u8]) -> Result<Vec<u8>, Allo
     Ok(text)
 }
 
-// Whether 1 is told to print otherwise by `%d` than by `%5d` after so many bytes, and as by `%i`.
+// Whether `compare` finds, after so many bytes, that `%d` prints 1 otherwise than `%5d`, and as `%i` does.
 fn confirms_after(alloc: Global, len: usize) -> Result<bool, AllocError> {
     let plain = text_that_ends(alloc, len, b"%d")?;
     let wide = text_that_ends(alloc, len, b"%5d")?;

@@ -1,7 +1,6 @@
 //! Growths that are refused.
 use super::*;
-use crate::faults::LiteralRefusal;
-use crate::kinds::LiteralKind;
+use crate::faults::{LiteralKind, LiteralRefusal};
 use linked_list_allocator::LocalHeap;
 use std::test::Fail;
 

@@ -6,7 +6,7 @@ ghost use Rattle.pf_literals.specs.Sources.{IsSourceOf};
 use crate::{LiteralFault, decode, encode, source_offset};
 use std::alloc::Global;
 
-/// Whether two pieces of C source are known to stand for one string.
+/// Whether two pieces of C source are known to denote one string.
 fn stand_for_one_string(alloc: Global, first: &[u8], second: &[u8]) -> bool
     ensures { IsTrue result
         → (bytes : Bytes) × IsSourceOf first.now bytes × IsSourceOf second.now bytes }

@@ -9,7 +9,7 @@ pub(super) struct NumberRow<'a> {
 }
 
 impl<'a> NumberRow<'a> {
-    /// Reads a line: `|` stands after each of the three.
+    /// Reads a line: `|` follows each of the three.
     pub(super) fn read(line: &'a str) -> Option<NumberRow<'a>> {
         let (format, rest) = line.split_once('|')?;
         let (number, rest) = rest.split_once('|')?;

@@ -1,5 +1,5 @@
 use Rattle.std.proofs.Common.{inl, inr, refl, subst}
-use Rattle.pf_signatures.specs.Laws.{Compares}
+use Rattle.pf_signatures.specs.Laws.{ComparesArgumentTypes}
 use Rattle.fmtcanon_c.proofs.SignatureLemmas.{they_differ}
 use Rattle.fmtcanon_c.proofs.argument_types.tell_fit.Goals as goal
 
@@ -7,5 +7,5 @@ pub returns-in-Ok-Some : goal.returns-in-Ok-Some
 returns-in-Ok-Some c =
     let first = c.args.first.now in
     let second = c.args.second.now in
-    let h = subst (Compares c.args.model first second) c.in-Ok-Some.field-0-is c.in-Ok-Some.ensures in
+    let h = subst (ComparesArgumentTypes c.args.model first second) c.in-Ok-Some.field-0-is c.in-Ok-Some.ensures in
     inl ((h.types, h.first_accepted), (h.others, h.second_accepted), inr (they_differ c.args.model first second _ h, refl), refl)

@@ -4,14 +4,14 @@ use Rattle.pf_compare.proofs.ProbeLemmas.{told_alike, told_unlike}
 use Rattle.pf_compare.proofs.VerdictLemmas.{not_equivalent, types_verdict}
 use Rattle.pf_compare.proofs.comparisons.compare_lone.Goals as goal
 
-pub returns-then-have_other_types : goal.returns-then-have_other_types
-returns-then-have_other_types c =
+pub returns-then-have_different_types : goal.returns-then-have_different_types
+returns-then-have_different_types c =
     let h = c.requires.lone in
     types_verdict c.args.model c.args.f.now c.args.g.now (h.xs, h.accepted_first) (h.ys, h.accepted_second) c.args.difference.now.index
-    (lone_types c.args.model c.args.f.now c.args.g.now c.args.difference.now h (told_unlike _ _ c.have_other_types.result c.if-have_other_types.true c.have_other_types.ensures))
+    (lone_types c.args.model c.args.f.now c.args.g.now c.args.difference.now h (told_unlike _ _ c.have_different_types.result c.if-have_different_types.true c.have_different_types.ensures))
 
 pub returns-in_err-compare_directives : goal.returns-in_err-compare_directives
 returns-in_err-compare_directives c =
     let p = err_from_is_err_and c.from_residual.result c.from_residual.ensures.1 in
-    let same = told_alike _ _ c.have_other_types.result c.if-have_other_types.false c.have_other_types.ensures in
+    let same = told_alike _ _ c.have_different_types.result c.if-have_different_types.false c.have_different_types.ensures in
     rw (p.1, p.2) (lone_have_same c.args.model c.args.f.now c.args.g.now c.args.difference.now c.requires.lone same, not_equivalent c.args.model c.args.f.now c.args.g.now c.requires.apart)

@@ -19,8 +19,8 @@ loop-piece-preserved c =
       can = tt;
       finite = tt;
       bound = omega (arith, c.loop-piece.invariant.bound, less, c.arg_count-index.ensures.few);
-      along = along_more c.loop-piece.piece-iterator c.next.new.self c.loop-piece.others c.go_on_alike.new.others c.args.f.now c.args.g.now c.loop-piece.index c.loop-piece.found c.loop-piece.invariant.along
-          c.in-Some.piece c.in-Ok.piece c.arg_count-index.result c.go_on_alike.new.found c.in-Some.ensures.steps c.in-Ok.is (c.go_on_alike.ensures (rw c.if-not-go_on_alike.false (search rules))) c.arg_count-index.ensures.value;
+      along = along_more c.loop-piece.piece-iterator c.next.new.self c.loop-piece.others c.next_piece_matches.new.others c.args.f.now c.args.g.now c.loop-piece.index c.loop-piece.found c.loop-piece.invariant.along
+          c.in-Some.piece c.in-Ok.piece c.arg_count-index.result c.next_piece_matches.new.found c.in-Some.ensures.steps c.in-Ok.is (c.next_piece_matches.ensures (rw c.if-not-next_piece_matches.false (search rules))) c.arg_count-index.ensures.value;
     }
 
 pub returns-in-None-next : goal.returns-in-None-next

@@ -4,9 +4,9 @@ use Rattle.pf_compare.proofs.probe_search.first_probe.Given as goal
 
 abbrev pub invariant-loop-index : goal.invariant-loop-index
 invariant-loop-index l = record {
-  within : l.index ≤ length l.first.holes.items;
+  within : l.index ≤ length l.first.spans.items;
   tried : AreTried l.model l.first l.second l.index;
 }
 
 abbrev pub decreases-loop-index : goal.decreases-loop-index
-decreases-loop-index l = length l.first.holes.items - l.index
+decreases-loop-index l = length l.first.spans.items - l.index

@@ -3,11 +3,11 @@ use Rattle.std.specs.Prelude.{if◌then◌else◌}
 use Rattle.pf_values.specs.declared.types.ArgType.{ArgType}
 use Rattle.pf_values.specs.Items.{IsAccepted}
 use Rattle.pf_values.specs.Text.{Text}
-use Rattle.pf_compare.specs.TypeLists.{HasTaken}
+use Rattle.pf_compare.specs.TypeLists.{HasGivenTypes}
 use Rattle.pf_compare.proofs.type_lists.next_type.Given as goal
 
 abbrev pub invariant-loop-piece : goal.invariant-loop-piece
-invariant-loop-piece l = (t : Text) (done : List ArgType) → IsAccepted t → HasTaken l.model l.initial.pieces t done → HasTaken l.model l.pieces t done
+invariant-loop-piece l = (t : Text) (done : List ArgType) → IsAccepted t → HasGivenTypes l.model l.initial.pieces t done → HasGivenTypes l.model l.pieces t done
 
 abbrev pub decreases-loop-piece : goal.decreases-loop-piece
 decreases-loop-piece l = if l.pieces.is_over then 0 else length l.pieces.rest.now + 1

@@ -1,6 +1,6 @@
 use Rattle.std.proofs.Common.{◌++◌, arith, refl, rules}
 use Rattle.pf_text.specs.PieceHistory.{items_of}
-use Rattle.pf_render.specs.Keeping.{Keeps}
+use Rattle.pf_render.specs.Caching.{CachesItems}
 use Rattle.pf_text.proofs.SignatureLemmas.{refused}
 use Rattle.pf_render.proofs.MatchingLemmas.{all_checked, directive_checked, few_found, none_checked, on_ok, other_checked}
 use Rattle.pf_render.proofs.argument_lists.check_arguments.Goals as goal
@@ -11,31 +11,31 @@ loop-piece-init c = record { can = tt; finite = tt; so_far = none_checked c.args
 pub returns-in-Err-clause-matched : goal.returns-in-Err-clause-matched
 returns-in-Err-clause-matched c = let found = c.loop-piece.invariant.so_far.found in (refused c.args.model c.loop-piece.piece-iterator c.next.new.self c.args.text.now _ found c.in-Some.piece c.in-Some.ensures.steps c.in-Err.refusal c.in-Err.is).refused
 
-pub with-tally-requires : goal.with-tally-requires
-with-tally-requires c =
+pub with_next-check-requires : goal.with_next-check-requires
+with_next-check-requires c =
     let so_far = c.loop-piece.invariant.so_far in
-    record { few = omega (arith, so_far.tallies.wanted_is, few_found c.args.model so_far) }
+    record { few = omega (arith, so_far.checked.wanted_is, few_found c.args.model so_far) }
 
 pub loop-piece-preserved-in-Directive : goal.loop-piece-preserved-in-Directive
 loop-piece-preserved-in-Directive c =
     let so_far = c.loop-piece.invariant.so_far in
     let d = c.in-Directive.directive in
-    let pushed : Keeps c.push.new.self (so_far.found.items ++ items_of c.in-Ok.piece) = rw c.in-Directive.is (c.push.ensures so_far.found.items so_far.keeps) in
+    let pushed : CachesItems c.push.new.self (so_far.found.items ++ items_of c.in-Ok.piece) = rw c.in-Directive.is (c.push.ensures so_far.found.items so_far.keeps) in
     record {
       can = tt;
       finite = tt;
-      so_far = directive_checked c.args.model so_far c.in-Some.ensures.steps c.in-Ok.is _ _ pushed d c.arg_type.result c.in-Directive.is c.arg_type.ensures (c.with-tally.ensures so_far.types so_far.tallies);
+      so_far = directive_checked c.args.model so_far c.in-Some.ensures.steps c.in-Ok.is _ _ pushed d c.arg_type.result c.in-Directive.is c.arg_type.ensures (c.with_next-check.ensures so_far.types so_far.checked);
     }
 
 pub loop-piece-preserved : goal.loop-piece-preserved
 loop-piece-preserved c =
     let so_far = c.loop-piece.invariant.so_far in
-    record { can = tt; finite = tt; so_far = other_checked c.args.model so_far c.in-Some.ensures.steps c.in-Ok.is _ _ (c.push-in_default.ensures so_far.found.items so_far.keeps) c.in_default.not-Directive so_far.tallies }
+    record { can = tt; finite = tt; so_far = other_checked c.args.model so_far c.in-Some.ensures.steps c.in-Ok.is _ _ (c.push-in_default.ensures so_far.found.items so_far.keeps) c.in_default.not-Directive so_far.checked }
 
 pub returns-clause-matched : goal.returns-clause-matched
 returns-clause-matched c =
     let so_far = c.loop-piece.invariant.so_far in
-    c.judge.ensures c.args.model c.args.text.now c.args.args.now so_far.types refl (all_checked c.args.model so_far c.in-None.ensures.steps).0 so_far.tallies
+    c.conclude.ensures c.args.model c.args.text.now c.args.args.now so_far.types refl (all_checked c.args.model so_far c.in-None.ensures.steps).0 so_far.checked
 
-pub returns-clause-kept : goal.returns-clause-kept
-returns-clause-kept c = on_ok c.judge.result (all_checked c.args.model c.loop-piece.invariant.so_far c.in-None.ensures.steps).1
+pub returns-clause-cache : goal.returns-clause-cache
+returns-clause-cache c = on_ok c.conclude.result (all_checked c.args.model c.loop-piece.invariant.so_far c.in-None.ensures.steps).1

@@ -2,7 +2,7 @@ use Rattle.std.proofs.Common.{◌++◌, ◌∷◌, [], ◌∙◌, arith, ap, ref
 use Rattle.std.specs.Prelude.{None}
 use Rattle.std.proofs.lemmas.List.{length-map, length_push, map_push}
 use Rattle.pf_signatures.specs.Laws.{filled}
-use Rattle.pf_signatures.specs.Readings.{wanted}
+use Rattle.pf_signatures.specs.Readings.{wanted_types}
 use Rattle.pf_signatures.specs.Types.{fetch}
 use Rattle.pf_signatures.proofs.OrderLemmas.{end_in_order, filled_none, first_in_order, next_in_order, stop_in_order}
 use Rattle.pf_signatures.proofs.argument_types.in_order.Goals as goal
@@ -28,7 +28,7 @@ loop-fetch-preserved c =
       i.0 ++ f ∷ [],
       next_in_order c.args.model c.args.text.now i.0 _ i.1 f next.0 _ next.2,
       omega (arith, i.2, longer),
-      c.put-in-Fetched.ensures.filled c.args.out.now (wanted i.0) i.3 (i.2 ∙ sym (length-map i.0 (λ g. g.wanted))) ∙ ap (filled c.args.out.now) (sym (map_push (λ g. g.wanted) i.0 f)),
+      c.put-in-Fetched.ensures.filled c.args.out.now (wanted_types i.0) i.3 (i.2 ∙ sym (length-map i.0 (λ g. g.wanted))) ∙ ap (filled c.args.out.now) (sym (map_push (λ g. g.wanted) i.0 f)),
       omega (arith, i.4, further.0),
       further.1,
     )
@@ -37,7 +37,7 @@ pub returns-in-End-clause-types : goal.returns-in-End-clause-types
 returns-in-End-clause-types c =
     let i = c.loop-fetch.invariant in
     record {
-      types = wanted i.0;
+      types = wanted_types i.0;
       accepted = end_in_order c.args.model c.args.text.now i.0 _ i.1 c.in-End.ensures.next;
       count_is = i.2 ∙ sym (length-map i.0 (λ g. g.wanted));
       front = i.3;

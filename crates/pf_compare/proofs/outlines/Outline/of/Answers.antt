@@ -6,6 +6,6 @@ use Rattle.pf_compare.proofs.outlines.Outline.of.Goals as goal
 
 pub returns : goal.returns
 returns c = λ model number h.
-    outlined model c.args.directive.now number c.args.counted.value c.of-front.result c.args.counted.count c.digits_after-digits.result c.in_field.result c.requires.integer h.value c.of-front.ensures h.count
+    outlined model c.args.directive.now number c.args.counted.value c.of-prefix.result c.args.counted.count c.digits_after-digits.result c.in_field.result c.requires.integer h.value c.of-prefix.ensures h.count
     (c.digits_after-digits.ensures.value ∙ ap (λ k. max (effective_precision c.args.directive.now k) (fewest_digits c.args.directive.now c.args.counted.count)) c.len.ensures.value)
     c.in_field.ensures

@@ -1,10 +1,10 @@
 use Rattle.std.proofs.Common.{◌≡◌, ◌≤◌, ◌-◌, length}
-use Rattle.pf_signatures.specs.Walks.{left}
+use Rattle.pf_signatures.specs.Walks.{trace_left}
 use Rattle.pf_signatures.proofs.reader.Reader.next_fetch.Given as goal
 
 abbrev pub invariant-loop-self : goal.invariant-loop-self
 invariant-loop-self l = record {
-  left : left l.model l.text l.fn.self ≡ left l.model l.text l.self;
+  left : trace_left l.model l.text l.fn.self ≡ trace_left l.model l.text l.self;
   further : l.fn.self.at ≤ l.self.at;
 }
 

@@ -2,12 +2,12 @@ use Rattle.std.proofs.Common.{◌≡◌, ◌≤◌, ◌-◌, List, length}
 use Rattle.pf_signatures.specs.declared.fetches.Fetch.{Fetch}
 use Rattle.pf_signatures.specs.Laws.{filled}
 use Rattle.pf_signatures.specs.Readings.{listed}
-use Rattle.pf_signatures.specs.Tabled.{Keeps}
+use Rattle.pf_signatures.specs.Tabled.{TableHolds}
 use Rattle.pf_signatures.proofs.tables.Table.copy_front.Given as goal
 
 abbrev pub invariant-loop-place : goal.invariant-loop-place
 invariant-loop-place l = record {
-  types : (seen : List Fetch) → Keeps l.self seen → l.out ≡ filled l.fn.out (listed seen 0 l.place);
+  types : (seen : List Fetch) → TableHolds l.self seen → l.out ≡ filled l.fn.out (listed seen 0 l.place);
   length : length l.out ≡ length l.fn.out;
   few : l.place ≤ l.self.count;
 }
