@@ -4,11 +4,11 @@ use Rattle.std.proofs.Math.Seq.{take-add}
 use Rattle.std.proofs.lemmas.List.{take-append-le, append-nil, append_assoc, append_cancel_left, length-append, length-take, take-append-drop, take-take}
 use Rattle.std.specs.Prelude.{MatchBool}
 use Rattle.std.specs.Io.KnownBytes.{Consumes}
-use Rattle.pf_values.specs.Text.{Text}
+use Rattle.pf_values.specs.meaning.Text.{Text}
 use Rattle.pf_values.specs.declared.models.Model.{Model}
-use Rattle.pf_values.specs.Canonical.{IsCanonicalOf}
+use Rattle.pf_values.specs.meaning.Canonical.{IsCanonicalOf}
 use Rattle.pf_values.specs.Counting.{Known}
-use Rattle.pf_values.specs.Items.{Item}
+use Rattle.pf_values.specs.meaning.Items.{Item}
 use Rattle.pf_probes.proofs.Unique.{equivalent_formats_one}
 use Rattle.pf_canon.specs.Output.{IsFrontOf, pending_text}
 use Rattle.pf_canon.specs.Comparison.{AreCommon, HaveCommon, BeginsWith, CountsSides, CountsStop, Drained, DrainsTo, EndsBoth, FaultCounts, Gave, AreNextBytes, IsReadInStep, NextBytesLeave, StopsBy, StopsOn, AreTextsSame}

@@ -4,10 +4,10 @@ use Rattle.std.specs.Fmt.{digits}
 use Rattle.std.specs.Prelude.{flat_map, ◌==◌, if◌then◌else◌}
 use Rattle.std.proofs.lemmas.List.{append-nil, length-append, length-replicate}
 use Rattle.std.proofs.lemmas.Bool.Decides.{nat_tests}
-use Rattle.pf_values.specs.Canonical.{item_spelling}
-use Rattle.pf_values.specs.Normal.{silent}
-use Rattle.pf_values.specs.Spelling.{spelling_of}
-use Rattle.pf_values.specs.Text.{Text, space, zero_digit}
+use Rattle.pf_values.specs.meaning.Canonical.{item_spelling}
+use Rattle.pf_values.specs.meaning.Normal.{silent}
+use Rattle.pf_values.specs.meaning.Spelling.{spelling_of}
+use Rattle.pf_values.specs.meaning.Text.{Text, space, zero_digit}
 use Rattle.pf_text.specs.Plain.{silents}
 use Rattle.pf_canon.specs.Output.{silent_bytes, whole_text, silent_rest, pending_silents_text}
 

@@ -3,12 +3,12 @@ use Rattle.std.proofs.Common.{◌≡◌, ℕ, ◌+◌, ◌-◌, ◌*◌, ◌≤�
 use Rattle.std.specs.Prelude.{flat_map, MatchResult, Result, Ok, Err, IsTrue, MatchOption, ◌↔◌}
 use Rattle.std.proofs.lemmas.List.{replicate-append-replicate, length-append, length-take-le, append-nil, append_cancel_left, take-append-drop}
 use Rattle.std.specs.Borrow.{Bor}
-use Rattle.pf_values.specs.Canonical.{item_spelling, IsCanonicalText}
+use Rattle.pf_values.specs.meaning.Canonical.{item_spelling, IsCanonicalText}
 use Rattle.pf_values.specs.declared.models.Model.{Model}
-use Rattle.pf_values.specs.Items.{Directive, IsAccepted}
-use Rattle.pf_values.specs.Normal.{silent}
-use Rattle.pf_values.specs.Refusals.{IsRefusedAt}
-use Rattle.pf_values.specs.Text.{Text}
+use Rattle.pf_values.specs.meaning.Items.{Directive, IsAccepted}
+use Rattle.pf_values.specs.meaning.Normal.{silent}
+use Rattle.pf_values.specs.meaning.Refusals.{IsRefusedAt}
+use Rattle.pf_values.specs.meaning.Text.{Text}
 use Rattle.pf_text.specs.declared.refusal.Refusal.{Refusal}
 use Rattle.pf_text.specs.Plain.{silents}
 use Rattle.pf_canon.specs.declared.limits.TheConstants.{BLOCK}

@@ -6,10 +6,10 @@ use Rattle.std.proofs.lemmas.List.{append_assoc, append-nil, length-append, take
 use Rattle.pf_values.specs.declared.limits.TheConstants.{MAX_TEXT_LEN}
 use Rattle.pf_values.specs.declared.refusals.RefusalKind.{RefusalKind}
 use Rattle.pf_values.specs.declared.refusals.RefusalKind.TheVariants.{TooLong, Truncated}
-use Rattle.pf_values.specs.Refusals.{HasCause, IsRefusedAt, IsRefusedByte}
-use Rattle.pf_values.specs.Text.{Text, percent}
+use Rattle.pf_values.specs.meaning.Refusals.{HasCause, IsRefusedAt, IsRefusedByte}
+use Rattle.pf_values.specs.meaning.Text.{Text, percent}
 use Rattle.pf_values.specs.declared.models.Model.{Model}
-use Rattle.pf_values.specs.Items.{Item, Byte, Directive, IsReadAs, Reads}
+use Rattle.pf_values.specs.meaning.Items.{Item, Byte, Directive, IsReadAs, Reads}
 use Rattle.pf_canon.specs.declared.output.Output.{Output}
 use Rattle.pf_canon.specs.declared.chunk.Chunk.{Chunk}
 use Rattle.pf_canon.specs.declared.chunk.ChunkRefusal.{ChunkRefusal}

@@ -1,7 +1,7 @@
 -- What is given bytes, one text after another. This project's own.
 use Rattle.std.specs.Prelude.{◌≡◌, ℕ, ◌+◌, ◌<◌, ◌^◌, false, [], ◌++◌, length, ◌≢◌, Option, Some, None}
 use Rattle.std.specs.Borrow.{Bor}
-use Rattle.pf_values.specs.Text.{Text}
+use Rattle.pf_values.specs.meaning.Text.{Text}
 use Rattle.pf_canon.specs.declared.sink.ByteCount.{ByteCount}
 use Rattle.pf_canon.specs.declared.sink.TextBuilder.{TextBuilder}
 use Rattle.pf_canon.specs.declared.sink.Expected.{Expected}

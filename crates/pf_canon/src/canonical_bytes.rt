@@ -3,8 +3,8 @@ ghost use Rattle.std.specs.Prelude.{◌≡◌, [], ◌++◌, ◌∷◌, true, Li
 ghost use Rattle.std.specs.Io.KnownBytes.{Consumes, IsAtEnd};
 ghost use Rattle.std.proofs.Common.{◌∙◌, refl};
 ghost use Rattle.pf_values.specs.Counting.{HasFailed, Known, calls_after, calls_of, device_of, failures_of};
-ghost use Rattle.pf_values.specs.Items.{Item};
-ghost use Rattle.pf_values.specs.Text.{Text};
+ghost use Rattle.pf_values.specs.meaning.Items.{Item};
+ghost use Rattle.pf_values.specs.meaning.Text.{Text};
 ghost use Rattle.pf_canon.specs.CanonicalBytes.{CountsByteRead, CountsStep, FindsByte, History, IsNoReadFault, IsOver, IsReadFor, LowersAnswer, LowersUnits, StepLeaves, StepsBy, StreamHistory, failed_later, reader_of};
 ghost use Rattle.pf_canon.specs.Output.{pending_text};
 ghost use Rattle.pf_canon.specs.Transducer.{IsThrough};

@@ -1,7 +1,7 @@
 //! A text taken chunk by chunk, and what each chunk settles put into a sink.
 ghost use Rattle.std.specs.Prelude.{◌++◌, MatchResult};
-ghost use Rattle.pf_values.specs.Refusals.{IsRefusedAt};
-ghost use Rattle.pf_values.specs.Text.{Text};
+ghost use Rattle.pf_values.specs.meaning.Refusals.{IsRefusedAt};
+ghost use Rattle.pf_values.specs.meaning.Text.{Text};
 ghost use Rattle.pf_canon.specs.Answers.{IsCanonicalFor};
 ghost use Rattle.pf_canon.specs.Transducer.{IsChunkWithin, IsUpTo, chunk_output_text, data_model_of, item_output_text};
 

@@ -1,7 +1,7 @@
 //! Two texts, compared in step.
 ghost use Rattle.std.specs.Prelude.{◌≡◌, ℕ, Option, Some, None, Err, IfOk, IfSome, MatchResult, ◌≢◌, [], MatchBool};
 ghost use Rattle.pf_values.specs.Counting.{HasFailed, Known, device_of, failures_of};
-ghost use Rattle.pf_values.specs.Text.{Text};
+ghost use Rattle.pf_values.specs.meaning.Text.{Text};
 ghost use Rattle.pf_canon.specs.Comparison.{AreCommon, AreNextBytes, AreTextsSame, CountsBehind, CountsDrain, CountsSides, DrainsTo, EndsBoth, Gave, GoesOnlyWith, HaveCommon, IsApart, IsInStep, Lowers, NextBytesLeave, StopsSide, TextStops};
 ghost use Rattle.pf_canon.specs.CanonicalBytes.{AnswerLeaves, History};
 ghost use Rattle.pf_canon.specs.Walk.{GoInStep, WalkHasGiven};

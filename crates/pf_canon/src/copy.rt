@@ -2,7 +2,7 @@
 ghost use Rattle.std.specs.Prelude.{◌≡◌, ◌≢◌, ℕ, ◌<◌, ◌≤◌, ◌++◌, length, take, IfOk, MatchResult, Err, false};
 ghost use Rattle.std.specs.Io.KnownBytes.{Appends, Consumes, IsAtEnd};
 ghost use Rattle.pf_values.specs.Counting.{Known, device_of};
-ghost use Rattle.pf_values.specs.Text.{Text};
+ghost use Rattle.pf_values.specs.meaning.Text.{Text};
 ghost use Rattle.pf_canon.specs.declared.faults.CopyFault.TheVariants.{Read};
 ghost use Rattle.pf_canon.specs.Transducer.{IsChunkWithin, RefusesChunk, chunk_output_text};
 ghost use Rattle.pf_canon.specs.Copy.{CopiesAll, CopyStops, HasPut, IsWritten, Puts, ReadCounts, StopsIn, WriteCounts};

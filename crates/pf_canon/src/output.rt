@@ -1,6 +1,6 @@
 //! What one item settles, to be put into a sink at once, or to be given byte by byte.
 ghost use Rattle.std.specs.Prelude.{◌≡◌, ◌*◌, ◌<◌, ℕ, drop, flat_map, length, replicate, ◌+◌, [], ◌^◌, IsTrue};
-ghost use Rattle.pf_values.specs.Canonical.{item_spelling};
+ghost use Rattle.pf_values.specs.meaning.Canonical.{item_spelling};
 ghost use Rattle.pf_text.specs.Plain.{silents};
 ghost use Rattle.pf_canon.specs.declared.limits.TheConstants.{PADDING};
 ghost use Rattle.pf_canon.specs.Output.{IsFrontOf, text_after_zeros, output_text, silent_bytes, Pops, pending_text, pending_silents_text, pending_spelling_text};

@@ -1,8 +1,8 @@
 //! A transducer of formats: it is fed a byte, a chunk or the end, and returns what that settles.
 ghost use Rattle.std.specs.Prelude.{◌≡◌, ◌+◌, ◌*◌, ◌<◌, ◌≤◌, ℕ, List, [], ◌∷◌, ◌++◌, length, take, IfOk, MatchResult, OnOk};
 ghost use Rattle.pf_values.specs.declared.limits.TheConstants.{MAX_TEXT_LEN};
-ghost use Rattle.pf_values.specs.Items.{Item};
-ghost use Rattle.pf_values.specs.Text.{Text};
+ghost use Rattle.pf_values.specs.meaning.Items.{Item};
+ghost use Rattle.pf_values.specs.meaning.Text.{Text};
 ghost use Rattle.pf_text.specs.declared.scanner.Step.TheVariants as steps;
 ghost use Rattle.pf_text.specs.History.{offset_of};
 ghost use Rattle.pf_canon.specs.Answers.{most_len};

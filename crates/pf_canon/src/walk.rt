@@ -1,8 +1,8 @@
 //! The canonical text of a format in memory, slice by slice.
 ghost use Rattle.std.specs.Prelude.{◌≡◌, ◌≢◌, List, MatchBool, ◌++◌, ◌+◌, ◌≤◌, ◌<◌, ◌^◌, [], None, length, take, drop, MatchResult};
-ghost use Rattle.pf_values.specs.Items.{Item};
-ghost use Rattle.pf_values.specs.Refusals.{IsRefusedAt};
-ghost use Rattle.pf_values.specs.Text.{Text};
+ghost use Rattle.pf_values.specs.meaning.Items.{Item};
+ghost use Rattle.pf_values.specs.meaning.Refusals.{IsRefusedAt};
+ghost use Rattle.pf_values.specs.meaning.Text.{Text};
 ghost use Rattle.pf_values.specs.declared.models.Model.{Model};
 ghost use Rattle.pf_canon.specs.Output.{IsFrontOf, output_text};
 ghost use Rattle.pf_canon.specs.Transducer.{IsChunkWithin, IsThrough, chunk_output_text};

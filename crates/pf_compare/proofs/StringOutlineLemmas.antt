@@ -3,12 +3,12 @@ use Rattle.std.proofs.Common.{◌≡◌, ◌≢◌, ℕ, subst, Bool, true, fals
 use Rattle.std.specs.Prelude.{IfSome}
 use Rattle.std.proofs.lemmas.List.{length-append, length-replicate}
 use Rattle.pf_values.specs.declared.models.Model.{Model}
-use Rattle.pf_values.specs.Arguments.{String}
-use Rattle.pf_values.specs.Specification.{Specification}
-use Rattle.pf_values.specs.Text.{space}
-use Rattle.pf_probes.specs.declared.rows.Candidate.{Candidate}
-use Rattle.pf_probes.specs.declared.rows.Candidate.TheVariants as variants
-use Rattle.pf_probes.specs.Candidate.{argument_of}
+use Rattle.pf_values.specs.meaning.Arguments.{String}
+use Rattle.pf_values.specs.meaning.Specification.{Specification}
+use Rattle.pf_values.specs.meaning.Text.{space}
+use Rattle.pf_probes.specs.declared.candidate_rows.Candidate.{Candidate}
+use Rattle.pf_probes.specs.declared.candidate_rows.Candidate.TheVariants as variants
+use Rattle.pf_probes.specs.Candidate.{candidate_argument}
 use Rattle.pf_compare.specs.declared.outlines.StringOutline.{StringOutline}
 use Rattle.pf_compare.specs.Outlines.{PredictsDifference}
 use Rattle.pf_compare.specs.StringOutlines.{IsStringOutlineOf, string_outline_len, string_outline_text}
@@ -32,6 +32,6 @@ module _ (model : Model) (s t : Specification) (count byte : ℕ) (x y : StringO
   string_alike e p q a b = h model byte p a ∙ ap (λ (outline : StringOutline). string_outline_text outline byte) e ∙ sym (g model byte q b)
 
 pub repeat_predicted : (model : Model) (s t : Specification) (candidate : Candidate) (byte count : ℕ) (predicted : Option Bool) → candidate ≡ variants.Repeat byte count
-    → IfSome predicted (λ told. (m : Model) (b : ℕ) → PredictsDifference m s t (String (replicate count b)) told) → IfSome predicted (PredictsDifference model s t (argument_of candidate))
+    → IfSome predicted (λ told. (m : Model) (b : ℕ) → PredictsDifference m s t (String (replicate count b)) told) → IfSome predicted (PredictsDifference model s t (candidate_argument candidate))
 repeat_predicted model s t candidate byte count None e h = tt
-repeat_predicted model s t candidate byte count (Some told) e h = subst (λ (c : Candidate). PredictsDifference model s t (argument_of c) told) (sym e) (h model byte)
+repeat_predicted model s t candidate byte count (Some told) e h = subst (λ (c : Candidate). PredictsDifference model s t (candidate_argument c) told) (sym e) (h model byte)

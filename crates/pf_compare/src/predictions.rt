@@ -2,11 +2,11 @@
 //! printing them.
 ghost use Rattle.std.specs.Prelude.{◌≡◌, ℕ, false, IfSome, IsFalse, IsTrue, replicate, ◌<◌, length};
 ghost use Rattle.pf_values.specs.declared.models.Model.{Model};
-ghost use Rattle.pf_values.specs.Arguments.{Number, String};
-ghost use Rattle.pf_values.specs.Conversions.{base_of, base_under, has_capitals, is_string, is_text, is_upper, kind_of};
-ghost use Rattle.pf_values.specs.Bases.{number_of};
-ghost use Rattle.pf_values.specs.Specification.{Specification};
-ghost use Rattle.pf_probes.specs.Candidate.{argument_of};
+ghost use Rattle.pf_values.specs.meaning.Arguments.{Number, String};
+ghost use Rattle.pf_values.specs.meaning.Conversions.{base_of, base_under, has_capitals, is_string, is_text, is_upper, kind_of};
+ghost use Rattle.pf_values.specs.meaning.Bases.{number_of};
+ghost use Rattle.pf_values.specs.meaning.Specification.{Specification};
+ghost use Rattle.pf_probes.specs.Candidate.{candidate_argument};
 ghost use Rattle.pf_compare.specs.Outlines.{PredictsDifference, digit_below_ten, digits_under};
 ghost use Rattle.pf_compare.specs.Spaces.{PrintEqualIn, LeavesRoomForSpace, IsInEqualPrintRange, with_space};
 ghost use Rattle.std.specs.Int.Digits.{digits_of};
@@ -27,7 +27,7 @@ pub(crate) fn predict(
     candidate: Candidate,
 ) -> Option<bool>
     requires { IfSome equal_range (PrintEqualIn first.now second.now) }
-    ensures { IfSome result (PredictsDifference model first.now second.now (argument_of candidate)) }
+    ensures { IfSome result (PredictsDifference model first.now second.now (candidate_argument candidate)) }
 {
     match candidate {
         Candidate::Number(number) => predict_number(model, first, second, equal_range, number),

@@ -2,10 +2,10 @@
 //! neutral arguments; and the first for which two directives do.
 ghost use Rattle.std.specs.Prelude.{◌≡◌, ◌≢◌, ◌≤◌, ◌+◌, ◌-◌, [], ◌++◌, IfOk, IfSome, IsTrue, List, MatchBool, drop, length, take};
 ghost use Rattle.pf_values.specs.Arg.{argument_of};
-ghost use Rattle.pf_values.specs.Arguments.{HasType};
+ghost use Rattle.pf_values.specs.meaning.Arguments.{HasType};
 ghost use Rattle.pf_values.specs.Candidates.{neutral};
-ghost use Rattle.pf_values.specs.DataModel.{arg_type};
-ghost use Rattle.pf_values.specs.Items.{Item, types};
+ghost use Rattle.pf_values.specs.meaning.DataModel.{arg_type};
+ghost use Rattle.pf_values.specs.meaning.Items.{Item, types};
 ghost use Rattle.pf_values.specs.declared.models.Model.TheVariants.{Lp64};
 ghost use Rattle.pf_probes.specs.Candidate as probes;
 ghost use Rattle.pf_compare.specs.Answers.{FindsProbe};
@@ -181,13 +181,13 @@ fn candidate_differs(
     requires equal_range { IfSome equal_range (PrintEqualIn first.now.directive second.now.directive) }
     requires first_type { arg_type model first.now.directive ≡ wanted }
     requires second_type { arg_type model second.now.directive ≡ wanted }
-    requires typed { HasType model (probes.argument_of candidate) wanted }
-    requires held { HasType Lp64 (probes.argument_of candidate) wanted }
+    requires typed { HasType model (probes.candidate_argument candidate) wanted }
+    requires held { HasType Lp64 (probes.candidate_argument candidate) wanted }
     requires first { IsSpanIn whole.now first.now }
     requires second { IsSpanIn whole.now second.now }
     ensures { IfOk result (λ told. MatchBool told
-        (ReplacementsDiffer model whole.now first.now second.now (probes.argument_of candidate))
-        (ReplacementsEqual model whole.now first.now second.now (probes.argument_of candidate))) }
+        (ReplacementsDiffer model whole.now first.now second.now (probes.candidate_argument candidate))
+        (ReplacementsEqual model whole.now first.now second.now (probes.candidate_argument candidate))) }
 {
     if have_same_place(first, second) {
         if let Some(told) = predict(model, &first.directive, &second.directive, equal_range, candidate) {

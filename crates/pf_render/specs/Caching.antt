@@ -1,8 +1,8 @@
 -- The parts of a format that are cached. This project's own.
 use Rattle.std.specs.Prelude.{◌≡◌, ◌≤◌, true, ℕ, List, [], ◌∷◌, flat_map, length, map, Option, Some, None}
-use Rattle.pf_values.specs.Items.{Item, Byte, Directive, Reads}
-use Rattle.pf_values.specs.Specification.{Specification}
-use Rattle.pf_values.specs.Text.{Text}
+use Rattle.pf_values.specs.meaning.Items.{Item, Byte, Directive, Reads}
+use Rattle.pf_values.specs.meaning.Specification.{Specification}
+use Rattle.pf_values.specs.meaning.Text.{Text}
 use Rattle.pf_render.specs.declared.piece_cache.TheConstants.{MAX_CACHED}
 use Rattle.pf_render.specs.declared.piece_cache.PieceCache.{PieceCache}
 use Rattle.pf_render.specs.declared.piece_cache.FormatPart.{FormatPart}

@@ -2,9 +2,9 @@
 ghost use Rattle.std.specs.Prelude.{◌≡◌, ◌+◌, ◌++◌, ◌<◌, ◌^◌, length, ◌≤◌, replicate};
 ghost use Rattle.pf_render.specs.Counts.{WritesCounted};
 ghost use Rattle.pf_render.specs.Parts.{join};
-ghost use Rattle.pf_values.specs.Printing.{field, padding};
-ghost use Rattle.pf_values.specs.Specification.{width_of};
-ghost use Rattle.pf_values.specs.Text.{space, zero_digit};
+ghost use Rattle.pf_values.specs.meaning.Printing.{field, padding};
+ghost use Rattle.pf_values.specs.meaning.Specification.{width_of};
+ghost use Rattle.pf_values.specs.meaning.Text.{space, zero_digit};
 
 use pf_values::limits::MAX_NUMBER;
 use pf_values::{Counted, Directive, Flag, ShortWrite, write_bytes};

@@ -1,7 +1,7 @@
 -- The reader of a text, as the code has it. No public contract names these.
 use Rattle.std.specs.Prelude.{◌≡◌, ℕ, ◌+◌, ◌<◌, ◌≤◌, length, drop}
 use Rattle.pf_values.specs.declared.models.Model.{Model}
-use Rattle.pf_values.specs.Text.{Text}
+use Rattle.pf_values.specs.meaning.Text.{Text}
 use Rattle.pf_signatures.specs.declared.reader.NextFetch.{NextFetch}
 use Rattle.pf_signatures.specs.declared.reader.NextFetch.TheVariants as nexts
 use Rattle.pf_signatures.specs.declared.reader.Reader.{Reader}

@@ -1,8 +1,8 @@
 use Rattle.std.proofs.Common.{◌++◌, arith, subst, take}
 use Rattle.std.proofs.lemmas.List.{take-append-drop, take_rest}
-use Rattle.pf_values.specs.Items.{IsAccepted}
-use Rattle.pf_values.specs.Refusals.{IsRefusedAt}
-use Rattle.pf_values.specs.Text.{Text}
+use Rattle.pf_values.specs.meaning.Items.{IsAccepted}
+use Rattle.pf_values.specs.meaning.Refusals.{IsRefusedAt}
+use Rattle.pf_values.specs.meaning.Text.{Text}
 use Rattle.pf_canon.specs.Walk.{IsAcceptedAs}
 use Rattle.pf_canon.proofs.ComparisonLemmas.{after_verbatim, verbatim_differ, told_other}
 use Rattle.pf_canon.proofs.comparison.compare_verbatim.Goals as goal

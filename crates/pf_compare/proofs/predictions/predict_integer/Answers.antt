@@ -2,7 +2,7 @@ use Rattle.std.proofs.Common.{◌≡◌, ◌∙◌, arith, of_z, rules, subst, s
 use Rattle.std.specs.Int.{w128}
 use Rattle.std.proofs.lemmas.Int.{ints}
 use Rattle.pf_values.specs.declared.conversions.Conv.{Conv}
-use Rattle.pf_values.specs.Conversions.{base_of, is_upper}
+use Rattle.pf_values.specs.meaning.Conversions.{base_of, is_upper}
 use Rattle.pf_compare.specs.Outlines.{digits_under, directive_digits}
 use Rattle.pf_compare.proofs.OutlineLemmas.{predicted_alike, predicted_unlike}
 use Rattle.pf_compare.proofs.predictions.predict_integer.Goals as goal

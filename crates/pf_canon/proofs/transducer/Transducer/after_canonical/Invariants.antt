@@ -1,5 +1,5 @@
 use Rattle.std.proofs.Common.{◌≡◌, ◌-◌, ◌≤◌, List, length, take}
-use Rattle.pf_values.specs.Items.{Item}
+use Rattle.pf_values.specs.meaning.Items.{Item}
 use Rattle.pf_canon.specs.Transducer.{IsThrough, waiting_silents_of}
 use Rattle.pf_canon.proofs.transducer.Transducer.after_canonical.Given as goal
 

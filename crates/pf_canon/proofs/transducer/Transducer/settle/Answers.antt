@@ -1,5 +1,5 @@
 use Rattle.std.proofs.Common.{[], ◌∷◌, ◌++◌, ap}
-use Rattle.pf_values.specs.Items.{Directive}
+use Rattle.pf_values.specs.meaning.Items.{Directive}
 use Rattle.pf_canon.proofs.MakingLemmas.{made_more}
 use Rattle.pf_canon.proofs.PieceLemmas.{percent_made}
 use Rattle.pf_canon.proofs.TransducerLemmas.{byte_settled}

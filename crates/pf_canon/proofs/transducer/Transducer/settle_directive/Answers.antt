@@ -1,6 +1,6 @@
 use Rattle.std.proofs.Common.{arith}
-use Rattle.pf_values.specs.Normal.{IsNormal}
-use Rattle.pf_values.specs.Spelling.{spelling_of}
+use Rattle.pf_values.specs.meaning.Normal.{IsNormal}
+use Rattle.pf_values.specs.meaning.Spelling.{spelling_of}
 use Rattle.pf_text.proofs.SpellingLemmas.{length-spelled}
 use Rattle.pf_canon.proofs.DirectiveLemmas.{kept_items}
 use Rattle.pf_canon.proofs.OutputLemmas.{length-whole}
