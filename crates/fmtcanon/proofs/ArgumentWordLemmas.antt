@@ -1,8 +1,8 @@
 -- What words give no number, and that they give one argument at most.
 use Rattle.std.proofs.Common.{◌≡◌, ℕ, ℤ, ◌-◌, ◌≤◌, Bool, true, false, [], ◌∷◌, ◌++◌, length, get_or, take, drop, pos, refl, sym, ap, subst, ◌∙◌, arith, Option, Some, None, IfNone}
 use Rattle.std.proofs.lemmas.List.{take_rest}
-use Rattle.pf_values.specs.Arguments.{Argument, Number, String}
-use Rattle.pf_values.specs.Text.{Text}
+use Rattle.pf_values.specs.meaning.Arguments.{Argument, Number, String}
+use Rattle.pf_values.specs.meaning.Text.{Text}
 use Rattle.fmtcanon.specs.ArgumentWords.{SpellsArgument, SpellsMagnitude, SpellsNumber, SpellsOneArgument, minus_if, negated_if}
 use Rattle.fmtcanon.specs.declared.arguments.UntypedArg.{UntypedArg}
 use Rattle.fmtcanon.proofs.MagnitudeLemmas.{read_only}

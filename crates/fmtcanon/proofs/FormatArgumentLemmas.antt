@@ -9,8 +9,8 @@ use Rattle.pf_values.specs.declared.arguments.Arg.{Arg}
 use Rattle.pf_values.specs.declared.models.Model.{Model}
 use Rattle.pf_values.specs.declared.types.ArgType.{ArgType}
 use Rattle.pf_values.specs.Arg.{argument_of, type_of}
-use Rattle.pf_values.specs.Arguments.{Argument, HasType, HasTypes}
-use Rattle.pf_values.specs.Text.{Text}
+use Rattle.pf_values.specs.meaning.Arguments.{Argument, HasType, HasTypes}
+use Rattle.pf_values.specs.meaning.Text.{Text}
 use Rattle.fmtcanon.specs.ArgumentWords.{SpellsArgument}
 use Rattle.fmtcanon.specs.declared.outcome.Fault.TheVariants.{WrongCount}
 use Rattle.fmtcanon.specs.declared.arguments.UntypedArg.{UntypedArg}

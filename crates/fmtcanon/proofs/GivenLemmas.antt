@@ -9,9 +9,9 @@ use Rattle.pf_signatures.specs.declared.kinds.SignatureRefusalKind.{SignatureRef
 use Rattle.pf_signatures.specs.Refusals as whole
 use Rattle.pf_values.specs.declared.models.Model.{Model}
 use Rattle.pf_values.specs.declared.refusals.RefusalKind.{RefusalKind}
-use Rattle.pf_values.specs.Items.{IsAccepted}
-use Rattle.pf_values.specs.Refusals.{IsRefusedAt}
-use Rattle.pf_values.specs.Text.{Text}
+use Rattle.pf_values.specs.meaning.Items.{IsAccepted}
+use Rattle.pf_values.specs.meaning.Refusals.{IsRefusedAt}
+use Rattle.pf_values.specs.meaning.Text.{Text}
 use Rattle.fmtcanon.specs.Answers.{HindersFit, HindersFormat, HindersFormats, HindersGiven, HindersPair, HindersWhole, IsAcceptedWhole, IsToldBySide, IsToldOf, side_of}
 use Rattle.fmtcanon.specs.FormatArguments.{HindersArguments}
 use Rattle.fmtcanon.specs.Formats.{Gives, IsFormat, IsToldAt}

@@ -10,8 +10,8 @@ use Rattle.std.proofs.lemmas.Bool.Decides.{nat_tests}
 use Rattle.std.proofs.lemmas.List.{length-map, length-take}
 use Rattle.std.proofs.lemmas.List.Sums.{fold_more}
 use Rattle.std.proofs.lemmas.List.Elements.{All-from_recursion, recursion_from_All}
-use Rattle.pf_values.specs.Digits.{place_sum}
-use Rattle.pf_values.specs.Text.{Text}
+use Rattle.pf_values.specs.meaning.Digits.{place_sum}
+use Rattle.pf_values.specs.meaning.Text.{Text}
 use Rattle.pf_values.proofs.Numerals.{number_after-place_sum, place_sum-lt}
 use Rattle.fmtcanon.specs.ArgumentWords.{SpellsMagnitude}
 use Rattle.fmtcanon.specs.declared.arguments.TheConstants.{MAX_DIGITS}

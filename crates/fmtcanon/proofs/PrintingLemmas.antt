@@ -10,9 +10,9 @@ use Rattle.pf_values.specs.declared.arguments.Arg.{Arg}
 use Rattle.pf_values.specs.declared.models.Model.{Model}
 use Rattle.pf_values.specs.declared.types.ArgType.{ArgType}
 use Rattle.pf_values.specs.Arg.{argument_of, type_of}
-use Rattle.pf_values.specs.Arguments.{HasType, HasTypes}
-use Rattle.pf_values.specs.Items.{types}
-use Rattle.pf_values.specs.Text.{Text}
+use Rattle.pf_values.specs.meaning.Arguments.{HasType, HasTypes}
+use Rattle.pf_values.specs.meaning.Items.{types}
+use Rattle.pf_values.specs.meaning.Text.{Text}
 use Rattle.fmtcanon.specs.FormatArguments.{AreArgumentsFor}
 
 -- the type that an argument has by the list of types

@@ -4,7 +4,7 @@ use Rattle.std.specs.Prelude.{MatchResult, flat_map}
 use Rattle.std.proofs.lemmas.List.{flat_map_more}
 use Rattle.pf_values.specs.declared.counting.Counted.{Counted}
 use Rattle.pf_values.specs.Counting.{Known, WritesAll, is_flushed}
-use Rattle.pf_values.specs.Text.{Text}
+use Rattle.pf_values.specs.meaning.Text.{Text}
 use Rattle.fmtcanon.specs.Conversations.{Answers, HasCome, HasReplies, HasSaid, HasSaidFirst, HasStopped, IsAt, LeavesAtEnd, LeavesStopped, WritesReplies, first_of, waiting_of}
 use Rattle.fmtcanon.specs.Questions.{formats_wanted}
 use Rattle.fmtcanon.specs.Records.{AreReplies, IsReply, RepliesAll, RepliesFirst, Reply, last_record}

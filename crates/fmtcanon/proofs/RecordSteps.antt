@@ -3,7 +3,7 @@ use Rattle.std.proofs.Common.{◌≡◌, ℕ, ◌+◌, ◌++◌, [], ◌∷◌, 
 use Rattle.memchr.specs.Find.{IsFirstByte, is_byte}
 use Rattle.pf_values.specs.declared.counting.Counted.{Counted}
 use Rattle.pf_values.specs.Counting.{Known}
-use Rattle.pf_values.specs.Text.{Text}
+use Rattle.pf_values.specs.meaning.Text.{Text}
 use Rattle.fmtcanon.specs.Conversations.{HasCome, HasReplies, HasStopped, HasStoppedAt, IsAt, IsAtText}
 use Rattle.fmtcanon.specs.Records.{IsCut, last_record}
 use Rattle.fmtcanon.specs.declared.task.RecordQuestion.{RecordQuestion}

@@ -7,7 +7,7 @@ use Rattle.std.specs.Io.KnownBytes.{Appends, Keeps}
 use Rattle.std.proofs.KnownBytes.{Appends-kept, Appends-trans}
 use Rattle.pf_values.specs.declared.counting.Counted.{Counted}
 use Rattle.pf_values.specs.Counting.{HasFailed, Known, WritesAll, WritesFirst, device_of}
-use Rattle.pf_values.specs.Text.{Text}
+use Rattle.pf_values.specs.meaning.Text.{Text}
 use Rattle.pf_values.proofs.WriteLemmas.{WritesFirst-more}
 use Rattle.fmtcanon.specs.Conversations.{HasReplies, HasSaid, HasSaidFirst, count_of, waiting_of}
 use Rattle.fmtcanon.specs.Outcomes.{status_of}

@@ -4,7 +4,7 @@ use Rattle.std.specs.Prelude.{Result, Ok, Err}
 use Rattle.pf_values.specs.declared.counting.Counted.{Counted}
 use Rattle.pf_values.specs.declared.writing.ShortWrite.{ShortWrite}
 use Rattle.pf_values.specs.Counting.{Known, Writes}
-use Rattle.pf_values.specs.Text.{Text}
+use Rattle.pf_values.specs.meaning.Text.{Text}
 use Rattle.fmtcanon.specs.Reports.{Tells}
 
 -- whatever the writer answered

@@ -4,7 +4,7 @@ use Rattle.pf_values.specs.declared.counting.Counted.{Counted}
 use Rattle.pf_values.specs.Counting.{Known}
 use Rattle.fmtcanon.specs.Answers.{IsHindered}
 use Rattle.fmtcanon.specs.Outcomes.{outcome_of_fault}
-use Rattle.pf_values.specs.Text.{Text}
+use Rattle.pf_values.specs.meaning.Text.{Text}
 use Rattle.fmtcanon.specs.Runs.{Leaves, LeavesAnswer}
 use Rattle.fmtcanon.specs.Tasks.{Asks}
 use Rattle.fmtcanon.specs.declared.outcome.Outcome.{Outcome}

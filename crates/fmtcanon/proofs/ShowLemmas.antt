@@ -16,11 +16,11 @@ use Rattle.pf_text.specs.declared.refusal.Refusal.{Refusal}
 use Rattle.pf_text.specs.History.{EndsRun, IsLiteral}
 use Rattle.pf_text.specs.PieceHistory.{Gives, GivesNext, GivesPiece, GivesRefusal, HasGiven, IsPieceBefore, items_of}
 use Rattle.pf_values.specs.declared.limits.TheConstants.{MAX_TEXT_LEN}
-use Rattle.pf_values.specs.Defined.{IsDefined}
-use Rattle.pf_values.specs.Items.{Item}
-use Rattle.pf_values.specs.Normal.{silent}
-use Rattle.pf_values.specs.Spelling.{Spells, spelling_of}
-use Rattle.pf_values.specs.Text.{Text, percent}
+use Rattle.pf_values.specs.meaning.Defined.{IsDefined}
+use Rattle.pf_values.specs.meaning.Items.{Item}
+use Rattle.pf_values.specs.meaning.Normal.{silent}
+use Rattle.pf_values.specs.meaning.Spelling.{Spells, spelling_of}
+use Rattle.pf_values.specs.meaning.Text.{Text, percent}
 use Rattle.fmtcanon.specs.Shows.{BeginsNoRun, HasShownLines, IsCut, IsLineOf, Shown, Run, Percent, Specified, shown_of}
 
 pub silent_spelled : codes "%.0s" ≡ spelling_of silent

@@ -3,7 +3,7 @@ use Rattle.std.proofs.Common.{◌≡◌, ◌≢◌, List, [], Option, None, Some
 use Rattle.std.specs.Prelude.{IfErr, IfOk}
 use Rattle.std.proofs.lemmas.Result.{IfErr-weaker, IfOk-weaker}
 use Rattle.clap.specs.Walk.{Row, first_of}
-use Rattle.pf_values.specs.Text.{Text}
+use Rattle.pf_values.specs.meaning.Text.{Text}
 use Rattle.fmtcanon.specs.Questions.{formats_of, formats_wanted}
 use Rattle.fmtcanon.specs.Tasks.{Asks, IsAsked, IsAskedOf, IsMisplaced, IsNoTaskOf, IsNoTaskOn, IsQuestion, IsTaskOn, Names, formats_given, formats_in}
 use Rattle.fmtcanon.specs.declared.task.Question.{Question}

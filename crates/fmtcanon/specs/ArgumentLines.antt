@@ -6,7 +6,7 @@ use Rattle.pf_signatures.specs.declared.types.ArgumentType.TheVariants.{Int, UIn
 use Rattle.pf_signatures.specs.Items.{HasArguments}
 use Rattle.pf_signatures.specs.Laws.{Compares}
 use Rattle.pf_values.specs.declared.models.Model.{Model}
-use Rattle.pf_values.specs.Text.{Text}
+use Rattle.pf_values.specs.meaning.Text.{Text}
 use Rattle.fmtcanon.specs.declared.answer.Ending.{Ending}
 use Rattle.fmtcanon.specs.declared.answer.Ending.TheVariants as endings
 use Rattle.fmtcanon.specs.Lines.{line}

@@ -2,9 +2,9 @@
 -- own.
 use Rattle.std.specs.Prelude.{◌≡◌, ℕ, ◌≤◌, ℤ, pos, neg_ℤ, Bool, true, false, List, [], ◌++◌, length, map, codes}
 use Rattle.std.specs.Fmt.{digit_glyph}
-use Rattle.pf_values.specs.Arguments.{Argument, Number, String, IsString}
-use Rattle.pf_values.specs.Digits.{AreDigits}
-use Rattle.pf_values.specs.Text.{Text}
+use Rattle.pf_values.specs.meaning.Arguments.{Argument, Number, String, IsString}
+use Rattle.pf_values.specs.meaning.Digits.{AreDigits}
+use Rattle.pf_values.specs.meaning.Text.{Text}
 use Rattle.fmtcanon.specs.declared.arguments.TheConstants.{MAX_DIGITS}
 
 -- a decimal number without sign, with zeros in front or without

@@ -3,7 +3,7 @@ use Rattle.std.specs.Prelude.{◌≡◌, ℕ, ◌-◌, ◌^◌, ◌<◌, Bool, t
 use Rattle.std.specs.declared.alloc.AllocError.{AllocError}
 use Rattle.pf_values.specs.declared.counting.Counted.{Counted}
 use Rattle.pf_values.specs.Counting.{Known, WritesAll, WritesFirst}
-use Rattle.pf_values.specs.Text.{Text}
+use Rattle.pf_values.specs.meaning.Text.{Text}
 use Rattle.fmtcanon.specs.Questions.{formats_wanted}
 use Rattle.fmtcanon.specs.Records.{AreReplies, IsCut, IsReply, RepliesAll, RepliesFirst, Reply, bytes_of, greatest_of, last_record}
 use Rattle.fmtcanon.specs.declared.outcome.Outcome.{Outcome}

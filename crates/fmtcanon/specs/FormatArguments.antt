@@ -6,11 +6,11 @@ use Rattle.pf_values.specs.declared.arguments.Arg.{Arg}
 use Rattle.pf_values.specs.declared.models.Model.{Model}
 use Rattle.pf_values.specs.declared.types.ArgType.{ArgType}
 use Rattle.pf_values.specs.Arg.{argument_of, type_of}
-use Rattle.pf_values.specs.Arguments.{Argument, HasType, HasTypes}
-use Rattle.pf_values.specs.Items.{HasItems, IsAccepted, Item, types}
-use Rattle.pf_values.specs.Printing.{PrintsAll}
-use Rattle.pf_values.specs.Refusals.{IsRefusedAt}
-use Rattle.pf_values.specs.Text.{Text}
+use Rattle.pf_values.specs.meaning.Arguments.{Argument, HasType, HasTypes}
+use Rattle.pf_values.specs.meaning.Items.{HasItems, IsAccepted, Item, types}
+use Rattle.pf_values.specs.meaning.Printing.{PrintsAll}
+use Rattle.pf_values.specs.meaning.Refusals.{IsRefusedAt}
+use Rattle.pf_values.specs.meaning.Text.{Text}
 use Rattle.fmtcanon.specs.declared.outcome.Fault.{Fault}
 use Rattle.fmtcanon.specs.declared.outcome.Fault.TheVariants.{Refused, RefusedWhole, BadLiteral, BadWord, WrongCount, WrongType, Memory}
 use Rattle.fmtcanon.specs.ArgumentWords.{SpellsArgument}

@@ -7,7 +7,7 @@ use Rattle.pf_literals.specs.Answers.{IsPlaceOf}
 use Rattle.pf_literals.specs.Encoding.{encoding}
 use Rattle.pf_literals.specs.Faults.{IsFaultAt}
 use Rattle.pf_literals.specs.Sources.{IsSourceOf}
-use Rattle.pf_values.specs.Text.{Text}
+use Rattle.pf_values.specs.meaning.Text.{Text}
 use Rattle.fmtcanon.specs.declared.formats.GivenFormat.{GivenFormat}
 use Rattle.fmtcanon.specs.declared.formats.Notation.{Notation}
 use Rattle.fmtcanon.specs.declared.formats.Notation.TheVariants.{Bytes, Literals}

@@ -5,7 +5,7 @@ use Rattle.clap.specs.Walk.{Row, first_of}
 use Rattle.pf_values.specs.declared.models.Model.{Model}
 use Rattle.pf_values.specs.declared.models.TheConstants.Model.{ALL}
 use Rattle.pf_values.specs.declared.models.Model.TheVariants.{Lp64, Ilp32, Llp64}
-use Rattle.pf_values.specs.Text.{Text}
+use Rattle.pf_values.specs.meaning.Text.{Text}
 use Rattle.fmtcanon.specs.declared.models.Models.{Models}
 use Rattle.fmtcanon.specs.declared.models.Models.TheVariants.{All, Both, One}
 

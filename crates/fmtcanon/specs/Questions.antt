@@ -1,6 +1,6 @@
 -- What is asked about formats, wherever these come from. This project's own.
 use Rattle.std.specs.Prelude.{◌≡◌, ℕ, List, [], ◌∷◌, Option, None, Some}
-use Rattle.pf_values.specs.Text.{Text}
+use Rattle.pf_values.specs.meaning.Text.{Text}
 use Rattle.fmtcanon.specs.declared.task.Question.{Question}
 use Rattle.fmtcanon.specs.declared.task.Question.TheVariants.{Types, Arguments, Canon, Show, Format, Fits, Same}
 use Rattle.fmtcanon.specs.declared.task.RecordQuestion.{RecordQuestion}

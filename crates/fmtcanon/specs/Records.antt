@@ -4,7 +4,7 @@ use Rattle.std.specs.List.{AllByRecursion, fold}
 use Rattle.std.specs.Io.KnownBytes.{Consumes, IsAtEnd}
 use Rattle.pf_values.specs.declared.counting.Counted.{Counted}
 use Rattle.pf_values.specs.Counting.{HasFailed, Known, WritesAll, WritesFirst, calls_of, device_of, failures_of, is_flushed, max_count}
-use Rattle.pf_values.specs.Text.{Text}
+use Rattle.pf_values.specs.meaning.Text.{Text}
 use Rattle.fmtcanon.specs.Answers.{IsAnswer, IsHindered}
 use Rattle.fmtcanon.specs.Outcomes.{outcome_of, outcome_of_fault, status_of}
 use Rattle.fmtcanon.specs.Questions.{IsAbout, formats_wanted}

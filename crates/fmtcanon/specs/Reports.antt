@@ -3,7 +3,7 @@ use Rattle.std.specs.Prelude.{ℕ, [], ◌++◌, codes, decimal, length, ◌<◌
 use Rattle.pf_values.specs.declared.counting.Counted.{Counted}
 use Rattle.pf_values.specs.Counting.{Known, WritesAll, WritesFirst}
 use Rattle.pf_values.specs.RefusalKinds.{name, number}
-use Rattle.pf_values.specs.Text.{Text}
+use Rattle.pf_values.specs.meaning.Text.{Text}
 use Rattle.pf_literals.specs.declared.faults.LiteralRefusal.{LiteralRefusal}
 use Rattle.pf_literals.specs.Kinds as literals
 use Rattle.pf_signatures.specs.declared.refusals.SignatureRefusal.{SignatureRefusal}

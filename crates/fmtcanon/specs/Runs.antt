@@ -2,7 +2,7 @@
 use Rattle.std.specs.Prelude.{◌≡◌, ℕ, List, true, ◌⊎◌}
 use Rattle.pf_values.specs.declared.counting.Counted.{Counted}
 use Rattle.pf_values.specs.Counting.{Known, WritesAll, WritesFirst, is_flushed}
-use Rattle.pf_values.specs.Text.{Text}
+use Rattle.pf_values.specs.meaning.Text.{Text}
 use Rattle.fmtcanon.specs.Answers.{IsAnswer, IsHindered}
 use Rattle.fmtcanon.specs.Streams.{LeavesCopy}
 use Rattle.fmtcanon.specs.Records.{LeavesRecords}

@@ -7,12 +7,12 @@ use Rattle.pf_reduce.specs.Reducing.{IsReducedTo, core_of}
 use Rattle.pf_text.specs.declared.pieces.Piece.{Piece}
 use Rattle.pf_text.specs.declared.pieces.Piece.TheVariants as pieces
 use Rattle.pf_text.specs.History.{IsLiteral}
-use Rattle.pf_values.specs.DataModel.{arg_type}
-use Rattle.pf_values.specs.Defined.{IsDefined}
-use Rattle.pf_values.specs.Items.{IsAccepted}
-use Rattle.pf_values.specs.Specification.{Specification}
-use Rattle.pf_values.specs.Spelling.{Spells, spelling_of}
-use Rattle.pf_values.specs.Text.{Text, percent}
+use Rattle.pf_values.specs.meaning.DataModel.{arg_type}
+use Rattle.pf_values.specs.meaning.Defined.{IsDefined}
+use Rattle.pf_values.specs.meaning.Items.{IsAccepted}
+use Rattle.pf_values.specs.meaning.Specification.{Specification}
+use Rattle.pf_values.specs.meaning.Spelling.{Spells, spelling_of}
+use Rattle.pf_values.specs.meaning.Text.{Text, percent}
 use Rattle.fmtcanon.specs.Lines.{line}
 use Rattle.fmtcanon.specs.TypeLines.{type_name}
 

@@ -1,6 +1,6 @@
 -- Arguments that have no type yet. This project's own.
 use Rattle.pf_values.specs.Arg.{bytes_of}
-use Rattle.pf_values.specs.Arguments.{Argument, Number, String}
+use Rattle.pf_values.specs.meaning.Arguments.{Argument, Number, String}
 use Rattle.fmtcanon.specs.declared.arguments.UntypedArg.{UntypedArg}
 use Rattle.fmtcanon.specs.declared.arguments.UntypedArg.TheVariants as variants
 

@@ -3,8 +3,8 @@ ghost use Rattle.std.specs.Prelude.{◌≡◌, Err, MatchResult, Ok, IfOk, Match
 ghost use Rattle.fmtcanon.specs.Answers.{IsAnswer, IsHindered, HasCanonicalLine, HindersFormat, HindersGiven, HindersPair, HindersWhole, IsAcceptedWhole, IsToldBySide, IsToldOf, side_of};
 ghost use Rattle.fmtcanon.specs.declared.answer.Ending.TheVariants.{Done};
 ghost use Rattle.pf_canon.specs.declared.sides.Side.TheVariants as sides;
-ghost use Rattle.pf_values.specs.Items.{IsAccepted};
-ghost use Rattle.pf_values.specs.Text.{Text};
+ghost use Rattle.pf_values.specs.meaning.Items.{IsAccepted};
+ghost use Rattle.pf_values.specs.meaning.Text.{Text};
 ghost use Rattle.fmtcanon.specs.ArgumentLines.{HasArgumentLines, IsFitAnswer};
 ghost use Rattle.fmtcanon.specs.Comparisons.{IsComparisonIn};
 ghost use Rattle.fmtcanon.specs.Faults.{of_literal};

@@ -1,8 +1,8 @@
 //! Arguments: the words that give them, and their values before and after they have a type.
 ghost use Rattle.std.specs.Prelude.{◌≡◌, ◌↔◌, IfSome, IsSome, ℕ, ℤ, pos, IfNone, IfErr, IfOk, length, map};
 ghost use Rattle.pf_values.specs.Arg.{argument_of, type_of};
-ghost use Rattle.pf_values.specs.Arguments.{HasType, Number, Argument, HasTypes};
-ghost use Rattle.pf_values.specs.DataModel.{IsInRange};
+ghost use Rattle.pf_values.specs.meaning.Arguments.{HasType, Number, Argument, HasTypes};
+ghost use Rattle.pf_values.specs.meaning.DataModel.{IsInRange};
 ghost use Rattle.fmtcanon.specs.UntypedArgs.{argument_given};
 ghost use Rattle.fmtcanon.specs.ArgumentWords.{SpellsArgument, SpellsMagnitude, SpellsNumber};
 ghost use Rattle.fmtcanon.specs.FormatArguments.{AreArgumentsFor, HindersArguments, IsBadWord, IsWrongType, SpellArguments};

@@ -3,7 +3,7 @@ ghost use Rattle.std.specs.Prelude.{◌≡◌, ◌≤◌, IfOk, MatchResult, len
 ghost use Rattle.std.specs.Cow.{cow_slice_items};
 ghost use Rattle.pf_literals.specs.Answers.{HindersDecoding};
 ghost use Rattle.pf_literals.specs.Sources.{IsSourceOf};
-ghost use Rattle.pf_values.specs.Text.{Text};
+ghost use Rattle.pf_values.specs.meaning.Text.{Text};
 ghost use Rattle.fmtcanon.specs.Formats.{HindersBytes, IsFormat, IsToldAt, written_in};
 
 use pf_literals::{LiteralFault, decode, encode, source_offset};

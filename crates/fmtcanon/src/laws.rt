@@ -4,7 +4,7 @@ ghost use Rattle.pf_values.specs.declared.models.Model.{Model};
 ghost use Rattle.fmtcanon.specs.Comparisons.{ToldIsRead};
 ghost use Rattle.pf_reduce.specs.Reducing.{IsReducedTo};
 ghost use Rattle.pf_reduce.specs.declared.results.Reduced.{Reduced};
-ghost use Rattle.pf_values.specs.Specification.{Specification};
+ghost use Rattle.pf_values.specs.meaning.Specification.{Specification};
 ghost use Rattle.std.specs.Prelude.{◌≡◌};
 
 /// A word gives one argument at most.

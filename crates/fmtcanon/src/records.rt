@@ -3,7 +3,7 @@ ghost use Rattle.std.specs.Prelude.{◌≡◌, ◌≢◌, ◌<◌, ◌++◌, ◌
 ghost use Rattle.std.specs.Io.{ReadsAtMost};
 ghost use Rattle.std.specs.Io.KnownBytes.{ReadConsumes};
 ghost use Rattle.pf_values.specs.Counting.{calls_after, calls_of, device_of, failures_after, failures_of, is_flushed};
-ghost use Rattle.pf_values.specs.Text.{Text};
+ghost use Rattle.pf_values.specs.meaning.Text.{Text};
 ghost use Rattle.fmtcanon.specs.Conversations.{Answers, HasCome, HasReplies, HasSaid, HasStopped, HasStoppedAt, IsAt, IsAtText, LeavesAtEnd, LeavesStopped, WritesReplies, waiting_of};
 ghost use Rattle.fmtcanon.specs.Questions.{IsAbout, formats_wanted};
 ghost use Rattle.fmtcanon.specs.Records.{LeavesRecords, RepliesFirst, Reply, last_record};

@@ -1,7 +1,7 @@
 //! Replies to records, which wait to be written.
 ghost use Rattle.std.specs.Prelude.{◌≡◌, ◌≤◌, ◌++◌, ◌∷◌, [], List, MatchResult, OnErr, OnOk, length, max, take, true};
 ghost use Rattle.pf_values.specs.Counting.{is_flushed};
-ghost use Rattle.pf_values.specs.Text.{Text};
+ghost use Rattle.pf_values.specs.meaning.Text.{Text};
 ghost use Rattle.fmtcanon.specs.Conversations.{HasReplies, HasSaid, HasSaidFirst, waiting_of};
 ghost use Rattle.fmtcanon.specs.Outcomes.{status_of};
 ghost use Rattle.fmtcanon.specs.Questions.{IsAbout};

@@ -2,9 +2,9 @@
 ghost use Rattle.std.specs.Prelude.{◌≡◌, ◌++◌, IfOk, MatchResult, codes, decimal};
 ghost use Rattle.pf_reduce.specs.Reducing.{IsReducedTo, core_of};
 ghost use Rattle.pf_reduce.specs.declared.results.Reduced.{Reduced};
-ghost use Rattle.pf_values.specs.DataModel.{arg_type};
-ghost use Rattle.pf_values.specs.Spelling.{spelling_of};
-ghost use Rattle.pf_values.specs.Text.{Text};
+ghost use Rattle.pf_values.specs.meaning.DataModel.{arg_type};
+ghost use Rattle.pf_values.specs.meaning.Spelling.{spelling_of};
+ghost use Rattle.pf_values.specs.meaning.Text.{Text};
 ghost use Rattle.fmtcanon.specs.Answers.{HindersFormat};
 ghost use Rattle.fmtcanon.specs.Lines.{line};
 ghost use Rattle.fmtcanon.specs.Shows.{HasShownLines, IsLineOf, reduced_line, reduced_text, shown_of};

@@ -4,7 +4,7 @@ ghost use Rattle.fmtcanon.specs.Questions.{IsAbout, formats_of, formats_wanted};
 ghost use Rattle.std.specs.Str.{bytes_eq};
 ghost use Rattle.clap.specs.Matches.{first_value};
 ghost use Rattle.clap.specs.Words.{found_of, kind_of, matched_of, raw_values};
-ghost use Rattle.pf_values.specs.Text.{Text};
+ghost use Rattle.pf_values.specs.meaning.Text.{Text};
 ghost use Rattle.fmtcanon.specs.Tasks.{Asks, IsAnsweredBy, IsAsked, IsNoTaskOf, IsNoTaskOn, IsTaskOn, Names, formats_in, is_set, notation_in, rows_in};
 
 use crate::command::definition;

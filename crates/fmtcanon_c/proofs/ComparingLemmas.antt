@@ -1,8 +1,8 @@
 -- What a comparison that was made or hindered gives the caller.
 use Rattle.std.proofs.Common.{◌⊎◌, ℤ, inl, inr, refl, subst}
 use Rattle.pf_values.specs.declared.models.Model.{Model}
-use Rattle.pf_values.specs.Items.{types}
-use Rattle.pf_values.specs.Text.{Text}
+use Rattle.pf_values.specs.meaning.Items.{types}
+use Rattle.pf_values.specs.meaning.Text.{Text}
 use Rattle.pf_canon.specs.declared.sides.Side.TheVariants as sides
 use Rattle.pf_compare.specs.Answers.{HaveSameTypes, HindersComparison, IsComparisonOf, IsVerdict}
 use Rattle.pf_compare.specs.declared.comparisons.CompareFault.{CompareFault}

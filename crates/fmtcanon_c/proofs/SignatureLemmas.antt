@@ -3,7 +3,7 @@ use Rattle.std.proofs.Common.{◌∙◌, ℕ, Some, ap, slice_get, sym}
 use Rattle.pf_signatures.specs.Laws.{Compares}
 use Rattle.pf_signatures.proofs.Unique.{one_list}
 use Rattle.pf_values.specs.declared.models.Model.{Model}
-use Rattle.pf_values.specs.Text.{Text}
+use Rattle.pf_values.specs.meaning.Text.{Text}
 use Rattle.fmtcanon_c.specs.Signatures.{Fit}
 
 module _ (model : Model) (f g : Text) where

@@ -3,10 +3,10 @@ use Rattle.std.specs.Prelude.{◌≡◌, ◌≤◌, ◌<◌, ◌^◌, ◌⊎◌,
 use Rattle.pf_values.specs.declared.models.Model.{Model}
 use Rattle.pf_values.specs.declared.models.TheConstants.Model.{ALL}
 use Rattle.pf_values.specs.declared.types.ArgType.{ArgType}
-use Rattle.pf_values.specs.Canonical.{IsCanonicalText}
-use Rattle.pf_values.specs.Items.{IsAccepted}
-use Rattle.pf_values.specs.Printing.{AreEquivalent}
-use Rattle.pf_values.specs.Text.{Text}
+use Rattle.pf_values.specs.meaning.Canonical.{IsCanonicalText}
+use Rattle.pf_values.specs.meaning.Items.{IsAccepted}
+use Rattle.pf_values.specs.meaning.Printing.{AreEquivalent}
+use Rattle.pf_values.specs.meaning.Text.{Text}
 use Rattle.pf_text.specs.Signatures.{TakesManyArguments, TakesTypes}
 use Rattle.pf_canon.specs.Answers.{HindersCanonical, IsCanonicalFor}
 use Rattle.pf_canon.specs.declared.faults.CanonFault.TheVariants as canon_faults

@@ -7,7 +7,7 @@ use Rattle.pf_literals.specs.Encoding.{encoding}
 use Rattle.pf_literals.specs.Faults.{IsFaultAt}
 use Rattle.pf_literals.specs.Kinds.{number}
 use Rattle.pf_literals.specs.Sources.{IsSourceOf}
-use Rattle.pf_values.specs.Text.{Text}
+use Rattle.pf_values.specs.meaning.Text.{Text}
 use Rattle.fmtcanon_c.specs.declared.interface.CError.{CError}
 use Rattle.fmtcanon_c.specs.declared.interface.TheConstants.{LITERAL_KINDS, NO_MEMORY, NO_PLACE}
 use Rattle.fmtcanon_c.specs.Buffers.{put}

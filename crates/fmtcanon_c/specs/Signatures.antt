@@ -8,7 +8,7 @@ use Rattle.pf_signatures.specs.Items.{HasArguments}
 use Rattle.pf_signatures.specs.Kinds.{number, type_number}
 use Rattle.pf_signatures.specs.Refusals.{IsRefusedAt}
 use Rattle.pf_values.specs.declared.models.Model.{Model}
-use Rattle.pf_values.specs.Text.{Text}
+use Rattle.pf_values.specs.meaning.Text.{Text}
 use Rattle.fmtcanon_c.specs.declared.interface.CError.{CError}
 use Rattle.fmtcanon_c.specs.Buffers.{put}
 use Rattle.fmtcanon_c.specs.Calls.{IsOut, Tells}

@@ -1,6 +1,6 @@
 -- The words of the arguments that tell two formats apart. This project's own.
 use Rattle.std.specs.Prelude.{[], ◌∷◌, ◌++◌, List, flat_map}
-use Rattle.pf_values.specs.Text.{Text}
+use Rattle.pf_values.specs.meaning.Text.{Text}
 use Rattle.pf_compare.specs.Owned.{argument_of_owned}
 use Rattle.pf_compare.specs.Words.{argument_word}
 use Rattle.pf_compare.specs.declared.owned_args.OwnedArg.{OwnedArg}

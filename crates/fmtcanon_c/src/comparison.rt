@@ -1,7 +1,7 @@
 //! Whether two formats mean the same, and in what they differ.
 ghost use Rattle.std.specs.Prelude.{◌≡◌, MatchResult, ◌⊎◌, IfOk};
 ghost use Rattle.pf_values.specs.declared.models.TheConstants.Model.{ALL};
-ghost use Rattle.pf_values.specs.Items.{IsAccepted};
+ghost use Rattle.pf_values.specs.meaning.Items.{IsAccepted};
 ghost use Rattle.pf_canon.specs.Comparing.{TextStops};
 ghost use Rattle.fmtcanon_c.specs.Calls.{AreSameModels, TellsModels, TellsSame, Compares, ComparesNot, Gives, IsFaultTold, IsTold, verdict_code, verdict_number, words_of, GivesArguments};
 ghost use Rattle.fmtcanon_c.specs.Models.{InModel};

@@ -4,10 +4,10 @@ use Rattle.std.specs.Prelude.{MatchBool}
 use Rattle.std.specs.Io.KnownBytes.{Consumes}
 use Rattle.std.proofs.lemmas.List.{append-nil, append_assoc, append_cancel_left, length-append, length-take, take-append-drop, take-append-le, take-take}
 use Rattle.pf_values.specs.declared.models.Model.{Model}
-use Rattle.pf_values.specs.Canonical.{IsCanonicalOf}
+use Rattle.pf_values.specs.meaning.Canonical.{IsCanonicalOf}
 use Rattle.pf_values.specs.Counting.{Known}
-use Rattle.pf_values.specs.Items.{Item}
-use Rattle.pf_values.specs.Text.{Text}
+use Rattle.pf_values.specs.meaning.Items.{Item}
+use Rattle.pf_values.specs.meaning.Text.{Text}
 use Rattle.pf_probes.proofs.Unique.{equivalent_formats_one}
 use Rattle.pf_canon.specs.Comparing.{BeginsWith, CountsSides, CountsStop, Drained, DrainsTo, EndsBoth, FaultCounts, Gave, HasPace, IsPaced, PacesTo, StopsBy, StopsOn, AreTextsSame}
 use Rattle.pf_canon.specs.declared.comparing.Pace.{Pace}

@@ -5,8 +5,8 @@ use Rattle.std.proofs.Math.Nat.{mod-eq_of_lt, mod-eq-sub-mod}
 use Rattle.std.proofs.Math.Seq.{drop-append-add}
 use Rattle.std.proofs.lemmas.Bool.{cases_lt}
 use Rattle.std.proofs.lemmas.List.{append-nil, append_assoc, drop-append-le, length-drop, length-replicate, replicate-append-replicate, take-replicate}
-use Rattle.pf_values.specs.Canonical.{item_spelling}
-use Rattle.pf_values.specs.Text.{Text}
+use Rattle.pf_values.specs.meaning.Canonical.{item_spelling}
+use Rattle.pf_values.specs.meaning.Text.{Text}
 use Rattle.pf_text.specs.Plain.{silents}
 use Rattle.pf_canon.specs.Parts.{IsFrontOf, silent_bytes}
 use Rattle.pf_canon.proofs.SilentLemmas.{spelled_silent}

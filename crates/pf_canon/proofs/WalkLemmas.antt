@@ -2,10 +2,10 @@
 use Rattle.std.proofs.Common.{Option, Some, None, Result, Ok, Err, List, ◌≡◌, ℕ, [], ◌++◌, take, drop, refl, sym, ap, ◌∙◌, subst}
 use Rattle.std.specs.Prelude.{MatchResult}
 use Rattle.std.proofs.lemmas.List.{append-nil, append_assoc, take-append-drop}
-use Rattle.pf_values.specs.Text.{Text}
+use Rattle.pf_values.specs.meaning.Text.{Text}
 use Rattle.pf_values.specs.declared.models.Model.{Model}
-use Rattle.pf_values.specs.Items.{Item}
-use Rattle.pf_values.specs.Refusals.{IsRefusedAt}
+use Rattle.pf_values.specs.meaning.Items.{Item}
+use Rattle.pf_values.specs.meaning.Refusals.{IsRefusedAt}
 use Rattle.pf_text.specs.declared.refusal.Refusal.{Refusal}
 use Rattle.pf_canon.specs.declared.parts.Parts.{Parts}
 use Rattle.pf_canon.specs.declared.transducing.Front.{Front}

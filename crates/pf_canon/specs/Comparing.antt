@@ -2,12 +2,12 @@
 use Rattle.std.specs.Prelude.{◌≡◌, ◌≢◌, ℕ, ◌<◌, Bool, true, [], ◌∷◌, ◌++◌, length, Option, Some, None, Result, Ok, Err, ◌⊎◌, ◌↔◌, IsTrue, ⊤}
 use Rattle.std.specs.Io.KnownBytes.{Consumes, IsAtEnd}
 use Rattle.pf_values.specs.declared.models.Model.{Model}
-use Rattle.pf_values.specs.Canonical.{IsCanonicalOf}
+use Rattle.pf_values.specs.meaning.Canonical.{IsCanonicalOf}
 use Rattle.pf_values.specs.Counting.{Known}
-use Rattle.pf_values.specs.Items.{IsAccepted}
-use Rattle.pf_values.specs.Printing.{AreEquivalent}
-use Rattle.pf_values.specs.Refusals.{IsRefusedAt}
-use Rattle.pf_values.specs.Text.{Text}
+use Rattle.pf_values.specs.meaning.Items.{IsAccepted}
+use Rattle.pf_values.specs.meaning.Printing.{AreEquivalent}
+use Rattle.pf_values.specs.meaning.Refusals.{IsRefusedAt}
+use Rattle.pf_values.specs.meaning.Text.{Text}
 use Rattle.pf_text.specs.declared.refusal.Refusal.{Refusal}
 use Rattle.pf_canon.specs.declared.comparing.Pace.{Pace}
 use Rattle.pf_canon.specs.declared.comparing.Pace.TheVariants.{On, Same, Differ}

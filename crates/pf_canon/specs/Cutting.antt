@@ -1,7 +1,7 @@
 -- What is left of a text after its front. This project's own.
 use Rattle.std.specs.Prelude.{◌≡◌, ◌≢◌, ◌++◌, Option, Some, None}
 use Rattle.std.specs.Borrow.{Bor}
-use Rattle.pf_values.specs.Text.{Text}
+use Rattle.pf_values.specs.meaning.Text.{Text}
 use Rattle.pf_canon.specs.declared.cutting.Expected.{Expected}
 
 -- after these bytes the one is left of the other, or it doesn't begin with them

@@ -1,7 +1,7 @@
 -- The bytes that wait to be given. This project's own.
 use Rattle.std.specs.Prelude.{◌≡◌, ℕ, ◌-◌, ◌==◌, [], ◌∷◌, ◌++◌, drop, replicate, flat_map, Option, Some, None, if◌then◌else◌}
-use Rattle.pf_values.specs.Canonical.{item_spelling}
-use Rattle.pf_values.specs.Text.{Text, space, zero_digit}
+use Rattle.pf_values.specs.meaning.Canonical.{item_spelling}
+use Rattle.pf_values.specs.meaning.Text.{Text, space, zero_digit}
 use Rattle.pf_canon.specs.declared.due.Due.{Due}
 use Rattle.pf_canon.specs.declared.due.Silents.{Silents}
 use Rattle.pf_canon.specs.declared.due.Spelled.{Spelled}

@@ -1,6 +1,6 @@
 -- What two texts begin with in common. This project's own.
 use Rattle.std.specs.Prelude.{◌≡◌, ◌≢◌, ℕ, [], ◌++◌, length, take, Option, Some, None, ◌⊎◌, ◌≤◌}
-use Rattle.pf_values.specs.Text.{Text}
+use Rattle.pf_values.specs.meaning.Text.{Text}
 
 -- two texts begin with the same bytes, so many
 pub record AreCommon (t u : Text) (count : ℕ) : Type 0 where

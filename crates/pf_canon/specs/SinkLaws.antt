@@ -5,7 +5,7 @@ use Rattle.std.proofs.KnownBytes.{Appends-nil, Appends-trans}
 use Rattle.std.proofs.lemmas.List.{append-nil, append_assoc, append_cancel_left, length-append, take-append-le}
 use Rattle.pf_values.specs.declared.counting.Counted.{Counted}
 use Rattle.pf_values.specs.Counting.{Known, WritesFirst, device_of}
-use Rattle.pf_values.specs.Text.{Text}
+use Rattle.pf_values.specs.meaning.Text.{Text}
 use Rattle.pf_values.proofs.WriteLemmas.{WritesFirst-more}
 use Rattle.pf_canon.specs.Cutting.{IsCut, IsCutOff}
 use Rattle.pf_canon.specs.Putting.{HasPut, PutsAll, PutsBy, PutsFirst}

@@ -1,6 +1,6 @@
 -- What is given bytes, one text after another. This project's own.
 use Rattle.std.specs.Prelude.{◌≡◌, ℕ, ◌+◌, ◌<◌, ◌^◌, false, [], ◌++◌, length}
-use Rattle.pf_values.specs.Text.{Text}
+use Rattle.pf_values.specs.meaning.Text.{Text}
 use Rattle.pf_canon.specs.declared.lengths.Length.{Length}
 use Rattle.pf_canon.specs.declared.rooms.Building.{Building}
 

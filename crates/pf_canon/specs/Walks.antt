@@ -1,10 +1,10 @@
 -- What a walk through a text in memory has given. This project's own.
 use Rattle.std.specs.Prelude.{◌≡◌, ◌≢◌, ℕ, ◌+◌, ◌*◌, List, [], ◌++◌, length, drop, Bool, MatchBool, Option, Some, None, Result, Ok, Err}
 use Rattle.pf_values.specs.declared.models.Model.{Model}
-use Rattle.pf_values.specs.Canonical.{IsCanonicalOf}
-use Rattle.pf_values.specs.Items.{Item, IsAccepted}
-use Rattle.pf_values.specs.Refusals.{IsRefusedAt}
-use Rattle.pf_values.specs.Text.{Text}
+use Rattle.pf_values.specs.meaning.Canonical.{IsCanonicalOf}
+use Rattle.pf_values.specs.meaning.Items.{Item, IsAccepted}
+use Rattle.pf_values.specs.meaning.Refusals.{IsRefusedAt}
+use Rattle.pf_values.specs.meaning.Text.{Text}
 use Rattle.pf_text.specs.declared.refusal.Refusal.{Refusal}
 use Rattle.pf_canon.specs.declared.limits.TheConstants.{MAX_DIRECTIVE_LEN}
 use Rattle.pf_canon.specs.declared.parts.Parts.{Parts}

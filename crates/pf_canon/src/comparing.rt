@@ -1,7 +1,7 @@
 //! Two texts, compared in step.
 ghost use Rattle.std.specs.Prelude.{◌≡◌, ℕ, Option, Some, None, Err, IfOk, IfSome, MatchResult};
 ghost use Rattle.pf_values.specs.Counting.{HasFailed, Known, device_of, failures_of};
-ghost use Rattle.pf_values.specs.Text.{Text};
+ghost use Rattle.pf_values.specs.meaning.Text.{Text};
 ghost use Rattle.pf_canon.specs.Comparing.{AreTextsSame, CountsBehind, CountsDrain, CountsSides, DrainsTo, EndsBoth, Gave, GoesOnlyWith, HasPace, IsApart, IsInStep, Lowers, PacesTo, StopsSide, TextStops};
 ghost use Rattle.pf_canon.specs.Prefixes.{AreCommon};
 ghost use Rattle.pf_canon.specs.Sources.{History, Leaves};

@@ -1,7 +1,7 @@
 //! What a text settles, front after front, put into a sink.
 ghost use Rattle.std.specs.Prelude.{◌++◌, MatchResult};
-ghost use Rattle.pf_values.specs.Refusals.{IsRefusedAt};
-ghost use Rattle.pf_values.specs.Text.{Text};
+ghost use Rattle.pf_values.specs.meaning.Refusals.{IsRefusedAt};
+ghost use Rattle.pf_values.specs.meaning.Text.{Text};
 ghost use Rattle.pf_canon.specs.Answers.{IsCanonicalFor};
 ghost use Rattle.pf_canon.specs.Through.{IsFrontWithin, IsUpTo, front_text, item_text, model_of};
 

@@ -1,7 +1,7 @@
 //! How long a canonical text is.
 ghost use Rattle.std.specs.Prelude.{◌≡◌, ◌+◌, ◌*◌, ◌^◌, ◌<◌, length, take, MatchResult};
-ghost use Rattle.pf_values.specs.Refusals.{IsRefusedAt};
-ghost use Rattle.pf_values.specs.Text.{Text};
+ghost use Rattle.pf_values.specs.meaning.Refusals.{IsRefusedAt};
+ghost use Rattle.pf_values.specs.meaning.Text.{Text};
 ghost use Rattle.pf_canon.specs.Answers.{IsCanonicalFor};
 ghost use Rattle.pf_canon.specs.Parts.{parts_text};
 ghost use Rattle.pf_canon.specs.Through.{IsUpTo, model_of};

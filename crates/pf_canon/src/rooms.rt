@@ -1,6 +1,6 @@
 //! Where a canonical text is put together.
 ghost use Rattle.std.specs.Prelude.{◌≡◌, ◌++◌, IfOk};
-ghost use Rattle.pf_values.specs.Text.{Text};
+ghost use Rattle.pf_values.specs.meaning.Text.{Text};
 ghost use Rattle.pf_canon.specs.Sinks.{IsBuilt};
 ghost use Rattle.pf_canon.specs.SinkLaws.{builds};
 

@@ -1,7 +1,7 @@
 //! Where bytes are put, one text after another.
 ghost use Rattle.std.specs.Prelude.{◌≡◌, ℕ, flat_map, length, replicate, IsTrue};
-ghost use Rattle.pf_values.specs.Canonical.{item_spelling};
-ghost use Rattle.pf_values.specs.Text.{Text};
+ghost use Rattle.pf_values.specs.meaning.Canonical.{item_spelling};
+ghost use Rattle.pf_values.specs.meaning.Text.{Text};
 ghost use Rattle.pf_text.specs.Plain.{silents};
 ghost use Rattle.pf_canon.specs.declared.limits.TheConstants.{PADDING};
 ghost use Rattle.pf_canon.specs.Sinks.{IsSink};

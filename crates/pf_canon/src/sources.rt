@@ -2,8 +2,8 @@
 ghost use Rattle.std.specs.Prelude.{◌≡◌, ◌++◌, ◌∷◌, true, List, []};
 ghost use Rattle.std.specs.Io.KnownBytes.{Consumes, IsAtEnd};
 ghost use Rattle.pf_values.specs.Counting.{Known};
-ghost use Rattle.pf_values.specs.Items.{Item};
-ghost use Rattle.pf_values.specs.Text.{Text};
+ghost use Rattle.pf_values.specs.meaning.Items.{Item};
+ghost use Rattle.pf_values.specs.meaning.Text.{Text};
 ghost use Rattle.pf_canon.specs.Due.{due_text};
 ghost use Rattle.pf_canon.specs.Sources.{CountsTurn, History, IsOver, IsReadFor, IsTold, LowersUnits, LowersAnswer, StepsBy, Turns};
 ghost use Rattle.pf_canon.specs.Through.{IsThrough};

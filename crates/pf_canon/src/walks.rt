@@ -1,8 +1,8 @@
 //! The canonical text of a format in memory, part by part.
 ghost use Rattle.std.specs.Prelude.{◌≡◌, ◌≢◌, List, MatchBool, ◌++◌, ◌+◌, ◌≤◌, ◌<◌, ◌^◌, [], None, length, take, drop, MatchResult};
-ghost use Rattle.pf_values.specs.Items.{Item};
-ghost use Rattle.pf_values.specs.Refusals.{IsRefusedAt};
-ghost use Rattle.pf_values.specs.Text.{Text};
+ghost use Rattle.pf_values.specs.meaning.Items.{Item};
+ghost use Rattle.pf_values.specs.meaning.Refusals.{IsRefusedAt};
+ghost use Rattle.pf_values.specs.meaning.Text.{Text};
 ghost use Rattle.pf_values.specs.declared.models.Model.{Model};
 ghost use Rattle.pf_canon.specs.Parts.{IsFrontOf, parts_text};
 ghost use Rattle.pf_canon.specs.Through.{IsFrontWithin, IsThrough, front_text};

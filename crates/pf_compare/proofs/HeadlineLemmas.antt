@@ -1,12 +1,12 @@
 -- One meaning, one canonical text.
 use Rattle.std.proofs.Common.{subst}
 use Rattle.pf_values.specs.declared.models.Model.{Model}
-use Rattle.pf_values.specs.Canonical.{IsCanonicalOf}
-use Rattle.pf_values.specs.Printing.{AreEquivalent}
-use Rattle.pf_values.specs.Text.{Text}
+use Rattle.pf_values.specs.meaning.Canonical.{IsCanonicalOf}
+use Rattle.pf_values.specs.meaning.Printing.{AreEquivalent}
+use Rattle.pf_values.specs.meaning.Text.{Text}
 use Rattle.pf_canon.proofs.EquivalentTexts.{equivalent_by}
 use Rattle.pf_probes.proofs.Unique.{equivalent_formats_one, one_canonical, own_canonical}
-use Rattle.pf_compare.specs.Headline.{HasOneCanonical, HaveOneMeaning}
+use Rattle.pf_values.specs.meaning.Headline.{HasOneCanonical, HaveOneMeaning}
 
 pub only_one : (model : Model) (t c : Text) → IsCanonicalOf model t c → HasOneCanonical model t
 only_one model t c h = record {

@@ -11,14 +11,22 @@ use Rattle.pf_values.specs.declared.conversions.Kind.{Kind}
 use Rattle.pf_values.specs.declared.conversions.Kind.TheVariants as kinds
 use Rattle.pf_values.specs.declared.flags.Flag.TheVariants.{Alt}
 use Rattle.pf_values.specs.declared.models.Model.{Model}
-use Rattle.pf_values.specs.Arguments.{Number, IsValue}
-use Rattle.pf_values.specs.Conversions.{base_of, is_octal, is_signed, is_text, kind_of, prints_text}
-use Rattle.pf_values.specs.DataModel.{bit_count, bits_under}
-use Rattle.pf_values.specs.Flags.{has}
-use Rattle.pf_values.specs.Normal.{effective_precision, precision_of}
-use Rattle.pf_values.specs.Printing.{Prints, PrintsKind, PrintsNumber, field, is_zero_filled, sign_or_prefix}
-use Rattle.pf_values.specs.Specification.{Specification, width_of}
-use Rattle.pf_values.specs.Text.{Text, space, zero_digit}
+use Rattle.pf_values.specs.meaning.Arguments.{Number, IsValue}
+use Rattle.pf_values.specs.meaning.Conversions.{
+  base_of,
+  is_octal,
+  is_signed,
+  is_text,
+  kind_of,
+  prints_text,
+}
+use Rattle.pf_values.specs.meaning.DataModel.{bit_count, bits_under}
+use Rattle.pf_values.specs.meaning.Flags.{has}
+use Rattle.pf_values.specs.Directives.{effective_precision}
+use Rattle.pf_values.specs.meaning.Normal.{precision_of}
+use Rattle.pf_values.specs.meaning.Printing.{Prints, PrintsKind, PrintsNumber, field, is_zero_filled, sign_or_prefix}
+use Rattle.pf_values.specs.meaning.Specification.{Specification, width_of}
+use Rattle.pf_values.specs.meaning.Text.{Text, space, zero_digit}
 use Rattle.pf_values.proofs.NumberTexts.{value_text-is}
 use Rattle.pf_values.proofs.Printed.{count_of, filled_precision, natural_len, natural_of, precision_under, printed_precision}
 use Rattle.pf_values.proofs.PrintsOnce.{PrintsNumber-is, value_text}

@@ -3,9 +3,9 @@ use Rattle.std.proofs.Common.{◌≡◌, ◌≢◌, ℕ, subst, Bool, true, fals
 use Rattle.std.specs.Prelude.{IfSome}
 use Rattle.std.proofs.lemmas.List.{length-append, length-replicate}
 use Rattle.pf_values.specs.declared.models.Model.{Model}
-use Rattle.pf_values.specs.Arguments.{String}
-use Rattle.pf_values.specs.Specification.{Specification}
-use Rattle.pf_values.specs.Text.{space}
+use Rattle.pf_values.specs.meaning.Arguments.{String}
+use Rattle.pf_values.specs.meaning.Specification.{Specification}
+use Rattle.pf_values.specs.meaning.Text.{space}
 use Rattle.pf_probes.specs.declared.rows.Candidate.{Candidate}
 use Rattle.pf_probes.specs.declared.rows.Candidate.TheVariants as variants
 use Rattle.pf_probes.specs.Candidate.{argument_of}

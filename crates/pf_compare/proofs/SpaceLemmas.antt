@@ -9,14 +9,14 @@ use Rattle.pf_values.specs.declared.bases.Base.{Base}
 use Rattle.pf_values.specs.declared.conversions.Kind.{Kind}
 use Rattle.pf_values.specs.declared.conversions.Kind.TheVariants as kinds
 use Rattle.pf_values.specs.declared.flags.Flag.TheVariants.{Minus, Alt}
-use Rattle.pf_values.specs.Arguments.{IsValue}
-use Rattle.pf_values.specs.Conversions.{alternative_under, base_under, kind_of, prints_text}
-use Rattle.pf_values.specs.Bases.{alternative_of, number_of, raises_precision}
-use Rattle.pf_values.specs.Flags.{has}
-use Rattle.pf_values.specs.Normal.{precision_of}
-use Rattle.pf_values.specs.Printing.{field, field_of, front_under, is_negative, is_zero_filled, padding, prefix_under, sign_or_prefix}
-use Rattle.pf_values.specs.Specification.{Specification, width_of}
-use Rattle.pf_values.specs.Text.{Text, space}
+use Rattle.pf_values.specs.meaning.Arguments.{IsValue}
+use Rattle.pf_values.specs.meaning.Conversions.{alternative_under, base_under, kind_of, prints_text}
+use Rattle.pf_values.specs.meaning.Bases.{alternative_of, number_of, raises_precision}
+use Rattle.pf_values.specs.meaning.Flags.{has}
+use Rattle.pf_values.specs.meaning.Normal.{precision_of}
+use Rattle.pf_values.specs.meaning.Printing.{field, field_of, front_under, is_negative, is_zero_filled, padding, prefix_under, sign_or_prefix}
+use Rattle.pf_values.specs.meaning.Specification.{Specification, width_of}
+use Rattle.pf_values.specs.meaning.Text.{Text, space}
 use Rattle.pf_values.proofs.Printed.{count_of, filled_precision, length-printed_digits, natural_len, natural_of, precision_under, printed_digits, printed_precision}
 use Rattle.pf_values.proofs.PrintsOnce.{value_text}
 use Rattle.pf_compare.specs.declared.foresight.Alike.{Alike}

@@ -5,9 +5,9 @@ use Rattle.std.proofs.lemmas.List.{append-nil, append_assoc, length-map, length_
 use Rattle.pf_values.specs.declared.models.Model.{Model}
 use Rattle.pf_values.specs.declared.refusals.RefusalKind.{RefusalKind}
 use Rattle.pf_values.specs.declared.types.ArgType.{ArgType}
-use Rattle.pf_values.specs.DataModel.{arg_type}
-use Rattle.pf_values.specs.Items.{IsAccepted, Item, Reads, types}
-use Rattle.pf_values.specs.Text.{Text}
+use Rattle.pf_values.specs.meaning.DataModel.{arg_type}
+use Rattle.pf_values.specs.meaning.Items.{IsAccepted, Item, Reads, types}
+use Rattle.pf_values.specs.meaning.Text.{Text}
 use Rattle.pf_values.proofs.ItemTypes.{types-append}
 use Rattle.pf_text.specs.declared.pieces.Piece.{Piece}
 use Rattle.pf_text.specs.declared.pieces.Pieces.{Pieces}

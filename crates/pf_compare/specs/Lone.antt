@@ -1,9 +1,9 @@
 -- Two formats that differ in one directive alone. This project's own.
 use Rattle.std.specs.Prelude.{◌≡◌, ℕ, List, ◌∷◌, ◌++◌, length, Option, Some, None}
 use Rattle.pf_values.specs.declared.models.Model.{Model}
-use Rattle.pf_values.specs.Items.{HasItems, Item, Directive, types}
-use Rattle.pf_values.specs.Specification.{Specification}
-use Rattle.pf_values.specs.Text.{Text}
+use Rattle.pf_values.specs.meaning.Items.{HasItems, Item, Directive, types}
+use Rattle.pf_values.specs.meaning.Specification.{Specification}
+use Rattle.pf_values.specs.meaning.Text.{Text}
 use Rattle.pf_text.specs.declared.pieces.Pieces.{Pieces}
 use Rattle.pf_text.specs.PieceHistory.{HasGiven}
 use Rattle.pf_compare.specs.declared.layouts.Hole.{Hole}

@@ -3,13 +3,13 @@ use Rattle.std.specs.Prelude.{◌≡◌, ◌≢◌, ℕ, zero, suc, ◌+◌, ◌
 use Rattle.std.specs.Fmt.{digit_glyph}
 use Rattle.std.specs.Int.Digits.{digits_of}
 use Rattle.pf_values.specs.declared.models.Model.{Model}
-use Rattle.pf_values.specs.Arguments.{Argument, IsConverted, Number}
-use Rattle.pf_values.specs.Bases.{prefix_of}
-use Rattle.pf_values.specs.Conversions.{base_of, is_signed, is_upper}
-use Rattle.pf_values.specs.DataModel.{bit_count, bits_under}
-use Rattle.pf_values.specs.Printing.{Prints, is_negative}
-use Rattle.pf_values.specs.Specification.{Specification}
-use Rattle.pf_values.specs.Text.{Text, space, zero_digit}
+use Rattle.pf_values.specs.meaning.Arguments.{Argument, IsConverted, Number}
+use Rattle.pf_values.specs.meaning.Bases.{prefix_of}
+use Rattle.pf_values.specs.meaning.Conversions.{base_of, is_signed, is_upper}
+use Rattle.pf_values.specs.meaning.DataModel.{bit_count, bits_under}
+use Rattle.pf_values.specs.meaning.Printing.{Prints, is_negative}
+use Rattle.pf_values.specs.meaning.Specification.{Specification}
+use Rattle.pf_values.specs.meaning.Text.{Text, space, zero_digit}
 use Rattle.pf_compare.specs.declared.outlines.Front.{Front}
 use Rattle.pf_compare.specs.declared.outlines.Front.TheVariants as fronts
 use Rattle.pf_compare.specs.declared.outlines.Outline.{Outline}

@@ -1,10 +1,10 @@
 -- What a directive prints of a string of one byte. This project's own.
 use Rattle.std.specs.Prelude.{◌≡◌, ℕ, ◌+◌, ◌++◌, replicate}
 use Rattle.pf_values.specs.declared.models.Model.{Model}
-use Rattle.pf_values.specs.Arguments.{String}
-use Rattle.pf_values.specs.Printing.{Prints}
-use Rattle.pf_values.specs.Specification.{Specification}
-use Rattle.pf_values.specs.Text.{Text, space}
+use Rattle.pf_values.specs.meaning.Arguments.{String}
+use Rattle.pf_values.specs.meaning.Printing.{Prints}
+use Rattle.pf_values.specs.meaning.Specification.{Specification}
+use Rattle.pf_values.specs.meaning.Text.{Text, space}
 use Rattle.pf_compare.specs.declared.outlines.Run.{Run}
 
 -- the byte between spaces

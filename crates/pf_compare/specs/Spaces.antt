@@ -2,13 +2,13 @@
 use Rattle.std.specs.Prelude.{◌≡◌, ℕ, ◌+◌, ◌<◌, ◌≤◌, ℤ, false, max, ◌⊎◌, IsTrue}
 use Rattle.pf_values.specs.declared.flags.Flag.TheVariants.{Minus, Space}
 use Rattle.pf_values.specs.declared.models.Model.{Model}
-use Rattle.pf_values.specs.Arguments.{Number}
-use Rattle.pf_values.specs.Conversions.{is_signed}
-use Rattle.pf_values.specs.DataModel.{bit_count, bits_under}
-use Rattle.pf_values.specs.Flags.{has, with_flag}
-use Rattle.pf_values.specs.Normal.{precision_of}
-use Rattle.pf_values.specs.Printing.{is_zero_filled}
-use Rattle.pf_values.specs.Specification.{Specification, width_of}
+use Rattle.pf_values.specs.meaning.Arguments.{Number}
+use Rattle.pf_values.specs.meaning.Conversions.{is_signed}
+use Rattle.pf_values.specs.meaning.DataModel.{bit_count, bits_under}
+use Rattle.pf_values.specs.meaning.Flags.{has, with_flag}
+use Rattle.pf_values.specs.meaning.Normal.{precision_of}
+use Rattle.pf_values.specs.meaning.Printing.{is_zero_filled}
+use Rattle.pf_values.specs.meaning.Specification.{Specification, width_of}
 use Rattle.pf_compare.specs.declared.foresight.Alike.{Alike}
 use Rattle.pf_compare.specs.declared.values.Value.{Value}
 use Rattle.pf_compare.specs.Outlines.{Foretells, IsOfValue}

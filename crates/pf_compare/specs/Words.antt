@@ -1,8 +1,8 @@
 -- The words by which the program takes arguments and tells them. This project's own.
 use Rattle.std.specs.Prelude.{◌≡◌, ◌++◌, codes}
 use Rattle.std.specs.Fmt.{signed_decimal}
-use Rattle.pf_values.specs.Arguments.{Argument, Number, String}
-use Rattle.pf_values.specs.Text.{Text}
+use Rattle.pf_values.specs.meaning.Arguments.{Argument, Number, String}
+use Rattle.pf_values.specs.meaning.Text.{Text}
 
 -- the word that gives an argument
 abbrev pub argument_word : Argument → Text

@@ -1,6 +1,6 @@
 //! Comparing two formats.
 ghost use Rattle.std.specs.Prelude.{◌≡◌, ◌≢◌, IfOk, MatchBool, MatchResult, false};
-ghost use Rattle.pf_values.specs.DataModel.{arg_type};
+ghost use Rattle.pf_values.specs.meaning.DataModel.{arg_type};
 ghost use Rattle.pf_canon.specs.Comparing.{AreTextsSame};
 ghost use Rattle.pf_compare.specs.Answers.{HaveSameTypes, HindersComparison, IsComparisonOf};
 ghost use Rattle.pf_compare.specs.Lone.{FormatsDifferInOne};

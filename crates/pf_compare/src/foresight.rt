@@ -1,10 +1,10 @@
 //! Whether two directives print otherwise for a candidate, where that is seen without printing.
 ghost use Rattle.std.specs.Prelude.{◌≡◌, ℕ, false, IfSome, IsFalse, IsTrue, replicate, ◌<◌, length};
 ghost use Rattle.pf_values.specs.declared.models.Model.{Model};
-ghost use Rattle.pf_values.specs.Arguments.{Number, String};
-ghost use Rattle.pf_values.specs.Conversions.{base_of, base_under, has_capitals, is_string, is_text, is_upper, kind_of};
-ghost use Rattle.pf_values.specs.Bases.{number_of};
-ghost use Rattle.pf_values.specs.Specification.{Specification};
+ghost use Rattle.pf_values.specs.meaning.Arguments.{Number, String};
+ghost use Rattle.pf_values.specs.meaning.Conversions.{base_of, base_under, has_capitals, is_string, is_text, is_upper, kind_of};
+ghost use Rattle.pf_values.specs.meaning.Bases.{number_of};
+ghost use Rattle.pf_values.specs.meaning.Specification.{Specification};
 ghost use Rattle.pf_probes.specs.Candidate.{argument_of};
 ghost use Rattle.pf_compare.specs.Outlines.{Foretells, digit_below_ten, digits_under};
 ghost use Rattle.pf_compare.specs.Spaces.{AreAlikeFor, HasRoom, IsWithin, with_space};

@@ -1,6 +1,6 @@
 //! The headline, over the definitions alone, in each data model.
-ghost use Rattle.pf_values.specs.Items.{IsAccepted};
-ghost use Rattle.pf_compare.specs.Headline.{HasOneCanonical, HaveOneMeaning};
+ghost use Rattle.pf_values.specs.meaning.Items.{IsAccepted};
+ghost use Rattle.pf_values.specs.meaning.Headline.{HasOneCanonical, HaveOneMeaning};
 
 use pf_canon::canonical_len;
 use pf_values::Model;

@@ -1,8 +1,8 @@
 //! Two formats that differ in one directive alone.
 ghost use Rattle.std.specs.Prelude.{◌≡◌, ◌≤◌, ◌∷◌, [], ◌++◌, IfSome, IsTrue, List, length, map};
 ghost use Rattle.pf_values.specs.declared.models.Model.{Model};
-ghost use Rattle.pf_values.specs.Items.{Item, Byte, Directive as item_of, types};
-ghost use Rattle.pf_values.specs.Text.{Text, percent};
+ghost use Rattle.pf_values.specs.meaning.Items.{Item, Byte, Directive as item_of, types};
+ghost use Rattle.pf_values.specs.meaning.Text.{Text, percent};
 ghost use Rattle.pf_text.specs.PieceHistory.{items_of};
 ghost use Rattle.pf_compare.specs.Lone.{DifferInOneAtMost, FormatsDifferInOne, HasFollowed, IsIndexAfter};
 

@@ -1,11 +1,11 @@
 //! How numbers stand in their fields, as far as that is told without making their digits.
 ghost use Rattle.std.specs.Prelude.{◌≡◌, ◌+◌, ◌<◌, ◌≤◌, ◌++◌, ℤ, IsFalse, length, max, replicate, IsTrue};
 ghost use Rattle.pf_values.specs.declared.models.Model.{Model};
-ghost use Rattle.pf_values.specs.Bases.{alternative_of};
-ghost use Rattle.pf_values.specs.Conversions.{is_text, is_string};
-ghost use Rattle.pf_values.specs.Normal.{effective_precision};
-ghost use Rattle.pf_values.specs.Printing.{field, prefix_under, sign, sign_or_prefix};
-ghost use Rattle.pf_values.specs.Text.{space};
+ghost use Rattle.pf_values.specs.meaning.Bases.{alternative_of};
+ghost use Rattle.pf_values.specs.meaning.Conversions.{is_text, is_string};
+ghost use Rattle.pf_values.specs.Directives.{effective_precision};
+ghost use Rattle.pf_values.specs.meaning.Printing.{field, prefix_under, sign, sign_or_prefix};
+ghost use Rattle.pf_values.specs.meaning.Text.{space};
 ghost use Rattle.pf_render.specs.Zeros.{fewest_digits};
 ghost use Rattle.pf_compare.specs.Outlines.{Draws, HasCounted, HasSignAndSize, IsOutlineOf, front_text, fronted, outline_len};
 ghost use Rattle.pf_compare.specs.Runs.{IsRunOf, run_len};

@@ -2,8 +2,8 @@
 ghost use Rattle.std.specs.Prelude.{◌≡◌, ◌≢◌, ◌++◌, ◌∷◌, [], IsFalse, IsTrue, List, MatchOption, Some};
 ghost use Rattle.std.specs.Option.{option_to_list};
 ghost use Rattle.pf_values.specs.declared.types.ArgType.{ArgType};
-ghost use Rattle.pf_values.specs.Items.{IsAccepted, Item, Reads, types};
-ghost use Rattle.pf_values.specs.Text.{Text};
+ghost use Rattle.pf_values.specs.meaning.Items.{IsAccepted, Item, Reads, types};
+ghost use Rattle.pf_values.specs.meaning.Text.{Text};
 ghost use Rattle.pf_text.specs.PieceHistory.{items_of};
 ghost use Rattle.pf_text.specs.Signatures.{TakesTypes};
 ghost use Rattle.pf_render.specs.Rendering.{DifferFirstAt};

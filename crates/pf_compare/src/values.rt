@@ -1,8 +1,8 @@
 //! The values that directives print for numbers.
 ghost use Rattle.std.specs.Prelude.{◌≡◌, ◌≤◌, IsFalse, IsTrue, length, true, false};
 ghost use Rattle.std.specs.Int.Digits.{digits_of};
-ghost use Rattle.pf_values.specs.Conversions.{is_signed, is_text};
-ghost use Rattle.pf_values.specs.DataModel.{Bits, bit_count, bits_under};
+ghost use Rattle.pf_values.specs.meaning.Conversions.{is_signed, is_text};
+ghost use Rattle.pf_values.specs.meaning.DataModel.{Bits, bit_count, bits_under};
 ghost use Rattle.pf_compare.specs.Outlines.{HasCounted, IsOfValue};
 
 use crate::foresight::{same_conv, same_length};

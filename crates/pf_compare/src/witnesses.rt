@@ -1,8 +1,8 @@
 //! Arguments for which two formats print different bytes.
 ghost use Rattle.std.specs.Prelude.{◌≡◌, IfOk, List, ◌++◌};
 ghost use Rattle.pf_values.specs.declared.types.ArgType.{ArgType};
-ghost use Rattle.pf_values.specs.DataModel.{arg_type};
-ghost use Rattle.pf_values.specs.Items.{HasItems, IsAccepted, Item, Reads, types};
+ghost use Rattle.pf_values.specs.meaning.DataModel.{arg_type};
+ghost use Rattle.pf_values.specs.meaning.Items.{HasItems, IsAccepted, Item, Reads, types};
 ghost use Rattle.pf_text.specs.PieceHistory.{items_of};
 ghost use Rattle.pf_compare.specs.Layouts.{HaveOneTypes, IsLayoutOf, hole_types};
 ghost use Rattle.pf_compare.specs.Lone.{DifferInOne};

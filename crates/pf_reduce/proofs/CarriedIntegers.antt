@@ -11,8 +11,8 @@ use Rattle.pf_values.specs.declared.flags.FlagSet.{FlagSet}
 use Rattle.pf_values.specs.declared.lengths.Length.{Length}
 use Rattle.pf_values.specs.declared.limits.TheConstants.{MAX_NUMBER}
 use Rattle.pf_values.specs.declared.models.Model.{Model}
-use Rattle.pf_values.specs.Arguments.{Number, String, IsConverted}
-use Rattle.pf_values.specs.Conversions.{
+use Rattle.pf_values.specs.meaning.Arguments.{Number, String, IsConverted}
+use Rattle.pf_values.specs.meaning.Conversions.{
   is_signed,
   is_text,
   kept_conv,
@@ -20,11 +20,12 @@ use Rattle.pf_values.specs.Conversions.{
   prints_signed,
   prints_text,
 }
-use Rattle.pf_values.specs.DataModel.{FitsIn, bit_count, bits_under, kept_length, type_of_kind, type_under}
-use Rattle.pf_values.specs.Flags.{has}
-use Rattle.pf_values.specs.Printing.{PrintsKind, PrintsNumber, field}
-use Rattle.pf_values.specs.Specification.{Specification, width_given}
-use Rattle.pf_values.specs.Text.{Text}
+use Rattle.pf_values.specs.meaning.DataModel.{FitsIn, bit_count, bits_under, kept_length, type_of_kind, type_under}
+use Rattle.pf_values.specs.meaning.Flags.{has}
+use Rattle.pf_values.specs.meaning.Printing.{PrintsKind, PrintsNumber, field}
+use Rattle.pf_values.specs.meaning.Specification.{Specification}
+use Rattle.pf_values.specs.Directives.{width_given}
+use Rattle.pf_values.specs.meaning.Text.{Text}
 use Rattle.pf_values.proofs.DataModelLemmas.{kept_row}
 use Rattle.pf_values.proofs.PrintsOnce.{PrintsNumber-is, PrintsNumber-value, value_text}
 use Rattle.pf_reduce.specs.declared.padding.Padding.{Padding}

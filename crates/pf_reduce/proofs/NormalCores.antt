@@ -7,12 +7,13 @@ use Rattle.pf_values.specs.declared.flags.Flag.TheVariants.{Alt, Minus, Plus, Sp
 use Rattle.pf_values.specs.declared.lengths.Length.{Length}
 use Rattle.pf_values.specs.declared.limits.TheConstants.{MAX_NUMBER}
 use Rattle.pf_values.specs.declared.models.Model.{Model}
-use Rattle.pf_values.specs.Conversions.{is_signed, kept_conv}
-use Rattle.pf_values.specs.DataModel.{Bits, bits_under, kept_length, most_digits}
-use Rattle.pf_values.specs.Defined.{is_above_limit, refused_as}
-use Rattle.pf_values.specs.Flags.{has}
-use Rattle.pf_values.specs.Normal.{IsNormal, IsNormalSigned, digits_at_most, sign_len}
-use Rattle.pf_values.specs.Specification.{Specification, specification_of, width_given}
+use Rattle.pf_values.specs.meaning.Conversions.{is_signed, kept_conv}
+use Rattle.pf_values.specs.meaning.DataModel.{Bits, bits_under, kept_length, most_digits}
+use Rattle.pf_values.specs.meaning.Defined.{is_above_limit, refused_as}
+use Rattle.pf_values.specs.meaning.Flags.{has}
+use Rattle.pf_values.specs.meaning.Normal.{IsNormal, IsNormalSigned, digits_at_most, sign_len}
+use Rattle.pf_values.specs.meaning.Specification.{Specification}
+use Rattle.pf_values.specs.Directives.{specification_of, width_given}
 use Rattle.pf_values.proofs.DataModelLemmas.{kept_row}
 use Rattle.pf_reduce.specs.declared.padding.Padding.{Padding}
 use Rattle.pf_reduce.specs.declared.signs.Sign.{Sign}

@@ -2,8 +2,8 @@
 use Rattle.std.proofs.Common.{◌≡◌, ℕ, zero, suc, ◌+◌, ◌-◌, ◌<◌, ◌≤◌, min, Bool, true, false, ◌∷◌, ◌++◌, length, replicate, refl, sym, ap, ◌∙◌, append_assoc, arith, inl, inr}
 use Rattle.std.specs.Prelude.{if◌then◌else◌, ◌⊎◌}
 use Rattle.std.proofs.lemmas.List.{replicate-append-replicate, length-replicate, length-append, append-nil}
-use Rattle.pf_values.specs.Printing.{field_of, padding}
-use Rattle.pf_values.specs.Text.{Text, space, zero_digit}
+use Rattle.pf_values.specs.meaning.Printing.{field_of, padding}
+use Rattle.pf_values.specs.meaning.Text.{Text, space, zero_digit}
 use Rattle.pf_reduce.specs.Padded.{IsUnseen}
 
 -- a text in a field, within spaces

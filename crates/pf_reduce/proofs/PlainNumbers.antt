@@ -15,8 +15,8 @@ use Rattle.pf_values.specs.declared.conversions.Kind.TheVariants as kinds
 use Rattle.pf_values.specs.declared.flags.Flag.TheVariants.{Alt}
 use Rattle.pf_values.specs.declared.limits.TheConstants.{MAX_NUMBER}
 use Rattle.pf_values.specs.declared.models.Model.{Model}
-use Rattle.pf_values.specs.Bases.{alternative_of, number_of}
-use Rattle.pf_values.specs.Conversions.{
+use Rattle.pf_values.specs.meaning.Bases.{alternative_of, number_of}
+use Rattle.pf_values.specs.meaning.Conversions.{
   base_of,
   base_under,
   is_octal,
@@ -27,12 +27,13 @@ use Rattle.pf_values.specs.Conversions.{
   prints_signed,
   prints_text,
 }
-use Rattle.pf_values.specs.DataModel.{bits_under}
-use Rattle.pf_values.specs.Flags.{has, no_flags, with_flag}
-use Rattle.pf_values.specs.Normal.{digits_at_most, effective_precision}
-use Rattle.pf_values.specs.Printing.{front_under, prefix_under, sign_or_prefix}
-use Rattle.pf_values.specs.Specification.{Specification}
-use Rattle.pf_values.specs.Text.{Text, zero_digit}
+use Rattle.pf_values.specs.meaning.DataModel.{bits_under}
+use Rattle.pf_values.specs.meaning.Flags.{has, no_flags, with_flag}
+use Rattle.pf_values.specs.meaning.Normal.{digits_at_most}
+use Rattle.pf_values.specs.Directives.{effective_precision}
+use Rattle.pf_values.specs.meaning.Printing.{front_under, prefix_under, sign_or_prefix}
+use Rattle.pf_values.specs.meaning.Specification.{Specification}
+use Rattle.pf_values.specs.meaning.Text.{Text, zero_digit}
 use Rattle.pf_values.proofs.Counts.{count-le}
 use Rattle.pf_values.proofs.NumberTexts.{length-zero_digits, number_text}
 use Rattle.pf_values.proofs.Printed.{count_of, natural_len, zero_digits}

@@ -5,11 +5,12 @@ use Rattle.std.proofs.lemmas.Bool.Decides.{nat_tests}
 use Rattle.pf_values.specs.declared.flags.Flag.TheVariants.{Alt, Minus, Zero}
 use Rattle.pf_values.specs.declared.flags.FlagSet.{FlagSet}
 use Rattle.pf_values.specs.declared.models.Model.{Model}
-use Rattle.pf_values.specs.Conversions.{base_of, is_upper}
-use Rattle.pf_values.specs.Flags.{has, no_flags, with_flag}
-use Rattle.pf_values.specs.Normal.{effective_precision, precision_of}
-use Rattle.pf_values.specs.Printing.{is_zero_filled, sign_or_prefix}
-use Rattle.pf_values.specs.Specification.{Specification, width_of}
+use Rattle.pf_values.specs.meaning.Conversions.{base_of, is_upper}
+use Rattle.pf_values.specs.meaning.Flags.{has, no_flags, with_flag}
+use Rattle.pf_values.specs.Directives.{effective_precision}
+use Rattle.pf_values.specs.meaning.Normal.{precision_of}
+use Rattle.pf_values.specs.meaning.Printing.{is_zero_filled, sign_or_prefix}
+use Rattle.pf_values.specs.meaning.Specification.{Specification, width_of}
 use Rattle.pf_values.proofs.NumberTexts.{number_text, value_text-is, value_text-unfilled}
 use Rattle.pf_values.proofs.Printed.{count_of, filled_precision, natural_of, precision_under, zero_digits}
 use Rattle.pf_values.proofs.PrintsOnce.{value_text}

@@ -12,31 +12,26 @@ use Rattle.pf_values.specs.declared.flags.Flag.TheVariants.{Alt, Zero}
 use Rattle.pf_values.specs.declared.flags.FlagSet.{FlagSet}
 use Rattle.pf_values.specs.declared.limits.TheConstants.{MAX_NUMBER}
 use Rattle.pf_values.specs.declared.models.Model.{Model}
-use Rattle.pf_values.specs.Bases.{
-  alternative_of,
-  number_of,
-  prefix_of,
-  puts_prefix,
-  raises_precision,
-}
-use Rattle.pf_values.specs.Conversions.{
+use Rattle.pf_values.specs.meaning.Bases.{alternative_of, number_of, prefix_of, raises_precision}
+use Rattle.pf_reduce.specs.Prefixes.{puts_prefix, is_prefixed}
+use Rattle.pf_values.specs.meaning.Conversions.{
   alternative_under,
   base_of,
   base_under,
   has_capitals,
-  is_prefixed,
   is_upper,
   kept_conv,
   kind_of,
   prints_signed,
   prints_text,
 }
-use Rattle.pf_values.specs.DataModel.{bits_under}
-use Rattle.pf_values.specs.Flags.{has, no_flags, with_flag}
-use Rattle.pf_values.specs.Normal.{digits_at_most, effective_precision}
-use Rattle.pf_values.specs.Printing.{front_under, is_zero, is_zero_filled, sign_or_prefix}
-use Rattle.pf_values.specs.Specification.{Specification, width_of}
-use Rattle.pf_values.specs.Text.{Text}
+use Rattle.pf_values.specs.meaning.DataModel.{bits_under}
+use Rattle.pf_values.specs.meaning.Flags.{has, no_flags, with_flag}
+use Rattle.pf_values.specs.meaning.Normal.{digits_at_most}
+use Rattle.pf_values.specs.Directives.{effective_precision}
+use Rattle.pf_values.specs.meaning.Printing.{front_under, is_zero, is_zero_filled, sign_or_prefix}
+use Rattle.pf_values.specs.meaning.Specification.{Specification, width_of}
+use Rattle.pf_values.specs.meaning.Text.{Text}
 use Rattle.pf_values.proofs.Counts.{count-ge, count-le}
 use Rattle.pf_values.proofs.NumberTexts.{number_text}
 use Rattle.pf_values.proofs.Printed.{count_of, zero_digits}

@@ -4,9 +4,10 @@ use Rattle.pf_values.specs.declared.conversions.Conv.TheVariants.{S}
 use Rattle.pf_values.specs.declared.flags.FlagSet.{FlagSet}
 use Rattle.pf_values.specs.declared.lengths.Length.TheVariants as lengths
 use Rattle.pf_values.specs.declared.models.Model.{Model}
-use Rattle.pf_values.specs.Defined.{refused_as}
-use Rattle.pf_values.specs.Normal.{IsNormal}
-use Rattle.pf_values.specs.Specification.{Specification, specification_of}
+use Rattle.pf_values.specs.meaning.Defined.{refused_as}
+use Rattle.pf_values.specs.meaning.Normal.{IsNormal}
+use Rattle.pf_values.specs.meaning.Specification.{Specification}
+use Rattle.pf_values.specs.Directives.{specification_of}
 use Rattle.pf_reduce.specs.declared.padding.Padding.{Padding}
 use Rattle.pf_reduce.specs.Made.{core_within, with_side}
 

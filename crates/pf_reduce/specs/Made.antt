@@ -3,10 +3,11 @@ use Rattle.std.specs.Prelude.{if◌then◌else◌, Bool, ℕ, zero, suc, Option,
 use Rattle.pf_values.specs.declared.flags.Flag.TheVariants.{Minus}
 use Rattle.pf_values.specs.declared.flags.FlagSet.{FlagSet}
 use Rattle.pf_values.specs.declared.models.Model.{Model}
-use Rattle.pf_values.specs.Conversions.{kept_conv}
-use Rattle.pf_values.specs.DataModel.{kept_length}
-use Rattle.pf_values.specs.Flags.{with_flag}
-use Rattle.pf_values.specs.Specification.{Specification, specification_of}
+use Rattle.pf_values.specs.meaning.Conversions.{kept_conv}
+use Rattle.pf_values.specs.meaning.DataModel.{kept_length}
+use Rattle.pf_values.specs.meaning.Flags.{with_flag}
+use Rattle.pf_values.specs.meaning.Specification.{Specification}
+use Rattle.pf_values.specs.Directives.{specification_of}
 use Rattle.pf_reduce.specs.declared.padding.Padding.{Padding}
 use Rattle.pf_reduce.specs.declared.results.Core.TheVariants.{Normal}
 use Rattle.pf_reduce.specs.declared.results.Reduced.{Reduced}

@@ -2,8 +2,8 @@
 use Rattle.std.specs.Prelude.{if◌then◌else◌, Bool, true, false, ℕ, [], codes}
 use Rattle.pf_values.specs.declared.flags.Flag.TheVariants.{Plus, Space}
 use Rattle.pf_values.specs.declared.flags.FlagSet.{FlagSet}
-use Rattle.pf_values.specs.Flags.{has, no_flags, with_flag}
-use Rattle.pf_values.specs.Text.{Text}
+use Rattle.pf_values.specs.meaning.Flags.{has, no_flags, with_flag}
+use Rattle.pf_values.specs.meaning.Text.{Text}
 use Rattle.pf_reduce.specs.declared.signs.Sign.{Sign}
 use Rattle.pf_reduce.specs.declared.signs.Sign.TheVariants as signs
 

@@ -2,19 +2,19 @@
 ghost use Rattle.std.specs.Prelude.{◌≡◌, ◌≢◌, ◌≤◌, ◌<◌, ◌+◌, max, ◌++◌, ◌⊎◌, Bool, false, true, IsTrue, length};
 ghost use Rattle.pf_values.specs.declared.flags.Flag.TheVariants.{Alt};
 ghost use Rattle.pf_values.specs.declared.limits.TheConstants.{MAX_NUMBER};
-ghost use Rattle.pf_values.specs.Conversions.{
-  alternative_under,
-  is_octal,
-  is_prefixed,
-  is_signed,
-  is_text,
-  kind_of,
+ghost use Rattle.pf_values.specs.meaning.Conversions.{
+    alternative_under,
+    is_octal,
+    is_signed,
+    is_text,
+    kind_of,
 };
-ghost use Rattle.pf_values.specs.Flags.{has, no_flags, with_flag};
-ghost use Rattle.pf_values.specs.Normal.{digits_at_most};
-ghost use Rattle.pf_values.specs.Printing.{is_zero_filled};
-ghost use Rattle.pf_values.specs.Specification.{width_of};
-ghost use Rattle.pf_values.specs.Text.{Text};
+ghost use Rattle.pf_reduce.specs.Prefixes.{is_prefixed};
+ghost use Rattle.pf_values.specs.meaning.Flags.{has, no_flags, with_flag};
+ghost use Rattle.pf_values.specs.meaning.Normal.{digits_at_most};
+ghost use Rattle.pf_values.specs.meaning.Printing.{is_zero_filled};
+ghost use Rattle.pf_values.specs.meaning.Specification.{width_of};
+ghost use Rattle.pf_values.specs.meaning.Text.{Text};
 ghost use Rattle.pf_reduce.specs.declared.signs.Sign.TheVariants as signs;
 ghost use Rattle.pf_reduce.specs.Made.{result_within, kept_precision};
 ghost use Rattle.pf_reduce.specs.Padded.{with_padding};

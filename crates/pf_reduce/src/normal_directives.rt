@@ -1,8 +1,8 @@
 //! Normal directives made of their parts.
 ghost use Rattle.std.specs.Prelude.{◌≡◌};
-ghost use Rattle.pf_values.specs.Defined.{IsDefined};
-ghost use Rattle.pf_values.specs.Normal.{IsNormal};
-ghost use Rattle.pf_values.specs.Specification.{specification_of};
+ghost use Rattle.pf_values.specs.meaning.Defined.{IsDefined};
+ghost use Rattle.pf_values.specs.meaning.Normal.{IsNormal};
+ghost use Rattle.pf_values.specs.Directives.{specification_of};
 ghost use Rattle.pf_reduce.specs.Made.{result_within, core_within, kept_precision};
 ghost use Rattle.pf_reduce.specs.Reducing.{IsNormalCore};
 

@@ -1,8 +1,8 @@
 //! Padding round what is printed: a constant part, and spaces up to a width.
 ghost use Rattle.std.specs.Prelude.{IsTrue, ◌≡◌, ◌≤◌, ◌<◌, ◌+◌, ◌-◌, ◌⊎◌, min, true, false, ◌++◌, ◌^◌, length, replicate};
 ghost use Rattle.pf_values.specs.declared.limits.TheConstants.{MAX_NUMBER};
-ghost use Rattle.pf_values.specs.Defined.{IsDefined};
-ghost use Rattle.pf_values.specs.Text.{Text, zero_digit};
+ghost use Rattle.pf_values.specs.meaning.Defined.{IsDefined};
+ghost use Rattle.pf_values.specs.meaning.Text.{Text, zero_digit};
 
 use crate::numbers::width;
 use pf_values::{Directive, Flag};

@@ -1,6 +1,6 @@
 //! Reduction of a directive.
 ghost use Rattle.std.specs.Prelude.{◌≡◌};
-ghost use Rattle.pf_values.specs.Normal.{IsNormal, silent};
+ghost use Rattle.pf_values.specs.meaning.Normal.{IsNormal, silent};
 ghost use Rattle.pf_reduce.specs.Reducing.{IsReducedTo};
 
 use crate::integers::{reduce_signed, reduce_unsigned};

@@ -1,9 +1,9 @@
 //! Characters and strings.
 ghost use Rattle.std.specs.Prelude.{◌≡◌, ◌≤◌, IfSome, Some};
 ghost use Rattle.pf_values.specs.declared.conversions.Conv.TheVariants.{C, S};
-ghost use Rattle.pf_values.specs.Printing.{printed_front};
-ghost use Rattle.pf_values.specs.Specification.{width_of};
-ghost use Rattle.pf_values.specs.Text.{Text};
+ghost use Rattle.pf_values.specs.meaning.Printing.{printed_front};
+ghost use Rattle.pf_values.specs.meaning.Specification.{width_of};
+ghost use Rattle.pf_values.specs.meaning.Text.{Text};
 ghost use Rattle.pf_reduce.specs.Padded.{constants, with_padding};
 ghost use Rattle.pf_reduce.specs.Reducing.{IsReducedTo};
 

@@ -4,11 +4,11 @@ use Rattle.std.proofs.lemmas.List.{append-nil, append_assoc, append_cancel_left,
 use Rattle.pf_values.specs.declared.arguments.Arg.{Arg}
 use Rattle.pf_values.specs.declared.counting.Counted.{Counted}
 use Rattle.pf_values.specs.declared.models.Model.{Model}
-use Rattle.pf_values.specs.Arguments.{HasTypes}
+use Rattle.pf_values.specs.meaning.Arguments.{HasTypes}
 use Rattle.pf_values.specs.Counting.{Known, WritesAll}
-use Rattle.pf_values.specs.Items.{Item, Byte, Reads, types}
-use Rattle.pf_values.specs.Printing.{PrintsAll}
-use Rattle.pf_values.specs.Text.{Text}
+use Rattle.pf_values.specs.meaning.Items.{Item, Byte, Reads, types}
+use Rattle.pf_values.specs.meaning.Printing.{PrintsAll}
+use Rattle.pf_values.specs.meaning.Text.{Text}
 use Rattle.pf_text.specs.declared.pieces.Piece.{Piece}
 use Rattle.pf_text.specs.declared.pieces.Piece.TheVariants as pieces
 use Rattle.pf_text.specs.declared.pieces.Pieces.{Pieces}

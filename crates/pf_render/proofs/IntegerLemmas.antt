@@ -11,9 +11,9 @@ use Rattle.pf_values.specs.declared.conversions.Kind.{Kind}
 use Rattle.pf_values.specs.declared.conversions.Kind.TheVariants as kinds
 use Rattle.pf_values.specs.declared.flags.Flag.TheVariants.{Alt}
 use Rattle.pf_values.specs.declared.models.Model.{Model}
-use Rattle.pf_values.specs.Arguments.{Number, IsValue}
-use Rattle.pf_values.specs.Bases.{number_of}
-use Rattle.pf_values.specs.Conversions.{
+use Rattle.pf_values.specs.meaning.Arguments.{Number, IsValue}
+use Rattle.pf_values.specs.meaning.Bases.{number_of}
+use Rattle.pf_values.specs.meaning.Conversions.{
   base_of,
   base_under,
   has_capitals,
@@ -23,9 +23,9 @@ use Rattle.pf_values.specs.Conversions.{
   kind_of,
   prints_text,
 }
-use Rattle.pf_values.specs.Flags.{has}
-use Rattle.pf_values.specs.Normal.{precision_of}
-use Rattle.pf_values.specs.Printing.{
+use Rattle.pf_values.specs.meaning.Flags.{has}
+use Rattle.pf_values.specs.meaning.Normal.{precision_of}
+use Rattle.pf_values.specs.meaning.Printing.{
   Prints,
   PrintsKind,
   PrintsNumber,
@@ -33,8 +33,8 @@ use Rattle.pf_values.specs.Printing.{
   is_zero_filled,
   sign_or_prefix,
 }
-use Rattle.pf_values.specs.Specification.{Specification, width_of}
-use Rattle.pf_values.specs.Text.{Text, zero_digit}
+use Rattle.pf_values.specs.meaning.Specification.{Specification, width_of}
+use Rattle.pf_values.specs.meaning.Text.{Text, zero_digit}
 use Rattle.pf_values.proofs.Printed.{count_of, filled_precision, natural_len, natural_of, precision_under, printed_digits-is, printed_precision, zeros_of}
 use Rattle.pf_values.proofs.PrintsOnce.{PrintsNumber-value, value_text}
 use Rattle.pf_render.specs.Zeros.{fewest_digits, zeros_for}

@@ -2,8 +2,8 @@
 use Rattle.std.proofs.Common.{◌≡◌, ◌≢◌, ℕ, ◌≤◌, Bool, true, false, List, [], ◌∷◌, ◌++◌, length, sym, ap, ◌∙◌, arith, Ok, Err, append_assoc}
 use Rattle.std.specs.Prelude.{◌==◌, MatchBool}
 use Rattle.std.proofs.lemmas.List.{append-nil, length-append}
-use Rattle.pf_values.specs.Items.{Item, Byte, Directive, IsReadAs, Reads}
-use Rattle.pf_values.specs.Text.{Text, percent}
+use Rattle.pf_values.specs.meaning.Items.{Item, Byte, Directive, IsReadAs, Reads}
+use Rattle.pf_values.specs.meaning.Text.{Text, percent}
 use Rattle.pf_text.specs.declared.scanner.Step.{Step}
 use Rattle.pf_text.specs.declared.scanner.Step.TheVariants as steps
 use Rattle.pf_text.specs.Stages.{State}

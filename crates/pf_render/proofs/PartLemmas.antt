@@ -6,7 +6,7 @@ use Rattle.std.proofs.lemmas.List.{append-nil, drop_more, length-append, take-ap
 use Rattle.std.proofs.lemmas.List.Folds.{length-flat_map-take}
 use Rattle.pf_values.specs.declared.counting.Counted.{Counted}
 use Rattle.pf_values.specs.Counting.{Known, WritesAll, WritesFirst}
-use Rattle.pf_values.specs.Text.{Text}
+use Rattle.pf_values.specs.meaning.Text.{Text}
 use Rattle.pf_values.proofs.WriteLemmas.{WritesFirst-more}
 use Rattle.pf_render.specs.Parts.{join}
 

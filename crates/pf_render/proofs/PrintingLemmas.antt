@@ -2,10 +2,10 @@
 use Rattle.std.proofs.Common.{◌≡◌, ◌≤◌, List, [], ◌∷◌, ◌++◌, length, map, take, drop, refl, sym, ap, ◌∙◌, arith, append_assoc}
 use Rattle.pf_values.specs.declared.models.Model.{Model}
 use Rattle.pf_values.specs.declared.types.ArgType.{ArgType}
-use Rattle.pf_values.specs.Arguments.{Argument, HasTypes}
-use Rattle.pf_values.specs.Items.{Item, Byte, Directive, types}
-use Rattle.pf_values.specs.Printing.{PrintsAll}
-use Rattle.pf_values.specs.Text.{Text}
+use Rattle.pf_values.specs.meaning.Arguments.{Argument, HasTypes}
+use Rattle.pf_values.specs.meaning.Items.{Item, Byte, Directive, types}
+use Rattle.pf_values.specs.meaning.Printing.{PrintsAll}
+use Rattle.pf_values.specs.meaning.Text.{Text}
 use Rattle.pf_values.proofs.Alike.{all_printed, all_printed-is, PrintsAll-unique as only_printed}
 
 pub PrintsAll-exists : (model : Model) (items : List Item) (args : List Argument) → HasTypes model args (types model items) → (out : Text) × PrintsAll model items args out

@@ -6,12 +6,12 @@ use Rattle.pf_values.specs.declared.arguments.Arg.{Arg}
 use Rattle.pf_values.specs.declared.counting.Counted.{Counted}
 use Rattle.pf_values.specs.declared.models.Model.{Model}
 use Rattle.pf_values.specs.Arg.{argument_of}
-use Rattle.pf_values.specs.Arguments.{Argument, HasTypes}
+use Rattle.pf_values.specs.meaning.Arguments.{Argument, HasTypes}
 use Rattle.pf_values.specs.Counting.{Known, WritesAll, WritesFirst, device_of}
-use Rattle.pf_values.specs.Items.{Item, Directive, types}
-use Rattle.pf_values.specs.Printing.{Prints, PrintsAll}
-use Rattle.pf_values.specs.Specification.{Specification}
-use Rattle.pf_values.specs.Text.{Text}
+use Rattle.pf_values.specs.meaning.Items.{Item, Directive, types}
+use Rattle.pf_values.specs.meaning.Printing.{Prints, PrintsAll}
+use Rattle.pf_values.specs.meaning.Specification.{Specification}
+use Rattle.pf_values.specs.meaning.Text.{Text}
 use Rattle.pf_values.proofs.ItemTypes.{types-append}
 use Rattle.pf_values.proofs.WriteLemmas.{WritesFirst-more}
 use Rattle.pf_render.specs.declared.faults.WriteFault.{WriteFault}

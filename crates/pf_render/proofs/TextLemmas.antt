@@ -6,12 +6,12 @@ use Rattle.pf_values.specs.declared.arguments.CBytes.{CBytes}
 use Rattle.pf_values.specs.declared.conversions.Kind.TheVariants as kinds
 use Rattle.pf_values.specs.declared.models.Model.{Model}
 use Rattle.pf_values.specs.Arg.{argument_of}
-use Rattle.pf_values.specs.Arguments.{Number, String, IsConverted}
-use Rattle.pf_values.specs.Conversions.{kind_of}
-use Rattle.pf_values.specs.DataModel.{B8, bit_count}
-use Rattle.pf_values.specs.Printing.{Prints, PrintsKind, field, printed_front}
-use Rattle.pf_values.specs.Specification.{Specification}
-use Rattle.pf_values.specs.Text.{Text}
+use Rattle.pf_values.specs.meaning.Arguments.{Number, String, IsConverted}
+use Rattle.pf_values.specs.meaning.Conversions.{kind_of}
+use Rattle.pf_values.specs.meaning.DataModel.{B8, bit_count}
+use Rattle.pf_values.specs.meaning.Printing.{Prints, PrintsKind, field, printed_front}
+use Rattle.pf_values.specs.meaning.Specification.{Specification}
+use Rattle.pf_values.specs.meaning.Text.{Text}
 
 pub Prints-char : (model : Model) (s : Specification) (n : ℤ) (byte : ℕ) → kind_of s.conv ≡ kinds.Char
     → IsConverted false (bit_count B8) n (pos byte) → Prints model s (Number n) (field s (byte ∷ []))

@@ -4,7 +4,7 @@ use Rattle.std.specs.Prelude.{◌≡◌, ℕ, ◌<◌, length, Result, Ok, Err}
 use Rattle.pf_values.specs.declared.counting.Counted.{Counted}
 use Rattle.pf_values.specs.declared.writing.ShortWrite.{ShortWrite}
 use Rattle.pf_values.specs.Counting.{Known, WritesAll, WritesFirst}
-use Rattle.pf_values.specs.Text.{Text}
+use Rattle.pf_values.specs.meaning.Text.{Text}
 
 -- all the bytes went out, and this is their number, or the first ones did
 abbrev pub WritesCounted : {W : Type 0} → (W → Known) → Counted W → Counted W → Text

@@ -1,8 +1,8 @@
 -- The parts of a format that are kept. This project's own.
 use Rattle.std.specs.Prelude.{◌≡◌, ◌≤◌, true, ℕ, List, [], ◌∷◌, flat_map, length, map, Option, Some, None}
-use Rattle.pf_values.specs.Items.{Item, Byte, Directive, Reads}
-use Rattle.pf_values.specs.Specification.{Specification}
-use Rattle.pf_values.specs.Text.{Text}
+use Rattle.pf_values.specs.meaning.Items.{Item, Byte, Directive, Reads}
+use Rattle.pf_values.specs.meaning.Specification.{Specification}
+use Rattle.pf_values.specs.meaning.Text.{Text}
 use Rattle.pf_render.specs.declared.kept.TheConstants.{MOST}
 use Rattle.pf_render.specs.declared.kept.Kept.{Kept}
 use Rattle.pf_render.specs.declared.kept.Part.{Part}

@@ -5,8 +5,8 @@ use Rattle.pf_values.specs.declared.arguments.Arg.{Arg}
 use Rattle.pf_values.specs.declared.models.Model.{Model}
 use Rattle.pf_values.specs.declared.types.ArgType.{ArgType}
 use Rattle.pf_values.specs.Arg.{argument_of, type_of}
-use Rattle.pf_values.specs.Arguments.{HasTypes}
-use Rattle.pf_values.specs.Text.{Text}
+use Rattle.pf_values.specs.meaning.Arguments.{HasTypes}
+use Rattle.pf_values.specs.meaning.Text.{Text}
 use Rattle.pf_text.specs.Signatures as signatures
 use Rattle.pf_render.specs.declared.argument_lists.Tally.{Tally}
 use Rattle.pf_render.specs.Rendering.{IsOfType}

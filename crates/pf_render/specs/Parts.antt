@@ -1,7 +1,7 @@
 -- Texts in parts. This project's own.
 use Rattle.std.specs.Prelude.{ℕ, List, flat_map}
 use Rattle.std.specs.Borrow.{Bor}
-use Rattle.pf_values.specs.Text.{Text}
+use Rattle.pf_values.specs.meaning.Text.{Text}
 
 -- the text of the parts, one after another
 abbrev pub join : List (Bor (List ℕ)) → Text

@@ -4,11 +4,11 @@ use Rattle.pf_values.specs.declared.arguments.Arg.{Arg}
 use Rattle.pf_values.specs.declared.counting.Counted.{Counted}
 use Rattle.pf_values.specs.declared.models.Model.{Model}
 use Rattle.pf_values.specs.Arg.{argument_of}
-use Rattle.pf_values.specs.Arguments.{Argument}
+use Rattle.pf_values.specs.meaning.Arguments.{Argument}
 use Rattle.pf_values.specs.Counting.{Known, WritesAll, WritesFirst}
-use Rattle.pf_values.specs.Items.{types}
-use Rattle.pf_values.specs.Printing.{PrintsAll}
-use Rattle.pf_values.specs.Text.{Text}
+use Rattle.pf_values.specs.meaning.Items.{types}
+use Rattle.pf_values.specs.meaning.Printing.{PrintsAll}
+use Rattle.pf_values.specs.meaning.Text.{Text}
 use Rattle.pf_render.specs.declared.faults.WriteFault.{WriteFault}
 use Rattle.pf_render.specs.declared.kept.Part.{Part}
 use Rattle.pf_render.specs.declared.progress.Progress.{Progress}

@@ -6,11 +6,11 @@ use Rattle.pf_values.specs.declared.counting.Counted.{Counted}
 use Rattle.pf_values.specs.declared.models.Model.{Model}
 use Rattle.pf_values.specs.declared.types.ArgType.{ArgType}
 use Rattle.pf_values.specs.Arg.{argument_of, type_of}
-use Rattle.pf_values.specs.Arguments.{HasType, HasTypes}
+use Rattle.pf_values.specs.meaning.Arguments.{HasType, HasTypes}
 use Rattle.pf_values.specs.Counting.{Known, WritesAll, WritesFirst}
-use Rattle.pf_values.specs.Printing.{PrintsAll}
-use Rattle.pf_values.specs.Refusals.{IsRefusedAt}
-use Rattle.pf_values.specs.Text.{Text}
+use Rattle.pf_values.specs.meaning.Printing.{PrintsAll}
+use Rattle.pf_values.specs.meaning.Refusals.{IsRefusedAt}
+use Rattle.pf_values.specs.meaning.Text.{Text}
 use Rattle.pf_text.specs.Signatures.{TakesTypes}
 use Rattle.pf_render.specs.declared.faults.RenderFault.{RenderFault}
 use Rattle.pf_render.specs.declared.faults.RenderFault.TheVariants as faults

@@ -1,10 +1,10 @@
 -- How many zeros stand before the digits of a number.
 use Rattle.std.specs.Prelude.{ℕ, ◌+◌, ◌-◌, max, ◌&&◌, if◌then◌else◌}
 use Rattle.pf_values.specs.declared.flags.Flag.TheVariants.{Alt}
-use Rattle.pf_values.specs.Conversions.{is_octal}
-use Rattle.pf_values.specs.Flags.{has}
-use Rattle.pf_values.specs.Normal.{effective_precision}
-use Rattle.pf_values.specs.Specification.{Specification}
+use Rattle.pf_values.specs.meaning.Conversions.{is_octal}
+use Rattle.pf_values.specs.meaning.Flags.{has}
+use Rattle.pf_values.specs.Directives.{effective_precision}
+use Rattle.pf_values.specs.meaning.Specification.{Specification}
 
 -- the fewest digits that are printed of a number with so many; those of an octal number under `#`
 -- begin with one 0 more (C11 7.21.6.1 p6)

@@ -1,6 +1,6 @@
 //! Bytes that are printed many times.
 ghost use Rattle.std.specs.Prelude.{◌≡◌, ◌≤◌, replicate};
-ghost use Rattle.pf_values.specs.Text.{space, zero_digit};
+ghost use Rattle.pf_values.specs.meaning.Text.{space, zero_digit};
 
 use pf_values::limits::MAX_NUMBER;
 

@@ -2,8 +2,8 @@
 ghost use Rattle.std.specs.Prelude.{◌≡◌, ◌≤◌, drop, map, Bool};
 ghost use Rattle.std.specs.Fmt.{digit_glyph};
 ghost use Rattle.std.specs.Int.Digits.{digits_of};
-ghost use Rattle.pf_values.specs.Bases.{number_of};
-ghost use Rattle.pf_values.specs.Conversions.{base_under, has_capitals};
+ghost use Rattle.pf_values.specs.meaning.Bases.{number_of};
+ghost use Rattle.pf_values.specs.meaning.Conversions.{base_under, has_capitals};
 
 use itoa::write_digits;
 use pf_values::{Base, Kind};

@@ -1,11 +1,11 @@
 //! What a directive prints for an argument.
 ghost use Rattle.std.specs.Prelude.{◌≡◌, ◌≢◌, ℤ};
 ghost use Rattle.pf_values.specs.Arg.{argument_of};
-ghost use Rattle.pf_values.specs.Arguments.{HasType, Number, String};
+ghost use Rattle.pf_values.specs.meaning.Arguments.{HasType, Number, String};
 ghost use Rattle.pf_values.specs.Counting.{WritesUpTo};
-ghost use Rattle.pf_values.specs.DataModel.{arg_type};
-ghost use Rattle.pf_values.specs.Printing.{PrintsOnly};
-ghost use Rattle.pf_values.specs.Text.{Text};
+ghost use Rattle.pf_values.specs.meaning.DataModel.{arg_type};
+ghost use Rattle.pf_values.specs.Laws.{PrintsOnly};
+ghost use Rattle.pf_values.specs.meaning.Text.{Text};
 ghost use Rattle.pf_render.specs.Counts.{WritesCounted};
 
 use crate::faults::WriteFault;

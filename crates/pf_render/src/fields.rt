@@ -2,8 +2,8 @@
 ghost use Rattle.std.specs.Prelude.{◌≡◌, ◌+◌, ◌++◌, ◌<◌, ◌^◌, length};
 ghost use Rattle.pf_render.specs.Counts.{WritesCounted};
 ghost use Rattle.pf_render.specs.Parts.{join};
-ghost use Rattle.pf_values.specs.Printing.{field, padding};
-ghost use Rattle.pf_values.specs.Specification.{width_of};
+ghost use Rattle.pf_values.specs.meaning.Printing.{field, padding};
+ghost use Rattle.pf_values.specs.meaning.Specification.{width_of};
 
 use crate::blocks::spaces;
 use pf_values::{Counted, Directive, Flag, ShortWrite, write_bytes};

@@ -1,11 +1,11 @@
 //! What a format prints for arguments.
 ghost use Rattle.std.specs.Prelude.{◌≤◌, length, map};
 ghost use Rattle.pf_values.specs.Arg.{argument_of};
-ghost use Rattle.pf_values.specs.Arguments.{HasTypes};
+ghost use Rattle.pf_values.specs.meaning.Arguments.{HasTypes};
 ghost use Rattle.pf_values.specs.Counting.{WritesUpTo};
-ghost use Rattle.pf_values.specs.Items.{types};
-ghost use Rattle.pf_values.specs.Printing.{PrintsAll};
-ghost use Rattle.pf_values.specs.Text.{Text};
+ghost use Rattle.pf_values.specs.meaning.Items.{types};
+ghost use Rattle.pf_values.specs.meaning.Printing.{PrintsAll};
+ghost use Rattle.pf_values.specs.meaning.Text.{Text};
 ghost use Rattle.pf_render.specs.Keeping.{KeepsAll, items_of_parts, most_parts};
 ghost use Rattle.pf_render.specs.Matching.{TakesArguments};
 ghost use Rattle.pf_render.specs.Rendering.{RendersInto, RendersTo};

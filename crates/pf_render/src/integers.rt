@@ -1,11 +1,11 @@
 //! What directives print of numbers.
 ghost use Rattle.std.specs.Prelude.{◌≡◌, ◌≤◌, ◌+◌, IsFalse, length};
 ghost use Rattle.pf_values.specs.declared.limits.TheConstants.{MAX_NUMBER};
-ghost use Rattle.pf_values.specs.Arguments.{Number};
-ghost use Rattle.pf_values.specs.Bases.{alternative_of};
-ghost use Rattle.pf_values.specs.Conversions.{is_text};
-ghost use Rattle.pf_values.specs.Printing.{Prints, prefix_under, sign, sign_or_prefix};
-ghost use Rattle.pf_values.specs.Text.{Text};
+ghost use Rattle.pf_values.specs.meaning.Arguments.{Number};
+ghost use Rattle.pf_values.specs.meaning.Bases.{alternative_of};
+ghost use Rattle.pf_values.specs.meaning.Conversions.{is_text};
+ghost use Rattle.pf_values.specs.meaning.Printing.{Prints, prefix_under, sign, sign_or_prefix};
+ghost use Rattle.pf_values.specs.meaning.Text.{Text};
 ghost use Rattle.pf_render.specs.Counts.{WritesCounted};
 ghost use Rattle.pf_render.specs.Zeros.{fewest_digits, zeros_for};
 

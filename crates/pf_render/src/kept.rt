@@ -1,7 +1,7 @@
 //! The pieces of a format, kept from when it is checked to when it is written.
 ghost use Rattle.std.specs.Prelude.{◌≡◌, ◌++◌, [], List, length};
 ghost use Rattle.pf_values.specs.declared.models.Model.{Model};
-ghost use Rattle.pf_values.specs.Items.{Item, types};
+ghost use Rattle.pf_values.specs.meaning.Items.{Item, types};
 ghost use Rattle.pf_text.specs.PieceHistory.{items_of};
 ghost use Rattle.pf_render.specs.Keeping.{Keeps, items_of_part};
 

@@ -1,10 +1,10 @@
 //! How far the writing of a format has come.
 ghost use Rattle.std.specs.Prelude.{◌≡◌, ◌+◌, ◌≤◌, ◌^◌, length, map};
 ghost use Rattle.pf_values.specs.Arg.{argument_of};
-ghost use Rattle.pf_values.specs.Arguments.{HasTypes};
-ghost use Rattle.pf_values.specs.Items.{types};
-ghost use Rattle.pf_values.specs.Printing.{PrintsAll};
-ghost use Rattle.pf_values.specs.Text.{Text};
+ghost use Rattle.pf_values.specs.meaning.Arguments.{HasTypes};
+ghost use Rattle.pf_values.specs.meaning.Items.{types};
+ghost use Rattle.pf_values.specs.meaning.Printing.{PrintsAll};
+ghost use Rattle.pf_values.specs.meaning.Text.{Text};
 ghost use Rattle.pf_render.specs.Counts.{WritesCounted};
 ghost use Rattle.pf_render.specs.Keeping.{items_of_part};
 ghost use Rattle.pf_render.specs.Progressing.{WritesNext, next_arguments};

@@ -1,11 +1,11 @@
 //! What directives print of bytes and of strings.
 ghost use Rattle.std.specs.Prelude.{◌≡◌};
 ghost use Rattle.pf_values.specs.declared.conversions.Kind.TheVariants as kinds;
-ghost use Rattle.pf_values.specs.Arguments.{Number, String};
-ghost use Rattle.pf_values.specs.Conversions.{kind_of};
+ghost use Rattle.pf_values.specs.meaning.Arguments.{Number, String};
+ghost use Rattle.pf_values.specs.meaning.Conversions.{kind_of};
 ghost use Rattle.pf_values.specs.declared.models.Model.{Model};
-ghost use Rattle.pf_values.specs.Printing.{Prints, printed_front};
-ghost use Rattle.pf_values.specs.Text.{Text};
+ghost use Rattle.pf_values.specs.meaning.Printing.{Prints, printed_front};
+ghost use Rattle.pf_values.specs.meaning.Text.{Text};
 ghost use Rattle.pf_render.specs.Counts.{WritesCounted};
 
 use crate::fields::write_text;

@@ -1,9 +1,9 @@
 //! The values that directives print for numbers.
 ghost use Rattle.std.specs.Prelude.{◌≡◌, IsFalse, true, false, nat_abs};
-ghost use Rattle.pf_values.specs.Arguments.{IsConverted, IsValue};
-ghost use Rattle.pf_values.specs.Conversions.{is_text};
-ghost use Rattle.pf_values.specs.DataModel.{Bits, bit_count};
-ghost use Rattle.pf_values.specs.Printing.{is_negative};
+ghost use Rattle.pf_values.specs.meaning.Arguments.{IsConverted, IsValue};
+ghost use Rattle.pf_values.specs.meaning.Conversions.{is_text};
+ghost use Rattle.pf_values.specs.meaning.DataModel.{Bits, bit_count};
+ghost use Rattle.pf_values.specs.meaning.Printing.{is_negative};
 
 use pf_values::{Directive, Kind, ValueKind};
 use std::marker::Model;

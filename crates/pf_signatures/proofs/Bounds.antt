@@ -5,7 +5,7 @@ use Rattle.std.specs.List.{AllByRecursion}
 use Rattle.pf_values.specs.declared.flags.FlagSet.{FlagSet}
 use Rattle.pf_values.specs.declared.limits.TheConstants.{MAX_NUMBER, MAX_TEXT_LEN}
 use Rattle.pf_values.specs.declared.models.Model.{Model}
-use Rattle.pf_values.specs.Text.{Text}
+use Rattle.pf_values.specs.meaning.Text.{Text}
 use Rattle.pf_signatures.specs.declared.fetches.Fetch.{Fetch}
 use Rattle.pf_signatures.specs.declared.kinds.SignatureRefusalKind.TheVariants.{TooLong}
 use Rattle.pf_signatures.specs.declared.parts.Parts.{Parts}

@@ -6,8 +6,8 @@ use Rattle.std.proofs.Math.Nat.{pow-zero, pow-suc}
 use Rattle.std.proofs.lemmas.Bool.Decides.{nat_tests}
 use Rattle.std.proofs.lemmas.List.{length_push, map_push}
 use Rattle.pf_values.specs.declared.limits.TheConstants.{MAX_NUMBER}
-use Rattle.pf_values.specs.Digits.{AreDigits, AreLeastDigits, place_sum}
-use Rattle.pf_values.specs.Text.{Text}
+use Rattle.pf_values.specs.meaning.Digits.{AreDigits, AreLeastDigits, place_sum}
+use Rattle.pf_values.specs.meaning.Text.{Text}
 use Rattle.pf_signatures.specs.declared.parts.Slot.{Slot}
 use Rattle.pf_signatures.specs.declared.parts.Slot.TheVariants.{Width, Precision}
 use Rattle.pf_signatures.specs.Fronts.{SpellsDigits}

@@ -1,7 +1,7 @@
 -- The tables of types and of kinds have each value once.
 use Rattle.std.proofs.Common.{ℕ, ◌-◌, refl}
 use Rattle.std.specs.Prelude.{nat_le, if◌then◌else◌}
-use Rattle.pf_values.specs.Tables.{HasEachOnce}
+use Rattle.pf_values.specs.Laws.{HasEachOnce}
 use Rattle.pf_values.proofs.EachOnce.{once}
 use Rattle.pf_signatures.specs.declared.kinds.SignatureRefusalKind.{SignatureRefusalKind}
 use Rattle.pf_signatures.specs.declared.kinds.SignatureRefusalKind.TheVariants.{NulByte}

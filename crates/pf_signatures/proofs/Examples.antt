@@ -5,8 +5,8 @@ use Rattle.pf_values.specs.declared.flags.Flag.TheVariants.{Alt}
 use Rattle.pf_values.specs.declared.lengths.Length.TheVariants as lengths
 use Rattle.pf_values.specs.declared.models.Model.{Model}
 use Rattle.pf_values.specs.declared.models.Model.TheVariants.{Lp64, Llp64}
-use Rattle.pf_values.specs.Flags.{flag_set}
-use Rattle.pf_values.specs.Text.{Text}
+use Rattle.pf_values.specs.meaning.Flags.{flag_set}
+use Rattle.pf_values.specs.meaning.Text.{Text}
 use Rattle.pf_signatures.specs.declared.conversions.Conversion.TheVariants.{Count}
 use Rattle.pf_signatures.specs.declared.conversions.Modifier.TheVariants.{Plain}
 use Rattle.pf_signatures.specs.declared.kinds.SignatureRefusalKind.{SignatureRefusalKind}

@@ -5,7 +5,7 @@ use Rattle.pf_signatures.specs.Items.{HasArguments}
 use Rattle.pf_signatures.specs.Laws.{HasCount, filled}
 use Rattle.pf_signatures.proofs.Unique.{one_list}
 use Rattle.pf_values.specs.declared.models.Model.{Model}
-use Rattle.pf_values.specs.Text.{Text}
+use Rattle.pf_values.specs.meaning.Text.{Text}
 
 all_filled : (old types : List ArgumentType) → length old ≡ length types → filled old types ≡ types
 all_filled [] [] e = refl

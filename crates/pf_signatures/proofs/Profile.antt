@@ -10,16 +10,20 @@ use Rattle.pf_values.specs.declared.lengths.Length.{Length}
 use Rattle.pf_values.specs.declared.limits.TheConstants.{MAX_NUMBER}
 use Rattle.pf_values.specs.declared.models.Model.{Model}
 use Rattle.pf_values.specs.declared.refusals.RefusalKind.TheVariants as refusals
-use Rattle.pf_values.specs.Conversions.{has_alternative_form, is_char, is_decimal, is_text, kind_of, prints_text}
-use Rattle.pf_values.specs.DataModel.{arg_type, type_of_kind}
-use Rattle.pf_values.specs.Defined.{IsDefined as IsProfileDefined, breaks as profile_breaks, is_above_limit, undefined_kinds}
-use Rattle.pf_values.specs.Flags.{flag_byte, has}
-use Rattle.pf_values.specs.Items.{Byte as ProfileByte, Directive, HasItems, IsAccepted, IsReadAs as IsProfileReadAs, Item, Reads as ProfileReads, types}
-use Rattle.pf_values.specs.Lengths.{is_long, is_plain}
-use Rattle.pf_values.specs.Printing.{AreEquivalent}
-use Rattle.pf_values.specs.Specification.{Specification as ProfileSpecification}
-use Rattle.pf_values.specs.Spelling.{Spells, SpellsPrecision, SpellsWidth as SpellsProfileWidth}
-use Rattle.pf_values.specs.Text.{Text}
+use Rattle.pf_values.specs.meaning.Conversions.{has_alternative_form, is_char, is_decimal, is_text, kind_of, prints_text}
+use Rattle.pf_values.specs.meaning.DataModel.{arg_type, type_of_kind}
+use Rattle.pf_values.specs.meaning.Defined.{IsDefined as IsProfileDefined, breaks as profile_breaks, is_above_limit, undefined_kinds}
+use Rattle.pf_values.specs.meaning.Flags.{flag_byte, has}
+use Rattle.pf_values.specs.meaning.Items.{Byte as ProfileByte, Directive, HasItems, IsAccepted, IsReadAs as IsProfileReadAs, Item, Reads as ProfileReads, types}
+use Rattle.pf_values.specs.meaning.Lengths.{is_long, is_plain}
+use Rattle.pf_values.specs.meaning.Printing.{AreEquivalent}
+use Rattle.pf_values.specs.meaning.Specification.{Specification as ProfileSpecification}
+use Rattle.pf_values.specs.meaning.Spelling.{
+  Spells,
+  SpellsPrecision,
+  SpellsWidth as SpellsProfileWidth,
+}
+use Rattle.pf_values.specs.meaning.Text.{Text}
 use Rattle.pf_signatures.specs.declared.conversions.Conversion.TheVariants.{Profile}
 use Rattle.pf_signatures.specs.declared.conversions.Modifier.TheVariants.{Plain}
 use Rattle.pf_signatures.specs.declared.types.ArgumentType.{ArgumentType}

@@ -14,9 +14,9 @@ use Rattle.pf_values.specs.declared.flags.Flag.TheVariants.{Minus, Plus, Space, 
 use Rattle.pf_values.specs.declared.flags.FlagSet.{FlagSet}
 use Rattle.pf_values.specs.declared.limits.TheConstants.{MAX_NUMBER}
 use Rattle.pf_values.specs.declared.models.Model.{Model}
-use Rattle.pf_values.specs.Digits.{AreDigits, AreLeastDigits}
-use Rattle.pf_values.specs.Flags.{with_flag, no_flags, flag_byte, flag_set}
-use Rattle.pf_values.specs.Text.{Text}
+use Rattle.pf_values.specs.meaning.Digits.{AreDigits, AreLeastDigits}
+use Rattle.pf_values.specs.meaning.Flags.{with_flag, no_flags, flag_byte, flag_set}
+use Rattle.pf_values.specs.meaning.Text.{Text}
 use Rattle.pf_values.proofs.Numerals.{number_after-place_sum}
 use Rattle.pf_signatures.specs.declared.fetches.Fetch.{Fetch}
 use Rattle.pf_signatures.specs.declared.kinds.SignatureRefusalKind.{SignatureRefusalKind}

@@ -3,7 +3,7 @@ use Rattle.std.proofs.Common.{◌≡◌, List, [], length, refl, sym, subst, inl
 use Rattle.std.specs.List.{AllByRecursion}
 use Rattle.std.proofs.lemmas.List.{append-nil}
 use Rattle.pf_values.specs.declared.models.Model.{Model}
-use Rattle.pf_values.specs.Text.{Text}
+use Rattle.pf_values.specs.meaning.Text.{Text}
 use Rattle.pf_signatures.specs.declared.fetches.Fetch.{Fetch}
 use Rattle.pf_signatures.specs.declared.kinds.SignatureRefusalKind.TheVariants.{MissingArgument}
 use Rattle.pf_signatures.specs.declared.types.ArgumentType.{ArgumentType}

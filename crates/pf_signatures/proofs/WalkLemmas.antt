@@ -6,7 +6,7 @@ use Rattle.std.proofs.lemmas.List.{drop_more, get_or-drop, length-drop, take_res
 use Rattle.memchr.specs.Find.{Nowhere, Passes, is_byte2}
 use Rattle.pf_values.specs.declared.limits.TheConstants.{MAX_TEXT_LEN}
 use Rattle.pf_values.specs.declared.models.Model.{Model}
-use Rattle.pf_values.specs.Text.{Text}
+use Rattle.pf_values.specs.meaning.Text.{Text}
 use Rattle.pf_signatures.specs.declared.kinds.SignatureRefusalKind.TheVariants.{TooLong}
 use Rattle.pf_signatures.specs.declared.parts.Style.{Style}
 use Rattle.pf_signatures.specs.Readings.{Fault, read}

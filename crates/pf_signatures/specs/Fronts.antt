@@ -3,8 +3,8 @@ use Rattle.std.specs.Prelude.{◌≡◌, ◌≢◌, ℕ, ◌≤◌, true, false,
 use Rattle.std.specs.Fmt.{digit_glyph}
 use Rattle.pf_values.specs.declared.lengths.Length.TheVariants as lengths
 use Rattle.pf_values.specs.declared.limits.TheConstants.{MAX_NUMBER}
-use Rattle.pf_values.specs.Digits.{AreDigits}
-use Rattle.pf_values.specs.Text.{Text, dollar, percent, point, star}
+use Rattle.pf_values.specs.meaning.Digits.{AreDigits}
+use Rattle.pf_values.specs.meaning.Text.{Text, dollar, percent, point, star}
 use Rattle.pf_signatures.specs.declared.conversions.Modifier.TheVariants.{Plain}
 use Rattle.pf_signatures.specs.declared.fetches.Fetch.{Fetch}
 use Rattle.pf_signatures.specs.declared.parts.Parts.{Parts}

@@ -1,7 +1,7 @@
 -- The numbers and the names of the kinds of refusal, and the numbers of the types. This project's
 -- own: the standards leave a wrong specification undefined (C11 7.21.6.1 p9).
 use Rattle.std.specs.Prelude.{ℕ, codes}
-use Rattle.pf_values.specs.Text.{Text}
+use Rattle.pf_values.specs.meaning.Text.{Text}
 use Rattle.pf_signatures.specs.declared.kinds.SignatureRefusalKind.{SignatureRefusalKind}
 use Rattle.pf_signatures.specs.declared.kinds.SignatureRefusalKind.TheVariants.{NulByte, Truncated, Unexpected, BadPercent, WidthTooLarge, PrecisionTooLarge, AltUndefined, ZeroUndefined, GroupUndefined, PrecisionUndefined, LengthUndefined, TooLong, CountUndefined, Mixed, MissingArgument, TwoTypes}
 use Rattle.pf_signatures.specs.declared.types.ArgumentType.{ArgumentType}

@@ -1,7 +1,7 @@
 -- What the laws say, and what the calls answer.
 use Rattle.std.specs.Prelude.{◌≡◌, ◌≢◌, ℕ, ◌<◌, List, [], ◌∷◌, length, slice_get, ◌⊎◌, Option, Some, None, ⊤}
 use Rattle.pf_values.specs.declared.models.Model.{Model}
-use Rattle.pf_values.specs.Text.{Text}
+use Rattle.pf_values.specs.meaning.Text.{Text}
 use Rattle.pf_signatures.specs.declared.fitting.FitsRefusal.{FitsRefusal}
 use Rattle.pf_signatures.specs.declared.fitting.FitsRefusal.TheVariants as refusals
 use Rattle.pf_signatures.specs.declared.kinds.SignatureRefusalKind.{SignatureRefusalKind}

@@ -3,8 +3,8 @@ use Rattle.std.specs.Prelude.{ℕ, ◌&&◌, Bool, nat_le, ◌==◌, List, [], �
 use Rattle.pf_values.specs.declared.conversions.Conv.TheVariants.{D, I, U, O, X, UpperX, B, C, S}
 use Rattle.pf_values.specs.declared.flags.Flag.{Flag}
 use Rattle.pf_values.specs.declared.lengths.Length.TheVariants as lengths
-use Rattle.pf_values.specs.Flags.{all_flags, flag_byte}
-use Rattle.pf_values.specs.Text.{zero_digit}
+use Rattle.pf_values.specs.meaning.Flags.{all_flags, flag_byte}
+use Rattle.pf_values.specs.meaning.Text.{zero_digit}
 use Rattle.pf_signatures.specs.declared.conversions.Conversion.{Conversion}
 use Rattle.pf_signatures.specs.declared.conversions.Conversion.TheVariants.{Profile, Float, UpperC, UpperS, Pointer, Count}
 use Rattle.pf_signatures.specs.declared.conversions.Floating.TheVariants as floats

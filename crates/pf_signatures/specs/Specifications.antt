@@ -1,9 +1,9 @@
 -- The parts of a conversion specification of the whole language, defined or not.
 use Rattle.std.specs.Prelude.{ℕ, Option, codes}
 use Rattle.pf_values.specs.declared.flags.FlagSet.{FlagSet}
-use Rattle.pf_values.specs.Conversions.{conv_letter}
-use Rattle.pf_values.specs.Lengths.{length_letters}
-use Rattle.pf_values.specs.Text.{Text}
+use Rattle.pf_values.specs.meaning.Conversions.{conv_letter}
+use Rattle.pf_values.specs.meaning.Lengths.{length_letters}
+use Rattle.pf_values.specs.meaning.Text.{Text}
 use Rattle.pf_signatures.specs.declared.conversions.Conversion.{Conversion}
 use Rattle.pf_signatures.specs.declared.conversions.Conversion.TheVariants.{Profile, Float, UpperC, UpperS, Pointer, Count}
 use Rattle.pf_signatures.specs.declared.conversions.Floating.{Floating}

@@ -3,10 +3,10 @@ use Rattle.std.specs.Prelude.{◌≡◌, ℕ, ◌<◌, ◌≤◌, false, List, [
 use Rattle.pf_values.specs.declared.flags.Flag.{Flag}
 use Rattle.pf_values.specs.declared.flags.FlagSet.{FlagSet}
 use Rattle.pf_values.specs.declared.limits.TheConstants.{MAX_NUMBER}
-use Rattle.pf_values.specs.Digits.{IsNumeral}
-use Rattle.pf_values.specs.Flags.{flag_byte, flag_set}
-use Rattle.pf_values.specs.Spelling.{SpellsPrecision}
-use Rattle.pf_values.specs.Text.{Text, dollar, percent, point, star}
+use Rattle.pf_values.specs.meaning.Digits.{IsNumeral}
+use Rattle.pf_values.specs.meaning.Flags.{flag_byte, flag_set}
+use Rattle.pf_values.specs.meaning.Spelling.{SpellsPrecision}
+use Rattle.pf_values.specs.meaning.Text.{Text, dollar, percent, point, star}
 use Rattle.pf_signatures.specs.Specifications.{Amount, Given, Fetched, WholeSpecification, conversion_letter, modifier_letters}
 
 -- a number from 1 on within the limit; its digits don't begin with 0, which is a flag

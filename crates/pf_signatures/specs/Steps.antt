@@ -1,7 +1,7 @@
 -- Two formats read side by side, as the code reads them. No public contract speaks of it.
 use Rattle.std.specs.Prelude.{ℕ, ◌≤◌, List, length, Option, Some, None, ◌⊎◌, if◌then◌else◌, ◌==◌}
 use Rattle.pf_values.specs.declared.models.Model.{Model}
-use Rattle.pf_values.specs.Text.{Text}
+use Rattle.pf_values.specs.meaning.Text.{Text}
 use Rattle.pf_signatures.specs.declared.reader.Next.{Next}
 use Rattle.pf_signatures.specs.declared.reader.Next.TheVariants as nexts
 use Rattle.pf_signatures.specs.declared.stepping.Pair.{Pair}

@@ -8,9 +8,9 @@ use Rattle.pf_values.specs.declared.lengths.Length.TheVariants as lengths
 use Rattle.pf_values.specs.declared.models.Model.{Model}
 use Rattle.pf_values.specs.declared.types.ArgType.{ArgType}
 use Rattle.pf_values.specs.declared.types.ArgType.TheVariants as profile
-use Rattle.pf_values.specs.Conversions.{kind_of}
-use Rattle.pf_values.specs.DataModel.{signed_type, unsigned_type}
-use Rattle.pf_values.specs.Lengths.{is_long}
+use Rattle.pf_values.specs.meaning.Conversions.{kind_of}
+use Rattle.pf_values.specs.meaning.DataModel.{signed_type, unsigned_type}
+use Rattle.pf_values.specs.meaning.Lengths.{is_long}
 use Rattle.pf_signatures.specs.declared.conversions.Conversion.{Conversion}
 use Rattle.pf_signatures.specs.declared.conversions.Conversion.TheVariants as conversions
 use Rattle.pf_signatures.specs.declared.conversions.Modifier.{Modifier}

@@ -1,7 +1,7 @@
 -- A walk through a text, as the code makes it. No public contract speaks of it.
 use Rattle.std.specs.Prelude.{◌≡◌, ℕ, ◌+◌, ◌<◌, ◌≤◌, length, drop}
 use Rattle.pf_values.specs.declared.models.Model.{Model}
-use Rattle.pf_values.specs.Text.{Text}
+use Rattle.pf_values.specs.meaning.Text.{Text}
 use Rattle.pf_signatures.specs.declared.reader.Next.{Next}
 use Rattle.pf_signatures.specs.declared.reader.Next.TheVariants as nexts
 use Rattle.pf_signatures.specs.declared.reader.Reader.{Reader}

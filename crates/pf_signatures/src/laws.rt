@@ -2,10 +2,10 @@
 //! place.
 ghost use Rattle.std.specs.Prelude.{◌≡◌, ◌++◌, ◌<◌, ℕ, List, None, length, map};
 ghost use Rattle.pf_values.specs.declared.models.Model.{Model as model_of_data};
-ghost use Rattle.pf_values.specs.Items.{HasItems, IsAccepted, Item, types};
-ghost use Rattle.pf_values.specs.Printing.{AreEquivalent};
-ghost use Rattle.pf_values.specs.Tables.{HasEachOnce};
-ghost use Rattle.pf_values.specs.Text.{Text};
+ghost use Rattle.pf_values.specs.meaning.Items.{HasItems, IsAccepted, Item, types};
+ghost use Rattle.pf_values.specs.meaning.Printing.{AreEquivalent};
+ghost use Rattle.pf_values.specs.Laws.{HasEachOnce};
+ghost use Rattle.pf_values.specs.meaning.Text.{Text};
 ghost use Rattle.pf_signatures.specs.declared.kinds.SignatureRefusalKind.{SignatureRefusalKind};
 ghost use Rattle.pf_signatures.specs.declared.kinds.TheConstants.SignatureRefusalKind.{ALL as every_kind};
 ghost use Rattle.pf_signatures.specs.declared.types.ArgumentType.{ArgumentType};

@@ -1,6 +1,6 @@
 //! The parts of a specification before its length modifier.
 ghost use Rattle.std.specs.Prelude.{◌≡◌, true};
-ghost use Rattle.pf_values.specs.Flags.{with_flag};
+ghost use Rattle.pf_values.specs.meaning.Flags.{with_flag};
 ghost use Rattle.pf_signatures.specs.States.{parts_at, with_width};
 
 use pf_values::{Flag, FlagSet};

@@ -3,7 +3,7 @@ ghost use Rattle.std.specs.Prelude.{◌≡◌, ◌+◌, ◌<◌, ◌≤◌, leng
 ghost use Rattle.memchr.specs.Find.{Nowhere, Passes, is_byte2};
 ghost use Rattle.pf_values.specs.declared.limits.TheConstants.{MAX_TEXT_LEN as LIMIT};
 ghost use Rattle.pf_values.specs.declared.models.Model.{Model as ModelOf};
-ghost use Rattle.pf_values.specs.Text.{Text, percent};
+ghost use Rattle.pf_values.specs.meaning.Text.{Text, percent};
 ghost use Rattle.pf_signatures.specs.declared.reader.Reader.{Reader as ReaderOf};
 ghost use Rattle.pf_signatures.specs.Readings.{Fetches, read, reading};
 ghost use Rattle.pf_signatures.specs.declared.parts.Style.TheVariants.{Unnumbered};

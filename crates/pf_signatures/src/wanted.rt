@@ -2,8 +2,8 @@
 ghost use Rattle.std.specs.Prelude.{◌≡◌, if◌then◌else◌};
 ghost use Rattle.pf_signatures.specs.Types.{counted_type, floating_type, kind_type, plain_length, type_of, widened};
 ghost use Rattle.pf_signatures.specs.declared.types.ArgumentType.TheVariants.{Int, Str, WideChar, WideString};
-ghost use Rattle.pf_values.specs.DataModel.{signed_type, unsigned_type};
-ghost use Rattle.pf_values.specs.Lengths.{is_long};
+ghost use Rattle.pf_values.specs.meaning.DataModel.{signed_type, unsigned_type};
+ghost use Rattle.pf_values.specs.meaning.Lengths.{is_long};
 
 use crate::conversions::{Conversion, Modifier};
 use crate::types::ArgumentType;

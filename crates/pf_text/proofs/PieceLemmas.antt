@@ -3,9 +3,9 @@ use Rattle.std.proofs.Common.{◌≡◌, ℕ, ◌≢◌, ◌<◌, ◌≤◌, Boo
 use denote.Ref.{Bor}
 use Rattle.std.proofs.lemmas.List.{append_assoc, append-nil, length_push, length-take-le, take-append-drop}
 use Rattle.pf_values.specs.declared.limits.TheConstants.{MAX_TEXT_LEN}
-use Rattle.pf_values.specs.Items.{Item, Byte, Reads}
-use Rattle.pf_values.specs.Refusals.{IsRefusedAt}
-use Rattle.pf_values.specs.Text.{Text}
+use Rattle.pf_values.specs.meaning.Items.{Item, Byte, Reads}
+use Rattle.pf_values.specs.meaning.Refusals.{IsRefusedAt}
+use Rattle.pf_values.specs.meaning.Text.{Text}
 use Rattle.pf_text.specs.declared.pieces.Piece.{Piece}
 use Rattle.pf_text.specs.declared.pieces.Piece.TheVariants as pieces
 use Rattle.pf_text.specs.declared.pieces.Pieces.{Pieces}

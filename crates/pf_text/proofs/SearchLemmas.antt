@@ -8,7 +8,7 @@ use Rattle.std.proofs.lemmas.Simd.{length-chunk, mask_l-mod, none_from_empty_mas
 use lib.Count.{count_trailing_zeros}
 use lib.Lanes.{chunk, mask_l, top}
 use Rattle.memchr.specs.Find.{NoneBefore, Nowhere, Passes, is_byte2}
-use Rattle.pf_values.specs.Text.{Text}
+use Rattle.pf_values.specs.meaning.Text.{Text}
 
 -- what a search after the first bytes finds, where none of those passes the test
 module _ (test : ℕ → Bool) (text : Text) (seen : ℕ) (within : seen ≤ length text) (none : Nowhere (Passes test text) 0 seen) where

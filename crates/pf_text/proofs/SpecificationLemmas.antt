@@ -11,10 +11,10 @@ use Rattle.std.proofs.lemmas.List.{append_assoc, append-nil, map_push, take_more
 use Rattle.pf_values.specs.declared.flags.Flag.{Flag}
 use Rattle.pf_values.specs.declared.flags.FlagSet.{FlagSet}
 use Rattle.pf_values.specs.declared.limits.TheConstants.{MAX_NUMBER}
-use Rattle.pf_values.specs.Defined.{is_above_limit}
-use Rattle.pf_values.specs.Flags.{flag_byte, flag_set, no_flags, with_flag}
-use Rattle.pf_values.specs.Spelling.{SpellsPrecision, SpellsWidth}
-use Rattle.pf_values.specs.Text.{Text}
+use Rattle.pf_values.specs.meaning.Defined.{is_above_limit}
+use Rattle.pf_values.specs.meaning.Flags.{flag_byte, flag_set, no_flags, with_flag}
+use Rattle.pf_values.specs.meaning.Spelling.{SpellsPrecision, SpellsWidth}
+use Rattle.pf_values.specs.meaning.Text.{Text}
 use Rattle.pf_text.specs.Letters.{flag_of}
 use Rattle.pf_text.specs.Places.{GoesOn, Stands}
 use Rattle.pf_text.specs.States.{is_digit}

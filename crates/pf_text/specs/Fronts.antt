@@ -4,11 +4,11 @@ use Rattle.pf_values.specs.declared.flags.Flag.{Flag}
 use Rattle.pf_values.specs.declared.flags.FlagSet.{FlagSet}
 use Rattle.pf_values.specs.declared.lengths.Length.{Length}
 use Rattle.pf_values.specs.declared.lengths.Length.TheVariants as lengths
-use Rattle.pf_values.specs.Defined.{is_above_limit}
-use Rattle.pf_values.specs.Flags.{flag_byte, flag_set}
-use Rattle.pf_values.specs.Lengths.{length_letters}
-use Rattle.pf_values.specs.Spelling.{SpellsWidth, SpellsPrecision}
-use Rattle.pf_values.specs.Text.{Text, percent, point}
+use Rattle.pf_values.specs.meaning.Defined.{is_above_limit}
+use Rattle.pf_values.specs.meaning.Flags.{flag_byte, flag_set}
+use Rattle.pf_values.specs.meaning.Lengths.{length_letters}
+use Rattle.pf_values.specs.meaning.Spelling.{SpellsWidth, SpellsPrecision}
+use Rattle.pf_values.specs.meaning.Text.{Text, percent, point}
 use Rattle.pf_text.specs.Stages.{State}
 use Rattle.pf_text.specs.Stages.{Between, Opened, Flags, Width, Point, Precision, Modifier}
 

@@ -8,9 +8,9 @@ use Rattle.pf_values.specs.declared.lengths.Length.{Length}
 use Rattle.pf_values.specs.declared.lengths.Length.TheVariants as lengths
 use Rattle.pf_values.specs.declared.refusals.RefusalKind.{RefusalKind}
 use Rattle.pf_values.specs.declared.refusals.RefusalKind.TheVariants.{NulByte, BadPercent, Float, Pointer, Count, Wide, Unexpected}
-use Rattle.pf_values.specs.Conversions.{conv_letter}
-use Rattle.pf_values.specs.Flags.{all_flags, flag_byte, has}
-use Rattle.pf_values.specs.Text.{Text, percent}
+use Rattle.pf_values.specs.meaning.Conversions.{conv_letter}
+use Rattle.pf_values.specs.meaning.Flags.{all_flags, flag_byte, has}
+use Rattle.pf_values.specs.meaning.Text.{Text, percent}
 
 -- the flag that a byte is (C11 7.21.6.1 p6, POSIX fprintf)
 abbrev pub flag_of : ℕ → Option Flag

@@ -9,10 +9,11 @@ use Rattle.pf_values.specs.declared.lengths.Length.TheVariants as lengths
 use Rattle.pf_values.specs.declared.limits.TheConstants.{MAX_NUMBER}
 use Rattle.pf_values.specs.declared.refusals.RefusalKind.{RefusalKind}
 use Rattle.pf_values.specs.declared.refusals.RefusalKind.TheVariants.{NulByte, Float, Star, Numbered, WidthTooLarge, PrecisionTooLarge}
-use Rattle.pf_values.specs.Defined.{refused_as}
-use Rattle.pf_values.specs.Flags.{with_flag, no_flags}
-use Rattle.pf_values.specs.Specification.{Specification, specification_of}
-use Rattle.pf_values.specs.Text.{dollar, percent, point, star, zero_digit}
+use Rattle.pf_values.specs.meaning.Defined.{refused_as}
+use Rattle.pf_values.specs.meaning.Flags.{with_flag, no_flags}
+use Rattle.pf_values.specs.meaning.Specification.{Specification}
+use Rattle.pf_values.specs.Directives.{specification_of}
+use Rattle.pf_values.specs.meaning.Text.{dollar, percent, point, star, zero_digit}
 use Rattle.pf_text.specs.declared.scanner.Step.{Step}
 use Rattle.pf_text.specs.declared.scanner.Step.TheVariants.{More, Byte, Percent, Directive}
 use Rattle.pf_text.specs.Stages.{State}

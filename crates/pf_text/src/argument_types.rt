@@ -1,7 +1,7 @@
 //! Reading the argument types of a format.
 ghost use Rattle.std.specs.Prelude.{◌≡◌, ◌≤◌, [], MatchResult};
 ghost use Rattle.std.specs.Option.{option_to_list};
-ghost use Rattle.pf_values.specs.Items.{types};
+ghost use Rattle.pf_values.specs.meaning.Items.{types};
 ghost use Rattle.pf_text.specs.PieceHistory.{items_of};
 ghost use Rattle.pf_text.specs.Signatures.{TakesTypes, HindersSignature, types_of};
 

@@ -3,12 +3,12 @@
 //! others are about whole runs of `Pieces` and of `Scanner`, and their functions make such a run.
 ghost use Rattle.std.specs.Prelude.{◌≡◌, ℕ, List, flat_map, IfOk};
 ghost use Rattle.pf_values.specs.declared.refusals.RefusalKind.{RefusalKind};
-ghost use Rattle.pf_values.specs.Defined.{IsDefined};
-ghost use Rattle.pf_values.specs.Items.{Item, Reads};
-ghost use Rattle.pf_values.specs.Refusals.{IsRefusedAt};
-ghost use Rattle.pf_values.specs.Specification.{Specification};
-ghost use Rattle.pf_values.specs.Spelling.{Spells, spelling_of};
-ghost use Rattle.pf_values.specs.Text.{Text};
+ghost use Rattle.pf_values.specs.meaning.Defined.{IsDefined};
+ghost use Rattle.pf_values.specs.meaning.Items.{Item, Reads};
+ghost use Rattle.pf_values.specs.meaning.Refusals.{IsRefusedAt};
+ghost use Rattle.pf_values.specs.meaning.Specification.{Specification};
+ghost use Rattle.pf_values.specs.meaning.Spelling.{Spells, spelling_of};
+ghost use Rattle.pf_values.specs.meaning.Text.{Text};
 ghost use Rattle.pf_text.specs.PieceHistory.{items_of};
 ghost use Rattle.pf_text.specs.WholeRuns.{HasRun, ended_by};
 

@@ -1,7 +1,7 @@
 //! The search for the end of a run of items that stand in a text as its canonical text has them.
 ghost use Rattle.std.specs.Prelude.{◌≡◌, ◌<◌, ◌≤◌, [], ◌∷◌, ◌*◌, List, drop, length, take, IsTrue, ◌↔◌};
 ghost use Rattle.memchr.specs.Find.{Passes, is_byte2};
-ghost use Rattle.pf_values.specs.Items.{Item, Reads};
+ghost use Rattle.pf_values.specs.meaning.Items.{Item, Reads};
 ghost use Rattle.pf_values.specs.declared.models.Model.{Model};
 ghost use Rattle.pf_text.specs.Plain.{BeginsSilent, IsPlainText, silents};
 

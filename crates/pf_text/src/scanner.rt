@@ -1,8 +1,8 @@
 //! A reader of a format, byte by byte.
 ghost use Rattle.std.specs.Prelude.{◌≡◌, ◌+◌, ◌*◌, ◌≤◌, ◌<◌, ◌∷◌, false, length, take, List, [], None, MatchBool, MatchOption, MatchResult, OnOk, Ok, Err, ⊤};
 ghost use Rattle.pf_values.specs.declared.limits.TheConstants.{MAX_TEXT_LEN};
-ghost use Rattle.pf_values.specs.Items.{Item, Reads};
-ghost use Rattle.pf_values.specs.Text.{Text};
+ghost use Rattle.pf_values.specs.meaning.Items.{Item, Reads};
+ghost use Rattle.pf_values.specs.meaning.Text.{Text};
 ghost use Rattle.pf_values.specs.declared.models.Model.{Model};
 ghost use Rattle.pf_text.specs.Plain.{PassesPlain, PassesSilents};
 ghost use Rattle.pf_text.specs.Stages.{state_of};

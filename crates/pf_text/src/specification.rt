@@ -3,14 +3,14 @@
 ghost use Rattle.std.specs.Prelude.{◌≡◌, ◌+◌, ◌<◌, ◌≤◌, List, [], ◌∷◌, ◌++◌, false, length, map, take, MatchOption, ⊤};
 ghost use Rattle.pf_values.specs.declared.flags.Flag.{Flag};
 ghost use Rattle.pf_values.specs.declared.limits.TheConstants.{MAX_NUMBER};
-ghost use Rattle.pf_values.specs.Conversions.{conv_letter};
-ghost use Rattle.pf_values.specs.Defined.{is_above_limit};
-ghost use Rattle.pf_values.specs.Flags.{flag_byte, flag_set};
-ghost use Rattle.pf_values.specs.Items.{IsReadAs};
-ghost use Rattle.pf_values.specs.Items as items;
-ghost use Rattle.pf_values.specs.Lengths.{length_letters};
-ghost use Rattle.pf_values.specs.Spelling.{SpellsPrecision, SpellsWidth};
-ghost use Rattle.pf_values.specs.Text.{Text, percent};
+ghost use Rattle.pf_values.specs.meaning.Conversions.{conv_letter};
+ghost use Rattle.pf_values.specs.meaning.Defined.{is_above_limit};
+ghost use Rattle.pf_values.specs.meaning.Flags.{flag_byte, flag_set};
+ghost use Rattle.pf_values.specs.meaning.Items.{IsReadAs};
+ghost use Rattle.pf_values.specs.meaning.Items as items;
+ghost use Rattle.pf_values.specs.meaning.Lengths.{length_letters};
+ghost use Rattle.pf_values.specs.meaning.Spelling.{SpellsPrecision, SpellsWidth};
+ghost use Rattle.pf_values.specs.meaning.Text.{Text, percent};
 ghost use Rattle.pf_text.specs.Places.{GoesOn, Stands};
 
 use crate::letters::{conv_of, flag_of, modifier_of};

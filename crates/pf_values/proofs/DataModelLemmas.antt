@@ -5,7 +5,7 @@ use Rattle.pf_values.specs.declared.lengths.Length.TheVariants as lengths
 use Rattle.pf_values.specs.declared.models.Model.{Model}
 use Rattle.pf_values.specs.declared.models.Rank.{Rank}
 use Rattle.pf_values.specs.declared.models.Rank.TheVariants as ranks
-use Rattle.pf_values.specs.DataModel.{Row, greatest_rank, row_of, row_of_rank, size_rank}
+use Rattle.pf_values.specs.meaning.DataModel.{Row, greatest_rank, row_of, row_of_rank, size_rank}
 
 -- What holds of the rows of `hh`, of `h`, of no modifier, of `l` and of `ll` holds of all.
 module _ (model : Model) (P : Row → Type 0) (hh : P (row_of model lengths.Hh)) (h : P (row_of model lengths.H))

@@ -20,7 +20,7 @@ use Rattle.pf_values.specs.declared.models.TheConstants.Model.{ALL as all_models
 use Rattle.pf_values.specs.declared.refusals.RefusalKind.{RefusalKind}
 use Rattle.pf_values.specs.declared.refusals.RefusalKind.TheVariants as refusals
 use Rattle.pf_values.specs.declared.refusals.TheConstants.RefusalKind.{ALL as all_refusals}
-use Rattle.pf_values.specs.Tables.{HasEachOnce, StandsOnce}
+use Rattle.pf_values.specs.Laws.{HasEachOnce, StandsOnce}
 
 -- A value stands where its place says, and none of the others has that place.
 module _ {A : Type 0} (place : A → ℕ) where

@@ -11,14 +11,14 @@ use Rattle.std.proofs.lemmas.Bool.{cases_lt}
 use Rattle.std.proofs.lemmas.Bool.Decides.{nat_tests}
 use Rattle.std.proofs.lemmas.Int.Digits.{first_digits_of}
 use Rattle.std.proofs.lemmas.List.{length-append, length-map}
-use Rattle.pf_values.specs.Digits.{IsNumeral, IsLeastFrom}
-use Rattle.pf_values.specs.Flags.{has}
-use Rattle.pf_values.specs.Bases.{number_of}
-use Rattle.pf_values.specs.Conversions.{base_of, base_under, is_octal, is_upper, kind_of}
+use Rattle.pf_values.specs.meaning.Digits.{IsNumeral, IsLeastFrom}
+use Rattle.pf_values.specs.meaning.Flags.{has}
+use Rattle.pf_values.specs.meaning.Bases.{number_of}
+use Rattle.pf_values.specs.meaning.Conversions.{base_of, base_under, is_octal, is_upper, kind_of}
 use Rattle.pf_values.specs.declared.flags.Flag.TheVariants.{Alt}
-use Rattle.pf_values.specs.Printing.{AreDigitsOf, IsOctalFromZero, BeginsWithZero, IsPrecision, ReachesWidth, is_zero_filled, sign_or_prefix}
-use Rattle.pf_values.specs.Specification.{Specification, width_of}
-use Rattle.pf_values.specs.Text.{Text}
+use Rattle.pf_values.specs.meaning.Printing.{AreDigitsOf, IsOctalFromZero, BeginsWithZero, IsPrecision, ReachesWidth, is_zero_filled, sign_or_prefix}
+use Rattle.pf_values.specs.meaning.Specification.{Specification, width_of}
+use Rattle.pf_values.specs.meaning.Text.{Text}
 use Rattle.pf_values.proofs.Numerals.{least_digits, length-least_digits, AreLeastDigits-exist, AreLeastDigits-unique}
 
 pub IsLeastFrom-unique : (low : ℕ) (P : ℕ → Type 0) (m n : ℕ) → IsLeastFrom low P m → IsLeastFrom low P n → m ≡ n

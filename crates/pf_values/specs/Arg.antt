@@ -5,8 +5,8 @@ use Rattle.pf_values.specs.declared.arguments.Arg.TheVariants as variants
 use Rattle.pf_values.specs.declared.arguments.CBytes.{CBytes}
 use Rattle.pf_values.specs.declared.types.ArgType.{ArgType}
 use Rattle.pf_values.specs.declared.types.ArgType.TheVariants.{Int, UInt, Long, ULong, LongLong, ULongLong, Str}
-use Rattle.pf_values.specs.Arguments.{Argument, Number, String}
-use Rattle.pf_values.specs.Text.{Text}
+use Rattle.pf_values.specs.meaning.Arguments.{Argument, Number, String}
+use Rattle.pf_values.specs.meaning.Text.{Text}
 
 -- the bytes of a string, without the null character that ends it in C (C11 7.1.1 p1)
 abbrev pub bytes_of : CBytes → Text

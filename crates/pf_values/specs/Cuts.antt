@@ -1,7 +1,7 @@
 -- What a clause sees of a writer with little room. This project's own.
 use Rattle.std.specs.Prelude.{◌≡◌, ℕ, ◌-◌, Bool, length, take}
 use Rattle.std.specs.declared.io.ErrorKind.{ErrorKind}
-use Rattle.pf_values.specs.Text.{Text}
+use Rattle.pf_values.specs.meaning.Text.{Text}
 use Rattle.pf_values.specs.declared.devices.cutting.Cut.{Cut}
 
 -- the bytes that it has taken, which fill the front of its place

@@ -55,8 +55,8 @@ pub enum Arg<'a> {
 impl<'a> Arg<'a> {
     ghost use Rattle.pf_values.specs.Arg.{argument_of, type_of};
     ghost use Rattle.pf_values.specs.declared.models.Model.TheVariants.{Lp64};
-    ghost use Rattle.pf_values.specs.Arguments.{HasType, Number, String};
-    ghost use Rattle.pf_values.specs.Text.{Text};
+    ghost use Rattle.pf_values.specs.meaning.Arguments.{HasType, Number, String};
+    ghost use Rattle.pf_values.specs.meaning.Text.{Text};
 
     /// The type of the argument.
     pub fn arg_type(self) -> ArgType

@@ -1,14 +1,14 @@
 //! The data models: what a length modifier says, and how many bits a type has.
 ghost use Rattle.std.specs.Prelude.{◌≡◌, ◌↔◌, IsTrue, false, true};
-ghost use Rattle.pf_values.specs.Bits.{Bits, bit_count};
-ghost use Rattle.pf_values.specs.DataModel.{
-  FitsIn,
-  bits_under,
-  kept_length,
-  row_of_rank,
-  signed_type,
-  type_bits,
-  unsigned_type,
+ghost use Rattle.pf_values.specs.meaning.Bits.{Bits, bit_count};
+ghost use Rattle.pf_values.specs.meaning.DataModel.{
+    FitsIn,
+    bits_under,
+    kept_length,
+    row_of_rank,
+    signed_type,
+    type_bits,
+    unsigned_type,
 };
 
 use crate::lengths::Length;

@@ -1,11 +1,16 @@
 //! Directives: conversion specifications that the standard defines, within the limits.
 ghost use Rattle.std.specs.Prelude.{◌≡◌, ◌≤◌, MatchResult};
 ghost use Rattle.pf_values.specs.declared.limits.TheConstants.{MAX_NUMBER};
-ghost use Rattle.pf_values.specs.Defined.{IsDefined, first_broken, refused_as, undefined_kinds};
-ghost use Rattle.pf_values.specs.Specification.{specification_of};
-ghost use Rattle.pf_values.specs.DataModel.{arg_type, value_bits};
-ghost use Rattle.pf_values.specs.Normal.{digits_at_most, effective_precision};
-ghost use Rattle.pf_values.specs.Printing.{is_zero_filled};
+ghost use Rattle.pf_values.specs.meaning.Defined.{
+    IsDefined,
+    first_broken,
+    refused_as,
+    undefined_kinds,
+};
+ghost use Rattle.pf_values.specs.Directives.{specification_of, value_bits, effective_precision};
+ghost use Rattle.pf_values.specs.meaning.DataModel.{arg_type};
+ghost use Rattle.pf_values.specs.meaning.Normal.{digits_at_most};
+ghost use Rattle.pf_values.specs.meaning.Printing.{is_zero_filled};
 
 use crate::bases::by_bits;
 use crate::conversions::{Conv, Kind};
@@ -29,8 +34,8 @@ pub struct Directive {
 }
 
 impl Model for Directive {
-    ghost use Rattle.pf_values.specs.Specification.{Specification};
-    ghost use Rattle.pf_values.specs.Defined.{IsDefined};
+    ghost use Rattle.pf_values.specs.meaning.Specification.{Specification};
+    ghost use Rattle.pf_values.specs.meaning.Defined.{IsDefined};
 
     ghost Value = { Specification };
 

@@ -1,7 +1,7 @@
 //! Length modifiers.
 ghost use Rattle.std.specs.Prelude.{◌≡◌};
-ghost use Rattle.pf_values.specs.DataModel.{kept_length};
-ghost use Rattle.pf_values.specs.Lengths.{is_long, is_plain};
+ghost use Rattle.pf_values.specs.meaning.DataModel.{kept_length};
+ghost use Rattle.pf_values.specs.meaning.Lengths.{is_long, is_plain};
 
 use crate::data_model::row_of;
 use crate::models::Model;

@@ -3,7 +3,7 @@ ghost use Rattle.std.specs.Prelude.{IsTrue, [], ◌∷◌, IfSome, List};
 ghost use Rattle.pf_values.specs.declared.types.ArgType.TheVariants as types;
 ghost use Rattle.pf_values.specs.declared.models.Model.TheVariants.{Lp64};
 ghost use Rattle.pf_text.specs.Signatures.{TakesTypes};
-ghost use Rattle.pf_values.specs.Items.{HasItems, Item, types};
+ghost use Rattle.pf_values.specs.meaning.Items.{HasItems, Item, types};
 ghost use Rattle.pf_render.specs.Rendering.{DifferFirstAt};
 
 use pf_compare::{Verdict, compare};

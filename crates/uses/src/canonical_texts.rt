@@ -1,8 +1,8 @@
 //! Whether a format is its own canonical string, whether that fits, and a copy of it.
 ghost use Rattle.std.specs.Prelude.{IsTrue, ◌≤◌, length, ℕ};
-ghost use Rattle.pf_values.specs.Canonical.{IsCanonicalText};
-ghost use Rattle.pf_values.specs.Items.{IsAccepted};
-ghost use Rattle.pf_values.specs.Text.{Text};
+ghost use Rattle.pf_values.specs.meaning.Canonical.{IsCanonicalText};
+ghost use Rattle.pf_values.specs.meaning.Items.{IsAccepted};
+ghost use Rattle.pf_values.specs.meaning.Text.{Text};
 ghost use Rattle.pf_canon.specs.Answers.{IsCanonicalFor};
 ghost use Rattle.pf_values.specs.Counting.{device_of};
 ghost use Rattle.pf_canon.specs.Copying.{CopiesAll};

@@ -3,8 +3,8 @@ ghost use Rattle.std.specs.Prelude.{◌≡◌, IfSome, None, Some};
 ghost use Rattle.pf_values.specs.declared.conversions.Conv.TheVariants as conversions;
 ghost use Rattle.pf_values.specs.declared.flags.Flag.TheVariants as flags;
 ghost use Rattle.pf_values.specs.declared.lengths.Length.TheVariants as lengths;
-ghost use Rattle.pf_values.specs.Flags.{no_flags, with_flag};
-ghost use Rattle.pf_values.specs.Specification.{specification_of};
+ghost use Rattle.pf_values.specs.meaning.Flags.{no_flags, with_flag};
+ghost use Rattle.pf_values.specs.Directives.{specification_of};
 ghost use Rattle.pf_reduce.specs.declared.results.Reduced.{Reduced};
 ghost use Rattle.pf_reduce.specs.Reducing.{IsReducedTo};
 

@@ -1,8 +1,8 @@
 //! Where a format is refused, and a line that is printed by one.
 ghost use Rattle.std.specs.Prelude.{IfNone, IfSome, [], ◌∷◌, codes};
 ghost use Rattle.pf_values.specs.declared.refusals.RefusalKind.{RefusalKind};
-ghost use Rattle.pf_values.specs.Items.{IsAccepted};
-ghost use Rattle.pf_values.specs.Refusals.{IsRefusedAt};
+ghost use Rattle.pf_values.specs.meaning.Items.{IsAccepted};
+ghost use Rattle.pf_values.specs.meaning.Refusals.{IsRefusedAt};
 ghost use Rattle.pf_values.specs.declared.arguments.Arg.TheVariants as args;
 ghost use Rattle.pf_values.specs.declared.models.Model.TheVariants.{Lp64};
 ghost use Rattle.pf_render.specs.Rendering.{RendersInto};

@@ -1,6 +1,6 @@
 //! Whether one format may be put in the place of another, and arguments that show a difference.
 ghost use Rattle.std.specs.Prelude.{◌↔◌, IfSome, IsTrue, [], ◌∷◌};
-ghost use Rattle.pf_values.specs.Printing.{AreEquivalent};
+ghost use Rattle.pf_values.specs.meaning.Printing.{AreEquivalent};
 ghost use Rattle.pf_values.specs.declared.arguments.Arg.TheVariants as args;
 ghost use Rattle.pf_compare.specs.Answers.{TellApart};
 

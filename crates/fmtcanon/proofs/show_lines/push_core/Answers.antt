@@ -1,7 +1,7 @@
 use Rattle.std.proofs.Common.{◌++◌, ◌∙◌, ap, codes, sym}
 use Rattle.std.proofs.lemmas.Result.{IfOk-weaker}
 use Rattle.pf_reduce.specs.Reducing.{core_of}
-use Rattle.pf_values.specs.Spelling.{spelling_of}
+use Rattle.pf_values.specs.meaning.Spelling.{spelling_of}
 use Rattle.fmtcanon.proofs.ShowLemmas.{if_written, silent_spelled}
 use Rattle.fmtcanon.proofs.show_lines.push_core.Goals as goal
 

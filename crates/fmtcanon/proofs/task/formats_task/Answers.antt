@@ -1,6 +1,6 @@
 use Rattle.std.proofs.Common.{◌≢◌, Bool, Option, codes, length, refl, subst, sym}
 use Rattle.std.specs.Prelude.{if◌then◌else◌}
-use Rattle.pf_values.specs.Text.{Text}
+use Rattle.pf_values.specs.meaning.Text.{Text}
 use Rattle.fmtcanon.specs.Questions.{formats_wanted}
 use Rattle.fmtcanon.specs.Tasks.{formats_in, rows_in}
 use Rattle.fmtcanon.proofs.TaskLemmas.{misplaced_any, none_there, some_there}

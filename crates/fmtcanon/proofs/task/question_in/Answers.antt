@@ -1,6 +1,6 @@
 use Rattle.std.proofs.Common.{◌≡◌, ◌≢◌, ◌∙◌, Option, Some, ap, codes, length, subst}
 use Rattle.std.specs.Prelude.{MatchOption}
-use Rattle.pf_values.specs.Text.{Text}
+use Rattle.pf_values.specs.meaning.Text.{Text}
 use Rattle.fmtcanon.specs.Questions.{IsAbout, formats_wanted}
 use Rattle.fmtcanon.specs.Tasks.{rows_in}
 use Rattle.fmtcanon.proofs.TaskLemmas.{formats_are, none_there, none_wanted}

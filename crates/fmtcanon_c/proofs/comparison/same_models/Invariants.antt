@@ -1,6 +1,6 @@
 use Rattle.std.proofs.Common.{◌≡◌, ◌<◌, ◌≤◌, ◌^◌, take}
 use Rattle.pf_values.specs.declared.models.TheConstants.Model.{ALL}
-use Rattle.pf_values.specs.Items.{IsAccepted}
+use Rattle.pf_values.specs.meaning.Items.{IsAccepted}
 use Rattle.fmtcanon_c.specs.Calls.{AreSameModels}
 use Rattle.fmtcanon_c.proofs.SamenessLemmas.{weight_after}
 use Rattle.fmtcanon_c.proofs.comparison.same_models.Given as goal

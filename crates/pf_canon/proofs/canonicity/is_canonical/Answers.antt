@@ -1,8 +1,8 @@
 use Rattle.std.proofs.Common.{◌↔◌, subst, take}
 use Rattle.std.specs.Prelude.{IsTrue}
 use Rattle.std.proofs.lemmas.List.{take_rest}
-use Rattle.pf_values.specs.Canonical.{IsCanonicalText}
-use Rattle.pf_values.specs.Items.{IsAccepted}
+use Rattle.pf_values.specs.meaning.Canonical.{IsCanonicalText}
+use Rattle.pf_values.specs.meaning.Items.{IsAccepted}
 use Rattle.pf_canon.proofs.CutLemmas.{cut_to_end}
 use Rattle.pf_canon.proofs.canonicity.is_canonical.Goals as goal
 

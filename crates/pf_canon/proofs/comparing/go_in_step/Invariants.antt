@@ -1,5 +1,5 @@
 use Rattle.pf_values.specs.declared.models.Model.{Model}
-use Rattle.pf_values.specs.Text.{Text}
+use Rattle.pf_values.specs.meaning.Text.{Text}
 use Rattle.pf_canon.specs.Walks.{HasGiven, to_come}
 use Rattle.pf_canon.proofs.comparing.go_in_step.Given as goal
 

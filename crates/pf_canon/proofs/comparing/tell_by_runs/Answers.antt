@@ -1,8 +1,8 @@
 use Rattle.std.proofs.Common.{◌++◌, arith, subst, take}
 use Rattle.std.proofs.lemmas.List.{take-append-drop, take_rest}
-use Rattle.pf_values.specs.Items.{IsAccepted}
-use Rattle.pf_values.specs.Refusals.{IsRefusedAt}
-use Rattle.pf_values.specs.Text.{Text}
+use Rattle.pf_values.specs.meaning.Items.{IsAccepted}
+use Rattle.pf_values.specs.meaning.Refusals.{IsRefusedAt}
+use Rattle.pf_values.specs.meaning.Text.{Text}
 use Rattle.pf_canon.specs.Walks.{IsWhole}
 use Rattle.pf_canon.proofs.CompareLemmas.{after_run, runs_told, told_other}
 use Rattle.pf_canon.proofs.comparing.tell_by_runs.Goals as goal

@@ -1,6 +1,6 @@
 use Rattle.std.proofs.Common.{length, ◌-◌, ◌≤◌, ◌++◌, List, take}
-use Rattle.pf_values.specs.Items.{Item}
-use Rattle.pf_values.specs.Text.{Text}
+use Rattle.pf_values.specs.meaning.Items.{Item}
+use Rattle.pf_values.specs.meaning.Text.{Text}
 use Rattle.pf_canon.specs.Through.{IsThrough, IsUpTo}
 use Rattle.pf_canon.proofs.fronts.put_behind.Given as goal
 

@@ -1,6 +1,6 @@
 use Rattle.std.proofs.Common.{◌≡◌, ◌++◌}
 use Rattle.pf_values.specs.Counting.{device_of, failures_of}
-use Rattle.pf_values.specs.Text.{Text}
+use Rattle.pf_values.specs.meaning.Text.{Text}
 use Rattle.pf_canon.specs.Streaming.{StreamHistory, reader_of}
 use Rattle.pf_canon.proofs.laws.whole_run.Given as goal
 

@@ -1,7 +1,7 @@
 use Rattle.std.proofs.Common.{◌%◌, drop, subst, sym}
 use Rattle.std.specs.Prelude.{flat_map}
 use Rattle.std.proofs.lemmas.List.{take_rest}
-use Rattle.pf_values.specs.Canonical.{item_spelling}
+use Rattle.pf_values.specs.meaning.Canonical.{item_spelling}
 use Rattle.pf_text.specs.Plain.{silents}
 use Rattle.pf_canon.specs.Parts.{IsFrontOf}
 use Rattle.pf_canon.proofs.PlaceLemmas.{silent_at}

@@ -1,6 +1,6 @@
 use Rattle.std.proofs.Common.{◌≤◌, ◌-◌}
 use Rattle.std.specs.Prelude.{flat_map}
-use Rattle.pf_values.specs.Canonical.{item_spelling}
+use Rattle.pf_values.specs.meaning.Canonical.{item_spelling}
 use Rattle.pf_text.specs.Plain.{silents}
 use Rattle.pf_canon.proofs.sinks.put_silents.Given as goal
 

@@ -2,7 +2,7 @@ use Rattle.std.proofs.Common.{◌≡◌, ◌∙◌, arith, of_z, rules, subst, s
 use Rattle.std.specs.Int.{w128}
 use Rattle.std.proofs.lemmas.Int.{ints}
 use Rattle.pf_values.specs.declared.conversions.Conv.{Conv}
-use Rattle.pf_values.specs.Conversions.{base_of, is_upper}
+use Rattle.pf_values.specs.meaning.Conversions.{base_of, is_upper}
 use Rattle.pf_compare.specs.Outlines.{digits_under, glyphs}
 use Rattle.pf_compare.proofs.OutlineLemmas.{foretold_alike, foretold_unlike}
 use Rattle.pf_compare.proofs.foresight.foretell_integer.Goals as goal

@@ -1,6 +1,6 @@
 use Rattle.std.proofs.Common.{◌≡◌, ◌∙◌, ap, arith}
-use Rattle.pf_values.specs.Bases.{number_of}
-use Rattle.pf_values.specs.Conversions.{base_under, has_capitals}
+use Rattle.pf_values.specs.meaning.Bases.{number_of}
+use Rattle.pf_values.specs.meaning.Conversions.{base_under, has_capitals}
 use Rattle.pf_compare.proofs.OutlineLemmas.{below, one_digit}
 use Rattle.pf_compare.proofs.foresight.is_one_digit.Goals as goal
 

@@ -1,9 +1,9 @@
 use Rattle.std.proofs.Common.{◌≡◌, ◌∙◌, ap, arith, rules, sym}
 use Rattle.std.specs.Prelude.{unwrap_or}
 use Rattle.pf_values.specs.declared.flags.Flag.TheVariants.{Minus}
-use Rattle.pf_values.specs.Flags.{has}
-use Rattle.pf_values.specs.Normal.{precision_of}
-use Rattle.pf_values.specs.Specification.{width_of}
+use Rattle.pf_values.specs.meaning.Flags.{has}
+use Rattle.pf_values.specs.meaning.Normal.{precision_of}
+use Rattle.pf_values.specs.meaning.Specification.{width_of}
 use Rattle.pf_compare.proofs.SpaceLemmas.{limit_leaves}
 use Rattle.pf_compare.proofs.foresight.limit.Goals as goal
 

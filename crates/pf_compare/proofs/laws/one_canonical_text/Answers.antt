@@ -1,12 +1,12 @@
 use Rattle.std.proofs.Common.{◌≡◌, ℕ, Result, Ok, Err, length}
 use Rattle.std.specs.Prelude.{MatchResult}
 use Rattle.pf_values.specs.declared.models.Model.{Model}
-use Rattle.pf_values.specs.Items.{IsAccepted}
-use Rattle.pf_values.specs.Refusals.{IsRefusedAt}
-use Rattle.pf_values.specs.Text.{Text}
+use Rattle.pf_values.specs.meaning.Items.{IsAccepted}
+use Rattle.pf_values.specs.meaning.Refusals.{IsRefusedAt}
+use Rattle.pf_values.specs.meaning.Text.{Text}
 use Rattle.pf_text.specs.declared.refusal.Refusal.{Refusal}
 use Rattle.pf_canon.specs.Answers.{IsCanonicalFor}
-use Rattle.pf_compare.specs.Headline.{HasOneCanonical}
+use Rattle.pf_values.specs.meaning.Headline.{HasOneCanonical}
 use Rattle.pf_compare.proofs.HeadlineLemmas.{only_one}
 use Rattle.pf_compare.proofs.laws.one_canonical_text.Goals as goal
 

@@ -1,8 +1,8 @@
 use Rattle.std.proofs.Common.{◌∙◌, ◌++◌, ap, subst, sym}
 use Rattle.std.proofs.lemmas.Result.{IfOk-weaker}
 use Rattle.pf_values.specs.Arg.{argument_of}
-use Rattle.pf_values.specs.Printing.{Prints}
-use Rattle.pf_values.specs.Text.{Text}
+use Rattle.pf_values.specs.meaning.Printing.{Prints}
+use Rattle.pf_values.specs.meaning.Text.{Text}
 use Rattle.pf_compare.proofs.layouts.print.Goals as goal
 
 pub returns : goal.returns

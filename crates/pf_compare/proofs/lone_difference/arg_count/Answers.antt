@@ -1,5 +1,5 @@
 use Rattle.std.proofs.Common.{length, sym, ap, ◌∙◌}
-use Rattle.pf_values.specs.Items.{types}
+use Rattle.pf_values.specs.meaning.Items.{types}
 use Rattle.pf_values.proofs.ItemTypes.{types-bytes}
 use Rattle.pf_text.specs.PieceHistory.{items_of}
 use Rattle.pf_compare.proofs.lone_difference.arg_count.Goals as goal

@@ -1,11 +1,11 @@
 use Rattle.std.proofs.Common.{◌≡◌, ℕ, length, refl, sym, subst, arith, Some, Option}
 use Rattle.std.specs.Prelude.{slice_get}
 use Rattle.std.proofs.lemmas.Option.{slice_get_read}
-use Rattle.pf_values.specs.DataModel.{arg_type}
-use Rattle.pf_values.specs.Text.{Text}
+use Rattle.pf_values.specs.meaning.DataModel.{arg_type}
+use Rattle.pf_values.specs.meaning.Text.{Text}
 use Rattle.pf_values.specs.Candidates.{neutral, neutrals}
-use Rattle.pf_values.specs.Items.{types}
-use Rattle.pf_values.specs.Printing.{PrintsAll}
+use Rattle.pf_values.specs.meaning.Items.{types}
+use Rattle.pf_values.specs.meaning.Printing.{PrintsAll}
 use Rattle.pf_compare.specs.Layouts.{FillAlike, FindsUnlike, IsInside}
 use Rattle.pf_compare.proofs.ProbeLemmas.{AreTried, as_many, first_hole, found_probe, hole_types_same, neutral_alike, none_found, second_hole, tried_next}
 use Rattle.pf_compare.proofs.probe_search.first_probe.Goals as goal

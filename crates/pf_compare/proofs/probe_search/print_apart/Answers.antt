@@ -1,7 +1,7 @@
 use Rattle.std.proofs.Common.{rules, sym, subst}
 use Rattle.std.proofs.lemmas.Result.{IfOk-weaker}
 use Rattle.pf_values.specs.Arg.{argument_of}
-use Rattle.pf_values.specs.Printing.{Prints}
+use Rattle.pf_values.specs.meaning.Printing.{Prints}
 use Rattle.pf_compare.proofs.ProbeLemmas.{told_here, told_printed}
 use Rattle.pf_compare.proofs.probe_search.print_apart.Goals as goal
 

@@ -1,8 +1,8 @@
 use Rattle.std.proofs.Common.{List, ◌+◌, length}
 use Rattle.std.specs.Prelude.{if◌then◌else◌}
 use Rattle.pf_values.specs.declared.types.ArgType.{ArgType}
-use Rattle.pf_values.specs.Items.{IsAccepted}
-use Rattle.pf_values.specs.Text.{Text}
+use Rattle.pf_values.specs.meaning.Items.{IsAccepted}
+use Rattle.pf_values.specs.meaning.Text.{Text}
 use Rattle.pf_compare.specs.TypeLists.{HasTaken}
 use Rattle.pf_compare.proofs.type_lists.next_type.Given as goal
 

@@ -1,7 +1,7 @@
 use Rattle.std.proofs.Common.{[], subst, sym}
 use Rattle.pf_values.specs.declared.types.ArgType.{ArgType}
-use Rattle.pf_values.specs.DataModel.{arg_type}
-use Rattle.pf_values.specs.Items.{types}
+use Rattle.pf_values.specs.meaning.DataModel.{arg_type}
+use Rattle.pf_values.specs.meaning.Items.{types}
 use Rattle.pf_compare.specs.Layouts.{FindsUnlike}
 use Rattle.pf_compare.specs.Lone.{alone}
 use Rattle.pf_compare.specs.Witnesses.{AwaitsCandidate}

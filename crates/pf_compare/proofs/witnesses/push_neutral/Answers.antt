@@ -1,5 +1,5 @@
 use Rattle.std.proofs.Common.{List, ◌++◌, subst, sym}
-use Rattle.pf_values.specs.Items.{types}
+use Rattle.pf_values.specs.meaning.Items.{types}
 use Rattle.pf_text.specs.PieceHistory.{items_of}
 use Rattle.pf_compare.specs.declared.owned_args.OwnedArg.{OwnedArg}
 use Rattle.pf_compare.specs.Witnesses.{AreNeutral}

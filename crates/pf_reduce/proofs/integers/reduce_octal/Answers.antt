@@ -1,9 +1,10 @@
 use Rattle.std.proofs.Common.{◌≡◌, ◌+◌, ◌-◌, max, false, arith, ap, sym, ◌∙◌}
 use Rattle.std.specs.Prelude.{nat_abs}
-use Rattle.pf_values.specs.Conversions.{is_signed, is_text, prints_signed, prints_text}
-use Rattle.pf_values.specs.Flags.{no_flags, with_flag}
+use Rattle.pf_values.specs.meaning.Conversions.{is_signed, is_text, prints_signed, prints_text}
+use Rattle.pf_values.specs.meaning.Flags.{no_flags, with_flag}
 use Rattle.pf_values.specs.declared.flags.Flag.TheVariants.{Alt}
-use Rattle.pf_values.specs.Normal.{digits_at_most, effective_precision}
+use Rattle.pf_values.specs.meaning.Normal.{digits_at_most}
+use Rattle.pf_values.specs.Directives.{effective_precision}
 use Rattle.pf_reduce.specs.Padded.{with_padding, padding_of}
 use Rattle.pf_reduce.proofs.PlainNumbers.{
   digits_reduced,

@@ -1,7 +1,7 @@
 use Rattle.std.proofs.Common.{◌≡◌, ◌-◌, arith, ap, sym, ◌∙◌}
 use Rattle.std.specs.Prelude.{nat_abs}
-use Rattle.pf_values.specs.Conversions.{base_of}
-use Rattle.pf_values.specs.Normal.{digits_at_most}
+use Rattle.pf_values.specs.meaning.Conversions.{base_of}
+use Rattle.pf_values.specs.meaning.Normal.{digits_at_most}
 use Rattle.pf_values.proofs.Printed.{count_of}
 use Rattle.pf_reduce.specs.Padded.{with_padding, padding_of}
 use Rattle.pf_reduce.proofs.PlainNumbers.{beyond_most, digits_reduced, digits_text, length-digits_text, one_or_none, plain_value, split_zeros}

@@ -1,5 +1,5 @@
 use Rattle.std.proofs.Common.{◌≡◌, arith, ap, sym, ◌∙◌}
-use Rattle.pf_values.specs.Flags.{no_flags, with_flag}
+use Rattle.pf_values.specs.meaning.Flags.{no_flags, with_flag}
 use Rattle.pf_values.specs.declared.flags.Flag.TheVariants.{Alt, Zero}
 use Rattle.pf_reduce.specs.Padded.{with_padding}
 use Rattle.pf_reduce.proofs.PrefixedNumbers.{prefixed_filled, prefixed_reduced, unseen_side}

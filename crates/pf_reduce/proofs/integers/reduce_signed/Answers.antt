@@ -1,10 +1,11 @@
 use Rattle.std.proofs.Common.{◌≡◌, arith, ap, sym, ◌∙◌}
 use Rattle.std.specs.Prelude.{nat_abs}
-use Rattle.pf_values.specs.Flags.{no_flags, with_flag}
+use Rattle.pf_values.specs.meaning.Flags.{no_flags, with_flag}
 use Rattle.pf_values.specs.declared.conversions.Conv.TheVariants.{D}
 use Rattle.pf_values.specs.declared.flags.Flag.TheVariants.{Zero}
-use Rattle.pf_values.specs.Printing.{is_negative}
-use Rattle.pf_values.specs.Normal.{digits_at_most, effective_precision}
+use Rattle.pf_values.specs.meaning.Printing.{is_negative}
+use Rattle.pf_values.specs.meaning.Normal.{digits_at_most}
+use Rattle.pf_values.specs.Directives.{effective_precision}
 use Rattle.pf_reduce.specs.Padded.{with_padding, padding_of}
 use Rattle.pf_reduce.specs.Signs.{sign_length, sign_of}
 use Rattle.pf_reduce.proofs.PlainNumbers.{digits_text, length-digits_text}

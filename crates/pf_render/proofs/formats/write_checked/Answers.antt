@@ -1,7 +1,7 @@
 use Rattle.std.proofs.Common.{subst, sym}
-use Rattle.pf_values.specs.Arguments.{HasTypes}
-use Rattle.pf_values.specs.Items.{types}
-use Rattle.pf_values.specs.Printing.{PrintsAll}
+use Rattle.pf_values.specs.meaning.Arguments.{HasTypes}
+use Rattle.pf_values.specs.meaning.Items.{types}
+use Rattle.pf_values.specs.meaning.Printing.{PrintsAll}
 use Rattle.pf_render.specs.Keeping.{items_of_parts}
 use Rattle.pf_render.proofs.FormatLemmas.{renders_parts, typed_parts}
 use Rattle.pf_render.proofs.ProgressLemmas.{arguments}

@@ -1,8 +1,8 @@
 use Rattle.std.proofs.Common.{◌≡◌, ap, ◌∙◌, replicate, arith, to_z, of_z}
 use Rattle.std.specs.Int.{w128}
 use Rattle.std.proofs.lemmas.Int.{ints}
-use Rattle.pf_values.specs.Conversions.{kind_of}
-use Rattle.pf_values.specs.Text.{zero_digit}
+use Rattle.pf_values.specs.meaning.Conversions.{kind_of}
+use Rattle.pf_values.specs.meaning.Text.{zero_digit}
 use Rattle.pf_render.proofs.IntegerLemmas.{Prints-written, glyphs_are}
 use Rattle.pf_render.proofs.integers.write_integer.Goals as goal
 

@@ -1,6 +1,6 @@
 use Rattle.std.proofs.Common.{None, ap, refl, ◌∙◌}
 use Rattle.pf_values.specs.declared.lengths.Length.TheVariants as lengths
-use Rattle.pf_values.specs.Specification.{specification_of}
+use Rattle.pf_values.specs.Directives.{specification_of}
 use Rattle.pf_text.proofs.DirectiveLemmas.{bare_read}
 use Rattle.pf_text.proofs.specification.bare_directive.Goals as goal
 

@@ -1,6 +1,6 @@
 use Rattle.std.proofs.Common.{◌-◌, ◌≡◌, List, length, map}
 use Rattle.pf_values.specs.declared.flags.Flag.{Flag}
-use Rattle.pf_values.specs.Flags.{flag_byte, flag_set}
+use Rattle.pf_values.specs.meaning.Flags.{flag_byte, flag_set}
 use Rattle.pf_text.specs.Places.{Stands}
 use Rattle.pf_text.proofs.specification.flags_at.Given as goal
 

@@ -1,6 +1,6 @@
 use Rattle.std.proofs.Common.{ap}
 use Rattle.std.specs.Prelude.{replicate}
-use Rattle.pf_values.specs.Text.{space, zero_digit}
+use Rattle.pf_values.specs.meaning.Text.{space, zero_digit}
 use Rattle.pf_canon.specs.Parts.{in_order}
 use Rattle.pf_canon.proofs.DueLemmas.{silents_whole}
 use Rattle.pf_canon.proofs.due.Due.of.Goals as goal

@@ -1,6 +1,6 @@
 use Rattle.std.proofs.Common.{◌≡◌, ◌-◌, ◌++◌, refl, sym, replicate, ◌∙◌}
 use Rattle.std.proofs.lemmas.List.{drop-replicate, length-replicate}
-use Rattle.pf_values.specs.Text.{space, zero_digit}
+use Rattle.pf_values.specs.meaning.Text.{space, zero_digit}
 use Rattle.pf_canon.specs.Parts.{core_text}
 use Rattle.pf_canon.proofs.PlaceLemmas.{front_of_first, front_of_second}
 use Rattle.pf_canon.proofs.parts.Parts.front.Goals as goal

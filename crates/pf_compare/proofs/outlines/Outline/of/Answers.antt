@@ -1,5 +1,5 @@
 use Rattle.std.proofs.Common.{◌∙◌, ap, max}
-use Rattle.pf_values.specs.Normal.{effective_precision}
+use Rattle.pf_values.specs.Directives.{effective_precision}
 use Rattle.pf_render.specs.Zeros.{fewest_digits}
 use Rattle.pf_compare.proofs.OutlineLemmas.{outlined}
 use Rattle.pf_compare.proofs.outlines.Outline.of.Goals as goal

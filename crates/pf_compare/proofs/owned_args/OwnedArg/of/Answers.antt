@@ -1,6 +1,6 @@
 use Rattle.std.proofs.Common.{subst}
 use Rattle.pf_values.specs.declared.models.Model.TheVariants.{Lp64}
-use Rattle.pf_values.specs.Arguments.{HasType}
+use Rattle.pf_values.specs.meaning.Arguments.{HasType}
 use Rattle.pf_probes.specs.declared.rows.Candidate.{Candidate}
 use Rattle.pf_probes.specs.Candidate.{argument_of}
 use Rattle.pf_compare.proofs.CandidateLemmas.{repeated_byte}

@@ -2,8 +2,8 @@ use Rattle.std.proofs.Common.{◌≡◌, ◌∙◌, ap, arith, length, of_z, to_
 use Rattle.std.specs.Int.{w128}
 use Rattle.std.specs.Int.Digits.{digits_of}
 use Rattle.std.proofs.lemmas.Int.{ints}
-use Rattle.pf_values.specs.Bases.{number_of}
-use Rattle.pf_values.specs.Conversions.{base_of, base_under, kind_of}
+use Rattle.pf_values.specs.meaning.Bases.{number_of}
+use Rattle.pf_values.specs.meaning.Conversions.{base_of, base_under, kind_of}
 use Rattle.pf_compare.proofs.values.Counted.of.Goals as goal
 
 pub returns : goal.returns

@@ -1,5 +1,5 @@
 use Rattle.std.proofs.Common.{sym, ap, ◌∙◌, length}
-use Rattle.pf_values.specs.Items.{types}
+use Rattle.pf_values.specs.meaning.Items.{types}
 use Rattle.pf_values.proofs.ItemTypes.{types-bytes}
 use Rattle.pf_render.specs.Keeping.{directive_or_bytes}
 use Rattle.pf_render.proofs.kept.Part.argument_count.Goals as goal

@@ -5,12 +5,12 @@ use Rattle.pf_values.specs.declared.flags.Flag.{Flag}
 use Rattle.pf_values.specs.declared.limits.TheConstants.{MAX_NUMBER, MAX_TEXT_LEN}
 use Rattle.pf_values.specs.declared.refusals.RefusalKind.{RefusalKind}
 use Rattle.pf_values.specs.declared.refusals.RefusalKind.TheVariants.{NulByte, Truncated, Unexpected, BadPercent, Star, Numbered, WidthTooLarge, PrecisionTooLarge, Float, Pointer, Count, Wide, TooLong}
-use Rattle.pf_values.specs.Defined.{is_above_limit, first_broken, undefined_kinds}
-use Rattle.pf_values.specs.Flags.{flag_byte}
-use Rattle.pf_values.specs.Items.{Item, Reads, IsAccepted}
-use Rattle.pf_values.specs.Specification.{Specification}
-use Rattle.pf_values.specs.Spelling.{Spells, SpellsWidth, SpellsPrecision}
-use Rattle.pf_values.specs.Text.{Text, dollar, percent, point, star}
+use Rattle.pf_values.specs.meaning.Defined.{is_above_limit, first_broken, undefined_kinds}
+use Rattle.pf_values.specs.meaning.Flags.{flag_byte}
+use Rattle.pf_values.specs.meaning.Items.{Item, Reads, IsAccepted}
+use Rattle.pf_values.specs.meaning.Specification.{Specification}
+use Rattle.pf_values.specs.meaning.Spelling.{Spells, SpellsWidth, SpellsPrecision}
+use Rattle.pf_values.specs.meaning.Text.{Text, dollar, percent, point, star}
 
 -- no number above the limit: one conversion must be able to print 4,095 characters
 -- (C11 7.21.6.1 p15)

@@ -4,8 +4,8 @@ use Rattle.pf_values.specs.declared.bases.Alternative.{Alternative}
 use Rattle.pf_values.specs.declared.bases.Alternative.TheVariants.{Undefined, Raised, Prefixed}
 use Rattle.pf_values.specs.declared.bases.Base.{Base}
 use Rattle.pf_values.specs.declared.bases.Base.TheVariants.{Binary, Octal, Decimal, Hexadecimal}
-use Rattle.pf_values.specs.Bits.{Bits, by_bits}
-use Rattle.pf_values.specs.Text.{Text}
+use Rattle.pf_values.specs.meaning.Bits.{Bits, by_bits}
+use Rattle.pf_values.specs.meaning.Text.{Text}
 
 pub record Row : Type 0 where
   -- the base itself (C11 7.21.6.1 p8)
@@ -81,9 +81,3 @@ abbrev pub raises_precision : Alternative → Bool
 raises_precision Undefined = false
 raises_precision Raised = true
 raises_precision Prefixed = false
-
--- `#` puts two letters before a number (C11 7.21.6.1 p6)
-abbrev pub puts_prefix : Alternative → Bool
-puts_prefix Undefined = false
-puts_prefix Raised = false
-puts_prefix Prefixed = true

@@ -1,9 +1,9 @@
 -- The headline: one meaning, one canonical text. This project's own.
 use Rattle.std.specs.Prelude.{◌≡◌, ◌↔◌}
 use Rattle.pf_values.specs.declared.models.Model.{Model}
-use Rattle.pf_values.specs.Canonical.{IsCanonicalOf}
-use Rattle.pf_values.specs.Printing.{AreEquivalent}
-use Rattle.pf_values.specs.Text.{Text}
+use Rattle.pf_values.specs.meaning.Canonical.{IsCanonicalOf}
+use Rattle.pf_values.specs.meaning.Printing.{AreEquivalent}
+use Rattle.pf_values.specs.meaning.Text.{Text}
 
 -- A text has just one canonical text, which takes arguments of the same types and prints the same
 -- bytes for all of them, and is its own canonical text.

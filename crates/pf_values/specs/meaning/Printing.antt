@@ -9,15 +9,15 @@ use Rattle.pf_values.specs.declared.conversions.Kind.{Kind}
 use Rattle.pf_values.specs.declared.conversions.Kind.TheVariants as kinds
 use Rattle.pf_values.specs.declared.flags.Flag.TheVariants.{Minus, Plus, Space, Alt, Zero}
 use Rattle.pf_values.specs.declared.models.Model.{Model}
-use Rattle.pf_values.specs.Arguments.{Argument, Number, String, HasType, HasTypes, IsConverted, IsValue}
-use Rattle.pf_values.specs.Bases.{alternative_of, number_of, prefix_of}
-use Rattle.pf_values.specs.Conversions.{base_of, is_octal, is_upper, kind_of}
-use Rattle.pf_values.specs.DataModel.{B8, arg_type, bit_count}
-use Rattle.pf_values.specs.Digits.{IsNumeral, IsLeastFrom}
-use Rattle.pf_values.specs.Flags.{has}
-use Rattle.pf_values.specs.Items.{Item, Byte, Directive, Reads, types}
-use Rattle.pf_values.specs.Specification.{Specification, width_of}
-use Rattle.pf_values.specs.Text.{Text, space, zero_digit}
+use Rattle.pf_values.specs.meaning.Arguments.{Argument, Number, String, HasTypes, IsConverted, IsValue}
+use Rattle.pf_values.specs.meaning.Bases.{alternative_of, number_of, prefix_of}
+use Rattle.pf_values.specs.meaning.Conversions.{base_of, is_octal, is_upper, kind_of}
+use Rattle.pf_values.specs.meaning.DataModel.{B8, bit_count}
+use Rattle.pf_values.specs.meaning.Digits.{IsNumeral, IsLeastFrom}
+use Rattle.pf_values.specs.meaning.Flags.{has}
+use Rattle.pf_values.specs.meaning.Items.{Item, Byte, Directive, Reads, types}
+use Rattle.pf_values.specs.meaning.Specification.{Specification, width_of}
+use Rattle.pf_values.specs.meaning.Text.{Text, space, zero_digit}
 
 abbrev pub BeginsWithZero : Text → Type 0
 BeginsWithZero t = slice_index t 0 ≡ zero_digit
@@ -162,14 +162,3 @@ pub record AreEquivalent (model : Model) (t u : Text) : Type 0 where
   pub reads_first : Reads t first
   pub reads_second : Reads u second
   pub alike : PrintAlike model first second
-
--- a directive prints this text for an argument, and no other
-abbrev pub PrintsOnly : Model → Specification → Argument → Text → Type 0
-PrintsOnly model s argument out = Prints model s argument out
-    × ((other : Text) → Prints model s argument other → other ≡ out)
-
--- a directive and an argument of its type print one text
-abbrev pub PrintsOnce : Model → Type 0
-PrintsOnce model =
-    (s : Specification) (argument : Argument) → HasType model argument (arg_type model s)
-    → (out : Text) × PrintsOnly model s argument out

@@ -1,7 +1,7 @@
 -- The data models: types, bits and ranges. A model has three columns, and they are in this file
 -- alone: the bits of a long, the rank of `size_t` and `ptrdiff_t`, and that of `intmax_t`. All else
 -- goes by them. That the types of `j`, `z` and `t` are so in ILP32 is this project's own.
-use Rattle.std.specs.Prelude.{ℕ, ◌-◌, ◌^◌, ◌≤ℤ◌, ◌<ℤ◌, neg_ℤ, ℤ, pos, Bool, true, false, if◌then◌else◌}
+use Rattle.std.specs.Prelude.{ℕ, ◌-◌, ◌^◌, ◌≤ℤ◌, ◌<ℤ◌, neg_ℤ, ℤ, pos, Bool, true, false}
 use Rattle.pf_values.specs.declared.conversions.Conv.{Conv}
 use Rattle.pf_values.specs.declared.conversions.Kind.{Kind}
 use Rattle.pf_values.specs.declared.conversions.Kind.TheVariants as kinds
@@ -21,11 +21,11 @@ use Rattle.pf_values.specs.declared.types.ArgType.TheVariants.{
   ULongLong,
   Str,
 }
-use Rattle.pf_values.specs.Bases.{most_digits_in}
-use Rattle.pf_values.specs.Bits.{by_bits}
-pub use Rattle.pf_values.specs.Bits.{Bits, B8, B16, B32, B64, bit_count}
-use Rattle.pf_values.specs.Conversions.{is_text, kind_of}
-use Rattle.pf_values.specs.Specification.{Specification}
+use Rattle.pf_values.specs.meaning.Bases.{most_digits_in}
+use Rattle.pf_values.specs.meaning.Bits.{by_bits}
+pub use Rattle.pf_values.specs.meaning.Bits.{Bits, B8, B16, B32, B64, bit_count}
+use Rattle.pf_values.specs.meaning.Conversions.{kind_of}
+use Rattle.pf_values.specs.meaning.Specification.{Specification}
 
 -- What a length modifier says (C11 7.21.6.1 p7).
 pub record Row : Type 0 where
@@ -98,10 +98,6 @@ signed_type model length = (row_of model length).signed
 
 abbrev pub unsigned_type : Model → Length → ArgType
 unsigned_type model length = (row_of model length).unsigned
-
--- the bits of the value that a directive prints, of which a byte and a string have none
-abbrev pub value_bits : Model → Specification → ℕ
-value_bits model s = if is_text s.conv then 0 else bit_count (bits_under model s.length)
 
 -- the argument type (C11 7.21.6.1 p7, p8)
 abbrev pub type_of_kind : Model → Kind → Length → ArgType
