@@ -1,5 +1,5 @@
 #!/usr/bin/env python3
-"""Holds the documents to the code: their names, paths, callers and numbers, and the map.
+"""Holds the documents to the code: their names, paths, callers and numbers, the map, and what has to be believed.
 
 Usage: tests/documents.py
 
@@ -16,6 +16,7 @@ sys.path.insert(0, str(Path(__file__).resolve().parent))
 
 import arguments  # noqa: E402
 import literals  # noqa: E402
+import reach  # noqa: E402
 import turned  # noqa: E402
 from harness import TOP, Trials, fences, model_rows, usage_texts  # noqa: E402
 
@@ -262,6 +263,7 @@ def main():
     try_callers(trials)
     try_edits(trials)
     try_numbers(trials)
+    reach.try_reach(trials)
     return trials.end()
 
 

@@ -14,7 +14,7 @@ ghost use Rattle.pf_values.specs.meaning.Printing.{is_zero_filled};
 
 use crate::bases::by_bits;
 use crate::conversions::{Conv, Kind};
-use crate::data_model::row_of;
+use crate::data_model::length_row;
 use crate::flags::{Flag, FlagSet};
 use crate::lengths::Length;
 use crate::limits::MAX_NUMBER;
@@ -168,8 +168,8 @@ impl Directive {
         ensures { result ≡ arg_type model self.now }
     {
         match self.conv.kind() {
-            Kind::Signed => row_of(model, self.length).signed,
-            Kind::Unsigned(_, _) => row_of(model, self.length).unsigned,
+            Kind::Signed => length_row(model, self.length).signed,
+            Kind::Unsigned(_, _) => length_row(model, self.length).unsigned,
             Kind::Char => ArgType::Int,
             Kind::String => ArgType::Str,
         }
@@ -182,14 +182,14 @@ impl Directive {
         if self.conv.kind().is_text() {
             return 0;
         }
-        row_of(model, self.length).bits
+        length_row(model, self.length).bits
     }
 
     /// The most digits that its value has, the sign not counted; 0 for `c` and `s`.
     pub fn max_digits(&self, model: models::Model) -> u8
         ensures { result ≡ digits_at_most model self.now }
     {
-        let bits = row_of(model, self.length).bits;
+        let bits = length_row(model, self.length).bits;
         match self.conv.kind() {
             Kind::Signed => by_bits(bits, 3, 5, 10, 19),
             Kind::Unsigned(base, _) => base.max_digits(bits),
