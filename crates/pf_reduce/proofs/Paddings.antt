@@ -34,7 +34,7 @@ within-between a false w b body =
 alike : (a c : ℕ) (l m : Bool) (w v b d : ℕ) (body : Text) → before a l w (length body) ≡ before c m v (length body) → after l w b (length body) ≡ after m v d (length body) → within a l w b body ≡ within c m v d body
 alike a c l m w v b d body e f = within-between a l w b body ∙ ap (λ n. between n body (after l w b (length body))) e ∙ ap (λ n. between (before c m v (length body)) body n) f ∙ sym (within-between c m v d body)
 
--- spaces beyond the most bytes go out, to the right
+-- spaces beyond the most bytes leave the field, to the right
 pub cut_right : (w most : ℕ) (body : Text) → length body ≤ most → within 0 false w 0 body ≡ within (w - most) false (min w most) 0 body
 cut_right w most body h = alike 0 (w - most) false false w (min w most) 0 0 body (omega arith) refl
 
@@ -51,7 +51,7 @@ right_field true w body (inr e) =
     ∙ replicate-append-replicate (length body) n space ∙ ap (λ k. replicate k space) (omega arith) ∙ sym (replicate-append-replicate n (length body) space)
     ∙ ap (λ t. replicate n space ++ t) (sym e)
 
--- zeros that stand first go out
+-- zeros that come first leave the field
 past_field : (left : Bool) (w k : ℕ) (body : Text) → (left ≡ true) ⊎ (w ≡ 0) ⊎ (k ≡ 0) → field_of left w (replicate k zero_digit ++ body) ≡ replicate k zero_digit ++ field_of left (w - k) body
 past_field true w k body h =
     let e : w - length (replicate k zero_digit ++ body) ≡ w - k - length body = omega (arith, length-append (replicate k zero_digit) body, length-replicate {A = ℕ} k zero_digit) in

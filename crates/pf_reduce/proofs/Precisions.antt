@@ -71,7 +71,7 @@ right_of a false c h = refl
 right_of true true c h = cc
 right_of false true c h = cc
 
--- a directive that is filled with zeros stands on the right
+-- a directive that is filled with zeros is right-justified
 pub filled_right : (s : Specification) → is_zero_filled s ≡ true → has s.flags Minus ≡ false
 filled_right s h = right_of (has s.flags Zero) (has s.flags Minus) _ h
 

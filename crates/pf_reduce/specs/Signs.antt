@@ -24,7 +24,7 @@ sign_length signs.None = 0
 sign_length signs.Plus = 1
 sign_length signs.Space = 1
 
--- what stands before a number that is negative, or is not (C11 7.21.6.1 p6)
+-- what comes before a number that is negative, or is not (C11 7.21.6.1 p6)
 abbrev pub sign_text : Sign → Bool → Text
 sign_text sign true = codes "-"
 sign_text signs.None false = []

@@ -76,7 +76,7 @@ impl Padding {
         Padding { width: 0, ..self }
     }
 
-    /// Whether spaces may stand before what is printed.
+    /// Whether spaces may come before what is printed.
     pub(crate) fn has_spaces_before(self) -> bool
         ensures yes { result ≡ true → (self.left ≡ false) × (0 < self.width) }
         ensures no { result ≡ false → (self.left ≡ true) ⊎ (self.width ≡ 0) }

@@ -36,7 +36,7 @@ pub fn reduce(model: Model, directive: &Directive) -> Reduced
 }
 
 // The same of a directive that isn't normal, whatever it is. Never inlined, so that a normal one is
-// copied as it stands and not part by part.
+// copied as a whole and not part by part.
 #[inline(never)]
 fn reduce_other(model: Model, directive: &Directive) -> Reduced
     ensures same { IsReducedTo model directive.now result }

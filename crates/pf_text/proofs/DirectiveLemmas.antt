@@ -1,4 +1,4 @@
--- Directives that stand whole at the front of what follows.
+-- Whole directives at the front of what follows.
 use Rattle.std.proofs.Common.{◌≡◌, ℕ, ◌+◌, ◌≤◌, List, [], ◌∷◌, ◌++◌, length, take, drop, sym, ap, ◌∙◌, subst, arith}
 use Rattle.std.proofs.lemmas.List.{append_assoc, length-append, length-take-le, take-append-drop}
 use Rattle.pf_values.specs.declared.limits.TheConstants.{MAX_TEXT_LEN}

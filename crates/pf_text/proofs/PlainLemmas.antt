@@ -1,4 +1,4 @@
--- Items that stand in a text as its canonical text has them.
+-- Items that are spelled as the canonical text spells them.
 use Rattle.std.proofs.Common.{◌≡◌, ◌≢◌, ℕ, ◌+◌, ◌-◌, ◌*◌, ◌<◌, ◌≤◌, min, true, false, Bool, List, [], ◌∷◌, ◌++◌, length, map, take, drop, Some, None, refl, sym, ap, ap₂, ◌∙◌, subst, arith, inl, inr, get_or}
 use Rattle.std.specs.Prelude.{flat_map, is_some, MatchBool, Option, ◌==◌, ◌⊎◌, if◌then◌else◌}
 use Rattle.std.specs.Fmt.{digits}
@@ -188,7 +188,7 @@ module _ (scanner : Scanner) (t text : Text) (items : List Item) (n most room : 
       ]
     ]
 
-    -- the reader stands after them
+    -- the reader has taken them
     pub read_passed : (more : List Item) → Reads (t ++ take n text) (items ++ more) → IsAfter (record scanner { offset = scanner.offset + n }) (t ++ take n text) (items ++ more)
     read_passed more now =
         subst (λ k. IsAfter (record scanner { offset = scanner.offset + k }) (t ++ take n text) (items ++ more)) long

@@ -39,7 +39,7 @@ module _ (test : ℕ → Bool) (text : Text) (seen : ℕ) (within : seen ≤ len
     ap test (sym (behind_is k)) ∙ h.1,
   )
 
--- what a vector holds where it stands for the bytes that are `%` or 0
+-- what a vector holds that marks the bytes which are `%` or 0
 abbrev pub lane : ℕ → ℕ
 lane byte = bit_or (cond (byte == 37) 255 0) (cond (byte == 0) 255 0)
 

@@ -22,7 +22,7 @@ with_ended items (steps.Byte byte) = refl
 with_ended items steps.Percent = refl
 with_ended items (steps.Directive d) = refl
 
--- A scanner stands after the first `n` bytes of a text.
+-- A scanner has taken the first `n` bytes of a text.
 module _ (t : Text) (n : ℕ) (old : Scanner) (given : List Step) (h : IsAfter old (take n t) (flat_map ended_by given)) where
   module _ (few : n < length t) (d : ℕ) (new : Scanner) where
     next : suc n ≡ n + 1

@@ -12,7 +12,7 @@ use Rattle.pf_text.specs.declared.refusal.Refusal.{Refusal}
 use Rattle.pf_text.specs.declared.scanner.Step.{Step}
 use Rattle.pf_text.specs.History.{EndsRun, IsAfter, IsLiteral, Takes}
 
--- the items that a piece stands for
+-- the items of a piece
 abbrev pub items_of : Piece → List Item
 items_of (pieces.Literal run) = map Byte run.now
 items_of pieces.Percent = Byte percent ∷ []

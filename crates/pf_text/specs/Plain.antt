@@ -1,4 +1,4 @@
--- Items that stand in a text as its canonical text has them. This project's own.
+-- Items that are spelled as the canonical text spells them. This project's own.
 use Rattle.std.specs.Prelude.{◌≡◌, ◌≢◌, ℕ, ◌+◌, ◌<◌, ◌≤◌, List, ◌++◌, ◌*◌, length, take, drop, replicate, flat_map}
 use Rattle.std.specs.List.{AllByRecursion}
 use Rattle.pf_values.specs.declared.limits.TheConstants.{MAX_TEXT_LEN}

@@ -34,6 +34,6 @@ state_in_phase phases.Point a = Point a.flags a.width
 state_in_phase phases.Precision a = Precision a.flags a.width a.number
 state_in_phase phases.Modifier a = Modifier a.flags a.width a.precision a.modifier
 
--- the state that the fields of an automaton stand for; in each phase only some of them count
+-- the state of an automaton with these fields; in each phase only some of them count
 abbrev pub state_of : Automaton → State
 state_of a = state_in_phase a.phase a

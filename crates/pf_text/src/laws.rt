@@ -34,7 +34,7 @@ pub fn spelled_is_read()
     ensures { (s : Specification) → IsDefined s → Spells (spelling_of s) s }
 {}
 
-/// Repeated calls of `next` give pieces that stand for the items of the text, in order, and then
+/// Repeated calls of `next` give the pieces of the items of the text, in order, and then
 /// `None`, if it is accepted. Else they give those before the item in which it is refused, and then
 /// the refusal. The answer is the pieces, and how they end.
 pub fn whole_run_of_pieces<'a>(

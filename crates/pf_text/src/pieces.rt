@@ -11,7 +11,7 @@ use pf_values::Directive;
 /// A piece of a format.
 #[derive(Clone, Copy, Debug, PartialEq, Eq)]
 pub enum Piece<'a> {
-    /// A longest run of bytes that stand for themselves, never empty.
+    /// A longest run of literal bytes, never empty.
     Literal(&'a [u8]),
     /// `%%`
     Percent,
@@ -42,7 +42,7 @@ impl<'a> Pieces<'a> {
         }
     }
 
-    // The directive that stands whole at the front of the rest, if one does.
+    // The whole directive at the front of the rest, if there is one.
     #[inline(always)]
     fn take_directive(&mut self) -> Option<Directive>
         ensures given { (t read : Text) (items : List Item) → HasGiven self.old t read items
@@ -56,7 +56,7 @@ impl<'a> Pieces<'a> {
         Some(directive)
     }
 
-    // The run of literal bytes that begins the rest, if one does.
+    // The run of literal bytes at the front of the rest, if there is one.
     #[inline(always)]
     fn take_run(&mut self) -> Option<&'a [u8]>
         ensures given { (t read : Text) (items : List Item) → HasGiven self.old t read items
@@ -78,8 +78,8 @@ impl<'a> Pieces<'a> {
         Some(run)
     }
 
-    // Moves on past the first byte of the rest, of which the scanner made this step. Gives the
-    // piece that ends there, if one does. A literal byte never does, since the runs are given
+    // Moves on past the first byte of the rest, for which the scanner returned this step. Returns
+    // the piece that ends there, if one does. A literal byte never does, since `take_run` comes
     // before.
     #[inline(always)]
     fn advance(&mut self, step: Step) -> Option<Piece<'a>>

@@ -1,4 +1,4 @@
-//! The search for the end of a run of items that stand in a text as its canonical text has them.
+//! The search for the end of a run of items that are spelled as the canonical text spells them.
 ghost use Rattle.std.specs.Prelude.{◌≡◌, ◌<◌, ◌≤◌, [], ◌∷◌, ◌*◌, List, drop, length, take, IsTrue, ◌↔◌};
 ghost use Rattle.memchr.specs.Find.{Passes, is_byte2};
 ghost use Rattle.pf_values.specs.meaning.Items.{Item, Reads};
@@ -66,7 +66,7 @@ fn ends_plain(letter: u8) -> bool
     conv_of(letter).is_some()
 }
 
-/// How many times `%.0s` stands at the front of a text.
+/// How many `%.0s` there are at the front of a text.
 #[inline(always)]
 pub(crate) fn count_silents(text: &[u8]) -> usize
     ensures within { 4 * result ≤ length text.now }

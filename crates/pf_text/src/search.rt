@@ -16,7 +16,7 @@ const NEAR: usize = 64;
 
 /// How many literal bytes begin `text`: those before its first `%` and before its first zero byte.
 // It sees no reader, so that a reader's state can lie in registers, and is never inlined, so that
-// the search stands in the program once.
+// the program has the search once.
 #[inline(never)]
 pub fn literal_len(text: &[u8]) -> usize
     ensures within { result ≤ length text.now }

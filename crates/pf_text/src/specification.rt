@@ -1,5 +1,5 @@
-//! A conversion specification that stands whole at the front of a text, read in one go. The
-//! automaton comes to the same byte by byte, and tells why a text has none.
+//! A conversion specification that is whole at the front of a text, read in one go. The automaton
+//! reads the same byte by byte, and finds out why a text has none.
 ghost use Rattle.std.specs.Prelude.{◌≡◌, ◌+◌, ◌<◌, ◌≤◌, List, [], ◌∷◌, ◌++◌, false, length, map, take, MatchOption, ⊤};
 ghost use Rattle.pf_values.specs.declared.flags.Flag.{Flag};
 ghost use Rattle.pf_values.specs.declared.limits.TheConstants.{MAX_NUMBER};

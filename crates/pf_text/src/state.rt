@@ -33,7 +33,7 @@ pub(crate) enum Phase {
 pub(crate) enum Move {
     /// The byte is inside a specification.
     More,
-    /// The byte stands for itself.
+    /// The byte is a literal one.
     Byte,
     /// The end of `%%`.
     Percent,

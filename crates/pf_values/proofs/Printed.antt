@@ -44,7 +44,7 @@ begins_with_zeros : (k : ℕ) (ds : List ℕ) → 0 < k → BeginsWithZero (map 
 begins_with_zeros zero ds h = absurd (omega arith)
 begins_with_zeros (suc k) ds h = refl
 
--- a numeral begins with the digit 0 where zeros stand in front, and only there
+-- a numeral begins with the digit 0 exactly where zeros come before the number's own digits
 begins : (least n : ℕ) → count_of 8 n < least → BeginsWithZero (numeral 8 false least n)
 begins least n h = begins_with_zeros (least - count_of 8 n) (digits_of 8 n) (omega arith)
 
@@ -218,7 +218,7 @@ raised_is : (conv : Conv) (alt : Bool) → (is_octal conv && alt) ≡ true
 raised_is O alt e = (refl, refl)
 raised_is _ alt e = absurd (cc)
 
--- how many zeros stand in front of the digits
+-- how many zeros come before the digits
 abbrev pub zeros_of : Specification → ℕ → ℕ → ℕ
 zeros_of s precision n = max precision (natural_of s n) - count_of (base_of s.conv) n
 

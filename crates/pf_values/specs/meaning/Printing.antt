@@ -68,7 +68,7 @@ front_under kinds.String s value = []
 abbrev pub sign_or_prefix_under : Conv → Specification → ℤ → Text
 sign_or_prefix_under conv s value = front_under (kind_of conv) s value
 
--- what stands before the digits
+-- what comes before the digits
 abbrev pub sign_or_prefix : Specification → ℤ → Text
 sign_or_prefix s value = sign_or_prefix_under s.conv s value
 
@@ -155,7 +155,7 @@ pub record PrintAlike (model : Model) (a b : List Item) : Type 0 where
   pub same_bytes : (args : List Argument) (out : Text) → HasTypes model args (types model a)
       → (PrintsAll model a args out ↔ PrintsAll model b args out)
 
--- one text may stand for the other: their items print alike
+-- one text may replace the other: their items print alike
 pub record AreEquivalent (model : Model) (t u : Text) : Type 0 where
   pub first : List Item
   pub second : List Item

@@ -60,7 +60,7 @@ EndsUndefined part byte kind =
     (s : Specification) × Spells (part ++ byte ∷ []) s
     × (first_broken undefined_kinds s ≡ Some kind)
 
--- conversions that are refused wherever they stand (C11 7.21.6.1 p8; `C` and `S`: POSIX fprintf)
+-- conversions that are refused wherever they come (C11 7.21.6.1 p8; `C` and `S`: POSIX fprintf)
 abbrev pub letters_of : RefusalKind → Text
 letters_of Float = codes "aAeEfFgG"
 letters_of Pointer = codes "p"
@@ -76,8 +76,7 @@ long_double_letter = 76
 abbrev pub TakesModifier : Text → Type 0
 TakesModifier part = (precision : Option ℕ) × IsToPrecision part precision
 
--- a width or a precision may begin after the part, and has not, so that `*` may stand there
--- (C11 7.21.6.1 p5)
+-- the part ends where a width or a precision may begin, so that `*` may follow (C11 7.21.6.1 p5)
 abbrev pub TakesStar : Text → Type 0
 TakesStar part = ((flags : List Flag) × (part ≡ flags_text flags)) ⊎ (
     (before : Text) × (width : Option ℕ) × IsToWidth before width
