@@ -6,9 +6,9 @@ use Rattle.pf_values.specs.declared.models.Model.{Model}
 use Rattle.pf_values.specs.meaning.Arguments.{String}
 use Rattle.pf_values.specs.meaning.Specification.{Specification}
 use Rattle.pf_values.specs.meaning.Text.{space}
-use Rattle.pf_probes.specs.declared.rows.Candidate.{Candidate}
-use Rattle.pf_probes.specs.declared.rows.Candidate.TheVariants as variants
-use Rattle.pf_probes.specs.Candidate.{argument_of}
+use Rattle.pf_probes.specs.declared.candidate_rows.Candidate.{Candidate}
+use Rattle.pf_probes.specs.declared.candidate_rows.Candidate.TheVariants as variants
+use Rattle.pf_probes.specs.Candidate.{candidate_argument}
 use Rattle.pf_compare.specs.declared.outlines.Run.{Run}
 use Rattle.pf_compare.specs.Outlines.{Foretells}
 use Rattle.pf_compare.specs.Runs.{IsRunOf, run_len, run_text}
@@ -32,6 +32,6 @@ module _ (model : Model) (s t : Specification) (count byte : ℕ) (x y : Run) (h
   run_alike e p q a b = h model byte p a ∙ ap (λ (run : Run). run_text run byte) e ∙ sym (g model byte q b)
 
 pub repeat_foretold : (model : Model) (s t : Specification) (candidate : Candidate) (byte count : ℕ) (foretold : Option Bool) → candidate ≡ variants.Repeat byte count
-    → IfSome foretold (λ told. (m : Model) (b : ℕ) → Foretells m s t (String (replicate count b)) told) → IfSome foretold (Foretells model s t (argument_of candidate))
+    → IfSome foretold (λ told. (m : Model) (b : ℕ) → Foretells m s t (String (replicate count b)) told) → IfSome foretold (Foretells model s t (candidate_argument candidate))
 repeat_foretold model s t candidate byte count None e h = tt
-repeat_foretold model s t candidate byte count (Some told) e h = subst (λ (c : Candidate). Foretells model s t (argument_of c) told) (sym e) (h model byte)
+repeat_foretold model s t candidate byte count (Some told) e h = subst (λ (c : Candidate). Foretells model s t (candidate_argument c) told) (sym e) (h model byte)

@@ -5,7 +5,7 @@ ghost use Rattle.pf_values.specs.meaning.Arguments.{Number, String};
 ghost use Rattle.pf_values.specs.meaning.Conversions.{base_of, base_under, has_capitals, is_string, is_text, is_upper, kind_of};
 ghost use Rattle.pf_values.specs.meaning.Bases.{number_of};
 ghost use Rattle.pf_values.specs.meaning.Specification.{Specification};
-ghost use Rattle.pf_probes.specs.Candidate.{argument_of};
+ghost use Rattle.pf_probes.specs.Candidate.{candidate_argument};
 ghost use Rattle.pf_compare.specs.Outlines.{Foretells, digit_below_ten, digits_under};
 ghost use Rattle.pf_compare.specs.Spaces.{AreAlikeFor, HasRoom, IsWithin, with_space};
 ghost use Rattle.std.specs.Int.Digits.{digits_of};
@@ -26,7 +26,7 @@ pub(crate) fn foretell(
     candidate: Candidate,
 ) -> Option<bool>
     requires { IfSome known (AreAlikeFor first.now second.now) }
-    ensures { IfSome result (Foretells model first.now second.now (argument_of candidate)) }
+    ensures { IfSome result (Foretells model first.now second.now (candidate_argument candidate)) }
 {
     match candidate {
         Candidate::Number(number) => foretell_number(model, first, second, known, number),

@@ -181,13 +181,13 @@ fn tell_apart(
     requires known { IfSome known (AreAlikeFor first.now.directive second.now.directive) }
     requires first_type { arg_type model first.now.directive ≡ wanted }
     requires second_type { arg_type model second.now.directive ≡ wanted }
-    requires typed { HasType model (probes.argument_of candidate) wanted }
-    requires held { HasType Lp64 (probes.argument_of candidate) wanted }
+    requires typed { HasType model (probes.candidate_argument candidate) wanted }
+    requires held { HasType Lp64 (probes.candidate_argument candidate) wanted }
     requires first { IsInside whole.now first.now }
     requires second { IsInside whole.now second.now }
     ensures { IfOk result (λ told. MatchBool told
-        (FillUnlike model whole.now first.now second.now (probes.argument_of candidate))
-        (FillAlike model whole.now first.now second.now (probes.argument_of candidate))) }
+        (FillUnlike model whole.now first.now second.now (probes.candidate_argument candidate))
+        (FillAlike model whole.now first.now second.now (probes.candidate_argument candidate))) }
 {
     if have_one_place(first, second) {
         if let Some(told) = foretell(model, &first.directive, &second.directive, known, candidate) {

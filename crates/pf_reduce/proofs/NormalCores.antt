@@ -18,7 +18,7 @@ use Rattle.pf_values.proofs.DataModelLemmas.{kept_row}
 use Rattle.pf_reduce.specs.declared.padding.Padding.{Padding}
 use Rattle.pf_reduce.specs.declared.signs.Sign.{Sign}
 use Rattle.pf_reduce.specs.declared.signs.Sign.TheVariants as signs
-use Rattle.pf_reduce.specs.Made.{core_within, kept_precision, with_side}
+use Rattle.pf_reduce.specs.Cores.{core_of_parts, kept_precision, with_side}
 use Rattle.pf_reduce.specs.Signs.{sign_flags, sign_length}
 use Rattle.pf_reduce.proofs.CarriedIntegers.{kept_bits, width_is}
 use Rattle.pf_reduce.proofs.Precisions.{written_is}
@@ -134,7 +134,7 @@ pub normal_signed : (model : Model) (s : Specification) (p : Padding) (sign : Si
     → p.width ≢ 1 + max precision (digits_at_most model s))
     → (p.left ≡ true → (0 < p.width)
     × (sign ≢ signs.Plus → precision ≡ 0 → sign_length sign + 1 < p.width))
-    → IsNormal model (core_within model s p (sign_flags sign) (kept_precision precision))
+    → IsNormal model (core_of_parts model s p (sign_flags sign) (kept_precision precision))
 normal_signed model s p sign precision signed limit least most space none left =
     let length = kept_length model s.length in
     let same = ap (λ r. r.kept) (kept_row model s.length) in

@@ -15,7 +15,7 @@ use Rattle.pf_values.proofs.NumberTexts.{number_text, value_text-is, value_text-
 use Rattle.pf_values.proofs.Printed.{count_of, filled_precision, natural_of, precision_under, zero_digits}
 use Rattle.pf_values.proofs.PrintsOnce.{value_text}
 use Rattle.pf_reduce.specs.declared.padding.Padding.{Padding}
-use Rattle.pf_reduce.specs.Made.{core_within, with_side, kept_precision}
+use Rattle.pf_reduce.specs.Cores.{core_of_parts, with_side, kept_precision}
 
 -- what the flag `0` makes of the width: as many zeros, where the sign or prefix has the length
 filled_max : (w f sign natural : ℕ) → (f ≡ sign) ⊎ (w ≤ 1) → max (filled_precision w f natural) natural ≡ max (max (w - sign) 1) natural
@@ -40,9 +40,9 @@ unfilled : (left : Bool) (flags : FlagSet) (b : Bool) → has flags Zero ≡ fal
 unfilled true flags b h = rw h refl
 unfilled false flags b h = rw h refl
 
-pub core_text : (model : Model) (s : Specification) (p : Padding) (flags : FlagSet) (precision : ℕ) (v : ℤ) → has flags Zero ≡ false → let t : Specification = core_within model s p flags (kept_precision precision) in value_text t v ≡ number_text t precision v
+pub core_text : (model : Model) (s : Specification) (p : Padding) (flags : FlagSet) (precision : ℕ) (v : ℤ) → has flags Zero ≡ false → let t : Specification = core_of_parts model s p flags (kept_precision precision) in value_text t v ≡ number_text t precision v
 core_text model s p flags precision v h =
-    let t : Specification = core_within model s p flags (kept_precision precision) in
+    let t : Specification = core_of_parts model s p flags (kept_precision precision) in
     value_text-unfilled t v (unfilled p.left flags _ h) ∙ ap (λ k. number_text t k v) (written_is precision)
 
 -- one base, and one sign or prefix

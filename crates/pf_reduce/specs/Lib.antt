@@ -4,4 +4,4 @@ pub mod NormalParts
 pub mod Padded
 pub mod Prefixes
 pub mod Signs
-pub mod Made
+pub mod Cores

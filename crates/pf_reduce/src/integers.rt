@@ -16,12 +16,12 @@ ghost use Rattle.pf_values.specs.meaning.Printing.{is_zero_filled};
 ghost use Rattle.pf_values.specs.meaning.Specification.{width_of};
 ghost use Rattle.pf_values.specs.meaning.Text.{Text};
 ghost use Rattle.pf_reduce.specs.declared.signs.Sign.TheVariants as signs;
-ghost use Rattle.pf_reduce.specs.Made.{result_within, kept_precision};
+ghost use Rattle.pf_reduce.specs.Cores.{padded_core, kept_precision};
 ghost use Rattle.pf_reduce.specs.Padded.{with_padding};
 ghost use Rattle.pf_reduce.specs.Reducing.{IsNormalCore, IsReducedTo};
 ghost use Rattle.pf_reduce.specs.Signs.{sign_flags, sign_length, sign_text};
 
-use crate::normal_directives::{kept_precision, within};
+use crate::normal_directives::{kept_precision, padded_core};
 use crate::numbers::{max_digits, width};
 use crate::padding::Padding;
 use crate::results::Reduced;
@@ -60,7 +60,7 @@ fn reduce_plain(model: Model, directive: &Directive) -> Reduced
     let precision = directive.effective_precision(0);
     let zeros = precision.saturating_sub(digits);
     let padding = Padding::of(directive)
-        .cut(precision.max(digits))
+        .with_width_at_most(precision.max(digits))
         .without_idle_width(precision)
         .past_zeros(zeros)
         .right_up_to(1);
@@ -76,12 +76,12 @@ fn reduce_octal(model: Model, directive: &Directive) -> Reduced
     let digits = max_digits(model, directive);
     let precision = directive.effective_precision(0).max(1);
     let padding = Padding::of(directive)
-        .cut(precision.max(digits + 1))
+        .with_width_at_most(precision.max(digits + 1))
         .without_idle_width(precision);
     if padding.has_spaces_before() {
         // they come before the first 0, which the core has to print
         let alt = FlagSet::empty().with(Flag::Alt);
-        return within(model, padding, directive, alt, kept_precision(precision));
+        return padded_core(model, padding, directive, alt, kept_precision(precision));
     }
     let zeros = 1 + (precision - 1).saturating_sub(digits);
     let padding = padding.past_zeros(zeros).right_up_to(1);
@@ -96,11 +96,11 @@ fn reduce_prefixed(model: Model, directive: &Directive) -> Reduced
 {
     if keeps_zeros(directive, 0) {
         let flags = FlagSet::empty().with(Flag::Alt).with(Flag::Zero);
-        return within(model, Padding::of(directive), directive, flags, None);
+        return padded_core(model, Padding::of(directive), directive, flags, None);
     }
     let precision = directive.effective_precision(0);
     let padding = Padding::of(directive)
-        .cut(2 + precision.max(max_digits(model, directive)))
+        .with_width_at_most(2 + precision.max(max_digits(model, directive)))
         .without_idle_width(precision)
         .right_up_to(unseen_width(precision, 3));
     prefixed_core(model, padding, directive, precision)
@@ -114,12 +114,12 @@ pub(crate) fn reduce_signed(model: Model, directive: &Directive) -> Reduced
     let sign = Sign::of(directive.flags());
     if keeps_zeros(directive, sign.len()) {
         let flags = FlagSet::empty().with(Flag::Zero);
-        return within(model, Padding::of(directive), directive, flags, None);
+        return padded_core(model, Padding::of(directive), directive, flags, None);
     }
     let digits = max_digits(model, directive);
     let precision = directive.effective_precision(sign.len());
     let padding = Padding::of(directive)
-        .cut(1 + precision.max(digits))
+        .with_width_at_most(1 + precision.max(digits))
         .without_idle_width(sign.len() + precision);
     let sign = sign_in_field(sign, padding, precision, digits);
     let padding = padding
@@ -137,10 +137,10 @@ fn plain_core(model: Model, padding: Padding, directive: &Directive, precision: 
         → (precision < padding.width) × (padding.width ≤ digits_at_most model directive.now) }
     requires wide { IsTrue padding.left → 1 < padding.width }
     ensures value { result
-        ≡ result_within model directive.now padding no_flags (kept_precision precision) }
+        ≡ padded_core model directive.now padding no_flags (kept_precision precision) }
     ensures normal { IsNormalCore model result.core }
 {
-    within(
+    padded_core(
         model,
         padding,
         directive,
@@ -158,12 +158,12 @@ fn prefixed_core(model: Model, padding: Padding, directive: &Directive, precisio
     requires left { padding.left ≡ true
         → (0 < padding.width) × (precision ≡ 0 → 3 < padding.width) }
     ensures value { result
-        ≡ result_within model directive.now padding (with_flag no_flags Alt)
+        ≡ padded_core model directive.now padding (with_flag no_flags Alt)
         (kept_precision precision) }
     ensures normal { IsNormalCore model result.core }
 {
     let alt = FlagSet::empty().with(Flag::Alt);
-    within(model, padding, directive, alt, kept_precision(precision))
+    padded_core(model, padding, directive, alt, kept_precision(precision))
 }
 
 // Digits after a sign, not filled with zeros.
@@ -186,10 +186,10 @@ fn signed_core(
     requires left { padding.left ≡ true → (0 < padding.width)
         × (sign ≢ signs.Plus → precision ≡ 0 → sign_length sign + 1 < padding.width) }
     ensures value { result
-        ≡ result_within model directive.now padding (sign_flags sign) (kept_precision precision) }
+        ≡ padded_core model directive.now padding (sign_flags sign) (kept_precision precision) }
     ensures normal { IsNormalCore model result.core }
 {
-    within(
+    padded_core(
         model,
         padding,
         directive,

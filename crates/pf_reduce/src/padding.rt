@@ -36,7 +36,7 @@ impl Padding {
     }
 
     /// Where at most so many bytes are printed, the spaces beyond them are constant.
-    pub(crate) fn cut(self, most: u16) -> Padding
+    pub(crate) fn with_width_at_most(self, most: u16) -> Padding
         requires { (self.spaces ≡ 0) × (self.zeros ≡ 0) × (self.trail ≡ 0) }
         ensures same { (body : Text) → length body ≤ most
             → with_padding self body ≡ with_padding result body }

@@ -6,13 +6,13 @@ use Rattle.std.specs.List.{AllByRecursion}
 use Rattle.pf_values.specs.meaning.Text.{Text}
 
 -- a text has these bytes from one place up to another
-pub record Stands (t : Text) (start stop : ℕ) (bytes : Text) : Type 0 where
+pub record HasBytes (t : Text) (start stop : ℕ) (bytes : Text) : Type 0 where
   pub from : start ≤ stop
   pub within : stop ≤ length t
   pub whole : take stop t ≡ take start t ++ bytes
 
 -- these bytes are decimal digits, and a number with them behind its own digits is that other one
-pub record GoesOn (number : ℕ) (bytes : Text) (longer : ℕ) : Type 0 where
+pub record ContinuesNumber (number : ℕ) (bytes : Text) (longer : ℕ) : Type 0 where
   pub digits : List ℕ
   pub below : AllByRecursion (λ d. d < 10) digits
   pub spelled : bytes ≡ map (digit_glyph false) digits

@@ -58,7 +58,7 @@ impl<'a> Pieces<'a> {
 
     // The run of literal bytes at the front of the rest, if there is one.
     #[inline(always)]
-    fn take_run(&mut self) -> Option<&'a [u8]>
+    fn take_literal_run(&mut self) -> Option<&'a [u8]>
         ensures given { (t read : Text) (items : List Item) → HasGiven self.old t read items
             → MatchOption result (IsInside self.new t read items)
             (λ run. GivesPiece self.new t read items (Piece.Literal run)) }
@@ -79,7 +79,7 @@ impl<'a> Pieces<'a> {
     }
 
     // Moves on past the first byte of the rest, for which the scanner returned this step. Returns
-    // the piece that ends there, if one does. A literal byte never does, since `take_run` comes
+    // the piece that ends there, if one does. A literal byte never does, since `take_literal_run` comes
     // before.
     #[inline(always)]
     fn advance(&mut self, step: Step) -> Option<Piece<'a>>
@@ -130,7 +130,7 @@ impl<'a> Iterator for Pieces<'a> {
         if let Some(directive) = self.take_directive() {
             return Some(Ok(Piece::Directive(directive)));
         }
-        if let Some(run) = self.take_run() {
+        if let Some(run) = self.take_literal_run() {
             return Some(Ok(Piece::Literal(run)));
         }
         while let Some(byte) = self.rest.first() {

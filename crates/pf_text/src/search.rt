@@ -67,7 +67,7 @@ fn len_by_one(text: &[u8]) -> usize
 {
     let mut at = 0;
     while at < text.len() {
-        if is_other(text[at]) {
+        if ends_literal_run(text[at]) {
             return at;
         }
         at += 1;
@@ -76,7 +76,7 @@ fn len_by_one(text: &[u8]) -> usize
 }
 
 #[inline(always)]
-fn is_other(byte: u8) -> bool
+fn ends_literal_run(byte: u8) -> bool
     ensures { result ≡ is_byte2 37 0 byte }
 {
     byte == b'%' || byte == 0

@@ -20,7 +20,7 @@ PrintsOnce model =
     → (out : Text) × PrintsOnly model s argument out
 
 -- a value is at one place of a list and at no other; this project's own
-pub record StandsOnce {A : Type 0} (all : List A) (v : A) : Type 0 where
+pub record OccursOnce {A : Type 0} (all : List A) (v : A) : Type 0 where
   pub before : List A
   pub after : List A
   pub there : all ≡ before ++ (v ∷ after)
@@ -28,4 +28,4 @@ pub record StandsOnce {A : Type 0} (all : List A) (v : A) : Type 0 where
 
 -- each value of the type is
 abbrev pub HasEachOnce : {A : Type 0} → List A → Type 0
-HasEachOnce {A} all = (v : A) → StandsOnce all v
+HasEachOnce {A} all = (v : A) → OccursOnce all v

@@ -12,7 +12,7 @@ pub struct Cut<'a> {
     step: usize,
     kind: ErrorKind,
     flush_fails: bool,
-    ghost within: { len ≤ length place.now },
+    ghost len_fits: { len ≤ length place.now },
     ghost moves: { 1 ≤ step },
 }
 

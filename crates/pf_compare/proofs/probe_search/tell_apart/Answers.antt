@@ -1,10 +1,10 @@
 use Rattle.std.proofs.Common.{refl, rules}
-use Rattle.pf_probes.specs.Candidate.{argument_of}
+use Rattle.pf_probes.specs.Candidate.{candidate_argument}
 use Rattle.pf_compare.proofs.CandidateLemmas.{typed_as}
 use Rattle.pf_compare.proofs.ProbeLemmas.{foretold_here}
 use Rattle.pf_compare.proofs.probe_search.tell_apart.Goals as goal
 
 pub returns-in-Some : goal.returns-in-Some
 returns-in-Some c =
-    foretold_here c.args.model c.args.whole.now c.args.first.now c.args.second.now (argument_of c.args.candidate) (c.have_one_place.ensures (rw c.if-have_one_place.true (search rules)))
+    foretold_here c.args.model c.args.whole.now c.args.first.now c.args.second.now (candidate_argument c.args.candidate) (c.have_one_place.ensures (rw c.if-have_one_place.true (search rules)))
     (typed_as c.args.model _ _ _ _ refl c.requires.first_type c.requires.typed) (typed_as c.args.model _ _ _ _ refl c.requires.second_type c.requires.typed) c.in-Some.told c.in-Some.ensures

@@ -23,19 +23,19 @@ with_side left flags = if left then with_flag flags Minus else flags
 
 -- a directive with another width, other flags and another precision, and its letters as they are
 -- kept
-abbrev pub core_within : Model → Specification → Padding → FlagSet → Option ℕ → Specification
-core_within model s p flags precision =
+abbrev pub core_of_parts : Model → Specification → Padding → FlagSet → Option ℕ → Specification
+core_of_parts model s p flags precision =
     specification_of (with_side p.left flags) (Some p.width) precision (kept_length model s.length)
     (kept_conv s.conv)
 
 -- such a directive as a core, within the padding that is constant
-abbrev pub result_within : Model → Specification → Padding → FlagSet → Option ℕ → Reduced
-result_within model s p flags precision = record {
+abbrev pub padded_core : Model → Specification → Padding → FlagSet → Option ℕ → Reduced
+padded_core model s p flags precision = record {
   spaces = p.spaces;
   zeros = p.zeros;
   core = Normal (record {
     model = model;
-    specification = core_within model s p flags precision;
+    specification = core_of_parts model s p flags precision;
   });
   trail = p.trail;
 }
