@@ -21,14 +21,14 @@ kept_precision precision = Some precision
 abbrev pub with_side : Bool → FlagSet → FlagSet
 with_side left flags = if left then with_flag flags Minus else flags
 
--- a directive with another width, other flags and another precision, and its letters as they are
--- kept
+-- a directive with another width, other flags and another precision, and with the length modifier
+-- and the conversion that a normal directive has for its own
 abbrev pub core_of_parts : Model → Specification → Padding → FlagSet → Option ℕ → Specification
 core_of_parts model s p flags precision =
     specification_of (with_side p.left flags) (Some p.width) precision (kept_length model s.length)
     (kept_conv s.conv)
 
--- such a directive as a core, within the padding that is constant
+-- such a directive as a core, within the constant padding
 abbrev pub padded_core : Model → Specification → Padding → FlagSet → Option ℕ → Reduced
 padded_core model s p flags precision = record {
   spaces = p.spaces;

@@ -22,6 +22,6 @@ padding_of s =
 abbrev pub constants : Padding → ℕ
 constants p = p.spaces + (p.zeros + p.trail)
 
--- the side of a field isn't seen: the width is reached, or only spaces are printed
+-- nobody sees the side of a field: the width is reached, or only spaces are printed
 abbrev pub IsUnseen : ℕ → Text → Type 0
 IsUnseen width body = (width ≤ length body) ⊎ (body ≡ replicate (length body) space)

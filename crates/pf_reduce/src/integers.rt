@@ -79,7 +79,7 @@ fn reduce_octal(model: Model, directive: &Directive) -> Reduced
         .with_width_at_most(precision.max(digits + 1))
         .without_idle_width(precision);
     if padding.has_spaces_before() {
-        // they come before the first 0, which the core has to print
+        // These come before the first 0, which the core has to print.
         let alt = FlagSet::empty().with(Flag::Alt);
         return padded_core(model, padding, directive, alt, kept_precision(precision));
     }
@@ -198,8 +198,8 @@ fn signed_core(
     )
 }
 
-// Whether the zeros up to the width stay a matter of the width. Beside a sign, which each number
-// then has, they are one of the precision.
+// Whether the flag `0` fills the core's width. Beside a sign, which each number then has, a
+// precision gives the same zeros.
 fn keeps_zeros(directive: &Directive, sign: u16) -> bool
     ensures kept { result ≡ true
         → (is_zero_filled directive.now ≡ true) × (sign ≡ 0) × (2 ≤ width_of directive.now) }
@@ -232,8 +232,8 @@ fn sign_in_field(sign: Sign, padding: Padding, precision: u16, digits: u16) -> S
     }
 }
 
-// The width whose side isn't seen: with precision 0 all that is printed of the value 0 is spaces,
-// and at least so many bytes of any other value.
+// The greatest width of which nobody sees the side: with precision 0 the value 0 prints spaces
+// alone, and any other value at least so many bytes.
 fn unseen_width(precision: u16, least: u16) -> u16
     ensures none { precision ≡ 0 → result ≡ least }
     ensures some { 1 ≤ precision → result ≡ 0 }
@@ -241,7 +241,7 @@ fn unseen_width(precision: u16, least: u16) -> u16
     if precision == 0 { least } else { 0 }
 }
 
-// With a `+` the value 0 prints that.
+// The same of a signed number, where the value 0 prints its `+`, if it has one.
 fn unseen_signed_width(precision: u16, sign: Sign) -> u16
     ensures plus { sign ≡ signs.Plus → result ≡ 0 }
     ensures none { sign ≢ signs.Plus → precision ≡ 0 → result ≡ sign_length sign + 1 }

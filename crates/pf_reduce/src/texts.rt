@@ -50,7 +50,7 @@ pub(crate) fn reduce_string(model: Model, directive: &Directive) -> Reduced
     padded_core(model, padding, directive, FlagSet::empty(), precision)
 }
 
-// A width within the precision.
+// The padding of a string, with a width that is at most the precision.
 fn string_padding(padding: Padding, precision: Option<u16>) -> Padding
     requires { (padding.spaces ≡ 0) × (padding.zeros ≡ 0) × (padding.trail ≡ 0) }
     ensures same { (bytes : Text)

@@ -1,4 +1,4 @@
--- What has come of an item. How it comes byte by byte is this project's own.
+-- What has been read of an item. The states of reading it byte by byte are this project's own.
 use Rattle.std.specs.Prelude.{◌≡◌, ◌≢◌, ℕ, false, List, [], ◌∷◌, ◌++◌, map, Option, Some, None}
 use Rattle.pf_values.specs.declared.flags.Flag.{Flag}
 use Rattle.pf_values.specs.declared.flags.FlagSet.{FlagSet}
@@ -27,7 +27,7 @@ pub record IsFront (part : Text) (set : FlagSet) (width precision : Option ℕ)
   pub whole : part ≡ percent ∷ map flag_byte flags ++ width_text ++ precision_text
       ++ length_letters length
 
--- the state says what has come
+-- the state says what has been read
 abbrev pub IsAt : State → Text → Type 0
 IsAt Between part = part ≡ []
 IsAt Opened part = part ≡ percent ∷ []

@@ -15,7 +15,7 @@ use Rattle.pf_text.specs.declared.scanner.Step.TheVariants as steps
 use Rattle.pf_text.specs.Fronts.{IsAt}
 use Rattle.pf_text.specs.Stages.{state_of}
 
--- the items so far, and the one that a byte has ended, if it has
+-- the items so far, and the one that a byte has ended, if it has ended one
 abbrev pub with_step : List Item → Step → List Item
 with_step before steps.More = before
 with_step before (steps.Byte byte) = before ++ Byte byte ∷ []
@@ -23,7 +23,7 @@ with_step before steps.Percent = before ++ Byte percent ∷ []
 with_step before (steps.Directive d) = before ++ Directive d ∷ []
 
 -- The scanner was fed the text and refused none of it. The text has these whole items and the
--- beginning of one more, of which the state says what has come.
+-- beginning of one more, and the state says what has been read of that.
 pub record IsAfter (scanner : Scanner) (t : Text) (whole : List Item) : Type 0 where
   pub part : Text
   pub good : IsGoodFront t whole part

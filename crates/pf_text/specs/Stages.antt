@@ -1,5 +1,5 @@
--- How far an item has come. The parts come in the order of C11 7.21.6.1 p4; the states are this
--- project's own.
+-- How much of an item has been read. The parts come in the order of C11 7.21.6.1 p4; the states are
+-- this project's own.
 use Rattle.std.specs.Prelude.{ℕ, Option}
 use Rattle.pf_values.specs.declared.flags.FlagSet.{FlagSet}
 use Rattle.pf_values.specs.declared.lengths.Length.{Length}
@@ -7,9 +7,9 @@ use Rattle.pf_text.specs.declared.state.Automaton.{Automaton}
 use Rattle.pf_text.specs.declared.state.Phase.{Phase}
 use Rattle.pf_text.specs.declared.state.Phase.TheVariants as phases
 
--- what has come of an item, with the values of its parts
+-- what has been read of an item, with the values of its parts
 pub data State : Type 0 where
-  -- nothing has come
+  -- nothing
   Between : State
   -- the opening `%`
   Opened : State

@@ -16,7 +16,7 @@ use std::alloc::{Allocator, Global};
 mod tests;
 
 /// The types of the arguments that a format takes in this data model. Memory can be refused only
-/// once more than eight of them were read.
+/// where there are more than eight of them.
 pub fn signature(alloc: Global, model: Model, text: &[u8]) -> Result<Signature, TextFault>
     ensures { MatchResult result (λ signature. TakesTypes model text.now (types_of signature))
         (HindersSignature model text.now) }

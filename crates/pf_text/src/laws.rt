@@ -57,9 +57,9 @@ pub fn whole_run_of_pieces<'a>(
     Ok((given, Ok(())))
 }
 
-/// Calls of `feed` for the bytes of a text, in order, and then one of `finish`, make steps that end
-/// the items of the text, in order, if it is accepted. Else they end those before the item in which
-/// it is refused, and then give the refusal. The answer is the steps, and how they end.
+/// Calls of `feed` for the bytes of a text, in order, and then one of `finish`, return steps that
+/// end the items of the text, in order, if it is accepted. Else these end the items before the one
+/// in which it is refused, and the refusal follows. The answer is the steps, and how they end.
 pub fn whole_run_of_steps(
     alloc: Global,
     text: &[u8],

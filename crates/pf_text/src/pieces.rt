@@ -79,8 +79,8 @@ impl<'a> Pieces<'a> {
     }
 
     // Moves on past the first byte of the rest, for which the scanner returned this step. Returns
-    // the piece that ends there, if one does. A literal byte never does, since `take_literal_run` comes
-    // before.
+    // the piece that ends there, if one does. That is no literal byte, since `take_literal_run`
+    // comes before.
     #[inline(always)]
     fn advance(&mut self, step: Step) -> Option<Piece<'a>>
         requires { 0 < length self.old.rest.now }

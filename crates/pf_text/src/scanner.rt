@@ -134,8 +134,8 @@ impl Scanner {
         }
     }
 
-    /// Forgets what was read of the items before, none of which counts between items. So a loop over
-    /// items keeps none of it from one item to the next.
+    /// Forgets what was read of the items before, none of which counts between items. So a loop
+    /// over items keeps none of it from one item to the next.
     #[inline(always)]
     pub(crate) fn restart(&mut self)
         ensures { (t : Text) (items : List Item) → IsAfter self.old t items → Reads t items
@@ -146,8 +146,8 @@ impl Scanner {
     }
 
     /// Takes the longest run of literal bytes at the front of `text`, and returns how many there
-    /// are. One call of `feed` for each of them would do the same. Inside an item, and after a refusal,
-    /// it takes none.
+    /// are. One call of `feed` for each of them would do the same. Inside an item, and after a
+    /// refusal, it takes none.
     #[inline(always)]
     pub fn pass_literals(&mut self, text: &[u8]) -> usize
         ensures within { result ≤ length text.now }
@@ -180,10 +180,10 @@ impl Scanner {
         taken as usize
     }
 
-    /// Takes the literal bytes, `%%`, and directives that are normal in each data model and spelled
-    /// by their conversion alone, at the front of `text` before the first other item. It returns how
-    /// many bytes they have. One call of `feed` for each of them would do the same. Inside an item,
-    /// and after a refusal, it takes none.
+    /// Takes the plain items at the front of `text`, and returns how many bytes they have. These
+    /// are literal bytes, `%%`, and the directives of a conversion alone that are normal, as they
+    /// then are in each data model. One call of `feed` for each byte would do the same. Inside an
+    /// item, and after a refusal, it takes none.
     #[inline(always)]
     pub fn pass_plain(&mut self, text: &[u8]) -> usize
         ensures within { result ≤ length text.now }

@@ -40,7 +40,7 @@ pub fn literal_len(text: &[u8]) -> usize
     len_behind(text, at)
 }
 
-// Of a text that is shorter than a vector: most formats end in one, or are one.
+// The same for a text that is shorter than a vector: most formats end in one, or are one.
 #[inline(always)]
 fn short_len(text: &[u8]) -> usize
     requires { length text.now < LANES }
@@ -82,7 +82,8 @@ fn ends_literal_run(byte: u8) -> bool
     byte == b'%' || byte == 0
 }
 
-// Of a text whose first bytes are literal, all but the last few: the last vector overlaps those.
+// The same where all but the last few bytes are known to be literal: the last vector overlaps
+// these.
 #[inline(always)]
 fn len_at_end(text: &[u8], seen: usize) -> usize
     requires room { LANES ≤ length text.now }
@@ -96,7 +97,7 @@ fn len_at_end(text: &[u8], seen: usize) -> usize
     at + literals_at::<LANES>(text, at)
 }
 
-// Of a text whose first bytes are literal.
+// The same where the first bytes are known to be literal.
 #[inline(never)]
 fn len_behind(text: &[u8], seen: usize) -> usize
     requires within { seen ≤ length text.now }

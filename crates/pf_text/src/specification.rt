@@ -48,7 +48,7 @@ fn directive_of_conv(conv: Conv) -> Option<(Directive, usize)>
     }
 }
 
-// The same as of any text that begins with `%`.
+// The directive at the front of a text that begins with `%`.
 #[inline(always)]
 fn directive_of_parts(text: &[u8]) -> Option<(Directive, usize)>
     requires { (1 ≤ length text.now) × (take 1 text.now ≡ percent ∷ []) }
@@ -121,8 +121,8 @@ fn precision_at(text: &[u8], start: usize) -> (Option<u16>, usize)
     (Some(number), stop)
 }
 
-// The number whose first digits make `first`, with the digits from a place on behind them, and
-// where they end: before a digit with which it would pass the limit.
+// The number that begins with the digits of `first`, and goes on with those from a place on; and
+// where they end, which is before a digit with which it would pass the limit.
 #[inline(always)]
 fn digits_at(text: &[u8], start: usize, first: u16) -> (u16, usize)
     requires within { start ≤ length text.now }
@@ -163,7 +163,7 @@ fn modifier_at(text: &[u8], start: usize) -> (Length, usize)
     }
 }
 
-// The modifier that begins with one of one letter, and where it ends.
+// The modifier that begins with this one of one letter, and where it ends.
 #[inline(always)]
 fn modifier_with(text: &[u8], start: usize, first: Length) -> (Length, usize)
     requires { start ≤ length text.now }

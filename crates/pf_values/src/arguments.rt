@@ -4,7 +4,7 @@ ghost use Rattle.std.specs.Prelude.{◌≡◌, ◌<◌, ◌↔◌, IfSome, IsNon
 use crate::models;
 use crate::types::ArgType;
 
-/// Bytes without a zero byte: what `%s` sees of a string before its null.
+/// Bytes without a zero byte: those of a C string before its null character.
 #[derive(Clone, Copy, Debug)]
 pub struct CBytes<'a> {
     bytes: &'a [u8],

@@ -96,7 +96,7 @@ impl Base {
     }
 }
 
-/// One of four, for numbers of 8, 16, 32 and 64 bits.
+/// One of four numbers, by the bits: 8, 16, 32 or 64.
 pub(crate) fn by_bits(bits: u8, b8: u8, b16: u8, b32: u8, b64: u8) -> u8
     ensures { (b : Bits) → bits ≡ bit_count b → result ≡ by_bits b b8 b16 b32 b64 }
 {

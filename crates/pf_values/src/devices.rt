@@ -1,4 +1,5 @@
-//! A writer and a reader over memory, which fail where their caller wants it. They allocate nothing.
+//! A writer and a reader over memory, which fail where their caller wants it. They take no memory
+//! of their own.
 
 mod cutting;
 mod feeding;

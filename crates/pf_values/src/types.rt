@@ -21,7 +21,7 @@ pub enum ArgType {
     LongLong,
     /// `unsigned long long`
     ULongLong,
-    /// A pointer to bytes that end in a null.
+    /// A pointer to bytes that end in a null character.
     Str,
 }
 

@@ -82,7 +82,7 @@ TakesStar part = ((flags : List Flag) × (part ≡ flags_text flags)) ⊎ (
     (before : Text) × (width : Option ℕ) × IsToWidth before width
     × (part ≡ before ++ point ∷ []))
 
--- Each kind's own reason, where `part` is what has come of an item and `byte` follows. `$` after a
+-- Each kind's own reason, where `part` is the beginning of an item and `byte` follows. `$` after a
 -- number is of POSIX fprintf.
 abbrev pub HasReason : Text → ℕ → RefusalKind → Type 0
 HasReason part byte NulByte = byte ≡ 0
@@ -106,8 +106,8 @@ pub record IsRefusedByte (part : Text) (byte : ℕ) (kind : RefusalKind) : Type 
   pub others : (other : RefusalKind) → HasReason part byte other
       → (other ≡ kind) ⊎ (other ≡ Unexpected)
 
--- Why a text is refused after its longest good front, which has so many bytes: `part` is what has
--- come of an item there, and `rest` follows.
+-- Why a text is refused after its longest good front, which has so many bytes: that ends with the
+-- beginning of an item, `part`, and `rest` follows.
 abbrev pub HasCause : ℕ → Text → Text → RefusalKind → Type 0
 HasCause at part [] kind = kind ≡ Truncated
 HasCause at part (byte ∷ rest) kind =

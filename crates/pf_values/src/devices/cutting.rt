@@ -20,7 +20,8 @@ impl<'a> Cut<'a> {
     ghost use Rattle.std.specs.Prelude.{[]};
     ghost use Rattle.pf_values.specs.Cuts.{flush_fails_of, error_kind_of, room_of, step_of, taken_of};
 
-    /// A writer that took nothing yet. It fails with this kind, also at each flush if it is to.
+    /// A writer that has taken nothing yet. It fails with this kind of error, and so does each
+    /// flush if `flush_fails`.
     pub fn new(buf: &'a mut [u8], step: usize, kind: ErrorKind, flush_fails: bool) -> Cut<'a>
         requires moves { 1 ≤ step }
         ensures none { taken_of result ≡ [] }

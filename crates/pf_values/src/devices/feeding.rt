@@ -46,7 +46,7 @@ impl<'a> Feed<'a> {
     }
 }
 
-// So many bytes, and none past the fault.
+// So many bytes, but none past the fault.
 fn up_to_fault(fault: Option<u64>, count: usize) -> usize
     ensures { result ≡ up_to_fault fault count }
 {
