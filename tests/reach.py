@@ -52,11 +52,12 @@ class Module:
 
 
 def without_comments(text):
+    """The text of a file without its comments."""
     return re.sub(r"(^|\s)(--\s|//).*$", r"\1", text, flags=re.MULTILINE)
 
 
 def imports_of(text, module):
-    """Notes the imports of a file; answers the text without them."""
+    """Notes the imports of a file, and returns the text without them."""
     for _, path, names, alias in IMPORT.findall(text):
         if alias:
             module.aliases[alias] = path
@@ -83,9 +84,8 @@ def module_of(path):
             shared, name = line, None
         elif head and (not line.startswith(" ") or shared) and not re.match(r"  pub (?!record |data )", line):
             name, shared = head[2], shared if line.startswith(" ") else ""
-            is_new = name not in module.texts
             module.texts.setdefault(name, shared + "\n")
-            module.types.update({name: name} if is_new else {})
+            module.types.setdefault(name, name)
             data = name if head[1] == "data " else None
         if name:
             module.texts[name] += line + "\n"
