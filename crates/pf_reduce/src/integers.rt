@@ -3,11 +3,11 @@ ghost use Rattle.std.specs.Prelude.{◌≡◌, ◌≢◌, ◌≤◌, ◌<◌, �
 ghost use Rattle.pf_values.specs.declared.flags.Flag.TheVariants.{Alt};
 ghost use Rattle.pf_values.specs.declared.limits.TheConstants.{MAX_NUMBER};
 ghost use Rattle.pf_values.specs.meaning.Conversions.{
-    alternative_under,
-    is_octal,
-    is_signed,
-    is_text,
-    kind_of,
+  alternative_under,
+  is_octal,
+  is_signed,
+  is_text,
+  kind_of,
 };
 ghost use Rattle.pf_reduce.specs.Prefixes.{is_prefixed};
 ghost use Rattle.pf_values.specs.meaning.Flags.{has, no_flags, with_flag};

@@ -2,16 +2,16 @@
 ghost use Rattle.std.specs.Prelude.{◌≡◌, ◌↔◌, IsTrue};
 ghost use Rattle.pf_values.specs.meaning.Defined.{IsDefined};
 ghost use Rattle.pf_values.specs.meaning.Normal.{
-    IsNormal,
-    IsNormalString,
-    IsNormalPlain,
-    IsNormalOctal,
-    IsNormalFilled,
-    IsNormalPrefixed,
-    IsNormalSigned,
-    HasNormalForm,
-    HasSignedForm,
-    HasUnsignedForm,
+  IsNormal,
+  IsNormalString,
+  IsNormalPlain,
+  IsNormalOctal,
+  IsNormalFilled,
+  IsNormalPrefixed,
+  IsNormalSigned,
+  HasNormalForm,
+  HasSignedForm,
+  HasUnsignedForm,
 };
 ghost use Rattle.pf_reduce.specs.NormalParts.{HasNormalParts};
 ghost use Rattle.pf_values.specs.meaning.Conversions.{kind_of};

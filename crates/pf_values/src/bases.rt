@@ -2,11 +2,11 @@
 ghost use Rattle.std.specs.Prelude.{◌≡◌, ◌≤◌, length};
 ghost use Rattle.pf_values.specs.meaning.Bits.{Bits, bit_count, by_bits};
 ghost use Rattle.pf_values.specs.meaning.Bases.{
-    alternative_of,
-    is_grouped,
-    most_digits_in,
-    number_of,
-    prefix_of,
+  alternative_of,
+  is_grouped,
+  most_digits_in,
+  number_of,
+  prefix_of,
 };
 
 /// A base in which a number is printed (C11 7.21.6.1, paragraph 8).

@@ -2,14 +2,14 @@
 ghost use Rattle.std.specs.Prelude.{◌≡◌};
 ghost use Rattle.pf_values.specs.meaning.Bases.{is_defined};
 ghost use Rattle.pf_values.specs.meaning.Conversions.{
-    alternative_under,
-    base_under,
-    has_capitals,
-    kept_conv,
-    kind_of,
-    prints_char,
-    prints_grouped,
-    prints_text,
+  alternative_under,
+  base_under,
+  has_capitals,
+  kept_conv,
+  kind_of,
+  prints_char,
+  prints_grouped,
+  prints_text,
 };
 
 use crate::bases::{Alternative, Base};

@@ -2,13 +2,13 @@
 ghost use Rattle.std.specs.Prelude.{◌≡◌, ◌↔◌, IsTrue, false, true};
 ghost use Rattle.pf_values.specs.meaning.Bits.{Bits, bit_count};
 ghost use Rattle.pf_values.specs.meaning.DataModel.{
-    FitsIn,
-    bits_under,
-    kept_length,
-    row_of_rank,
-    signed_type,
-    type_bits,
-    unsigned_type,
+  FitsIn,
+  bits_under,
+  kept_length,
+  row_of_rank,
+  signed_type,
+  type_bits,
+  unsigned_type,
 };
 
 use crate::lengths::Length;

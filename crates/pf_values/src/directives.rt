@@ -2,10 +2,10 @@
 ghost use Rattle.std.specs.Prelude.{◌≡◌, ◌≤◌, MatchResult};
 ghost use Rattle.pf_values.specs.declared.limits.TheConstants.{MAX_NUMBER};
 ghost use Rattle.pf_values.specs.meaning.Defined.{
-    IsDefined,
-    first_broken,
-    refused_as,
-    undefined_kinds,
+  IsDefined,
+  first_broken,
+  refused_as,
+  undefined_kinds,
 };
 ghost use Rattle.pf_values.specs.Directives.{specification_of, value_bits, effective_precision};
 ghost use Rattle.pf_values.specs.meaning.DataModel.{arg_type};
