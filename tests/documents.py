@@ -17,6 +17,7 @@ sys.path.insert(0, str(Path(__file__).resolve().parent))
 import arguments  # noqa: E402
 import definition_names  # noqa: E402
 import literals  # noqa: E402
+import reach  # noqa: E402
 import turned  # noqa: E402
 from harness import TOP, Trials, fences, model_rows, usage_texts  # noqa: E402
 
@@ -271,6 +272,7 @@ def main():
     try_edits(trials)
     try_definitions(trials)
     try_numbers(trials)
+    reach.try_reach(trials)
     return trials.end()
 
 

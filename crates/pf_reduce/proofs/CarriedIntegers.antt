@@ -11,8 +11,8 @@ use Rattle.pf_values.specs.declared.flags.FlagSet.{FlagSet}
 use Rattle.pf_values.specs.declared.lengths.Length.{Length}
 use Rattle.pf_values.specs.declared.limits.TheConstants.{MAX_NUMBER}
 use Rattle.pf_values.specs.declared.models.Model.{Model}
-use Rattle.pf_values.specs.Arguments.{Number, String, IsConverted}
-use Rattle.pf_values.specs.Conversions.{
+use Rattle.pf_values.specs.meaning.Arguments.{Number, String, IsConverted}
+use Rattle.pf_values.specs.meaning.Conversions.{
   is_signed,
   is_text,
   kept_conv,
@@ -20,16 +20,17 @@ use Rattle.pf_values.specs.Conversions.{
   prints_signed,
   prints_text,
 }
-use Rattle.pf_values.specs.DataModel.{FitsIn, bit_count, bits_under, kept_length, type_of_kind, type_under}
-use Rattle.pf_values.specs.Flags.{has}
-use Rattle.pf_values.specs.Printing.{PrintsKind, PrintsNumber, field}
-use Rattle.pf_values.specs.Specification.{Specification, width_given}
-use Rattle.pf_values.specs.Text.{Text}
+use Rattle.pf_values.specs.meaning.DataModel.{FitsIn, bit_count, bits_under, kept_length, type_of_kind, type_under}
+use Rattle.pf_values.specs.meaning.Flags.{has}
+use Rattle.pf_values.specs.meaning.Printing.{PrintsKind, PrintsNumber, field}
+use Rattle.pf_values.specs.meaning.Specification.{Specification}
+use Rattle.pf_values.specs.Directives.{width_given}
+use Rattle.pf_values.specs.meaning.Text.{Text}
 use Rattle.pf_values.proofs.DataModelLemmas.{kept_row}
 use Rattle.pf_values.proofs.PrintsOnce.{PrintsNumber-is, PrintsNumber-value, value_text}
 use Rattle.pf_reduce.specs.declared.padding.Padding.{Padding}
 use Rattle.pf_reduce.specs.declared.results.Reduced.{Reduced}
-use Rattle.pf_reduce.specs.Made.{result_within, core_within, with_side}
+use Rattle.pf_reduce.specs.Cores.{padded_core, core_of_parts, with_side}
 use Rattle.pf_reduce.specs.Padded.{constants, with_padding, padding_of}
 use Rattle.pf_reduce.specs.Reducing.{IsNormalCore, IsReducedTo, around, core_of}
 use Rattle.pf_reduce.proofs.Carried.{Carries, prints_reduced}
@@ -110,15 +111,15 @@ minus_is false flags h = h
 pub field-padded : (s : Specification) (body : Text) → field s body ≡ with_padding (padding_of s) body
 field-padded s body = sym (append-nil (field s body))
 
-pub padded-made : (model : Model) (s : Specification) (p : Padding) (flags : FlagSet) (precision : Option ℕ) (body : Text) → has flags Minus ≡ false → with_padding p body ≡ around (result_within model s p flags precision) (field (core_within model s p flags precision) body)
+pub padded-made : (model : Model) (s : Specification) (p : Padding) (flags : FlagSet) (precision : Option ℕ) (body : Text) → has flags Minus ≡ false → with_padding p body ≡ around (padded_core model s p flags precision) (field (core_of_parts model s p flags precision) body)
 padded-made model s p flags precision body right = rw (minus_is p.left flags right, width_is p.width) refl
 
 -- A core made of parts prints the same values, within its padding.
-pub integer_reduced : (model : Model) (s : Specification) (p : Padding) (flags : FlagSet) (precision : Option ℕ) → is_text s.conv ≡ false → has flags Minus ≡ false → IsNormalCore model (result_within model s p flags precision).core → constants p ≤ MAX_NUMBER
-    → ((v : ℤ) → IsValueOf model s v → with_padding (padding_of s) (value_text s v) ≡ with_padding p (value_text (core_within model s p flags precision) v))
-    → IsReducedTo model s (result_within model s p flags precision)
+pub integer_reduced : (model : Model) (s : Specification) (p : Padding) (flags : FlagSet) (precision : Option ℕ) → is_text s.conv ≡ false → has flags Minus ≡ false → IsNormalCore model (padded_core model s p flags precision).core → constants p ≤ MAX_NUMBER
+    → ((v : ℤ) → IsValueOf model s v → with_padding (padding_of s) (value_text s v) ≡ with_padding p (value_text (core_of_parts model s p flags precision) v))
+    → IsReducedTo model s (padded_core model s p flags precision)
 integer_reduced model s p flags precision text right normal few same =
-    let r : Reduced = result_within model s p flags precision in
+    let r : Reduced = padded_core model s p flags precision in
     let agree : (v : ℤ) → IsValueOf model s v → field s (value_text s v) ≡ around r (field (core_of r.core) (value_text (core_of r.core) v)) =
     λ v fits. field-padded s _ ∙ same v fits ∙ padded-made model s p flags precision _ right in
     record {

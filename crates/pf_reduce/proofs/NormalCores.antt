@@ -7,17 +7,18 @@ use Rattle.pf_values.specs.declared.flags.Flag.TheVariants.{Alt, Minus, Plus, Sp
 use Rattle.pf_values.specs.declared.lengths.Length.{Length}
 use Rattle.pf_values.specs.declared.limits.TheConstants.{MAX_NUMBER}
 use Rattle.pf_values.specs.declared.models.Model.{Model}
-use Rattle.pf_values.specs.Conversions.{is_signed, kept_conv}
-use Rattle.pf_values.specs.DataModel.{Bits, bits_under, kept_length, most_digits}
-use Rattle.pf_values.specs.Defined.{is_above_limit, refused_as}
-use Rattle.pf_values.specs.Flags.{has}
-use Rattle.pf_values.specs.Normal.{IsNormal, IsNormalSigned, digits_at_most, sign_len}
-use Rattle.pf_values.specs.Specification.{Specification, specification_of, width_given}
+use Rattle.pf_values.specs.meaning.Conversions.{is_signed, kept_conv}
+use Rattle.pf_values.specs.meaning.DataModel.{Bits, bits_under, kept_length, most_digits}
+use Rattle.pf_values.specs.meaning.Defined.{is_above_limit, refused_as}
+use Rattle.pf_values.specs.meaning.Flags.{has}
+use Rattle.pf_values.specs.meaning.Normal.{IsNormal, IsNormalSigned, digits_at_most, sign_len}
+use Rattle.pf_values.specs.meaning.Specification.{Specification}
+use Rattle.pf_values.specs.Directives.{specification_of, width_given}
 use Rattle.pf_values.proofs.DataModelLemmas.{kept_row}
 use Rattle.pf_reduce.specs.declared.padding.Padding.{Padding}
 use Rattle.pf_reduce.specs.declared.signs.Sign.{Sign}
 use Rattle.pf_reduce.specs.declared.signs.Sign.TheVariants as signs
-use Rattle.pf_reduce.specs.Made.{core_within, kept_precision, with_side}
+use Rattle.pf_reduce.specs.Cores.{core_of_parts, kept_precision, with_side}
 use Rattle.pf_reduce.specs.Signs.{sign_flags, sign_length}
 use Rattle.pf_reduce.proofs.CarriedIntegers.{kept_bits, width_is}
 use Rattle.pf_reduce.proofs.Precisions.{written_is}
@@ -133,7 +134,7 @@ pub normal_signed : (model : Model) (s : Specification) (p : Padding) (sign : Si
     → p.width ≢ 1 + max precision (digits_at_most model s))
     → (p.left ≡ true → (0 < p.width)
     × (sign ≢ signs.Plus → precision ≡ 0 → sign_length sign + 1 < p.width))
-    → IsNormal model (core_within model s p (sign_flags sign) (kept_precision precision))
+    → IsNormal model (core_of_parts model s p (sign_flags sign) (kept_precision precision))
 normal_signed model s p sign precision signed limit least most space none left =
     let length = kept_length model s.length in
     let same = ap (λ r. r.kept) (kept_row model s.length) in

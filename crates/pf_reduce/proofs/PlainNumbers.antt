@@ -15,8 +15,8 @@ use Rattle.pf_values.specs.declared.conversions.Kind.TheVariants as kinds
 use Rattle.pf_values.specs.declared.flags.Flag.TheVariants.{Alt}
 use Rattle.pf_values.specs.declared.limits.TheConstants.{MAX_NUMBER}
 use Rattle.pf_values.specs.declared.models.Model.{Model}
-use Rattle.pf_values.specs.Bases.{alternative_of, number_of}
-use Rattle.pf_values.specs.Conversions.{
+use Rattle.pf_values.specs.meaning.Bases.{alternative_of, number_of}
+use Rattle.pf_values.specs.meaning.Conversions.{
   base_of,
   base_under,
   is_octal,
@@ -27,18 +27,19 @@ use Rattle.pf_values.specs.Conversions.{
   prints_signed,
   prints_text,
 }
-use Rattle.pf_values.specs.DataModel.{bits_under}
-use Rattle.pf_values.specs.Flags.{has, no_flags, with_flag}
-use Rattle.pf_values.specs.Normal.{digits_at_most, effective_precision}
-use Rattle.pf_values.specs.Printing.{front_under, prefix_under, sign_or_prefix}
-use Rattle.pf_values.specs.Specification.{Specification}
-use Rattle.pf_values.specs.Text.{Text, zero_digit}
+use Rattle.pf_values.specs.meaning.DataModel.{bits_under}
+use Rattle.pf_values.specs.meaning.Flags.{has, no_flags, with_flag}
+use Rattle.pf_values.specs.meaning.Normal.{digits_at_most}
+use Rattle.pf_values.specs.Directives.{effective_precision}
+use Rattle.pf_values.specs.meaning.Printing.{front_under, prefix_under, sign_or_prefix}
+use Rattle.pf_values.specs.meaning.Specification.{Specification}
+use Rattle.pf_values.specs.meaning.Text.{Text, zero_digit}
 use Rattle.pf_values.proofs.Counts.{count-le}
 use Rattle.pf_values.proofs.NumberTexts.{length-zero_digits, number_text}
 use Rattle.pf_values.proofs.Printed.{count_of, natural_len, zero_digits}
 use Rattle.pf_values.proofs.PrintsOnce.{value_text}
 use Rattle.pf_reduce.specs.declared.padding.Padding.{Padding}
-use Rattle.pf_reduce.specs.Made.{result_within, core_within, with_side, kept_precision}
+use Rattle.pf_reduce.specs.Cores.{padded_core, core_of_parts, with_side, kept_precision}
 use Rattle.pf_reduce.specs.Padded.{IsUnseen, constants, with_padding, padding_of}
 use Rattle.pf_reduce.specs.Reducing.{IsNormalCore, IsReducedTo}
 use Rattle.pf_reduce.proofs.CarriedIntegers.{integer_reduced, kept_kind, kept_sign}
@@ -98,11 +99,11 @@ no_alt true = refl
 no_alt false = refl
 
 -- Digits alone are left.
-pub digits_reduced : (model : Model) (s : Specification) (p : Padding) (precision : ℕ) → is_text s.conv ≡ false → is_signed s.conv ≡ false → IsNormalCore model (result_within model s p no_flags (kept_precision precision)).core → constants p ≤ MAX_NUMBER
+pub digits_reduced : (model : Model) (s : Specification) (p : Padding) (precision : ℕ) → is_text s.conv ≡ false → is_signed s.conv ≡ false → IsNormalCore model (padded_core model s p no_flags (kept_precision precision)).core → constants p ≤ MAX_NUMBER
     → ((v : ℤ) → count_of (base_of s.conv) (nat_abs v) ≤ digits_at_most model s → with_padding (padding_of s) (value_text s v) ≡ with_padding p (digits_text s.conv precision (nat_abs v)))
-    → IsReducedTo model s (result_within model s p no_flags (kept_precision precision))
+    → IsReducedTo model s (padded_core model s p no_flags (kept_precision precision))
 digits_reduced model s p precision text sign normal few same =
-    let t : Specification = core_within model s p no_flags (kept_precision precision) in
+    let t : Specification = core_of_parts model s p no_flags (kept_precision precision) in
     let kept = kept_kind s.conv in
     integer_reduced model s p no_flags (kept_precision precision) text refl normal few (λ v fits.
     let core : value_text t v ≡ digits_text s.conv precision (nat_abs v) =
@@ -176,12 +177,12 @@ pub octal_count : (model : Model) (s : Specification) → IsOctal s.conv → (n 
 octal_count model s e n h = subst (λ k. count_of (number_of (base_under k)) n ≤ digits_at_most model s) e h
 
 -- the flag `#` stays
-pub octal_reduced : (model : Model) (s : Specification) (p : Padding) (precision : ℕ) → IsOctal s.conv → has s.flags Alt ≡ true → IsNormalCore model (result_within model s p (with_flag no_flags Alt) (kept_precision precision)).core → constants p ≤ MAX_NUMBER
+pub octal_reduced : (model : Model) (s : Specification) (p : Padding) (precision : ℕ) → IsOctal s.conv → has s.flags Alt ≡ true → IsNormalCore model (padded_core model s p (with_flag no_flags Alt) (kept_precision precision)).core → constants p ≤ MAX_NUMBER
     → ((v : ℤ) → count_of 8 (nat_abs v) ≤ digits_at_most model s → with_padding (padding_of s) (value_text s v) ≡ with_padding p (octal_text precision (nat_abs v)))
-    → IsReducedTo model s (result_within model s p (with_flag no_flags Alt) (kept_precision precision))
+    → IsReducedTo model s (padded_core model s p (with_flag no_flags Alt) (kept_precision precision))
 octal_reduced model s p precision e alt normal few same =
     let flags = with_flag no_flags Alt in
-    let t : Specification = core_within model s p flags (kept_precision precision) in
+    let t : Specification = core_of_parts model s p flags (kept_precision precision) in
     let text : is_text s.conv ≡ false = ap prints_text e in
     integer_reduced model s p flags (kept_precision precision) text refl normal few (λ v fits.
     let core : value_text t v ≡ octal_text precision (nat_abs v) =

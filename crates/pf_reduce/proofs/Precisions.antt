@@ -5,16 +5,17 @@ use Rattle.std.proofs.lemmas.Bool.Decides.{nat_tests}
 use Rattle.pf_values.specs.declared.flags.Flag.TheVariants.{Alt, Minus, Zero}
 use Rattle.pf_values.specs.declared.flags.FlagSet.{FlagSet}
 use Rattle.pf_values.specs.declared.models.Model.{Model}
-use Rattle.pf_values.specs.Conversions.{base_of, is_upper}
-use Rattle.pf_values.specs.Flags.{has, no_flags, with_flag}
-use Rattle.pf_values.specs.Normal.{effective_precision, precision_of}
-use Rattle.pf_values.specs.Printing.{is_zero_filled, sign_or_prefix}
-use Rattle.pf_values.specs.Specification.{Specification, width_of}
+use Rattle.pf_values.specs.meaning.Conversions.{base_of, is_upper}
+use Rattle.pf_values.specs.meaning.Flags.{has, no_flags, with_flag}
+use Rattle.pf_values.specs.Directives.{effective_precision}
+use Rattle.pf_values.specs.meaning.Normal.{precision_of}
+use Rattle.pf_values.specs.meaning.Printing.{is_zero_filled, sign_or_prefix}
+use Rattle.pf_values.specs.meaning.Specification.{Specification, width_of}
 use Rattle.pf_values.proofs.NumberTexts.{number_text, value_text-is, value_text-unfilled}
 use Rattle.pf_values.proofs.Printed.{count_of, filled_precision, natural_of, precision_under, zero_digits}
 use Rattle.pf_values.proofs.PrintsOnce.{value_text}
 use Rattle.pf_reduce.specs.declared.padding.Padding.{Padding}
-use Rattle.pf_reduce.specs.Made.{core_within, with_side, kept_precision}
+use Rattle.pf_reduce.specs.Cores.{core_of_parts, with_side, kept_precision}
 
 -- what the flag `0` makes of the width: as many zeros, where the sign or prefix has the length
 filled_max : (w f sign natural : ℕ) → (f ≡ sign) ⊎ (w ≤ 1) → max (filled_precision w f natural) natural ≡ max (max (w - sign) 1) natural
@@ -39,9 +40,9 @@ unfilled : (left : Bool) (flags : FlagSet) (b : Bool) → has flags Zero ≡ fal
 unfilled true flags b h = rw h refl
 unfilled false flags b h = rw h refl
 
-pub core_text : (model : Model) (s : Specification) (p : Padding) (flags : FlagSet) (precision : ℕ) (v : ℤ) → has flags Zero ≡ false → let t : Specification = core_within model s p flags (kept_precision precision) in value_text t v ≡ number_text t precision v
+pub core_text : (model : Model) (s : Specification) (p : Padding) (flags : FlagSet) (precision : ℕ) (v : ℤ) → has flags Zero ≡ false → let t : Specification = core_of_parts model s p flags (kept_precision precision) in value_text t v ≡ number_text t precision v
 core_text model s p flags precision v h =
-    let t : Specification = core_within model s p flags (kept_precision precision) in
+    let t : Specification = core_of_parts model s p flags (kept_precision precision) in
     value_text-unfilled t v (unfilled p.left flags _ h) ∙ ap (λ k. number_text t k v) (written_is precision)
 
 -- one base, and one sign or prefix
@@ -70,7 +71,7 @@ right_of a false c h = refl
 right_of true true c h = cc
 right_of false true c h = cc
 
--- a directive that is filled with zeros stands on the right
+-- a directive that is filled with zeros is right-justified
 pub filled_right : (s : Specification) → is_zero_filled s ≡ true → has s.flags Minus ≡ false
 filled_right s h = right_of (has s.flags Zero) (has s.flags Minus) _ h
 

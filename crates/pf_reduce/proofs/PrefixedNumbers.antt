@@ -12,37 +12,32 @@ use Rattle.pf_values.specs.declared.flags.Flag.TheVariants.{Alt, Zero}
 use Rattle.pf_values.specs.declared.flags.FlagSet.{FlagSet}
 use Rattle.pf_values.specs.declared.limits.TheConstants.{MAX_NUMBER}
 use Rattle.pf_values.specs.declared.models.Model.{Model}
-use Rattle.pf_values.specs.Bases.{
-  alternative_of,
-  number_of,
-  prefix_of,
-  puts_prefix,
-  raises_precision,
-}
-use Rattle.pf_values.specs.Conversions.{
+use Rattle.pf_values.specs.meaning.Bases.{alternative_of, number_of, prefix_of, raises_precision}
+use Rattle.pf_reduce.specs.Prefixes.{puts_prefix, is_prefixed}
+use Rattle.pf_values.specs.meaning.Conversions.{
   alternative_under,
   base_of,
   base_under,
   has_capitals,
-  is_prefixed,
   is_upper,
   kept_conv,
   kind_of,
   prints_signed,
   prints_text,
 }
-use Rattle.pf_values.specs.DataModel.{bits_under}
-use Rattle.pf_values.specs.Flags.{has, no_flags, with_flag}
-use Rattle.pf_values.specs.Normal.{digits_at_most, effective_precision}
-use Rattle.pf_values.specs.Printing.{front_under, is_zero, is_zero_filled, sign_or_prefix}
-use Rattle.pf_values.specs.Specification.{Specification, width_of}
-use Rattle.pf_values.specs.Text.{Text}
+use Rattle.pf_values.specs.meaning.DataModel.{bits_under}
+use Rattle.pf_values.specs.meaning.Flags.{has, no_flags, with_flag}
+use Rattle.pf_values.specs.meaning.Normal.{digits_at_most}
+use Rattle.pf_values.specs.Directives.{effective_precision}
+use Rattle.pf_values.specs.meaning.Printing.{front_under, is_zero, is_zero_filled, sign_or_prefix}
+use Rattle.pf_values.specs.meaning.Specification.{Specification, width_of}
+use Rattle.pf_values.specs.meaning.Text.{Text}
 use Rattle.pf_values.proofs.Counts.{count-ge, count-le}
 use Rattle.pf_values.proofs.NumberTexts.{number_text}
 use Rattle.pf_values.proofs.Printed.{count_of, zero_digits}
 use Rattle.pf_values.proofs.PrintsOnce.{value_text}
 use Rattle.pf_reduce.specs.declared.padding.Padding.{Padding}
-use Rattle.pf_reduce.specs.Made.{result_within, core_within, kept_precision}
+use Rattle.pf_reduce.specs.Cores.{padded_core, core_of_parts, kept_precision}
 use Rattle.pf_reduce.specs.Padded.{IsUnseen, constants, with_padding, padding_of}
 use Rattle.pf_reduce.specs.Reducing.{IsNormalCore, IsReducedTo}
 use Rattle.pf_reduce.proofs.CarriedIntegers.{integer_reduced, kept_kind, width_is}
@@ -158,12 +153,12 @@ module _ (s : Specification) (form : is_prefixed s.conv ≡ true) (alt : has s.f
       (omega arith)
 
 module _ (model : Model) (s : Specification) (form : is_prefixed s.conv ≡ true) (alt : has s.flags Alt ≡ true) where
-  pub prefixed_reduced : (p : Padding) (precision : ℕ) → (is_zero_filled s ≡ true → (1 ≤ 0) ⊎ (width_of s ≤ 1)) → precision ≡ effective_precision s 0 → IsNormalCore model (result_within model s p (with_flag no_flags Alt) (kept_precision precision)).core → constants p ≤ MAX_NUMBER
+  pub prefixed_reduced : (p : Padding) (precision : ℕ) → (is_zero_filled s ≡ true → (1 ≤ 0) ⊎ (width_of s ≤ 1)) → precision ≡ effective_precision s 0 → IsNormalCore model (padded_core model s p (with_flag no_flags Alt) (kept_precision precision)).core → constants p ≤ MAX_NUMBER
       → ((body : Text) → IsPrefixed precision (digits_at_most model s) body → with_padding (padding_of s) body ≡ with_padding p body)
-      → IsReducedTo model s (result_within model s p (with_flag no_flags Alt) (kept_precision precision))
+      → IsReducedTo model s (padded_core model s p (with_flag no_flags Alt) (kept_precision precision))
   prefixed_reduced p precision narrow p_is normal few same =
       let flags : FlagSet = with_flag no_flags Alt in
-      let t : Specification = core_within model s p flags (kept_precision precision) in
+      let t : Specification = core_of_parts model s p flags (kept_precision precision) in
       let h = has_prefix s form alt in
       integer_reduced model s p flags (kept_precision precision) h.text refl normal few (λ v fits.
       let body = number_text s precision v in
@@ -173,10 +168,10 @@ module _ (model : Model) (s : Specification) (form : is_prefixed s.conv ≡ true
       ap (with_padding (padding_of s)) whole ∙ same body is ∙ ap (with_padding p) (sym core))
 
   -- zeros up to the width, which stay
-  pub prefixed_filled : is_zero_filled s ≡ true → (let flags = with_flag (with_flag no_flags Alt) Zero in IsNormalCore model (result_within model s (padding_of s) flags None).core → IsReducedTo model s (result_within model s (padding_of s) flags None))
+  pub prefixed_filled : is_zero_filled s ≡ true → (let flags = with_flag (with_flag no_flags Alt) Zero in IsNormalCore model (padded_core model s (padding_of s) flags None).core → IsReducedTo model s (padded_core model s (padding_of s) flags None))
   prefixed_filled all normal =
       let flags : FlagSet = with_flag (with_flag no_flags Alt) Zero in
-      let t : Specification = core_within model s (padding_of s) flags None in
+      let t : Specification = core_of_parts model s (padding_of s) flags None in
       let right = filled_right s all in
       let h = has_prefix s form alt in
       integer_reduced model s (padding_of s) flags None h.text refl normal (omega arith) (λ v fits.

@@ -1,8 +1,8 @@
 -- The sign of a number.
 use Rattle.std.proofs.Common.{◌≡◌, ℕ, ◌<◌, Bool, true, false, ◌++◌, length, replicate, refl, sym, ap, ◌∙◌, inl, inr}
 use Rattle.std.specs.Prelude.{◌⊎◌}
-use Rattle.pf_values.specs.Printing.{field_of}
-use Rattle.pf_values.specs.Text.{Text, space, zero_digit}
+use Rattle.pf_values.specs.meaning.Printing.{field_of}
+use Rattle.pf_values.specs.meaning.Text.{Text, space, zero_digit}
 use Rattle.pf_reduce.specs.declared.padding.Padding.{Padding}
 use Rattle.pf_reduce.specs.declared.signs.Sign.{Sign}
 use Rattle.pf_reduce.specs.declared.signs.Sign.TheVariants as signs
@@ -18,7 +18,7 @@ in_field w false number h = space_in_field w number h
 pub space_or_none : (p : Padding) (negative : Bool) (number : Text) → p.left ≡ false → length number < p.width → with_padding p (sign_text signs.Space negative ++ number) ≡ with_padding p (sign_text signs.None negative ++ number)
 space_or_none p negative number right room = rw right (ap (λ t. replicate p.spaces space ++ (replicate p.zeros zero_digit ++ (t ++ replicate p.trail space))) (in_field p.width negative number room))
 
--- so either may stand for the other
+-- so either may replace the other
 pub space_for : (sign : Sign) (p : Padding) (negative : Bool) (number : Text) → (sign ≡ signs.Space) ⊎ (sign ≡ signs.None) → p.left ≡ false → length number < p.width → with_padding p (sign_text sign negative ++ number) ≡ with_padding p (sign_text signs.Space negative ++ number)
 space_for sign p negative number (inl e) right room = rw e refl
 space_for sign p negative number (inr e) right room = rw e (sym (space_or_none p negative number right room))

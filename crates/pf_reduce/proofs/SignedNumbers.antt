@@ -9,8 +9,8 @@ use Rattle.pf_values.specs.declared.flags.Flag.TheVariants.{Alt, Minus, Plus, Sp
 use Rattle.pf_values.specs.declared.flags.FlagSet.{FlagSet}
 use Rattle.pf_values.specs.declared.limits.TheConstants.{MAX_NUMBER}
 use Rattle.pf_values.specs.declared.models.Model.{Model}
-use Rattle.pf_values.specs.Bases.{number_of, raises_precision}
-use Rattle.pf_values.specs.Conversions.{
+use Rattle.pf_values.specs.meaning.Bases.{number_of, raises_precision}
+use Rattle.pf_values.specs.meaning.Conversions.{
   alternative_under,
   base_of,
   base_under,
@@ -23,18 +23,19 @@ use Rattle.pf_values.specs.Conversions.{
   prints_signed,
   prints_text,
 }
-use Rattle.pf_values.specs.DataModel.{bits_under}
-use Rattle.pf_values.specs.Flags.{has, no_flags, with_flag}
-use Rattle.pf_values.specs.Normal.{digits_at_most, effective_precision}
-use Rattle.pf_values.specs.Printing.{
+use Rattle.pf_values.specs.meaning.DataModel.{bits_under}
+use Rattle.pf_values.specs.meaning.Flags.{has, no_flags, with_flag}
+use Rattle.pf_values.specs.meaning.Normal.{digits_at_most}
+use Rattle.pf_values.specs.Directives.{effective_precision}
+use Rattle.pf_values.specs.meaning.Printing.{
   front_under,
   is_negative,
   is_zero_filled,
   sign,
   sign_or_prefix,
 }
-use Rattle.pf_values.specs.Specification.{Specification, width_of}
-use Rattle.pf_values.specs.Text.{Text}
+use Rattle.pf_values.specs.meaning.Specification.{Specification, width_of}
+use Rattle.pf_values.specs.meaning.Text.{Text}
 use Rattle.pf_values.proofs.Counts.{count-ge, count-le}
 use Rattle.pf_values.proofs.NumberTexts.{number_text}
 use Rattle.pf_values.proofs.Printed.{count_of, natural_of, zero_digits}
@@ -42,7 +43,7 @@ use Rattle.pf_values.proofs.PrintsOnce.{value_text}
 use Rattle.pf_reduce.specs.declared.padding.Padding.{Padding}
 use Rattle.pf_reduce.specs.declared.signs.Sign.{Sign}
 use Rattle.pf_reduce.specs.declared.signs.Sign.TheVariants as signs
-use Rattle.pf_reduce.specs.Made.{result_within, core_within, with_side, kept_precision}
+use Rattle.pf_reduce.specs.Cores.{padded_core, core_of_parts, with_side, kept_precision}
 use Rattle.pf_reduce.specs.Padded.{IsUnseen, constants, with_padding, padding_of}
 use Rattle.pf_reduce.specs.Reducing.{IsNormalCore, IsReducedTo}
 use Rattle.pf_reduce.specs.Signs.{sign_flags, sign_length, sign_of, sign_text}
@@ -135,11 +136,11 @@ no_sign signs.Space h = absurd (omega arith)
 
 module _ (model : Model) (s : Specification) (signed : is_signed s.conv ≡ true) where
   pub signed_reduced : (p : Padding) (sign : Sign) (precision : ℕ) → (is_zero_filled s ≡ true → (1 ≤ sign_length (sign_of s.flags)) ⊎ (width_of s ≤ 1)) → precision ≡ effective_precision s (sign_length (sign_of s.flags))
-      → IsNormalCore model (result_within model s p (sign_flags sign) (kept_precision precision)).core → constants p ≤ MAX_NUMBER
+      → IsNormalCore model (padded_core model s p (sign_flags sign) (kept_precision precision)).core → constants p ≤ MAX_NUMBER
       → ((v : ℤ) → count_of 10 (nat_abs v) ≤ digits_at_most model s → with_padding (padding_of s) (signed_text (sign_of s.flags) precision v) ≡ with_padding p (signed_text sign precision v))
-      → IsReducedTo model s (result_within model s p (sign_flags sign) (kept_precision precision))
+      → IsReducedTo model s (padded_core model s p (sign_flags sign) (kept_precision precision))
   signed_reduced p sign precision narrow p_is normal few same =
-      let t : Specification = core_within model s p (sign_flags sign) (kept_precision precision) in
+      let t : Specification = core_of_parts model s p (sign_flags sign) (kept_precision precision) in
       let k = signed_kind (kind_of s.conv) signed in
       let text : is_text s.conv ≡ false = ap prints_text k in
       let flags = no_other_flag sign in
@@ -151,10 +152,10 @@ module _ (model : Model) (s : Specification) (signed : is_signed s.conv ≡ true
       ap (with_padding (padding_of s)) (signed_value s v signed narrow ∙ ap (λ k. signed_text (sign_of s.flags) k v) (sym p_is)) ∙ same v count ∙ ap (with_padding p) (sym core))
 
   -- zeros up to the width, which stay
-  pub signed_filled : is_zero_filled s ≡ true → sign_length (sign_of s.flags) ≡ 0 → (let flags = with_flag no_flags Zero in IsNormalCore model (result_within model s (padding_of s) flags None).core → IsReducedTo model s (result_within model s (padding_of s) flags None))
+  pub signed_filled : is_zero_filled s ≡ true → sign_length (sign_of s.flags) ≡ 0 → (let flags = with_flag no_flags Zero in IsNormalCore model (padded_core model s (padding_of s) flags None).core → IsReducedTo model s (padded_core model s (padding_of s) flags None))
   signed_filled all none normal =
       let flags : FlagSet = with_flag no_flags Zero in
-      let t : Specification = core_within model s (padding_of s) flags None in
+      let t : Specification = core_of_parts model s (padding_of s) flags None in
       let right = filled_right s all in
       let text : is_text s.conv ≡ false = ap prints_text (signed_kind (kind_of s.conv) signed) in
       let same = kept_kind s.conv in

@@ -2,5 +2,6 @@ pub mod NormalValues
 pub mod Reducing
 pub mod NormalParts
 pub mod Padded
+pub mod Prefixes
 pub mod Signs
-pub mod Made
+pub mod Cores

@@ -2,10 +2,10 @@
 use Rattle.std.specs.Prelude.{◌≡◌, Some, IsTrue, IsFalse}
 use Rattle.pf_values.specs.declared.flags.Flag.TheVariants.{Plus, Space, Group}
 use Rattle.pf_values.specs.declared.models.Model.{Model}
-use Rattle.pf_values.specs.Conversions.{is_signed, is_string, kept_conv}
-use Rattle.pf_values.specs.DataModel.{kept_length}
-use Rattle.pf_values.specs.Flags.{has}
-use Rattle.pf_values.specs.Specification.{Specification}
+use Rattle.pf_values.specs.meaning.Conversions.{is_signed, is_string, kept_conv}
+use Rattle.pf_values.specs.meaning.DataModel.{kept_length}
+use Rattle.pf_values.specs.meaning.Flags.{has}
+use Rattle.pf_values.specs.meaning.Specification.{Specification}
 
 -- what `IsNormal` asks of every form
 pub record HasNormalParts (model : Model) (s : Specification) : Type 0 where

@@ -1,10 +1,10 @@
 -- Texts in a field, within constant padding. This project's own, but for the field.
 use Rattle.std.specs.Prelude.{◌≡◌, ℕ, ◌+◌, ◌≤◌, ◌++◌, ◌⊎◌, length, replicate}
 use Rattle.pf_values.specs.declared.flags.Flag.TheVariants.{Minus}
-use Rattle.pf_values.specs.Flags.{has}
-use Rattle.pf_values.specs.Printing.{field_of}
-use Rattle.pf_values.specs.Specification.{Specification, width_of}
-use Rattle.pf_values.specs.Text.{Text, space, zero_digit}
+use Rattle.pf_values.specs.meaning.Flags.{has}
+use Rattle.pf_values.specs.meaning.Printing.{field_of}
+use Rattle.pf_values.specs.meaning.Specification.{Specification, width_of}
+use Rattle.pf_values.specs.meaning.Text.{Text, space, zero_digit}
 use Rattle.pf_reduce.specs.declared.padding.Padding.{Padding}
 
 -- spaces, zeros, the body in its field, and spaces
@@ -22,6 +22,6 @@ padding_of s =
 abbrev pub constants : Padding → ℕ
 constants p = p.spaces + (p.zeros + p.trail)
 
--- the side of a field isn't seen: the width is reached, or only spaces are printed
+-- nobody sees the side of a field: the width is reached, or only spaces are printed
 abbrev pub IsUnseen : ℕ → Text → Type 0
 IsUnseen width body = (width ≤ length body) ⊎ (body ≡ replicate (length body) space)

@@ -3,12 +3,12 @@ use Rattle.std.specs.Prelude.{◌≡◌, ◌≤◌, ◌+◌, ◌++◌, replicate
 use Rattle.pf_values.specs.declared.conversions.Conv.TheVariants.{S}
 use Rattle.pf_values.specs.declared.limits.TheConstants.{MAX_NUMBER}
 use Rattle.pf_values.specs.declared.models.Model.{Model}
-use Rattle.pf_values.specs.Arguments.{Argument, HasType}
-use Rattle.pf_values.specs.DataModel.{arg_type}
-use Rattle.pf_values.specs.Normal.{IsNormal, silent}
-use Rattle.pf_values.specs.Printing.{Prints}
-use Rattle.pf_values.specs.Specification.{Specification}
-use Rattle.pf_values.specs.Text.{Text, space, zero_digit}
+use Rattle.pf_values.specs.meaning.Arguments.{Argument, HasType}
+use Rattle.pf_values.specs.meaning.DataModel.{arg_type}
+use Rattle.pf_values.specs.meaning.Normal.{IsNormal, silent}
+use Rattle.pf_values.specs.meaning.Printing.{Prints}
+use Rattle.pf_values.specs.meaning.Specification.{Specification}
+use Rattle.pf_values.specs.meaning.Text.{Text, space, zero_digit}
 use Rattle.pf_reduce.specs.declared.results.Core.{Core}
 use Rattle.pf_reduce.specs.declared.results.Core.TheVariants.{Normal, Silent}
 use Rattle.pf_reduce.specs.declared.results.Reduced.{Reduced}

@@ -2,8 +2,8 @@
 use Rattle.std.specs.Prelude.{if◌then◌else◌, Bool, true, false, ℕ, [], codes}
 use Rattle.pf_values.specs.declared.flags.Flag.TheVariants.{Plus, Space}
 use Rattle.pf_values.specs.declared.flags.FlagSet.{FlagSet}
-use Rattle.pf_values.specs.Flags.{has, no_flags, with_flag}
-use Rattle.pf_values.specs.Text.{Text}
+use Rattle.pf_values.specs.meaning.Flags.{has, no_flags, with_flag}
+use Rattle.pf_values.specs.meaning.Text.{Text}
 use Rattle.pf_reduce.specs.declared.signs.Sign.{Sign}
 use Rattle.pf_reduce.specs.declared.signs.Sign.TheVariants as signs
 
@@ -24,7 +24,7 @@ sign_length signs.None = 0
 sign_length signs.Plus = 1
 sign_length signs.Space = 1
 
--- what stands before a number that is negative, or is not (C11 7.21.6.1 p6)
+-- what comes before a number that is negative, or is not (C11 7.21.6.1 p6)
 abbrev pub sign_text : Sign → Bool → Text
 sign_text sign true = codes "-"
 sign_text signs.None false = []

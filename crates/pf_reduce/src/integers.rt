@@ -2,26 +2,26 @@
 ghost use Rattle.std.specs.Prelude.{◌≡◌, ◌≢◌, ◌≤◌, ◌<◌, ◌+◌, max, ◌++◌, ◌⊎◌, Bool, false, true, IsTrue, length};
 ghost use Rattle.pf_values.specs.declared.flags.Flag.TheVariants.{Alt};
 ghost use Rattle.pf_values.specs.declared.limits.TheConstants.{MAX_NUMBER};
-ghost use Rattle.pf_values.specs.Conversions.{
+ghost use Rattle.pf_values.specs.meaning.Conversions.{
   alternative_under,
   is_octal,
-  is_prefixed,
   is_signed,
   is_text,
   kind_of,
 };
-ghost use Rattle.pf_values.specs.Flags.{has, no_flags, with_flag};
-ghost use Rattle.pf_values.specs.Normal.{digits_at_most};
-ghost use Rattle.pf_values.specs.Printing.{is_zero_filled};
-ghost use Rattle.pf_values.specs.Specification.{width_of};
-ghost use Rattle.pf_values.specs.Text.{Text};
+ghost use Rattle.pf_reduce.specs.Prefixes.{is_prefixed};
+ghost use Rattle.pf_values.specs.meaning.Flags.{has, no_flags, with_flag};
+ghost use Rattle.pf_values.specs.meaning.Normal.{digits_at_most};
+ghost use Rattle.pf_values.specs.meaning.Printing.{is_zero_filled};
+ghost use Rattle.pf_values.specs.meaning.Specification.{width_of};
+ghost use Rattle.pf_values.specs.meaning.Text.{Text};
 ghost use Rattle.pf_reduce.specs.declared.signs.Sign.TheVariants as signs;
-ghost use Rattle.pf_reduce.specs.Made.{result_within, kept_precision};
+ghost use Rattle.pf_reduce.specs.Cores.{padded_core, kept_precision};
 ghost use Rattle.pf_reduce.specs.Padded.{with_padding};
 ghost use Rattle.pf_reduce.specs.Reducing.{IsNormalCore, IsReducedTo};
 ghost use Rattle.pf_reduce.specs.Signs.{sign_flags, sign_length, sign_text};
 
-use crate::normal_directives::{kept_precision, within};
+use crate::normal_directives::{kept_precision, padded_core};
 use crate::numbers::{max_digits, width};
 use crate::padding::Padding;
 use crate::results::Reduced;
@@ -60,7 +60,7 @@ fn reduce_plain(model: Model, directive: &Directive) -> Reduced
     let precision = directive.effective_precision(0);
     let zeros = precision.saturating_sub(digits);
     let padding = Padding::of(directive)
-        .cut(precision.max(digits))
+        .with_width_at_most(precision.max(digits))
         .without_idle_width(precision)
         .past_zeros(zeros)
         .right_up_to(1);
@@ -76,12 +76,12 @@ fn reduce_octal(model: Model, directive: &Directive) -> Reduced
     let digits = max_digits(model, directive);
     let precision = directive.effective_precision(0).max(1);
     let padding = Padding::of(directive)
-        .cut(precision.max(digits + 1))
+        .with_width_at_most(precision.max(digits + 1))
         .without_idle_width(precision);
     if padding.has_spaces_before() {
-        // they come before the first 0, which the core has to print
+        // These come before the first 0, which the core has to print.
         let alt = FlagSet::empty().with(Flag::Alt);
-        return within(model, padding, directive, alt, kept_precision(precision));
+        return padded_core(model, padding, directive, alt, kept_precision(precision));
     }
     let zeros = 1 + (precision - 1).saturating_sub(digits);
     let padding = padding.past_zeros(zeros).right_up_to(1);
@@ -96,11 +96,11 @@ fn reduce_prefixed(model: Model, directive: &Directive) -> Reduced
 {
     if keeps_zeros(directive, 0) {
         let flags = FlagSet::empty().with(Flag::Alt).with(Flag::Zero);
-        return within(model, Padding::of(directive), directive, flags, None);
+        return padded_core(model, Padding::of(directive), directive, flags, None);
     }
     let precision = directive.effective_precision(0);
     let padding = Padding::of(directive)
-        .cut(2 + precision.max(max_digits(model, directive)))
+        .with_width_at_most(2 + precision.max(max_digits(model, directive)))
         .without_idle_width(precision)
         .right_up_to(unseen_width(precision, 3));
     prefixed_core(model, padding, directive, precision)
@@ -114,12 +114,12 @@ pub(crate) fn reduce_signed(model: Model, directive: &Directive) -> Reduced
     let sign = Sign::of(directive.flags());
     if keeps_zeros(directive, sign.len()) {
         let flags = FlagSet::empty().with(Flag::Zero);
-        return within(model, Padding::of(directive), directive, flags, None);
+        return padded_core(model, Padding::of(directive), directive, flags, None);
     }
     let digits = max_digits(model, directive);
     let precision = directive.effective_precision(sign.len());
     let padding = Padding::of(directive)
-        .cut(1 + precision.max(digits))
+        .with_width_at_most(1 + precision.max(digits))
         .without_idle_width(sign.len() + precision);
     let sign = sign_in_field(sign, padding, precision, digits);
     let padding = padding
@@ -137,10 +137,10 @@ fn plain_core(model: Model, padding: Padding, directive: &Directive, precision: 
         → (precision < padding.width) × (padding.width ≤ digits_at_most model directive.now) }
     requires wide { IsTrue padding.left → 1 < padding.width }
     ensures value { result
-        ≡ result_within model directive.now padding no_flags (kept_precision precision) }
+        ≡ padded_core model directive.now padding no_flags (kept_precision precision) }
     ensures normal { IsNormalCore model result.core }
 {
-    within(
+    padded_core(
         model,
         padding,
         directive,
@@ -158,12 +158,12 @@ fn prefixed_core(model: Model, padding: Padding, directive: &Directive, precisio
     requires left { padding.left ≡ true
         → (0 < padding.width) × (precision ≡ 0 → 3 < padding.width) }
     ensures value { result
-        ≡ result_within model directive.now padding (with_flag no_flags Alt)
+        ≡ padded_core model directive.now padding (with_flag no_flags Alt)
         (kept_precision precision) }
     ensures normal { IsNormalCore model result.core }
 {
     let alt = FlagSet::empty().with(Flag::Alt);
-    within(model, padding, directive, alt, kept_precision(precision))
+    padded_core(model, padding, directive, alt, kept_precision(precision))
 }
 
 // Digits after a sign, not filled with zeros.
@@ -186,10 +186,10 @@ fn signed_core(
     requires left { padding.left ≡ true → (0 < padding.width)
         × (sign ≢ signs.Plus → precision ≡ 0 → sign_length sign + 1 < padding.width) }
     ensures value { result
-        ≡ result_within model directive.now padding (sign_flags sign) (kept_precision precision) }
+        ≡ padded_core model directive.now padding (sign_flags sign) (kept_precision precision) }
     ensures normal { IsNormalCore model result.core }
 {
-    within(
+    padded_core(
         model,
         padding,
         directive,
@@ -198,8 +198,8 @@ fn signed_core(
     )
 }
 
-// Whether the zeros up to the width stay a matter of the width. Beside a sign, which each number
-// then has, they are one of the precision.
+// Whether the flag `0` fills the core's width. Beside a sign, which each number then has, a
+// precision gives the same zeros.
 fn keeps_zeros(directive: &Directive, sign: u16) -> bool
     ensures kept { result ≡ true
         → (is_zero_filled directive.now ≡ true) × (sign ≡ 0) × (2 ≤ width_of directive.now) }
@@ -232,8 +232,8 @@ fn sign_in_field(sign: Sign, padding: Padding, precision: u16, digits: u16) -> S
     }
 }
 
-// The width whose side isn't seen: with precision 0 all that is printed of the value 0 is spaces,
-// and at least so many bytes of any other value.
+// The greatest width of which nobody sees the side: with precision 0 the value 0 prints spaces
+// alone, and any other value at least so many bytes.
 fn unseen_width(precision: u16, least: u16) -> u16
     ensures none { precision ≡ 0 → result ≡ least }
     ensures some { 1 ≤ precision → result ≡ 0 }
@@ -241,7 +241,7 @@ fn unseen_width(precision: u16, least: u16) -> u16
     if precision == 0 { least } else { 0 }
 }
 
-// With a `+` the value 0 prints that.
+// The same of a signed number, where the value 0 prints its `+`, if it has one.
 fn unseen_signed_width(precision: u16, sign: Sign) -> u16
     ensures plus { sign ≡ signs.Plus → result ≡ 0 }
     ensures none { sign ≢ signs.Plus → precision ≡ 0 → result ≡ sign_length sign + 1 }

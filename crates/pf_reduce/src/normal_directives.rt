@@ -1,9 +1,9 @@
 //! Normal directives made of their parts.
 ghost use Rattle.std.specs.Prelude.{◌≡◌};
-ghost use Rattle.pf_values.specs.Defined.{IsDefined};
-ghost use Rattle.pf_values.specs.Normal.{IsNormal};
-ghost use Rattle.pf_values.specs.Specification.{specification_of};
-ghost use Rattle.pf_reduce.specs.Made.{result_within, core_within, kept_precision};
+ghost use Rattle.pf_values.specs.meaning.Defined.{IsDefined};
+ghost use Rattle.pf_values.specs.meaning.Normal.{IsNormal};
+ghost use Rattle.pf_values.specs.Directives.{specification_of};
+ghost use Rattle.pf_reduce.specs.Cores.{padded_core, core_of_parts, kept_precision};
 ghost use Rattle.pf_reduce.specs.Reducing.{IsNormalCore};
 
 use crate::padding::Padding;
@@ -27,15 +27,15 @@ fn new_directive(
 }
 
 /// The directive with these flags and this precision, in this padding.
-pub(crate) fn within(
+pub(crate) fn padded_core(
     model: Model,
     padding: Padding,
     directive: &Directive,
     flags: FlagSet,
     precision: Option<u16>,
 ) -> Reduced
-    requires { IsNormal model (core_within model directive.now padding flags precision) }
-    ensures value { result ≡ result_within model directive.now padding flags precision }
+    requires { IsNormal model (core_of_parts model directive.now padding flags precision) }
+    ensures value { result ≡ padded_core model directive.now padding flags precision }
     ensures normal { IsNormalCore model result.core }
 {
     let flags = if padding.left {

@@ -1,7 +1,7 @@
 //! Which directives are normal.
 ghost use Rattle.std.specs.Prelude.{◌≡◌, ◌↔◌, IsTrue};
-ghost use Rattle.pf_values.specs.Defined.{IsDefined};
-ghost use Rattle.pf_values.specs.Normal.{
+ghost use Rattle.pf_values.specs.meaning.Defined.{IsDefined};
+ghost use Rattle.pf_values.specs.meaning.Normal.{
   IsNormal,
   IsNormalString,
   IsNormalPlain,
@@ -14,8 +14,8 @@ ghost use Rattle.pf_values.specs.Normal.{
   HasUnsignedForm,
 };
 ghost use Rattle.pf_reduce.specs.NormalParts.{HasNormalParts};
-ghost use Rattle.pf_values.specs.Conversions.{kind_of};
-ghost use Rattle.pf_values.specs.Flags.{no_flags};
+ghost use Rattle.pf_values.specs.meaning.Conversions.{kind_of};
+ghost use Rattle.pf_values.specs.meaning.Flags.{no_flags};
 
 use crate::numbers::{longest, max_digits, precision, sign_len, width};
 use pf_values::{Alternative, Directive, Flag, FlagSet, Kind, Model};

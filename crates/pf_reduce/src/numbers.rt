@@ -1,8 +1,8 @@
-//! The numbers of a directive that reduction rests on.
+//! The numbers of a directive that reduction uses.
 ghost use Rattle.std.specs.Prelude.{◌≡◌, ◌≤◌};
 ghost use Rattle.pf_values.specs.declared.limits.TheConstants.{MAX_NUMBER};
-ghost use Rattle.pf_values.specs.Normal.{digits_at_most, longest, precision_of, sign_len};
-ghost use Rattle.pf_values.specs.Specification.{width_of};
+ghost use Rattle.pf_values.specs.meaning.Normal.{digits_at_most, longest, precision_of, sign_len};
+ghost use Rattle.pf_values.specs.meaning.Specification.{width_of};
 
 use crate::signs::Sign;
 use pf_values::{Directive, Model};

@@ -1,8 +1,8 @@
-//! Padding round what is printed: a constant part, and spaces up to a width.
+//! Padding around what is printed: a constant part, and spaces up to a width.
 ghost use Rattle.std.specs.Prelude.{IsTrue, ◌≡◌, ◌≤◌, ◌<◌, ◌+◌, ◌-◌, ◌⊎◌, min, true, false, ◌++◌, ◌^◌, length, replicate};
 ghost use Rattle.pf_values.specs.declared.limits.TheConstants.{MAX_NUMBER};
-ghost use Rattle.pf_values.specs.Defined.{IsDefined};
-ghost use Rattle.pf_values.specs.Text.{Text, zero_digit};
+ghost use Rattle.pf_values.specs.meaning.Defined.{IsDefined};
+ghost use Rattle.pf_values.specs.meaning.Text.{Text, zero_digit};
 
 use crate::numbers::width;
 use pf_values::{Directive, Flag};
@@ -35,8 +35,8 @@ impl Padding {
         }
     }
 
-    /// Where at most so many bytes are printed, the spaces beyond them are constant.
-    pub(crate) fn cut(self, most: u16) -> Padding
+    /// A width of at most so many bytes, where no more are printed: the spaces beyond are constant.
+    pub(crate) fn with_width_at_most(self, most: u16) -> Padding
         requires { (self.spaces ≡ 0) × (self.zeros ≡ 0) × (self.trail ≡ 0) }
         ensures same { (body : Text) → length body ≤ most
             → with_padding self body ≡ with_padding result body }
@@ -76,7 +76,7 @@ impl Padding {
         Padding { width: 0, ..self }
     }
 
-    /// Whether spaces may stand before what is printed.
+    /// Whether spaces may come before what is printed.
     pub(crate) fn has_spaces_before(self) -> bool
         ensures yes { result ≡ true → (self.left ≡ false) × (0 < self.width) }
         ensures no { result ≡ false → (self.left ≡ true) ⊎ (self.width ≡ 0) }
@@ -101,7 +101,7 @@ impl Padding {
         }
     }
 
-    /// On the right up to a width whose side isn't seen.
+    /// Right-justified up to a width of which nobody sees the side.
     pub(crate) fn right_up_to(self, most: u16) -> Padding
         ensures same { (body : Text) → (self.width ≤ most → IsUnseen self.width body)
             → with_padding self body ≡ with_padding result body }

@@ -1,6 +1,6 @@
 //! Reduction of a directive.
 ghost use Rattle.std.specs.Prelude.{◌≡◌};
-ghost use Rattle.pf_values.specs.Normal.{IsNormal, silent};
+ghost use Rattle.pf_values.specs.meaning.Normal.{IsNormal, silent};
 ghost use Rattle.pf_reduce.specs.Reducing.{IsReducedTo};
 
 use crate::integers::{reduce_signed, reduce_unsigned};
@@ -36,7 +36,7 @@ pub fn reduce(model: Model, directive: &Directive) -> Reduced
 }
 
 // The same of a directive that isn't normal, whatever it is. Never inlined, so that a normal one is
-// copied as it stands and not part by part.
+// copied as a whole and not part by part.
 #[inline(never)]
 fn reduce_other(model: Model, directive: &Directive) -> Reduced
     ensures same { IsReducedTo model directive.now result }

@@ -11,7 +11,7 @@ pub struct Normal {
 }
 
 impl Model for Normal {
-    ghost use Rattle.pf_values.specs.Normal.{IsNormal};
+    ghost use Rattle.pf_values.specs.meaning.Normal.{IsNormal};
     ghost use Rattle.pf_reduce.specs.NormalValues.{NormalDirective};
 
     ghost Value = { NormalDirective };
@@ -48,7 +48,7 @@ pub struct Reduced {
 
 impl Normal {
     ghost use Rattle.std.specs.Prelude.{◌≡◌};
-    ghost use Rattle.pf_values.specs.Normal.{IsNormal};
+    ghost use Rattle.pf_values.specs.meaning.Normal.{IsNormal};
 
     /// The data model in which it is normal.
     pub fn model(&self) -> pf_values::Model

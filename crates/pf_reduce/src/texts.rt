@@ -1,13 +1,13 @@
 //! Characters and strings.
 ghost use Rattle.std.specs.Prelude.{◌≡◌, ◌≤◌, IfSome, Some};
 ghost use Rattle.pf_values.specs.declared.conversions.Conv.TheVariants.{C, S};
-ghost use Rattle.pf_values.specs.Printing.{printed_front};
-ghost use Rattle.pf_values.specs.Specification.{width_of};
-ghost use Rattle.pf_values.specs.Text.{Text};
+ghost use Rattle.pf_values.specs.meaning.Printing.{printed_front};
+ghost use Rattle.pf_values.specs.meaning.Specification.{width_of};
+ghost use Rattle.pf_values.specs.meaning.Text.{Text};
 ghost use Rattle.pf_reduce.specs.Padded.{constants, with_padding};
 ghost use Rattle.pf_reduce.specs.Reducing.{IsReducedTo};
 
-use crate::normal_directives::within;
+use crate::normal_directives::padded_core;
 use crate::numbers::width;
 use crate::padding::Padding;
 use crate::results::{Core, Reduced};
@@ -19,10 +19,10 @@ pub(crate) fn reduce_char(model: Model, directive: &Directive) -> Reduced
     ensures { IsReducedTo model directive.now result }
 {
     let padding = Padding::of(directive)
-        .cut(1)
+        .with_width_at_most(1)
         .without_idle_width(1)
         .right_up_to(0);
-    within(model, padding, directive, FlagSet::empty(), None)
+    padded_core(model, padding, directive, FlagSet::empty(), None)
 }
 
 /// `s`: bytes, no more than the precision says.
@@ -46,12 +46,12 @@ pub(crate) fn reduce_string(model: Model, directive: &Directive) -> Reduced
             trail: 0,
         };
     }
-    let padding = cut_string(Padding::of(directive), precision).right_up_to(1);
-    within(model, padding, directive, FlagSet::empty(), precision)
+    let padding = string_padding(Padding::of(directive), precision).right_up_to(1);
+    padded_core(model, padding, directive, FlagSet::empty(), precision)
 }
 
-// A width within the precision.
-fn cut_string(padding: Padding, precision: Option<u16>) -> Padding
+// The padding of a string, with a width that is at most the precision.
+fn string_padding(padding: Padding, precision: Option<u16>) -> Padding
     requires { (padding.spaces ≡ 0) × (padding.zeros ≡ 0) × (padding.trail ≡ 0) }
     ensures same { (bytes : Text)
         → with_padding padding (printed_front precision bytes)
@@ -61,7 +61,7 @@ fn cut_string(padding: Padding, precision: Option<u16>) -> Padding
     ensures width { IfSome precision (λ most. result.width ≤ most) }
 {
     match precision {
-        Some(most) => padding.cut(most),
+        Some(most) => padding.with_width_at_most(most),
         None => padding,
     }
 }

@@ -15,14 +15,14 @@ use Rattle.pf_values.specs.declared.flags.Flag.TheVariants.{Minus, Plus, Space, 
 use Rattle.pf_values.specs.declared.flags.FlagSet.{FlagSet}
 use Rattle.pf_values.specs.declared.lengths.Length.{Length}
 use Rattle.pf_values.specs.declared.lengths.Length.TheVariants as lengths
-use Rattle.pf_values.specs.Conversions.{conv_letter}
-use Rattle.pf_values.specs.Defined.{is_above_limit}
-use Rattle.pf_values.specs.Digits.{AreDigits, AreLeastDigits}
-use Rattle.pf_values.specs.Flags.{with_flag, no_flags, flag_byte, flag_set}
-use Rattle.pf_values.specs.Items.{Item}
-use Rattle.pf_values.specs.Lengths.{length_letters}
-use Rattle.pf_values.specs.Spelling.{SpellsWidth, SpellsPrecision}
-use Rattle.pf_values.specs.Text.{Text}
+use Rattle.pf_values.specs.meaning.Conversions.{conv_letter}
+use Rattle.pf_values.specs.meaning.Defined.{is_above_limit}
+use Rattle.pf_values.specs.meaning.Digits.{AreDigits, AreLeastDigits}
+use Rattle.pf_values.specs.meaning.Flags.{with_flag, no_flags, flag_byte, flag_set}
+use Rattle.pf_values.specs.meaning.Items.{Item}
+use Rattle.pf_values.specs.meaning.Lengths.{length_letters}
+use Rattle.pf_values.specs.meaning.Spelling.{SpellsWidth, SpellsPrecision}
+use Rattle.pf_values.specs.meaning.Text.{Text}
 use Rattle.pf_values.proofs.Numerals.{number_after-place_sum}
 use Rattle.pf_text.specs.Stages.{State}
 use Rattle.pf_text.specs.Stages.{Between, Opened, Flags, Width, Point, Precision, Modifier}

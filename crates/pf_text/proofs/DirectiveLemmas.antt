@@ -1,25 +1,25 @@
--- Directives that stand whole at the front of what follows.
+-- Whole directives at the front of what follows.
 use Rattle.std.proofs.Common.{◌≡◌, ℕ, ◌+◌, ◌≤◌, List, [], ◌∷◌, ◌++◌, length, take, drop, sym, ap, ◌∙◌, subst, arith}
 use Rattle.std.proofs.lemmas.List.{append_assoc, length-append, length-take-le, take-append-drop}
 use Rattle.pf_values.specs.declared.limits.TheConstants.{MAX_TEXT_LEN}
 use Rattle.pf_values.specs.declared.conversions.Conv.{Conv}
-use Rattle.pf_values.specs.Conversions.{conv_letter}
-use Rattle.pf_values.specs.Items.{Item, Directive, IsReadAs, Reads}
-use Rattle.pf_values.specs.Specification.{Specification}
-use Rattle.pf_values.specs.Text.{Text, percent}
+use Rattle.pf_values.specs.meaning.Conversions.{conv_letter}
+use Rattle.pf_values.specs.meaning.Items.{Item, Directive, IsReadAs, Reads}
+use Rattle.pf_values.specs.meaning.Specification.{Specification}
+use Rattle.pf_values.specs.meaning.Text.{Text, percent}
 use Rattle.pf_text.specs.declared.pieces.Piece.TheVariants as pieces
 use Rattle.pf_text.specs.declared.pieces.Pieces.{Pieces}
 use Rattle.pf_text.specs.declared.scanner.Scanner.{Scanner}
 use Rattle.pf_text.specs.History.{IsAfter, TakesDirective}
 use Rattle.pf_text.specs.PieceHistory.{GivesPiece, HasGiven}
 use Rattle.pf_text.proofs.LiteralLemmas.{after_read}
-use Rattle.pf_text.proofs.PlainLemmas.{bare, bare_defined}
+use Rattle.pf_text.proofs.PlainLemmas.{specification_of_conv, conv_defined}
 use Rattle.pf_text.proofs.ReadBack.{spelled_read}
 use Rattle.pf_text.proofs.Texts.{Reads-push}
 
 -- what is spelled by its conversion alone
-pub bare_read : (conv : Conv) (d : Specification) → d ≡ bare conv → IsReadAs (percent ∷ conv_letter conv ∷ []) (Directive d)
-bare_read conv d e = subst (λ s. IsReadAs (percent ∷ conv_letter conv ∷ []) (Directive s)) (sym e) (spelled_read (bare conv) (bare_defined conv), bare_defined conv)
+pub conv_read : (conv : Conv) (d : Specification) → d ≡ specification_of_conv conv → IsReadAs (percent ∷ conv_letter conv ∷ []) (Directive d)
+conv_read conv d e = subst (λ s. IsReadAs (percent ∷ conv_letter conv ∷ []) (Directive s)) (sym e) (spelled_read (specification_of_conv conv) (conv_defined conv), conv_defined conv)
 
 -- one was taken
 pub directive_taken : (scanner : Scanner) (t text : Text) (items : List Item) (len : ℕ) (d : Specification) → IsAfter scanner t items → Reads t items

@@ -4,9 +4,9 @@ use Rattle.std.proofs.lemmas.List.{append-nil}
 use Rattle.pf_values.specs.declared.limits.TheConstants.{MAX_TEXT_LEN}
 use Rattle.pf_values.specs.declared.refusals.RefusalKind.{RefusalKind}
 use Rattle.pf_values.specs.declared.refusals.RefusalKind.TheVariants.{NulByte, Truncated, Unexpected, BadPercent, Star, Numbered, WidthTooLarge, Float, Wide, AltUndefined}
-use Rattle.pf_values.specs.Items.{Item}
-use Rattle.pf_values.specs.Refusals.{IsRefusedAt}
-use Rattle.pf_values.specs.Text.{Text}
+use Rattle.pf_values.specs.meaning.Items.{Item}
+use Rattle.pf_values.specs.meaning.Refusals.{IsRefusedAt}
+use Rattle.pf_values.specs.meaning.Text.{Text}
 use Rattle.pf_text.specs.declared.scanner.Step.{Step}
 use Rattle.pf_text.specs.Stages.{State}
 use Rattle.pf_text.specs.Stages.{Between}

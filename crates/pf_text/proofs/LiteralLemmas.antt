@@ -9,8 +9,8 @@ use Rattle.std.proofs.lemmas.List.{append_assoc, append-nil, length-append, leng
 use Rattle.memchr.specs.Find.{Nowhere, is_byte2}
 use Rattle.memchr.specs.Find as find
 use Rattle.pf_values.specs.declared.limits.TheConstants.{MAX_TEXT_LEN}
-use Rattle.pf_values.specs.Items.{Item, Byte, IsReadAs, Reads}
-use Rattle.pf_values.specs.Text.{Text}
+use Rattle.pf_values.specs.meaning.Items.{Item, Byte, IsReadAs, Reads}
+use Rattle.pf_values.specs.meaning.Text.{Text}
 use Rattle.pf_text.specs.declared.scanner.Scanner.{Scanner}
 use Rattle.pf_text.specs.Stages.{Between, state_of}
 use Rattle.pf_text.specs.Fronts.{IsAt}

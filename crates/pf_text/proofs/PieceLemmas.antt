@@ -3,9 +3,9 @@ use Rattle.std.proofs.Common.{◌≡◌, ℕ, ◌≢◌, ◌<◌, ◌≤◌, Boo
 use denote.Ref.{Bor}
 use Rattle.std.proofs.lemmas.List.{append_assoc, append-nil, length_push, length-take-le, take-append-drop}
 use Rattle.pf_values.specs.declared.limits.TheConstants.{MAX_TEXT_LEN}
-use Rattle.pf_values.specs.Items.{Item, Byte, Reads}
-use Rattle.pf_values.specs.Refusals.{IsRefusedAt}
-use Rattle.pf_values.specs.Text.{Text}
+use Rattle.pf_values.specs.meaning.Items.{Item, Byte, Reads}
+use Rattle.pf_values.specs.meaning.Refusals.{IsRefusedAt}
+use Rattle.pf_values.specs.meaning.Text.{Text}
 use Rattle.pf_text.specs.declared.pieces.Piece.{Piece}
 use Rattle.pf_text.specs.declared.pieces.Piece.TheVariants as pieces
 use Rattle.pf_text.specs.declared.pieces.Pieces.{Pieces}
@@ -28,7 +28,7 @@ nothing_fed now t read items h none =
       scanned = subst (λ u. IsAfter now.scanner u items) (sym (append-nil read)) h.scanned;
     }
 
--- the scanner has let go of the items before
+-- the scanner has forgotten the items before
 pub restarted : (old : Pieces) (scanner : Scanner) (t read : Text) (items : List Item) → (IsAfter old.scanner read items → Reads read items → IsAfter scanner read items) → HasGiven old t read items → HasGiven (record old { scanner = scanner }) t read items
 restarted old scanner t read items still h = record { going = h.going; split = h.split; reads = h.reads; scanned = still h.scanned h.reads }
 
@@ -99,7 +99,7 @@ nothing_left (b ∷ rest) h = absurd (omega arith)
 pub gives_piece : (old new : Pieces) (piece : Piece) → old.is_over ≡ false → ((t read : Text) (items : List Item) → HasGiven old t read items → GivesPiece new t read items piece) → Gives old (Some (Ok piece)) new
 gives_piece old new piece going given = record { next = given; over = λ closed. absurd (not_both old.is_over closed going); last = tt }
 
--- The calls of `next`, where it began at `old` and stands at `now`.
+-- The calls of `next`, from `old` to `now`.
 module _ (old now : Pieces) (inside : (t read : Text) (items : List Item) → HasGiven old t read items → IsInside now t read items) (going : old.is_over ≡ false) where
   -- a byte was fed
   module _ (scanner : Scanner) (byte : ℕ) (after : Text) (cut : now.rest.now ≡ byte ∷ after) (r : Result Step Refusal)

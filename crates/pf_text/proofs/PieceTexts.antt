@@ -4,10 +4,10 @@ use Rattle.std.specs.Prelude.{◌==◌, MatchBool}
 use Rattle.std.specs.List.{AllByRecursion}
 use Rattle.std.proofs.lemmas.Bool.{eqb-true}
 use Rattle.std.proofs.lemmas.List.{append_assoc, append-nil}
-use Rattle.pf_values.specs.Defined.{IsDefined}
-use Rattle.pf_values.specs.Items.{Item, Byte, Reads}
-use Rattle.pf_values.specs.Spelling.{Spells}
-use Rattle.pf_values.specs.Text.{Text, percent}
+use Rattle.pf_values.specs.meaning.Defined.{IsDefined}
+use Rattle.pf_values.specs.meaning.Items.{Item, Byte, Reads}
+use Rattle.pf_values.specs.meaning.Spelling.{Spells}
+use Rattle.pf_values.specs.meaning.Text.{Text, percent}
 use Rattle.pf_text.specs.declared.pieces.Piece.{Piece}
 use Rattle.pf_text.specs.declared.pieces.Piece.TheVariants as pieces
 use Rattle.pf_text.specs.declared.pieces.Pieces.{Pieces}

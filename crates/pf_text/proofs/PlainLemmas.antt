@@ -1,4 +1,4 @@
--- Items that stand in a text as its canonical text has them.
+-- Items that are spelled as the canonical text spells them.
 use Rattle.std.proofs.Common.{◌≡◌, ◌≢◌, ℕ, ◌+◌, ◌-◌, ◌*◌, ◌<◌, ◌≤◌, min, true, false, Bool, List, [], ◌∷◌, ◌++◌, length, map, take, drop, Some, None, refl, sym, ap, ap₂, ◌∙◌, subst, arith, inl, inr, get_or}
 use Rattle.std.specs.Prelude.{flat_map, is_some, MatchBool, Option, ◌==◌, ◌⊎◌, if◌then◌else◌}
 use Rattle.std.specs.Fmt.{digits}
@@ -15,15 +15,15 @@ use Rattle.pf_values.specs.declared.conversions.Conv.{Conv}
 use Rattle.pf_values.specs.declared.conversions.Conv.TheVariants.{D, I, C, S}
 use Rattle.pf_values.specs.declared.lengths.Length.TheVariants as lengths
 use Rattle.pf_values.specs.declared.limits.TheConstants.{MAX_TEXT_LEN}
-use Rattle.pf_values.specs.Canonical.{item_spelling}
-use Rattle.pf_values.specs.Conversions.{conv_letter, kept_conv, kind_of}
-use Rattle.pf_values.specs.Defined.{IsDefined, refused_as}
-use Rattle.pf_values.specs.Flags.{no_flags}
-use Rattle.pf_values.specs.Items.{Item, Byte, Directive, IsReadAs, Reads}
-use Rattle.pf_values.specs.Normal.{HasNormalForm, IsNormal, IsNormalPlain, IsNormalSigned, IsNormalString, digits_at_most, silent}
-use Rattle.pf_values.specs.Specification.{Specification}
-use Rattle.pf_values.specs.Spelling.{spelling_of}
-use Rattle.pf_values.specs.Text.{Text, percent}
+use Rattle.pf_values.specs.meaning.Canonical.{item_spelling}
+use Rattle.pf_values.specs.meaning.Conversions.{conv_letter, kept_conv, kind_of}
+use Rattle.pf_values.specs.meaning.Defined.{IsDefined, refused_as}
+use Rattle.pf_values.specs.meaning.Flags.{no_flags}
+use Rattle.pf_values.specs.meaning.Items.{Item, Byte, Directive, IsReadAs, Reads}
+use Rattle.pf_values.specs.meaning.Normal.{HasNormalForm, IsNormal, IsNormalPlain, IsNormalSigned, IsNormalString, digits_at_most, silent}
+use Rattle.pf_values.specs.meaning.Specification.{Specification}
+use Rattle.pf_values.specs.meaning.Spelling.{spelling_of}
+use Rattle.pf_values.specs.meaning.Text.{Text, percent}
 use Rattle.pf_text.specs.History.{EndsRun, IsAfter, IsLiteral}
 use Rattle.pf_text.specs.Letters.{conv_of}
 use Rattle.pf_text.specs.Plain.{IsPlain, IsPlainText, BeginsSilent, PassesPlain, silents}
@@ -49,17 +49,17 @@ pub literals_plain : (model : Model) (bytes : Text) → AllByRecursion IsLiteral
 literals_plain model bytes h = record { plain = literals_some model bytes h; whole = sym (literal_written bytes h) }
 
 -- a directive of two bytes
-abbrev pub bare : Conv → Specification
-bare conv = record { flags = no_flags; width = None; precision = None; length = lengths.None; conv = conv }
+abbrev pub specification_of_conv : Conv → Specification
+specification_of_conv conv = record { flags = no_flags; width = None; precision = None; length = lengths.None; conv = conv }
 
-bare_allowed : (conv : Conv) → refused_as (bare conv) ≡ None
-bare_allowed D = refl
-bare_allowed _ = refl
+conv_allowed : (conv : Conv) → refused_as (specification_of_conv conv) ≡ None
+conv_allowed D = refl
+conv_allowed _ = refl
 
-pub bare_defined : (conv : Conv) → IsDefined (bare conv)
-bare_defined conv = record { width = λ e. cc; allowed = bare_allowed conv }
+pub conv_defined : (conv : Conv) → IsDefined (specification_of_conv conv)
+conv_defined conv = record { width = λ e. cc; allowed = conv_allowed conv }
 
-signed_normal : (model : Model) → IsNormalSigned model (bare D)
+signed_normal : (model : Model) → IsNormalSigned model (specification_of_conv D)
 signed_normal model = record {
   one_sign = λ e. absurd (cc);
   least = λ some. omega (arith, some);
@@ -69,34 +69,34 @@ signed_normal model = record {
   left = λ e. absurd (cc);
 }
 
-plain_normal : (model : Model) (conv : Conv) → 1 ≤ digits_at_most model (bare conv) → IsNormalPlain model (bare conv)
+plain_normal : (model : Model) (conv : Conv) → 1 ≤ digits_at_most model (specification_of_conv conv) → IsNormalPlain model (specification_of_conv conv)
 plain_normal model conv some = record { not_filled = refl; precision = some; least = λ some. omega (arith, some); most = omega arith; left = λ e. absurd (cc) }
 
-string_normal : IsNormalString (bare S)
+string_normal : IsNormalString (specification_of_conv S)
 string_normal = record { shows_some = λ e. cc; width = tt; left = λ e. absurd (cc) }
 
-bare_form : (model : Model) (conv : Conv) → conv ≢ I → HasNormalForm model (kind_of conv) (bare conv)
-bare_form model D other = signed_normal model
-bare_form model I other = absurd (other refl)
-bare_form model C other = (refl, refl, refl)
-bare_form model S other = string_normal
-bare_form model _ other = plain_normal model _ (omega arith)
+conv_form : (model : Model) (conv : Conv) → conv ≢ I → HasNormalForm model (kind_of conv) (specification_of_conv conv)
+conv_form model D other = signed_normal model
+conv_form model I other = absurd (other refl)
+conv_form model C other = (refl, refl, refl)
+conv_form model S other = string_normal
+conv_form model _ other = plain_normal model _ (omega arith)
 
-bare_kept : (conv : Conv) → conv ≢ I → kept_conv conv ≡ conv
-bare_kept I other = absurd (other refl)
-bare_kept _ other = refl
+conv_kept : (conv : Conv) → conv ≢ I → kept_conv conv ≡ conv
+conv_kept I other = absurd (other refl)
+conv_kept _ other = refl
 
-bare_normal : (model : Model) (conv : Conv) → conv ≢ I → IsNormal model (bare conv)
-bare_normal model conv other =
+conv_normal : (model : Model) (conv : Conv) → conv ≢ I → IsNormal model (specification_of_conv conv)
+conv_normal model conv other =
     record {
-      defined = bare_defined conv;
+      defined = conv_defined conv;
       no_group = refl;
       length = refl;
-      conv = bare_kept conv other;
+      conv = conv_kept conv other;
       no_plus = λ e. absurd (cc);
       no_space = λ e. absurd (cc);
       precision = λ e. absurd (cc);
-      form = bare_form model conv other;
+      form = conv_form model conv other;
     }
 
 pub percent_plain : (model : Model) (letter : ℕ) → letter ≡ percent → (item : Item) × IsPlainText model (percent ∷ letter ∷ []) (item ∷ [])
@@ -108,11 +108,11 @@ first_two [] few = absurd (omega (arith, few))
 first_two (a ∷ []) few = absurd (omega (arith, few))
 first_two (a ∷ b ∷ text) few = refl
 
-pub bare_plain : (model : Model) (letter : ℕ) (o : Option Conv) → conv_of letter ≡ o → letter ≢ 105 → is_some o ≡ true → (item : Item) × IsPlainText model (percent ∷ letter ∷ []) (item ∷ [])
-bare_plain model letter None e other some = absurd (cc)
-bare_plain model letter (Some conv) e other some =
+pub conv_plain : (model : Model) (letter : ℕ) (o : Option Conv) → conv_of letter ≡ o → letter ≢ 105 → is_some o ≡ true → (item : Item) × IsPlainText model (percent ∷ letter ∷ []) (item ∷ [])
+conv_plain model letter None e other some = absurd (cc)
+conv_plain model letter (Some conv) e other some =
     let byte = byte_of_conv letter conv e in
-    (Directive (bare conv), record { plain = (bare_normal model conv (λ i. other (byte ∙ ap conv_letter i)), tt); whole = ap (λ b. percent ∷ b ∷ []) byte })
+    (Directive (specification_of_conv conv), record { plain = (conv_normal model conv (λ i. other (byte ∙ ap conv_letter i)), tt); whole = ap (λ b. percent ∷ b ∷ []) byte })
 
 all_append : (model : Model) (a b : List Item) → AllByRecursion (IsPlain model) a → AllByRecursion (IsPlain model) b → AllByRecursion (IsPlain model) (a ++ b)
 all_append model [] b h g = g
@@ -188,7 +188,7 @@ module _ (scanner : Scanner) (t text : Text) (items : List Item) (n most room : 
       ]
     ]
 
-    -- the reader stands after them
+    -- the reader has taken them
     pub read_passed : (more : List Item) → Reads (t ++ take n text) (items ++ more) → IsAfter (record scanner { offset = scanner.offset + n }) (t ++ take n text) (items ++ more)
     read_passed more now =
         subst (λ k. IsAfter (record scanner { offset = scanner.offset + k }) (t ++ take n text) (items ++ more)) long

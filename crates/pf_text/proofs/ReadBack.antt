@@ -11,11 +11,11 @@ use Rattle.std.proofs.lemmas.List.{length_push}
 use Rattle.pf_values.specs.declared.flags.Flag.{Flag}
 use Rattle.pf_values.specs.declared.flags.Flag.TheVariants.{Minus, Plus, Space, Alt, Zero, Group}
 use Rattle.pf_values.specs.declared.flags.FlagSet.{FlagSet}
-use Rattle.pf_values.specs.Defined.{IsDefined, is_above_limit}
-use Rattle.pf_values.specs.Digits.{AreDigits, AreLeastDigits}
-use Rattle.pf_values.specs.Flags.{all_flags, flag_set, has, with_flag}
-use Rattle.pf_values.specs.Specification.{Specification}
-use Rattle.pf_values.specs.Spelling.{Spells, SpellsPrecision, SpellsWidth, precision_spelled, spelling_of, width_spelled}
+use Rattle.pf_values.specs.meaning.Defined.{IsDefined, is_above_limit}
+use Rattle.pf_values.specs.meaning.Digits.{AreDigits, AreLeastDigits}
+use Rattle.pf_values.specs.meaning.Flags.{all_flags, flag_set, has, with_flag}
+use Rattle.pf_values.specs.meaning.Specification.{Specification}
+use Rattle.pf_values.specs.meaning.Spelling.{Spells, SpellsPrecision, SpellsWidth, precision_spelled, spelling_of, width_spelled}
 use Rattle.pf_values.proofs.Numerals.{place_sum-digits_of}
 use Rattle.pf_text.proofs.Complete.{fits_le}
 use Rattle.pf_text.proofs.Texts.{within}

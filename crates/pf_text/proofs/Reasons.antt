@@ -15,16 +15,21 @@ use Rattle.pf_values.specs.declared.lengths.Length.{Length}
 use Rattle.pf_values.specs.declared.lengths.Length.TheVariants as lengths
 use Rattle.pf_values.specs.declared.refusals.RefusalKind.{RefusalKind}
 use Rattle.pf_values.specs.declared.refusals.RefusalKind.TheVariants.{NulByte, Truncated, Unexpected, BadPercent, Star, Numbered, WidthTooLarge, PrecisionTooLarge, Float, Pointer, Count, Wide, TooLong}
-use Rattle.pf_values.specs.Conversions.{conv_letter}
-use Rattle.pf_values.specs.Defined.{is_above_limit, refused_as, first_broken, undefined_kinds}
-use Rattle.pf_values.specs.Digits.{AreDigits, AreLeastDigits}
-use Rattle.pf_values.specs.Flags.{flag_set}
-use Rattle.pf_values.specs.Items.{Item}
-use Rattle.pf_values.specs.Lengths.{length_letters}
-use Rattle.pf_values.specs.Refusals.{HasReason, EndsUndefined, IsToWidth, IsToPrecision, IsWithinLimits, TakesStar, flags_text, letters_of}
-use Rattle.pf_values.specs.Specification.{Specification}
-use Rattle.pf_values.specs.Spelling.{SpellsWidth}
-use Rattle.pf_values.specs.Text.{Text}
+use Rattle.pf_values.specs.meaning.Conversions.{conv_letter}
+use Rattle.pf_values.specs.meaning.Defined.{
+  is_above_limit,
+  refused_as,
+  first_broken,
+  undefined_kinds,
+}
+use Rattle.pf_values.specs.meaning.Digits.{AreDigits, AreLeastDigits}
+use Rattle.pf_values.specs.meaning.Flags.{flag_set}
+use Rattle.pf_values.specs.meaning.Items.{Item}
+use Rattle.pf_values.specs.meaning.Lengths.{length_letters}
+use Rattle.pf_values.specs.meaning.Refusals.{HasReason, EndsUndefined, IsToWidth, IsToPrecision, IsWithinLimits, TakesStar, flags_text, letters_of}
+use Rattle.pf_values.specs.meaning.Specification.{Specification}
+use Rattle.pf_values.specs.meaning.Spelling.{SpellsWidth}
+use Rattle.pf_values.specs.meaning.Text.{Text}
 use Rattle.pf_values.proofs.Numerals.{number_after-place_sum}
 use Rattle.pf_text.specs.Stages.{State}
 use Rattle.pf_text.specs.Stages.{Between, Opened, Flags, Width, Point, Precision, Modifier}

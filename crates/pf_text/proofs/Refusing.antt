@@ -6,9 +6,15 @@ use Rattle.std.proofs.lemmas.List.{append-nil, length-append}
 use Rattle.pf_values.specs.declared.limits.TheConstants.{MAX_TEXT_LEN}
 use Rattle.pf_values.specs.declared.refusals.RefusalKind.{RefusalKind}
 use Rattle.pf_values.specs.declared.refusals.RefusalKind.TheVariants.{Truncated, TooLong}
-use Rattle.pf_values.specs.Items.{Item, IsAccepted}
-use Rattle.pf_values.specs.Refusals.{IsSplit, IsGoodFront, HasReason, IsRefusedByte, IsRefusedAt}
-use Rattle.pf_values.specs.Text.{Text}
+use Rattle.pf_values.specs.meaning.Items.{Item, IsAccepted}
+use Rattle.pf_values.specs.meaning.Refusals.{
+  IsSplit,
+  IsGoodFront,
+  HasReason,
+  IsRefusedByte,
+  IsRefusedAt,
+}
+use Rattle.pf_values.specs.meaning.Text.{Text}
 use Rattle.pf_text.specs.Stages.{State}
 use Rattle.pf_text.specs.Stages.{Between}
 use Rattle.pf_text.specs.Fronts.{IsAt}

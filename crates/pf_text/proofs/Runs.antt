@@ -3,8 +3,8 @@ use Rattle.std.proofs.Common.{◌≡◌, ℕ, List, [], ◌∷◌, ◌++◌, ref
 use Rattle.std.specs.Prelude.{fold}
 use Rattle.std.proofs.lemmas.Grind.{fold-append}
 use Rattle.pf_values.specs.declared.refusals.RefusalKind.{RefusalKind}
-use Rattle.pf_values.specs.Items.{Item}
-use Rattle.pf_values.specs.Text.{Text}
+use Rattle.pf_values.specs.meaning.Items.{Item}
+use Rattle.pf_values.specs.meaning.Text.{Text}
 use Rattle.pf_text.specs.Stages.{State}
 use Rattle.pf_text.specs.History.{with_step}
 use Rattle.pf_text.specs.States.{Next, next}

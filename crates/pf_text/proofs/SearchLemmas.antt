@@ -8,7 +8,7 @@ use Rattle.std.proofs.lemmas.Simd.{length-chunk, mask_l-mod, none_from_empty_mas
 use lib.Count.{count_trailing_zeros}
 use lib.Lanes.{chunk, mask_l, top}
 use Rattle.memchr.specs.Find.{NoneBefore, Nowhere, Passes, is_byte2}
-use Rattle.pf_values.specs.Text.{Text}
+use Rattle.pf_values.specs.meaning.Text.{Text}
 
 -- what a search after the first bytes finds, where none of those passes the test
 module _ (test : ℕ → Bool) (text : Text) (seen : ℕ) (within : seen ≤ length text) (none : Nowhere (Passes test text) 0 seen) where
@@ -39,7 +39,7 @@ module _ (test : ℕ → Bool) (text : Text) (seen : ℕ) (within : seen ≤ len
     ap test (sym (behind_is k)) ∙ h.1,
   )
 
--- what a vector holds where it stands for the bytes that are `%` or 0
+-- what a vector holds that marks the bytes which are `%` or 0
 abbrev pub lane : ℕ → ℕ
 lane byte = bit_or (cond (byte == 37) 255 0) (cond (byte == 0) 255 0)
 

@@ -4,8 +4,8 @@ use Rattle.std.specs.Prelude.{is_err, IsOk, OnOk}
 use Rattle.std.proofs.lemmas.List.{append-nil, length_push}
 use Rattle.pf_values.specs.declared.models.Model.{Model}
 use Rattle.pf_values.specs.declared.types.ArgType.{ArgType}
-use Rattle.pf_values.specs.Items.{Item, types}
-use Rattle.pf_values.specs.Text.{Text}
+use Rattle.pf_values.specs.meaning.Items.{Item, types}
+use Rattle.pf_values.specs.meaning.Text.{Text}
 use Rattle.pf_values.proofs.ItemTypes.{types-append}
 use Rattle.pf_text.specs.declared.pieces.Piece.{Piece}
 use Rattle.pf_text.specs.declared.pieces.Pieces.{Pieces}

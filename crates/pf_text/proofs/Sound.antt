@@ -16,16 +16,23 @@ use Rattle.pf_values.specs.declared.lengths.Length.{Length}
 use Rattle.pf_values.specs.declared.lengths.Length.TheVariants as lengths
 use Rattle.pf_values.specs.declared.refusals.RefusalKind.{RefusalKind}
 use Rattle.pf_values.specs.declared.refusals.RefusalKind.TheVariants.{NulByte, Truncated, Unexpected, BadPercent, Star, Numbered, WidthTooLarge, PrecisionTooLarge, Float, TooLong}
-use Rattle.pf_values.specs.Conversions.{conv_letter}
-use Rattle.pf_values.specs.Defined.{is_above_limit, refused_as, breaks, first_broken, undefined_kinds}
-use Rattle.pf_values.specs.Digits.{AreDigits, AreLeastDigits, place_sum}
-use Rattle.pf_values.specs.Flags.{with_flag, no_flags, flag_byte}
-use Rattle.pf_values.specs.Items.{Byte, Directive, IsReadAs}
-use Rattle.pf_values.specs.Lengths.{length_letters}
-use Rattle.pf_values.specs.Refusals.{HasReason, EndsUndefined, IsToWidth, IsToPrecision, flags_text}
-use Rattle.pf_values.specs.Specification.{Specification, width_given}
-use Rattle.pf_values.specs.Spelling.{Spells, SpellsWidth, SpellsPrecision}
-use Rattle.pf_values.specs.Text.{Text}
+use Rattle.pf_values.specs.meaning.Conversions.{conv_letter}
+use Rattle.pf_values.specs.meaning.Defined.{is_above_limit, refused_as, breaks, first_broken, undefined_kinds}
+use Rattle.pf_values.specs.meaning.Digits.{AreDigits, AreLeastDigits, place_sum}
+use Rattle.pf_values.specs.meaning.Flags.{with_flag, no_flags, flag_byte}
+use Rattle.pf_values.specs.meaning.Items.{Byte, Directive, IsReadAs}
+use Rattle.pf_values.specs.meaning.Lengths.{length_letters}
+use Rattle.pf_values.specs.meaning.Refusals.{
+  HasReason,
+  EndsUndefined,
+  IsToWidth,
+  IsToPrecision,
+  flags_text,
+}
+use Rattle.pf_values.specs.meaning.Specification.{Specification}
+use Rattle.pf_values.specs.Directives.{width_given}
+use Rattle.pf_values.specs.meaning.Spelling.{Spells, SpellsWidth, SpellsPrecision}
+use Rattle.pf_values.specs.meaning.Text.{Text}
 use Rattle.pf_text.specs.declared.scanner.Step.{Step}
 use Rattle.pf_text.specs.declared.scanner.Step.TheVariants as steps
 use Rattle.pf_text.specs.Stages.{State}

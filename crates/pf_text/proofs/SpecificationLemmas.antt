@@ -1,4 +1,4 @@
--- Specifications that stand whole at the front of a text.
+-- Whole specifications at the front of a text.
 use Rattle.std.proofs.Common.{◌≡◌, ℕ, ◌+◌, ◌-◌, ◌*◌, ◌<◌, ◌≤◌, false, true, List, [], ◌∷◌, ◌++◌, length, get_or, map, take, refl, sym, ap, ◌∙◌, subst, arith}
 use Rattle.std.specs.Prelude.{Some}
 use Rattle.std.specs.Fmt.{digit_glyph}
@@ -11,22 +11,22 @@ use Rattle.std.proofs.lemmas.List.{append_assoc, append-nil, map_push, take_more
 use Rattle.pf_values.specs.declared.flags.Flag.{Flag}
 use Rattle.pf_values.specs.declared.flags.FlagSet.{FlagSet}
 use Rattle.pf_values.specs.declared.limits.TheConstants.{MAX_NUMBER}
-use Rattle.pf_values.specs.Defined.{is_above_limit}
-use Rattle.pf_values.specs.Flags.{flag_byte, flag_set, no_flags, with_flag}
-use Rattle.pf_values.specs.Spelling.{SpellsPrecision, SpellsWidth}
-use Rattle.pf_values.specs.Text.{Text}
+use Rattle.pf_values.specs.meaning.Defined.{is_above_limit}
+use Rattle.pf_values.specs.meaning.Flags.{flag_byte, flag_set, no_flags, with_flag}
+use Rattle.pf_values.specs.meaning.Spelling.{SpellsPrecision, SpellsWidth}
+use Rattle.pf_values.specs.meaning.Text.{Text}
 use Rattle.pf_text.specs.Letters.{flag_of}
-use Rattle.pf_text.specs.Places.{GoesOn, Stands}
+use Rattle.pf_text.specs.Places.{ContinuesNumber, HasBytes}
 use Rattle.pf_text.specs.States.{is_digit}
 use Rattle.pf_text.proofs.Complete.{digit_is, small}
 use Rattle.pf_text.proofs.Sound.{SpellsPrecision-point, SpellsPrecision-push, SpellsWidth-one, SpellsWidth-push, below-push, byte_of_flag, digit_of, glyph_push}
 
-pub stands_none : (t : Text) (at : ℕ) → at ≤ length t → Stands t at at []
-stands_none t at few = record { from = omega arith; within = few; whole = sym (append-nil (take at t)) }
+pub bytes_none : (t : Text) (at : ℕ) → at ≤ length t → HasBytes t at at []
+bytes_none t at few = record { from = omega arith; within = few; whole = sym (append-nil (take at t)) }
 
 -- one more byte
-pub stands_more : (t : Text) (start at : ℕ) (bytes : Text) → Stands t start at bytes → at < length t → Stands t start (at + 1) (bytes ++ get_or t at 0 ∷ [])
-stands_more t start at bytes h some =
+pub bytes_more : (t : Text) (start at : ℕ) (bytes : Text) → HasBytes t start at bytes → at < length t → HasBytes t start (at + 1) (bytes ++ get_or t at 0 ∷ [])
+bytes_more t start at bytes h some =
     record {
       from = omega (arith, h.from);
       within = omega (arith, some);
@@ -35,16 +35,16 @@ stands_more t start at bytes h some =
 
 -- one flag more
 pub flags_more : (t : Text) (start at : ℕ) (set : FlagSet) (flag : Flag) → flag_of (get_or t at 0) ≡ Some flag → at < length t
-    → (flags : List Flag) × (set ≡ flag_set flags) × Stands t start at (map flag_byte flags)
-    → (flags : List Flag) × (with_flag set flag ≡ flag_set flags) × Stands t start (at + 1) (map flag_byte flags)
+    → (flags : List Flag) × (set ≡ flag_set flags) × HasBytes t start at (map flag_byte flags)
+    → (flags : List Flag) × (with_flag set flag ≡ flag_set flags) × HasBytes t start (at + 1) (map flag_byte flags)
 flags_more t start at set flag e some h =
     let bytes : map flag_byte h.0 ++ get_or t at 0 ∷ [] ≡ map flag_byte (h.0 ++ flag ∷ []) = ap (λ b. map flag_byte h.0 ++ b ∷ []) (byte_of_flag (get_or t at 0) flag e) ∙ sym (map_push flag_byte h.0 flag) in
-    (h.0 ++ flag ∷ [], ap (λ s. with_flag s flag) h.1 ∙ sym (fold-append with_flag no_flags h.0 (flag ∷ [])), subst (Stands t start (at + 1)) bytes (stands_more t start at (map flag_byte h.0) h.2 some))
+    (h.0 ++ flag ∷ [], ap (λ s. with_flag s flag) h.1 ∙ sym (fold-append with_flag no_flags h.0 (flag ∷ [])), subst (HasBytes t start (at + 1)) bytes (bytes_more t start at (map flag_byte h.0) h.2 some))
 
 -- one digit more
 pub digits_more : (t : Text) (start at first number : ℕ) → is_digit (get_or t at 0) ≡ true → at < length t
-    → (bytes : Text) × GoesOn first bytes number × Stands t start at bytes
-    → (bytes : Text) × GoesOn first bytes (10 * number + (get_or t at 0 - 48)) × Stands t start (at + 1) bytes
+    → (bytes : Text) × ContinuesNumber first bytes number × HasBytes t start at bytes
+    → (bytes : Text) × ContinuesNumber first bytes (10 * number + (get_or t at 0 - 48)) × HasBytes t start (at + 1) bytes
 digits_more t start at first number e some h =
     let byte = get_or t at 0 in
     let g = h.1 in (
@@ -55,7 +55,7 @@ digits_more t start at first number e some h =
         spelled = ap (λ u. u ++ byte ∷ []) g.spelled ∙ glyph_push g.digits byte e;
         value = omega (arith, g.value, number_after_append 10 first g.digits ((byte - 48) ∷ []));
       },
-      stands_more t start at h.0 h.2 some,
+      bytes_more t start at h.0 h.2 some,
     )
 
 -- a width and a precision go on with more digits
@@ -75,34 +75,34 @@ more_digits P push (d ∷ ds) t n below h =
     subst (λ u. P u (number_from_digits_after 10 (n * 10 + d) ds)) (after_digit t d ds) (more_digits P push ds (t ++ digit_glyph false d ∷ []) (n * 10 + d) below.1 here)
 
 goes_on : (P : Text → ℕ → Type 0) → ((t : Text) (n byte : ℕ) → is_digit byte ≡ true → P t n → P (t ++ byte ∷ []) (10 * n + (byte - 48)))
-    → (t bytes : Text) (n m : ℕ) → GoesOn n bytes m → P t n → P (t ++ bytes) m
+    → (t bytes : Text) (n m : ℕ) → ContinuesNumber n bytes m → P t n → P (t ++ bytes) m
 goes_on P push t bytes n m g h =
     subst (P (t ++ bytes)) (sym g.value) (subst (λ u. P (t ++ u) (number_from_digits_after 10 n g.digits)) (sym g.spelled) (more_digits P push g.digits t n g.below h))
 
 -- bytes, and those behind them
-pub stands_join : (t : Text) (start at stop : ℕ) (bytes more : Text) → Stands t start at bytes → Stands t at stop more → Stands t start stop (bytes ++ more)
-stands_join t start at stop bytes more h g =
+pub bytes_join : (t : Text) (start at stop : ℕ) (bytes more : Text) → HasBytes t start at bytes → HasBytes t at stop more → HasBytes t start stop (bytes ++ more)
+bytes_join t start at stop bytes more h g =
     record {
       from = omega (arith, h.from, g.from);
       within = g.within;
       whole = g.whole ∙ ap (λ u. u ++ more) h.whole ∙ append_assoc (take start t) bytes more;
     }
 
-stands_one : (t : Text) (at byte : ℕ) → at < length t → byte ≡ get_or t at 0 → Stands t at (at + 1) (byte ∷ [])
-stands_one t at byte some e = subst (λ b. Stands t at (at + 1) (b ∷ [])) (sym e) (stands_more t at at [] (stands_none t at (omega arith)) some)
+bytes_one : (t : Text) (at byte : ℕ) → at < length t → byte ≡ get_or t at 0 → HasBytes t at (at + 1) (byte ∷ [])
+bytes_one t at byte some e = subst (λ b. HasBytes t at (at + 1) (b ∷ [])) (sym e) (bytes_more t at at [] (bytes_none t at (omega arith)) some)
 
 pub width_read : (t : Text) (start stop n : ℕ) → start < length t → 48 < get_or t start 0 → get_or t start 0 ≤ 57 → n ≤ MAX_NUMBER
-    → (bytes : Text) × GoesOn (get_or t start 0 - 48) bytes n × Stands t (start + 1) stop bytes
-    → (bytes : Text) × SpellsWidth bytes (Some n) × (is_above_limit (Some n) ≡ false) × Stands t start stop bytes
+    → (bytes : Text) × ContinuesNumber (get_or t start 0 - 48) bytes n × HasBytes t (start + 1) stop bytes
+    → (bytes : Text) × SpellsWidth bytes (Some n) × (is_above_limit (Some n) ≡ false) × HasBytes t start stop bytes
 width_read t start stop n some low high few h =
     let byte = get_or t start 0 in
     let digit : is_digit byte ≡ true = grind (arith, nat_tests, low, high) in
     let more = goes_on (λ u m. SpellsWidth u (Some m)) SpellsWidth-push (byte ∷ []) h.0 (byte - 48) n h.1 (SpellsWidth-one byte digit low) in
-    (byte ∷ [] ++ h.0, more, small n few, stands_join t start (start + 1) stop (byte ∷ []) h.0 (stands_one t start byte some refl) h.2)
+    (byte ∷ [] ++ h.0, more, small n few, bytes_join t start (start + 1) stop (byte ∷ []) h.0 (bytes_one t start byte some refl) h.2)
 
 pub precision_read : (t : Text) (start stop n : ℕ) → start < length t → get_or t start 0 ≡ 46 → n ≤ MAX_NUMBER
-    → (bytes : Text) × GoesOn 0 bytes n × Stands t (start + 1) stop bytes
-    → (bytes : Text) × SpellsPrecision bytes (Some n) × (is_above_limit (Some n) ≡ false) × Stands t start stop bytes
+    → (bytes : Text) × ContinuesNumber 0 bytes n × HasBytes t (start + 1) stop bytes
+    → (bytes : Text) × SpellsPrecision bytes (Some n) × (is_above_limit (Some n) ≡ false) × HasBytes t start stop bytes
 precision_read t start stop n some e few h =
     let more = goes_on (λ u m. SpellsPrecision u (Some m)) SpellsPrecision-push (46 ∷ []) h.0 0 n h.1 SpellsPrecision-point in
-    (46 ∷ [] ++ h.0, more, small n few, stands_join t start (start + 1) stop (46 ∷ []) h.0 (stands_one t start 46 some (sym e)) h.2)
+    (46 ∷ [] ++ h.0, more, small n few, bytes_join t start (start + 1) stop (46 ∷ []) h.0 (bytes_one t start 46 some (sym e)) h.2)

@@ -18,14 +18,19 @@ use Rattle.pf_values.specs.declared.lengths.Length.{Length}
 use Rattle.pf_values.specs.declared.lengths.Length.TheVariants as lengths
 use Rattle.pf_values.specs.declared.refusals.RefusalKind.{RefusalKind}
 use Rattle.pf_values.specs.declared.refusals.RefusalKind.TheVariants.{WidthTooLarge, PrecisionTooLarge}
-use Rattle.pf_values.specs.Bases.{alternative_of, is_defined, is_grouped}
-use Rattle.pf_values.specs.Conversions.{alternative_under, kind_of, prints_grouped}
-use Rattle.pf_values.specs.Defined.{IsDefined, breaks, first_broken, is_above_limit, undefined_kinds}
-use Rattle.pf_values.specs.Flags.{all_flags, flag_byte, has}
-use Rattle.pf_values.specs.Lengths.{length_letters}
-use Rattle.pf_values.specs.Specification.{Specification}
-use Rattle.pf_values.specs.Spelling.{flags_spelled, precision_spelled, spelling_of, width_spelled}
-use Rattle.pf_values.specs.Text.{Text}
+use Rattle.pf_values.specs.meaning.Bases.{alternative_of, is_defined, is_grouped}
+use Rattle.pf_values.specs.meaning.Conversions.{alternative_under, kind_of, prints_grouped}
+use Rattle.pf_values.specs.meaning.Defined.{IsDefined, breaks, first_broken, is_above_limit, undefined_kinds}
+use Rattle.pf_values.specs.meaning.Flags.{all_flags, flag_byte, has}
+use Rattle.pf_values.specs.meaning.Lengths.{length_letters}
+use Rattle.pf_values.specs.meaning.Specification.{Specification}
+use Rattle.pf_values.specs.meaning.Spelling.{
+  flags_spelled,
+  precision_spelled,
+  spelling_of,
+  width_spelled,
+}
+use Rattle.pf_values.specs.meaning.Text.{Text}
 use Rattle.pf_text.specs.Letters.{flags_kept}
 use Rattle.pf_text.proofs.Complete.{fits_le}
 use Rattle.pf_text.proofs.Texts.{none_first}

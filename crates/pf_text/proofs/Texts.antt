@@ -8,15 +8,16 @@ use Rattle.pf_values.specs.declared.conversions.Conv.TheVariants.{D}
 use Rattle.pf_values.specs.declared.flags.FlagSet.{FlagSet}
 use Rattle.pf_values.specs.declared.lengths.Length.{Length}
 use Rattle.pf_values.specs.declared.lengths.Length.TheVariants as lengths
-use Rattle.pf_values.specs.Conversions.{conv_letter}
-use Rattle.pf_values.specs.Defined.{is_above_limit, refused_as, IsDefined}
-use Rattle.pf_values.specs.Flags.{no_flags, flag_byte}
-use Rattle.pf_values.specs.Items.{Item, Byte, Directive, IsReadAs, Reads}
-use Rattle.pf_values.specs.Lengths.{length_letters}
-use Rattle.pf_values.specs.Refusals.{IsWithinLimits, IsBegun, IsSplit, IsGoodFront}
-use Rattle.pf_values.specs.Specification.{Specification, width_given}
-use Rattle.pf_values.specs.Spelling.{Spells}
-use Rattle.pf_values.specs.Text.{Text}
+use Rattle.pf_values.specs.meaning.Conversions.{conv_letter}
+use Rattle.pf_values.specs.meaning.Defined.{is_above_limit, refused_as, IsDefined}
+use Rattle.pf_values.specs.meaning.Flags.{no_flags, flag_byte}
+use Rattle.pf_values.specs.meaning.Items.{Item, Byte, Directive, IsReadAs, Reads}
+use Rattle.pf_values.specs.meaning.Lengths.{length_letters}
+use Rattle.pf_values.specs.meaning.Refusals.{IsWithinLimits, IsBegun, IsSplit, IsGoodFront}
+use Rattle.pf_values.specs.meaning.Specification.{Specification}
+use Rattle.pf_values.specs.Directives.{width_given}
+use Rattle.pf_values.specs.meaning.Spelling.{Spells}
+use Rattle.pf_values.specs.meaning.Text.{Text}
 use Rattle.pf_text.specs.declared.scanner.Step.{Step}
 use Rattle.pf_text.specs.declared.scanner.Step.TheVariants as steps
 use Rattle.pf_text.specs.Stages.{State}

@@ -5,9 +5,15 @@ use Rattle.std.proofs.lemmas.List.{append_assoc, append-nil}
 use Rattle.pf_values.specs.declared.limits.TheConstants.{MAX_TEXT_LEN}
 use Rattle.pf_values.specs.declared.refusals.RefusalKind.{RefusalKind}
 use Rattle.pf_values.specs.declared.refusals.RefusalKind.TheVariants.{Unexpected, TooLong}
-use Rattle.pf_values.specs.Items.{Item, Byte, Directive, Reads}
-use Rattle.pf_values.specs.Refusals.{IsBegun, IsGoodFront, IsRefusedByte, HasCause, IsRefusedAt}
-use Rattle.pf_values.specs.Text.{Text}
+use Rattle.pf_values.specs.meaning.Items.{Item, Byte, Directive, Reads}
+use Rattle.pf_values.specs.meaning.Refusals.{
+  IsBegun,
+  IsGoodFront,
+  IsRefusedByte,
+  HasCause,
+  IsRefusedAt,
+}
+use Rattle.pf_values.specs.meaning.Text.{Text}
 use Rattle.pf_text.specs.declared.scanner.Step.{Step}
 use Rattle.pf_text.specs.declared.scanner.Step.TheVariants as steps
 use Rattle.pf_text.specs.Stages.{State}

@@ -3,9 +3,9 @@ use Rattle.std.proofs.Common.{◌≡◌, ℕ, ◌+◌, ◌<◌, ◌≤◌, List,
 use Rattle.std.proofs.Math.Seq.{drop-cons, take-append_seam, take-suc}
 use Rattle.std.proofs.lemmas.List.{append-nil, flat_map_more, length-take-le, take-append-drop, take_all}
 use Rattle.pf_values.specs.declared.limits.TheConstants.{MAX_TEXT_LEN}
-use Rattle.pf_values.specs.Items.{Item, Reads}
-use Rattle.pf_values.specs.Refusals.{IsGoodFront, IsRefusedAt}
-use Rattle.pf_values.specs.Text.{Text}
+use Rattle.pf_values.specs.meaning.Items.{Item, Reads}
+use Rattle.pf_values.specs.meaning.Refusals.{IsGoodFront, IsRefusedAt}
+use Rattle.pf_values.specs.meaning.Text.{Text}
 use Rattle.pf_text.specs.declared.pieces.Piece.{Piece}
 use Rattle.pf_text.specs.declared.pieces.Pieces.{Pieces}
 use Rattle.pf_text.specs.declared.refusal.Refusal.{Refusal}
@@ -22,7 +22,7 @@ with_ended items (steps.Byte byte) = refl
 with_ended items steps.Percent = refl
 with_ended items (steps.Directive d) = refl
 
--- A scanner stands after the first `n` bytes of a text.
+-- A scanner has taken the first `n` bytes of a text.
 module _ (t : Text) (n : ℕ) (old : Scanner) (given : List Step) (h : IsAfter old (take n t) (flat_map ended_by given)) where
   module _ (few : n < length t) (d : ℕ) (new : Scanner) where
     next : suc n ≡ n + 1

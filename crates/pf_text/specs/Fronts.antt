@@ -1,14 +1,14 @@
--- What has come of an item. How it comes byte by byte is this project's own.
+-- What has been read of an item. The states of reading it byte by byte are this project's own.
 use Rattle.std.specs.Prelude.{◌≡◌, ◌≢◌, ℕ, false, List, [], ◌∷◌, ◌++◌, map, Option, Some, None}
 use Rattle.pf_values.specs.declared.flags.Flag.{Flag}
 use Rattle.pf_values.specs.declared.flags.FlagSet.{FlagSet}
 use Rattle.pf_values.specs.declared.lengths.Length.{Length}
 use Rattle.pf_values.specs.declared.lengths.Length.TheVariants as lengths
-use Rattle.pf_values.specs.Defined.{is_above_limit}
-use Rattle.pf_values.specs.Flags.{flag_byte, flag_set}
-use Rattle.pf_values.specs.Lengths.{length_letters}
-use Rattle.pf_values.specs.Spelling.{SpellsWidth, SpellsPrecision}
-use Rattle.pf_values.specs.Text.{Text, percent, point}
+use Rattle.pf_values.specs.meaning.Defined.{is_above_limit}
+use Rattle.pf_values.specs.meaning.Flags.{flag_byte, flag_set}
+use Rattle.pf_values.specs.meaning.Lengths.{length_letters}
+use Rattle.pf_values.specs.meaning.Spelling.{SpellsWidth, SpellsPrecision}
+use Rattle.pf_values.specs.meaning.Text.{Text, percent, point}
 use Rattle.pf_text.specs.Stages.{State}
 use Rattle.pf_text.specs.Stages.{Between, Opened, Flags, Width, Point, Precision, Modifier}
 
@@ -27,7 +27,7 @@ pub record IsFront (part : Text) (set : FlagSet) (width precision : Option ℕ)
   pub whole : part ≡ percent ∷ map flag_byte flags ++ width_text ++ precision_text
       ++ length_letters length
 
--- the state says what has come
+-- the state says what has been read
 abbrev pub IsAt : State → Text → Type 0
 IsAt Between part = part ≡ []
 IsAt Opened part = part ≡ percent ∷ []

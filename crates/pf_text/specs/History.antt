@@ -4,10 +4,10 @@ use Rattle.std.specs.List.{AllByRecursion}
 use Rattle.pf_values.specs.declared.limits.TheConstants.{MAX_TEXT_LEN}
 use Rattle.pf_values.specs.declared.refusals.RefusalKind.{RefusalKind}
 use Rattle.pf_values.specs.declared.refusals.RefusalKind.TheVariants.{Truncated}
-use Rattle.pf_values.specs.Items.{Item, Byte, Directive, Reads}
-use Rattle.pf_values.specs.Refusals.{IsGoodFront, IsRefusedAt}
-use Rattle.pf_values.specs.Specification.{Specification}
-use Rattle.pf_values.specs.Text.{Text, percent}
+use Rattle.pf_values.specs.meaning.Items.{Item, Byte, Directive, Reads}
+use Rattle.pf_values.specs.meaning.Refusals.{IsGoodFront, IsRefusedAt}
+use Rattle.pf_values.specs.meaning.Specification.{Specification}
+use Rattle.pf_values.specs.meaning.Text.{Text, percent}
 use Rattle.pf_text.specs.declared.refusal.Refusal.{Refusal}
 use Rattle.pf_text.specs.declared.scanner.Scanner.{Scanner}
 use Rattle.pf_text.specs.declared.scanner.Step.{Step}
@@ -15,7 +15,7 @@ use Rattle.pf_text.specs.declared.scanner.Step.TheVariants as steps
 use Rattle.pf_text.specs.Fronts.{IsAt}
 use Rattle.pf_text.specs.Stages.{state_of}
 
--- the items so far, and the one that a byte has ended, if it has
+-- the items so far, and the one that a byte has ended, if it has ended one
 abbrev pub with_step : List Item → Step → List Item
 with_step before steps.More = before
 with_step before (steps.Byte byte) = before ++ Byte byte ∷ []
@@ -23,7 +23,7 @@ with_step before steps.Percent = before ++ Byte percent ∷ []
 with_step before (steps.Directive d) = before ++ Directive d ∷ []
 
 -- The scanner was fed the text and refused none of it. The text has these whole items and the
--- beginning of one more, of which the state says what has come.
+-- beginning of one more, and the state says what has been read of that.
 pub record IsAfter (scanner : Scanner) (t : Text) (whole : List Item) : Type 0 where
   pub part : Text
   pub good : IsGoodFront t whole part
@@ -36,16 +36,16 @@ pub record IsAfter (scanner : Scanner) (t : Text) (whole : List Item) : Type 0 w
 abbrev pub HasRefused : Scanner → Refusal → Type 0
 HasRefused scanner refusal = scanner.refused ≡ Some refusal
 
--- a refusal where the scanner stands
+-- a refusal at the scanner's place
 abbrev pub refusal_by : Scanner → RefusalKind → Refusal
 refusal_by scanner kind = record { kind = kind; at = scanner.offset }
 
--- what is answered of a byte that is taken, or refused where the scanner stands
+-- the answer for a byte that is taken, or refused at the scanner's place
 abbrev pub refused_by : Scanner → Result Step RefusalKind → Result Step Refusal
 refused_by scanner (Ok step) = Ok step
 refused_by scanner (Err kind) = Err (refusal_by scanner kind)
 
--- the scanner, with a refusal where it stands
+-- the scanner, with a refusal at its place
 abbrev pub refusing : Scanner → RefusalKind → Scanner
 refusing scanner kind = record scanner { refused = Some (refusal_by scanner kind) }
 
@@ -53,7 +53,7 @@ refusing scanner kind = record scanner { refused = Some (refusal_by scanner kind
 abbrev pub offset_of : Scanner → ℕ
 offset_of scanner = scanner.offset
 
--- a byte that stands for itself (C11 7.21.6.1 p3)
+-- a literal byte (C11 7.21.6.1 p3)
 abbrev pub IsLiteral : ℕ → Type 0
 IsLiteral byte = (byte ≢ percent) × (byte ≢ 0)
 
@@ -70,8 +70,8 @@ pub record Takes (t : Text) (whole : List Item) (byte : ℕ) (step : Step)
   pub after : IsAfter new (t ++ byte ∷ []) (with_step whole step)
   pub says : Says (t ++ byte ∷ []) (with_step whole step) byte step
 
--- What a byte makes of a scanner that stood after a text: one more byte taken, or a refusal,
--- however the text goes on.
+-- What a byte makes of a scanner that had taken a text: one more byte taken, or a refusal, however
+-- the text goes on.
 abbrev pub Feeds : Text → List Item → ℕ → Result Step Refusal → Scanner → Type 0
 Feeds t whole byte (Ok step) new = Takes t whole byte step new
 Feeds t whole byte (Err refusal) new =

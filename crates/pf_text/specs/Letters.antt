@@ -1,4 +1,4 @@
--- What single bytes stand for in a specification. What is refused is this project's own.
+-- What single bytes mean in a specification. What is refused is this project's own.
 use Rattle.std.specs.Prelude.{ℕ, ◌==◌, List, [], ◌∷◌, map, filter, Option, find, if◌then◌else◌}
 use Rattle.pf_values.specs.declared.conversions.Conv.{Conv}
 use Rattle.pf_values.specs.declared.conversions.Conv.TheVariants.{D, I, U, O, X, UpperX, B, C, S}
@@ -8,9 +8,9 @@ use Rattle.pf_values.specs.declared.lengths.Length.{Length}
 use Rattle.pf_values.specs.declared.lengths.Length.TheVariants as lengths
 use Rattle.pf_values.specs.declared.refusals.RefusalKind.{RefusalKind}
 use Rattle.pf_values.specs.declared.refusals.RefusalKind.TheVariants.{NulByte, BadPercent, Float, Pointer, Count, Wide, Unexpected}
-use Rattle.pf_values.specs.Conversions.{conv_letter}
-use Rattle.pf_values.specs.Flags.{all_flags, flag_byte, has}
-use Rattle.pf_values.specs.Text.{Text, percent}
+use Rattle.pf_values.specs.meaning.Conversions.{conv_letter}
+use Rattle.pf_values.specs.meaning.Flags.{all_flags, flag_byte, has}
+use Rattle.pf_values.specs.meaning.Text.{Text, percent}
 
 -- the flag that a byte is (C11 7.21.6.1 p6, POSIX fprintf)
 abbrev pub flag_of : ℕ → Option Flag
@@ -40,7 +40,7 @@ modifier_of byte = find (λ l. first_letter l == byte)
 abbrev pub conv_of : ℕ → Option Conv
 conv_of byte = find (λ conv. conv_letter conv == byte) (D ∷ I ∷ U ∷ O ∷ X ∷ UpperX ∷ B ∷ C ∷ S ∷ [])
 
--- why a byte is refused that can't go on with a specification, wherever it stands
+-- why a byte is refused that can't continue a specification, wherever it comes
 abbrev pub refused_letter : ℕ → RefusalKind
 refused_letter byte =
     if byte == 0 then NulByte else

@@ -1,4 +1,4 @@
--- What the automaton answers of a byte. This project's own.
+-- What the automaton answers for a byte. This project's own.
 use Rattle.std.specs.Prelude.{ℕ, Result, Ok, Err}
 use Rattle.pf_values.specs.declared.refusals.RefusalKind.{RefusalKind}
 use Rattle.pf_text.specs.declared.scanner.Step.TheVariants as steps
@@ -8,11 +8,11 @@ use Rattle.pf_text.specs.declared.state.Move.TheVariants as moves
 use Rattle.pf_text.specs.Stages.{state_of}
 use Rattle.pf_text.specs.States.{Next, inside, judged_as}
 
--- the directive of the parts that have come
+-- the directive of the parts that have been read
 abbrev pub judged_parts : Automaton → Next
 judged_parts a = judged_as a.flags a.width a.precision a.modifier a.conv
 
--- what an answer, and the automaton after it, say of the byte
+-- the state and the step that an answer and the automaton after it make together
 abbrev pub next_by : Result Move RefusalKind → ℕ → Automaton → Next
 next_by (Ok moves.More) byte a = inside (state_of a)
 next_by (Ok moves.Byte) byte a = Ok (state_of a, steps.Byte byte)

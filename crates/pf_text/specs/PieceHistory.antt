@@ -2,9 +2,9 @@
 use Rattle.std.specs.Prelude.{◌≡◌, ◌≢◌, ℕ, ◌+◌, true, false, List, [], ◌∷◌, ◌++◌, length, map, Option, Some, None, Result, Ok, Err, if◌then◌else◌, ⊤}
 use Rattle.std.specs.Iterator.{Count, at_most}
 use Rattle.std.specs.List.{AllByRecursion}
-use Rattle.pf_values.specs.Items.{HasItems, Item, Byte, Directive, Reads}
-use Rattle.pf_values.specs.Refusals.{IsGoodFront, IsRefusedAt}
-use Rattle.pf_values.specs.Text.{Text, percent}
+use Rattle.pf_values.specs.meaning.Items.{HasItems, Item, Byte, Directive, Reads}
+use Rattle.pf_values.specs.meaning.Refusals.{IsGoodFront, IsRefusedAt}
+use Rattle.pf_values.specs.meaning.Text.{Text, percent}
 use Rattle.pf_text.specs.declared.pieces.Piece.{Piece}
 use Rattle.pf_text.specs.declared.pieces.Piece.TheVariants as pieces
 use Rattle.pf_text.specs.declared.pieces.Pieces.{Pieces}
@@ -12,7 +12,7 @@ use Rattle.pf_text.specs.declared.refusal.Refusal.{Refusal}
 use Rattle.pf_text.specs.declared.scanner.Step.{Step}
 use Rattle.pf_text.specs.History.{EndsRun, IsAfter, IsLiteral, Takes}
 
--- the items that a piece stands for
+-- the items of a piece
 abbrev pub items_of : Piece → List Item
 items_of (pieces.Literal run) = map Byte run.now
 items_of pieces.Percent = Byte percent ∷ []

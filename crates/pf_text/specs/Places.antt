@@ -1,18 +1,18 @@
--- What stands where in a text, and the digits of a number that goes on. This project's own.
+-- The bytes between two places of a text, and further digits of a number. This project's own.
 use Rattle.std.specs.Prelude.{◌≡◌, ℕ, ◌<◌, ◌≤◌, false, List, ◌++◌, length, map, take}
 use Rattle.std.specs.Fmt.{digit_glyph}
 use Rattle.std.specs.Int.Digits.{number_from_digits_after}
 use Rattle.std.specs.List.{AllByRecursion}
-use Rattle.pf_values.specs.Text.{Text}
+use Rattle.pf_values.specs.meaning.Text.{Text}
 
--- these bytes stand in a text from one place up to another
-pub record Stands (t : Text) (start stop : ℕ) (bytes : Text) : Type 0 where
+-- a text has these bytes from one place up to another
+pub record HasBytes (t : Text) (start stop : ℕ) (bytes : Text) : Type 0 where
   pub from : start ≤ stop
   pub within : stop ≤ length t
   pub whole : take stop t ≡ take start t ++ bytes
 
 -- these bytes are decimal digits, and a number with them behind its own digits is that other one
-pub record GoesOn (number : ℕ) (bytes : Text) (longer : ℕ) : Type 0 where
+pub record ContinuesNumber (number : ℕ) (bytes : Text) (longer : ℕ) : Type 0 where
   pub digits : List ℕ
   pub below : AllByRecursion (λ d. d < 10) digits
   pub spelled : bytes ≡ map (digit_glyph false) digits

@@ -1,13 +1,13 @@
--- Items that stand in a text as its canonical text has them. This project's own.
+-- Items that are spelled as the canonical text spells them. This project's own.
 use Rattle.std.specs.Prelude.{◌≡◌, ◌≢◌, ℕ, ◌+◌, ◌<◌, ◌≤◌, List, ◌++◌, ◌*◌, length, take, drop, replicate, flat_map}
 use Rattle.std.specs.List.{AllByRecursion}
 use Rattle.pf_values.specs.declared.limits.TheConstants.{MAX_TEXT_LEN}
 use Rattle.pf_values.specs.declared.models.Model.{Model}
-use Rattle.pf_values.specs.Canonical.{item_spelling}
-use Rattle.pf_values.specs.Items.{Item, Byte, Directive, Reads}
-use Rattle.pf_values.specs.Normal.{IsNormal, silent}
-use Rattle.pf_values.specs.Spelling.{spelling_of}
-use Rattle.pf_values.specs.Text.{Text}
+use Rattle.pf_values.specs.meaning.Canonical.{item_spelling}
+use Rattle.pf_values.specs.meaning.Items.{Item, Byte, Directive, Reads}
+use Rattle.pf_values.specs.meaning.Normal.{IsNormal, silent}
+use Rattle.pf_values.specs.meaning.Spelling.{spelling_of}
+use Rattle.pf_values.specs.meaning.Text.{Text}
 use Rattle.pf_text.specs.declared.scanner.Scanner.{Scanner}
 use Rattle.pf_text.specs.History.{EndsRun, IsAfter}
 
@@ -15,17 +15,17 @@ use Rattle.pf_text.specs.History.{EndsRun, IsAfter}
 abbrev pub silents : ℕ → List Item
 silents count = replicate count (Directive silent)
 
--- a byte, or a normal directive
+-- a plain item: a literal byte, or a normal directive
 abbrev pub IsPlain : Model → Item → Type 0
 IsPlain model (Byte byte) = byte ≢ 0
 IsPlain model (Directive s) = IsNormal model s
 
--- such items, each written in the one way
+-- a text of plain items, each written in the one way
 pub record IsPlainText (model : Model) (t : Text) (items : List Item) : Type 0 where
   pub plain : AllByRecursion (IsPlain model) items
   pub whole : t ≡ flat_map item_spelling items
 
--- after a text that is read, such items at the front of what follows were taken, and no literal
+-- after a text that is read, plain items at the front of what follows were taken, and no literal
 -- byte follows
 pub record PassesPlain (model : Model) (t : Text) (items : List Item) (following : Text) (len : ℕ)
     (new : Scanner) : Type 0 where

@@ -2,9 +2,9 @@
 use Rattle.std.specs.Prelude.{◌≡◌, ◌<◌, List, ◌++◌, length}
 use Rattle.pf_values.specs.declared.models.Model.{Model}
 use Rattle.pf_values.specs.declared.types.ArgType.{ArgType}
-use Rattle.pf_values.specs.Items.{HasItems, Item, Reads, types}
-use Rattle.pf_values.specs.Refusals.{IsRefusedAt}
-use Rattle.pf_values.specs.Text.{Text}
+use Rattle.pf_values.specs.meaning.Items.{HasItems, Item, Reads, types}
+use Rattle.pf_values.specs.meaning.Refusals.{IsRefusedAt}
+use Rattle.pf_values.specs.meaning.Text.{Text}
 use Rattle.pf_text.specs.declared.faults.TextFault.{TextFault}
 use Rattle.pf_text.specs.declared.faults.TextFault.TheVariants.{Memory, Refused}
 use Rattle.pf_text.specs.declared.signatures.Signature.{Signature}

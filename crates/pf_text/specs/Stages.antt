@@ -1,5 +1,5 @@
--- How far an item has come. The parts come in the order of C11 7.21.6.1 p4; the states are this
--- project's own.
+-- How much of an item has been read. The parts come in the order of C11 7.21.6.1 p4; the states are
+-- this project's own.
 use Rattle.std.specs.Prelude.{ℕ, Option}
 use Rattle.pf_values.specs.declared.flags.FlagSet.{FlagSet}
 use Rattle.pf_values.specs.declared.lengths.Length.{Length}
@@ -7,9 +7,9 @@ use Rattle.pf_text.specs.declared.state.Automaton.{Automaton}
 use Rattle.pf_text.specs.declared.state.Phase.{Phase}
 use Rattle.pf_text.specs.declared.state.Phase.TheVariants as phases
 
--- what has come of an item, with the values of its parts
+-- what has been read of an item, with the values of its parts
 pub data State : Type 0 where
-  -- nothing has come
+  -- nothing
   Between : State
   -- the opening `%`
   Opened : State
@@ -34,6 +34,6 @@ state_in_phase phases.Point a = Point a.flags a.width
 state_in_phase phases.Precision a = Precision a.flags a.width a.number
 state_in_phase phases.Modifier a = Modifier a.flags a.width a.precision a.modifier
 
--- the state that the fields of an automaton stand for; in each phase only some of them count
+-- the state of an automaton with these fields; in each phase only some of them count
 abbrev pub state_of : Automaton → State
 state_of a = state_in_phase a.phase a

@@ -1,4 +1,4 @@
--- What one more byte makes of what has come of an item. The parts come in the order of
+-- What one more byte adds to what has been read of an item. The parts come in the order of
 -- C11 7.21.6.1 p4; the automaton is this project's own.
 use Rattle.std.specs.Prelude.{ℕ, ◌+◌, ◌-◌, ◌*◌, Bool, ◌&&◌, nat_lt, nat_le, ◌==◌, Option, Some, None, Result, Ok, Err, if◌then◌else◌}
 use Rattle.pf_values.specs.declared.conversions.Conv.{Conv}
@@ -9,17 +9,18 @@ use Rattle.pf_values.specs.declared.lengths.Length.TheVariants as lengths
 use Rattle.pf_values.specs.declared.limits.TheConstants.{MAX_NUMBER}
 use Rattle.pf_values.specs.declared.refusals.RefusalKind.{RefusalKind}
 use Rattle.pf_values.specs.declared.refusals.RefusalKind.TheVariants.{NulByte, Float, Star, Numbered, WidthTooLarge, PrecisionTooLarge}
-use Rattle.pf_values.specs.Defined.{refused_as}
-use Rattle.pf_values.specs.Flags.{with_flag, no_flags}
-use Rattle.pf_values.specs.Specification.{Specification, specification_of}
-use Rattle.pf_values.specs.Text.{dollar, percent, point, star, zero_digit}
+use Rattle.pf_values.specs.meaning.Defined.{refused_as}
+use Rattle.pf_values.specs.meaning.Flags.{with_flag, no_flags}
+use Rattle.pf_values.specs.meaning.Specification.{Specification}
+use Rattle.pf_values.specs.Directives.{specification_of}
+use Rattle.pf_values.specs.meaning.Text.{dollar, percent, point, star, zero_digit}
 use Rattle.pf_text.specs.declared.scanner.Step.{Step}
 use Rattle.pf_text.specs.declared.scanner.Step.TheVariants.{More, Byte, Percent, Directive}
 use Rattle.pf_text.specs.Stages.{State}
 use Rattle.pf_text.specs.Stages.{Between, Opened, Flags, Width, Point, Precision, Modifier}
 use Rattle.pf_text.specs.Letters.{flag_of, modifier_of, conv_of, refused_letter}
 
--- the state after the byte and the step that it made, or why it is refused
+-- the state after the byte and the step, or why the byte is refused
 abbrev pub Next : Type 0
 Next = Result (State × Step) RefusalKind
 
@@ -36,13 +37,13 @@ abbrev pub judgement_of : Specification → Option RefusalKind → Next
 judgement_of s None = Ok (Between, Directive s)
 judgement_of s (Some kind) = Err kind
 
--- the same by the parts that have come
+-- the same by the parts that have been read
 abbrev pub judged_as : FlagSet → Option ℕ → Option ℕ → Length → Conv → Next
 judged_as flags width precision length conv = judgement_of
     (specification_of flags width precision length conv)
     (refused_as (specification_of flags width precision length conv))
 
--- after all that may be missing the conversion comes (C11 7.21.6.1 p8)
+-- only the conversion can follow (C11 7.21.6.1 p8)
 abbrev pub end_by : FlagSet → Option ℕ → Option ℕ → Length → ℕ → Option Conv → Next
 end_by flags width precision length byte None = Err (refused_letter byte)
 end_by flags width precision length byte (Some conv) = judged_as flags width precision length conv
@@ -98,7 +99,7 @@ after_modifier flags width precision lengths.L byte =
     end_at flags width precision lengths.L byte
 after_modifier flags width precision length byte = end_at flags width precision length byte
 
--- what the byte makes of the state
+-- the state after one more byte, and the step
 abbrev pub next : State → ℕ → Next
 next Between byte =
     if byte == 0 then Err NulByte else

@@ -1,8 +1,8 @@
 -- What a text has given where it was read from its beginning on. This project's own.
 use Rattle.std.specs.Prelude.{List, [], ◌∷◌, take, Result, Ok, Err}
-use Rattle.pf_values.specs.Items.{HasItems, Item, Byte, Directive}
-use Rattle.pf_values.specs.Refusals.{IsGoodFront, IsRefusedAt}
-use Rattle.pf_values.specs.Text.{Text, percent}
+use Rattle.pf_values.specs.meaning.Items.{HasItems, Item, Byte, Directive}
+use Rattle.pf_values.specs.meaning.Refusals.{IsGoodFront, IsRefusedAt}
+use Rattle.pf_values.specs.meaning.Text.{Text, percent}
 use Rattle.pf_text.specs.declared.refusal.Refusal.{Refusal}
 use Rattle.pf_text.specs.declared.scanner.Step.{Step}
 use Rattle.pf_text.specs.declared.scanner.Step.TheVariants as steps

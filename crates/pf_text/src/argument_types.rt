@@ -1,7 +1,7 @@
 //! Reading the argument types of a format.
 ghost use Rattle.std.specs.Prelude.{◌≡◌, ◌≤◌, [], MatchResult};
 ghost use Rattle.std.specs.Option.{option_to_list};
-ghost use Rattle.pf_values.specs.Items.{types};
+ghost use Rattle.pf_values.specs.meaning.Items.{types};
 ghost use Rattle.pf_text.specs.PieceHistory.{items_of};
 ghost use Rattle.pf_text.specs.Signatures.{TakesTypes, HindersSignature, types_of};
 
@@ -16,7 +16,7 @@ use std::alloc::{Allocator, Global};
 mod tests;
 
 /// The types of the arguments that a format takes in this data model. Memory can be refused only
-/// once more than eight of them were read.
+/// where there are more than eight of them.
 pub fn signature(alloc: Global, model: Model, text: &[u8]) -> Result<Signature, TextFault>
     ensures { MatchResult result (λ signature. TakesTypes model text.now (types_of signature))
         (HindersSignature model text.now) }

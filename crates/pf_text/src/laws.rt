@@ -3,12 +3,12 @@
 //! others are about whole runs of `Pieces` and of `Scanner`, and their functions make such a run.
 ghost use Rattle.std.specs.Prelude.{◌≡◌, ℕ, List, flat_map, IfOk};
 ghost use Rattle.pf_values.specs.declared.refusals.RefusalKind.{RefusalKind};
-ghost use Rattle.pf_values.specs.Defined.{IsDefined};
-ghost use Rattle.pf_values.specs.Items.{Item, Reads};
-ghost use Rattle.pf_values.specs.Refusals.{IsRefusedAt};
-ghost use Rattle.pf_values.specs.Specification.{Specification};
-ghost use Rattle.pf_values.specs.Spelling.{Spells, spelling_of};
-ghost use Rattle.pf_values.specs.Text.{Text};
+ghost use Rattle.pf_values.specs.meaning.Defined.{IsDefined};
+ghost use Rattle.pf_values.specs.meaning.Items.{Item, Reads};
+ghost use Rattle.pf_values.specs.meaning.Refusals.{IsRefusedAt};
+ghost use Rattle.pf_values.specs.meaning.Specification.{Specification};
+ghost use Rattle.pf_values.specs.meaning.Spelling.{Spells, spelling_of};
+ghost use Rattle.pf_values.specs.meaning.Text.{Text};
 ghost use Rattle.pf_text.specs.PieceHistory.{items_of};
 ghost use Rattle.pf_text.specs.WholeRuns.{HasRun, ended_by};
 
@@ -34,7 +34,7 @@ pub fn spelled_is_read()
     ensures { (s : Specification) → IsDefined s → Spells (spelling_of s) s }
 {}
 
-/// Repeated calls of `next` give pieces that stand for the items of the text, in order, and then
+/// Repeated calls of `next` give the pieces of the items of the text, in order, and then
 /// `None`, if it is accepted. Else they give those before the item in which it is refused, and then
 /// the refusal. The answer is the pieces, and how they end.
 pub fn whole_run_of_pieces<'a>(
@@ -57,9 +57,9 @@ pub fn whole_run_of_pieces<'a>(
     Ok((given, Ok(())))
 }
 
-/// Calls of `feed` for the bytes of a text, in order, and then one of `finish`, make steps that end
-/// the items of the text, in order, if it is accepted. Else they end those before the item in which
-/// it is refused, and then give the refusal. The answer is the steps, and how they end.
+/// Calls of `feed` for the bytes of a text, in order, and then one of `finish`, return steps that
+/// end the items of the text, in order, if it is accepted. Else these end the items before the one
+/// in which it is refused, and the refusal follows. The answer is the steps, and how they end.
 pub fn whole_run_of_steps(
     alloc: Global,
     text: &[u8],

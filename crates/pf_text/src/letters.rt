@@ -1,9 +1,8 @@
-//! The letters of specifications, and what single bytes stand for (C11 7.21.6.1, paragraphs 4 to
-//! 8).
+//! The letters of specifications, and what single bytes mean (C11 7.21.6.1, paragraphs 4 to 8).
 ghost use Rattle.std.specs.Prelude.{◌≡◌};
-ghost use Rattle.pf_values.specs.Conversions.{conv_letter};
-ghost use Rattle.pf_values.specs.Flags.{flag_byte};
-ghost use Rattle.pf_values.specs.Lengths.{length_letters};
+ghost use Rattle.pf_values.specs.meaning.Conversions.{conv_letter};
+ghost use Rattle.pf_values.specs.meaning.Flags.{flag_byte};
+ghost use Rattle.pf_values.specs.meaning.Lengths.{length_letters};
 ghost use Rattle.pf_text.specs.Letters.{flag_of, modifier_of, conv_of, refused_letter};
 
 use pf_values::{Conv, Flag, Length, RefusalKind};
@@ -56,7 +55,7 @@ pub(crate) fn conv_of(byte: u8) -> Option<Conv>
     }
 }
 
-/// Why a byte is refused that can't go on with a specification, wherever it stands.
+/// Why a byte is refused that can't continue a specification, wherever it comes.
 pub(crate) fn refused_letter(byte: u8) -> RefusalKind
     ensures { result ≡ refused_letter byte }
 {

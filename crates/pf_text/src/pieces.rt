@@ -1,7 +1,7 @@
 //! The pieces of a format in memory: runs of literal bytes, `%%`, and directives.
 ghost use Rattle.std.specs.Prelude.{◌≡◌, ◌<◌, ◌≤◌, List, [], length, IsFalse, MatchOption, ⊤};
-ghost use Rattle.pf_values.specs.Items.{Item};
-ghost use Rattle.pf_values.specs.Text.{Text};
+ghost use Rattle.pf_values.specs.meaning.Items.{Item};
+ghost use Rattle.pf_values.specs.meaning.Text.{Text};
 ghost use Rattle.pf_text.specs.History.{EndsRun};
 
 use crate::refusal::Refusal;
@@ -11,7 +11,7 @@ use pf_values::Directive;
 /// A piece of a format.
 #[derive(Clone, Copy, Debug, PartialEq, Eq)]
 pub enum Piece<'a> {
-    /// A longest run of bytes that stand for themselves, never empty.
+    /// A longest run of literal bytes, never empty.
     Literal(&'a [u8]),
     /// `%%`
     Percent,
@@ -42,7 +42,7 @@ impl<'a> Pieces<'a> {
         }
     }
 
-    // The directive that stands whole at the front of the rest, if one does.
+    // The whole directive at the front of the rest, if there is one.
     #[inline(always)]
     fn take_directive(&mut self) -> Option<Directive>
         ensures given { (t read : Text) (items : List Item) → HasGiven self.old t read items
@@ -56,9 +56,9 @@ impl<'a> Pieces<'a> {
         Some(directive)
     }
 
-    // The run of literal bytes that begins the rest, if one does.
+    // The run of literal bytes at the front of the rest, if there is one.
     #[inline(always)]
-    fn take_run(&mut self) -> Option<&'a [u8]>
+    fn take_literal_run(&mut self) -> Option<&'a [u8]>
         ensures given { (t read : Text) (items : List Item) → HasGiven self.old t read items
             → MatchOption result (IsInside self.new t read items)
             (λ run. GivesPiece self.new t read items (Piece.Literal run)) }
@@ -78,9 +78,9 @@ impl<'a> Pieces<'a> {
         Some(run)
     }
 
-    // Moves on past the first byte of the rest, of which the scanner made this step. Gives the
-    // piece that ends there, if one does. A literal byte never does, since the runs are given
-    // before.
+    // Moves on past the first byte of the rest, for which the scanner returned this step. Returns
+    // the piece that ends there, if one does. That is no literal byte, since `take_literal_run`
+    // comes before.
     #[inline(always)]
     fn advance(&mut self, step: Step) -> Option<Piece<'a>>
         requires { 0 < length self.old.rest.now }
@@ -130,7 +130,7 @@ impl<'a> Iterator for Pieces<'a> {
         if let Some(directive) = self.take_directive() {
             return Some(Ok(Piece::Directive(directive)));
         }
-        if let Some(run) = self.take_run() {
+        if let Some(run) = self.take_literal_run() {
             return Some(Ok(Piece::Literal(run)));
         }
         while let Some(byte) = self.rest.first() {

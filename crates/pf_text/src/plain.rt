@@ -1,16 +1,16 @@
-//! The search for the end of a run of items that stand in a text as its canonical text has them.
+//! The search for the end of a run of items that are spelled as the canonical text spells them.
 ghost use Rattle.std.specs.Prelude.{◌≡◌, ◌<◌, ◌≤◌, [], ◌∷◌, ◌*◌, List, drop, length, take, IsTrue, ◌↔◌};
 ghost use Rattle.memchr.specs.Find.{Passes, is_byte2};
-ghost use Rattle.pf_values.specs.Items.{Item, Reads};
+ghost use Rattle.pf_values.specs.meaning.Items.{Item, Reads};
 ghost use Rattle.pf_values.specs.declared.models.Model.{Model};
 ghost use Rattle.pf_text.specs.Plain.{BeginsSilent, IsPlainText, silents};
 
 use crate::letters::conv_of;
 use crate::search::literal_len;
 
-/// How many bytes of the text are literal bytes, `%%`, and directives that are normal and spelled
-/// by their conversion alone, up to the first other item. Those are normal in each data model. It
-/// makes no directive, sees no scanner, and is never inlined, as `literal_len`.
+/// How many bytes of the text come before the first item that isn't plain. Plain items are literal
+/// bytes, `%%`, and the directives of a conversion alone that are normal, as they then are in each
+/// data model. It makes no directive, sees no scanner, and is never inlined, as `literal_len`.
 #[inline(never)]
 pub(crate) fn plain_len(text: &[u8]) -> usize
     ensures within { result ≤ length text.now }
@@ -29,7 +29,8 @@ pub(crate) fn plain_len(text: &[u8]) -> usize
     at
 }
 
-// The same of the run of literal bytes, or of the two bytes, that begin a text.
+// How many bytes has the run of literal bytes that begins a text, or its first item of two bytes,
+// if that is plain.
 #[inline(always)]
 fn plain_front(text: &[u8]) -> usize
     requires { 0 < length text.now }
@@ -50,7 +51,7 @@ fn plain_front(text: &[u8]) -> usize
     0
 }
 
-// Whether a byte after `%` ends such an item: `%`, or a conversion, but not `i`, since `%d` is the
+// Whether a byte after `%` ends a plain item: `%`, or a conversion, but not `i`, since `%d` is the
 // normal one.
 #[inline(always)]
 fn ends_plain(letter: u8) -> bool
@@ -66,7 +67,7 @@ fn ends_plain(letter: u8) -> bool
     conv_of(letter).is_some()
 }
 
-/// How many times `%.0s` stands at the front of a text.
+/// How many `%.0s` there are at the front of a text.
 #[inline(always)]
 pub(crate) fn count_silents(text: &[u8]) -> usize
     ensures within { 4 * result ≤ length text.now }

@@ -1,8 +1,8 @@
 //! A reader of a format, byte by byte.
 ghost use Rattle.std.specs.Prelude.{◌≡◌, ◌+◌, ◌*◌, ◌≤◌, ◌<◌, ◌∷◌, false, length, take, List, [], None, MatchBool, MatchOption, MatchResult, OnOk, Ok, Err, ⊤};
 ghost use Rattle.pf_values.specs.declared.limits.TheConstants.{MAX_TEXT_LEN};
-ghost use Rattle.pf_values.specs.Items.{Item, Reads};
-ghost use Rattle.pf_values.specs.Text.{Text};
+ghost use Rattle.pf_values.specs.meaning.Items.{Item, Reads};
+ghost use Rattle.pf_values.specs.meaning.Text.{Text};
 ghost use Rattle.pf_values.specs.declared.models.Model.{Model};
 ghost use Rattle.pf_text.specs.Plain.{PassesPlain, PassesSilents};
 ghost use Rattle.pf_text.specs.Stages.{state_of};
@@ -20,12 +20,12 @@ use pf_values::{Directive, RefusalKind};
 #[cfg(test)]
 mod tests;
 
-/// What one byte makes (C11 7.21.6.1, paragraphs 3 and 4).
+/// What one more byte ends (C11 7.21.6.1, paragraphs 3 and 4).
 #[derive(Clone, Copy, Debug, PartialEq, Eq)]
 pub enum Step {
-    /// The byte is inside a specification.
+    /// Nothing: the byte is inside a specification.
     More,
-    /// A byte that stands for itself.
+    /// A literal byte, which prints itself.
     Byte(u8),
     /// The end of `%%`.
     Percent,
@@ -53,8 +53,8 @@ impl Scanner {
         }
     }
 
-    /// Takes one more byte, and tells what it makes: where it ends an item, that item. A refused
-    /// byte isn't taken, and from then on that refusal is all that is answered.
+    /// Takes one more byte, and returns the item that it ends, if it ends one. A refused byte isn't
+    /// taken, and from then on every call returns that refusal.
     #[inline(always)]
     pub fn feed(&mut self, byte: u8) -> Result<Step, Refusal>
         // One more byte of a text is taken, or is refused however the text goes on.
@@ -65,7 +65,7 @@ impl Scanner {
             (λ refusal. HasRefused self.new refusal × (offset_of self.new ≡ offset_of self.old)) }
         // No byte is taken past the limit.
         ensures below { OnOk result (offset_of self.old < MAX_TEXT_LEN) }
-        // After a refusal the same is answered.
+        // After a refusal the answer stays the same.
         ensures stays { (refusal : Refusal) → HasRefused self.old refusal
             → (result ≡ Err refusal) × (self.new ≡ self.old) }
     {
@@ -78,8 +78,8 @@ impl Scanner {
         }
     }
 
-    /// The same of a reader that has refused nothing. Of a refused byte it tells why, and keeps
-    /// nothing.
+    /// The same of a reader that has refused nothing. It returns why a byte is refused, and doesn't
+    /// keep that.
     #[inline(always)]
     pub(crate) fn take(&mut self, byte: u8) -> Result<Step, RefusalKind>
         ensures fed { (t : Text) (items : List Item) → IsAfter self.old t items
@@ -100,7 +100,7 @@ impl Scanner {
         }
     }
 
-    // What one more byte makes of the automaton, with the directive, if one has ended.
+    // Gives the automaton one more byte, and returns the item that it ends, if it ends one.
     #[inline(always)]
     fn step(&mut self, byte: u8) -> Result<Step, RefusalKind>
         ensures made { MatchResult result (λ step. next (state_of self.old.automaton) byte
@@ -134,7 +134,7 @@ impl Scanner {
         }
     }
 
-    /// Lets go of what came of the items before, of which nothing counts between items. So a loop
+    /// Forgets what was read of the items before, none of which counts between items. So a loop
     /// over items keeps none of it from one item to the next.
     #[inline(always)]
     pub(crate) fn restart(&mut self)
@@ -145,9 +145,9 @@ impl Scanner {
         self.refused = None;
     }
 
-    /// Takes the longest run of literal bytes at the front of `text`, and tells how many there are.
-    /// One call of `feed` for each of them would do the same. Inside an item, and after a refusal,
-    /// it takes none.
+    /// Takes the longest run of literal bytes at the front of `text`, and returns how many there
+    /// are. One call of `feed` for each of them would do the same. Inside an item, and after a
+    /// refusal, it takes none.
     #[inline(always)]
     pub fn pass_literals(&mut self, text: &[u8]) -> usize
         ensures within { result ≤ length text.now }
@@ -164,7 +164,7 @@ impl Scanner {
         self.take_literals(text)
     }
 
-    /// The same of a reader that stands between items.
+    /// The same of a reader that is between items.
     #[inline(always)]
     pub(crate) fn take_literals(&mut self, text: &[u8]) -> usize
         ensures within { result ≤ length text.now }
@@ -180,10 +180,10 @@ impl Scanner {
         taken as usize
     }
 
-    /// Takes literal bytes, `%%`, and directives that are normal in each data model and spelled by
-    /// their conversion alone, as many as stand at the front of `text` before the first other item,
-    /// and tells how many bytes they have. One call of `feed` for each of them would do the same.
-    /// Inside an item, and after a refusal, it takes none.
+    /// Takes the plain items at the front of `text`, and returns how many bytes they have. These
+    /// are literal bytes, `%%`, and the directives of a conversion alone that are normal, as they
+    /// then are in each data model. One call of `feed` for each byte would do the same. Inside an
+    /// item, and after a refusal, it takes none.
     #[inline(always)]
     pub fn pass_plain(&mut self, text: &[u8]) -> usize
         ensures within { result ≤ length text.now }
@@ -204,7 +204,7 @@ impl Scanner {
         run
     }
 
-    /// Takes the directives `%.0s` at the front of `text`, and tells how many there are. One call
+    /// Takes the directives `%.0s` at the front of `text`, and returns how many there are. One call
     /// of `feed` for each of their bytes would do the same. Inside an item, and after a refusal, it
     /// takes none.
     #[inline(always)]
@@ -227,10 +227,10 @@ impl Scanner {
         count
     }
 
-    /// Takes a directive that stands whole at the front of `text`, and tells how many bytes it has.
-    /// One call of `feed` for each of them would do the same. Where no defined directive stands
-    /// whole, inside an item, and after a refusal, it takes none. It may take none where one stands,
-    /// and so its caller goes on with `feed`.
+    /// Takes a whole directive at the front of `text`, and returns how many bytes it has, too.
+    /// One call of `feed` for each of them would do the same. Where there is no whole and defined
+    /// directive, inside an item, and after a refusal, it takes none. It may take none where there
+    /// is one, and so its caller goes on with `feed`.
     #[inline(always)]
     pub fn pass_directive(&mut self, text: &[u8]) -> Option<(Directive, usize)>
         ensures within { MatchOption result (self.new ≡ self.old)
@@ -246,7 +246,7 @@ impl Scanner {
         self.take_directive(text)
     }
 
-    /// The same of a reader that stands between items.
+    /// The same of a reader that is between items.
     #[inline(always)]
     pub(crate) fn take_directive(&mut self, text: &[u8]) -> Option<(Directive, usize)>
         ensures within { MatchOption result (self.new ≡ self.old)
@@ -272,7 +272,7 @@ impl Scanner {
         Err(refusal)
     }
 
-    /// A refusal where the reader stands.
+    /// A refusal of the next byte, or of the end.
     #[inline(always)]
     pub(crate) fn refusal(&self, kind: RefusalKind) -> Refusal
         ensures { result ≡ refusal_by self.now kind }

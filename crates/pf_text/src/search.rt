@@ -16,7 +16,7 @@ const NEAR: usize = 64;
 
 /// How many literal bytes begin `text`: those before its first `%` and before its first zero byte.
 // It sees no reader, so that a reader's state can lie in registers, and is never inlined, so that
-// the search stands in the program once.
+// the program has the search once.
 #[inline(never)]
 pub fn literal_len(text: &[u8]) -> usize
     ensures within { result ≤ length text.now }
@@ -40,7 +40,7 @@ pub fn literal_len(text: &[u8]) -> usize
     len_behind(text, at)
 }
 
-// Of a text that is shorter than a vector: most formats end in one, or are one.
+// The same for a text that is shorter than a vector: most formats end in one, or are one.
 #[inline(always)]
 fn short_len(text: &[u8]) -> usize
     requires { length text.now < LANES }
@@ -67,7 +67,7 @@ fn len_by_one(text: &[u8]) -> usize
 {
     let mut at = 0;
     while at < text.len() {
-        if is_other(text[at]) {
+        if ends_literal_run(text[at]) {
             return at;
         }
         at += 1;
@@ -76,13 +76,14 @@ fn len_by_one(text: &[u8]) -> usize
 }
 
 #[inline(always)]
-fn is_other(byte: u8) -> bool
+fn ends_literal_run(byte: u8) -> bool
     ensures { result ≡ is_byte2 37 0 byte }
 {
     byte == b'%' || byte == 0
 }
 
-// Of a text whose first bytes are literal, all but the last few: the last vector overlaps those.
+// The same where all but the last few bytes are known to be literal: the last vector overlaps
+// these.
 #[inline(always)]
 fn len_at_end(text: &[u8], seen: usize) -> usize
     requires room { LANES ≤ length text.now }
@@ -96,7 +97,7 @@ fn len_at_end(text: &[u8], seen: usize) -> usize
     at + literals_at::<LANES>(text, at)
 }
 
-// Of a text whose first bytes are literal.
+// The same where the first bytes are known to be literal.
 #[inline(never)]
 fn len_behind(text: &[u8], seen: usize) -> usize
     requires within { seen ≤ length text.now }

@@ -1,17 +1,17 @@
-//! A conversion specification that stands whole at the front of a text, read in one go. The
-//! automaton comes to the same byte by byte, and tells why a text has none.
+//! A conversion specification that is whole at the front of a text, read in one go. The automaton
+//! reads the same byte by byte, and finds out why a text has none.
 ghost use Rattle.std.specs.Prelude.{◌≡◌, ◌+◌, ◌<◌, ◌≤◌, List, [], ◌∷◌, ◌++◌, false, length, map, take, MatchOption, ⊤};
 ghost use Rattle.pf_values.specs.declared.flags.Flag.{Flag};
 ghost use Rattle.pf_values.specs.declared.limits.TheConstants.{MAX_NUMBER};
-ghost use Rattle.pf_values.specs.Conversions.{conv_letter};
-ghost use Rattle.pf_values.specs.Defined.{is_above_limit};
-ghost use Rattle.pf_values.specs.Flags.{flag_byte, flag_set};
-ghost use Rattle.pf_values.specs.Items.{IsReadAs};
-ghost use Rattle.pf_values.specs.Items as items;
-ghost use Rattle.pf_values.specs.Lengths.{length_letters};
-ghost use Rattle.pf_values.specs.Spelling.{SpellsPrecision, SpellsWidth};
-ghost use Rattle.pf_values.specs.Text.{Text, percent};
-ghost use Rattle.pf_text.specs.Places.{GoesOn, Stands};
+ghost use Rattle.pf_values.specs.meaning.Conversions.{conv_letter};
+ghost use Rattle.pf_values.specs.meaning.Defined.{is_above_limit};
+ghost use Rattle.pf_values.specs.meaning.Flags.{flag_byte, flag_set};
+ghost use Rattle.pf_values.specs.meaning.Items.{IsReadAs};
+ghost use Rattle.pf_values.specs.meaning.Items as items;
+ghost use Rattle.pf_values.specs.meaning.Lengths.{length_letters};
+ghost use Rattle.pf_values.specs.meaning.Spelling.{SpellsPrecision, SpellsWidth};
+ghost use Rattle.pf_values.specs.meaning.Text.{Text, percent};
+ghost use Rattle.pf_text.specs.Places.{ContinuesNumber, HasBytes};
 
 use crate::letters::{conv_of, flag_of, modifier_of};
 use pf_values::limits::MAX_NUMBER;
@@ -31,14 +31,14 @@ pub(crate) fn directive_at_front(text: &[u8]) -> Option<(Directive, usize)>
         return None;
     }
     match conv_of(text[1]) {
-        Some(conv) => bare_directive(conv),
+        Some(conv) => directive_of_conv(conv),
         None => directive_of_parts(text),
     }
 }
 
 // The directive that is spelled by its conversion alone, as most are.
 #[inline(always)]
-fn bare_directive(conv: Conv) -> Option<(Directive, usize)>
+fn directive_of_conv(conv: Conv) -> Option<(Directive, usize)>
     ensures { MatchOption result ⊤ (λ front. (front.1 ≡ 2)
         × IsReadAs (percent ∷ conv_letter conv ∷ []) (items.Directive front.0)) }
 {
@@ -48,7 +48,7 @@ fn bare_directive(conv: Conv) -> Option<(Directive, usize)>
     }
 }
 
-// The same as of any text that begins with `%`.
+// The directive at the front of a text that begins with `%`.
 #[inline(always)]
 fn directive_of_parts(text: &[u8]) -> Option<(Directive, usize)>
     requires { (1 ≤ length text.now) × (take 1 text.now ≡ percent ∷ []) }
@@ -71,7 +71,7 @@ fn directive_of_parts(text: &[u8]) -> Option<(Directive, usize)>
 fn flags_at(text: &[u8], start: usize) -> (FlagSet, usize)
     requires { start ≤ length text.now }
     ensures { (flags : List Flag) × (result.0 ≡ flag_set flags)
-        × Stands text.now start result.1 (map flag_byte flags) }
+        × HasBytes text.now start result.1 (map flag_byte flags) }
 {
     let mut flags = FlagSet::empty();
     let mut at = start;
@@ -90,7 +90,7 @@ fn flags_at(text: &[u8], start: usize) -> (FlagSet, usize)
 fn width_at(text: &[u8], start: usize) -> (Option<u16>, usize)
     requires { start ≤ length text.now }
     ensures { (bytes : Text) × SpellsWidth bytes result.0 × (is_above_limit result.0 ≡ false)
-        × Stands text.now start result.1 bytes }
+        × HasBytes text.now start result.1 bytes }
 {
     if start >= text.len() {
         return (None, start);
@@ -109,7 +109,7 @@ fn width_at(text: &[u8], start: usize) -> (Option<u16>, usize)
 fn precision_at(text: &[u8], start: usize) -> (Option<u16>, usize)
     requires { start ≤ length text.now }
     ensures { (bytes : Text) × SpellsPrecision bytes result.0 × (is_above_limit result.0 ≡ false)
-        × Stands text.now start result.1 bytes }
+        × HasBytes text.now start result.1 bytes }
 {
     if start >= text.len() {
         return (None, start);
@@ -121,15 +121,15 @@ fn precision_at(text: &[u8], start: usize) -> (Option<u16>, usize)
     (Some(number), stop)
 }
 
-// The number whose first digits make `first`, with the digits from a place on behind them, and
-// where they end: before a digit with which it would pass the limit.
+// The number that begins with the digits of `first`, and goes on with those from a place on; and
+// where they end, which is before a digit with which it would pass the limit.
 #[inline(always)]
 fn digits_at(text: &[u8], start: usize, first: u16) -> (u16, usize)
     requires within { start ≤ length text.now }
     requires small { first ≤ MAX_NUMBER }
     ensures small { result.0 ≤ MAX_NUMBER }
-    ensures digits { (bytes : Text) × GoesOn first bytes result.0
-        × Stands text.now start result.1 bytes }
+    ensures digits { (bytes : Text) × ContinuesNumber first bytes result.0
+        × HasBytes text.now start result.1 bytes }
 {
     let mut number = first;
     let mut at = start;
@@ -152,7 +152,7 @@ fn digits_at(text: &[u8], start: usize, first: u16) -> (u16, usize)
 #[inline(always)]
 fn modifier_at(text: &[u8], start: usize) -> (Length, usize)
     requires { start ≤ length text.now }
-    ensures { Stands text.now start result.1 (length_letters result.0) }
+    ensures { HasBytes text.now start result.1 (length_letters result.0) }
 {
     if start >= text.len() {
         return (Length::None, start);
@@ -163,12 +163,12 @@ fn modifier_at(text: &[u8], start: usize) -> (Length, usize)
     }
 }
 
-// The modifier that begins with one of one letter, and where it ends.
+// The modifier that begins with this one of one letter, and where it ends.
 #[inline(always)]
 fn modifier_with(text: &[u8], start: usize, first: Length) -> (Length, usize)
     requires { start ≤ length text.now }
     ensures { (bytes : Text) × (length_letters result.0 ≡ length_letters first ++ bytes)
-        × Stands text.now start result.1 bytes }
+        × HasBytes text.now start result.1 bytes }
 {
     if start >= text.len() {
         return (first, start);
@@ -184,7 +184,7 @@ fn modifier_with(text: &[u8], start: usize, first: Length) -> (Length, usize)
 #[inline(always)]
 fn conv_at(text: &[u8], at: usize) -> Option<Conv>
     requires { at ≤ length text.now }
-    ensures { MatchOption result ⊤ (λ conv. Stands text.now at (at + 1) (conv_letter conv ∷ [])) }
+    ensures { MatchOption result ⊤ (λ conv. HasBytes text.now at (at + 1) (conv_letter conv ∷ [])) }
 {
     if at >= text.len() {
         return None;

@@ -1,9 +1,9 @@
 //! How directives are spelled.
 ghost use Rattle.std.specs.Prelude.{◌≡◌, ◌≤◌, ◌<◌, ◌+◌, ◌++◌, ◌∷◌, [], false, decimal, length};
 ghost use Rattle.arrayvec.specs.ArrayVec.{array_vec_len};
-ghost use Rattle.pf_values.specs.Defined.{is_above_limit};
-ghost use Rattle.pf_values.specs.Lengths.{length_letters};
-ghost use Rattle.pf_values.specs.Spelling.{flags_spelled, precision_spelled, spelling_of, width_spelled};
+ghost use Rattle.pf_values.specs.meaning.Defined.{is_above_limit};
+ghost use Rattle.pf_values.specs.meaning.Lengths.{length_letters};
+ghost use Rattle.pf_values.specs.meaning.Spelling.{flags_spelled, precision_spelled, spelling_of, width_spelled};
 ghost use Rattle.pf_text.specs.Letters.{flags_kept};
 
 use crate::letters::{conv_letter, flag_byte, length_letters};

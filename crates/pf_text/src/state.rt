@@ -1,4 +1,4 @@
-//! How far an item has come, and what one more byte makes of it.
+//! How much of an item has been read, and what one more byte adds.
 ghost use Rattle.std.specs.Prelude.{◌≡◌, ◌<◌, ◌↔◌, ℕ, IsTrue, MatchResult, Ok, Err};
 ghost use Rattle.pf_text.specs.declared.scanner.Step.TheVariants as steps;
 ghost use Rattle.pf_text.specs.Moves.{judged_parts, next_by};
@@ -9,7 +9,7 @@ use crate::letters::{conv_of, flag_of, modifier_of, refused_letter};
 use pf_values::limits::MAX_NUMBER;
 use pf_values::{Conv, Directive, FlagSet, Length, RefusalKind};
 
-/// What has come of an item.
+/// How much of an item has been read.
 #[derive(Clone, Copy, Debug)]
 pub(crate) enum Phase {
     /// Nothing.
@@ -28,12 +28,12 @@ pub(crate) enum Phase {
     Modifier,
 }
 
-/// What a byte makes. Unlike `Step` it holds nothing, so that it goes in a register.
+/// What one more byte is, as in `Step`. It holds no directive, so that it fits into a register.
 #[derive(Clone, Copy, Debug)]
 pub(crate) enum Move {
     /// The byte is inside a specification.
     More,
-    /// The byte stands for itself.
+    /// The byte is a literal one.
     Byte,
     /// The end of `%%`.
     Percent,
@@ -41,8 +41,8 @@ pub(crate) enum Move {
     Ended,
 }
 
-/// What has come of an item, in fields that are changed in place. In each phase only some of them
-/// count.
+/// What has been read of an item, in fields that are changed in place. In each phase only some of
+/// them count.
 #[derive(Clone, Copy, Debug)]
 pub(crate) struct Automaton {
     phase: Phase,
@@ -56,7 +56,7 @@ pub(crate) struct Automaton {
 }
 
 impl Automaton {
-    /// Nothing has come.
+    /// Nothing has been read.
     pub(crate) fn new() -> Automaton
         ensures { state_of result ≡ Between }
     {
@@ -71,7 +71,7 @@ impl Automaton {
         }
     }
 
-    /// Whether nothing of an item has come.
+    /// Whether nothing of an item has been read.
     pub(crate) fn is_between(&self) -> bool
         ensures { IsTrue result ↔ (state_of self.now ≡ Between) }
     {
@@ -237,7 +237,7 @@ impl Automaton {
         }
     }
 
-    /// The specification ends, or nothing goes on with it.
+    /// The specification ends, or the byte is refused.
     #[inline(always)]
     fn end_at(&mut self, byte: u8) -> Result<Move, RefusalKind>
         ensures { next_by result byte self.new
@@ -252,7 +252,7 @@ impl Automaton {
         }
     }
 
-    /// The directive that has ended. What comes next is between items.
+    /// The directive that has ended. The next byte begins another item.
     #[inline(always)]
     pub(crate) fn directive(&mut self) -> Result<Directive, RefusalKind>
         ensures { MatchResult result

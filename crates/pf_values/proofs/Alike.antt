@@ -4,11 +4,11 @@ use Rattle.std.specs.Prelude.{◌↔◌}
 use Rattle.std.proofs.lemmas.List.{append_assoc}
 use Rattle.pf_values.specs.declared.models.Model.{Model}
 use Rattle.pf_values.specs.declared.types.ArgType.{ArgType}
-use Rattle.pf_values.specs.Arguments.{Argument, HasTypes}
-use Rattle.pf_values.specs.DataModel.{arg_type}
-use Rattle.pf_values.specs.Items.{Item, Byte, Directive, Reads, types}
-use Rattle.pf_values.specs.Printing.{AreEquivalent, PrintAlike, PrintsAll}
-use Rattle.pf_values.specs.Text.{Text}
+use Rattle.pf_values.specs.meaning.Arguments.{Argument, HasTypes}
+use Rattle.pf_values.specs.meaning.DataModel.{arg_type}
+use Rattle.pf_values.specs.meaning.Items.{Item, Byte, Directive, Reads, types}
+use Rattle.pf_values.specs.meaning.Printing.{AreEquivalent, PrintAlike, PrintsAll}
+use Rattle.pf_values.specs.meaning.Text.{Text}
 use Rattle.pf_values.proofs.ItemTypes.{types-append}
 use Rattle.pf_values.proofs.PrintsOnce.{printed_text, printed-is, Prints-unique}
 

@@ -8,9 +8,9 @@ use Rattle.pf_values.specs.declared.bases.Base.TheVariants.{Binary, Octal, Decim
 use Rattle.pf_values.specs.declared.conversions.Conv.{Conv}
 use Rattle.pf_values.specs.declared.conversions.Kind.{Kind}
 use Rattle.pf_values.specs.declared.conversions.Kind.TheVariants as kinds
-use Rattle.pf_values.specs.Bases.{most_digits_in, number_of}
-use Rattle.pf_values.specs.Bits.{Bits, B8, B16, B32, B64, bit_count}
-use Rattle.pf_values.specs.Conversions.{
+use Rattle.pf_values.specs.meaning.Bases.{most_digits_in, number_of}
+use Rattle.pf_values.specs.meaning.Bits.{Bits, B8, B16, B32, B64, bit_count}
+use Rattle.pf_values.specs.meaning.Conversions.{
   base_of,
   base_under,
   is_signed,
@@ -19,7 +19,7 @@ use Rattle.pf_values.specs.Conversions.{
   prints_signed,
   prints_text,
 }
-use Rattle.pf_values.specs.DataModel.{FitsIn, most_digits, most_digits_of}
+use Rattle.pf_values.specs.meaning.DataModel.{FitsIn, most_digits, most_digits_of}
 use Rattle.pf_values.proofs.Printed.{count_of}
 
 -- the greatest value of so many bits has its digits in a base

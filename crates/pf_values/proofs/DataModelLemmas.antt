@@ -5,17 +5,17 @@ use Rattle.pf_values.specs.declared.lengths.Length.TheVariants as lengths
 use Rattle.pf_values.specs.declared.models.Model.{Model}
 use Rattle.pf_values.specs.declared.models.Rank.{Rank}
 use Rattle.pf_values.specs.declared.models.Rank.TheVariants as ranks
-use Rattle.pf_values.specs.DataModel.{Row, greatest_rank, row_of, row_of_rank, size_rank}
+use Rattle.pf_values.specs.meaning.DataModel.{LengthRow, greatest_rank, length_row, row_of_rank, size_rank}
 
 -- What holds of the rows of `hh`, of `h`, of no modifier, of `l` and of `ll` holds of all.
-module _ (model : Model) (P : Row → Type 0) (hh : P (row_of model lengths.Hh)) (h : P (row_of model lengths.H))
-    (none : P (row_of model lengths.None)) (l : P (row_of model lengths.L)) (ll : P (row_of model lengths.Ll)) where
+module _ (model : Model) (P : LengthRow → Type 0) (hh : P (length_row model lengths.Hh)) (h : P (length_row model lengths.H))
+    (none : P (length_row model lengths.None)) (l : P (length_row model lengths.L)) (ll : P (length_row model lengths.Ll)) where
   by_rank : (rank : Rank) → P (row_of_rank model rank)
   by_rank ranks.Int = none
   by_rank ranks.Long = l
   by_rank ranks.LongLong = ll
 
-  pub each_row : (length : Length) → P (row_of model length)
+  pub each_row : (length : Length) → P (length_row model length)
   each_row lengths.Hh = hh
   each_row lengths.H = h
   each_row lengths.None = none
@@ -26,5 +26,5 @@ module _ (model : Model) (P : Row → Type 0) (hh : P (row_of model lengths.Hh))
   each_row lengths.T = by_rank (size_rank model)
 
 -- the modifier that a normal directive has for another says the same
-pub kept_row : (model : Model) (length : Length) → row_of model (row_of model length).kept ≡ row_of model length
-kept_row model = each_row model (λ r. row_of model r.kept ≡ r) refl refl refl refl refl
+pub kept_row : (model : Model) (length : Length) → length_row model (length_row model length).kept ≡ length_row model length
+kept_row model = each_row model (λ r. length_row model r.kept ≡ r) refl refl refl refl refl

@@ -20,7 +20,7 @@ use Rattle.pf_values.specs.declared.models.TheConstants.Model.{ALL as all_models
 use Rattle.pf_values.specs.declared.refusals.RefusalKind.{RefusalKind}
 use Rattle.pf_values.specs.declared.refusals.RefusalKind.TheVariants as refusals
 use Rattle.pf_values.specs.declared.refusals.TheConstants.RefusalKind.{ALL as all_refusals}
-use Rattle.pf_values.specs.Tables.{HasEachOnce, StandsOnce}
+use Rattle.pf_values.specs.Laws.{HasEachOnce, OccursOnce}
 
 -- A value stands where its place says, and none of the others has that place.
 module _ {A : Type 0} (place : A → ℕ) where
@@ -33,7 +33,7 @@ module _ {A : Type 0} (place : A → ℕ) where
       }
 
   pub once : (all : List A) (v : A) → all ≡ take (place v) all ++ (v ∷ drop (place v + 1) all)
-      → list_any (λ w. nat_eq (place v) (place w)) (take (place v) all ++ drop (place v + 1) all) ≡ false → StandsOnce all v
+      → list_any (λ w. nat_eq (place v) (place w)) (take (place v) all ++ drop (place v + 1) all) ≡ false → OccursOnce all v
   once all v there none =
       record {
         before = take (place v) all;

@@ -10,11 +10,11 @@ use Rattle.pf_values.specs.declared.lengths.Length.TheVariants as lengths
 use Rattle.pf_values.specs.declared.limits.TheConstants.{MAX_NUMBER, MAX_TEXT_LEN}
 use Rattle.pf_values.specs.declared.models.Model.{Model}
 use Rattle.pf_values.specs.declared.refusals.RefusalKind.TheVariants.{WidthTooLarge, Wide, AltUndefined, ZeroUndefined, GroupUndefined, PrecisionUndefined, LengthUndefined}
-use Rattle.pf_values.specs.Arguments.{Number, String}
-use Rattle.pf_values.specs.Defined.{refused_as}
-use Rattle.pf_values.specs.Flags.{flag_set}
-use Rattle.pf_values.specs.Specification.{Specification}
-use Rattle.pf_values.specs.Spelling.{spelling_of}
+use Rattle.pf_values.specs.meaning.Arguments.{Number, String}
+use Rattle.pf_values.specs.meaning.Defined.{refused_as}
+use Rattle.pf_values.specs.meaning.Flags.{flag_set}
+use Rattle.pf_values.specs.meaning.Specification.{Specification}
+use Rattle.pf_values.specs.meaning.Spelling.{spelling_of}
 use Rattle.pf_values.proofs.PrintsOnce.{printed_text}
 
 abbrev spec : List Flag → Option ℕ → Option ℕ → Length → Conv → Specification

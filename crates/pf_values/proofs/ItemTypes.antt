@@ -1,9 +1,9 @@
 -- The types of items.
 use Rattle.std.proofs.Common.{◌≡◌, List, [], ◌∷◌, ◌++◌, map, refl, ap}
 use Rattle.pf_values.specs.declared.models.Model.{Model}
-use Rattle.pf_values.specs.DataModel.{arg_type}
-use Rattle.pf_values.specs.Items.{Item, Byte, Directive, types}
-use Rattle.pf_values.specs.Text.{Text}
+use Rattle.pf_values.specs.meaning.DataModel.{arg_type}
+use Rattle.pf_values.specs.meaning.Items.{Item, Byte, Directive, types}
+use Rattle.pf_values.specs.meaning.Text.{Text}
 
 pub types-append : (model : Model) (a b : List Item) → types model (a ++ b) ≡ types model a ++ types model b
 types-append model [] b = refl

@@ -2,11 +2,11 @@
 use Rattle.std.proofs.Common.{◌≡◌, ℕ, ◌+◌, ◌-◌, max, Bool, false, ◌++◌, length, refl, ap, ◌∙◌, ℤ}
 use Rattle.std.specs.Prelude.{nat_abs}
 use Rattle.std.proofs.lemmas.List.{length-append, length-map, length-replicate}
-use Rattle.pf_values.specs.Conversions.{base_of, is_upper}
-use Rattle.pf_values.specs.Normal.{precision_of}
-use Rattle.pf_values.specs.Printing.{is_zero_filled, sign_or_prefix}
-use Rattle.pf_values.specs.Specification.{Specification}
-use Rattle.pf_values.specs.Text.{Text}
+use Rattle.pf_values.specs.meaning.Conversions.{base_of, is_upper}
+use Rattle.pf_values.specs.meaning.Normal.{precision_of}
+use Rattle.pf_values.specs.meaning.Printing.{is_zero_filled, sign_or_prefix}
+use Rattle.pf_values.specs.meaning.Specification.{Specification}
+use Rattle.pf_values.specs.meaning.Text.{Text}
 use Rattle.pf_values.proofs.Printed.{count_of, natural_of, printed_digits-is, printed_precision, zero_digits}
 use Rattle.pf_values.proofs.PrintsOnce.{value_text}
 

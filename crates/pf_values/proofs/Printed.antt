@@ -11,14 +11,14 @@ use Rattle.std.proofs.lemmas.Bool.{cases_lt}
 use Rattle.std.proofs.lemmas.Bool.Decides.{nat_tests}
 use Rattle.std.proofs.lemmas.Int.Digits.{first_digits_of}
 use Rattle.std.proofs.lemmas.List.{length-append, length-map}
-use Rattle.pf_values.specs.Digits.{IsNumeral, IsLeastFrom}
-use Rattle.pf_values.specs.Flags.{has}
-use Rattle.pf_values.specs.Bases.{number_of}
-use Rattle.pf_values.specs.Conversions.{base_of, base_under, is_octal, is_upper, kind_of}
+use Rattle.pf_values.specs.meaning.Digits.{IsNumeral, IsLeastFrom}
+use Rattle.pf_values.specs.meaning.Flags.{has}
+use Rattle.pf_values.specs.meaning.Bases.{number_of}
+use Rattle.pf_values.specs.meaning.Conversions.{base_of, base_under, is_octal, is_upper, kind_of}
 use Rattle.pf_values.specs.declared.flags.Flag.TheVariants.{Alt}
-use Rattle.pf_values.specs.Printing.{AreDigitsOf, IsOctalFromZero, BeginsWithZero, IsPrecision, ReachesWidth, is_zero_filled, sign_or_prefix}
-use Rattle.pf_values.specs.Specification.{Specification, width_of}
-use Rattle.pf_values.specs.Text.{Text}
+use Rattle.pf_values.specs.meaning.Printing.{AreDigitsOf, IsOctalFromZero, BeginsWithZero, IsPrecision, ReachesWidth, is_zero_filled, sign_or_prefix}
+use Rattle.pf_values.specs.meaning.Specification.{Specification, width_of}
+use Rattle.pf_values.specs.meaning.Text.{Text}
 use Rattle.pf_values.proofs.Numerals.{least_digits, length-least_digits, AreLeastDigits-exist, AreLeastDigits-unique}
 
 pub IsLeastFrom-unique : (low : ℕ) (P : ℕ → Type 0) (m n : ℕ) → IsLeastFrom low P m → IsLeastFrom low P n → m ≡ n
@@ -44,7 +44,7 @@ begins_with_zeros : (k : ℕ) (ds : List ℕ) → 0 < k → BeginsWithZero (map 
 begins_with_zeros zero ds h = absurd (omega arith)
 begins_with_zeros (suc k) ds h = refl
 
--- a numeral begins with the digit 0 where zeros stand in front, and only there
+-- a numeral begins with the digit 0 exactly where zeros come before the number's own digits
 begins : (least n : ℕ) → count_of 8 n < least → BeginsWithZero (numeral 8 false least n)
 begins least n h = begins_with_zeros (least - count_of 8 n) (digits_of 8 n) (omega arith)
 
@@ -218,7 +218,7 @@ raised_is : (conv : Conv) (alt : Bool) → (is_octal conv && alt) ≡ true
 raised_is O alt e = (refl, refl)
 raised_is _ alt e = absurd (cc)
 
--- how many zeros stand in front of the digits
+-- how many zeros come before the digits
 abbrev pub zeros_of : Specification → ℕ → ℕ → ℕ
 zeros_of s precision n = max precision (natural_of s n) - count_of (base_of s.conv) n
 

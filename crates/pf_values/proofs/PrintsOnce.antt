@@ -7,9 +7,9 @@ use Rattle.pf_values.specs.declared.conversions.Kind.{Kind}
 use Rattle.pf_values.specs.declared.conversions.Kind.TheVariants as kinds
 use Rattle.pf_values.specs.declared.lengths.Length.{Length}
 use Rattle.pf_values.specs.declared.models.Model.{Model}
-use Rattle.pf_values.specs.Arguments.{Argument, Number, String, HasType, IsValue}
-use Rattle.pf_values.specs.Conversions.{is_signed, kind_of}
-use Rattle.pf_values.specs.DataModel.{
+use Rattle.pf_values.specs.meaning.Arguments.{Argument, Number, String, HasType, IsValue}
+use Rattle.pf_values.specs.meaning.Conversions.{is_signed, kind_of}
+use Rattle.pf_values.specs.meaning.DataModel.{
   B8,
   arg_type,
   bits_under,
@@ -17,18 +17,17 @@ use Rattle.pf_values.specs.DataModel.{
   type_of_kind,
   unsigned_type,
 }
-use Rattle.pf_values.specs.Printing.{
+use Rattle.pf_values.specs.meaning.Printing.{
   Prints,
   PrintsKind,
   PrintsNumber,
-  PrintsOnce,
-  PrintsOnly,
   field,
   printed_front,
   sign_or_prefix,
 }
-use Rattle.pf_values.specs.Specification.{Specification}
-use Rattle.pf_values.specs.Text.{Text}
+use Rattle.pf_values.specs.Laws.{PrintsOnce, PrintsOnly}
+use Rattle.pf_values.specs.meaning.Specification.{Specification}
+use Rattle.pf_values.specs.meaning.Text.{Text}
 use Rattle.pf_values.proofs.DataModelLemmas.{each_row}
 use Rattle.pf_values.proofs.Printed.{printed_digits, printed_precision, AreDigitsOf-exist, AreDigitsOf-unique, IsPrecision-exists, IsPrecision-unique}
 use Rattle.pf_values.proofs.Values.{wrapped, converted_number, converted-is, IsConverted-unique}

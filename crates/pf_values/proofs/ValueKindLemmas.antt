@@ -4,8 +4,8 @@ use Rattle.std.specs.Prelude.{nat_abs}
 use Rattle.std.specs.Int.{Width, w16, int_rem_euclid}
 use Rattle.std.proofs.lemmas.Int.{ints}
 use Rattle.std.proofs.lemmas.Bool.Decides.{nat_tests}
-use Rattle.pf_values.specs.Arguments.{IsConverted}
-use Rattle.pf_values.specs.DataModel.{Bits, B8, B16, B32, B64, bit_count}
+use Rattle.pf_values.specs.meaning.Arguments.{IsConverted}
+use Rattle.pf_values.specs.meaning.DataModel.{Bits, B8, B16, B32, B64, bit_count}
 use Rattle.pf_values.proofs.Values.{wrapped, signed_from, converted-is, IsConverted-unique}
 
 remainder-is : (modulus : ℕ) (a : ℤ) → int_rem_euclid a (pos modulus) ≡ pos (wrapped modulus a)

@@ -4,8 +4,8 @@ use Rattle.std.specs.Prelude.{◌<ℤ◌, ◌≤ℤ◌, neg_ℤ, nat_lt, if◌th
 use Rattle.std.proofs.lemmas.Bool.{cases_lt}
 use Rattle.std.proofs.lemmas.Bool.Decides.{nat_tests}
 use Rattle.std.proofs.lemmas.Int.{ints}
-use Rattle.pf_values.specs.Arguments.{IsConverted}
-use Rattle.pf_values.specs.DataModel.{Bits, B8, B16, B32, B64, FitsIn, bit_count}
+use Rattle.pf_values.specs.meaning.Arguments.{IsConverted}
+use Rattle.pf_values.specs.meaning.DataModel.{Bits, B8, B16, B32, B64, FitsIn, bit_count}
 
 -- the remainder of a number, from 0 on
 abbrev pub wrapped : ℕ → ℤ → ℕ

@@ -5,14 +5,14 @@ use Rattle.pf_values.specs.declared.arguments.Arg.TheVariants as variants
 use Rattle.pf_values.specs.declared.arguments.CBytes.{CBytes}
 use Rattle.pf_values.specs.declared.types.ArgType.{ArgType}
 use Rattle.pf_values.specs.declared.types.ArgType.TheVariants.{Int, UInt, Long, ULong, LongLong, ULongLong, Str}
-use Rattle.pf_values.specs.Arguments.{Argument, Number, String}
-use Rattle.pf_values.specs.Text.{Text}
+use Rattle.pf_values.specs.meaning.Arguments.{Argument, Number, String}
+use Rattle.pf_values.specs.meaning.Text.{Text}
 
 -- the bytes of a string, without the null character that ends it in C (C11 7.1.1 p1)
 abbrev pub bytes_of : CBytes → Text
 bytes_of s = s.bytes.now
 
--- the type of the argument of C that it stands for
+-- its type in C
 abbrev pub type_of : Arg → ArgType
 type_of (variants.Int n) = Int
 type_of (variants.UInt n) = UInt
@@ -22,7 +22,7 @@ type_of (variants.LongLong n) = LongLong
 type_of (variants.ULongLong n) = ULongLong
 type_of (variants.Str s) = Str
 
--- the argument that it stands for
+-- its value
 abbrev pub argument_of : Arg → Argument
 argument_of (variants.Int n) = Number n
 argument_of (variants.UInt n) = Number (pos n)

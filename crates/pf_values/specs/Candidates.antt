@@ -4,10 +4,10 @@ use Rattle.std.specs.Prelude.{◌≡◌, ℕ, ◌-◌, ◌^◌, pos, negsuc, Lis
 use Rattle.pf_values.specs.declared.models.Model.{Model}
 use Rattle.pf_values.specs.declared.types.ArgType.{ArgType}
 use Rattle.pf_values.specs.declared.types.ArgType.TheVariants.{Int, UInt, Long, ULong, LongLong, ULongLong, Str}
-use Rattle.pf_values.specs.Arguments.{Argument, Number, String}
-use Rattle.pf_values.specs.DataModel.{Bits, bit_count, type_bits}
+use Rattle.pf_values.specs.meaning.Arguments.{Argument, Number, String}
+use Rattle.pf_values.specs.meaning.DataModel.{Bits, bit_count, type_bits}
 
--- the greatest number of so many bits, and 3, by which binary numbers are told
+-- the greatest number of so many bits, and 3, which tells base two from the others
 abbrev pub unsigned_candidates : Bits → List Argument
 unsigned_candidates bits =
     map Number (pos 0 ∷ pos 1 ∷ pos 2 ∷ pos (2 ^ bit_count bits - 1) ∷ pos 3 ∷ [])

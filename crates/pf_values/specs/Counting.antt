@@ -1,10 +1,10 @@
--- How a counted device counts its calls and its failures, and what a call that writes leaves. This project's own:
--- C11 7.21.6.1 p14 has one negative number for every failed write.
+-- How a counted device counts its calls and its failures, and what a call that writes leaves. This
+-- project's own: C11 7.21.6.1 p14 has one negative number for every failed write.
 use Rattle.std.specs.Prelude.{◌≡◌, ℕ, ◌+◌, ◌-◌, ◌^◌, ◌<◌, ◌≤◌, Bool, true, ◌&&◌, ◌==◌, nat_lt, min, length, take, Option, Result, Ok, Err, if◌then◌else◌}
 use Rattle.std.specs.Io.KnownBytes.{Appends}
 use Rattle.pf_values.specs.declared.counting.Counted.{Counted}
 use Rattle.pf_values.specs.declared.writing.ShortWrite.{ShortWrite}
-use Rattle.pf_values.specs.Text.{Text}
+use Rattle.pf_values.specs.meaning.Text.{Text}
 
 module _ {T : Type 0} where
   -- the reader or writer inside
@@ -23,7 +23,7 @@ module _ {T : Type 0} where
   abbrev pub is_flushed : Counted T → Bool
   is_flushed c = c.is_flushed
 
--- where a count stays
+-- the greatest count, above which none goes
 abbrev pub max_count : ℕ
 max_count = 2 ^ 64 - 1
 
@@ -44,7 +44,7 @@ write_failed (Err e) bytes = true
 abbrev pub HasFailed : {T : Type 0} → Counted T → Counted T → Type 0
 HasFailed old new = failures_of new ≡ failures_after (failures_of old) true
 
--- what a writer tells that it holds, if it tells that
+-- the bytes that a writer holds, where its contract says which
 abbrev pub Known : Type 0
 Known = Option Text
 
@@ -61,7 +61,7 @@ module _ {W : Type 0} (contents : W → Known) (old new : Counted W) (bytes : Te
     pub within : written ≤ length bytes
     pub failed : HasFailed old new
 
-  -- all of them, or the first ones, fewer than all, of which the fault tells how many
+  -- all of them; or the first ones, fewer than all, as many as the fault says
   abbrev pub WritesUpTo : {E : Type 0} → (E → ℕ) → Result (Unit {0}) E → Type 0
   WritesUpTo written (Ok done) = WritesAll
   WritesUpTo written (Err fault) = WritesFirst (written fault) × (written fault < length bytes)

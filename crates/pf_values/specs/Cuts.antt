@@ -1,7 +1,7 @@
 -- What a clause sees of a writer with little room. This project's own.
 use Rattle.std.specs.Prelude.{◌≡◌, ℕ, ◌-◌, Bool, length, take}
 use Rattle.std.specs.declared.io.ErrorKind.{ErrorKind}
-use Rattle.pf_values.specs.Text.{Text}
+use Rattle.pf_values.specs.meaning.Text.{Text}
 use Rattle.pf_values.specs.declared.devices.cutting.Cut.{Cut}
 
 -- the bytes that it has taken, which fill the front of its place
@@ -17,8 +17,8 @@ abbrev pub step_of : Cut → ℕ
 step_of cut = cut.step
 
 -- the kind of error with which it fails
-abbrev pub kind_of : Cut → ErrorKind
-kind_of cut = cut.kind
+abbrev pub error_kind_of : Cut → ErrorKind
+error_kind_of cut = cut.kind
 
 -- whether each flush fails
 abbrev pub flush_fails_of : Cut → Bool
@@ -28,5 +28,5 @@ flush_fails_of cut = cut.flush_fails
 pub record KeepsSettings (old new : Cut) : Type 0 where
   pub size : length new.place.now ≡ length old.place.now
   pub step : step_of new ≡ step_of old
-  pub kind : kind_of new ≡ kind_of old
+  pub kind : error_kind_of new ≡ error_kind_of old
   pub flush : flush_fails_of new ≡ flush_fails_of old

@@ -8,15 +8,15 @@ is_due None = false
 is_due (Some before) = before == 0
 
 -- so many bytes, and none past the fault
-abbrev pub up_to : Option ℕ → ℕ → ℕ
-up_to None count = count
-up_to (Some before) count = min before count
+abbrev pub up_to_fault : Option ℕ → ℕ → ℕ
+up_to_fault None count = count
+up_to_fault (Some before) count = min before count
 
--- where the fault stands after so many bytes
-abbrev pub after : Option ℕ → ℕ → Option ℕ
-after fault count = option_map (λ before. before - count) fault
+-- where the reader is to fail, counted from so many bytes further on
+abbrev pub fault_after_bytes : Option ℕ → ℕ → Option ℕ
+fault_after_bytes fault count = option_map (λ before. before - count) fault
 
--- where it stands after a call: one call fails, and no other
-abbrev pub fault_after : {E : Type 0} → Option ℕ → Result ℕ E → Option ℕ
-fault_after fault (Ok count) = after fault count
-fault_after fault (Err e) = None
+-- where it is to fail after a call: one call fails, and no other
+abbrev pub fault_after_call : {E : Type 0} → Option ℕ → Result ℕ E → Option ℕ
+fault_after_call fault (Ok count) = fault_after_bytes fault count
+fault_after_call fault (Err e) = None

@@ -3,9 +3,9 @@
 use Rattle.std.specs.Prelude.{ℕ, codes}
 use Rattle.pf_values.specs.declared.refusals.RefusalKind.{RefusalKind}
 use Rattle.pf_values.specs.declared.refusals.RefusalKind.TheVariants.{NulByte, Truncated, Unexpected, BadPercent, Star, Numbered, WidthTooLarge, PrecisionTooLarge, Float, Pointer, Count, Wide, AltUndefined, ZeroUndefined, GroupUndefined, PrecisionUndefined, LengthUndefined, TooLong}
-use Rattle.pf_values.specs.Text.{Text}
+use Rattle.pf_values.specs.meaning.Text.{Text}
 
--- the number that a refusal is told by
+-- the number of a kind
 abbrev pub number : RefusalKind → ℕ
 number NulByte = 1
 number Truncated = 2
@@ -26,7 +26,7 @@ number PrecisionUndefined = 16
 number LengthUndefined = 17
 number TooLong = 18
 
--- the name that is told with it
+-- its name
 abbrev pub name : RefusalKind → Text
 name NulByte = codes "NulByte"
 name Truncated = codes "Truncated"

@@ -4,7 +4,7 @@ ghost use Rattle.std.specs.Prelude.{◌≡◌, ◌<◌, ◌↔◌, IfSome, IsNon
 use crate::models;
 use crate::types::ArgType;
 
-/// Bytes without a zero byte: what `%s` sees of a string before its null.
+/// Bytes without a zero byte: those of a C string before its null character.
 #[derive(Clone, Copy, Debug)]
 pub struct CBytes<'a> {
     bytes: &'a [u8],
@@ -55,8 +55,8 @@ pub enum Arg<'a> {
 impl<'a> Arg<'a> {
     ghost use Rattle.pf_values.specs.Arg.{argument_of, type_of};
     ghost use Rattle.pf_values.specs.declared.models.Model.TheVariants.{Lp64};
-    ghost use Rattle.pf_values.specs.Arguments.{HasType, Number, String};
-    ghost use Rattle.pf_values.specs.Text.{Text};
+    ghost use Rattle.pf_values.specs.meaning.Arguments.{HasType, Number, String};
+    ghost use Rattle.pf_values.specs.meaning.Text.{Text};
 
     /// The type of the argument.
     pub fn arg_type(self) -> ArgType

@@ -1,7 +1,7 @@
 //! The bases in which numbers are printed.
 ghost use Rattle.std.specs.Prelude.{◌≡◌, ◌≤◌, length};
-ghost use Rattle.pf_values.specs.Bits.{Bits, bit_count, by_bits};
-ghost use Rattle.pf_values.specs.Bases.{
+ghost use Rattle.pf_values.specs.meaning.Bits.{Bits, bit_count, by_bits};
+ghost use Rattle.pf_values.specs.meaning.Bases.{
   alternative_of,
   is_grouped,
   most_digits_in,
@@ -96,7 +96,7 @@ impl Base {
     }
 }
 
-/// One of four, for numbers of 8, 16, 32 and 64 bits.
+/// One of four numbers, by the bits: 8, 16, 32 or 64.
 pub(crate) fn by_bits(bits: u8, b8: u8, b16: u8, b32: u8, b64: u8) -> u8
     ensures { (b : Bits) → bits ≡ bit_count b → result ≡ by_bits b b8 b16 b32 b64 }
 {

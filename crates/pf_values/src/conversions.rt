@@ -1,7 +1,7 @@
 //! Conversions, and what they print.
 ghost use Rattle.std.specs.Prelude.{◌≡◌};
-ghost use Rattle.pf_values.specs.Bases.{is_defined};
-ghost use Rattle.pf_values.specs.Conversions.{
+ghost use Rattle.pf_values.specs.meaning.Bases.{is_defined};
+ghost use Rattle.pf_values.specs.meaning.Conversions.{
   alternative_under,
   base_under,
   has_capitals,

@@ -22,14 +22,14 @@ mod tests;
 ///
 /// Each `read`, `write` and `flush` makes one such call of `T`, and repeats none, also not one that
 /// was interrupted. A failure is a call that answered an error, or a write of some bytes that took
-/// none. At the greatest `u64` a count stays.
+/// none. A count goes no further than the greatest `u64`.
 #[derive(Debug, Drop)]
 pub struct Counted<T> {
     device: T,
     failures: u64,
-    // How many calls there were. Only contracts ask for it.
+    // How many calls there were. Only contracts use it.
     calls: u64,
-    // Whether the last call was a flush. Only contracts ask for it.
+    // Whether the last call was a flush. Only contracts use it.
     is_flushed: bool,
 }
 

@@ -1,7 +1,7 @@
 //! The data models: what a length modifier says, and how many bits a type has.
 ghost use Rattle.std.specs.Prelude.{◌≡◌, ◌↔◌, IsTrue, false, true};
-ghost use Rattle.pf_values.specs.Bits.{Bits, bit_count};
-ghost use Rattle.pf_values.specs.DataModel.{
+ghost use Rattle.pf_values.specs.meaning.Bits.{Bits, bit_count};
+ghost use Rattle.pf_values.specs.meaning.DataModel.{
   FitsIn,
   bits_under,
   kept_length,
@@ -17,7 +17,7 @@ use crate::types::ArgType;
 
 /// What a length modifier says (C11 7.21.6.1, paragraph 7).
 #[derive(Clone, Copy, Debug, PartialEq, Eq)]
-pub(crate) struct Row {
+pub(crate) struct LengthRow {
     /// The modifier that a normal directive has for it.
     pub(crate) kept: Length,
     /// The bits of the value that is printed.
@@ -29,7 +29,7 @@ pub(crate) struct Row {
 }
 
 /// The row of a length modifier.
-pub(crate) fn row_of(model: Model, length: Length) -> Row
+pub(crate) fn length_row(model: Model, length: Length) -> LengthRow
     ensures kept { result.kept ≡ kept_length model length }
     ensures bits { result.bits ≡ bit_count (bits_under model length) }
     ensures signed { result.signed ≡ signed_type model length }
@@ -47,7 +47,7 @@ pub(crate) fn row_of(model: Model, length: Length) -> Row
 }
 
 // The row of the modifier that names the types of a rank.
-fn row_of_rank(model: Model, rank: Rank) -> Row
+fn row_of_rank(model: Model, rank: Rank) -> LengthRow
     ensures kept { result.kept ≡ (row_of_rank model rank).kept }
     ensures bits { result.bits ≡ bit_count (row_of_rank model rank).bits }
     ensures signed { result.signed ≡ (row_of_rank model rank).signed }
@@ -60,10 +60,10 @@ fn row_of_rank(model: Model, rank: Rank) -> Row
     }
 }
 
-fn columns(kept: Length, bits: u8, signed: ArgType, unsigned: ArgType) -> Row
+fn columns(kept: Length, bits: u8, signed: ArgType, unsigned: ArgType) -> LengthRow
     ensures { result ≡ record { kept = kept; bits = bits; signed = signed; unsigned = unsigned } }
 {
-    Row {
+    LengthRow {
         kept,
         bits,
         signed,

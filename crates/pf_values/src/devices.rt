@@ -1,4 +1,5 @@
-//! Devices over memory that fail where they are told to. They take no memory.
+//! A writer and a reader over memory, which fail where their caller wants it. They take no memory
+//! of their own.
 
 mod cutting;
 mod feeding;

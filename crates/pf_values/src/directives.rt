@@ -1,15 +1,20 @@
 //! Directives: conversion specifications that the standard defines, within the limits.
 ghost use Rattle.std.specs.Prelude.{◌≡◌, ◌≤◌, MatchResult};
 ghost use Rattle.pf_values.specs.declared.limits.TheConstants.{MAX_NUMBER};
-ghost use Rattle.pf_values.specs.Defined.{IsDefined, first_broken, refused_as, undefined_kinds};
-ghost use Rattle.pf_values.specs.Specification.{specification_of};
-ghost use Rattle.pf_values.specs.DataModel.{arg_type, value_bits};
-ghost use Rattle.pf_values.specs.Normal.{digits_at_most, effective_precision};
-ghost use Rattle.pf_values.specs.Printing.{is_zero_filled};
+ghost use Rattle.pf_values.specs.meaning.Defined.{
+  IsDefined,
+  first_broken,
+  refused_as,
+  undefined_kinds,
+};
+ghost use Rattle.pf_values.specs.Directives.{specification_of, value_bits, effective_precision};
+ghost use Rattle.pf_values.specs.meaning.DataModel.{arg_type};
+ghost use Rattle.pf_values.specs.meaning.Normal.{digits_at_most};
+ghost use Rattle.pf_values.specs.meaning.Printing.{is_zero_filled};
 
 use crate::bases::by_bits;
 use crate::conversions::{Conv, Kind};
-use crate::data_model::row_of;
+use crate::data_model::length_row;
 use crate::flags::{Flag, FlagSet};
 use crate::lengths::Length;
 use crate::limits::MAX_NUMBER;
@@ -29,8 +34,8 @@ pub struct Directive {
 }
 
 impl Model for Directive {
-    ghost use Rattle.pf_values.specs.Specification.{Specification};
-    ghost use Rattle.pf_values.specs.Defined.{IsDefined};
+    ghost use Rattle.pf_values.specs.meaning.Specification.{Specification};
+    ghost use Rattle.pf_values.specs.meaning.Defined.{IsDefined};
 
     ghost Value = { Specification };
 
@@ -163,8 +168,8 @@ impl Directive {
         ensures { result ≡ arg_type model self.now }
     {
         match self.conv.kind() {
-            Kind::Signed => row_of(model, self.length).signed,
-            Kind::Unsigned(_, _) => row_of(model, self.length).unsigned,
+            Kind::Signed => length_row(model, self.length).signed,
+            Kind::Unsigned(_, _) => length_row(model, self.length).unsigned,
             Kind::Char => ArgType::Int,
             Kind::String => ArgType::Str,
         }
@@ -177,14 +182,14 @@ impl Directive {
         if self.conv.kind().is_text() {
             return 0;
         }
-        row_of(model, self.length).bits
+        length_row(model, self.length).bits
     }
 
     /// The most digits that its value has, the sign not counted; 0 for `c` and `s`.
     pub fn max_digits(&self, model: models::Model) -> u8
         ensures { result ≡ digits_at_most model self.now }
     {
-        let bits = row_of(model, self.length).bits;
+        let bits = length_row(model, self.length).bits;
         match self.conv.kind() {
             Kind::Signed => by_bits(bits, 3, 5, 10, 19),
             Kind::Unsigned(base, _) => base.max_digits(bits),

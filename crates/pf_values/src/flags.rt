@@ -1,6 +1,6 @@
 //! The flags of a conversion specification, and sets of them.
 ghost use Rattle.std.specs.Prelude.{◌≡◌};
-ghost use Rattle.pf_values.specs.Flags.{has, no_flags, with_flag};
+ghost use Rattle.pf_values.specs.meaning.Flags.{has, no_flags, with_flag};
 
 /// A flag (C11 7.21.6.1, paragraph 6; the apostrophe is POSIX's).
 #[derive(Clone, Copy, Debug, PartialEq, Eq)]

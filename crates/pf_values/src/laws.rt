@@ -5,8 +5,7 @@ ghost use Rattle.pf_values.specs.declared.lengths.TheConstants.Length.{ALL as le
 ghost use Rattle.pf_values.specs.declared.models.Model.{Model};
 ghost use Rattle.pf_values.specs.declared.models.TheConstants.Model.{ALL as models};
 ghost use Rattle.pf_values.specs.declared.refusals.TheConstants.RefusalKind.{ALL as refusals};
-ghost use Rattle.pf_values.specs.Printing.{PrintsOnce};
-ghost use Rattle.pf_values.specs.Tables.{HasEachOnce};
+ghost use Rattle.pf_values.specs.Laws.{PrintsOnce, HasEachOnce};
 
 /// Each directive and argument of its type print exactly one text, in each data model.
 pub fn prints_once()

@@ -1,9 +1,9 @@
 //! Length modifiers.
 ghost use Rattle.std.specs.Prelude.{◌≡◌};
-ghost use Rattle.pf_values.specs.DataModel.{kept_length};
-ghost use Rattle.pf_values.specs.Lengths.{is_long, is_plain};
+ghost use Rattle.pf_values.specs.meaning.DataModel.{kept_length};
+ghost use Rattle.pf_values.specs.meaning.Lengths.{is_long, is_plain};
 
-use crate::data_model::row_of;
+use crate::data_model::length_row;
 use crate::models::Model;
 
 /// A length modifier (C11 7.21.6.1, paragraph 7).
@@ -45,7 +45,7 @@ impl Length {
     pub fn representative(self, model: Model) -> Length
         ensures { result ≡ kept_length model self }
     {
-        row_of(model, self).kept
+        length_row(model, self).kept
     }
 
     pub(crate) fn is_plain(self) -> bool

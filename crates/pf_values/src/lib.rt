@@ -1,6 +1,6 @@
 //! What printf formats are made of: flags, length modifiers, conversions, directives, argument
 //! types and arguments, the kinds of refusal, readers and writers that count their failures, and
-//! some that fail. The definitions of what a format means stand in `specs/`.
+//! some that fail. `specs/meaning/` defines what a format means.
 #![tactic(auto)]
 
 mod arguments;

@@ -1,6 +1,6 @@
 //! Data models.
 ghost use Rattle.std.specs.Prelude.{◌≡◌};
-ghost use Rattle.pf_values.specs.DataModel.{bit_count, greatest_rank, long_bits, size_rank};
+ghost use Rattle.pf_values.specs.meaning.DataModel.{bit_count, greatest_rank, long_bits, size_rank};
 
 /// How many bits the integer types have, and which types the length modifiers name.
 #[derive(Clone, Copy, Debug, PartialEq, Eq)]

@@ -1,6 +1,6 @@
 //! Argument types.
 ghost use Rattle.std.specs.Prelude.{◌↔◌, IsTrue};
-ghost use Rattle.pf_values.specs.DataModel.{IsInRange};
+ghost use Rattle.pf_values.specs.meaning.DataModel.{IsInRange};
 
 use crate::data_model::{fits_signed, fits_unsigned, type_bits};
 use crate::models::Model;
@@ -21,7 +21,7 @@ pub enum ArgType {
     LongLong,
     /// `unsigned long long`
     ULongLong,
-    /// A pointer to bytes that end in a null.
+    /// A pointer to bytes that end in a null character.
     Str,
 }
 

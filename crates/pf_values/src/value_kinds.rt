@@ -1,8 +1,8 @@
 //! The values that directives print for numbers, by their width and sign.
 ghost use Rattle.std.specs.Prelude.{◌≡◌, ℤ, Bool, true, false, pos, nat_abs};
-ghost use Rattle.pf_values.specs.Arguments.{IsConverted};
-ghost use Rattle.pf_values.specs.DataModel.{Bits, B8, B16, B32, B64, bit_count};
-ghost use Rattle.pf_values.specs.Printing.{is_negative};
+ghost use Rattle.pf_values.specs.meaning.Arguments.{IsConverted};
+ghost use Rattle.pf_values.specs.meaning.DataModel.{Bits, B8, B16, B32, B64, bit_count};
+ghost use Rattle.pf_values.specs.meaning.Printing.{is_negative};
 
 /// The type to which a length modifier converts a number before it is printed (C11 7.21.6.1,
 /// paragraph 7).

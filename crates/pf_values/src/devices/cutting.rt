@@ -12,21 +12,22 @@ pub struct Cut<'a> {
     step: usize,
     kind: ErrorKind,
     flush_fails: bool,
-    ghost within: { len ≤ length place.now },
+    ghost len_fits: { len ≤ length place.now },
     ghost moves: { 1 ≤ step },
 }
 
 impl<'a> Cut<'a> {
     ghost use Rattle.std.specs.Prelude.{[]};
-    ghost use Rattle.pf_values.specs.Cuts.{flush_fails_of, kind_of, room_of, step_of, taken_of};
+    ghost use Rattle.pf_values.specs.Cuts.{flush_fails_of, error_kind_of, room_of, step_of, taken_of};
 
-    /// A writer that took nothing yet. It fails with this kind, also at each flush if it is to.
+    /// A writer that has taken nothing yet. It fails with this kind of error, and so does each
+    /// flush if `flush_fails`.
     pub fn new(buf: &'a mut [u8], step: usize, kind: ErrorKind, flush_fails: bool) -> Cut<'a>
         requires moves { 1 ≤ step }
         ensures none { taken_of result ≡ [] }
         ensures room { room_of result ≡ length buf.old }
         ensures step { step_of result ≡ step }
-        ensures kind { kind_of result ≡ kind }
+        ensures kind { error_kind_of result ≡ kind }
         ensures flush { flush_fails_of result ≡ flush_fails }
     {
         Cut {
@@ -63,7 +64,7 @@ impl<'a> Write for Cut<'a> {
     ghost use Rattle.std.specs.Io.{WritesAtMost};
     ghost use Rattle.std.specs.Io.KnownBytes.{Keeps, WriteAppends};
     ghost use Rattle.std.specs.IoError.{error_kind};
-    ghost use Rattle.pf_values.specs.Cuts.{KeepsSettings, flush_fails_of, kind_of, room_of, step_of, taken_of};
+    ghost use Rattle.pf_values.specs.Cuts.{KeepsSettings, flush_fails_of, error_kind_of, room_of, step_of, taken_of};
 
     ghost contents = { λ cut. Some (taken_of cut) };
 
@@ -74,7 +75,7 @@ impl<'a> Write for Cut<'a> {
         ensures full { is_err result ≡ (room_of self.old == 0) && nat_lt 0 (length buf.now) }
         ensures count { IfOk result (λ n.
             n ≡ min (length buf.now) (min (room_of self.old) (step_of self.old))) }
-        ensures kind { IfErr result (λ e. error_kind e ≡ kind_of self.old) }
+        ensures kind { IfErr result (λ e. error_kind e ≡ error_kind_of self.old) }
         ensures settings { KeepsSettings self.old self.new }
     {
         let room = self.place.len() - self.len;
@@ -91,7 +92,7 @@ impl<'a> Write for Cut<'a> {
     fn flush(&mut self) -> io::Result<()>
         ensures bytes { Keeps (Some (taken_of self.old)) (Some (taken_of self.new)) }
         ensures fails { is_err result ≡ flush_fails_of self.old }
-        ensures kind { IfErr result (λ e. error_kind e ≡ kind_of self.old) }
+        ensures kind { IfErr result (λ e. error_kind e ≡ error_kind_of self.old) }
         ensures unchanged { self.new ≡ self.old }
     {
         if self.flush_fails {

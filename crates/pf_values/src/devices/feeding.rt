@@ -1,7 +1,7 @@
 //! A reader that fails in the middle.
 
 ghost use Rattle.std.specs.Prelude.{◌≡◌, ◌≤◌};
-ghost use Rattle.pf_values.specs.FaultPlaces.{after, up_to};
+ghost use Rattle.pf_values.specs.FaultPlaces.{fault_after_bytes, up_to_fault};
 
 use std::io;
 use std::io::{Error, ErrorKind, Read};
@@ -19,7 +19,7 @@ pub struct Feed<'a> {
 }
 
 impl<'a> Feed<'a> {
-    ghost use Rattle.pf_values.specs.Feeds.{fault_of, kind_of, part, rest_of, step_of};
+    ghost use Rattle.pf_values.specs.Feeds.{fault_of, error_kind_of, next_count, rest_of, step_of};
 
     /// A reader of all these bytes. One call fails with this kind, where `fail_at` of them were
     /// handed out.
@@ -28,7 +28,7 @@ impl<'a> Feed<'a> {
         ensures rest { rest_of result ≡ bytes.now }
         ensures step { step_of result ≡ step }
         ensures fault { fault_of result ≡ fail_at }
-        ensures kind { kind_of result ≡ kind }
+        ensures kind { error_kind_of result ≡ kind }
     {
         Feed {
             rest: bytes,
@@ -39,16 +39,16 @@ impl<'a> Feed<'a> {
     }
 
     // How many bytes the next call hands out, with so much room.
-    fn part(&self, room: usize) -> usize
-        ensures { result ≡ part self.now room }
+    fn next_count(&self, room: usize) -> usize
+        ensures { result ≡ next_count self.now room }
     {
-        up_to(self.before_fault, self.rest.len().min(self.step).min(room))
+        up_to_fault(self.before_fault, self.rest.len().min(self.step).min(room))
     }
 }
 
-// So many bytes, and none past the fault.
-fn up_to(fault: Option<u64>, count: usize) -> usize
-    ensures { result ≡ up_to fault count }
+// So many bytes, but none past the fault.
+fn up_to_fault(fault: Option<u64>, count: usize) -> usize
+    ensures { result ≡ up_to_fault fault count }
 {
     match fault {
         Some(before) => before.min(count as u64) as usize,
@@ -56,9 +56,9 @@ fn up_to(fault: Option<u64>, count: usize) -> usize
     }
 }
 
-// Where the fault stands after so many bytes.
-fn after(fault: Option<u64>, count: usize) -> Option<u64>
-    ensures { result ≡ after fault count }
+// Where the reader is to fail, counted from so many bytes further on.
+fn fault_after_bytes(fault: Option<u64>, count: usize) -> Option<u64>
+    ensures { result ≡ fault_after_bytes fault count }
 {
     match fault {
         Some(before) => Some(before.saturating_sub(count as u64)),
@@ -71,8 +71,8 @@ impl Read for Feed<'_> {
     ghost use Rattle.std.specs.Io.{ReadsAtMost};
     ghost use Rattle.std.specs.Io.KnownBytes.{ReadConsumes};
     ghost use Rattle.std.specs.IoError.{error_kind};
-    ghost use Rattle.pf_values.specs.FaultPlaces.{fault_after, is_due};
-    ghost use Rattle.pf_values.specs.Feeds.{fault_of, kind_of, part, rest_of, step_of};
+    ghost use Rattle.pf_values.specs.FaultPlaces.{fault_after_call, is_due};
+    ghost use Rattle.pf_values.specs.Feeds.{fault_of, error_kind_of, next_count, rest_of, step_of};
 
     ghost remaining = { λ feed. Some (rest_of feed) };
 
@@ -81,20 +81,20 @@ impl Read for Feed<'_> {
         ensures bytes { ReadConsumes
             (Some (rest_of self.old)) (Some (rest_of self.new)) result buf.new }
         ensures fails { is_err result ≡ is_due (fault_of self.old) }
-        ensures count { IfOk result (λ n. n ≡ part self.old (length buf.new)) }
-        ensures fault { fault_of self.new ≡ fault_after (fault_of self.old) result }
-        ensures kind { IfErr result (λ e. error_kind e ≡ kind_of self.old) }
+        ensures count { IfOk result (λ n. n ≡ next_count self.old (length buf.new)) }
+        ensures fault { fault_of self.new ≡ fault_after_call (fault_of self.old) result }
+        ensures kind { IfErr result (λ e. error_kind e ≡ error_kind_of self.old) }
         ensures step { step_of self.new ≡ step_of self.old }
-        ensures same_kind { kind_of self.new ≡ kind_of self.old }
+        ensures same_kind { error_kind_of self.new ≡ error_kind_of self.old }
     {
         if self.before_fault == Some(0) {
             self.before_fault = None;
             return Err(Error::from(self.kind));
         }
-        let count = self.part(buf.len());
+        let count = self.next_count(buf.len());
         buf[..count].copy_from_slice(&self.rest[..count]);
         self.rest = &self.rest[count..];
-        self.before_fault = after(self.before_fault, count);
+        self.before_fault = fault_after_bytes(self.before_fault, count);
         Ok(count)
     }
 }

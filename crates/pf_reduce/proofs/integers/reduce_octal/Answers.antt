@@ -1,9 +1,10 @@
 use Rattle.std.proofs.Common.{◌≡◌, ◌+◌, ◌-◌, max, false, arith, ap, sym, ◌∙◌}
 use Rattle.std.specs.Prelude.{nat_abs}
-use Rattle.pf_values.specs.Conversions.{is_signed, is_text, prints_signed, prints_text}
-use Rattle.pf_values.specs.Flags.{no_flags, with_flag}
+use Rattle.pf_values.specs.meaning.Conversions.{is_signed, is_text, prints_signed, prints_text}
+use Rattle.pf_values.specs.meaning.Flags.{no_flags, with_flag}
 use Rattle.pf_values.specs.declared.flags.Flag.TheVariants.{Alt}
-use Rattle.pf_values.specs.Normal.{digits_at_most, effective_precision}
+use Rattle.pf_values.specs.meaning.Normal.{digits_at_most}
+use Rattle.pf_values.specs.Directives.{effective_precision}
 use Rattle.pf_reduce.specs.Padded.{with_padding, padding_of}
 use Rattle.pf_reduce.proofs.PlainNumbers.{
   digits_reduced,
@@ -25,12 +26,12 @@ returns-then-has_spaces_before c =
     let p_is : p ≡ max (effective_precision s 0) 1 = c.max-precision.ensures ∙ ap (λ k. max k 1) c.effective_precision.ensures.value in
     let flags : c.with-alt.result ≡ with_flag no_flags Alt = c.with-alt.ensures ∙ ap (λ f. with_flag f Alt) c.empty.ensures in
     let e = octal s.conv c.requires.octal in
-    rw (c.within.ensures.value, c.kept_precision.ensures, flags) (octal_reduced c.args.model s c.without_idle_width-padding.result p e c.requires.alt (rw (c.within.ensures.value, c.kept_precision.ensures, flags) at c.within.ensures.normal) (omega (arith, c.of.ensures.limit, c.cut.ensures.constant, c.without_idle_width-padding.ensures.constant)) (λ v count.
+    rw (c.padded_core.ensures.value, c.kept_precision.ensures, flags) (octal_reduced c.args.model s c.without_idle_width-padding.result p e c.requires.alt (rw (c.padded_core.ensures.value, c.kept_precision.ensures, flags) at c.padded_core.ensures.normal) (omega (arith, c.of.ensures.limit, c.with_width_at_most.ensures.constant, c.without_idle_width-padding.ensures.constant)) (λ v count.
     let body = octal_text p (nat_abs v) in
     let len = length-octal_text p (nat_abs v) in
     ap (with_padding (padding_of s)) (octal_value s v e c.requires.alt ∙ ap (λ k. octal_text k (nat_abs v)) (sym p_is))
     ∙ ap (λ q. with_padding q body) (sym c.of.ensures.value)
-    ∙ c.cut.ensures.same body (omega (arith, c.max.ensures, c.max_digits-digits.ensures.value))
+    ∙ c.with_width_at_most.ensures.same body (omega (arith, c.max.ensures, c.max_digits-digits.ensures.value))
     ∙ c.without_idle_width-padding.ensures.same body (omega arith)))
 
 pub returns : goal.returns
@@ -43,14 +44,14 @@ returns c =
     let p_is : p ≡ max (effective_precision s 0) 1 = c.max-precision.ensures ∙ ap (λ k. max k 1) c.effective_precision.ensures.value in
     let z = 1 + c.saturating_sub-zeros.result in
     let z_is : z ≡ 1 + (p - 1 - digits_at_most c.args.model s) = omega (arith, c.saturating_sub-zeros.ensures, c.max_digits-digits.ensures.value) in
-    rw c.plain_core.ensures.value (digits_reduced c.args.model s c.right_up_to-padding.result (p - z) text signed (rw c.plain_core.ensures.value at c.plain_core.ensures.normal) (omega (arith, c.of.ensures.limit, c.cut.ensures.constant, c.max.ensures, c.without_idle_width-padding.ensures.constant, c.past_zeros.ensures.constant, c.right_up_to-padding.ensures.constant, c.effective_precision.ensures.limit, c.max-precision.ensures, z_is)) (λ v count.
+    rw c.plain_core.ensures.value (digits_reduced c.args.model s c.right_up_to-padding.result (p - z) text signed (rw c.plain_core.ensures.value at c.plain_core.ensures.normal) (omega (arith, c.of.ensures.limit, c.with_width_at_most.ensures.constant, c.max.ensures, c.without_idle_width-padding.ensures.constant, c.past_zeros.ensures.constant, c.right_up_to-padding.ensures.constant, c.effective_precision.ensures.limit, c.max-precision.ensures, z_is)) (λ v count.
     let n = nat_abs v in
     let few = octal_count c.args.model s e n count in
     let body = octal_text p n in
     let len = length-octal_text p n in
     ap (with_padding (padding_of s)) (octal_value s v e c.requires.alt ∙ ap (λ k. octal_text k n) (sym p_is))
     ∙ ap (λ q. with_padding q body) (sym c.of.ensures.value)
-    ∙ c.cut.ensures.same body (omega (arith, c.max.ensures, c.max_digits-digits.ensures.value))
+    ∙ c.with_width_at_most.ensures.same body (omega (arith, c.max.ensures, c.max_digits-digits.ensures.value))
     ∙ c.without_idle_width-padding.ensures.same body (omega arith)
     ∙ ap (with_padding c.without_idle_width-padding.result) (octal_split s.conv e p (digits_at_most c.args.model s) z n (omega arith) z_is few)
     ∙ c.past_zeros.ensures.same _

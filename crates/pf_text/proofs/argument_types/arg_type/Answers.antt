@@ -1,5 +1,5 @@
 use Rattle.std.proofs.Common.{sym, ap, ◌∙◌}
-use Rattle.pf_values.specs.Items.{types}
+use Rattle.pf_values.specs.meaning.Items.{types}
 use Rattle.pf_text.specs.PieceHistory.{items_of}
 use Rattle.pf_values.proofs.ItemTypes.{types-bytes}
 use Rattle.pf_text.proofs.argument_types.arg_type.Goals as goal

@@ -1,6 +1,6 @@
 use Rattle.std.proofs.Common.{◌++◌, [], refl, subst, sym}
 use Rattle.pf_values.specs.declared.models.Model.TheVariants.{Lp64}
-use Rattle.pf_values.specs.Items.{types}
+use Rattle.pf_values.specs.meaning.Items.{types}
 use Rattle.pf_text.specs.PieceHistory.{HasGiven, items_of}
 use Rattle.pf_text.proofs.SignatureLemmas.{HasFound, all_found, more_found, refused}
 use Rattle.pf_text.proofs.checking.check.Goals as goal

@@ -1,5 +1,5 @@
 use Rattle.std.proofs.Common.{flat_map}
-use Rattle.pf_values.specs.Text.{Text}
+use Rattle.pf_values.specs.meaning.Text.{Text}
 use Rattle.pf_text.specs.PieceHistory.{HasGiven, items_of}
 use Rattle.pf_text.proofs.laws.whole_run_of_pieces.Given as goal
 

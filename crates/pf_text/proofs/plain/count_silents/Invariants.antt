@@ -1,5 +1,5 @@
 use Rattle.std.proofs.Common.{◌≡◌, ◌≤◌, ◌-◌, ◌*◌, length, take}
-use Rattle.pf_values.specs.Items.{Reads}
+use Rattle.pf_values.specs.meaning.Items.{Reads}
 use Rattle.pf_text.specs.Plain.{silents}
 use Rattle.pf_text.proofs.plain.count_silents.Given as goal
 

@@ -1,5 +1,5 @@
 use Rattle.std.proofs.Common.{◌∷◌, ◌∙◌, [], ap, arith, get_or, map, take, subst, sym}
-use Rattle.pf_values.specs.Items.{Byte}
+use Rattle.pf_values.specs.meaning.Items.{Byte}
 use Rattle.pf_text.proofs.LiteralLemmas.{literal_take, run_found}
 use Rattle.pf_text.specs.Plain.{IsPlainText}
 use Rattle.pf_text.proofs.PlainLemmas.{first_two, literals_plain}

@@ -1,6 +1,6 @@
 use Rattle.std.proofs.Common.{◌-◌, ◌≤◌, List, length, take}
 use Rattle.pf_values.specs.declared.models.Model.{Model}
-use Rattle.pf_values.specs.Items.{Item}
+use Rattle.pf_values.specs.meaning.Items.{Item}
 use Rattle.pf_text.specs.Plain.{IsPlainText}
 use Rattle.pf_text.proofs.plain.plain_len.Given as goal
 

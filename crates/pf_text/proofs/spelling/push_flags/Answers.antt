@@ -1,6 +1,6 @@
 use Rattle.std.proofs.Common.{arith, ap, sym, ◌∙◌, ◌++◌, length-take, take}
 use Rattle.pf_values.specs.declared.flags.Flag.TheVariants.{Minus}
-use Rattle.pf_values.specs.Flags.{all_flags}
+use Rattle.pf_values.specs.meaning.Flags.{all_flags}
 use Rattle.pf_text.specs.Letters.{flags_kept}
 use Rattle.pf_text.proofs.SpellingLemmas.{appended_both, flags_kept-le, flags_kept-more, length-appended}
 use Rattle.pf_text.proofs.spelling.push_flags.Goals as goal

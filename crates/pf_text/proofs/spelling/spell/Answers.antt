@@ -1,5 +1,5 @@
 use Rattle.std.proofs.Common.{◌≡◌, ap, arith, length, rules}
-use Rattle.pf_values.specs.Spelling.{spelling_of}
+use Rattle.pf_values.specs.meaning.Spelling.{spelling_of}
 use Rattle.pf_text.proofs.SpellingLemmas.{length-spelled}
 use Rattle.pf_text.proofs.spelling.spell.Goals as goal
 

@@ -1,5 +1,5 @@
 use Rattle.std.proofs.Common.{◌++◌, replicate, ap}
-use Rattle.pf_values.specs.Text.{space, zero_digit}
+use Rattle.pf_values.specs.meaning.Text.{space, zero_digit}
 use Rattle.pf_reduce.proofs.Paddings.{right_field}
 use Rattle.pf_reduce.proofs.padding.Padding.right_up_to.Goals as goal
 

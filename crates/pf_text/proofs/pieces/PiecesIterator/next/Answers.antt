@@ -8,15 +8,15 @@ pub loop-byte-init : goal.loop-byte-init
 loop-byte-init c =
     let same = c.in_default.ensures.shorter in
     record {
-      inside = λ t read items h. c.in_default-take_run.ensures.given t read items (subst (λ p. HasGiven p t read items) (sym same) (restarted c.args.self.now c.restart.new.self t read items (c.restart.ensures read items) h));
-      going = c.take_run.ensures.going ∙ c.take_directive.ensures.going ∙ c.if-self.false;
-      shorter = omega (arith, ap (λ p. length p.rest.now) same, c.in_default-take_run.ensures.shorter);
+      inside = λ t read items h. c.in_default-take_literal_run.ensures.given t read items (subst (λ p. HasGiven p t read items) (sym same) (restarted c.args.self.now c.restart.new.self t read items (c.restart.ensures read items) h));
+      going = c.take_literal_run.ensures.going ∙ c.take_directive.ensures.going ∙ c.if-self.false;
+      shorter = omega (arith, ap (λ p. length p.rest.now) same, c.in_default-take_literal_run.ensures.shorter);
     }
 
-pub returns-in-Some-take_run-clause-steps : goal.returns-in-Some-take_run-clause-steps
-returns-in-Some-take_run-clause-steps c =
+pub returns-in-Some-take_literal_run-clause-steps : goal.returns-in-Some-take_literal_run-clause-steps
+returns-in-Some-take_literal_run-clause-steps c =
     let same = c.in_default.ensures.shorter in
-    gives_piece c.args.self.now c.take_run.new.self _ c.if-self.false (λ t read items h. c.in-Some-take_run.ensures.given t read items (subst (λ p. HasGiven p t read items) (sym same) (restarted c.args.self.now c.restart.new.self t read items (c.restart.ensures read items) h)))
+    gives_piece c.args.self.now c.take_literal_run.new.self _ c.if-self.false (λ t read items h. c.in-Some-take_literal_run.ensures.given t read items (subst (λ p. HasGiven p t read items) (sym same) (restarted c.args.self.now c.restart.new.self t read items (c.restart.ensures read items) h)))
 
 pub returns-in-Some-advance-clause-steps : goal.returns-in-Some-advance-clause-steps
 returns-in-Some-advance-clause-steps c =

@@ -1,8 +1,8 @@
 use Rattle.std.proofs.Common.{◌≡◌, ◌≢◌, ◌++◌, [], refl, sym, ap, ◌∙◌, subst, Err}
 use Rattle.std.proofs.lemmas.List.{append-nil}
 use Rattle.pf_values.specs.declared.refusals.RefusalKind.TheVariants.{Truncated}
-use Rattle.pf_values.specs.Items.{Reads}
-use Rattle.pf_values.specs.Refusals.{IsRefusedAt}
+use Rattle.pf_values.specs.meaning.Items.{Reads}
+use Rattle.pf_values.specs.meaning.Refusals.{IsRefusedAt}
 use Rattle.pf_text.specs.Fronts.{IsAt}
 use Rattle.pf_text.specs.History.{Finishes}
 use Rattle.pf_text.specs.Stages.{Between, state_of}

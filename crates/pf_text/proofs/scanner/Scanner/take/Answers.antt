@@ -2,7 +2,7 @@ use Rattle.std.proofs.Common.{◌≡◌, ◌<◌, ◌∷◌, ◌++◌, length, s
 use Rattle.std.proofs.lemmas.List.{length_push}
 use Rattle.pf_values.specs.declared.limits.TheConstants.{MAX_TEXT_LEN}
 use Rattle.pf_values.specs.declared.refusals.RefusalKind.TheVariants.{TooLong}
-use Rattle.pf_values.specs.Refusals.{IsRefusedAt}
+use Rattle.pf_values.specs.meaning.Refusals.{IsRefusedAt}
 use Rattle.pf_text.specs.Stages.{state_of}
 use Rattle.pf_text.proofs.Refusing.{refused_at, too_long_at}
 use Rattle.pf_text.proofs.Sound.{Judges, LeadsTo, judge}

@@ -1,7 +1,7 @@
 use Rattle.std.proofs.Common.{arith, to_z, of_z}
 use Rattle.std.specs.Int.{w16}
 use Rattle.std.proofs.lemmas.Int.{ints}
-use Rattle.pf_values.specs.DataModel.{B16}
+use Rattle.pf_values.specs.meaning.DataModel.{B16}
 use Rattle.pf_values.proofs.ValueKindLemmas.{signed-converted}
 use Rattle.pf_values.proofs.value_kinds.I16ValueKind.of.Goals as goal
 

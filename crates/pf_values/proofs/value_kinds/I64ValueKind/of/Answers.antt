@@ -1,6 +1,6 @@
 use Rattle.std.proofs.Common.{arith, to_z, of_z, w64}
 use Rattle.std.proofs.lemmas.Int.{ints}
-use Rattle.pf_values.specs.DataModel.{B64}
+use Rattle.pf_values.specs.meaning.DataModel.{B64}
 use Rattle.pf_values.proofs.ValueKindLemmas.{signed-converted}
 use Rattle.pf_values.proofs.value_kinds.I64ValueKind.of.Goals as goal
 

@@ -1,6 +1,6 @@
 use Rattle.std.proofs.Common.{arith, to_z, of_z, w8}
 use Rattle.std.proofs.lemmas.Int.{ints}
-use Rattle.pf_values.specs.DataModel.{B8}
+use Rattle.pf_values.specs.meaning.DataModel.{B8}
 use Rattle.pf_values.proofs.ValueKindLemmas.{signed-converted}
 use Rattle.pf_values.proofs.value_kinds.I8ValueKind.of.Goals as goal
 

@@ -1,7 +1,7 @@
 use Rattle.std.proofs.Common.{arith, to_z, of_z}
 use Rattle.std.specs.Int.{w128}
 use Rattle.std.proofs.lemmas.Int.{ints}
-use Rattle.pf_values.specs.DataModel.{B8}
+use Rattle.pf_values.specs.meaning.DataModel.{B8}
 use Rattle.pf_values.proofs.ValueKindLemmas.{remainder-converted}
 use Rattle.pf_values.proofs.value_kinds.U8ValueKind.of.Goals as goal
 

@@ -5,12 +5,12 @@ use Rattle.pf_values.specs.declared.flags.Flag.{Flag}
 use Rattle.pf_values.specs.declared.limits.TheConstants.{MAX_NUMBER, MAX_TEXT_LEN}
 use Rattle.pf_values.specs.declared.refusals.RefusalKind.{RefusalKind}
 use Rattle.pf_values.specs.declared.refusals.RefusalKind.TheVariants.{NulByte, Truncated, Unexpected, BadPercent, Star, Numbered, WidthTooLarge, PrecisionTooLarge, Float, Pointer, Count, Wide, TooLong}
-use Rattle.pf_values.specs.Defined.{is_above_limit, first_broken, undefined_kinds}
-use Rattle.pf_values.specs.Flags.{flag_byte}
-use Rattle.pf_values.specs.Items.{Item, Reads, IsAccepted}
-use Rattle.pf_values.specs.Specification.{Specification}
-use Rattle.pf_values.specs.Spelling.{Spells, SpellsWidth, SpellsPrecision}
-use Rattle.pf_values.specs.Text.{Text, dollar, percent, point, star}
+use Rattle.pf_values.specs.meaning.Defined.{is_above_limit, first_broken, undefined_kinds}
+use Rattle.pf_values.specs.meaning.Flags.{flag_byte}
+use Rattle.pf_values.specs.meaning.Items.{Item, Reads, IsAccepted}
+use Rattle.pf_values.specs.meaning.Specification.{Specification}
+use Rattle.pf_values.specs.meaning.Spelling.{Spells, SpellsWidth, SpellsPrecision}
+use Rattle.pf_values.specs.meaning.Text.{Text, dollar, percent, point, star}
 
 -- no number above the limit: one conversion must be able to print 4,095 characters
 -- (C11 7.21.6.1 p15)
@@ -60,7 +60,7 @@ EndsUndefined part byte kind =
     (s : Specification) × Spells (part ++ byte ∷ []) s
     × (first_broken undefined_kinds s ≡ Some kind)
 
--- conversions that are refused wherever they stand (C11 7.21.6.1 p8; `C` and `S`: POSIX fprintf)
+-- conversions that are refused wherever they come (C11 7.21.6.1 p8; `C` and `S`: POSIX fprintf)
 abbrev pub letters_of : RefusalKind → Text
 letters_of Float = codes "aAeEfFgG"
 letters_of Pointer = codes "p"
@@ -76,14 +76,13 @@ long_double_letter = 76
 abbrev pub TakesModifier : Text → Type 0
 TakesModifier part = (precision : Option ℕ) × IsToPrecision part precision
 
--- a width or a precision may begin after the part, and has not, so that `*` may stand there
--- (C11 7.21.6.1 p5)
+-- the part ends where a width or a precision may begin, so that `*` may follow (C11 7.21.6.1 p5)
 abbrev pub TakesStar : Text → Type 0
 TakesStar part = ((flags : List Flag) × (part ≡ flags_text flags)) ⊎ (
     (before : Text) × (width : Option ℕ) × IsToWidth before width
     × (part ≡ before ++ point ∷ []))
 
--- Each kind's own reason, where `part` is what has come of an item and `byte` follows. `$` after a
+-- Each kind's own reason, where `part` is the beginning of an item and `byte` follows. `$` after a
 -- number is of POSIX fprintf.
 abbrev pub HasReason : Text → ℕ → RefusalKind → Type 0
 HasReason part byte NulByte = byte ≡ 0
@@ -107,8 +106,8 @@ pub record IsRefusedByte (part : Text) (byte : ℕ) (kind : RefusalKind) : Type 
   pub others : (other : RefusalKind) → HasReason part byte other
       → (other ≡ kind) ⊎ (other ≡ Unexpected)
 
--- Why a text is refused after its longest good front, which has so many bytes: `part` is what has
--- come of an item there, and `rest` follows.
+-- Why a text is refused after its longest good front, which has so many bytes: that ends with the
+-- beginning of an item, `part`, and `rest` follows.
 abbrev pub HasCause : ℕ → Text → Text → RefusalKind → Type 0
 HasCause at part [] kind = kind ≡ Truncated
 HasCause at part (byte ∷ rest) kind =

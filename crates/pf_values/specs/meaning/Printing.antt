@@ -9,15 +9,15 @@ use Rattle.pf_values.specs.declared.conversions.Kind.{Kind}
 use Rattle.pf_values.specs.declared.conversions.Kind.TheVariants as kinds
 use Rattle.pf_values.specs.declared.flags.Flag.TheVariants.{Minus, Plus, Space, Alt, Zero}
 use Rattle.pf_values.specs.declared.models.Model.{Model}
-use Rattle.pf_values.specs.Arguments.{Argument, Number, String, HasType, HasTypes, IsConverted, IsValue}
-use Rattle.pf_values.specs.Bases.{alternative_of, number_of, prefix_of}
-use Rattle.pf_values.specs.Conversions.{base_of, is_octal, is_upper, kind_of}
-use Rattle.pf_values.specs.DataModel.{B8, arg_type, bit_count}
-use Rattle.pf_values.specs.Digits.{IsNumeral, IsLeastFrom}
-use Rattle.pf_values.specs.Flags.{has}
-use Rattle.pf_values.specs.Items.{Item, Byte, Directive, Reads, types}
-use Rattle.pf_values.specs.Specification.{Specification, width_of}
-use Rattle.pf_values.specs.Text.{Text, space, zero_digit}
+use Rattle.pf_values.specs.meaning.Arguments.{Argument, Number, String, HasTypes, IsConverted, IsValue}
+use Rattle.pf_values.specs.meaning.Bases.{alternative_of, number_of, prefix_of}
+use Rattle.pf_values.specs.meaning.Conversions.{base_of, is_octal, is_upper, kind_of}
+use Rattle.pf_values.specs.meaning.DataModel.{B8, bit_count}
+use Rattle.pf_values.specs.meaning.Digits.{IsNumeral, IsLeastFrom}
+use Rattle.pf_values.specs.meaning.Flags.{has}
+use Rattle.pf_values.specs.meaning.Items.{Item, Byte, Directive, Reads, types}
+use Rattle.pf_values.specs.meaning.Specification.{Specification, width_of}
+use Rattle.pf_values.specs.meaning.Text.{Text, space, zero_digit}
 
 abbrev pub BeginsWithZero : Text → Type 0
 BeginsWithZero t = slice_index t 0 ≡ zero_digit
@@ -68,7 +68,7 @@ front_under kinds.String s value = []
 abbrev pub sign_or_prefix_under : Conv → Specification → ℤ → Text
 sign_or_prefix_under conv s value = front_under (kind_of conv) s value
 
--- what stands before the digits
+-- what comes before the digits
 abbrev pub sign_or_prefix : Specification → ℤ → Text
 sign_or_prefix s value = sign_or_prefix_under s.conv s value
 
@@ -155,21 +155,10 @@ pub record PrintAlike (model : Model) (a b : List Item) : Type 0 where
   pub same_bytes : (args : List Argument) (out : Text) → HasTypes model args (types model a)
       → (PrintsAll model a args out ↔ PrintsAll model b args out)
 
--- one text may stand for the other: their items print alike
+-- one text may replace the other: their items print alike
 pub record AreEquivalent (model : Model) (t u : Text) : Type 0 where
   pub first : List Item
   pub second : List Item
   pub reads_first : Reads t first
   pub reads_second : Reads u second
   pub alike : PrintAlike model first second
-
--- a directive prints this text for an argument, and no other
-abbrev pub PrintsOnly : Model → Specification → Argument → Text → Type 0
-PrintsOnly model s argument out = Prints model s argument out
-    × ((other : Text) → Prints model s argument other → other ≡ out)
-
--- a directive and an argument of its type print one text
-abbrev pub PrintsOnce : Model → Type 0
-PrintsOnce model =
-    (s : Specification) (argument : Argument) → HasType model argument (arg_type model s)
-    → (out : Text) × PrintsOnly model s argument out

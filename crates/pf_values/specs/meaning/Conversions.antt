@@ -8,12 +8,11 @@ use Rattle.pf_values.specs.declared.conversions.Conv.{Conv}
 use Rattle.pf_values.specs.declared.conversions.Conv.TheVariants.{D, I, U, O, X, UpperX, B, C, S}
 use Rattle.pf_values.specs.declared.conversions.Kind.{Kind}
 use Rattle.pf_values.specs.declared.conversions.Kind.TheVariants as kinds
-use Rattle.pf_values.specs.Bases.{
+use Rattle.pf_values.specs.meaning.Bases.{
   alternative_of,
   is_defined,
   is_grouped,
   number_of,
-  puts_prefix,
   raises_precision,
 }
 
@@ -127,10 +126,6 @@ is_signed conv = prints_signed (kind_of conv)
 -- `#` raises the precision
 abbrev pub is_octal : Conv → Bool
 is_octal conv = raises_precision (alternative_under (kind_of conv))
-
--- `#` puts two letters before the digits
-abbrev pub is_prefixed : Conv → Bool
-is_prefixed conv = puts_prefix (alternative_under (kind_of conv))
 
 -- `#` says something of it
 abbrev pub has_alternative_form : Conv → Bool

@@ -1,6 +1,6 @@
 use Rattle.std.proofs.Common.{refl}
 use Rattle.pf_text.proofs.PieceLemmas.{no_run_taken, nothing_fed, run_given}
-use Rattle.pf_text.proofs.pieces.Pieces.take_run.Goals as goal
+use Rattle.pf_text.proofs.pieces.Pieces.take_literal_run.Goals as goal
 
 pub returns-then-not-may_be_literal-clause-given : goal.returns-then-not-may_be_literal-clause-given
 returns-then-not-may_be_literal-clause-given c t read items h = nothing_fed c.args.self.now t read items h (c.may_be_literal.ensures c.if-not-may_be_literal.true read)

@@ -4,10 +4,10 @@ use Rattle.std.specs.List.{AllByRecursion, AllZip}
 use Rattle.pf_values.specs.declared.models.Model.{Model}
 use Rattle.pf_values.specs.declared.types.ArgType.{ArgType}
 use Rattle.pf_values.specs.declared.types.ArgType.TheVariants.{Str}
-use Rattle.pf_values.specs.Conversions.{is_signed}
-use Rattle.pf_values.specs.DataModel.{FitsIn, IsInRange, bit_count, bits_under}
-use Rattle.pf_values.specs.Specification.{Specification}
-use Rattle.pf_values.specs.Text.{Text}
+use Rattle.pf_values.specs.meaning.Conversions.{is_signed}
+use Rattle.pf_values.specs.meaning.DataModel.{FitsIn, IsInRange, bit_count, bits_under}
+use Rattle.pf_values.specs.meaning.Specification.{Specification}
+use Rattle.pf_values.specs.meaning.Text.{Text}
 
 -- an integer of any type, or the bytes of a string before its null character
 pub data Argument : Type 0 where

@@ -4,10 +4,10 @@ use Rattle.pf_values.specs.declared.bases.Alternative.{Alternative}
 use Rattle.pf_values.specs.declared.bases.Alternative.TheVariants.{Undefined, Raised, Prefixed}
 use Rattle.pf_values.specs.declared.bases.Base.{Base}
 use Rattle.pf_values.specs.declared.bases.Base.TheVariants.{Binary, Octal, Decimal, Hexadecimal}
-use Rattle.pf_values.specs.Bits.{Bits, by_bits}
-use Rattle.pf_values.specs.Text.{Text}
+use Rattle.pf_values.specs.meaning.Bits.{Bits, by_bits}
+use Rattle.pf_values.specs.meaning.Text.{Text}
 
-pub record Row : Type 0 where
+pub record BaseRow : Type 0 where
   -- the base itself (C11 7.21.6.1 p8)
   pub number : ℕ
   -- what `#` does (C11 7.21.6.1 p6)
@@ -21,8 +21,8 @@ pub record Row : Type 0 where
   pub digits : Bits → ℕ
 
 -- base two is that of `b` alone, of which `#` puts `0b` before a number (C23 7.23.6.1 p6, p8)
-abbrev pub row_of : Base → Row
-row_of Binary = record {
+abbrev pub base_row : Base → BaseRow
+base_row Binary = record {
   number = 2;
   alternative = Prefixed;
   prefix = codes "0b";
@@ -30,7 +30,7 @@ row_of Binary = record {
   grouped = false;
   digits = λ bits. by_bits bits 8 16 32 64;
 }
-row_of Octal = record {
+base_row Octal = record {
   number = 8;
   alternative = Raised;
   prefix = [];
@@ -38,7 +38,7 @@ row_of Octal = record {
   grouped = false;
   digits = λ bits. by_bits bits 3 6 11 22;
 }
-row_of Decimal = record {
+base_row Decimal = record {
   number = 10;
   alternative = Undefined;
   prefix = [];
@@ -46,7 +46,7 @@ row_of Decimal = record {
   grouped = true;
   digits = λ bits. by_bits bits 3 5 10 20;
 }
-row_of Hexadecimal = record {
+base_row Hexadecimal = record {
   number = 16;
   alternative = Prefixed;
   prefix = codes "0x";
@@ -56,19 +56,19 @@ row_of Hexadecimal = record {
 }
 
 abbrev pub number_of : Base → ℕ
-number_of base = (row_of base).number
+number_of base = (base_row base).number
 
 abbrev pub alternative_of : Base → Alternative
-alternative_of base = (row_of base).alternative
+alternative_of base = (base_row base).alternative
 
 abbrev pub prefix_of : Base → Bool → Text
-prefix_of base capitals = if capitals then (row_of base).capital_prefix else (row_of base).prefix
+prefix_of base capitals = if capitals then (base_row base).capital_prefix else (base_row base).prefix
 
 abbrev pub is_grouped : Base → Bool
-is_grouped base = (row_of base).grouped
+is_grouped base = (base_row base).grouped
 
 abbrev pub most_digits_in : Base → Bits → ℕ
-most_digits_in base bits = (row_of base).digits bits
+most_digits_in base bits = (base_row base).digits bits
 
 -- `#` is defined (C11 7.21.6.1 p6)
 abbrev pub is_defined : Alternative → Bool
@@ -81,9 +81,3 @@ abbrev pub raises_precision : Alternative → Bool
 raises_precision Undefined = false
 raises_precision Raised = true
 raises_precision Prefixed = false
-
--- `#` puts two letters before a number (C11 7.21.6.1 p6)
-abbrev pub puts_prefix : Alternative → Bool
-puts_prefix Undefined = false
-puts_prefix Raised = false
-puts_prefix Prefixed = true

@@ -3,12 +3,12 @@ use Rattle.std.specs.Prelude.{◌≡◌, ℕ, ◌<◌, false, List, [], ◌∷�
 use Rattle.std.specs.Fmt.{digit_glyph}
 use Rattle.pf_values.specs.declared.flags.Flag.{Flag}
 use Rattle.pf_values.specs.declared.flags.FlagSet.{FlagSet}
-use Rattle.pf_values.specs.Conversions.{conv_letter}
-use Rattle.pf_values.specs.Digits.{AreDigits, IsNumeral}
-use Rattle.pf_values.specs.Flags.{all_flags, flag_byte, flag_set, has}
-use Rattle.pf_values.specs.Lengths.{length_letters}
-use Rattle.pf_values.specs.Specification.{Specification}
-use Rattle.pf_values.specs.Text.{Text, percent, point}
+use Rattle.pf_values.specs.meaning.Conversions.{conv_letter}
+use Rattle.pf_values.specs.meaning.Digits.{AreDigits, IsNumeral}
+use Rattle.pf_values.specs.meaning.Flags.{all_flags, flag_byte, flag_set, has}
+use Rattle.pf_values.specs.meaning.Lengths.{length_letters}
+use Rattle.pf_values.specs.meaning.Specification.{Specification}
+use Rattle.pf_values.specs.meaning.Text.{Text, percent, point}
 
 -- a number from 1 on, or nothing; its digits don't begin with 0, which is a flag (C11 7.21.6.1 p4)
 abbrev pub SpellsWidth : Text → Option ℕ → Type 0

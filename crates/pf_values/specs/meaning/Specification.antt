@@ -1,5 +1,5 @@
 -- The parts of a conversion specification, defined or not.
-use Rattle.std.specs.Prelude.{ℕ, zero, Option, Some, None, unwrap_or}
+use Rattle.std.specs.Prelude.{ℕ, Option, unwrap_or}
 use Rattle.pf_values.specs.declared.conversions.Conv.{Conv}
 use Rattle.pf_values.specs.declared.flags.FlagSet.{FlagSet}
 use Rattle.pf_values.specs.declared.lengths.Length.{Length}
@@ -14,18 +14,3 @@ pub record Specification : Type 0 where
 -- the width, 0 where there is none
 abbrev pub width_of : Specification → ℕ
 width_of s = unwrap_or s.width 0
-
--- a width of 0 is none
-abbrev pub width_given : Option ℕ → Option ℕ
-width_given (Some zero) = None
-width_given o = o
-
-abbrev pub specification_of : FlagSet → Option ℕ → Option ℕ → Length → Conv → Specification
-specification_of flags width precision length conv =
-    record {
-      flags = flags;
-      width = width_given width;
-      precision = precision;
-      length = length;
-      conv = conv;
-    }

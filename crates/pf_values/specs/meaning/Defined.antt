@@ -4,10 +4,10 @@ use Rattle.pf_values.specs.declared.flags.Flag.TheVariants.{Alt, Zero, Group}
 use Rattle.pf_values.specs.declared.limits.TheConstants.{MAX_NUMBER}
 use Rattle.pf_values.specs.declared.refusals.RefusalKind.{RefusalKind}
 use Rattle.pf_values.specs.declared.refusals.RefusalKind.TheVariants.{WidthTooLarge, PrecisionTooLarge, Wide, AltUndefined, ZeroUndefined, GroupUndefined, PrecisionUndefined, LengthUndefined}
-use Rattle.pf_values.specs.Conversions.{has_alternative_form, is_char, is_decimal, is_text}
-use Rattle.pf_values.specs.Flags.{has}
-use Rattle.pf_values.specs.Lengths.{is_long, is_plain}
-use Rattle.pf_values.specs.Specification.{Specification}
+use Rattle.pf_values.specs.meaning.Conversions.{has_alternative_form, is_char, is_decimal, is_text}
+use Rattle.pf_values.specs.meaning.Flags.{has}
+use Rattle.pf_values.specs.meaning.Lengths.{is_long, is_plain}
+use Rattle.pf_values.specs.meaning.Specification.{Specification}
 
 abbrev pub is_above_limit : Option ℕ → Bool
 is_above_limit None = false

@@ -1,5 +1,5 @@
 -- Which directives are normal: in each form no two print alike.
-use Rattle.std.specs.Prelude.{◌≡◌, ◌≢◌, ℕ, ◌+◌, ◌-◌, ◌<◌, ◌≤◌, max, Bool, true, false, Some, None, unwrap_or, IsTrue, IsFalse, MatchBool, IfSome, if◌then◌else◌, ◌||◌}
+use Rattle.std.specs.Prelude.{◌≡◌, ◌≢◌, ℕ, ◌+◌, ◌<◌, ◌≤◌, max, Bool, true, false, Some, None, unwrap_or, IsTrue, IsFalse, MatchBool, IfSome, if◌then◌else◌, ◌||◌}
 use Rattle.pf_values.specs.declared.bases.Alternative.{Alternative}
 use Rattle.pf_values.specs.declared.bases.Alternative.TheVariants.{Undefined, Raised, Prefixed}
 use Rattle.pf_values.specs.declared.conversions.Conv.TheVariants.{S}
@@ -8,23 +8,16 @@ use Rattle.pf_values.specs.declared.conversions.Kind.TheVariants as kinds
 use Rattle.pf_values.specs.declared.flags.Flag.TheVariants.{Minus, Plus, Space, Alt, Zero, Group}
 use Rattle.pf_values.specs.declared.lengths.Length.TheVariants as lengths
 use Rattle.pf_values.specs.declared.models.Model.{Model}
-use Rattle.pf_values.specs.Bases.{alternative_of}
-use Rattle.pf_values.specs.Conversions.{is_signed, is_string, kept_conv, kind_of}
-use Rattle.pf_values.specs.DataModel.{bits_under, kept_length, most_digits}
-use Rattle.pf_values.specs.Defined.{IsDefined}
-use Rattle.pf_values.specs.Flags.{has, no_flags}
-use Rattle.pf_values.specs.Printing.{is_zero_filled}
-use Rattle.pf_values.specs.Specification.{Specification, width_of}
+use Rattle.pf_values.specs.meaning.Bases.{alternative_of}
+use Rattle.pf_values.specs.meaning.Conversions.{is_signed, is_string, kept_conv, kind_of}
+use Rattle.pf_values.specs.meaning.DataModel.{bits_under, kept_length, most_digits}
+use Rattle.pf_values.specs.meaning.Defined.{IsDefined}
+use Rattle.pf_values.specs.meaning.Flags.{has, no_flags}
+use Rattle.pf_values.specs.meaning.Specification.{Specification, width_of}
 
 -- the precision of an integer
 abbrev pub precision_of : Specification → ℕ
 precision_of s = unwrap_or s.precision 1
-
--- The same beside a sign or prefix of so many bytes, where the flag `0` makes it what is left of
--- the width (C11 7.21.6.1 p6).
-abbrev pub effective_precision : Specification → ℕ → ℕ
-effective_precision s front =
-    if is_zero_filled s then max (width_of s - front) 1 else precision_of s
 
 -- the most digits that its value has
 abbrev pub digits_at_most : Model → Specification → ℕ

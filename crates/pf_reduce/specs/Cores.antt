@@ -3,10 +3,11 @@ use Rattle.std.specs.Prelude.{if◌then◌else◌, Bool, ℕ, zero, suc, Option,
 use Rattle.pf_values.specs.declared.flags.Flag.TheVariants.{Minus}
 use Rattle.pf_values.specs.declared.flags.FlagSet.{FlagSet}
 use Rattle.pf_values.specs.declared.models.Model.{Model}
-use Rattle.pf_values.specs.Conversions.{kept_conv}
-use Rattle.pf_values.specs.DataModel.{kept_length}
-use Rattle.pf_values.specs.Flags.{with_flag}
-use Rattle.pf_values.specs.Specification.{Specification, specification_of}
+use Rattle.pf_values.specs.meaning.Conversions.{kept_conv}
+use Rattle.pf_values.specs.meaning.DataModel.{kept_length}
+use Rattle.pf_values.specs.meaning.Flags.{with_flag}
+use Rattle.pf_values.specs.meaning.Specification.{Specification}
+use Rattle.pf_values.specs.Directives.{specification_of}
 use Rattle.pf_reduce.specs.declared.padding.Padding.{Padding}
 use Rattle.pf_reduce.specs.declared.results.Core.TheVariants.{Normal}
 use Rattle.pf_reduce.specs.declared.results.Reduced.{Reduced}
@@ -20,21 +21,21 @@ kept_precision precision = Some precision
 abbrev pub with_side : Bool → FlagSet → FlagSet
 with_side left flags = if left then with_flag flags Minus else flags
 
--- a directive with another width, other flags and another precision, and its letters as they are
--- kept
-abbrev pub core_within : Model → Specification → Padding → FlagSet → Option ℕ → Specification
-core_within model s p flags precision =
+-- a directive with another width, other flags and another precision, and with the length modifier
+-- and the conversion that a normal directive has for its own
+abbrev pub core_of_parts : Model → Specification → Padding → FlagSet → Option ℕ → Specification
+core_of_parts model s p flags precision =
     specification_of (with_side p.left flags) (Some p.width) precision (kept_length model s.length)
     (kept_conv s.conv)
 
--- such a directive as a core, within the padding that is constant
-abbrev pub result_within : Model → Specification → Padding → FlagSet → Option ℕ → Reduced
-result_within model s p flags precision = record {
+-- such a directive as a core, within the constant padding
+abbrev pub padded_core : Model → Specification → Padding → FlagSet → Option ℕ → Reduced
+padded_core model s p flags precision = record {
   spaces = p.spaces;
   zeros = p.zeros;
   core = Normal (record {
     model = model;
-    specification = core_within model s p flags precision;
+    specification = core_of_parts model s p flags precision;
   });
   trail = p.trail;
 }

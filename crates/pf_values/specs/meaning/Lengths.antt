@@ -2,7 +2,7 @@
 use Rattle.std.specs.Prelude.{Bool, true, false, [], codes}
 use Rattle.pf_values.specs.declared.lengths.Length.{Length}
 use Rattle.pf_values.specs.declared.lengths.Length.TheVariants as lengths
-use Rattle.pf_values.specs.Text.{Text}
+use Rattle.pf_values.specs.meaning.Text.{Text}
 
 abbrev pub length_letters : Length → Text
 length_letters lengths.None = []

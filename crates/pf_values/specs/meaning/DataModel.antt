@@ -1,7 +1,7 @@
 -- The data models: types, bits and ranges. A model has three columns, and they are in this file
 -- alone: the bits of a long, the rank of `size_t` and `ptrdiff_t`, and that of `intmax_t`. All else
 -- goes by them. That the types of `j`, `z` and `t` are so in ILP32 is this project's own.
-use Rattle.std.specs.Prelude.{ℕ, ◌-◌, ◌^◌, ◌≤ℤ◌, ◌<ℤ◌, neg_ℤ, ℤ, pos, Bool, true, false, if◌then◌else◌}
+use Rattle.std.specs.Prelude.{ℕ, ◌-◌, ◌^◌, ◌≤ℤ◌, ◌<ℤ◌, neg_ℤ, ℤ, pos, Bool, true, false}
 use Rattle.pf_values.specs.declared.conversions.Conv.{Conv}
 use Rattle.pf_values.specs.declared.conversions.Kind.{Kind}
 use Rattle.pf_values.specs.declared.conversions.Kind.TheVariants as kinds
@@ -21,14 +21,14 @@ use Rattle.pf_values.specs.declared.types.ArgType.TheVariants.{
   ULongLong,
   Str,
 }
-use Rattle.pf_values.specs.Bases.{most_digits_in}
-use Rattle.pf_values.specs.Bits.{by_bits}
-pub use Rattle.pf_values.specs.Bits.{Bits, B8, B16, B32, B64, bit_count}
-use Rattle.pf_values.specs.Conversions.{is_text, kind_of}
-use Rattle.pf_values.specs.Specification.{Specification}
+use Rattle.pf_values.specs.meaning.Bases.{most_digits_in}
+use Rattle.pf_values.specs.meaning.Bits.{by_bits}
+pub use Rattle.pf_values.specs.meaning.Bits.{Bits, B8, B16, B32, B64, bit_count}
+use Rattle.pf_values.specs.meaning.Conversions.{kind_of}
+use Rattle.pf_values.specs.meaning.Specification.{Specification}
 
 -- What a length modifier says (C11 7.21.6.1 p7).
-pub record Row : Type 0 where
+pub record LengthRow : Type 0 where
   -- the modifier that a normal directive has for it
   pub kept : Length
   -- the bits of the value that is printed
@@ -37,8 +37,8 @@ pub record Row : Type 0 where
   pub signed : ArgType
   pub unsigned : ArgType
 
-abbrev pub row : Length → Bits → ArgType → ArgType → Row
-row kept bits signed unsigned =
+abbrev pub columns : Length → Bits → ArgType → ArgType → LengthRow
+columns kept bits signed unsigned =
     record { kept = kept; bits = bits; signed = signed; unsigned = unsigned }
 
 -- the bits of a long
@@ -60,20 +60,20 @@ greatest_rank Ilp32 = ranks.LongLong
 greatest_rank Llp64 = ranks.LongLong
 
 -- the row of the modifier that names the types of a rank
-abbrev pub row_of_rank : Model → Rank → Row
-row_of_rank model ranks.Int = row lengths.None B32 Int UInt
-row_of_rank model ranks.Long = row lengths.L (long_bits model) Long ULong
-row_of_rank model ranks.LongLong = row lengths.Ll B64 LongLong ULongLong
+abbrev pub row_of_rank : Model → Rank → LengthRow
+row_of_rank model ranks.Int = columns lengths.None B32 Int UInt
+row_of_rank model ranks.Long = columns lengths.L (long_bits model) Long ULong
+row_of_rank model ranks.LongLong = columns lengths.Ll B64 LongLong ULongLong
 
-abbrev pub row_of : Model → Length → Row
-row_of model lengths.Hh = row lengths.Hh B8 Int Int
-row_of model lengths.H = row lengths.H B16 Int Int
-row_of model lengths.None = row_of_rank model ranks.Int
-row_of model lengths.L = row_of_rank model ranks.Long
-row_of model lengths.Ll = row_of_rank model ranks.LongLong
-row_of model lengths.J = row_of_rank model (greatest_rank model)
-row_of model lengths.Z = row_of_rank model (size_rank model)
-row_of model lengths.T = row_of_rank model (size_rank model)
+abbrev pub length_row : Model → Length → LengthRow
+length_row model lengths.Hh = columns lengths.Hh B8 Int Int
+length_row model lengths.H = columns lengths.H B16 Int Int
+length_row model lengths.None = row_of_rank model ranks.Int
+length_row model lengths.L = row_of_rank model ranks.Long
+length_row model lengths.Ll = row_of_rank model ranks.LongLong
+length_row model lengths.J = row_of_rank model (greatest_rank model)
+length_row model lengths.Z = row_of_rank model (size_rank model)
+length_row model lengths.T = row_of_rank model (size_rank model)
 
 -- The bits of an integer type (C11 6.2.5). A string has none, and nothing reads its row.
 abbrev pub type_bits : Model → ArgType → Bits
@@ -86,22 +86,18 @@ type_bits model ULongLong = B64
 type_bits model Str = B64
 
 abbrev pub kept_length : Model → Length → Length
-kept_length model length = (row_of model length).kept
+kept_length model length = (length_row model length).kept
 
 -- the bits of the value that is printed under a length modifier
 abbrev pub bits_under : Model → Length → Bits
-bits_under model length = (row_of model length).bits
+bits_under model length = (length_row model length).bits
 
 -- the argument types of `d i` and of `u o x X b` under a length modifier
 abbrev pub signed_type : Model → Length → ArgType
-signed_type model length = (row_of model length).signed
+signed_type model length = (length_row model length).signed
 
 abbrev pub unsigned_type : Model → Length → ArgType
-unsigned_type model length = (row_of model length).unsigned
-
--- the bits of the value that a directive prints, of which a byte and a string have none
-abbrev pub value_bits : Model → Specification → ℕ
-value_bits model s = if is_text s.conv then 0 else bit_count (bits_under model s.length)
+unsigned_type model length = (length_row model length).unsigned
 
 -- the argument type (C11 7.21.6.1 p7, p8)
 abbrev pub type_of_kind : Model → Kind → Length → ArgType

@@ -1,4 +1,4 @@
--- Sets of flags, and the bytes that stand for flags.
+-- Sets of flags, and the byte of each flag.
 use Rattle.std.specs.Prelude.{ℕ, Bool, true, false, List, [], ◌∷◌, fold}
 use Rattle.pf_values.specs.declared.flags.Flag.{Flag}
 use Rattle.pf_values.specs.declared.flags.Flag.TheVariants.{Minus, Plus, Space, Alt, Zero, Group}
@@ -27,7 +27,7 @@ with_flag flags Alt = record flags { alt = true }
 with_flag flags Zero = record flags { zero = true }
 with_flag flags Group = record flags { group = true }
 
--- the set of a list of flags, in any order, in which one may stand more than once (C11 7.21.6.1 p4)
+-- the set of a list of flags, which are in any order, and one more than once (C11 7.21.6.1 p4)
 abbrev pub flag_set : List Flag → FlagSet
 flag_set flags = fold with_flag no_flags flags
 
@@ -40,6 +40,6 @@ flag_byte Alt = 35
 flag_byte Zero = 48
 flag_byte Group = 39
 
--- the order in which `spelled` writes them; this project's own
+-- the order in which `flags_spelled` writes them; this project's own
 abbrev pub all_flags : List Flag
 all_flags = Minus ∷ Plus ∷ Space ∷ Alt ∷ Zero ∷ Group ∷ []

@@ -1,0 +1,197 @@
+#!/usr/bin/env python3
+"""Holds what has to be believed to one folder: it has the definitions that the headline rests on, and no others.
+
+Usage: tests/reach.py
+
+It begins with the names in the contracts of STARTS, and goes from each definition to those that it names. What is reached has
+to lie in FOLDER, and what lies there has to be reached. docs/DEFINITIONS.md says how many lines that is, and which types and
+constants of the code and words of the library the definitions use; it is held to that.
+
+Its last line is 'N passed, M failed', and it exits with 1 where M isn't 0.
+"""
+
+import re
+import sys
+from dataclasses import dataclass, field
+from functools import lru_cache
+from pathlib import Path
+
+sys.dont_write_bytecode = True
+sys.path.insert(0, str(Path(__file__).resolve().parent))
+
+from harness import TOP, Trials  # noqa: E402
+
+FOLDER = "Rattle.pf_values.specs.meaning"
+# The functions whose contracts are the headline, and what a refusal says.
+STARTS = [("pf_compare/src/laws.rt", "headline"), ("pf_text/src/checking.rt", "check")]
+NAME = r"[^\W\d]\w*"
+# An import: of names of a module, or of a module by another name.
+IMPORT = re.compile(rf"^ *(?:ghost )?(pub )?use (Rattle[\w.]+?)(?:\.\{{([^{{}}]*)\}}| as ({NAME}));?$", re.MULTILINE)
+# What a definition begins with, at the margin or inside a module with parameters.
+HEAD = re.compile(rf"^(?:  )?(?:abbrev |inst )?(?:pub )?(record |data )?({NAME}) *(?:[:({{]|where)")
+WORDS = re.compile(rf"(?<![\w.])({NAME})((?:\.{NAME})*)")
+
+
+@dataclass
+class Module:
+    """The definitions of a file, and the names that it imports, each with the module and the name there."""
+
+    texts: dict = field(default_factory=dict)
+    # The constructors of each type, by their names.
+    types: dict = field(default_factory=dict)
+    imports: dict = field(default_factory=dict)
+    aliases: dict = field(default_factory=dict)
+
+    def named(self, text):
+        """What a text names: each a module and a name in it."""
+        for word, rest in WORDS.findall(text):
+            if rest and word in self.aliases:
+                yield self.aliases[word], rest.split(".")[1]
+            elif word in self.imports:
+                yield self.imports[word]
+
+
+def without_comments(text):
+    """The text of a file without its comments."""
+    return re.sub(r"(^|\s)(--\s|//).*$", r"\1", text, flags=re.MULTILINE)
+
+
+def imports_of(text, module):
+    """Notes the imports of a file, and returns the text without them."""
+    for _, path, names, alias in IMPORT.findall(text):
+        if alias:
+            module.aliases[alias] = path
+        for name in filter(None, (it.strip() for it in names.split(","))):
+            there, _, here = name.partition(" as ")
+            module.imports[(here or there).strip()] = (path, there.strip())
+    return IMPORT.sub("", text)
+
+
+def file_of(path):
+    """The file of a module of definitions; None for those of the code and of the library."""
+    crate, _, inside = path.removeprefix("Rattle.").partition(".specs.")
+    file = TOP / "crates" / crate / "specs" / (inside.replace(".", "/") + ".antt")
+    return file if file.is_file() else None
+
+
+@lru_cache(maxsize=None)
+def module_of(path):
+    """The module of this path, with the parameters of a `module _` before each definition inside."""
+    module, shared, name = Module(), "", None
+    for line in imports_of(without_comments(file_of(path).read_text(encoding="utf-8")), module).splitlines():
+        head = HEAD.match(line)
+        if line.startswith("module "):
+            shared, name = line, None
+        elif head and (not line.startswith(" ") or shared) and not re.match(r"  pub (?!record |data )", line):
+            name, shared = head[2], shared if line.startswith(" ") else ""
+            module.texts.setdefault(name, shared + "\n")
+            module.types.setdefault(name, name)
+            data = name if head[1] == "data " else None
+        if name:
+            module.texts[name] += line + "\n"
+            if data and line.startswith("  "):
+                module.types.update({it: data for it in line.partition(":")[0].split()})
+    return module
+
+
+def definition(path, name):
+    """The definition of a name that a module has or hands on: for a constructor its type; None for others."""
+    if file_of(path) is None:
+        return None
+    module = module_of(path)
+    if name in module.types:
+        return path, module.types[name]
+    return definition(*module.imports[name]) if name in module.imports else None
+
+
+def plain_body(text, name):
+    """The text of a definition without its own name, and without the names of fields before their types and values."""
+    text = re.sub(rf"(?<![\w.]){re.escape(name)}(?!\w)", " ", text)
+    return re.sub(rf"^ +pub {NAME}|([{{;]\s*){NAME}(?= =)", r"\1", text, flags=re.MULTILINE)
+
+
+def contract(file, function):
+    """The names in the clauses of a function: each a module and a name in it."""
+    module = Module()
+    text = imports_of(without_comments((TOP / "crates" / file).read_text(encoding="utf-8")), module)
+    clauses = re.search(rf"^pub fn {function}\b.*?^{{", text, flags=re.DOTALL | re.MULTILINE)[0]
+    return list(module.named(clauses))
+
+
+def reached():
+    """The definitions that are reached, and the names that are none: each a module and a name in it."""
+    found, others = set(), set()
+    left = [name for file, function in STARTS for name in contract(file, function)]
+    while left:
+        path, name = left.pop()
+        there = definition(path, name)
+        if there is None:
+            others.add((path, name))
+        elif there not in found:
+            found.add(there)
+            module = module_of(there[0])
+            body = plain_body(module.texts[there[1]], there[1])
+            own = {word for word, _ in WORDS.findall(body) if word in module.types}
+            left += [(there[0], word) for word in own] + list(module.named(body))
+    return found, others
+
+
+def all_there():
+    """The definitions of the folder."""
+    top = file_of(FOLDER).with_suffix("")
+    paths = [f"{FOLDER}.{file.relative_to(top).with_suffix('')}".replace("/", ".") for file in sorted(top.rglob("*.antt"))]
+    return {(path, name) for path in paths for name in module_of(path).texts}
+
+
+def lines_there():
+    """How many lines the folder has, and how many without comments, imports and empty lines."""
+    texts = [file.read_text(encoding="utf-8") for file in file_of(FOLDER).with_suffix("").rglob("*.antt")]
+    plain = [line for text in texts for line in imports_of(without_comments(text), Module()).splitlines() if line.strip()]
+    return [sum(text.count("\n") for text in texts), len(plain)]
+
+
+def of_code(others):
+    """The types and the constants of the code among these names, without the variants of the types."""
+    found = {(path, name) for path, name in others if ".specs.declared." in path}
+    constants = {name for path, name in found if path.endswith(".TheConstants")}
+    types = {path.removesuffix(".TheVariants").rpartition(".")[2] for path, name in found if not path.endswith(".TheConstants")}
+    return types, constants
+
+
+def in_words(names):
+    """These definitions, to be told."""
+    return sorted(f"{path}.{name}" for path, name in names)
+
+
+def listed(text, words):
+    """The names in backticks of the sentence of a document that begins with these words."""
+    sentence = re.search(rf"{re.escape(words)}([^.]*)\.", text)
+    return set(re.findall(r"`([^`]+)`", sentence[1])) if sentence else None
+
+
+def try_reach(trials):
+    """The folder has what is reached and no more, and docs/DEFINITIONS.md says what that is."""
+    found, others = reached()
+    there = all_there()
+    trials.expect(f"definitions of {FOLDER} that the headline doesn't rest on", in_words(there - found), [])
+    trials.expect(f"definitions that the headline rests on, outside of {FOLDER}", in_words(found - there), [])
+    text = (TOP / "docs/DEFINITIONS.md").read_text(encoding="utf-8")
+    types, constants = of_code(others)
+    library = {name for path, name in others if path.startswith("Rattle.std.") and re.fullmatch(r"[a-zA-Z_]\w+", name)}
+    trials.expect("types of the code in docs/DEFINITIONS.md", listed(text, "Of the code they use the types "), types)
+    trials.expect("constants of the code in docs/DEFINITIONS.md", listed(text, "They use the constants "), constants)
+    trials.expect("words of the library in docs/DEFINITIONS.md", listed(text, "Of the library they use "), library)
+    counts = re.search(r"([\d,]+) lines, ([\d,]+) of them without comments", text)
+    trials.expect("lines in docs/DEFINITIONS.md", counts and [int(it.replace(",", "")) for it in counts.groups()], lines_there())
+
+
+def main():
+    if len(sys.argv) != 1:
+        sys.exit(__doc__)
+    trials = Trials()
+    try_reach(trials)
+    return trials.end()
+
+
+if __name__ == "__main__":
+    sys.exit(main())
