@@ -8,26 +8,7 @@ import re
 from harness import TOP
 
 # A name that two crates define, and why it may stay so.
-EXCEPTIONS = {
-    "Gives": "of pieces in pf_text, of canonical bytes in pf_canon, of formats that are given in fmtcanon, of a call of the C library in fmtcanon_c",
-    "HasGiven": "of pieces in pf_text, of a walk in pf_canon",
-    "IsAcceptedWhole": "one definition in fmtcanon and in fmtcanon_c, of which neither needs the other",
-    "IsAt": "of an automaton in pf_text, of a conversation in fmtcanon",
-    "IsCut": "of a canonical text in pf_canon, of records and lines in fmtcanon",
-    "IsFed": "of a scanner in pf_text, of the transducer in pf_canon",
-    "IsTold": "of a source in pf_canon, of a call of the C library in fmtcanon_c",
-    "Leaves": "of a source in pf_canon, of a run in fmtcanon",
-    "Passes": "of a scanner in pf_text, of the transducer in pf_canon",
-    "Says": "of a scanner in pf_text, of a reply in fmtcanon",
-    "Takes": "of a scanner in pf_text, of the transducer in pf_canon, of records in fmtcanon",
-    "TakesDirective": "of a scanner in pf_text, of the transducer in pf_canon",
-    "Tells": "of a report in fmtcanon, of a call of the C library in fmtcanon_c",
-    "TellsPlace": "of an answer in fmtcanon, of a call of the C library in fmtcanon_c",
-    "argument_of": "of an `Arg` in pf_values, of a `Candidate` in pf_probes",
-    "bytes_of": "of a `CBytes` in pf_values, of a record in fmtcanon",
-    "model_of": "of a transducer in pf_canon, of a number in fmtcanon_c",
-    "waiting_of": "of a transducer in pf_canon, of replies in fmtcanon",
-}
+EXCEPTIONS = {}
 
 
 def definitions(path):

@@ -12,7 +12,8 @@ use Rattle.pf_values.specs.declared.refusals.RefusalKind.{RefusalKind}
 use Rattle.pf_values.specs.meaning.Items.{IsAccepted}
 use Rattle.pf_values.specs.meaning.Refusals.{IsRefusedAt}
 use Rattle.pf_values.specs.meaning.Text.{Text}
-use Rattle.fmtcanon.specs.Answers.{IsFitFault, IsFormatFault, IsPairFault, IsGivenFault, IsGivenPairFault, IsWholeFault, IsAcceptedWhole, IsFaultInTexts, IsFaultInText, side_of}
+use Rattle.pf_signatures.specs.Items.{IsPosixAccepted}
+use Rattle.fmtcanon.specs.Answers.{IsFitFault, IsFormatFault, IsPairFault, IsGivenFault, IsGivenPairFault, IsWholeFault, IsFaultInTexts, IsFaultInText, side_of}
 use Rattle.fmtcanon.specs.FormatArguments.{IsArgumentFault}
 use Rattle.fmtcanon.specs.Formats.{GivesBytes, IsFormat, IsPlaceInText}
 use Rattle.fmtcanon.specs.declared.outcome.Fault.{Fault}
@@ -122,15 +123,15 @@ module _ (first second : GivenFormat) (one other : Text) (g : IsFormat first one
 
   -- the same of the whole language
   pub fit_fault : (model : Model) (fault reported : Fault) → IsFitFault model one other fault → IsFaultInTexts first second (side_of fault) fault reported
-      → IsGivenPairFault (IsWholeFault model) (IsAcceptedWhole model) first second reported
+      → IsGivenPairFault (IsWholeFault model) (IsPosixAccepted model) first second reported
   fit_fault model (RefusedWhole None refusal) reported hinders is = absurd hinders
   fit_fault model (RefusedWhole (Some sides.First) refusal) reported hinders (at, is, tells) =
-      subst (IsGivenPairFault (IsWholeFault model) (IsAcceptedWhole model) first second) (sym is) (record { bytes = one; gives = g; at = refusal.at; holds = hinders; place_is = tells one g (whole_within model one refusal.kind refusal.at hinders) })
+      subst (IsGivenPairFault (IsWholeFault model) (IsPosixAccepted model) first second) (sym is) (record { bytes = one; gives = g; at = refusal.at; holds = hinders; place_is = tells one g (whole_within model one refusal.kind refusal.at hinders) })
   fit_fault model (RefusedWhole (Some sides.Second) refusal) reported hinders (at, is, tells) =
-      subst (IsGivenPairFault (IsWholeFault model) (IsAcceptedWhole model) first second) (sym is) ((one, g, hinders.0), record { bytes = other; gives = h; at = refusal.at; holds = hinders.1; place_is = tells other h (whole_within model other refusal.kind refusal.at hinders.1) })
+      subst (IsGivenPairFault (IsWholeFault model) (IsPosixAccepted model) first second) (sym is) ((one, g, hinders.0), record { bytes = other; gives = h; at = refusal.at; holds = hinders.1; place_is = tells other h (whole_within model other refusal.kind refusal.at hinders.1) })
   fit_fault model (Refused side refusal) reported hinders is = absurd hinders
   fit_fault model (BadLiteral side refusal) reported hinders is = absurd hinders
   fit_fault model (BadWord index) reported hinders is = absurd hinders
   fit_fault model (WrongCount wanted given) reported hinders is = absurd hinders
   fit_fault model (WrongType index) reported hinders is = absurd hinders
-  fit_fault model Memory reported hinders is = subst (IsGivenPairFault (IsWholeFault model) (IsAcceptedWhole model) first second) (sym is) tt
+  fit_fault model Memory reported hinders is = subst (IsGivenPairFault (IsWholeFault model) (IsPosixAccepted model) first second) (sym is) tt

@@ -1,7 +1,6 @@
 -- What a question is answered with, and why it is not. This project's own.
 use Rattle.std.specs.Prelude.{◌≡◌, ℕ, ◌≤◌, List, length, Option, None, Some, map, ⊤}
-use Rattle.pf_signatures.specs.declared.types.ArgumentType.{ArgumentType}
-use Rattle.pf_signatures.specs.Items.{HasArguments}
+use Rattle.pf_signatures.specs.Items.{IsPosixAccepted}
 use Rattle.pf_signatures.specs.Refusals as whole
 use Rattle.pf_values.specs.declared.models.Model.{Model}
 use Rattle.pf_values.specs.meaning.Items.{IsAccepted}
@@ -73,14 +72,11 @@ IsWholeFault model format (RefusedWhole None refusal) =
 IsWholeFault model format Memory = ⊤
 IsWholeFault model format _ = ⊥
 
-abbrev pub IsAcceptedWhole : Model → Text → Type 0
-IsAcceptedWhole model format = (types : List ArgumentType) × HasArguments model format types
-
 abbrev pub IsFitFault : Model → Text → Text → Fault → Type 0
 IsFitFault model first second (RefusedWhole (Some sides.First) refusal) =
     whole.IsPosixRefusedAt model first refusal.kind refusal.at
 IsFitFault model first second (RefusedWhole (Some sides.Second) refusal) =
-    IsAcceptedWhole model first × whole.IsPosixRefusedAt model second refusal.kind refusal.at
+    IsPosixAccepted model first × whole.IsPosixRefusedAt model second refusal.kind refusal.at
 IsFitFault model first second Memory = ⊤
 IsFitFault model first second _ = ⊥
 
@@ -130,7 +126,7 @@ IsQuestionFault (Show model format) fault = IsGivenFault IsFormatFault format fa
 IsQuestionFault (Format model format words) fault =
     IsGivenFault (λ bytes. IsArgumentFault model bytes (map (λ s. s.now) words.items)) format fault
 IsQuestionFault (Fits model first second) fault =
-    IsGivenPairFault (IsWholeFault model) (IsAcceptedWhole model) first second fault
+    IsGivenPairFault (IsWholeFault model) (IsPosixAccepted model) first second fault
 IsQuestionFault (Same models first second) fault =
     IsGivenPairFault IsFormatFault IsAccepted first second fault
 

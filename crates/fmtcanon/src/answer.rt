@@ -1,6 +1,7 @@
 //! The answer to a question.
 ghost use Rattle.std.specs.Prelude.{◌≡◌, Err, MatchResult, Ok, IfOk, MatchOption, Some, map};
-ghost use Rattle.fmtcanon.specs.Answers.{IsAnswer, IsQuestionFault, HasCanonicalLine, IsFormatFault, IsGivenFault, IsGivenPairFault, IsWholeFault, IsAcceptedWhole, IsFaultInTexts, IsFaultInText, side_of};
+ghost use Rattle.pf_signatures.specs.Items.{IsPosixAccepted};
+ghost use Rattle.fmtcanon.specs.Answers.{IsAnswer, IsQuestionFault, HasCanonicalLine, IsFormatFault, IsGivenFault, IsGivenPairFault, IsWholeFault, IsFaultInTexts, IsFaultInText, side_of};
 ghost use Rattle.fmtcanon.specs.declared.answer.Ending.TheVariants.{Done};
 ghost use Rattle.pf_canon.specs.declared.faults.Side.TheVariants as sides;
 ghost use Rattle.pf_values.specs.meaning.Items.{IsAccepted};
@@ -187,7 +188,7 @@ pub fn fit_of_given(
     ensures { MatchResult result (λ answer.
         (one other : Text) × IsFormat first.now one × IsFormat second.now other
         × IsFitAnswer model one other answer.bytes.items answer.ending)
-        (IsGivenPairFault (IsWholeFault model) (IsAcceptedWhole model) first.now second.now) }
+        (IsGivenPairFault (IsWholeFault model) (IsPosixAccepted model) first.now second.now) }
 {
     let one = match first.bytes(alloc) {
         Ok(bytes) => bytes,
@@ -262,9 +263,9 @@ fn refused(first: &GivenFormat<'_>, bytes: &[u8]) -> Option<Fault>
 }
 
 fn refused_whole(model: Model, first: &GivenFormat<'_>, bytes: &[u8]) -> Option<Fault>
-    ensures { IsFormat first.now bytes.now → MatchOption result (IsAcceptedWhole model bytes.now)
+    ensures { IsFormat first.now bytes.now → MatchOption result (IsPosixAccepted model bytes.now)
         (λ fault. (second : GivenFormat)
-        → IsGivenPairFault (IsWholeFault model) (IsAcceptedWhole model) first.now second fault) }
+        → IsGivenPairFault (IsWholeFault model) (IsPosixAccepted model) first.now second fault) }
 {
     match arguments(model, bytes, &mut []) {
         Ok(_) => None,

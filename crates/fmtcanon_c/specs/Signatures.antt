@@ -4,7 +4,7 @@ use Rattle.pf_canon.specs.declared.faults.Side.{Side}
 use Rattle.pf_canon.specs.declared.faults.Side.TheVariants.{First, Second}
 use Rattle.pf_signatures.specs.declared.refusals.SignatureRefusalKind.{SignatureRefusalKind}
 use Rattle.pf_signatures.specs.declared.types.ArgumentType.{ArgumentType}
-use Rattle.pf_signatures.specs.Items.{HasArguments}
+use Rattle.pf_signatures.specs.Items.{HasArguments, IsPosixAccepted}
 use Rattle.pf_signatures.specs.Kinds.{signature_kind_number, type_number}
 use Rattle.pf_signatures.specs.Refusals.{IsPosixRefusedAt}
 use Rattle.pf_values.specs.declared.models.Model.{Model}
@@ -37,13 +37,10 @@ PutsArguments model t out error code out_now error_now =
 abbrev pub Fit : Model → Text → Text → Type 0
 Fit model f g = (types : List ArgumentType) × HasArguments model f types × HasArguments model g types
 
-abbrev pub IsAcceptedWhole : Model → Text → Type 0
-IsAcceptedWhole model t = (types : List ArgumentType) × HasArguments model t types
-
 -- 1 where they are, 0 where they aren't, with the error untouched; or one text is refused
 abbrev pub AnswersFit : Model → Text → Text → CError → ℤ → CError → Type 0
 AnswersFit model f g error code error_now =
-    (IsAcceptedWhole model f × IsAcceptedWhole model g × IsTruthCode (Fit model f g) code
+    (IsPosixAccepted model f × IsPosixAccepted model g × IsTruthCode (Fit model f g) code
     × (error_now ≡ error))
     ⊎ (IsRefusedWhole model First f code error_now
-    ⊎ (IsAcceptedWhole model f × IsRefusedWhole model Second g code error_now))
+    ⊎ (IsPosixAccepted model f × IsRefusedWhole model Second g code error_now))

@@ -40,3 +40,7 @@ pub record HasArguments (model : Model) (t : Text) (types : List ArgumentType) :
   pub reads : ReadsPosix t items
   pub limit : length t ≤ MAX_TEXT_LEN
   pub types_are : HaveTypes (fetched model items) types
+
+-- a text is accepted
+abbrev pub IsPosixAccepted : Model → Text → Type 0
+IsPosixAccepted model t = (types : List ArgumentType) × HasArguments model t types
