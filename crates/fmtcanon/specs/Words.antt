@@ -102,8 +102,8 @@ abbrev pub row_app : CommandRow → App
 row_app row = on_arguments row.arguments row.name row.models
 
 -- the command with one more
-abbrev pub with_row : App → CommandRow → App
-with_row app row = with_subcommand app (row_app row).top
+abbrev pub with_command : App → CommandRow → App
+with_command app row = with_subcommand app (row_app row).top
 
 -- the commands, by how clap tests the name of one data model, and that of one or more
 abbrev pub command_rows : ValueParser → ValueParser → List CommandRow
@@ -119,11 +119,14 @@ command_rows one more =
 
 -- the command with all of them
 unfoldable pub the_command : ValueParser → ValueParser → App
-the_command one more = fold with_row top_app (command_rows one more)
+the_command one more = fold with_command top_app (command_rows one more)
 
 -- the row that the code has of a command
 abbrev pub row_of : Row → CommandRow
 row_of r = record { name = r.name.now; arguments = r.arguments; models = Names r.models }
+
+abbrev pub with_row : App → Row → App
+with_row app r = with_command app (row_of r)
 
 -- clap's definition of the command, wherever in memory the names of the data models lie
 pub record IsCommand (app : App) : Type 0 where

@@ -1,5 +1,5 @@
 //! The definition of the command for `clap`.
-ghost use Rattle.std.specs.Prelude.{◌≡◌, IfOk, false, map};
+ghost use Rattle.std.specs.Prelude.{◌≡◌, IfOk, false};
 ghost use Rattle.std.specs.List.{fold};
 ghost use Rattle.clap.specs.Simple.{with_rule};
 ghost use Rattle.clap.specs.Words.{app_of};
@@ -109,7 +109,7 @@ fn definition_with<'a>(
 
 // The command with a subcommand for each row.
 fn with_subcommands<'a>(alloc: Global, rows: &[Row<'a>]) -> Result<Command<'a>, AllocError>
-    ensures { IfOk result (λ command. app_of command ≡ fold with_row top_app (map row_of rows.now)) }
+    ensures { IfOk result (λ command. app_of command ≡ fold with_row top_app rows.now) }
 {
     let mut command = top(alloc)?;
     for row in rows {
