@@ -11,7 +11,7 @@ use Rattle.pf_values.specs.meaning.Items.{Item, Byte, Directive, Reads, types}
 use Rattle.pf_values.specs.meaning.Printing.{Prints}
 use Rattle.pf_values.specs.meaning.Specification.{Specification}
 use Rattle.pf_values.specs.meaning.Text.{Text}
-use Rattle.pf_values.proofs.EqualPrintRange.{PrintsAll-unique, all_printed, all_printed-is}
+use Rattle.pf_values.proofs.Alike.{PrintsAll-unique, all_printed, all_printed-is}
 use Rattle.pf_values.proofs.ItemTypes.{types-append}
 use Rattle.pf_values.proofs.PrintsOnce.{Prints-unique, printed_text}
 use Rattle.pf_probes.proofs.Probes.{probe_typed}

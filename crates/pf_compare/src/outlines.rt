@@ -75,7 +75,8 @@ impl SignOrPrefix {
             Alternative::Prefixed if flags.has(Flag::Alt) && value.size != 0 => {
                 SignOrPrefix::Letters(base, capitals)
             }
-            Alternative::Undefined | Alternative::Raised | Alternative::Prefixed => SignOrPrefix::Nothing,
+            Alternative::Undefined | Alternative::Raised | Alternative::Prefixed =>
+                SignOrPrefix::Nothing,
         }
     }
 
@@ -123,7 +124,13 @@ impl Outline {
 
     // The same between so many spaces.
     #[inline(always)]
-    fn between(before: u16, prefix: SignOrPrefix, digits: u16, size: u64, spaces_after: u16) -> Outline
+    fn between(
+        before: u16,
+        prefix: SignOrPrefix,
+        digits: u16,
+        size: u64,
+        spaces_after: u16,
+    ) -> Outline
         requires { before + length (sign_or_prefix_text prefix) < 65536 }
         ensures { HasOutlineText result digits size
             (λ t. (replicate before space ++ with_prefix_and_zeros (sign_or_prefix_text prefix) digits t)

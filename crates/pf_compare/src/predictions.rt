@@ -112,7 +112,12 @@ fn is_integer(directive: &Directive) -> bool
 
 // Whether a number is in the range in which a directive is known to print what another one does.
 #[inline(always)]
-fn is_in_equal_range(model: Model, directive: &Directive, equal_range: Option<EqualPrintRange>, number: i128) -> bool
+fn is_in_equal_range(
+    model: Model,
+    directive: &Directive,
+    equal_range: Option<EqualPrintRange>,
+    number: i128,
+) -> bool
     requires integer { IsFalse (is_text directive.now.conv) }
     ensures { IsTrue result → (other : Specification)
         → IfSome equal_range (PrintEqualIn directive.now other)

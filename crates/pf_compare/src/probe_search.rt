@@ -158,7 +158,14 @@ fn first_candidate_from(
     let mut place = from;
     while place < row.len() {
         if candidate_differs(
-            alloc, model, whole, first, second, equal_range, wanted, row[place],
+            alloc,
+            model,
+            whole,
+            first,
+            second,
+            equal_range,
+            wanted,
+            row[place],
         )? {
             return Ok(Some(place));
         }
@@ -190,7 +197,13 @@ fn candidate_differs(
         (ReplacementsEqual model whole.now first.now second.now (probes.candidate_argument candidate))) }
 {
     if have_same_place(first, second) {
-        if let Some(told) = predict(model, &first.directive, &second.directive, equal_range, candidate) {
+        if let Some(told) = predict(
+            model,
+            &first.directive,
+            &second.directive,
+            equal_range,
+            candidate,
+        ) {
             return Ok(told);
         }
     }

@@ -54,7 +54,11 @@ pub(crate) fn first_witness(
     }
 }
 
-fn neutrals(alloc: Global, model: Model, spans: &[DirectiveSpan]) -> Result<Vec<OwnedArg>, AllocError>
+fn neutrals(
+    alloc: Global,
+    model: Model,
+    spans: &[DirectiveSpan],
+) -> Result<Vec<OwnedArg>, AllocError>
     ensures { IfOk result (λ args. AreNeutral (span_types model spans.now) args.items) }
 {
     let mut args = Vec::with_capacity(alloc, spans.len())?;
