@@ -128,7 +128,7 @@ impl<R: TextBuffer> Sink for TextBuilder<R> {
 /// How many bytes were given.
 #[derive(Clone, Copy, Debug)]
 pub(crate) struct ByteCount {
-    len: u128,
+    pub(crate) len: u128,
 }
 
 impl Sink for ByteCount {
