@@ -42,7 +42,10 @@ impl<R: Read + Drop> CanonBytes<R> {
     pub fn into_reader(self) -> Counted<R>
         ensures { result ≡ reader_of self }
     {
-        let CanonBytes { reader, transducer: _ } = self;
+        let CanonBytes {
+            reader,
+            transducer: _,
+        } = self;
         reader
     }
 }

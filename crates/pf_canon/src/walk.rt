@@ -104,7 +104,11 @@ impl<'a> Walk<'a> {
             ++ (self.now.literal.now ++ text_of_some self.now.output)) }
         ensures few { result < 2 ^ 101 }
     {
-        all_len(self.verbatim.len(), self.literal.len(), len_in(&self.output))
+        all_len(
+            self.verbatim.len(),
+            self.literal.len(),
+            len_in(&self.output),
+        )
     }
 
     /// Whether the text is accepted, which is read to its end.

@@ -55,7 +55,11 @@ fn first_mistaken(
 #[test]
 fn formats_of_one_canonical_text_are_the_same(rt: HostRuntime) {
     for (format, text) in directives() {
-        assert_eq!(rt; first_mistaken(format, text, directives()), None, "{format}");
+        assert_eq!(rt;
+            first_mistaken(format, text, directives()),
+            None,
+            "{format}"
+        );
     }
     for (format, text) in formats() {
         assert_eq!(rt; first_mistaken(format, text, formats()), None, "{format}");
