@@ -2,6 +2,7 @@ pub mod command_line
 mod MagnitudeLemmas
 mod ArgumentWordLemmas
 mod PrintedWordLemmas
+mod CommandLemmas
 mod ComparisonLemmas
 mod FormatArgumentLemmas
 mod PrintingLemmas

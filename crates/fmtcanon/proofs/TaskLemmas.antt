@@ -1,11 +1,12 @@
 -- What a command about formats asks, wherever these come from.
-use Rattle.std.proofs.Common.{◌≡◌, ◌≢◌, List, [], Option, None, Some, Result, ap, ap₂, arith, codes, inr, length, subst, sym}
+use Rattle.std.proofs.Common.{◌≡◌, ◌≢◌, Bool, false, true, List, [], Option, None, Some, Result, ap, ap₂, arith, codes, inr, length, refl, subst, sym}
 use Rattle.std.specs.Prelude.{IfErr, IfOk}
 use Rattle.std.proofs.lemmas.Result.{IfErr-weaker, IfOk-weaker}
 use Rattle.clap.specs.Walk.{Row, first_of}
 use Rattle.pf_values.specs.meaning.Text.{Text}
 use Rattle.fmtcanon.specs.Questions.{formats_of, formats_wanted}
-use Rattle.fmtcanon.specs.Tasks.{Asks, IsAsked, IsAskedOf, IsMisplaced, IsNoTaskOf, IsNoTaskOn, IsQuestion, IsTaskOn, Names, formats_given, formats_in}
+use Rattle.fmtcanon.specs.Models.{model_in, models_in}
+use Rattle.fmtcanon.specs.Tasks.{Asks, AsksOther, IsAsked, IsAskedOf, IsMisplaced, IsNoTaskOf, IsNoTaskOn, IsQuestion, IsTaskOn, Names, formats_given, formats_in, is_whole, notation_in}
 use Rattle.fmtcanon.specs.declared.task.Question.{Question}
 use Rattle.fmtcanon.specs.declared.task.Question.TheVariants.{Types, Arguments, Canon, Show, Format, Fits, Same}
 use Rattle.fmtcanon.specs.declared.task.RecordQuestion.{RecordQuestion}
@@ -67,3 +68,18 @@ none_wanted (asked.Same notation models) = λ e. absurd (omega (arith, e))
 pub misplaced_any : (kind : RecordQuestion) (rows : List Row) (fault : NoTask) → IsMisplaced kind rows → IsNoTaskOn kind rows fault
 misplaced_any kind rows (Usage message) h = h
 misplaced_any kind rows Memory h = tt
+
+module _ (command : Text) (rows : List Row) where
+  not_types : (whole : Bool) → is_whole rows ≡ whole → AsksOther command rows → command ≢ codes "types"
+  not_types false w other e = other (asked.Types (notation_in rows) (model_in rows)) (e, w, refl, refl)
+  not_types true w other e = other (asked.Arguments (notation_in rows) (model_in rows)) (e, w, refl, refl)
+
+  -- a command that asks nothing of the kind has another name
+  pub other_than : AsksOther command rows → (command ≢ codes "types") × (command ≢ codes "canon") × (command ≢ codes "show") × (command ≢ codes "fits") × (command ≢ codes "same")
+  other_than other = (
+    not_types (is_whole rows) refl other,
+    λ e. other (asked.Canon (notation_in rows) (model_in rows)) (e, refl, refl),
+    λ e. other (asked.Show (notation_in rows) (model_in rows)) (e, refl, refl),
+    λ e. other (asked.Fits (notation_in rows) (model_in rows)) (e, refl, refl),
+    λ e. other (asked.Same (notation_in rows) (models_in rows)) (e, refl, refl),
+  )

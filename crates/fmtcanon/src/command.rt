@@ -206,7 +206,7 @@ fn on_records<'a>(alloc: Global, row: &Row<'a>) -> Result<Command<'a>, AllocErro
 // The subcommand with the option `--whole` besides.
 fn taking_whole<'a>(alloc: Global, command: Command<'a>) -> Result<Command<'a>, AllocError>
     requires { (fields_of command).has_globals ≡ false }
-    ensures { IfOk result (λ c. (app_of c ≡ with_rule (app_of command) whole_option)
+    ensures { IfOk result (λ c. (app_of c ≡ with_rule (app_of command.entry) whole_option)
         × ((fields_of c).has_globals ≡ false)) }
 {
     let option = Arg::new(alloc, "whole")
@@ -219,7 +219,7 @@ fn taking_whole<'a>(alloc: Global, command: Command<'a>) -> Result<Command<'a>, 
 // The subcommand with any number of arguments besides.
 fn taking_arguments<'a>(alloc: Global, command: Command<'a>) -> Result<Command<'a>, AllocError>
     requires { (fields_of command).has_globals ≡ false }
-    ensures { IfOk result (λ c. (app_of c ≡ with_rule (app_of command) any_arguments)
+    ensures { IfOk result (λ c. (app_of c ≡ with_rule (app_of command.entry) any_arguments)
         × ((fields_of c).has_globals ≡ false)) }
 {
     let help = "An argument: `n:` and a decimal number, or `s:` and a string";

@@ -7,7 +7,7 @@ use Rattle.fmtcanon.specs.Tasks.{HasAllValues, HasValue, IsAsked, Names, rows_in
 use Rattle.fmtcanon.specs.Words.{the_command}
 use Rattle.fmtcanon.proofs.command_line.WordLemmas.{IsWanted, at_asked, format_wants, value_given}
 use Rattle.fmtcanon.specs.declared.task.RecordQuestion.TheVariants as asked
-use Rattle.fmtcanon.proofs.TaskLemmas.{asks_if, lacks_if}
+use Rattle.fmtcanon.proofs.TaskLemmas.{asks_if, lacks_if, other_than}
 use Rattle.fmtcanon.proofs.task.named_task.Goals as goal
 
 -- the argument that the command wants is there
@@ -29,42 +29,19 @@ unfolding the_command
 unreachable-requires c =
     let names = c.requires in
     let name = c.args.name.now in
-    let other = c.in_default in
-    at_asked (λ n. name ≡ n → ⊥) names.1.app names.0 name _ (λ one both. (other.not-types, (other.not-canon, (other.not-show, (other.not-format, (other.not-same, (other.not-fits, (other.not-stream, tt)))))))) names.1.is_command names.1.named refl
+    let kinds = other_than name (rows_in c.args.inner.now) c.in_default.ensures in
+    let other = c.in_default-name in
+    at_asked (λ n. name ≡ n → ⊥) names.1.app names.0 name _ (λ one more. (kinds.0, (kinds.1, (kinds.2, (other.not-format, (kinds.4, (kinds.3, (other.not-stream, tt)))))))) names.1.is_command names.1.named refl
 
-pub returns-in-types-clause-ok : goal.returns-in-types-clause-ok
-returns-in-types-clause-ok c = asks_if c.args.name.now (rows_in c.args.inner.now) c.about_types.result (subst (λ n. IsAsked n (rows_in c.args.inner.now) c.about_types.result) (sym c.in-types.is) (c.about_types.ensures c.notation_of-notation.ensures)) c.formats_task.result c.formats_task.ensures.ok
-
-pub returns-in-types-clause-err : goal.returns-in-types-clause-err
-returns-in-types-clause-err c = lacks_if c.args.name.now (rows_in c.args.inner.now) c.about_types.result (subst (λ n. IsAsked n (rows_in c.args.inner.now) c.about_types.result) (sym c.in-types.is) (c.about_types.ensures c.notation_of-notation.ensures)) c.formats_task.result c.formats_task.ensures.err
-
-pub returns-in-canon-clause-ok : goal.returns-in-canon-clause-ok
-returns-in-canon-clause-ok c = asks_if c.args.name.now (rows_in c.args.inner.now) (asked.Canon c.notation_of-notation.result c.model_of.result) (c.in-canon.is, c.notation_of-notation.ensures, c.model_of.ensures) c.formats_task-in-canon.result c.formats_task-in-canon.ensures.ok
-
-pub returns-in-canon-clause-err : goal.returns-in-canon-clause-err
-returns-in-canon-clause-err c = lacks_if c.args.name.now (rows_in c.args.inner.now) (asked.Canon c.notation_of-notation.result c.model_of.result) (c.in-canon.is, c.notation_of-notation.ensures, c.model_of.ensures) c.formats_task-in-canon.result c.formats_task-in-canon.ensures.err
-
-pub returns-in-show-clause-ok : goal.returns-in-show-clause-ok
-returns-in-show-clause-ok c = asks_if c.args.name.now (rows_in c.args.inner.now) (asked.Show c.notation_of-notation.result c.model_of-in-show.result) (c.in-show.is, c.notation_of-notation.ensures, c.model_of-in-show.ensures) c.formats_task-in-show.result c.formats_task-in-show.ensures.ok
-
-pub returns-in-show-clause-err : goal.returns-in-show-clause-err
-returns-in-show-clause-err c = lacks_if c.args.name.now (rows_in c.args.inner.now) (asked.Show c.notation_of-notation.result c.model_of-in-show.result) (c.in-show.is, c.notation_of-notation.ensures, c.model_of-in-show.ensures) c.formats_task-in-show.result c.formats_task-in-show.ensures.err
-
-pub returns-in-fits-clause-ok : goal.returns-in-fits-clause-ok
-returns-in-fits-clause-ok c = asks_if c.args.name.now (rows_in c.args.inner.now) (asked.Fits c.notation_of-notation.result c.model_of-in-fits.result) (c.in-fits.is, c.notation_of-notation.ensures, c.model_of-in-fits.ensures) c.formats_task-in-fits.result c.formats_task-in-fits.ensures.ok
-
-pub returns-in-fits-clause-err : goal.returns-in-fits-clause-err
-returns-in-fits-clause-err c = lacks_if c.args.name.now (rows_in c.args.inner.now) (asked.Fits c.notation_of-notation.result c.model_of-in-fits.result) (c.in-fits.is, c.notation_of-notation.ensures, c.model_of-in-fits.ensures) c.formats_task-in-fits.result c.formats_task-in-fits.ensures.err
-
-pub returns-in-same-clause-ok : goal.returns-in-same-clause-ok
-returns-in-same-clause-ok c = asks_if c.args.name.now (rows_in c.args.inner.now) (asked.Same c.notation_of-notation.result c.models_of.result) (c.in-same.is, c.notation_of-notation.ensures, c.models_of.ensures) c.formats_task-in-same.result c.formats_task-in-same.ensures.ok
-
-pub returns-in-same-clause-err : goal.returns-in-same-clause-err
-returns-in-same-clause-err c = lacks_if c.args.name.now (rows_in c.args.inner.now) (asked.Same c.notation_of-notation.result c.models_of.result) (c.in-same.is, c.notation_of-notation.ensures, c.models_of.ensures) c.formats_task-in-same.result c.formats_task-in-same.ensures.err
+pub returns-in-Some : goal.returns-in-Some
+returns-in-Some c = record {
+  ok = asks_if c.args.name.now (rows_in c.args.inner.now) _ c.in-Some.ensures _ c.formats_task.ensures.ok;
+  err = lacks_if c.args.name.now (rows_in c.args.inner.now) _ c.in-Some.ensures _ c.formats_task.ensures.err;
+}
 
 pub returns-in-Ok : goal.returns-in-Ok
 returns-in-Ok c = record {
-  ok = λ words names. (_, rows_in c.args.inner.now, names, (c.in-format.is, c.notation_of-notation.ensures, c.model_of-in-Ok.ensures, value c.args.inner.now _ _ (ap (λ t. Some t) c.as_bytes.ensures.value ∙ c.value_of.ensures), values c.args.inner.now _ _ c.in-Ok.ensures));
+  ok = λ words names. (_, rows_in c.args.inner.now, names, (c.in-format.is, c.notation_of.ensures, c.model_of.ensures, value c.args.inner.now _ _ (ap (λ t. Some t) c.as_bytes.ensures.value ∙ c.value_of.ensures), values c.args.inner.now _ _ c.in-Ok.ensures));
   err = tt;
 }
 
