@@ -5,7 +5,9 @@ use Rattle.std.proofs.lemmas.List.{append-nil, append_assoc, length-append, leng
 use Rattle.pf_values.specs.declared.models.Model.{Model}
 use Rattle.pf_values.specs.declared.refusals.RefusalKind.{RefusalKind}
 use Rattle.pf_values.specs.meaning.Items.{Item, Byte, Directive, Reads}
+use Rattle.pf_values.specs.meaning.Normal.{IsNormal}
 use Rattle.pf_values.specs.meaning.Specification.{Specification}
+use Rattle.pf_values.specs.meaning.Spelling.{spelling_of}
 use Rattle.pf_values.specs.meaning.Refusals.{IsRefusedAt}
 use Rattle.pf_values.specs.meaning.Text.{Text}
 use Rattle.pf_text.specs.declared.refusal.Refusal.{Refusal}
@@ -24,7 +26,8 @@ use Rattle.pf_canon.specs.Output.{output_text}
 use Rattle.pf_canon.specs.Transducer.{GrowsByChunk, HasScannedDirective, HasScannedByte, IsThrough, TakesVerbatim, TakesText, RefusesChunk, Settles, SettlesTo, SettlesWhole, SettlesDirective, chunk_output_text, byte_output_text, more_of, step_output_text}
 use Rattle.pf_text.specs.Plain.{PassesPlain, PassesSilents, silents}
 use Rattle.pf_canon.proofs.TextLemmas.{most_len-append, not_truncated}
-use Rattle.pf_canon.proofs.MakingLemmas.{made_more, made_settled, made_silents}
+use Rattle.pf_text.proofs.SpellingLemmas.{length-spelled}
+use Rattle.pf_canon.proofs.MakingLemmas.{made_more, made_normal, made_settled, made_silents}
 use Rattle.pf_canon.proofs.TransducerLemmas.{directive_grown, grown, passed, passed_plain, through_few}
 
 pub through_settles : (model : Model) (r : Transducer) (t out : Text) (items : List Item) → IsThrough model r t items out → SettlesTo model t out
@@ -99,17 +102,17 @@ directive_made model r new t out text items verbatim_len at len d output some wi
     (rw (f.model_is ∙ f.through.model_is, w) at settles o more []) (omega (arith, one, w)) (rw w at short) in
     record { items = more; through = subst (IsThrough model new (t ++ take (at + len) text) more) (append_assoc out (take verbatim_len text) (output_text output)) (subst (λ u. IsThrough model new u more (o ++ output_text output)) whole g) }
 
--- and a directive that is its own canonical text is verbatim
-pub directive_kept : (model : Model) (old r new : Transducer) (t out text : Text) (items : List Item) (len : ℕ) (d : Specification) (output : Output) → 0 < len → len ≤ length text → IsThrough model old t items out
-    → r.model ≡ old.model → r.waiting ≡ old.waiting → scanned.TakesDirective t items text len r.scanner d → new.model ≡ r.model → new.scanner ≡ r.scanner
-    → ((out : Text) (items rest : List Item) → SettlesDirective r.model d items rest out r.waiting output new.waiting) → new.waiting ≤ r.waiting + 1 → length (output_text output) + 4 * new.waiting ≤ 4 * r.waiting + most_len (Directive d ∷ [])
-    → output_text output ≡ take len text → TakesVerbatim model t out text len new
-directive_kept model old r new t out text items len d output some within h same waiting takes same_new scanner settles one short is =
+-- and a normal directive that is spelled as it should be is verbatim
+pub normal_kept : (model : Model) (old new : Transducer) (t out text : Text) (items : List Item) (len : ℕ) (d : Specification) → 0 < len → len ≤ length text → IsThrough model old t items out → new.model ≡ old.model → new.waiting ≡ old.waiting → old.waiting ≡ 0
+    → scanned.TakesDirective t items text len new.scanner d → IsNormal model d → spelling_of d ≡ take len text → TakesVerbatim model t out text len new
+normal_kept model old new t out text items len d some within h same waiting none takes normal is =
     let more = items ++ Directive d ∷ [] in
     let bytes = take len text in
     let long : 1 ≤ length bytes = omega (arith, some, within, length-take len text) in
-    let g = directive_grown model old new t bytes out (output_text output) items d h (same_new ∙ same) (rw scanner takes.after) long
-    (rw (same ∙ h.model_is, waiting) at settles out more []) (omega (arith, one, waiting)) (rw waiting at short) in
+    let short = length-spelled d normal.defined in
+    let settles : old.waiting < 2 ^ 63 → IsMaking model out old.waiting more (Directive d ∷ []) → IsMaking model (out ++ spelling_of d) new.waiting more [] =
+    λ room made. subst (λ w. IsMaking model (out ++ spelling_of d) w more []) (sym (waiting ∙ none)) (made_normal model out 0 d more [] normal (subst (λ w. IsMaking model out w more (Directive d ∷ [])) none made)) in
+    let g = directive_grown model old new t bytes out (spelling_of d) items d h same takes.after long settles (omega (arith, waiting)) (omega (arith, waiting, short)) in
     record { items = more; through = subst (λ o. IsThrough model new (t ++ bytes) more (out ++ o)) is g }
 
 most_silents : (count : ℕ) → most_len (silents count) ≡ 4120 * count

@@ -1,5 +1,5 @@
 //! What one item settles, to be put into a sink at once, or to be given byte by byte.
-ghost use Rattle.std.specs.Prelude.{◌≡◌, ◌*◌, ◌<◌, ℕ, drop, flat_map, length, replicate, ◌+◌, [], ◌^◌, IsTrue};
+ghost use Rattle.std.specs.Prelude.{◌≡◌, ◌*◌, ◌<◌, ℕ, drop, flat_map, length, replicate, ◌+◌, [], ◌^◌};
 ghost use Rattle.pf_values.specs.meaning.Canonical.{item_spelling};
 ghost use Rattle.pf_text.specs.Plain.{silents};
 ghost use Rattle.pf_canon.specs.declared.limits.TheConstants.{PADDING};
@@ -45,18 +45,6 @@ impl Output {
         put_silents(sink, self.silents);
         sink.put(&self.spelling);
         put_repeated(sink, &SPACES, self.trail);
-    }
-
-    /// Whether these bytes are known to be this text: its spelling, and nothing else.
-    #[inline(always)]
-    pub(crate) fn is_spelled(&self, text: &[u8]) -> bool
-        ensures { IsTrue result → output_text self.now ≡ text.now }
-    {
-        self.spaces == 0
-            && self.zeros == 0
-            && self.silents == 0
-            && self.trail == 0
-            && self.spelling.as_slice() == text
     }
 
     /// The first bytes from a place on, some if there are any.
