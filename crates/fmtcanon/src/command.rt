@@ -127,8 +127,9 @@ fn subcommand<'a>(alloc: Global, row: &Row<'a>) -> Result<Command<'a>, AllocErro
         Arguments::Nothing => on_nothing(alloc, row),
         Arguments::Records => on_records(alloc, row),
         Arguments::WholeRecords => taking_whole(alloc, on_records(alloc, row)?),
-        Arguments::Pairs => on_records(alloc, row)?
-            .arg(Arg::new(alloc, "G").help("Another printf format")),
+        Arguments::Pairs => on_records(alloc, row)?.arg(Arg::new(alloc, "G").help(
+            "Another printf format",
+        )),
         Arguments::Format => taking_arguments(alloc, on_format(alloc, row)?),
     }
 }
