@@ -2,16 +2,13 @@
 ghost use Rattle.std.specs.Prelude.{◌≡◌, ◌*◌, ◌<◌, ℕ, drop, flat_map, length, replicate, ◌+◌, [], ◌^◌};
 ghost use Rattle.pf_values.specs.meaning.Canonical.{item_spelling};
 ghost use Rattle.pf_text.specs.Plain.{silents};
-ghost use Rattle.pf_canon.specs.declared.limits.TheConstants.{PADDING};
+ghost use Rattle.pf_values.specs.declared.padding.TheConstants.{MAX_RUN};
 ghost use Rattle.pf_canon.specs.Output.{IsFrontOf, text_after_zeros, output_text, silent_bytes, Pops, pending_text, pending_silents_text, pending_spelling_text};
 
-use crate::limits::PADDING;
 use crate::sink::{Sink, put_repeated, put_silents};
 use pf_text::Spelling;
-
-static SPACES: [u8; PADDING] = [b' '; PADDING];
-
-static ZEROS: [u8; PADDING] = [b'0'; PADDING];
+use pf_values::padding;
+use pf_values::padding::MAX_RUN;
 
 /// What a step of the scanner settles.
 #[derive(Drop)]
@@ -40,11 +37,11 @@ impl Output {
     pub(crate) fn put<S: Sink>(&self, sink: &mut S)
         ensures { S.given sink.old sink.new (output_text self.now) }
     {
-        put_repeated(sink, &SPACES, self.spaces);
-        put_repeated(sink, &ZEROS, self.zeros);
+        put_repeated(sink, padding::spaces(MAX_RUN), self.spaces);
+        put_repeated(sink, padding::zeros(MAX_RUN), self.zeros);
         put_silents(sink, self.silents);
         sink.put(&self.spelling);
-        put_repeated(sink, &SPACES, self.trail);
+        put_repeated(sink, padding::spaces(MAX_RUN), self.trail);
     }
 
     /// The first bytes from a place on, some if there are any.
@@ -53,12 +50,12 @@ impl Output {
     {
         let spaces = u128::from(self.spaces);
         if at < spaces {
-            return repeated(&SPACES, spaces - at);
+            return repeated(padding::spaces(MAX_RUN), spaces - at);
         }
         let behind = at - spaces;
         let zeros = u128::from(self.zeros);
         if behind < zeros {
-            return repeated(&ZEROS, zeros - behind);
+            return repeated(padding::zeros(MAX_RUN), zeros - behind);
         }
         self.front_after_zeros(behind - zeros)
     }
@@ -78,7 +75,7 @@ impl Output {
             return &spelling[behind as usize..];
         }
         repeated(
-            &SPACES,
+            padding::spaces(MAX_RUN),
             u128::from(self.trail).saturating_sub(behind - spelled),
         )
     }
@@ -100,11 +97,11 @@ impl Output {
 
 // The first of so many bytes that are all the same, a block of them at most.
 fn repeated(block: &[u8], count: u128) -> &[u8]
-    requires { length block.now ≡ PADDING }
-    ensures { (byte : ℕ) → block.now ≡ replicate PADDING byte
+    requires { length block.now ≡ MAX_RUN }
+    ensures { (byte : ℕ) → block.now ≡ replicate MAX_RUN byte
         → IsFrontOf (replicate count byte) result.now }
 {
-    if count < PADDING as u128 {
+    if count < MAX_RUN as u128 {
         return &block[..count as usize];
     }
     block

@@ -3,7 +3,7 @@ ghost use Rattle.std.specs.Prelude.{◌≡◌, ℕ, flat_map, length, replicate,
 ghost use Rattle.pf_values.specs.meaning.Canonical.{item_spelling};
 ghost use Rattle.pf_values.specs.meaning.Text.{Text};
 ghost use Rattle.pf_text.specs.Plain.{silents};
-ghost use Rattle.pf_canon.specs.declared.limits.TheConstants.{PADDING};
+ghost use Rattle.pf_values.specs.declared.padding.TheConstants.{MAX_RUN};
 ghost use Rattle.pf_canon.specs.Sink.{IsSink, IsBuilt, IsStripped, IsFrontStripped, IsLeft};
 ghost use Rattle.pf_canon.specs.SinkLaws.{builds, strips};
 
@@ -31,8 +31,8 @@ pub(crate) trait Sink {
 /// Puts one byte so many times; this is a block of it.
 #[inline(always)]
 pub(crate) fn put_repeated<S: Sink>(sink: &mut S, block: &[u8], times: u16)
-    requires { length block.now ≡ PADDING }
-    ensures { (byte : ℕ) → block.now ≡ replicate PADDING byte
+    requires { length block.now ≡ MAX_RUN }
+    ensures { (byte : ℕ) → block.now ≡ replicate MAX_RUN byte
         → S.given sink.old sink.new (replicate times byte) }
 {
     if times == 0 {

@@ -1,21 +1,13 @@
-//! Fields: texts with spaces up to a width; runs of spaces and zeros.
-ghost use Rattle.std.specs.Prelude.{◌≡◌, ◌+◌, ◌++◌, ◌<◌, ◌^◌, length, ◌≤◌, replicate};
+//! Fields: texts with spaces up to a width.
+ghost use Rattle.std.specs.Prelude.{◌≡◌, ◌+◌, ◌++◌, ◌<◌, ◌^◌, length};
 ghost use Rattle.pf_render.specs.Counts.{WritesCounted};
 ghost use Rattle.pf_render.specs.Parts.{join};
 ghost use Rattle.pf_values.specs.meaning.Printing.{field, padding};
 ghost use Rattle.pf_values.specs.meaning.Specification.{width_of};
-ghost use Rattle.pf_values.specs.meaning.Text.{space, zero_digit};
 
-use pf_values::limits::MAX_NUMBER;
+use pf_values::padding::spaces;
 use pf_values::{Counted, Directive, Flag, ShortWrite, write_bytes};
 use std::io::Write;
-
-// The longest run that a width or a precision asks for.
-const LONGEST: usize = MAX_NUMBER as usize;
-
-static SPACES: [u8; LONGEST] = [b' '; LONGEST];
-
-static ZEROS: [u8; LONGEST] = [b'0'; LONGEST];
 
 /// Writes a text of three parts in the field of the directive (C11 7.21.6.1, paragraph 4), and
 /// returns how many bytes that were.
@@ -147,20 +139,4 @@ fn write_parts<W: Write>(parts: &[&[u8]], writer: &mut Counted<W>) -> Result<usi
         written += part.len();
     }
     Ok(written)
-}
-
-/// A run of so many spaces.
-pub(crate) fn spaces<'a>(count: usize) -> &'a [u8]
-    requires { count ≤ LONGEST }
-    ensures { result.now ≡ replicate count space }
-{
-    &SPACES[..count]
-}
-
-/// A run of so many digits 0.
-pub(crate) fn zeros(count: usize) -> &'static [u8]
-    requires { count ≤ LONGEST }
-    ensures { result.now ≡ replicate count zero_digit }
-{
-    &ZEROS[..count]
 }

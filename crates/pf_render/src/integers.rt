@@ -10,10 +10,9 @@ ghost use Rattle.pf_render.specs.Counts.{WritesCounted};
 ghost use Rattle.pf_render.specs.Zeros.{fewest_digits, zeros_for};
 
 use crate::digits::{MAX_DIGITS, write_digits_of};
-use crate::fields;
 use crate::fields::write_field;
 use crate::values::Value;
-use pf_values::{Alternative, Base, Counted, Directive, Flag, Kind, Model, ShortWrite};
+use pf_values::{Alternative, Base, Counted, Directive, Flag, Kind, Model, ShortWrite, padding};
 use std::io::Write;
 
 /// Writes what the directive prints of a number (C11 7.21.6.1, paragraphs 4 to 8).
@@ -32,7 +31,7 @@ pub(crate) fn write_integer<W: Write>(
     let start = write_digits_of(value.size(), directive.conv().kind(), &mut buf);
     let (_, digits) = buf.split_at(start);
     let sign = sign_or_prefix(directive, &value);
-    let zeros = fields::zeros(zero_count(directive, sign.len(), digits.len()));
+    let zeros = padding::zeros(zero_count(directive, sign.len(), digits.len()));
     write_field(directive, sign, zeros, digits, writer)
 }
 

@@ -15,6 +15,7 @@ pub mod laws;
 mod lengths;
 pub mod limits;
 mod models;
+pub mod padding;
 mod refusals;
 #[cfg(test)]
 mod tests;
