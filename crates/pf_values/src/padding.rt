@@ -11,9 +11,10 @@ static SPACES: [u8; MAX_RUN] = [b' '; MAX_RUN];
 
 static ZEROS: [u8; MAX_RUN] = [b'0'; MAX_RUN];
 
-/// So many spaces (C11 7.21.6.1, paragraph 4). They are constant data, so nothing is filled.
+/// So many spaces (C11 7.21.6.1, paragraph 4). They are constant data, for as long as the caller
+/// likes.
 #[inline(always)]
-pub fn spaces(count: usize) -> &'static [u8]
+pub fn spaces<'a>(count: usize) -> &'a [u8]
     requires { count ≤ MAX_RUN }
     ensures { result.now ≡ replicate count space }
 {
@@ -22,7 +23,7 @@ pub fn spaces(count: usize) -> &'static [u8]
 
 /// So many digits `0` (C11 7.21.6.1, paragraphs 6 and 8).
 #[inline(always)]
-pub fn zeros(count: usize) -> &'static [u8]
+pub fn zeros<'a>(count: usize) -> &'a [u8]
     requires { count ≤ MAX_RUN }
     ensures { result.now ≡ replicate count zero_digit }
 {
