@@ -1,4 +1,4 @@
-use Rattle.std.proofs.Common.{◌≡◌, ◌-◌, ◌++◌, refl, sym, replicate, ◌∙◌}
+use Rattle.std.proofs.Common.{◌≡◌, ◌-◌, ◌++◌, sym, replicate, ◌∙◌}
 use Rattle.std.proofs.lemmas.List.{drop-replicate, length-replicate}
 use Rattle.pf_values.specs.meaning.Text.{space, zero_digit}
 use Rattle.pf_canon.specs.Output.{text_after_zeros}
@@ -11,7 +11,7 @@ returns-then-at-spaces c =
     let n = c.from-spaces.result in
     let same : n ≡ p.spaces = c.from-spaces.ensures in
     front_of_first (replicate p.spaces space) (replicate p.zeros zero_digit ++ text_after_zeros p) _ n c.args.at (length-replicate p.spaces space ∙ sym same) c.if-at-spaces.true
-    (rw (drop-replicate c.args.at p.spaces space, ← same) (c.repeated.ensures space refl))
+    (rw (drop-replicate c.args.at p.spaces space, ← same) (c.repeated.ensures space c.spaces.ensures))
 
 pub returns-then-behind-zeros : goal.returns-then-behind-zeros
 returns-then-behind-zeros c =
@@ -22,7 +22,7 @@ returns-then-behind-zeros c =
     let zeros : m ≡ p.zeros = c.from-zeros.ensures in
     front_of_second (replicate p.spaces space) (replicate p.zeros zero_digit ++ text_after_zeros p) _ n c.args.at (length-replicate p.spaces space ∙ sym same) c.if-at-spaces.false
     (front_of_first (replicate p.zeros zero_digit) (text_after_zeros p) _ m (c.args.at - n) (length-replicate p.zeros zero_digit ∙ sym zeros) c.if-behind-zeros.true
-    (rw (drop-replicate (c.args.at - n) p.zeros zero_digit, ← zeros) (c.repeated-then-behind-zeros.ensures zero_digit refl)))
+    (rw (drop-replicate (c.args.at - n) p.zeros zero_digit, ← zeros) (c.repeated-then-behind-zeros.ensures zero_digit c.zeros.ensures)))
 
 pub returns : goal.returns
 returns c =

@@ -1,4 +1,4 @@
-use Rattle.std.proofs.Common.{◌≡◌, ◌<◌, ◌-◌, ◌*◌, ◌++◌, arith, ap, refl, sym, replicate, drop, length, subst}
+use Rattle.std.proofs.Common.{◌≡◌, ◌<◌, ◌-◌, ◌*◌, ◌++◌, arith, ap, sym, replicate, drop, length, subst}
 use Rattle.std.specs.Prelude.{flat_map}
 use Rattle.std.proofs.lemmas.List.{drop-replicate, take_rest}
 use Rattle.pf_values.specs.meaning.Canonical.{item_spelling}
@@ -35,4 +35,4 @@ returns c =
     let left : c.saturating_sub.result ≡ p.trail - (at - m) = omega (arith, c.saturating_sub.ensures, c.from.ensures) in
     front_of_second (flat_map item_spelling (silents p.silents)) (p.spelling.items ++ replicate p.trail space) _ n c.args.at (omega (arith, length-silents p.silents, c.from-silents.ensures)) c.if-at-silents.false
     (front_of_second p.spelling.items (replicate p.trail space) _ m at (ap length (sym spelled)) c.if-behind-spelled.false
-    (rw drop-replicate (subst (λ n. IsFrontOf (replicate n space) c.repeated.result.now) left (c.repeated.ensures space refl))))
+    (rw drop-replicate (subst (λ n. IsFrontOf (replicate n space) c.repeated.result.now) left (c.repeated.ensures space c.spaces.ensures))))
