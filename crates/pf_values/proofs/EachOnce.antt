@@ -22,7 +22,7 @@ use Rattle.pf_values.specs.declared.refusals.RefusalKind.TheVariants as refusals
 use Rattle.pf_values.specs.declared.refusals.TheConstants.RefusalKind.{ALL as all_refusals}
 use Rattle.pf_values.specs.Laws.{HasEachOnce, OccursOnce}
 
--- A value stands where its place says, and none of the others has that place.
+-- A value is where its place says, and none of the others has that place.
 module _ {A : Type 0} (place : A → ℕ) where
   same_place : IsEquivalence (λ (v w : A). nat_eq (place v) (place w))
   same_place =

@@ -152,8 +152,8 @@ fn the_first_wrong_type(rt: HostRuntime) -> Result<(), Fail> {
     Ok(())
 }
 
-// Whether an argument is taken and printed so, or is told to be of another type.
-fn is_told(
+// Whether an argument is taken and printed so, or is refused as one of another type.
+fn is_answered(
     alloc: Global,
     format: &[u8],
     arg: Arg<'_>,
@@ -168,7 +168,7 @@ fn is_told(
     }
 }
 
-// The first of the directives that isn't told to take its own type alone, among arguments of each.
+// The first of the directives that doesn't take its own type alone, among arguments of each.
 fn first_mistaken(
     alloc: Global,
     formats: &[&'static str],
@@ -177,7 +177,7 @@ fn first_mistaken(
     for (i, format) in formats.iter().enumerate() {
         for (k, arg) in args.iter().enumerate() {
             let own: &[u8] = if k == 6 { b"x" } else { b"120" };
-            if !is_told(alloc, format.as_bytes(), *arg, (i == k).then_some(own))? {
+            if !is_answered(alloc, format.as_bytes(), *arg, (i == k).then_some(own))? {
                 return Ok(Some((*format, k)));
             }
         }
@@ -208,13 +208,13 @@ fn texts_of_faults(rt: HostRuntime) -> Result<(), Fail> {
         kind: RefusalKind::Unexpected,
         at: 3,
     };
-    let told = format!(in rt.alloc();
+    let texts = format!(in rt.alloc();
         "{}, {}",
         RenderFault::Refused(refusal),
         RenderVecFault::Refused(refusal)
     )?;
-    assert!(rt; told.as_str() == "refused (Unexpected) at byte 3, refused (Unexpected) at byte 3");
-    let told = format!(in rt.alloc(); "{}, {}", RenderFault::Write(7), RenderVecFault::Memory)?;
-    assert!(rt; told.as_str() == "write failed after 7 bytes, out of memory");
+    assert!(rt; texts.as_str() == "refused (Unexpected) at byte 3, refused (Unexpected) at byte 3");
+    let texts = format!(in rt.alloc(); "{}, {}", RenderFault::Write(7), RenderVecFault::Memory)?;
+    assert!(rt; texts.as_str() == "write failed after 7 bytes, out of memory");
     Ok(())
 }

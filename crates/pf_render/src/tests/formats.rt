@@ -1,6 +1,6 @@
 //! What formats print: rows that are written into each room here, and that the built program prints.
 //! A row is a format, the words of its arguments and what it prints, with `¦` between them, and `¶`
-//! stands between two rows.
+//! comes between two rows.
 
 /// Worked rows.
 pub(super) static WORKED: &str = "\

@@ -80,8 +80,8 @@ fn wanted_end(text: &[u8], room: usize) -> (Ended, u64) {
     }
 }
 
-// Whether a writer that fails where it is full has taken the front of the text, and the call has
-// told so. Each flush of it fails, too: the call makes none, and the one after it is counted and
+// Whether a writer that fails where it is full has taken the front of the text, and the call says
+// how much. Each flush of it fails, too: the call makes none, and the one after it is counted and
 // takes nothing away.
 fn takes_front(job: &Job<'_>, text: &[u8], place: &mut [u8], step: usize, kind: ErrorKind) -> bool {
     let room = place.len();

@@ -101,12 +101,12 @@ fn a_whole_text(rt: HostRuntime) {
 }
 
 #[test]
-fn a_refusal_is_told(rt: HostRuntime) -> Result<(), std::alloc::AllocError> {
+fn text_of_a_refusal(rt: HostRuntime) -> Result<(), std::alloc::AllocError> {
     let refusal = Refusal {
         kind: RefusalKind::Unexpected,
         at: 3,
     };
-    let told = format!(in rt.alloc(); "{refusal}")?;
-    assert!(rt; told.as_str() == "refused (Unexpected) at byte 3");
+    let text = format!(in rt.alloc(); "{refusal}")?;
+    assert!(rt; text.as_str() == "refused (Unexpected) at byte 3");
     Ok(())
 }

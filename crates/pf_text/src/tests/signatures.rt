@@ -72,7 +72,7 @@ fn a_refused_text(rt: HostRuntime) -> Result<(), AllocError> {
         panic!(rt; "the text is not refused");
     };
     assert!(rt; fault == TextFault::Refused(refusal));
-    let told = format!(in rt.alloc(); "{fault}, {}", TextFault::Memory)?;
-    assert!(rt; told.as_str() == "refused (Unexpected) at byte 3, out of memory");
+    let texts = format!(in rt.alloc(); "{fault}, {}", TextFault::Memory)?;
+    assert!(rt; texts.as_str() == "refused (Unexpected) at byte 3, out of memory");
     Ok(())
 }

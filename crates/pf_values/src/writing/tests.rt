@@ -3,8 +3,8 @@ use super::*;
 use crate::devices::Cut;
 use std::io::ErrorKind;
 
-// What is answered, and how many calls fail, where so many of seven bytes fit.
-fn told(room: usize) -> (Result<(), ShortWrite>, u64) {
+// The answer, and how many calls fail, where so many of seven bytes fit.
+fn expected(room: usize) -> (Result<(), ShortWrite>, u64) {
     if room == 7 {
         (Ok(()), 0)
     } else {
@@ -28,7 +28,7 @@ fn what_fits_goes_out(rt: HostRuntime) {
                 let answer = write_bytes(&mut writer, text);
                 assert_eq!(rt;
                     (answer, writer.failures()),
-                    told(room),
+                    expected(room),
                     "{kind:?} {step} {room}"
                 );
                 let taken = writer.into_inner().taken() == &text[..room];
@@ -46,7 +46,7 @@ fn nothing_taken_is_a_failure(rt: HostRuntime) {
         let mut place = [0u8; 7];
         let mut writer = Counted::new(&mut place[..room]);
         let answer = write_bytes(&mut writer, text);
-        assert_eq!(rt; (answer, writer.failures()), told(room), "{room}");
+        assert_eq!(rt; (answer, writer.failures()), expected(room), "{room}");
         assert!(rt; place[..room] == text[..room], "{room}");
     }
 }
