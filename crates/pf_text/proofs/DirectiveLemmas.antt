@@ -13,13 +13,13 @@ use Rattle.pf_text.specs.declared.scanner.Scanner.{Scanner}
 use Rattle.pf_text.specs.History.{IsAfter, TakesDirective}
 use Rattle.pf_text.specs.PieceHistory.{GivesPiece, HasGiven}
 use Rattle.pf_text.proofs.LiteralLemmas.{after_read}
-use Rattle.pf_text.proofs.PlainLemmas.{specification_of_conv, conv_defined}
+use Rattle.pf_text.proofs.PlainLemmas.{bare, conv_defined}
 use Rattle.pf_text.proofs.ReadBack.{spelled_read}
 use Rattle.pf_text.proofs.Texts.{Reads-push}
 
 -- what is spelled by its conversion alone
-pub conv_read : (conv : Conv) (d : Specification) → d ≡ specification_of_conv conv → IsReadAs (percent ∷ conv_letter conv ∷ []) (Directive d)
-conv_read conv d e = subst (λ s. IsReadAs (percent ∷ conv_letter conv ∷ []) (Directive s)) (sym e) (spelled_read (specification_of_conv conv) (conv_defined conv), conv_defined conv)
+pub conv_read : (conv : Conv) (d : Specification) → d ≡ bare conv → IsReadAs (percent ∷ conv_letter conv ∷ []) (Directive d)
+conv_read conv d e = subst (λ s. IsReadAs (percent ∷ conv_letter conv ∷ []) (Directive s)) (sym e) (spelled_read (bare conv) (conv_defined conv), conv_defined conv)
 
 -- one was taken
 pub directive_taken : (scanner : Scanner) (t text : Text) (items : List Item) (len : ℕ) (d : Specification) → IsAfter scanner t items → Reads t items

@@ -1,5 +1,5 @@
 -- Items that are spelled as the canonical text spells them.
-use Rattle.std.proofs.Common.{◌≡◌, ◌≢◌, ℕ, ◌+◌, ◌-◌, ◌*◌, ◌<◌, ◌≤◌, min, true, false, Bool, List, [], ◌∷◌, ◌++◌, length, map, take, drop, Some, None, refl, sym, ap, ap₂, ◌∙◌, subst, arith, inl, inr, get_or}
+use Rattle.std.proofs.Common.{◌≡◌, ◌≢◌, ℕ, zero, suc, ◌+◌, ◌-◌, ◌*◌, ◌<◌, ◌≤◌, min, true, false, Bool, List, [], ◌∷◌, ◌++◌, length, map, take, drop, Some, None, refl, sym, ap, ap₂, ◌∙◌, subst, arith, inl, inr, get_or}
 use Rattle.std.specs.Prelude.{flat_map, is_some, MatchBool, Option, ◌==◌, ◌⊎◌, if◌then◌else◌}
 use Rattle.std.specs.Fmt.{digits}
 use Rattle.std.specs.List.{AllByRecursion}
@@ -8,25 +8,30 @@ use Rattle.std.proofs.Math.Seq.{take-add}
 use Rattle.std.proofs.lemmas.Bool.{cases_lt}
 use Rattle.std.proofs.lemmas.Bool.Decides.{nat_tests}
 use Rattle.std.proofs.lemmas.Grind.{flat_map-append}
-use Rattle.std.proofs.lemmas.List.{append_assoc, drop-take, length-drop, length-take, get_or-drop, get_or-take, length-append, length-take-le, replicate-append-replicate, take-append-drop, take-append-le}
+use Rattle.std.proofs.lemmas.List.{append_assoc, append-nil, drop-take, length-drop, length-take, get_or-drop, get_or-take, length-append, length-take-le, replicate-append-replicate, take-append-drop, take-append-le}
 use Rattle.pf_values.specs.declared.models.Model.{Model}
 use Rattle.memchr.specs.Find.{is_byte2}
 use Rattle.pf_values.specs.declared.conversions.Conv.{Conv}
-use Rattle.pf_values.specs.declared.conversions.Conv.TheVariants.{D, I, C, S}
+use Rattle.pf_values.specs.declared.conversions.Conv.TheVariants.{D, I, U, O, X, UpperX, B, C, S}
+use Rattle.pf_values.specs.declared.lengths.Length.{Length}
 use Rattle.pf_values.specs.declared.lengths.Length.TheVariants as lengths
 use Rattle.pf_values.specs.declared.limits.TheConstants.{MAX_TEXT_LEN}
 use Rattle.pf_values.specs.meaning.Canonical.{item_spelling}
 use Rattle.pf_values.specs.meaning.Conversions.{conv_letter, kept_conv, kind_of}
+use Rattle.pf_values.specs.meaning.Bits.{by_bits}
+use Rattle.pf_values.specs.meaning.DataModel.{Bits, B8, B16, B32, B64, bits_under, kept_length}
 use Rattle.pf_values.specs.meaning.Defined.{IsDefined, refused_as}
-use Rattle.pf_values.specs.meaning.Flags.{no_flags}
+use Rattle.pf_values.specs.declared.flags.Flag.TheVariants.{Alt}
+use Rattle.pf_values.specs.meaning.Flags.{no_flags, with_flag}
+use Rattle.pf_values.specs.meaning.Lengths.{length_letters}
 use Rattle.pf_values.specs.meaning.Items.{Item, Byte, Directive, IsReadAs, Reads}
-use Rattle.pf_values.specs.meaning.Normal.{HasNormalForm, IsNormal, IsNormalPlain, IsNormalSigned, IsNormalString, digits_at_most, silent}
+use Rattle.pf_values.specs.meaning.Normal.{HasNormalForm, IsNormal, IsNormalPlain, IsNormalPrefixed, IsNormalSigned, IsNormalString, digits_at_most, silent}
 use Rattle.pf_values.specs.meaning.Specification.{Specification}
 use Rattle.pf_values.specs.meaning.Spelling.{spelling_of}
 use Rattle.pf_values.specs.meaning.Text.{Text, percent}
 use Rattle.pf_text.specs.History.{EndsRun, IsAfter, IsLiteral}
 use Rattle.pf_text.specs.Letters.{conv_of}
-use Rattle.pf_text.specs.Plain.{IsPlain, IsPlainText, BeginsSilent, PassesPlain, silents}
+use Rattle.pf_text.specs.Plain.{IsPlain, IsPlainText, BeginsSilent, PassesPlain, alternative_bytes, has_plain_parts, is_kept_modifier, is_kept_number, silents}
 use Rattle.pf_text.specs.declared.scanner.Scanner.{Scanner}
 use Rattle.pf_text.proofs.LiteralLemmas.{after_read, or_full, stops}
 use Rattle.pf_text.proofs.ReadBack.{spelled_read}
@@ -48,19 +53,17 @@ literals_some model (byte ∷ bytes) h = (h.0.1, literals_some model bytes h.1)
 pub literals_plain : (model : Model) (bytes : Text) → AllByRecursion IsLiteral bytes → IsPlainText model bytes (map Byte bytes)
 literals_plain model bytes h = record { plain = literals_some model bytes h; whole = sym (literal_written bytes h) }
 
--- a directive of two bytes
-abbrev pub specification_of_conv : Conv → Specification
-specification_of_conv conv = record { flags = no_flags; width = None; precision = None; length = lengths.None; conv = conv }
+-- a directive of `#` or nothing, a modifier and a conversion
+abbrev pub parts : Bool → Length → Conv → Specification
+parts alternative modifier conv =
+    record { flags = if alternative then with_flag no_flags Alt else no_flags; width = None; precision = None; length = modifier; conv = conv }
 
-conv_allowed : (conv : Conv) → refused_as (specification_of_conv conv) ≡ None
-conv_allowed D = refl
-conv_allowed _ = refl
+-- that of a conversion alone
+abbrev pub bare : Conv → Specification
+bare conv = parts false lengths.None conv
 
-pub conv_defined : (conv : Conv) → IsDefined (specification_of_conv conv)
-conv_defined conv = record { width = λ e. cc; allowed = conv_allowed conv }
-
-signed_normal : (model : Model) → IsNormalSigned model (specification_of_conv D)
-signed_normal model = record {
+signed_normal : (model : Model) (modifier : Length) → IsNormalSigned model (parts false modifier D)
+signed_normal model modifier = record {
   one_sign = λ e. absurd (cc);
   least = λ some. omega (arith, some);
   most = omega arith;
@@ -69,50 +72,142 @@ signed_normal model = record {
   left = λ e. absurd (cc);
 }
 
-plain_normal : (model : Model) (conv : Conv) → 1 ≤ digits_at_most model (specification_of_conv conv) → IsNormalPlain model (specification_of_conv conv)
-plain_normal model conv some = record { not_filled = refl; precision = some; least = λ some. omega (arith, some); most = omega arith; left = λ e. absurd (cc) }
+plain_normal : (model : Model) (modifier : Length) (conv : Conv) → 1 ≤ digits_at_most model (parts false modifier conv) → IsNormalPlain model (parts false modifier conv)
+plain_normal model modifier conv some = record { not_filled = refl; precision = some; least = λ some. omega (arith, some); most = omega arith; left = λ e. absurd (cc) }
 
-string_normal : IsNormalString (specification_of_conv S)
+prefixed_normal : (model : Model) (modifier : Length) (conv : Conv) → IsNormalPrefixed model (parts true modifier conv)
+prefixed_normal model modifier conv = record { least = λ some. omega (arith, some); most = omega arith; left = λ e. absurd (cc) }
+
+string_normal : IsNormalString (bare S)
 string_normal = record { shows_some = λ e. cc; width = tt; left = λ e. absurd (cc) }
 
-conv_form : (model : Model) (conv : Conv) → conv ≢ I → HasNormalForm model (kind_of conv) (specification_of_conv conv)
-conv_form model D other = signed_normal model
+-- where it is defined, has the modifier and the conversion that are kept, and a normal form
+parts_normal : (model : Model) (alternative : Bool) (modifier : Length) (conv : Conv) → refused_as (parts alternative modifier conv) ≡ None → kept_length model modifier ≡ modifier → kept_conv conv ≡ conv → HasNormalForm model (kind_of conv) (parts alternative modifier conv) → IsNormal model (parts alternative modifier conv)
+parts_normal model true modifier conv allowed length_kept conv_kept form =
+    record {
+      defined = record { width = λ e. cc; allowed = allowed };
+      no_group = refl;
+      length = length_kept;
+      conv = conv_kept;
+      no_plus = λ e. absurd (cc);
+      no_space = λ e. absurd (cc);
+      precision = λ e. absurd (cc);
+      form = form;
+    }
+parts_normal model false modifier conv allowed length_kept conv_kept form =
+    record {
+      defined = record { width = λ e. cc; allowed = allowed };
+      no_group = refl;
+      length = length_kept;
+      conv = conv_kept;
+      no_plus = λ e. absurd (cc);
+      no_space = λ e. absurd (cc);
+      precision = λ e. absurd (cc);
+      form = form;
+    }
+
+conv_allowed : (conv : Conv) → refused_as (bare conv) ≡ None
+conv_allowed D = refl
+conv_allowed _ = refl
+
+pub conv_defined : (conv : Conv) → IsDefined (bare conv)
+conv_defined conv = record { width = λ e. cc; allowed = conv_allowed conv }
+
+conv_form : (model : Model) (conv : Conv) → conv ≢ I → HasNormalForm model (kind_of conv) (bare conv)
+conv_form model D other = signed_normal model lengths.None
 conv_form model I other = absurd (other refl)
 conv_form model C other = (refl, refl, refl)
 conv_form model S other = string_normal
-conv_form model _ other = plain_normal model _ (omega arith)
+conv_form model _ other = plain_normal model lengths.None _ (omega arith)
 
 conv_kept : (conv : Conv) → conv ≢ I → kept_conv conv ≡ conv
 conv_kept I other = absurd (other refl)
 conv_kept _ other = refl
 
-conv_normal : (model : Model) (conv : Conv) → conv ≢ I → IsNormal model (specification_of_conv conv)
-conv_normal model conv other =
-    record {
-      defined = conv_defined conv;
-      no_group = refl;
-      length = refl;
-      conv = conv_kept conv other;
-      no_plus = λ e. absurd (cc);
-      no_space = λ e. absurd (cc);
-      precision = λ e. absurd (cc);
-      form = conv_form model conv other;
-    }
+conv_normal : (model : Model) (conv : Conv) → conv ≢ I → IsNormal model (bare conv)
+conv_normal model conv other = parts_normal model false lengths.None conv (conv_allowed conv) refl (conv_kept conv other) (conv_form model conv other)
+
+-- a number of any bits has a digit
+some_of_bits : (bits : Bits) (a b c d : ℕ) → 1 ≤ a → 1 ≤ b → 1 ≤ c → 1 ≤ d → 1 ≤ by_bits bits a b c d
+some_of_bits B8 a b c d p q r s = p
+some_of_bits B16 a b c d p q r s = q
+some_of_bits B32 a b c d p q r s = r
+some_of_bits B64 a b c d p q r s = s
+
+-- what is plain with a modifier, or with `#`, is defined and has a normal form
+module _ (model : Model) (modifier : Length) where
+  abbrev bits : Bits
+  bits = bits_under model modifier
+
+  number_form : (alternative : Bool) (conv : Conv) → is_kept_number alternative conv ≡ true → HasNormalForm model (kind_of conv) (parts alternative modifier conv)
+  number_form true X number = prefixed_normal model modifier X
+  number_form true UpperX number = prefixed_normal model modifier UpperX
+  number_form true B number = prefixed_normal model modifier B
+  number_form false D number = signed_normal model modifier
+  number_form false U number = plain_normal model modifier U (some_of_bits bits 3 5 10 20 (omega arith) (omega arith) (omega arith) (omega arith))
+  number_form false O number = plain_normal model modifier O (some_of_bits bits 3 6 11 22 (omega arith) (omega arith) (omega arith) (omega arith))
+  number_form false X number = plain_normal model modifier X (some_of_bits bits 2 4 8 16 (omega arith) (omega arith) (omega arith) (omega arith))
+  number_form false UpperX number = plain_normal model modifier UpperX (some_of_bits bits 2 4 8 16 (omega arith) (omega arith) (omega arith) (omega arith))
+  number_form false B number = plain_normal model modifier B (some_of_bits bits 8 16 32 64 (omega arith) (omega arith) (omega arith) (omega arith))
+  number_form _ _ number = absurd (cc)
+
+  number_allowed : (alternative : Bool) (conv : Conv) → is_kept_number alternative conv ≡ true → refused_as (parts alternative modifier conv) ≡ None
+  number_allowed true X number = refl
+  number_allowed true UpperX number = refl
+  number_allowed true B number = refl
+  number_allowed true _ number = absurd (cc)
+  number_allowed false I number = absurd (cc)
+  number_allowed false C number = absurd (cc)
+  number_allowed false S number = absurd (cc)
+  number_allowed false _ number = refl
+
+number_kept : (alternative : Bool) (conv : Conv) → is_kept_number alternative conv ≡ true → kept_conv conv ≡ conv
+number_kept alternative I number = absurd (cc)
+number_kept alternative _ number = refl
+
+modifier_kept : (model : Model) (modifier : Length) → is_kept_modifier modifier ≡ true → kept_length model modifier ≡ modifier
+modifier_kept model lengths.J kept = absurd (cc)
+modifier_kept model lengths.Z kept = absurd (cc)
+modifier_kept model lengths.T kept = absurd (cc)
+modifier_kept model _ kept = refl
+
+both_kept : (alternative : Bool) (modifier : Length) (conv : Conv) → has_plain_parts alternative modifier conv ≡ true → (is_kept_modifier modifier ≡ true) × (is_kept_number alternative conv ≡ true)
+both_kept alternative modifier conv plain = go (is_kept_modifier modifier) refl where
+  go : (b : Bool) → is_kept_modifier modifier ≡ b → (is_kept_modifier modifier ≡ true) × (is_kept_number alternative conv ≡ true)
+  go true e = (e, sym (ap (λ b. if b then is_kept_number alternative conv else false) e) ∙ plain)
+  go false e = let never = sym (ap (λ b. if b then is_kept_number alternative conv else false) e) ∙ plain in absurd (cc)
+
+-- so it is a plain item as it is spelled
+pub parts_plain : (model : Model) (alternative : Bool) (modifier : Length) (conv : Conv) → has_plain_parts alternative modifier conv ≡ true
+    → IsPlainText model (((percent ∷ []) ++ alternative_bytes alternative ++ length_letters modifier) ++ conv_letter conv ∷ []) (Directive (parts alternative modifier conv) ∷ [])
+parts_plain model alternative modifier conv plain = go alternative plain where
+  go : (alternative : Bool) → has_plain_parts alternative modifier conv ≡ true
+      → IsPlainText model (((percent ∷ []) ++ alternative_bytes alternative ++ length_letters modifier) ++ conv_letter conv ∷ []) (Directive (parts alternative modifier conv) ∷ [])
+  go true plain =
+      let kept = both_kept true modifier conv plain in
+      record { plain = (parts_normal model true modifier conv (number_allowed model modifier true conv kept.1) (modifier_kept model modifier kept.0) (number_kept true conv kept.1) (number_form model modifier true conv kept.1), tt); whole = sym (append-nil (spelling_of (parts true modifier conv))) }
+  go false plain =
+      let kept = both_kept false modifier conv plain in
+      record { plain = (parts_normal model false modifier conv (number_allowed model modifier false conv kept.1) (modifier_kept model modifier kept.0) (number_kept false conv kept.1) (number_form model modifier false conv kept.1), tt); whole = sym (append-nil (spelling_of (parts false modifier conv))) }
 
 pub percent_plain : (model : Model) (letter : ℕ) → letter ≡ percent → (item : Item) × IsPlainText model (percent ∷ letter ∷ []) (item ∷ [])
 percent_plain model letter e = (Byte percent, record { plain = ((λ z. cc), tt); whole = ap (λ b. percent ∷ b ∷ []) e })
 
--- two bytes that begin a text
-pub first_two : (text : Text) → 2 ≤ length text → take 2 text ≡ get_or text 0 0 ∷ get_or text 1 0 ∷ []
-first_two [] few = absurd (omega (arith, few))
-first_two (a ∷ []) few = absurd (omega (arith, few))
-first_two (a ∷ b ∷ text) few = refl
+-- the bytes that begin a text, one by one
+abbrev pub bytes_of : ℕ → (ℕ → ℕ) → Text
+bytes_of zero byte_at = []
+bytes_of (suc n) byte_at = byte_at 0 ∷ bytes_of n (λ k. byte_at (suc k))
+
+pub first_bytes : (n : ℕ) (text : Text) → n ≤ length text → take n text ≡ bytes_of n (λ k. get_or text k 0)
+first_bytes zero text few = refl
+first_bytes (suc n) [] few = absurd (omega (arith, few))
+first_bytes (suc n) (byte ∷ text) few = ap (λ t. byte ∷ t) (first_bytes n text (omega (arith, few)))
 
 pub conv_plain : (model : Model) (letter : ℕ) (o : Option Conv) → conv_of letter ≡ o → letter ≢ 105 → is_some o ≡ true → (item : Item) × IsPlainText model (percent ∷ letter ∷ []) (item ∷ [])
 conv_plain model letter None e other some = absurd (cc)
 conv_plain model letter (Some conv) e other some =
     let byte = byte_of_conv letter conv e in
-    (Directive (specification_of_conv conv), record { plain = (conv_normal model conv (λ i. other (byte ∙ ap conv_letter i)), tt); whole = ap (λ b. percent ∷ b ∷ []) byte })
+    (Directive (bare conv), record { plain = (conv_normal model conv (λ i. other (byte ∙ ap conv_letter i)), tt); whole = ap (λ b. percent ∷ b ∷ []) byte })
 
 all_append : (model : Model) (a b : List Item) → AllByRecursion (IsPlain model) a → AllByRecursion (IsPlain model) b → AllByRecursion (IsPlain model) (a ++ b)
 all_append model [] b h g = g
@@ -231,16 +326,9 @@ pub spelled_silent : spelling_of silent ≡ 37 ∷ 46 ∷ 48 ∷ 115 ∷ []
 unfolding digits
 spelled_silent = refl
 
-pub first_four : (text : Text) → 4 ≤ length text → take 4 text ≡ get_or text 0 0 ∷ get_or text 1 0 ∷ get_or text 2 0 ∷ get_or text 3 0 ∷ []
-first_four [] few = absurd (omega (arith, few))
-first_four (a ∷ []) few = absurd (omega (arith, few))
-first_four (a ∷ b ∷ []) few = absurd (omega (arith, few))
-first_four (a ∷ b ∷ c ∷ []) few = absurd (omega (arith, few))
-first_four (a ∷ b ∷ c ∷ d ∷ text) few = refl
-
 -- the bytes of a text that begins so
 pub silent_bytes : (text : Text) → BeginsSilent text
     → (get_or text 0 0 ≡ 37) × (get_or text 1 0 ≡ 46) × (get_or text 2 0 ≡ 48) × (get_or text 3 0 ≡ 115)
 silent_bytes text h =
-    let bytes = sym (first_four text h.0) ∙ h.1 ∙ spelled_silent in
+    let bytes = sym (first_bytes 4 text h.0) ∙ h.1 ∙ spelled_silent in
     (ap (λ t. get_or t 0 0) bytes, ap (λ t. get_or t 1 0) bytes, ap (λ t. get_or t 2 0) bytes, ap (λ t. get_or t 3 0) bytes)

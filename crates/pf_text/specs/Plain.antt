@@ -1,6 +1,10 @@
 -- Items that are spelled as the canonical text spells them. This project's own.
-use Rattle.std.specs.Prelude.{◌≡◌, ◌≢◌, ℕ, ◌+◌, ◌<◌, ◌≤◌, List, ◌++◌, ◌*◌, length, take, drop, replicate, flat_map}
+use Rattle.std.specs.Prelude.{◌≡◌, ◌≢◌, ℕ, Bool, true, false, not, if◌then◌else◌, ◌+◌, ◌<◌, ◌≤◌, List, [], ◌∷◌, ◌++◌, ◌*◌, length, take, drop, replicate, flat_map}
 use Rattle.std.specs.List.{AllByRecursion}
+use Rattle.pf_values.specs.declared.conversions.Conv.{Conv}
+use Rattle.pf_values.specs.declared.conversions.Conv.TheVariants.{D, U, O, X, UpperX, B}
+use Rattle.pf_values.specs.declared.lengths.Length.{Length}
+use Rattle.pf_values.specs.declared.lengths.Length.TheVariants as lengths
 use Rattle.pf_values.specs.declared.limits.TheConstants.{MAX_TEXT_LEN}
 use Rattle.pf_values.specs.declared.models.Model.{Model}
 use Rattle.pf_values.specs.meaning.Canonical.{item_spelling}
@@ -24,6 +28,33 @@ IsPlain model (Directive s) = IsNormal model s
 pub record IsPlainText (model : Model) (t : Text) (items : List Item) : Type 0 where
   pub plain : AllByRecursion (IsPlain model) items
   pub whole : t ≡ flat_map item_spelling items
+
+-- the modifiers that a normal directive keeps in each data model
+abbrev pub is_kept_modifier : Length → Bool
+is_kept_modifier lengths.J = false
+is_kept_modifier lengths.Z = false
+is_kept_modifier lengths.T = false
+is_kept_modifier _ = true
+
+-- the conversions of a number that are normal with nothing but `#`, or nothing but a modifier
+abbrev pub is_kept_number : Bool → Conv → Bool
+is_kept_number alternative X = true
+is_kept_number alternative UpperX = true
+is_kept_number alternative B = true
+is_kept_number alternative D = not alternative
+is_kept_number alternative U = not alternative
+is_kept_number alternative O = not alternative
+is_kept_number alternative _ = false
+
+-- whether a directive with `#` or without, a modifier and a conversion is such a one
+abbrev pub has_plain_parts : Bool → Length → Conv → Bool
+has_plain_parts alternative modifier conv =
+    if is_kept_modifier modifier then is_kept_number alternative conv else false
+
+-- `#`, if it is there
+abbrev pub alternative_bytes : Bool → Text
+alternative_bytes true = 35 ∷ []
+alternative_bytes false = []
 
 -- after a text that is read, plain items at the front of what follows were taken, and no literal
 -- byte follows

@@ -3,14 +3,19 @@ ghost use Rattle.std.specs.Prelude.{◌≡◌, ◌<◌, ◌≤◌, [], ◌∷◌
 ghost use Rattle.memchr.specs.Find.{Passes, is_byte2};
 ghost use Rattle.pf_values.specs.meaning.Items.{Item, Reads};
 ghost use Rattle.pf_values.specs.declared.models.Model.{Model};
-ghost use Rattle.pf_text.specs.Plain.{BeginsSilent, IsPlainText, silents};
+ghost use Rattle.pf_text.specs.Plain.{BeginsSilent, IsPlainText, alternative_bytes, has_plain_parts, is_kept_modifier, silents};
+ghost use Rattle.pf_text.specs.Places.{HasBytes};
+ghost use Rattle.pf_values.specs.meaning.Text.{percent};
 
 use crate::letters::conv_of;
 use crate::search::literal_len;
+use crate::specification::{conv_at, modifier_at};
+use pf_values::{Conv, Length};
 
 /// How many bytes of the text come before the first item that isn't plain. Plain items are literal
-/// bytes, `%%`, and the directives of a conversion alone that are normal, as they then are in each
-/// data model. It makes no directive, sees no scanner, and is never inlined, as `literal_len`.
+/// bytes, `%%`, and of the directives those that are normal in each data model and have a conversion
+/// alone, or a number's with `#` or a length modifier. It makes no directive, sees no scanner, and
+/// is never inlined, as `literal_len`.
 #[inline(never)]
 pub(crate) fn plain_len(text: &[u8]) -> usize
     ensures within { result ≤ length text.now }
@@ -29,8 +34,8 @@ pub(crate) fn plain_len(text: &[u8]) -> usize
     at
 }
 
-// How many bytes has the run of literal bytes that begins a text, or its first item of two bytes,
-// if that is plain.
+// How many bytes has the run of literal bytes that begins a text, or its first item, if that is
+// plain.
 #[inline(always)]
 fn plain_front(text: &[u8]) -> usize
     requires { 0 < length text.now }
@@ -48,7 +53,67 @@ fn plain_front(text: &[u8]) -> usize
     if ends_plain(text[1]) {
         return 2;
     }
+    parts_len(text)
+}
+
+// How many bytes has the directive that begins a text, if it is plain, with `#` or a length modifier.
+#[inline(always)]
+fn parts_len(text: &[u8]) -> usize
+    requires { (1 ≤ length text.now) × (take 1 text.now ≡ percent ∷ []) }
+    ensures within { result ≤ length text.now }
+    ensures plain { (model : Model)
+        → (items : List Item) × IsPlainText model (take result text.now) items }
+{
+    let (alternative, at) = alternative_at(text);
+    let (modifier, at) = modifier_at(text, at);
+    let Some(conv) = conv_at(text, at) else {
+        return 0;
+    };
+    if has_plain_parts(alternative, modifier, conv) {
+        return at + 1;
+    }
     0
+}
+
+// Whether `#` follows the `%`, and where what follows that begins.
+#[inline(always)]
+fn alternative_at(text: &[u8]) -> (bool, usize)
+    requires { 1 ≤ length text.now }
+    ensures { HasBytes text.now 1 result.1 (alternative_bytes result.0) }
+{
+    if text.len() < 2 {
+        return (false, 1);
+    }
+    if text[1] != b'#' {
+        return (false, 1);
+    }
+    (true, 2)
+}
+
+// Whether a directive with `#` or without, a length modifier and a conversion is a number's, and
+// normal in each data model.
+#[inline(always)]
+fn has_plain_parts(alternative: bool, modifier: Length, conv: Conv) -> bool
+    ensures { result ≡ has_plain_parts alternative modifier conv }
+{
+    if !is_kept_modifier(modifier) {
+        return false;
+    }
+    match conv {
+        Conv::X | Conv::UpperX | Conv::B => true,
+        Conv::D | Conv::U | Conv::O => !alternative,
+        Conv::I | Conv::C | Conv::S => false,
+    }
+}
+
+// Whether a normal directive keeps the modifier, in each data model.
+fn is_kept_modifier(modifier: Length) -> bool
+    ensures { result ≡ is_kept_modifier modifier }
+{
+    match modifier {
+        Length::None | Length::Hh | Length::H | Length::L | Length::Ll => true,
+        Length::J | Length::Z | Length::T => false,
+    }
 }
 
 // Whether a byte after `%` ends a plain item: `%`, or a conversion, but not `i`, since `%d` is the

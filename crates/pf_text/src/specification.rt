@@ -148,9 +148,9 @@ fn digits_at(text: &[u8], start: usize, first: u16) -> (u16, usize)
     (number, at)
 }
 
-// The length modifier at a place, and where it ends (C11 7.21.6.1, paragraph 7).
+/// The length modifier at a place, and where it ends (C11 7.21.6.1, paragraph 7).
 #[inline(always)]
-fn modifier_at(text: &[u8], start: usize) -> (Length, usize)
+pub(crate) fn modifier_at(text: &[u8], start: usize) -> (Length, usize)
     requires { start ≤ length text.now }
     ensures { HasBytes text.now start result.1 (length_letters result.0) }
 {
@@ -180,9 +180,9 @@ fn modifier_with(text: &[u8], start: usize, first: Length) -> (Length, usize)
     }
 }
 
-// The conversion at a place (C11 7.21.6.1, paragraph 8).
+/// The conversion at a place (C11 7.21.6.1, paragraph 8).
 #[inline(always)]
-fn conv_at(text: &[u8], at: usize) -> Option<Conv>
+pub(crate) fn conv_at(text: &[u8], at: usize) -> Option<Conv>
     requires { at ≤ length text.now }
     ensures { MatchOption result ⊤ (λ conv. HasBytes text.now at (at + 1) (conv_letter conv ∷ [])) }
 {

@@ -1,6 +1,6 @@
 use Rattle.std.proofs.Common.{◌≡◌, ◌≤◌, arith, get_or, length, refl}
 use Rattle.std.proofs.lemmas.Bool.Decides.{nat_tests}
-use Rattle.pf_text.proofs.PlainLemmas.{first_four, silent_bytes, spelled_silent}
+use Rattle.pf_text.proofs.PlainLemmas.{first_bytes, silent_bytes, spelled_silent}
 use Rattle.pf_text.proofs.plain.begins_silent.Goals as goal
 
 pub returns : goal.returns
@@ -9,7 +9,7 @@ returns c =
     let four : 4 ≤ length text = omega (arith, c.if-text-lt4.false) in (
       λ last.
           let third : get_or text 3 0 ≡ 115 = grind (arith, nat_tests, last) in
-          (four, rw (first_four text four, spelled_silent, c.if-text-ne37.false, c.if-text-ne46.false, c.if-text-ne48.false, third) refl),
+          (four, rw (first_bytes 4 text four, spelled_silent, c.if-text-ne37.false, c.if-text-ne46.false, c.if-text-ne48.false, third) refl),
       λ begins. (let third = (silent_bytes text begins).3 in grind (arith, nat_tests, third)),
     )
 

@@ -2,7 +2,7 @@ use Rattle.std.proofs.Common.{◌∷◌, ◌∙◌, [], ap, arith, get_or, map, 
 use Rattle.pf_values.specs.meaning.Items.{Byte}
 use Rattle.pf_text.proofs.LiteralLemmas.{literal_take, run_found}
 use Rattle.pf_text.specs.Plain.{IsPlainText}
-use Rattle.pf_text.proofs.PlainLemmas.{first_two, literals_plain}
+use Rattle.pf_text.proofs.PlainLemmas.{first_bytes, literals_plain}
 use Rattle.pf_text.proofs.plain.plain_front.Goals as goal
 
 pub returns-then-text-ne37-clause-plain : goal.returns-then-text-ne37-clause-plain
@@ -16,6 +16,6 @@ pub returns-then-ends_plain-clause-plain : goal.returns-then-ends_plain-clause-p
 returns-then-ends_plain-clause-plain c = λ model. (
     let text = c.args.text.now in
     let plain = c.ends_plain.ensures model c.if-ends_plain.true in
-    let bytes = first_two text (omega (arith, c.if-text-lt2.false)) ∙ ap (λ b. b ∷ get_or text 1 0 ∷ []) c.if-text-ne37.false in
+    let bytes = first_bytes 2 text (omega (arith, c.if-text-lt2.false)) ∙ ap (λ b. b ∷ get_or text 1 0 ∷ []) c.if-text-ne37.false in
     (plain.0 ∷ [], subst (λ t. IsPlainText model t (plain.0 ∷ [])) (sym bytes) plain.1)
     )
