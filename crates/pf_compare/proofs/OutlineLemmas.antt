@@ -35,8 +35,8 @@ use Rattle.pf_probes.proofs.Digits.{natural_small}
 use Rattle.pf_render.specs.Zeros.{fewest_digits}
 use Rattle.pf_compare.specs.declared.outlines.SignOrPrefix.{SignOrPrefix}
 use Rattle.pf_compare.specs.declared.outlines.Outline.{Outline}
-use Rattle.pf_compare.specs.declared.values.CountedValue.{CountedValue}
-use Rattle.pf_compare.specs.declared.values.Value.{Value}
+use Rattle.pf_compare.specs.declared.outlines.CountedValue.{CountedValue}
+use Rattle.pf_compare.specs.declared.outlines.Value.{Value}
 use Rattle.pf_values.specs.declared.lengths.Length.{Length}
 use Rattle.pf_compare.specs.Outlines.{HasOutlineText, PredictsDifference, IsCountedValueOf, HasSignAndSize, IsOfValue, IsOutlineOf, digit_below_ten, digits_under, outline_text, with_prefix_and_zeros, sign_or_prefix_text, directive_digits, outline_len}
 

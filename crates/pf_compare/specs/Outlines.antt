@@ -13,8 +13,8 @@ use Rattle.pf_values.specs.meaning.Text.{Text, space, zero_digit}
 use Rattle.pf_compare.specs.declared.outlines.SignOrPrefix.{SignOrPrefix}
 use Rattle.pf_compare.specs.declared.outlines.SignOrPrefix.TheVariants as prefixes
 use Rattle.pf_compare.specs.declared.outlines.Outline.{Outline}
-use Rattle.pf_compare.specs.declared.values.CountedValue.{CountedValue}
-use Rattle.pf_compare.specs.declared.values.Value.{Value}
+use Rattle.pf_compare.specs.declared.outlines.CountedValue.{CountedValue}
+use Rattle.pf_compare.specs.declared.outlines.Value.{Value}
 
 -- a value by its sign and its size
 pub record HasSignAndSize (value : Value) (v : ℤ) : Type 0 where

@@ -1,17 +1,143 @@
-//! What a directive prints of a number but for its digits: spaces, sign or prefix, and zeros.
-ghost use Rattle.std.specs.Prelude.{◌≡◌, ◌+◌, ◌<◌, ◌≤◌, ◌++◌, ℤ, IsFalse, length, max, replicate, IsTrue};
+//! What a directive prints of a number but for its digits: spaces, sign or prefix, and zeros; and the
+//! value that it prints, with the count of its digits. The same of a string that is one byte repeated.
+ghost use Rattle.std.specs.Prelude.{◌≡◌, ◌+◌, ◌<◌, ◌≤◌, ◌++◌, ℤ, IsFalse, length, max, replicate, IsTrue, true, false};
+ghost use Rattle.std.specs.Int.Digits.{digits_of};
 ghost use Rattle.pf_values.specs.declared.models.Model.{Model};
 ghost use Rattle.pf_values.specs.meaning.Bases.{alternative_of};
-ghost use Rattle.pf_values.specs.meaning.Conversions.{is_text, is_string};
+ghost use Rattle.pf_values.specs.meaning.Conversions.{is_signed, is_text, is_string};
+ghost use Rattle.pf_values.specs.meaning.DataModel.{Bits, bit_count, bits_under};
 ghost use Rattle.pf_values.specs.Directives.{effective_precision};
 ghost use Rattle.pf_values.specs.meaning.Printing.{field, prefix_under, sign, sign_or_prefix};
 ghost use Rattle.pf_values.specs.meaning.Text.{space};
 ghost use Rattle.pf_render.specs.Zeros.{fewest_digits};
-ghost use Rattle.pf_compare.specs.Outlines.{HasOutlineText, IsCountedValueOf, HasSignAndSize, IsOutlineOf, sign_or_prefix_text, with_prefix_and_zeros, outline_len};
+ghost use Rattle.pf_compare.specs.Outlines.{HasOutlineText, IsCountedValueOf, HasSignAndSize, IsOfValue, IsOutlineOf, sign_or_prefix_text, with_prefix_and_zeros, outline_len};
 ghost use Rattle.pf_compare.specs.StringOutlines.{IsStringOutlineOf, string_outline_len};
 
-use crate::values::{CountedValue, Value};
-use pf_values::{Alternative, Base, Directive, Flag, Kind};
+use crate::differences::{same_conv, same_length};
+use pf_values::{Alternative, Base, Directive, Flag, Kind, Model, ValueKind};
+
+/// The value that a directive prints for a number, by its sign and its size.
+#[derive(Clone, Copy)]
+pub(crate) struct Value {
+    pub(crate) is_negative: bool,
+    pub(crate) size: u64,
+}
+
+/// A value, and how many digits it has, none for 0.
+#[derive(Clone, Copy)]
+pub(crate) struct CountedValue {
+    pub(crate) value: Value,
+    pub(crate) count: u16,
+}
+
+impl CountedValue {
+    /// The value of a number under a directive, counted.
+    #[inline(always)]
+    pub(crate) fn of(model: Model, directive: &Directive, number: i128) -> CountedValue
+        requires { IsFalse (is_text directive.now.conv) }
+        ensures { IsCountedValueOf model directive.now number result }
+    {
+        let value = Value::of(model, directive, number);
+        let count = count_digits(value.size, directive.conv().kind().base().number());
+        CountedValue { value, count }
+    }
+
+    /// The value under another directive: this one, where both directives have one conversion and
+    /// one length modifier.
+    #[inline(always)]
+    pub(crate) fn for_directive(
+        self,
+        model: Model,
+        first: &Directive,
+        directive: &Directive,
+        number: i128,
+    ) -> CountedValue
+        requires first { IsCountedValueOf model first.now number self }
+        requires integer { IsFalse (is_text directive.now.conv) }
+        ensures { IsCountedValueOf model directive.now number result }
+    {
+        if have_same_value(first, directive) {
+            return self;
+        }
+        CountedValue::of(model, directive, number)
+    }
+}
+
+#[inline(always)]
+fn have_same_value(first: &Directive, second: &Directive) -> bool
+    ensures { IsTrue result → (first.now.conv ≡ second.now.conv)
+        × (first.now.length ≡ second.now.length) }
+{
+    same_conv(first.conv(), second.conv()) && same_length(first.length(), second.length())
+}
+
+// How many digits a number has, none for 0.
+#[inline(always)]
+fn count_digits(number: u64, base: u64) -> u16
+    requires { 2 ≤ base }
+    ensures value { result ≡ length (digits_of base number) }
+    ensures few { result ≤ 64 }
+{
+    let mut left = number;
+    let mut count = 0;
+    while left > 0 {
+        left /= base;
+        count += 1;
+    }
+    count
+}
+
+impl Value {
+    /// The value of the number in the range that the length modifier and the conversion name.
+    #[inline(always)]
+    pub(crate) fn of(model: Model, directive: &Directive, number: i128) -> Value
+        requires integer { IsFalse (is_text directive.now.conv) }
+        ensures { IsOfValue (is_signed directive.now.conv)
+            (bit_count (bits_under model directive.now.length)) number result }
+    {
+        match directive.conv().kind() {
+            Kind::Signed => Value::of_signed(directive.bits(model), number),
+            _ => Value::of_unsigned(directive.bits(model), number),
+        }
+    }
+
+    #[inline(always)]
+    fn of_signed(bits: u8, number: i128) -> Value
+        requires { (b : Bits) × (bits ≡ bit_count b) }
+        ensures { IsOfValue true bits number result }
+    {
+        match bits {
+            8 => Value::of_kind::<i8>(number),
+            16 => Value::of_kind::<i16>(number),
+            32 => Value::of_kind::<i32>(number),
+            _ => Value::of_kind::<i64>(number),
+        }
+    }
+
+    #[inline(always)]
+    fn of_unsigned(bits: u8, number: i128) -> Value
+        requires { (b : Bits) × (bits ≡ bit_count b) }
+        ensures { IsOfValue false bits number result }
+    {
+        match bits {
+            8 => Value::of_kind::<u8>(number),
+            16 => Value::of_kind::<u16>(number),
+            32 => Value::of_kind::<u32>(number),
+            _ => Value::of_kind::<u64>(number),
+        }
+    }
+
+    #[inline(always)]
+    fn of_kind<V: ValueKind>(number: i128) -> Value
+        ensures { IsOfValue V.is_signed (bit_count V.bits) number result }
+    {
+        let value = V::of(number);
+        Value {
+            is_negative: value.is_negative(),
+            size: value.unsigned_abs(),
+        }
+    }
+}
 
 /// What comes right before the zeros and digits of a number.
 #[derive(Clone, Copy, PartialEq, Eq)]

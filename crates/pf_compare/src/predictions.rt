@@ -8,14 +8,14 @@ ghost use Rattle.pf_values.specs.meaning.Bases.{number_of};
 ghost use Rattle.pf_values.specs.meaning.Specification.{Specification};
 ghost use Rattle.pf_probes.specs.Candidate.{candidate_argument};
 ghost use Rattle.pf_compare.specs.Outlines.{PredictsDifference, digit_below_ten, digits_under};
-ghost use Rattle.pf_compare.specs.Spaces.{PrintEqualIn, LeavesRoomForSpace, IsInEqualPrintRange, with_space};
+ghost use Rattle.pf_compare.specs.Spaces.{PrintEqualIn, LeavesRoomForSpace, IsInEqualPrintRange};
 ghost use Rattle.std.specs.Int.Digits.{digits_of};
 ghost use Rattle.pf_values.specs.declared.conversions.Kind.TheVariants as kinds;
 
-use crate::outlines::{Outline, StringOutline};
-use crate::values::{CountedValue, Value};
+use crate::differences::{are_equal_beside_space, same_conv};
+use crate::outlines::{CountedValue, Outline, StringOutline, Value};
 use pf_probes::Candidate;
-use pf_values::{Conv, Directive, Flag, FlagSet, Kind, Length, Model};
+use pf_values::{Conv, Directive, Flag, Kind, Model};
 
 /// Whether two directives print different bytes for a candidate; `None` where only printing them
 /// decides. The range of equal texts is the same for all candidates.
@@ -251,57 +251,4 @@ fn space_limit(directive: &Directive) -> u64
         return 0;
     }
     10u64.pow(u32::from((width - 1).min(MOST_DIGITS)))
-}
-
-/// Whether two directives have the same parts.
-pub(crate) fn are_equal(first: &Directive, second: &Directive) -> bool
-    ensures { IsTrue result → first.now ≡ second.now }
-{
-    same_flags(first.flags(), second.flags())
-        && same_number(first.width(), second.width())
-        && same_number(first.precision(), second.precision())
-        && same_length(first.length(), second.length())
-        && same_conv(first.conv(), second.conv())
-}
-
-/// Whether two directives have the same parts but for the flag ` `.
-pub(crate) fn are_equal_beside_space(first: &Directive, second: &Directive) -> bool
-    ensures { IsTrue result → with_space first.now ≡ with_space second.now }
-{
-    same_flags(
-        first.flags().with(Flag::Space),
-        second.flags().with(Flag::Space),
-    ) && same_number(first.width(), second.width())
-        && same_number(first.precision(), second.precision())
-        && same_length(first.length(), second.length())
-        && same_conv(first.conv(), second.conv())
-}
-
-fn same_flags(first: FlagSet, second: FlagSet) -> bool
-    ensures { IsTrue result → first ≡ second }
-{
-    first.has(Flag::Minus) == second.has(Flag::Minus)
-        && first.has(Flag::Plus) == second.has(Flag::Plus)
-        && first.has(Flag::Space) == second.has(Flag::Space)
-        && first.has(Flag::Alt) == second.has(Flag::Alt)
-        && first.has(Flag::Zero) == second.has(Flag::Zero)
-        && first.has(Flag::Group) == second.has(Flag::Group)
-}
-
-fn same_number(first: Option<u16>, second: Option<u16>) -> bool
-    ensures { IsTrue result → first ≡ second }
-{
-    first == second
-}
-
-pub(crate) fn same_length(first: Length, second: Length) -> bool
-    ensures { IsTrue result → first ≡ second }
-{
-    first == second
-}
-
-pub(crate) fn same_conv(first: Conv, second: Conv) -> bool
-    ensures { IsTrue result → first ≡ second }
-{
-    first == second
 }
