@@ -1,17 +1,17 @@
 //! What a directive prints of a number but for its digits: spaces, sign or prefix, and zeros; and the
-//! value that it prints, with the count of its digits. The same of a string that is one byte repeated.
-ghost use Rattle.std.specs.Prelude.{◌≡◌, ◌+◌, ◌<◌, ◌≤◌, ◌++◌, ℤ, IsFalse, length, max, replicate, IsTrue, true, false};
+//! value that it prints, with the count of its digits. The same of one byte, and of a string of it.
+ghost use Rattle.std.specs.Prelude.{◌≡◌, ◌+◌, ◌<◌, ◌≤◌, ◌++◌, ℕ, ℤ, IsFalse, length, max, replicate, IsTrue, true, false};
 ghost use Rattle.std.specs.Int.Digits.{digits_of};
 ghost use Rattle.pf_values.specs.declared.models.Model.{Model};
 ghost use Rattle.pf_values.specs.meaning.Bases.{alternative_of};
-ghost use Rattle.pf_values.specs.meaning.Conversions.{is_signed, is_text, is_string};
+ghost use Rattle.pf_values.specs.meaning.Conversions.{is_char, is_signed, is_text, is_string};
 ghost use Rattle.pf_values.specs.meaning.DataModel.{Bits, bit_count, bits_under};
 ghost use Rattle.pf_values.specs.Directives.{effective_precision};
 ghost use Rattle.pf_values.specs.meaning.Printing.{field, prefix_under, sign, sign_or_prefix};
 ghost use Rattle.pf_values.specs.meaning.Text.{space};
 ghost use Rattle.pf_render.specs.Zeros.{fewest_digits};
-ghost use Rattle.pf_compare.specs.Outlines.{HasOutlineText, IsCountedValueOf, HasSignAndSize, IsOfValue, IsOutlineOf, sign_or_prefix_text, with_prefix_and_zeros, outline_len};
-ghost use Rattle.pf_compare.specs.StringOutlines.{IsStringOutlineOf, string_outline_len};
+ghost use Rattle.pf_compare.specs.Outlines.{HasOutlineText, body_len, IsCountedValueOf, HasSignAndSize, IsOfValue, IsOutlineOf, sign_or_prefix_text, with_prefix_and_zeros, outline_len};
+ghost use Rattle.pf_compare.specs.RunOutlines.{IsCharOutlineOf, IsStringOutlineOf, run_outline_len, run_outline_text};
 
 use crate::differences::{same_conv, same_length};
 use pf_values::{Alternative, Base, Directive, Flag, Kind, Model, ValueKind};
@@ -150,12 +150,14 @@ pub(crate) enum SignOrPrefix {
 }
 
 /// A number in its field: spaces, a sign or prefix, so many digits with the zeros before them, and
-/// spaces again. A space in the place of a sign is counted among the spaces.
-#[derive(Clone, Copy, PartialEq, Eq)]
+/// spaces again. A space in the place of a sign is counted among the spaces. The number has `count`
+/// digits of its own.
+#[derive(Clone, Copy)]
 pub(crate) struct Outline {
     pub(crate) spaces_before: u16,
     pub(crate) prefix: SignOrPrefix,
     pub(crate) digits: u16,
+    pub(crate) count: u16,
     pub(crate) size: u64,
     pub(crate) spaces_after: u16,
 }
@@ -206,8 +208,22 @@ impl SignOrPrefix {
         }
     }
 
+    /// Its bytes.
+    pub(crate) fn text(self) -> &'static [u8]
+        ensures { result.now ≡ sign_or_prefix_text self }
+    {
+        match self {
+            SignOrPrefix::Nothing => b"",
+            SignOrPrefix::Minus => b"-",
+            SignOrPrefix::Plus => b"+",
+            SignOrPrefix::Space => b" ",
+            SignOrPrefix::Letters(base, capitals) => base.prefix(capitals),
+        }
+    }
+
+    /// How many bytes these are.
     #[inline(always)]
-    fn len(self) -> u16
+    pub(crate) fn len(self) -> u16
         ensures value { result ≡ length (sign_or_prefix_text self) }
         ensures short { result ≤ 2 }
     {
@@ -230,22 +246,28 @@ impl Outline {
     {
         let prefix = SignOrPrefix::of(directive, counted.value);
         let digits = digits_after(directive, prefix.len(), counted.count);
-        Outline::in_field(directive, prefix, digits, counted.value.size)
+        Outline::in_field(directive, prefix, digits, counted.count, counted.value.size)
     }
 
     // The outline of so many digits in the field of a directive.
     #[inline(always)]
-    fn in_field(directive: &Directive, prefix: SignOrPrefix, digits: u16, size: u64) -> Outline
+    fn in_field(
+        directive: &Directive,
+        prefix: SignOrPrefix,
+        digits: u16,
+        count: u16,
+        size: u64,
+    ) -> Outline
         requires { digits ≤ 5000 }
-        ensures { HasOutlineText result digits size
+        ensures { HasOutlineText result digits count size
             (λ t. field directive.now (with_prefix_and_zeros (sign_or_prefix_text prefix) digits t)) }
     {
         let width = directive.width().unwrap_or(0);
         let padding = width.saturating_sub(prefix.len() + digits);
         if directive.flags().has(Flag::Minus) {
-            return Outline::between(0, prefix, digits, size, padding);
+            return Outline::between(0, prefix, digits, count, size, padding);
         }
-        Outline::between(padding, prefix, digits, size, 0)
+        Outline::between(padding, prefix, digits, count, size, 0)
     }
 
     // The same between so many spaces.
@@ -254,11 +276,12 @@ impl Outline {
         before: u16,
         prefix: SignOrPrefix,
         digits: u16,
+        count: u16,
         size: u64,
         spaces_after: u16,
     ) -> Outline
         requires { before + length (sign_or_prefix_text prefix) < 65536 }
-        ensures { HasOutlineText result digits size
+        ensures { HasOutlineText result digits count size
             (λ t. (replicate before space ++ with_prefix_and_zeros (sign_or_prefix_text prefix) digits t)
             ++ replicate spaces_after space) }
     {
@@ -267,13 +290,18 @@ impl Outline {
                 spaces_before: before + 1,
                 prefix: SignOrPrefix::Nothing,
                 digits,
+                count,
                 size,
                 spaces_after,
             },
-            _ => Outline {
+            SignOrPrefix::Nothing
+            | SignOrPrefix::Minus
+            | SignOrPrefix::Plus
+            | SignOrPrefix::Letters(_, _) => Outline {
                 spaces_before: before,
                 prefix,
                 digits,
+                count,
                 size,
                 spaces_after,
             },
@@ -285,10 +313,16 @@ impl Outline {
     pub(crate) fn len(&self) -> usize
         ensures { result ≡ outline_len self.now }
     {
-        usize::from(self.spaces_before)
-            + usize::from(self.prefix.len())
-            + usize::from(self.digits)
-            + usize::from(self.spaces_after)
+        usize::from(self.spaces_before) + self.body_len() + usize::from(self.spaces_after)
+    }
+
+    /// The same without its spaces.
+    #[inline(always)]
+    pub(crate) fn body_len(&self) -> usize
+        ensures value { result ≡ body_len self.now }
+        ensures short { result ≤ 70000 }
+    {
+        usize::from(self.prefix.len()) + usize::from(self.digits)
     }
 }
 
@@ -321,30 +355,46 @@ fn fewest_digits(directive: &Directive, count: u16) -> u16
     }
 }
 
-/// A string that is one byte repeated, in its field: spaces, the byte so many times, and spaces again.
-#[derive(Clone, Copy, PartialEq, Eq)]
-pub(crate) struct StringOutline {
+/// One byte repeated, in its field: spaces, the byte so many times, and spaces again.
+#[derive(Clone, Copy)]
+pub(crate) struct RunOutline {
     pub(crate) spaces_before: u16,
     pub(crate) count: u16,
     pub(crate) spaces_after: u16,
 }
 
-impl StringOutline {
-    /// The outline of what a directive prints for one byte, so many times.
-    pub(crate) fn of(directive: &Directive, count: u16) -> StringOutline
+impl RunOutline {
+    /// The outline of what a directive prints for a string that is one byte, so many times.
+    pub(crate) fn of_string(directive: &Directive, count: u16) -> RunOutline
         requires { IsTrue (is_string directive.now.conv) }
         ensures { IsStringOutlineOf directive.now count result }
     {
         let count = directive.precision().unwrap_or(count).min(count);
+        RunOutline::in_field(directive, count)
+    }
+
+    /// The outline of what a directive prints for a number as a byte.
+    pub(crate) fn of_char(directive: &Directive) -> RunOutline
+        requires { IsTrue (is_char directive.now.conv) }
+        ensures { IsCharOutlineOf directive.now result }
+    {
+        RunOutline::in_field(directive, 1)
+    }
+
+    // A byte so many times in the field of a directive.
+    fn in_field(directive: &Directive, count: u16) -> RunOutline
+        ensures { (byte : ℕ)
+            → field directive.now (replicate count byte) ≡ run_outline_text result byte }
+    {
         let padding = directive.width().unwrap_or(0).saturating_sub(count);
         if directive.flags().has(Flag::Minus) {
-            return StringOutline {
+            return RunOutline {
                 spaces_before: 0,
                 count,
                 spaces_after: padding,
             };
         }
-        StringOutline {
+        RunOutline {
             spaces_before: padding,
             count,
             spaces_after: 0,
@@ -353,7 +403,7 @@ impl StringOutline {
 
     /// How many bytes that is.
     pub(crate) fn len(&self) -> usize
-        ensures { result ≡ string_outline_len self.now }
+        ensures { result ≡ run_outline_len self.now }
     {
         usize::from(self.spaces_before) + usize::from(self.count) + usize::from(self.spaces_after)
     }
