@@ -1,5 +1,5 @@
 -- What a byte transducer has taken and given, one step after another.
-use Rattle.std.proofs.Common.{◌≡◌, ℕ, ◌≤◌, Bool, true, false, List, [], ◌∷◌, ◌++◌, refl, sym, ap, ◌∙◌, subst, arith, inl, inr, Some, None, Ok, Err, Option, Result}
+use Rattle.std.proofs.Common.{◌≡◌, ◌≢◌, ℕ, Bool, true, false, [], ◌∷◌, ◌++◌, List, refl, sym, ap, ◌∙◌, subst, arith, inl, inr, Some, Ok, Err, Result}
 use Rattle.std.specs.Prelude.{MatchBool}
 use Rattle.std.specs.Io.KnownBytes.{Consumes, IsAtEnd}
 use Rattle.std.proofs.KnownBytes.{Consumes-trans}
@@ -13,13 +13,11 @@ use Rattle.pf_canon.specs.declared.faults.StreamFault.{StreamFault}
 use Rattle.pf_canon.specs.declared.faults.StreamFault.TheVariants as faults
 use Rattle.pf_canon.specs.declared.output.Output.{Output}
 use Rattle.pf_canon.specs.declared.canonical_bytes.ByteTransducer.{ByteTransducer}
-use Rattle.pf_canon.specs.declared.canonical_bytes.NextStep.{NextStep}
-use Rattle.pf_canon.specs.declared.canonical_bytes.NextStep.TheVariants.{Again, Done}
 use Rattle.pf_canon.specs.declared.output.StepOutput.{StepOutput}
-use Rattle.pf_canon.specs.declared.output.StepOutput.TheVariants as outputs
 use Rattle.pf_canon.specs.declared.transducer.Transducer.{Transducer}
 use Rattle.pf_canon.specs.Output.{output_text}
-use Rattle.pf_canon.specs.CanonicalBytes.{CountsFault, CountsStep, IsEnding, IsInTime, IsLean, IsReadFor, IsReading, IsRefusedBehind, IsNoReadFault, LowersAnswer, LowersUnits, units}
+use Rattle.pf_canon.specs.CanonicalBytes.{AnswerLeaves, CountsDrain, FaultCounts, IsEnding, IsInTime, IsLean, IsReadFor, IsReading, IsRefusedBehind, IsNoReadFault}
+use Rattle.pf_canon.specs.Comparison.{StopsBy}
 use Rattle.pf_canon.specs.Transducer.{SettlesEnd, GrowsByByte, IsThrough, SettlesTo, TakesByte, byte_output_text}
 use Rattle.pf_canon.proofs.ChunkLemmas.{through_settles}
 use Rattle.pf_canon.proofs.TextLemmas.{not_truncated}
@@ -35,48 +33,70 @@ more_later P taken more h = (more ++ h.0, subst P (append_assoc taken more h.0) 
 abbrev pub HistoryOf : Model → Bool → Transducer → Text → Known → Known → Text → Text → Type 0
 HistoryOf model is_open r pending start left taken given = MatchBool is_open (IsReading model r pending start left taken given) (IsEnding model pending start left taken given)
 
-lean_still : (model : Model) (taken given : Text) (byte : ℕ) → IsLean model taken given → IsLean model taken (given ++ byte ∷ [])
-lean_still model taken given byte h = let few = h.5 in (h.0, h.1, h.2, h.3, h.4, omega (arith, few, length-append given (byte ∷ [])))
+lean_still : (model : Model) (taken given more : Text) → IsLean model taken given → IsLean model taken (given ++ more)
+lean_still model taken given more h = let few = h.5 in (h.0, h.1, h.2, h.3, h.4, omega (arith, few, length-append given more))
 
-read_still : (model : Model) (taken given : Text) (byte : ℕ) → IsReadFor model taken given → IsReadFor model taken (given ++ byte ∷ [])
-read_still model taken given byte (inl none) = inl none
-read_still model taken given byte (inr lean) = inr (lean_still model taken given byte lean)
+read_still : (model : Model) (taken given more : Text) → IsReadFor model taken given → IsReadFor model taken (given ++ more)
+read_still model taken given more (inl none) = inl none
+read_still model taken given more (inr lean) = inr (lean_still model taken given more lean)
+
+some_left : (more rest : Text) → rest ≢ [] → more ++ rest ≢ []
+some_left [] rest some none = some none
+some_left (byte ∷ more) rest some none = cc
+
+-- the first bytes that wait are given
+pub given_more : (model : Model) (is_open : Bool) (r : Transducer) (pending more rest : Text) (start left : Known) (taken given : Text) → pending ≡ more ++ rest → HistoryOf model is_open r pending start left taken given → HistoryOf model is_open r rest start left taken (given ++ more)
+given_more model true r pending more rest start left taken given e h = record {
+  reader = h.reader;
+  items = h.items;
+  out = h.out;
+  through = h.through;
+  whole = h.whole ∙ ap (λ t. given ++ t) e ∙ sym (append_assoc given more rest);
+  lean = λ some. lean_still model taken given more (h.lean (λ none. some_left more rest some (sym e ∙ none)));
+  read = read_still model taken given more h.read;
+}
+given_more model false r pending more rest start left taken given e h = record {
+  reader = h.reader;
+  end = h.end;
+  accepted = h.accepted;
+  canonical = rw (append_assoc given more rest, ← e) h.canonical;
+  read = read_still model taken given more h.read;
+}
+
+-- no byte was taken but to give one more
+pub read_in : (model : Model) (is_open : Bool) (r : Transducer) (pending : Text) (start left : Known) (taken given : Text) → HistoryOf model is_open r pending start left taken given → IsReadFor model taken given
+read_in model true r pending start left taken given h = h.read
+read_in model false r pending start left taken given h = h.read
+
+pub reader_in : (model : Model) (is_open : Bool) (r : Transducer) (pending : Text) (start left : Known) (taken given : Text) → HistoryOf model is_open r pending start left taken given → Consumes start left taken
+reader_in model true r pending start left taken given h = h.reader
+reader_in model false r pending start left taken given h = h.reader
+
+in_time : (model : Model) (is_open : Bool) (r : Transducer) (pending rest : Text) (start left : Known) (taken given : Text) (byte : ℕ) → pending ≡ byte ∷ rest → HistoryOf model is_open r pending start left taken given → is_open ≡ true → IsInTime model taken given byte
+in_time model false r pending rest start left taken given byte e h going = absurd (cc)
+in_time model true r pending rest start left taken given byte e h going = record {
+  settled = h.out;
+  rest = rest;
+  settles = through_settles model r taken h.out h.items h.through;
+  begins = h.whole ∙ ap (λ t. given ++ t) e ∙ sym (append_assoc given (byte ∷ []) rest);
+  lean = h.lean (λ none. let both : byte ∷ rest ≡ [] = sym e ∙ none in cc);
+}
 
 abbrev pub GivesByte : Model → Bool → Transducer → Text → Known → Known → Text → ℕ → Text → Type 0
 GivesByte model is_open r rest start left given byte taken = HistoryOf model is_open r rest start left taken (given ++ byte ∷ []) × IsReadFor model taken given × (is_open ≡ true → IsInTime model taken given byte)
 
-one_given : (model : Model) (is_open : Bool) (r : Transducer) (pending rest : Text) (start left : Known) (taken given : Text) (byte : ℕ) → pending ≡ byte ∷ rest → HistoryOf model is_open r pending start left taken given → GivesByte model is_open r rest start left given byte taken
-one_given model true r pending rest start left taken given byte e h =
-    let lean = h.lean (λ none. let both : byte ∷ rest ≡ [] = sym e ∙ none in cc) in
-    let begins = h.whole ∙ ap (λ t. given ++ t) e ∙ sym (append_assoc given (byte ∷ []) rest) in (
-      record {
-        reader = h.reader;
-        items = h.items;
-        out = h.out;
-        through = h.through;
-        whole = begins;
-        lean = λ some. lean_still model taken given byte lean;
-        read = read_still model taken given byte h.read;
-      },
-      h.read,
-      λ _. record { settled = h.out; rest = rest; settles = through_settles model r taken h.out h.items h.through; begins = begins; lean = lean },
-    )
-one_given model false r pending rest start left taken given byte e h = (
-  record { reader = h.reader; end = h.end; accepted = h.accepted; canonical = rw (append_assoc given (byte ∷ []) rest, ← e) h.canonical; read = read_still model taken given byte h.read },
-  h.read,
-  λ o. absurd (cc),
+-- a byte that waits is given
+pub gives : (model : Model) (is_open : Bool) (r : Transducer) (pending rest : Text) (start left : Known) (taken given : Text) (byte : ℕ) → pending ≡ byte ∷ rest → HistoryOf model is_open r pending start left taken given → GivesByte model is_open r rest start left given byte taken
+gives model is_open r pending rest start left taken given byte e h = (
+  given_more model is_open r pending (byte ∷ []) rest start left taken given e h,
+  read_in model is_open r pending start left taken given h,
+  in_time model is_open r pending rest start left taken given byte e h,
 )
 
--- a byte that waits is given
-pub gives : (model : Model) (is_open : Bool) (r : Transducer) (pending rest : Text) (start left : Known) (taken given : Text) (byte : ℕ) → pending ≡ byte ∷ rest → HistoryOf model is_open r pending start left taken given
-    → (more : Text) × GivesByte model is_open r rest start left given byte (taken ++ more)
-gives model is_open r pending rest start left taken given byte e h = none_more (GivesByte model is_open r rest start left given byte) taken (one_given model is_open r pending rest start left taken given byte e h)
-
--- nothing waits after the end
-pub over : (model : Model) (is_open : Bool) (r : Transducer) (pending : Text) (start left : Known) (taken given : Text) (P : Type 0) → is_open ≡ false → pending ≡ [] → P → HistoryOf model is_open r pending start left taken given
-    → (more : Text) × (IsEnding model [] start left (taken ++ more) given × P)
-over model true r pending start left taken given P closed none p h = absurd (cc)
-over model false r pending start left taken given P closed none p h = none_more (λ t. IsEnding model [] start left t given × P) taken (rw none at h, p)
+-- what is left after the end
+pub ending : (model : Model) (is_open : Bool) (r : Transducer) (pending : Text) (start left : Known) (taken given : Text) → is_open ≡ false → HistoryOf model is_open r pending start left taken given → IsEnding model pending start left taken given
+ending model true r pending start left taken given closed h = absurd (cc)
+ending model false r pending start left taken given closed h = h
 
 -- nothing waits, and the text goes on
 pub record IsAsking (model : Model) (r : Transducer) (start left : Known) (taken given : Text) : Type 0 where
@@ -104,31 +124,6 @@ module _ (model : Model) (old new : Transducer) (start left : Known) (taken give
     waits is_open pending output going e g = (
       byte ∷ [],
       to_open is_open _ _ going (record { reader = reader; items = items ++ g.more; out = given ++ byte_output_text output byte; through = g.through; whole = ap (λ t. given ++ t) e; lean = λ some. lean; read = inr lean }),
-    )
-
-    -- the byte itself is given
-    pub gives_itself : (is_open : Bool) (pending : Text) → is_open ≡ true → pending ≡ [] → GrowsByByte model taken items given byte outputs.Literal new → (more : Text) × GivesByte model is_open new pending start left given byte (taken ++ more)
-    gives_itself is_open pending going none g = (
-      byte ∷ [],
-      (
-        to_open is_open _ _ going (record {
-          reader = reader;
-          items = items ++ g.more;
-          out = given ++ byte ∷ [];
-          through = g.through;
-          whole = sym (append-nil (given ++ byte ∷ [])) ∙ ap (λ t. (given ++ byte ∷ []) ++ t) (sym none);
-          lean = λ some. absurd (some none);
-          read = inr (lean_still model (taken ++ byte ∷ []) given byte lean);
-        }),
-        inr lean,
-        λ _. record {
-          settled = given ++ byte ∷ [];
-          rest = [];
-          settles = through_settles model new (taken ++ byte ∷ []) (given ++ byte ∷ []) (items ++ g.more) g.through;
-          begins = sym (append-nil (given ++ byte ∷ []));
-          lean = lean;
-        },
-      ),
     )
 
     -- the byte is refused
@@ -163,26 +158,19 @@ module _ (model : Model) (r : Transducer) (start left : Known) (taken given : Te
 pub consumed_none : (start a b : Known) (taken : Text) → Consumes start a taken → Consumes a b [] → Consumes start b taken
 consumed_none start a b taken h g = subst (Consumes start b) (append-nil taken) (Consumes-trans start a b taken [] h g)
 
--- an answer that is no fault of the reader
-pub counts_kept : {B : Type 0} (kept failed : B → B → Type 0) (step : NextStep) (old new : B) → IsNoReadFault step → kept old new → CountsStep kept failed step old new
-counts_kept kept failed Again old new told h = h
-counts_kept kept failed (Done None) old new told h = h
-counts_kept kept failed (Done (Some (Ok byte))) old new told h = h
-counts_kept kept failed (Done (Some (Err faults.Read))) old new told h = absurd told
-counts_kept kept failed (Done (Some (Err (faults.Refused refusal)))) old new told h = h
+-- a text stopped that settles this
+pub stops_by : (model : Model) (fault : StreamFault) (s : ByteTransducer) (start left : Known) (taken given : Text) → AnswerLeaves model (Some (Err fault)) s start left taken given → StopsBy model fault start left taken given
+stops_by model faults.Read s start left taken given h = (h.0, h.1)
+stops_by model (faults.Refused refusal) s start left taken given h = (h.0, h.1)
 
--- nothing failed before
-pub counts_later : {B : Type 0} (kept failed : B → B → Type 0) → ((a b c : B) → kept a b → kept b c → kept a c) → ((a b c : B) → kept a b → failed b c → failed a c)
-    → (r : Option (Result ℕ StreamFault)) (old mid new : B) → kept old mid → CountsFault kept failed r mid new → CountsFault kept failed r old new
-counts_later kept failed also later None old mid new h g = also old mid new h g
-counts_later kept failed also later (Some (Ok byte)) old mid new h g = also old mid new h g
-counts_later kept failed also later (Some (Err faults.Read)) old mid new h g = later old mid new h g
-counts_later kept failed also later (Some (Err (faults.Refused refusal))) old mid new h g = also old mid new h g
+module _ {B : Type 0} (kept failed : B → B → Type 0) where
+  -- an answer that is no fault of the reader
+  pub counts_kept : (r : Result (Unit {0}) StreamFault) (old new : B) → IsNoReadFault r → kept old new → CountsDrain kept failed r old new
+  counts_kept (Ok done) old new told h = h
+  counts_kept (Err faults.Read) old new told h = absurd told
+  counts_kept (Err (faults.Refused refusal)) old new told h = h
 
-pub answer_lower : (r : Option (Result ℕ StreamFault)) (old mid new : ByteTransducer) → units mid ≤ units old → LowersAnswer r mid new → LowersAnswer r old new
-answer_lower None old mid new e h = omega (arith, e, h)
-answer_lower (Some r) old mid new e h = omega (arith, e, h)
-
-pub lowers_later : (step : NextStep) (old mid new : ByteTransducer) → units mid ≤ units old → LowersUnits step mid new → LowersUnits step old new
-lowers_later Again old mid new e h = omega (arith, e, h)
-lowers_later (Done r) old mid new e h = answer_lower r old mid new e h
+  -- nothing failed before
+  pub fault_later : ((a b c : B) → kept a b → kept b c → kept a c) → ((a b c : B) → kept a b → failed b c → failed a c) → (fault : StreamFault) (old mid new : B) → kept old mid → FaultCounts kept failed fault mid new → FaultCounts kept failed fault old new
+  fault_later also later faults.Read old mid new h g = later old mid new h g
+  fault_later also later (faults.Refused refusal) old mid new h g = also old mid new h g

@@ -1,27 +1,26 @@
 -- Two texts that are compared.
-use Rattle.std.proofs.Common.{Some, ◌≡◌, ℕ, ◌+◌, ◌≤◌, ◌++◌, length, take, drop, sym, ap, ◌∙◌, ◌≢◌, ◌<◌, Bool, true, false, [], ◌∷◌, List, Option, None, Result, Ok, Err, refl, subst, arith, inl, inr}
+use Rattle.std.proofs.Common.{Some, ◌≡◌, ℕ, ◌+◌, ◌≤◌, ◌++◌, length, take, drop, sym, ap, ◌∙◌, ◌≢◌, ◌<◌, Bool, true, false, [], ◌∷◌, List, None, Result, Ok, Err, refl, subst, arith, inl, inr}
 use Rattle.std.proofs.Math.Seq.{take-add}
 use Rattle.std.proofs.lemmas.List.{take-append-le, append-nil, append_assoc, append_cancel_left, length-append, length-take, take-append-drop, take-take}
-use Rattle.std.specs.Prelude.{MatchBool}
+use Rattle.std.specs.Prelude.{MatchBool, ◌⊎◌}
 use Rattle.std.specs.Io.KnownBytes.{Consumes}
 use Rattle.pf_values.specs.meaning.Text.{Text}
 use Rattle.pf_values.specs.declared.models.Model.{Model}
-use Rattle.pf_values.specs.meaning.Canonical.{IsCanonicalOf}
 use Rattle.pf_values.specs.Counting.{Known}
 use Rattle.pf_values.specs.meaning.Items.{Item}
 use Rattle.pf_probes.proofs.Unique.{equivalent_formats_one}
-use Rattle.pf_canon.specs.Output.{IsFrontOf, pending_text}
-use Rattle.pf_canon.specs.Comparison.{AreCommon, HaveCommon, BeginsWith, CountsSides, CountsStop, Drained, DrainsTo, EndsBoth, FaultCounts, Gave, AreNextBytes, IsReadInStep, NextBytesLeave, StopsBy, StopsOn, AreTextsSame}
-use Rattle.pf_canon.specs.declared.comparison.NextBytes.{NextBytes}
-use Rattle.pf_canon.specs.declared.comparison.NextBytes.TheVariants.{Equal, BothEnded, Differ}
+use Rattle.pf_canon.specs.Output.{IsFrontOf}
+use Rattle.pf_canon.specs.Comparison.{AreCommon, HaveCommon, CountsSides, CountsStop, Drained, DrainsTo, EndsBoth, IsFilledInStep, IsInStep, IsReadInStep, StopsOn, AreTextsSame}
 use Rattle.pf_canon.specs.declared.faults.SideFault.{SideFault}
 use Rattle.pf_canon.specs.declared.faults.StreamFault.{StreamFault}
 use Rattle.pf_canon.specs.declared.faults.StreamFault.TheVariants as faults
 use Rattle.pf_canon.specs.declared.faults.Side.{Side}
 use Rattle.pf_canon.specs.declared.faults.Side.TheVariants.{First, Second}
 use Rattle.pf_canon.specs.declared.canonical_bytes.ByteTransducer.{ByteTransducer}
-use Rattle.pf_canon.specs.CanonicalBytes.{CountsFault, History, IsEnding, IsOver, IsReadFor, IsReading, AnswerLeaves, StepsBy}
+use Rattle.pf_canon.specs.CanonicalBytes.{History, IsFilled, IsReadFor, AnswerLeaves, pending_in}
+use Rattle.pf_canon.proofs.ByteTransducerLemmas.{ending, fault_later, read_in, reader_in, stops_by}
 use Rattle.pf_canon.proofs.EquivalentTexts.{equivalent_by}
+use Rattle.pf_canon.proofs.WalkLemmas.{none_both}
 use Rattle.pf_canon.specs.declared.transducer.Transducer.{Transducer}
 use Rattle.pf_canon.specs.Transducer.{IsThrough, IsUpTo}
 use Rattle.pf_canon.specs.Walk.{AreApart, GoInStep, IsMidway, IsWalkedWhole, IsAcceptedAs, waits}
@@ -40,82 +39,34 @@ pub common_taken : (t u f g : Text) (count : ℕ) → IsFrontOf t f → IsFrontO
 common_taken t u f g count h k common =
     ap (take count) k.whole ∙ take-append-le count g k.behind common.1 ∙ sym common.2 ∙ sym (take-append-le count f h.behind common.0) ∙ ap (take count) (sym h.whole)
 
-pub fault_counts : {B : Type 0} (kept failed : B → B → Type 0) (fault : StreamFault) (old new : B) → CountsFault kept failed (Some (Err fault)) old new → FaultCounts kept failed fault old new
-fault_counts kept failed faults.Read old new h = h
-fault_counts kept failed (faults.Refused refusal) old new h = h
+-- a text that is over, and one that isn't
+over_apart : (t u x y : Text) → t ≡ [] → x ≡ [] → (t ≡ [] → u ≡ [] → ⊥) → t ++ x ≢ u ++ y
+over_apart t u x y none no_x some e =
+    let both : u ++ y ≡ [] = sym e ∙ ap (λ v. v ++ x) none ∙ no_x in
+    some none (none_both u y both).0
 
-pub fault_later : {B : Type 0} (kept failed : B → B → Type 0) → ((a b c : B) → kept a b → kept b c → kept a c) → ((a b c : B) → kept a b → failed b c → failed a c) → (fault : StreamFault) (old mid new : B) → kept old mid → FaultCounts kept failed fault mid new
-    → FaultCounts kept failed fault old new
-fault_later kept failed also later faults.Read old mid new h g = later old mid new h g
-fault_later kept failed also later (faults.Refused refusal) old mid new h g = also old mid new h g
+-- texts whose fronts differ
+pub fronts_apart : (t u f g : Text) → IsFrontOf t f → IsFrontOf u g → HaveCommon f g None → AreApart t u
+fronts_apart t u f g h k common x y no_x no_y e = go common.1
+  where
+    some : t ≡ [] → u ≡ [] → ⊥
+    some first second = elim common.0 [
+      | inl some_f ↦ some_f (none_both f h.behind (sym h.whole ∙ first)).0
+      | inr some_g ↦ some_g (none_both g k.behind (sym k.whole ∙ second)).0
+    ]
 
--- what a byte transducer gave first, and whatever came later
-abbrev pub GaveFirst : Model → Option ℕ → ByteTransducer → Known → Known → Text → Text → Type 0
-GaveFirst model None s start left taken given = IsEnding model [] start left taken given × IsOver s
-GaveFirst model (Some byte) s start left taken given = (more : Text) × History model s start left taken (given ++ byte ∷ more)
-
-pub gave_first : (model : Model) (x : Option ℕ) (s : ByteTransducer) (start left : Known) (taken given : Text) → Gave model x s start left taken given → GaveFirst model x s start left taken given
-gave_first model None s start left taken given h = h
-gave_first model (Some byte) s start left taken given h = ([], h)
-
-longer : (given : Text) (byte : ℕ) (more : Text) → length given < length (given ++ byte ∷ more)
-longer given byte more = omega (arith, length-append given (byte ∷ more))
-
-module _ (model : Model) {B : Type 0} (left : B → Known) (kept failed : B → B → Type 0) (old new : ByteTransducer) (from to : B) (start : Known) (given : Text) where
-  -- one byte more was given
-  pub more_given : (x : Option ℕ) (taken : Text) (y : ℕ) → StepsBy left kept failed old from (Some (Ok y)) new to → GaveFirst model x old start (left from) taken given → (now : Text) × GaveFirst model x new start (left to) now given
-  more_given None taken y s h = absurd (let none : Some (Ok y) ≡ None = (s.over h.1).0 in cc)
-  more_given (Some byte) taken y s h =
-      let next = s.next model start taken (given ++ byte ∷ h.0) h.1 in (
-        taken ++ next.0,
-        (h.0 ++ y ∷ [], subst (History model new start (left to) (taken ++ next.0)) (append_assoc given (byte ∷ h.0) (y ∷ [])) next.1.0),
-      )
-
-  -- the end was reached
-  pub drained : (x : Option ℕ) (taken : Text) → StepsBy left kept failed old from None new to → GaveFirst model x old start (left from) taken given → Drained model x start (left to) given
-  drained None taken s h =
-      let same : to ≡ from = (s.over h.1).2 in
-      let e = h.0 in
-      subst (λ b. Drained model None start (left b) given) (sym same) (record { text = taken; rest = []; whole = record { reader = e.reader; end = e.end; accepted = e.accepted; canonical = (_, e.canonical) }; canonical = e.canonical; begins = refl })
-  drained (Some byte) taken s h =
-      let next = s.next model start taken (given ++ byte ∷ h.0) h.1 in
-      let e = next.1.0 in
-      record {
-        text = taken ++ next.0;
-        rest = byte ∷ h.0;
-        whole = record { reader = e.reader; end = e.end; accepted = e.accepted; canonical = (_, e.canonical) };
-        canonical = subst (IsCanonicalOf model (taken ++ next.0)) (append-nil (given ++ byte ∷ h.0)) e.canonical;
-        begins = (h.0, refl);
-      }
-
-  -- the text stopped
-  pub stopped : (x : Option ℕ) (taken : Text) (fault : StreamFault) → StepsBy left kept failed old from (Some (Err fault)) new to → GaveFirst model x old start (left from) taken given → DrainsTo model x start (left to) given (Err fault)
-  stopped None taken fault s h = absurd (let none : Some (Err fault) ≡ None = (s.over h.1).0 in cc)
-  stopped (Some byte) taken faults.Read s h =
-      let next = s.next model start taken (given ++ byte ∷ h.0) h.1 in
-      (taken ++ next.0, given ++ byte ∷ h.0, (next.1.0, next.1.1), longer given byte h.0)
-  stopped (Some byte) taken (faults.Refused refusal) s h =
-      let next = s.next model start taken (given ++ byte ∷ h.0) h.1 in
-      (taken ++ next.0, given ++ byte ∷ h.0, (next.1.0, next.1.1), longer given byte h.0)
+    go : (f ≡ []) ⊎ (g ≡ []) ⊎ ((x y : Text) → f ++ x ≢ g ++ y) → ⊥
+    go (inl none) = over_apart t u x y (h.some none) (no_x (h.some none)) some e
+    go (inr (inl none)) = over_apart u t y x (k.some none) (no_y (k.some none)) (λ second first. some first second) (sym e)
+    go (inr (inr apart)) = apart (h.behind ++ x) (k.behind ++ y) (sym (append_assoc f h.behind x) ∙ ap (λ v. v ++ x) (sym h.whole) ∙ e ∙ ap (λ v. v ++ y) k.whole ∙ append_assoc g k.behind y)
 
 -- a longer text is settled on the other side
 pub in_step_by : (model : Model) (taken given settled : Text) → IsReadFor model taken given → length given < length settled → IsReadInStep model taken settled
 in_step_by model taken given settled (inl none) more = inl none
 in_step_by model taken given settled (inr h) more = let few = h.5 in inr (h.0, h.1, h.2, h.3, h.4, omega (arith, few, more))
 
-pub in_step_more : (model : Model) (taken given : Text) (byte : ℕ) → IsReadFor model taken given → IsReadInStep model taken (given ++ byte ∷ [])
-in_step_more model taken given byte h = in_step_by model taken given (given ++ byte ∷ []) h (omega (arith, length-append given (byte ∷ [])))
-
-reader_in : (model : Model) (s : ByteTransducer) (start left : Known) (taken given : Text) → History model s start left taken given → Consumes start left taken
-reader_in model s start left taken given h = go s.is_open h
-  where
-    go : (b : Bool) → MatchBool b (IsReading model s.transducer (pending_text s.pending) start left taken given) (IsEnding model (pending_text s.pending) start left taken given) → Consumes start left taken
-    go true h = h.reader
-    go false h = h.reader
-
-gave_reader : (model : Model) (y : Option ℕ) (s : ByteTransducer) (start left : Known) (taken given : Text) → Gave model y s start left taken given → Consumes start left taken
-gave_reader model None s start left taken given h = h.0.reader
-gave_reader model (Some byte) s start left taken given h = reader_in model s start left taken (given ++ byte ∷ []) h
+pub in_step_more : (model : Model) (taken given more : Text) → IsReadFor model taken given → 0 < length more → IsReadInStep model taken (given ++ more)
+in_step_more model taken given more h some = in_step_by model taken given (given ++ more) h (omega (arith, some, length-append given more))
 
 -- what was read of a text that stopped
 stopped_in_step : (model : Model) (fault : StreamFault) (s : ByteTransducer) (start left : Known) (taken given settled : Text) → AnswerLeaves model (Some (Err fault)) s start left taken given → length given < length settled → (other : Text) × Consumes start left other × IsReadInStep model other settled
@@ -125,41 +76,32 @@ stopped_in_step model (faults.Refused refusal) s start left taken given settled 
   | inr byte ↦ (taken ++ byte.0 ∷ [], byte.2, inr (taken, byte.0, given, refl, h.1, more))
 ]
 
-stops_by : (model : Model) (fault : StreamFault) (s : ByteTransducer) (start left : Known) (taken given : Text) → AnswerLeaves model (Some (Err fault)) s start left taken given → StopsBy model fault start left taken given
-stops_by model faults.Read s start left taken given h = (h.0, h.1)
-stops_by model (faults.Refused refusal) s start left taken given h = (h.0, h.1)
-
-begins_one : (x y : Option ℕ) (rest : Text) → BeginsWith x rest → BeginsWith y rest → x ≡ y
-begins_one None None rest h k = refl
-begins_one None (Some b) rest h k = absurd (let both : [] ≡ b ∷ k.0 = sym h ∙ k.1 in cc)
-begins_one (Some a) None rest h k = absurd (let both : [] ≡ a ∷ h.0 = sym k ∙ h.1 in cc)
-begins_one (Some a) (Some b) rest h k = let both : a ∷ h.0 ≡ b ∷ k.0 = sym h.1 ∙ k.1 in cc
-
 module _ (model : Model) (f f_left g g_left : Known) where
   -- the first text stopped in step
   pub first_stops : (fault : StreamFault) (one two : ByteTransducer) (t u given : Text) → AnswerLeaves model (Some (Err fault)) one f f_left t given → History model two g g_left u given → IsReadInStep model u given → StopsOn model First fault f f_left g g_left
-  first_stops fault one two t u given h k in_step = (t, given, u, stops_by model fault one f f_left t given h, reader_in model two g g_left u given k, in_step)
+  first_stops fault one two t u given h k in_step = (t, given, u, stops_by model fault one f f_left t given h, reader_in model two.is_open two.transducer _ g g_left u given k, in_step)
 
   -- the second stopped, and then the first
-  pub both_stop : (x : Option ℕ) (fault behind : StreamFault) (two : ByteTransducer) (u given : Text) → DrainsTo model x f f_left given (Err behind) → AnswerLeaves model (Some (Err fault)) two g g_left u given → StopsOn model First behind f f_left g g_left
-  both_stop x fault behind two u given d h =
+  pub both_stop : (waiting : Text) (fault behind : StreamFault) (two : ByteTransducer) (u given : Text) → DrainsTo model waiting f f_left given (Err behind) → AnswerLeaves model (Some (Err fault)) two g g_left u given → StopsOn model First behind f f_left g g_left
+  both_stop waiting fault behind two u given d h =
       let other = stopped_in_step model fault two g g_left u given d.1 h d.3 in
       (d.0, d.1, other.0, d.2, other.1, other.2)
 
   -- the first was read whole, and the second stopped
-  pub second_stops : (x : Option ℕ) (fault : StreamFault) (two : ByteTransducer) (u given : Text) → Drained model x f f_left given → AnswerLeaves model (Some (Err fault)) two g g_left u given → StopsOn model Second fault f f_left g g_left
-  second_stops x fault two u given d h = (d.text, u, given, d.whole, stops_by model fault two g g_left u given h)
+  pub second_stops : (waiting : Text) (fault : StreamFault) (two : ByteTransducer) (u given : Text) → Drained model waiting f f_left given → AnswerLeaves model (Some (Err fault)) two g g_left u given → StopsOn model Second fault f f_left g g_left
+  second_stops waiting fault two u given d h = (d.text, u, given, d.whole, stops_by model fault two g g_left u given h)
 
   -- they differ, and the first stopped
-  pub apart_first : (x y : Option ℕ) (fault : StreamFault) (two : ByteTransducer) (u given : Text) → DrainsTo model x f f_left given (Err fault) → Gave model y two g g_left u given → IsReadFor model u given → StopsOn model First fault f f_left g g_left
-  apart_first x y fault two u given d h read = (d.0, d.1, u, d.2, gave_reader model y two g g_left u given h, in_step_by model u given d.1 read d.3)
+  pub apart_first : (waiting : Text) (fault : StreamFault) (two : ByteTransducer) (u given : Text) → DrainsTo model waiting f f_left given (Err fault) → History model two g g_left u given → StopsOn model First fault f f_left g g_left
+  apart_first waiting fault two u given d h =
+      (d.0, d.1, u, d.2, reader_in model two.is_open two.transducer _ g g_left u given h, in_step_by model u given d.1 (read_in model two.is_open two.transducer _ g g_left u given h) d.3)
 
-  pub apart_second : (x y : Option ℕ) (fault : StreamFault) (given : Text) → Drained model x f f_left given → DrainsTo model y g g_left given (Err fault) → StopsOn model Second fault f f_left g g_left
-  apart_second x y fault given d h = (d.text, h.0, h.1, d.whole, h.2)
+  pub apart_second : (waiting other : Text) (fault : StreamFault) (given : Text) → Drained model waiting f f_left given → DrainsTo model other g g_left given (Err fault) → StopsOn model Second fault f f_left g g_left
+  apart_second waiting other fault given d h = (d.text, h.0, h.1, d.whole, h.2)
 
   -- both were read whole, and their canonical texts differ
-  pub apart_ends : (x y : Option ℕ) (given : Text) → x ≢ y → Drained model x f f_left given → Drained model y g g_left given → EndsBoth model f f_left g g_left false
-  apart_ends x y given differ d h =
+  pub apart_ends : (waiting other given : Text) → AreApart waiting other → Drained model waiting f f_left given → Drained model other g g_left given → EndsBoth model f f_left g g_left false
+  apart_ends waiting other given apart d h =
       let c = d.canonical in
       let k = h.canonical in
       record {
@@ -169,17 +111,16 @@ module _ (model : Model) (f f_left g g_left : Known) where
         second = h.whole;
         same = (
           λ is. absurd (cc),
-          λ e.
-              let one = append_cancel_left given d.rest h.rest (equivalent_formats_one model d.text h.text (given ++ d.rest) (given ++ h.rest) e c k) in
-              absurd (differ (begins_one x y d.rest d.begins (subst (BeginsWith y) (sym one) h.begins))),
+          λ e. absurd (apart d.rest h.rest d.ended h.ended
+              (append_cancel_left given (waiting ++ d.rest) (other ++ h.rest) (equivalent_formats_one model d.text h.text (given ++ (waiting ++ d.rest)) (given ++ (other ++ h.rest)) e c k))),
         );
       }
 
   -- both ended at once
-  pub same_ends : (one two : ByteTransducer) (t u given : Text) → Gave model None one f f_left t given → Gave model None two g g_left u given → EndsBoth model f f_left g g_left true
-  same_ends one two t u given h k =
-      let a = h.0 in
-      let b = k.0 in
+  pub same_ends : (one two : ByteTransducer) (t u given : Text) → IsFilled one → IsFilled two → pending_in one ≡ [] → pending_in two ≡ [] → History model one f f_left t given → History model two g g_left u given → EndsBoth model f f_left g g_left true
+  same_ends one two t u given one_filled two_filled none no_more h k =
+      let a = rw none at (ending model one.is_open one.transducer _ f f_left t given (one_filled none) h) in
+      let b = rw no_more at (ending model two.is_open two.transducer _ g g_left u given (two_filled no_more) k) in
       let c = a.canonical in
       let d = b.canonical in
       record {
@@ -190,18 +131,21 @@ module _ (model : Model) (f f_left g g_left : Known) where
         same = (λ _. equivalent_by model t u (given ++ []) c.equivalent d.equivalent, λ _. refl);
       }
 
--- the next byte of each, or its end
-pub next_bytes_left : (model : Model) (x y : Option ℕ) (p : NextBytes) (one two : ByteTransducer) (f a g b : Known) (t u given : Text) → AreNextBytes x y p → Gave model x one f a t given → Gave model y two g b u given → IsReadFor model u given → NextBytesLeave model one a two b f g (Ok p)
-next_bytes_left model x y Equal one two f a g b t u given h k l read = record {
-  t = t;
-  u = u;
-  given = given ++ h.0 ∷ [];
-  one = subst (λ x. Gave model x one f a t given) h.1 k;
-  two = subst (λ y. Gave model y two g b u given) h.2 l;
-  in_step = in_step_more model u given h.0 read;
-}
-next_bytes_left model x y BothEnded one two f a g b t u given h k l read = same_ends model f a g b one two t u given (subst (λ x. Gave model x one f a t given) h.0 k) (subst (λ y. Gave model y two g b u given) h.1 l)
-next_bytes_left model x y Differ one two f a g b t u given h k l read = record { x = x; y = y; t = t; u = u; given = given; differ = h; one = k; two = l; read = read }
+-- so many bytes more were given on both sides
+pub in_step_on : (model : Model) (first one second two : ByteTransducer) (a b f g : Known) (x y : Text) (count : ℕ) → IsFrontOf (pending_in first) x → IsFrontOf (pending_in second) y → HaveCommon x y (Some count) → count ≢ 0 → (k : IsFilledInStep model first a second b f g)
+    → History model one f a k.t (k.given ++ take count (pending_in first)) → History model two g b k.u (k.given ++ take count (pending_in second)) → IsInStep model one a two b f g
+in_step_on model first one second two a b f g x y count h j common some k given other =
+    let w = pending_in first in
+    let within = common.0 in
+    let n : 0 < length (take count w) = omega (arith, some, within, ap length h.whole, length-append x h.behind, length-take count w) in
+    record {
+      t = k.t;
+      u = k.u;
+      given = k.given ++ take count w;
+      one = given;
+      two = subst (λ t. History model two g b k.u (k.given ++ t)) (common_taken w (pending_in second) x y count h j common) other;
+      in_step = in_step_more model k.u k.given (take count w) (read_in model second.is_open second.transducer _ g b k.u k.given k.two) n;
+    }
 
 module _ {A B : Type 0} (kept_a failed_a : A → A → Type 0) (kept_b failed_b : B → B → Type 0) where
   stop_later : ((a b c : A) → kept_a a b → kept_a b c → kept_a a c) → ((a b c : A) → kept_a a b → failed_a b c → failed_a a c) → ((a b c : B) → kept_b a b → kept_b b c → kept_b a c) → ((a b c : B) → kept_b a b → failed_b b c → failed_b a c)

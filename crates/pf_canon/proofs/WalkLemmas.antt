@@ -1,7 +1,9 @@
 -- The bytes that a walk gives.
-use Rattle.std.proofs.Common.{Option, Some, None, Result, Ok, Err, List, ◌≡◌, ℕ, [], ◌++◌, take, drop, refl, sym, ap, ◌∙◌, subst}
+use Rattle.std.proofs.Common.{Option, Some, None, Result, Ok, Err, List, ◌≡◌, ◌+◌, ◌-◌, ℕ, min, [], ◌∷◌, ◌++◌, length, take, drop, refl, sym, ap, ◌∙◌, subst, arith, inl, inr}
 use Rattle.std.specs.Prelude.{MatchResult}
-use Rattle.std.proofs.lemmas.List.{append-nil, append_assoc, take-append-drop}
+use Rattle.std.proofs.Math.Seq.{drop-append-add, drop-length}
+use Rattle.std.proofs.lemmas.Bool.{cases_lt}
+use Rattle.std.proofs.lemmas.List.{append-nil, append_assoc, drop-append-le, take-append-drop}
 use Rattle.pf_values.specs.meaning.Text.{Text}
 use Rattle.pf_values.specs.declared.models.Model.{Model}
 use Rattle.pf_values.specs.meaning.Items.{Item}
@@ -26,13 +28,23 @@ given_alike (Some (Err refusal)) model r rest waiting text given w now e h = h
 pub some_given : (given waiting : Text) (count : ℕ) → given ++ waiting ≡ (given ++ take count waiting) ++ drop count waiting
 some_given given waiting count = ap (λ t. given ++ t) (sym (take-append-drop count waiting)) ∙ sym (append_assoc given (take count waiting) (drop count waiting))
 
--- nothing waits
-pub cleared : (given : ℕ) (verbatim literal output : Text) → given ≡ 0 → verbatim ≡ [] → literal ≡ [] → drop given (verbatim ++ (literal ++ output)) ≡ output
-cleared given verbatim literal output a b c = rw (a, b, c) refl
+-- of two texts nothing is left
+pub none_both : (t u : Text) → t ++ u ≡ [] → (t ≡ []) × (u ≡ [])
+none_both [] u e = (refl, e)
+none_both (byte ∷ t) u e = absurd (cc)
 
--- verbatim bytes alone wait
-pub verbatim_waits : (given : ℕ) (verbatim literal output : Text) → given ≡ 0 → literal ≡ [] → output ≡ [] → drop given (verbatim ++ (literal ++ output)) ≡ verbatim
-verbatim_waits given verbatim literal output a b c = rw (a, b, c) (append-nil verbatim)
+-- so many bytes of two texts are left out, of the first as many as it has
+pub drop_both : (count first : ℕ) (t u : Text) → first ≡ min count (length t) → drop first t ++ drop (count - first) u ≡ drop count (t ++ u)
+drop_both count first t u e = elim (cases_lt count (length t)) [
+  | inl less ↦
+      let all : first ≡ count = omega (arith, e, less) in
+      let none : count - first ≡ 0 = omega (arith, e, less) in
+      ap (λ k. drop k t ++ drop (count - first) u) all ∙ ap (λ k. drop count t ++ drop k u) none ∙ sym (drop-append-le count t u (omega (arith, less)))
+  | inr more ↦
+      let all : first ≡ length t = omega (arith, e, more) in
+      let place : count ≡ length t + (count - first) = omega (arith, e, more) in
+      ap (λ k. drop k t ++ drop (count - first) u) all ∙ ap (λ v. v ++ drop (count - first) u) (drop-length t) ∙ sym (ap (λ k. drop k (t ++ u)) place ∙ drop-append-add t u (count - first))
+]
 
 -- verbatim bytes were taken
 pub verbatim_taken : (model : Model) (r new : Transducer) (rest waiting text given : Text) (verbatim_len : ℕ) → waiting ≡ [] → IsMidway model r rest waiting text given

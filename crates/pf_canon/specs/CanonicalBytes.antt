@@ -1,5 +1,5 @@
 -- What was taken of a text and given of its canonical text, byte by byte. This project's own.
-use Rattle.std.specs.Prelude.{◌≡◌, [], ◌∷◌, ◌≢◌, ℕ, ◌+◌, ◌-◌, ◌*◌, ◌≤◌, ◌<◌, true, false, List, ◌++◌, length, Option, Some, None, Result, Ok, Err, ◌⊎◌, MatchBool, if◌then◌else◌, ⊤, take, drop}
+use Rattle.std.specs.Prelude.{◌≡◌, [], ◌∷◌, ◌≢◌, ℕ, ◌+◌, ◌-◌, ◌*◌, ◌≤◌, ◌<◌, true, false, List, ◌++◌, length, Option, Some, None, Result, Ok, Err, IfOk, ◌⊎◌, MatchBool, if◌then◌else◌, ⊤, take, drop}
 use Rattle.std.specs.Io.KnownBytes.{Consumes, IsAtEnd}
 use Rattle.std.specs.Iterator.{Count, at_most}
 use Rattle.pf_values.specs.Counting.{HasFailed, Known, failures_of, device_of}
@@ -19,8 +19,6 @@ use Rattle.pf_canon.specs.declared.faults.StreamFault.{StreamFault}
 use Rattle.pf_canon.specs.declared.faults.StreamFault.TheVariants as faults
 use Rattle.pf_canon.specs.declared.limits.TheConstants.{MAX_DIRECTIVE_LEN}
 use Rattle.pf_canon.specs.declared.canonical_bytes.ByteTransducer.{ByteTransducer}
-use Rattle.pf_canon.specs.declared.canonical_bytes.NextStep.{NextStep}
-use Rattle.pf_canon.specs.declared.canonical_bytes.NextStep.TheVariants.{Again, Done}
 use Rattle.pf_canon.specs.declared.transducer.Transducer.{Transducer}
 use Rattle.pf_canon.specs.Output.{pending_text}
 use Rattle.pf_canon.specs.Transducer.{IsThrough, SettlesTo, StaysRefused, scanner_of, waiting_silents_of}
@@ -92,6 +90,10 @@ pub record IsRefusedBehind (start left : Known) (taken : Text) (refusal : Refusa
       (last : ℕ) × (refusal.kind ≢ Truncated) × Consumes start left (taken ++ last ∷ [])
       × StaysRefused taken last refusal)
 
+-- what is pending
+abbrev pub pending_in : ByteTransducer → Text
+pending_in s = pending_text s.pending
+
 -- nothing comes any more
 abbrev pub IsOver : ByteTransducer → Type 0
 IsOver s = (s.is_open ≡ false) × (pending_text s.pending ≡ [])
@@ -118,27 +120,41 @@ AnswerLeaves model (Some (Err (faults.Refused refusal))) new start left taken gi
     × IsReadFor model taken given
     × IsOver new
 
--- what one step leaves
-abbrev pub StepLeaves : Model → NextStep → ByteTransducer → Known → Known → Text → Text → Type 0
-StepLeaves model Again new start left taken given = History model new start left taken given
-StepLeaves model (Done r) new start left taken given =
-    AnswerLeaves model r new start left taken given
+-- nothing is pending, and the text may go on
+abbrev pub WantsByte : ByteTransducer → Type 0
+WantsByte s = (s.is_open ≡ true) × (pending_in s ≡ [])
+
+-- something is pending, or the text is over
+abbrev pub IsFilled : ByteTransducer → Type 0
+IsFilled s = pending_in s ≡ [] → s.is_open ≡ false
+
+-- what is left where more of the text was taken, or it stopped
+abbrev pub FillLeaves : Model → Result (Unit {0}) StreamFault → ByteTransducer → Known → Known
+    → Text → Text → Type 0
+FillLeaves model (Ok done) new start left taken given = History model new start left taken given
+FillLeaves model (Err fault) new start left taken given =
+    AnswerLeaves model (Some (Err fault)) new start left taken given
 
 -- no fault of the reader
-abbrev pub IsNoReadFault : NextStep → Type 0
-IsNoReadFault (Done (Some (Err faults.Read))) = ⊥
-IsNoReadFault step = ⊤
+abbrev pub IsNoReadFault : Result (Unit {0}) StreamFault → Type 0
+IsNoReadFault (Err faults.Read) = ⊥
+IsNoReadFault r = ⊤
 
 module _ {B : Type 0} (kept failed : B → B → Type 0) where
+  -- what a fault says of the failures of a reader
+  abbrev pub FaultCounts : StreamFault → B → B → Type 0
+  FaultCounts faults.Read old new = failed old new
+  FaultCounts (faults.Refused refusal) old new = kept old new
+
   -- a failure was counted where the answer is one
   abbrev pub CountsFault : Option (Result ℕ StreamFault) → B → B → Type 0
-  CountsFault (Some (Err faults.Read)) old new = failed old new
+  CountsFault (Some (Err fault)) old new = FaultCounts fault old new
   CountsFault r old new = kept old new
 
-  -- the same of a step
-  abbrev pub CountsStep : NextStep → B → B → Type 0
-  CountsStep Again old new = kept old new
-  CountsStep (Done r) old new = CountsFault r old new
+  -- the same of a reader that is read on
+  abbrev pub CountsDrain : {E : Type 0} → Result E StreamFault → B → B → Type 0
+  CountsDrain (Ok done) old new = kept old new
+  CountsDrain (Err fault) old new = FaultCounts fault old new
 
 -- what a call of `next` answers and leaves, in the data model of what went before
 pub record StepsBy {B : Type 0} (left : B → Known) (kept failed : B → B → Type 0)
@@ -162,10 +178,23 @@ abbrev pub LowersAnswer : Option (Result ℕ StreamFault) → ByteTransducer →
 LowersAnswer None old new = units new ≤ units old
 LowersAnswer (Some r) old new = units new < units old
 
--- so does each step
-abbrev pub LowersUnits : NextStep → ByteTransducer → ByteTransducer → Type 0
-LowersUnits Again old new = units new < units old
-LowersUnits (Done r) old new = LowersAnswer r old new
+-- so does a fault
+abbrev pub LowersFill : Result (Unit {0}) StreamFault → ByteTransducer → ByteTransducer → Type 0
+LowersFill (Ok done) old new = units new ≤ units old
+LowersFill (Err fault) old new = units new < units old
+
+-- What a call of `fill` answers and leaves. Where something is pending or the text is over already,
+-- it does nothing.
+pub record FillsBy {B : Type 0} (left : B → Known) (kept failed : B → B → Type 0)
+    (old : ByteTransducer) (from : B) (r : Result (Unit {0}) StreamFault) (new : ByteTransducer)
+    (to : B) : Type 0 where
+  pub next : (model : Model) (start : Known) (taken given : Text)
+      → History model old start (left from) taken given
+      → (more : Text) × FillLeaves model r new start (left to) (taken ++ more) given
+  pub filled : IfOk r (λ _. IsFilled new)
+  pub still : IsFilled old → (r ≡ Ok tt) × (new ≡ old) × (to ≡ from)
+  pub counts : CountsDrain kept failed r from to
+  pub lower : LowersFill r old new
 
 module _ {R : Type 0} where
   -- the reader that it takes from

@@ -1,5 +1,5 @@
 -- What two texts that are compared have come to. This project's own.
-use Rattle.std.specs.Prelude.{◌≡◌, ◌≢◌, ℕ, [], ◌++◌, length, take, Option, Some, None, ◌⊎◌, ◌≤◌, ◌<◌, Bool, true, ◌∷◌, Result, Ok, Err, ◌↔◌, IsTrue, ⊤}
+use Rattle.std.specs.Prelude.{◌≡◌, ◌≢◌, ℕ, [], ◌++◌, length, take, Option, Some, None, ◌⊎◌, ◌≤◌, ◌<◌, Bool, ◌∷◌, Result, Ok, Err, ◌↔◌, IsTrue}
 use Rattle.std.specs.Io.KnownBytes.{Consumes, IsAtEnd}
 use Rattle.pf_values.specs.meaning.Text.{Text}
 use Rattle.pf_values.specs.declared.models.Model.{Model}
@@ -9,15 +9,13 @@ use Rattle.pf_values.specs.meaning.Items.{IsAccepted}
 use Rattle.pf_values.specs.meaning.Printing.{AreEquivalent}
 use Rattle.pf_values.specs.meaning.Refusals.{IsRefusedAt}
 use Rattle.pf_text.specs.declared.refusal.Refusal.{Refusal}
-use Rattle.pf_canon.specs.declared.comparison.NextBytes.{NextBytes}
-use Rattle.pf_canon.specs.declared.comparison.NextBytes.TheVariants.{Equal, BothEnded, Differ}
 use Rattle.pf_canon.specs.declared.faults.SideFault.{SideFault}
 use Rattle.pf_canon.specs.declared.faults.StreamFault.{StreamFault}
 use Rattle.pf_canon.specs.declared.faults.StreamFault.TheVariants as faults
 use Rattle.pf_canon.specs.declared.faults.Side.{Side}
 use Rattle.pf_canon.specs.declared.faults.Side.TheVariants.{First, Second}
 use Rattle.pf_canon.specs.declared.canonical_bytes.ByteTransducer.{ByteTransducer}
-use Rattle.pf_canon.specs.CanonicalBytes.{History, IsEnding, IsOver, IsReadFor, IsRefusedBehind, units}
+use Rattle.pf_canon.specs.CanonicalBytes.{FaultCounts, History, IsFilled, IsRefusedBehind}
 use Rattle.pf_canon.specs.Transducer.{SettlesTo}
 
 -- two texts begin with the same bytes, so many
@@ -82,18 +80,6 @@ StopsOn model Second fault f f_left g g_left =
 abbrev pub StopsSide : Model → Known → Known → Known → Known → SideFault → Type 0
 StopsSide model f f_left g g_left stop = StopsOn model stop.side stop.fault f f_left g g_left
 
--- what a fault says of the failures of a reader
-abbrev pub FaultCounts : {B : Type 0} → (B → B → Type 0) → (B → B → Type 0) → StreamFault → B
-    → B → Type 0
-FaultCounts kept failed (faults.Refused refusal) old new = kept old new
-FaultCounts kept failed faults.Read old new = failed old new
-
--- what a reader counts that is read to its end
-abbrev pub CountsDrain : {B E : Type 0} → (B → B → Type 0) → (B → B → Type 0)
-    → Result E StreamFault → B → B → Type 0
-CountsDrain kept failed (Ok done) old new = kept old new
-CountsDrain kept failed (Err fault) old new = FaultCounts kept failed fault old new
-
 -- a reader has not failed, or just once
 abbrev pub FailsOnceAtMost : {B : Type 0} → (B → B → Type 0) → (B → B → Type 0) → B → B → Type 0
 FailsOnceAtMost kept failed old new = kept old new ⊎ failed old new
@@ -136,36 +122,20 @@ TextStopsOn Second f g refusal = IsAccepted f × IsRefusedAt g refusal.kind refu
 abbrev pub TextStops : Text → Text → Side × Refusal → Type 0
 TextStops f g stop = TextStopsOn stop.0 f g stop.1
 
--- one byte, both ends, or a difference
-abbrev pub AreNextBytes : Option ℕ → Option ℕ → NextBytes → Type 0
-AreNextBytes x y Equal = (byte : ℕ) × (x ≡ Some byte) × (y ≡ Some byte)
-AreNextBytes x y BothEnded = (x ≡ None) × (y ≡ None)
-AreNextBytes x y Differ = x ≢ y
-
--- a byte transducer gave this byte, or ended
-abbrev pub Gave : Model → Option ℕ → ByteTransducer → Known → Known → Text → Text → Type 0
-Gave model None s start left taken given = IsEnding model [] start left taken given × IsOver s
-Gave model (Some byte) s start left taken given =
-    History model s start left taken (given ++ byte ∷ [])
-
--- what a text that begins so goes on with
-abbrev pub BeginsWith : Option ℕ → Text → Type 0
-BeginsWith None rest = rest ≡ []
-BeginsWith (Some byte) rest = (more : Text) × (rest ≡ byte ∷ more)
-
--- a text was read whole, and this begins what was still to be given of its canonical text
-pub record Drained (model : Model) (x : Option ℕ) (start left : Known) (given : Text) : Type 0 where
+-- A text was read whole, and `given` begins its canonical text. What waited comes then, and nothing
+-- after it if that is nothing.
+pub record Drained (model : Model) (waiting : Text) (start left : Known)
+    (given : Text) : Type 0 where
   pub text : Text
   pub rest : Text
   pub whole : IsReadWhole model start left text
-  pub canonical : IsCanonicalOf model text (given ++ rest)
-  pub begins : BeginsWith x rest
+  pub canonical : IsCanonicalOf model text (given ++ (waiting ++ rest))
+  pub ended : waiting ≡ [] → rest ≡ []
 
 -- the rest was read, or the text stopped on the way, having settled more than was given
-abbrev pub DrainsTo : Model → Option ℕ → Known → Known → Text → Result (Unit {0}) StreamFault
-    → Type 0
-DrainsTo model x start left given (Ok done) = Drained model x start left given
-DrainsTo model x start left given (Err fault) =
+abbrev pub DrainsTo : Model → Text → Known → Known → Text → Result (Unit {0}) StreamFault → Type 0
+DrainsTo model waiting start left given (Ok done) = Drained model waiting start left given
+DrainsTo model waiting start left given (Err fault) =
     (taken settled : Text) × StopsBy model fault start left taken settled
     × (length given < length settled)
 
@@ -179,33 +149,13 @@ pub record IsInStep (model : Model) (first : ByteTransducer) (a : Known) (second
   pub two : History model second g b u given
   pub in_step : IsReadInStep model u given
 
--- and now something else
-pub record IsApart (model : Model) (first : ByteTransducer) (a : Known) (second : ByteTransducer)
-    (b f g : Known) : Type 0 where
-  pub x : Option ℕ
-  pub y : Option ℕ
+-- both gave the same bytes, and more is pending of each, or it is over
+pub record IsFilledInStep (model : Model) (first : ByteTransducer) (a : Known)
+    (second : ByteTransducer) (b f g : Known) : Type 0 where
   pub t : Text
   pub u : Text
   pub given : Text
-  pub differ : x ≢ y
-  pub one : Gave model x first f a t given
-  pub two : Gave model y second g b u given
-  pub read : IsReadFor model u given
-
--- what the next byte of both leaves
-abbrev pub NextBytesLeave : Model → ByteTransducer → Known → ByteTransducer → Known → Known → Known
-    → Result NextBytes SideFault → Type 0
-NextBytesLeave model first a second b f g (Ok Equal) = IsInStep model first a second b f g
-NextBytesLeave model first a second b f g (Ok BothEnded) = EndsBoth model f a g b true
-NextBytesLeave model first a second b f g (Ok Differ) = IsApart model first a second b f g
-NextBytesLeave model first a second b f g (Err stop) = StopsSide model f a g b stop
-
--- both go on only where there is a byte
-abbrev pub GoesOnlyWith : Option ℕ → Result NextBytes SideFault → Type 0
-GoesOnlyWith x (Ok Equal) = (byte : ℕ) × (x ≡ Some byte)
-GoesOnlyWith x r = ⊤
-
--- where both go on, less is to come
-abbrev pub Lowers : ByteTransducer → ByteTransducer → Result NextBytes SideFault → Type 0
-Lowers old new (Ok Equal) = units new < units old
-Lowers old new r = ⊤
+  pub one : History model first f a t given
+  pub two : History model second g b u given
+  pub one_filled : IsFilled first
+  pub two_filled : IsFilled second

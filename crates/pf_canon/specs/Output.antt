@@ -1,12 +1,10 @@
 -- What one item settles, and the bytes of it that are still to be given. This project's own.
-use Rattle.std.specs.Prelude.{◌≡◌, ℕ, [], ◌∷◌, ◌++◌, replicate, flat_map, ◌-◌, ◌==◌, drop, Option, Some, None, if◌then◌else◌}
+use Rattle.std.specs.Prelude.{◌≡◌, ℕ, [], ◌∷◌, ◌++◌, replicate, flat_map, drop, Option, Some, None}
 use Rattle.pf_values.specs.meaning.Canonical.{item_spelling}
 use Rattle.pf_values.specs.meaning.Text.{Text, space, zero_digit}
 use Rattle.pf_text.specs.Plain.{silents}
 use Rattle.pf_canon.specs.declared.output.Output.{Output}
 use Rattle.pf_canon.specs.declared.output.PendingOutput.{PendingOutput}
-use Rattle.pf_canon.specs.declared.output.PendingSilents.{PendingSilents}
-use Rattle.pf_canon.specs.declared.output.PendingSpelling.{PendingSpelling}
 
 -- spaces, zeros, silent directives, other bytes, and spaces
 abbrev pub in_order : Text → Text → Text → Text → Text → Text
@@ -42,25 +40,11 @@ abbrev pub Pops : Text → Option ℕ → Text → Type 0
 Pops t None rest = (t ≡ []) × (rest ≡ [])
 Pops t (Some byte) rest = t ≡ byte ∷ rest
 
--- `%.0s` from a place on
-abbrev pub silent_rest : ℕ → Text
-silent_rest at =
-    if at == 0 then 37 ∷ 46 ∷ 48 ∷ 115 ∷ [] else
-    if at == 1 then 46 ∷ 48 ∷ 115 ∷ [] else
-    if at == 2 then 48 ∷ 115 ∷ [] else
-    115 ∷ []
+-- the bytes of an output, if there is one
+abbrev pub text_of_some : Option Output → Text
+text_of_some None = []
+text_of_some (Some output) = output_text output
 
--- some `%.0s`, the first of them from a place on
-abbrev pub pending_silents_text : PendingSilents → Text
-pending_silents_text s =
-    if s.count == 0 then [] else silent_rest s.at ++ flat_map item_spelling (silents (s.count - 1))
-
--- the spelling of a directive, but for the bytes that were given
-abbrev pub pending_spelling_text : PendingSpelling → Text
-pending_spelling_text s = drop s.given s.bytes.items
-
--- all of them, in order
+-- those that are still to be given
 abbrev pub pending_text : PendingOutput → Text
-pending_text d = in_order
-    (replicate d.spaces space) (replicate d.zeros zero_digit) (pending_silents_text d.silents)
-    (pending_spelling_text d.spelling) (replicate d.trail space)
+pending_text p = drop p.given (text_of_some p.output)

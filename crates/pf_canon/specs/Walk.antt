@@ -1,5 +1,5 @@
 -- What a walk through a text in memory has given. This project's own.
-use Rattle.std.specs.Prelude.{◌≡◌, ◌≢◌, ℕ, ◌+◌, ◌*◌, List, [], ◌++◌, length, drop, Bool, MatchBool, Option, Some, None, Result, Ok, Err}
+use Rattle.std.specs.Prelude.{◌≡◌, ◌≢◌, ℕ, ◌+◌, ◌*◌, List, [], ◌++◌, length, Bool, MatchBool, Option, Some, None, Result, Ok, Err}
 use Rattle.pf_values.specs.declared.models.Model.{Model}
 use Rattle.pf_values.specs.meaning.Canonical.{IsCanonicalOf}
 use Rattle.pf_values.specs.meaning.Items.{Item, IsAccepted}
@@ -7,20 +7,14 @@ use Rattle.pf_values.specs.meaning.Refusals.{IsRefusedAt}
 use Rattle.pf_values.specs.meaning.Text.{Text}
 use Rattle.pf_text.specs.declared.refusal.Refusal.{Refusal}
 use Rattle.pf_canon.specs.declared.limits.TheConstants.{MAX_DIRECTIVE_LEN}
-use Rattle.pf_canon.specs.declared.output.Output.{Output}
 use Rattle.pf_canon.specs.declared.transducer.Transducer.{Transducer}
 use Rattle.pf_canon.specs.declared.walk.Walk.{Walk}
-use Rattle.pf_canon.specs.Output.{output_text}
+use Rattle.pf_canon.specs.Output.{pending_text}
 use Rattle.pf_canon.specs.Transducer.{IsThrough, waiting_silents_of}
-
--- the bytes of an output, if there is one
-abbrev pub text_of_some : Option Output → Text
-text_of_some None = []
-text_of_some (Some output) = output_text output
 
 -- the bytes that wait
 abbrev pub waits : Walk → Text
-waits w = drop w.given (w.verbatim.now ++ (w.literal.now ++ text_of_some w.output))
+waits w = w.bytes.now ++ pending_text w.output
 
 -- Of a text `rest` is not taken. The other bytes settle what was given, and what waits.
 pub record IsMidway (model : Model) (r : Transducer) (rest waiting text given : Text) : Type 0 where
@@ -84,17 +78,3 @@ pub record GoInStep (model : Model) (first : Walk) (f : Text) (second : Walk) (g
   pub two_ended : waits second ≡ [] → second.end ≢ None
   pub so : MatchBool is ((waits first ≡ []) × (waits second ≡ []))
       (AreApart (waits first) (waits second))
-
--- nothing waits
-pub record IsClear (w : Walk) : Type 0 where
-  pub verbatim : w.verbatim.now ≡ []
-  pub literal : w.literal.now ≡ []
-  pub output : text_of_some w.output ≡ []
-  pub given : w.given ≡ 0
-
--- all that waited was left out
-pub record IsCleared (old new : Walk) : Type 0 where
-  pub clear : IsClear new
-  pub transducer : new.transducer ≡ old.transducer
-  pub rest : new.rest.now ≡ old.rest.now
-  pub end : new.end ≡ old.end

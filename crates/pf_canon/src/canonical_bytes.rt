@@ -1,17 +1,17 @@
 //! The canonical text of what a reader hands out, byte by byte.
-ghost use Rattle.std.specs.Prelude.{◌≡◌, [], ◌++◌, ◌∷◌, true, List};
+ghost use Rattle.std.specs.Prelude.{◌≡◌, [], ◌++◌, ◌∷◌, ◌+◌, ◌<◌, ◌≤◌, length, take, List, MatchBool};
 ghost use Rattle.std.specs.Io.KnownBytes.{Consumes, IsAtEnd};
 ghost use Rattle.std.proofs.Common.{◌∙◌, refl};
 ghost use Rattle.pf_values.specs.Counting.{HasFailed, Known, calls_after, calls_of, device_of, failures_of};
 ghost use Rattle.pf_values.specs.meaning.Items.{Item};
 ghost use Rattle.pf_values.specs.meaning.Text.{Text};
-ghost use Rattle.pf_canon.specs.CanonicalBytes.{CountsByteRead, CountsStep, FindsByte, History, IsNoReadFault, IsOver, IsReadFor, LowersAnswer, LowersUnits, StepLeaves, StepsBy, StreamHistory, failed_later, reader_of};
-ghost use Rattle.pf_canon.specs.Output.{pending_text};
+ghost use Rattle.pf_canon.specs.CanonicalBytes.{CountsByteRead, CountsDrain, FillLeaves, FillsBy, FindsByte, History, WantsByte, IsFilled, IsNoReadFault, IsReadFor, LowersAnswer, StepsBy, StreamHistory, failed_later, pending_in, reader_of, units};
+ghost use Rattle.pf_canon.specs.Comparison.{DrainsTo};
+ghost use Rattle.pf_canon.specs.Output.{IsFrontOf};
 ghost use Rattle.pf_canon.specs.Transducer.{IsThrough};
-ghost use Rattle.pf_canon.specs.declared.canonical_bytes.NextStep.TheVariants.{Done};
 
 use crate::faults::StreamFault;
-use crate::output::{PendingOutput, StepOutput};
+use crate::output::PendingOutput;
 use crate::transducer::Transducer;
 use pf_values::{Counted, Model};
 use std::io::Read;
@@ -64,21 +64,13 @@ impl<R: Read + Drop> Iterator for CanonBytes<R> {
     }
 }
 
-/// A transducer whose output is taken byte by byte: what it has settled and is still to be given,
+/// A transducer that asks for its text byte by byte: what it has settled and is still to be given,
 /// and whether the text may go on.
 #[derive(Drop)]
 pub(crate) struct ByteTransducer {
     transducer: Transducer,
     pending: PendingOutput,
     is_open: bool,
-}
-
-/// What one step of a call of `next` comes to.
-pub(crate) enum NextStep {
-    /// One more step is to be made.
-    Again,
-    /// The call returns this.
-    Done(Option<Result<u8, StreamFault>>),
 }
 
 impl ByteTransducer {
@@ -99,84 +91,124 @@ impl ByteTransducer {
             result self.new bytes.new }
         ensures lower { LowersAnswer result self.old self.new }
     {
-        loop {
-            match self.advance(bytes) {
-                NextStep::Again => {}
-                NextStep::Done(answer) => return answer,
-            }
+        if let Err(fault) = self.fill(bytes) {
+            return Some(Err(fault));
         }
+        let byte = self.pending.pop()?;
+        Some(Ok(byte))
     }
 
-    // Gives a pending byte, or takes one from the text.
-    fn advance<B: Bytes>(&mut self, bytes: &mut B) -> NextStep
+    /// Takes from the text, until something is pending or the text is over.
+    pub(crate) fn fill<B: Bytes>(&mut self, bytes: &mut B) -> Result<(), StreamFault>
+        ensures { FillsBy B.left B.kept B.failed self.old bytes.old result self.new bytes.new }
+    {
+        while self.wants_byte() {
+            self.ask(bytes)?;
+        }
+        Ok(())
+    }
+
+    // Whether nothing is pending, and the text may go on.
+    fn wants_byte(&self) -> bool
+        ensures { MatchBool result (WantsByte self.now) (IsFilled self.now) }
+    {
+        if !self.is_open {
+            return false;
+        }
+        self.front().is_empty()
+    }
+
+    /// The first bytes that are pending, some if there are any.
+    pub(crate) fn front(&self) -> &[u8]
+        ensures { IsFrontOf (pending_in self.now) result.now }
+    {
+        self.pending.front()
+    }
+
+    /// Gives so many of the bytes that are pending, or all if there are fewer.
+    pub(crate) fn skip(&mut self, count: usize)
+        ensures given { (model : Model) (start left : Known) (taken given : Text)
+            → History model self.old start left taken given
+            → History model self.new start left taken (given ++ take count (pending_in self.old)) }
+        ensures fewer { count ≤ length (pending_in self.old)
+            → units self.new + count ≤ units self.old }
+    {
+        self.pending.skip(count);
+    }
+
+    /// Takes the rest of the text, and gives none of it.
+    pub(crate) fn drain<B: Bytes>(&mut self, bytes: &mut B) -> Result<(), StreamFault>
+        ensures drained { (model : Model) (start : Known) (taken given : Text)
+            → History model self.old start (B.left bytes.old) taken given → IsFilled self.old
+            → DrainsTo model (pending_in self.old) start (B.left bytes.new) given result }
+        ensures counts { CountsDrain B.kept B.failed result bytes.old bytes.new }
+    {
+        while self.is_open {
+            self.pending = PendingOutput::new();
+            self.ask(bytes)?;
+        }
+        Ok(())
+    }
+
+    // Asks for the next byte of the text, or its end. What that settles is pending.
+    fn ask<B: Bytes>(&mut self, bytes: &mut B) -> Result<(), StreamFault>
+        requires { WantsByte self.old }
         ensures next { (model : Model) (start : Known) (taken given : Text)
             → History model self.old start (B.left bytes.old) taken given
             → (more : Text)
-            × StepLeaves model result self.new start (B.left bytes.new) (taken ++ more) given }
-        ensures over { IsOver self.old → (result ≡ Done None) × IsOver self.new
-            × (bytes.new ≡ bytes.old) }
-        ensures counts { CountsStep B.kept B.failed result bytes.old bytes.new }
-        ensures lower { LowersUnits result self.old self.new }
+            × FillLeaves model result self.new start (B.left bytes.new) (taken ++ more) given }
+        ensures counts { CountsDrain B.kept B.failed result bytes.old bytes.new }
+        ensures lower { units self.new < units self.old }
     {
-        if let Some(byte) = self.pending.pop() {
-            return NextStep::Done(Some(Ok(byte)));
-        }
-        if !self.is_open {
-            return NextStep::Done(None);
-        }
         match bytes.take() {
             ByteRead::Byte(byte) => self.take(byte),
             ByteRead::End => self.end(),
             ByteRead::Failed => {
                 self.is_open = false;
-                NextStep::Done(Some(Err(StreamFault::Read)))
+                Err(StreamFault::Read)
             }
         }
     }
 
     // Feeds a byte that was taken.
-    fn take(&mut self, byte: u8) -> NextStep
-        requires open { self.old.is_open ≡ true }
-        requires none_pending { pending_text self.old.pending ≡ [] }
+    fn take(&mut self, byte: u8) -> Result<(), StreamFault>
+        requires { WantsByte self.old }
         ensures next { (model : Model) (start left : Known) (taken given : Text) (items : List Item)
             → Consumes start left (taken ++ byte ∷ []) → IsReadFor model taken given
             → IsThrough model self.old.transducer taken items given
-            → (more : Text) × StepLeaves model result self.new start left (taken ++ more) given }
+            → (more : Text) × FillLeaves model result self.new start left (taken ++ more) given }
         ensures no_fault { IsNoReadFault result }
-        ensures lower { LowersUnits result self.old self.new }
+        ensures lower { units self.new < units self.old }
     {
         match self.transducer.feed(byte) {
-            Ok(StepOutput::Nothing) => NextStep::Again,
-            Ok(StepOutput::Literal) => NextStep::Done(Some(Ok(byte))),
-            Ok(StepOutput::Output(output)) => {
-                self.pending = PendingOutput::of(output);
-                NextStep::Again
+            Ok(output) => {
+                self.pending = PendingOutput::of_byte(output, byte);
+                Ok(())
             }
             Err(refusal) => {
                 self.is_open = false;
-                NextStep::Done(Some(Err(StreamFault::Refused(refusal))))
+                Err(StreamFault::Refused(refusal))
             }
         }
     }
 
     // Feeds the end of the text.
-    fn end(&mut self) -> NextStep
-        requires open { self.old.is_open ≡ true }
-        requires none_pending { pending_text self.old.pending ≡ [] }
+    fn end(&mut self) -> Result<(), StreamFault>
+        requires { WantsByte self.old }
         ensures next { (model : Model) (start left : Known) (taken given : Text) (items : List Item)
             → Consumes start left taken → IsAtEnd left → IsReadFor model taken given
             → IsThrough model self.old.transducer taken items given
-            → (more : Text) × StepLeaves model result self.new start left (taken ++ more) given }
+            → (more : Text) × FillLeaves model result self.new start left (taken ++ more) given }
         ensures no_fault { IsNoReadFault result }
-        ensures lower { LowersUnits result self.old self.new }
+        ensures lower { units self.new < units self.old }
     {
         self.is_open = false;
         match self.transducer.finish() {
             Ok(output) => {
                 self.pending = PendingOutput::of(output);
-                NextStep::Again
+                Ok(())
             }
-            Err(refusal) => NextStep::Done(Some(Err(StreamFault::Refused(refusal)))),
+            Err(refusal) => Err(StreamFault::Refused(refusal)),
         }
     }
 }

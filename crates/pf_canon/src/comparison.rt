@@ -1,10 +1,10 @@
 //! Two texts, compared in step.
-ghost use Rattle.std.specs.Prelude.{◌≡◌, ℕ, Option, Some, None, Err, IfOk, IfSome, MatchResult, ◌≢◌, [], MatchBool};
+ghost use Rattle.std.specs.Prelude.{◌≡◌, ◌≤◌, Some, Err, IfOk, IfSome, MatchResult, ◌≢◌, [], MatchBool};
 ghost use Rattle.pf_values.specs.Counting.{HasFailed, Known, device_of, failures_of};
 ghost use Rattle.pf_values.specs.meaning.Text.{Text};
-ghost use Rattle.pf_canon.specs.Comparison.{AreCommon, AreNextBytes, AreTextsSame, CountsBehind, CountsDrain, CountsSides, DrainsTo, EndsBoth, Gave, GoesOnlyWith, HaveCommon, IsApart, IsInStep, Lowers, NextBytesLeave, StopsSide, TextStops};
-ghost use Rattle.pf_canon.specs.CanonicalBytes.{AnswerLeaves, History};
-ghost use Rattle.pf_canon.specs.Walk.{GoInStep, WalkHasGiven};
+ghost use Rattle.pf_canon.specs.Comparison.{AreCommon, AreTextsSame, CountsBehind, CountsSides, EndsBoth, HaveCommon, IsFilledInStep, IsInStep, StopsSide, TextStops};
+ghost use Rattle.pf_canon.specs.CanonicalBytes.{AnswerLeaves, History, IsFilled, pending_in, units};
+ghost use Rattle.pf_canon.specs.Walk.{AreApart, GoInStep, WalkHasGiven};
 
 use crate::canonical_bytes::{ByteTransducer, Bytes};
 use crate::faults::{Side, SideFault, StreamFault};
@@ -136,40 +136,6 @@ fn go_in_step(first: &mut Walk<'_>, second: &mut Walk<'_>) -> bool
     }
 }
 
-// How the next bytes of two canonical texts compare.
-enum NextBytes {
-    // They are one byte.
-    Equal,
-    // Both texts ended.
-    BothEnded,
-    // They are two bytes, or a byte and the end.
-    Differ,
-}
-
-fn next_bytes_of(x: Option<u8>, y: Option<u8>) -> NextBytes
-    ensures { AreNextBytes x y result }
-{
-    match x {
-        None => match y {
-            None => NextBytes::BothEnded,
-            Some(_) => NextBytes::Differ,
-        },
-        Some(first) => match y {
-            None => NextBytes::Differ,
-            Some(second) => next_bytes_of_two(first, second),
-        },
-    }
-}
-
-fn next_bytes_of_two(first: u8, second: u8) -> NextBytes
-    ensures { AreNextBytes (Some first) (Some second) result }
-{
-    if first == second {
-        return NextBytes::Equal;
-    }
-    NextBytes::Differ
-}
-
 fn same_bytes<A: Bytes, B: Bytes>(model: Model, a: &mut A, b: &mut B) -> Result<bool, SideFault>
     ensures compared { MatchResult result
         (EndsBoth model (A.left a.old) (A.left a.new) (B.left b.old) (B.left b.new))
@@ -179,71 +145,73 @@ fn same_bytes<A: Bytes, B: Bytes>(model: Model, a: &mut A, b: &mut B) -> Result<
     let mut first = ByteTransducer::new(model);
     let mut second = ByteTransducer::new(model);
     loop {
-        match next_of_both(&mut first, a, &mut second, b) {
-            Ok(NextBytes::Equal) => {}
-            Ok(NextBytes::BothEnded) => return Ok(true),
-            Ok(NextBytes::Differ) => return drain_both(&mut first, a, &mut second, b),
-            Err(stop) => return Err(stop),
+        fill_both(&mut first, a, &mut second, b)?;
+        match common_front(first.front(), second.front()) {
+            Some(0) => return Ok(true),
+            Some(count) => {
+                first.skip(count);
+                second.skip(count);
+            }
+            None => return drain_both(&mut first, a, &mut second, b),
         }
     }
 }
 
-// The next byte of both.
-fn next_of_both<A: Bytes, B: Bytes>(
+// Takes from each text, until something of it is pending or it is over.
+fn fill_both<A: Bytes, B: Bytes>(
     first: &mut ByteTransducer,
     a: &mut A,
     second: &mut ByteTransducer,
     b: &mut B,
-) -> Result<NextBytes, SideFault>
+) -> Result<(), SideFault>
     ensures in_step { (model : Model) (f g : Known)
         → IsInStep model first.old (A.left a.old) second.old (B.left b.old) f g
-        → NextBytesLeave model first.new (A.left a.new) second.new (B.left b.new) f g result }
+        → MatchResult result
+        (λ _. IsFilledInStep model first.new (A.left a.new) second.new (B.left b.new) f g)
+        (StopsSide model f (A.left a.new) g (B.left b.new)) }
     ensures counts { CountsSides A.kept A.failed B.kept B.failed result a.old a.new b.old b.new }
-    ensures lower { Lowers first.old first.new result }
+    ensures lower { IfOk result (λ _. units first.new ≤ units first.old) }
 {
-    match first.next(a) {
-        None => next_of_second(None, first, a, second, b),
-        Some(Ok(byte)) => next_of_second(Some(byte), first, a, second, b),
-        Some(Err(fault)) => Err(SideFault {
+    match first.fill(a) {
+        Ok(()) => fill_second(first, a, second, b),
+        Err(fault) => Err(SideFault {
             side: Side::First,
             fault,
         }),
     }
 }
 
-// The first text gave this byte, or ended.
-fn next_of_second<A: Bytes, B: Bytes>(
-    x: Option<u8>,
+// The same where the first is filled.
+fn fill_second<A: Bytes, B: Bytes>(
     first: &mut ByteTransducer,
     a: &mut A,
     second: &mut ByteTransducer,
     b: &mut B,
-) -> Result<NextBytes, SideFault>
+) -> Result<(), SideFault>
     ensures in_step { (model : Model) (f g : Known) (t u given : Text)
-        → Gave model x first.old f (A.left a.old) t given
+        → History model first.old f (A.left a.old) t given → IsFilled first.old
         → History model second.old g (B.left b.old) u given
-        → NextBytesLeave model first.new (A.left a.new) second.new (B.left b.new) f g result }
+        → MatchResult result
+        (λ _. IsFilledInStep model first.new (A.left a.new) second.new (B.left b.new) f g)
+        (StopsSide model f (A.left a.new) g (B.left b.new)) }
     ensures counts { CountsSides A.kept A.failed B.kept B.failed result a.old a.new b.old b.new }
     ensures first { IfOk result (λ _. first.new ≡ first.old) }
-    ensures going { GoesOnlyWith x result }
 {
-    match second.next(b) {
-        None => Ok(next_bytes_of(x, None)),
-        Some(Ok(byte)) => Ok(next_bytes_of(x, Some(byte))),
-        Some(Err(fault)) => Err(earlier_fault(first, a, fault)),
+    match second.fill(b) {
+        Ok(()) => Ok(()),
+        Err(fault) => Err(earlier_fault(first, a, fault)),
     }
 }
 
 // The fault of a comparison whose second text has this fault: that of the first, if it has one.
 fn earlier_fault<A: Bytes>(first: &mut ByteTransducer, a: &mut A, fault: StreamFault) -> SideFault
-    ensures stopped { (model : Model) (x : Option ℕ) (second : ByteTransducer) (f g b : Known)
-        (t u given : Text)
-        → Gave model x first.old f (A.left a.old) t given
+    ensures stopped { (model : Model) (second : ByteTransducer) (f g b : Known) (t u given : Text)
+        → History model first.old f (A.left a.old) t given → IsFilled first.old
         → AnswerLeaves model (Some (Err fault)) second g b u given
         → StopsSide model f (A.left a.new) g b result }
     ensures counts { CountsBehind A.kept A.failed fault result.side result.fault a.old a.new }
 {
-    match drain(first, a) {
+    match first.drain(a) {
         Ok(()) => SideFault {
             side: Side::Second,
             fault,
@@ -263,13 +231,14 @@ fn drain_both<A: Bytes, B: Bytes>(
     b: &mut B,
 ) -> Result<bool, SideFault>
     ensures compared { (model : Model) (f g : Known)
-        → IsApart model first.old (A.left a.old) second.old (B.left b.old) f g
+        → IsFilledInStep model first.old (A.left a.old) second.old (B.left b.old) f g
+        → AreApart (pending_in first.old) (pending_in second.old)
         → MatchResult result (EndsBoth model f (A.left a.new) g (B.left b.new))
         (StopsSide model f (A.left a.new) g (B.left b.new)) }
     ensures counts { CountsSides A.kept A.failed B.kept B.failed result a.old a.new b.old b.new }
 {
-    match drain(first, a) {
-        Ok(()) => match drain(second, b) {
+    match first.drain(a) {
+        Ok(()) => match second.drain(b) {
             Ok(()) => Ok(false),
             Err(fault) => Err(SideFault {
                 side: Side::Second,
@@ -280,22 +249,6 @@ fn drain_both<A: Bytes, B: Bytes>(
             side: Side::First,
             fault,
         }),
-    }
-}
-
-// Reads the rest, and gives none of it.
-fn drain<B: Bytes>(transducer: &mut ByteTransducer, bytes: &mut B) -> Result<(), StreamFault>
-    ensures drained { (model : Model) (x : Option ℕ) (start : Known) (taken given : Text)
-        → Gave model x transducer.old start (B.left bytes.old) taken given
-        → DrainsTo model x start (B.left bytes.new) given result }
-    ensures counts { CountsDrain B.kept B.failed result bytes.old bytes.new }
-{
-    loop {
-        match transducer.next(bytes) {
-            None => return Ok(()),
-            Some(Ok(_)) => {}
-            Some(Err(fault)) => return Err(fault),
-        }
     }
 }
 

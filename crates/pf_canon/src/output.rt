@@ -1,9 +1,10 @@
-//! What one item settles, to be put into a sink at once, or to be given byte by byte.
-ghost use Rattle.std.specs.Prelude.{◌≡◌, ◌*◌, ◌<◌, ℕ, drop, flat_map, length, replicate, ◌+◌, [], ◌^◌};
+//! What one item settles, to be put into a sink at once, or to be given in slices or byte by byte.
+ghost use Rattle.std.specs.Prelude.{◌≡◌, ◌*◌, ◌<◌, ℕ, drop, flat_map, length, replicate, ◌+◌, [], ◌∷◌, ◌^◌};
 ghost use Rattle.pf_values.specs.meaning.Canonical.{item_spelling};
 ghost use Rattle.pf_text.specs.Plain.{silents};
 ghost use Rattle.pf_values.specs.declared.padding.TheConstants.{MAX_RUN};
-ghost use Rattle.pf_canon.specs.Output.{IsFrontOf, text_after_zeros, output_text, silent_bytes, Pops, pending_text, pending_silents_text, pending_spelling_text};
+ghost use Rattle.pf_canon.specs.Output.{IsFrontOf, text_after_zeros, output_text, silent_bytes, Pops, pending_text, text_of_some};
+ghost use Rattle.pf_canon.specs.Transducer.{byte_output_text};
 
 use crate::sink::{Sink, put_repeated, put_silents};
 use pf_text::Spelling;
@@ -126,141 +127,97 @@ fn whole_len(spaces: u16, zeros: u16, silents: u64, spelling: usize, trail: u16)
     padding + u128::from(silents) * 4 + spelling as u128
 }
 
-/// Silent directives `%.0s` that are still to be given, the first perhaps only its last bytes.
-#[derive(Drop)]
-pub(crate) struct PendingSilents {
-    count: u64,
-    at: u8,
-}
-
-impl PendingSilents {
-    /// Takes off the next byte, and returns it.
-    fn pop(&mut self) -> Option<u8>
-        ensures { Pops (pending_silents_text self.old) result (pending_silents_text self.new) }
-    {
-        if self.count == 0 {
-            return None;
-        }
-        match self.at {
-            0 => Some(self.step(b'%')),
-            1 => Some(self.step(b'.')),
-            2 => Some(self.step(b'0')),
-            _ => {
-                self.at = 0;
-                self.count -= 1;
-                Some(b's')
-            }
-        }
-    }
-
-    fn step(&mut self, byte: u8) -> u8
-        requires { self.old.at < 3 }
-        ensures byte { result ≡ byte }
-        ensures state { self.new ≡ record self.old { at = self.old.at + 1 } }
-    {
-        self.at += 1;
-        byte
-    }
-}
-
-/// A spelling, and how many of its bytes were given.
-#[derive(Drop)]
-pub(crate) struct PendingSpelling {
-    bytes: Spelling,
-    given: usize,
-}
-
-impl PendingSpelling {
-    /// Takes off the next byte, and returns it.
-    fn pop(&mut self) -> Option<u8>
-        ensures { Pops (pending_spelling_text self.old) result (pending_spelling_text self.new) }
-    {
-        let byte = *self.bytes.as_slice().get(self.given)?;
-        self.given += 1;
-        Some(byte)
-    }
-}
-
-/// An output of which the first bytes were given.
+/// An output of which the first bytes were given, or nothing.
 #[derive(Drop)]
 pub(crate) struct PendingOutput {
-    spaces: u16,
-    zeros: u16,
-    silents: PendingSilents,
-    spelling: PendingSpelling,
-    trail: u16,
+    output: Option<Output>,
+    given: u128,
 }
 
 impl PendingOutput {
     /// Nothing is pending.
+    #[inline(always)]
     pub(crate) fn new() -> PendingOutput
         ensures { pending_text result ≡ [] }
     {
         PendingOutput {
-            spaces: 0,
-            zeros: 0,
-            silents: PendingSilents { count: 0, at: 0 },
-            spelling: PendingSpelling {
-                bytes: Spelling::new(),
-                given: 0,
-            },
-            trail: 0,
+            output: None,
+            given: 0,
         }
     }
 
     /// All of an output is pending.
+    #[inline(always)]
     pub(crate) fn of(output: Output) -> PendingOutput
         ensures { pending_text result ≡ output_text output }
     {
-        let Output {
-            spaces,
-            zeros,
-            silents,
-            spelling,
-            trail,
-        } = output;
         PendingOutput {
-            spaces,
-            zeros,
-            silents: PendingSilents {
-                count: silents,
-                at: 0,
-            },
-            spelling: PendingSpelling {
-                bytes: spelling,
-                given: 0,
-            },
-            trail,
+            output: Some(output),
+            given: 0,
         }
     }
 
-    /// Takes off the next byte, and returns it.
+    /// All that a byte settles is pending.
+    pub(crate) fn of_byte(output: StepOutput, byte: u8) -> PendingOutput
+        ensures { pending_text result ≡ byte_output_text output byte }
+    {
+        match output {
+            StepOutput::Nothing => PendingOutput::new(),
+            StepOutput::Literal => PendingOutput::of(literal(byte)),
+            StepOutput::Output(output) => PendingOutput::of(output),
+        }
+    }
+
+    /// The first bytes that are pending, some if there are any.
+    #[inline(always)]
+    pub(crate) fn front(&self) -> &[u8]
+        ensures { IsFrontOf (pending_text self.now) result.now }
+    {
+        match &self.output {
+            Some(output) => output.front(self.given),
+            None => &[],
+        }
+    }
+
+    /// Gives so many of the bytes that are pending, or all if there are fewer.
+    pub(crate) fn skip(&mut self, count: usize)
+        ensures { pending_text self.new ≡ drop count (pending_text self.old) }
+    {
+        let given = self.given.saturating_add(count as u128);
+        self.given = given.min(len_in(&self.output));
+    }
+
+    /// Gives the next byte, and returns it.
     pub(crate) fn pop(&mut self) -> Option<u8>
         ensures { Pops (pending_text self.old) result (pending_text self.new) }
     {
-        if let Some(byte) = pop_one(&mut self.spaces, b' ') {
-            return Some(byte);
-        }
-        if let Some(byte) = pop_one(&mut self.zeros, b'0') {
-            return Some(byte);
-        }
-        if let Some(byte) = self.silents.pop() {
-            return Some(byte);
-        }
-        if let Some(byte) = self.spelling.pop() {
-            return Some(byte);
-        }
-        pop_one(&mut self.trail, b' ')
+        let byte = *self.front().first()?;
+        self.skip(1);
+        Some(byte)
     }
 }
 
-// One of so many equal bytes, if there is one.
-fn pop_one(count: &mut u16, byte: u8) -> Option<u8>
-    ensures { Pops (replicate count.old byte) result (replicate count.new byte) }
+fn len_in(output: &Option<Output>) -> u128
+    ensures total { result ≡ length (text_of_some output.now) }
+    ensures few { result < 2 ^ 100 }
 {
-    if *count == 0 {
-        return None;
+    match output {
+        Some(output) => output.len(),
+        None => 0,
     }
-    *count -= 1;
-    Some(byte)
+}
+
+// A literal byte.
+fn literal(byte: u8) -> Output
+    ensures { output_text result ≡ byte ∷ [] }
+{
+    let mut spelling = Spelling::new();
+    spelling.push(byte);
+    Output {
+        spaces: 0,
+        zeros: 0,
+        silents: 0,
+        spelling,
+        trail: 0,
+    }
 }

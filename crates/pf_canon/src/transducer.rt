@@ -164,6 +164,7 @@ impl Transducer {
             → TakesChunk model t out text.now result self.new }
         ensures within { MatchResult result (λ chunk. IsChunkWithin chunk text.now)
             (λ refused. refused.verbatim_len ≤ length text.now) }
+        ensures verbatim_len { IfOk result (λ chunk. chunk.verbatim_len ≡ verbatim_len) }
         ensures few { IfOk result (λ chunk.
             length (chunk_output_text chunk text.now) + 4 * waiting_silents_of self.new
             ≤ 4 * waiting_silents_of self.old + MAX_DIRECTIVE_LEN * chunk.len) }
@@ -257,6 +258,7 @@ impl Transducer {
             → HasScannedByte model self.old t items (out ++ take verbatim_len text.now) text.now at
             step.now → GrowsByChunk model t out text.now result self.new }
         ensures within { IsChunkWithin result text.now }
+        ensures verbatim_len { result.verbatim_len ≡ verbatim_len }
         ensures len { result.len ≡ at + 1 }
         ensures few { length (chunk_output_text result text.now) + 4 * waiting_silents_of self.new
             ≤ 4 * waiting_silents_of self.old + (verbatim_len + MAX_DIRECTIVE_LEN) }
@@ -286,6 +288,7 @@ impl Transducer {
             → HasScannedDirective model self.old t items (out ++ take verbatim_len text.now)
             text.now at len directive.now → GrowsByChunk model t out text.now result self.new }
         ensures within { IsChunkWithin result text.now }
+        ensures verbatim_len { result.verbatim_len ≡ verbatim_len }
         ensures len { result.len ≡ at + len }
         ensures few { length (chunk_output_text result text.now) + 4 * waiting_silents_of self.new
             ≤ 4 * waiting_silents_of self.old + (verbatim_len + MAX_DIRECTIVE_LEN) }

@@ -1,28 +1,26 @@
 //! The canonical text of a format in memory, slice by slice.
-ghost use Rattle.std.specs.Prelude.{◌≡◌, ◌≢◌, List, MatchBool, ◌++◌, ◌+◌, ◌≤◌, ◌<◌, ◌^◌, [], None, length, take, drop, MatchResult};
+ghost use Rattle.std.specs.Prelude.{◌≡◌, ◌≢◌, List, MatchBool, ◌++◌, ◌+◌, ◌≤◌, ◌<◌, [], None, length, take, drop, MatchResult};
 ghost use Rattle.pf_values.specs.meaning.Items.{Item};
 ghost use Rattle.pf_values.specs.meaning.Refusals.{IsRefusedAt};
 ghost use Rattle.pf_values.specs.meaning.Text.{Text};
 ghost use Rattle.pf_values.specs.declared.models.Model.{Model};
-ghost use Rattle.pf_canon.specs.Output.{IsFrontOf, output_text};
+ghost use Rattle.pf_canon.specs.Output.{IsFrontOf};
 ghost use Rattle.pf_canon.specs.Transducer.{IsChunkWithin, IsThrough, chunk_output_text};
-ghost use Rattle.pf_canon.specs.Walk.{IsAcceptedAs, IsClear, IsCleared, IsMidway, IsWalkedWhole, WalkHasGiven, text_of_some, to_come, to_take, waits};
+ghost use Rattle.pf_canon.specs.Walk.{IsAcceptedAs, IsMidway, IsWalkedWhole, WalkHasGiven, to_come, to_take, waits};
 
 use crate::chunk::Chunk;
-use crate::output::{Output, StepOutput};
+use crate::output::{PendingOutput, StepOutput};
 use crate::transducer::Transducer;
 use pf_text::Refusal;
 
-/// A text of which some was taken. Of what that settles the last bytes wait: verbatim bytes, a
-/// literal byte or none, and an output.
+/// A text of which some was taken. Of what that settles the last bytes wait: bytes of the text as
+/// they are, and an output.
 #[derive(Drop)]
 pub(crate) struct Walk<'a> {
     transducer: Transducer,
     rest: &'a [u8],
-    verbatim: &'a [u8],
-    literal: &'a [u8],
-    output: Option<Output>,
-    given: u128,
+    bytes: &'a [u8],
+    output: PendingOutput,
     end: Option<Result<(), Refusal>>,
 }
 
@@ -36,10 +34,8 @@ impl<'a> Walk<'a> {
         Walk {
             transducer,
             rest,
-            verbatim: &[],
-            literal: &[],
-            output: None,
-            given: 0,
+            bytes: &[],
+            output: PendingOutput::new(),
             end: None,
         }
     }
@@ -55,7 +51,7 @@ impl<'a> Walk<'a> {
             if self.end.is_some() {
                 return;
             }
-            self.advance();
+            self.take();
         }
     }
 
@@ -63,27 +59,10 @@ impl<'a> Walk<'a> {
     pub(crate) fn front(&self) -> &[u8]
         ensures { IsFrontOf (waits self.now) result.now }
     {
-        let at = self.given;
-        let verbatim = self.verbatim;
-        if at < verbatim.len() as u128 {
-            return &verbatim[at as usize..];
+        if !self.bytes.is_empty() {
+            return self.bytes;
         }
-        self.item_front(at - verbatim.len() as u128)
-    }
-
-    // The same of what comes after the verbatim bytes.
-    fn item_front(&self, at: u128) -> &[u8]
-        ensures { IsFrontOf (drop at (self.now.literal.now ++ text_of_some self.now.output))
-            result.now }
-    {
-        let literal = self.literal;
-        if at < literal.len() as u128 {
-            return &literal[at as usize..];
-        }
-        match &self.output {
-            Some(output) => output.front(at - literal.len() as u128),
-            None => &[],
-        }
+        self.output.front()
     }
 
     /// Gives so many of the bytes that wait, or all if there are fewer.
@@ -94,21 +73,10 @@ impl<'a> Walk<'a> {
         ensures fewer { count ≤ length (waits self.old)
             → to_come self.new + count ≤ to_come self.old }
     {
-        let given = self.given.saturating_add(count as u128);
-        self.given = given.min(self.len());
-    }
-
-    // How many bytes waited before any was given.
-    fn len(&self) -> u128
-        ensures total { result ≡ length (self.now.verbatim.now
-            ++ (self.now.literal.now ++ text_of_some self.now.output)) }
-        ensures few { result < 2 ^ 101 }
-    {
-        all_len(
-            self.verbatim.len(),
-            self.literal.len(),
-            len_in(&self.output),
-        )
+        let bytes = self.bytes;
+        let first = count.min(bytes.len());
+        self.bytes = &bytes[first..];
+        self.output.skip(count - first);
     }
 
     /// Whether the text is accepted, which is read to its end.
@@ -124,16 +92,15 @@ impl<'a> Walk<'a> {
         }
     }
 
-    // Takes the next chunk, or the end. All that waited counts as given.
-    fn advance(&mut self)
-        requires { self.old.end ≡ None }
+    // Takes the next chunk, or the end.
+    fn take(&mut self)
+        requires open { self.old.end ≡ None }
+        requires none { waits self.old ≡ [] }
         ensures given { (model : Model) (text given : Text)
-            → WalkHasGiven model self.old text given
-            → WalkHasGiven model self.new text (given ++ waits self.old) }
+            → WalkHasGiven model self.old text given → WalkHasGiven model self.new text given }
         ensures less { to_take self.new < to_take self.old }
         ensures fewer { to_come self.new ≤ to_come self.old }
     {
-        self.clear();
         if self.rest.is_empty() {
             self.take_end();
             return;
@@ -144,21 +111,10 @@ impl<'a> Walk<'a> {
         self.take_chunk();
     }
 
-    // Nothing waits.
-    #[inline(always)]
-    fn clear(&mut self)
-        ensures { IsCleared self.old self.new }
-    {
-        self.verbatim = &[];
-        self.literal = &[];
-        self.output = None;
-        self.given = 0;
-    }
-
     #[inline(always)]
     fn take_end(&mut self)
-        requires cleared { IsClear self.old }
         requires open { self.old.end ≡ None }
+        requires none { waits self.old ≡ [] }
         requires end { self.old.rest.now ≡ [] }
         ensures given { (model : Model) (text given : Text)
             → WalkHasGiven model self.old text given → WalkHasGiven model self.new text given }
@@ -167,7 +123,7 @@ impl<'a> Walk<'a> {
     {
         match self.transducer.finish() {
             Ok(output) => {
-                self.output = some_of(output);
+                self.output = PendingOutput::of(output);
                 self.end = Some(Ok(()));
             }
             Err(refusal) => self.end = Some(Err(refusal)),
@@ -178,12 +134,12 @@ impl<'a> Walk<'a> {
     // alone, and is all that there is of most texts.
     #[inline(always)]
     fn take_verbatim(&mut self) -> bool
-        requires cleared { IsClear self.old }
         requires open { self.old.end ≡ None }
+        requires none { waits self.old ≡ [] }
         ensures given { (model : Model) (text given : Text)
             → WalkHasGiven model self.old text given → WalkHasGiven model self.new text given }
         ensures taken { MatchBool result (to_take self.new < to_take self.old)
-            (IsClear self.new × (self.new.rest.now ≡ self.old.rest.now)) }
+            ((waits self.new ≡ []) × (self.new.rest.now ≡ self.old.rest.now)) }
         ensures end { self.new.end ≡ self.old.end }
         ensures fewer { to_come self.new ≤ to_come self.old }
     {
@@ -192,7 +148,7 @@ impl<'a> Walk<'a> {
         if verbatim_len == 0 {
             return false;
         }
-        self.verbatim = &rest[..verbatim_len];
+        self.bytes = &rest[..verbatim_len];
         self.rest = &rest[verbatim_len..];
         true
     }
@@ -200,8 +156,8 @@ impl<'a> Walk<'a> {
     // Takes a chunk that has no verbatim bytes.
     #[inline(always)]
     fn take_chunk(&mut self)
-        requires cleared { IsClear self.old }
         requires open { self.old.end ≡ None }
+        requires none { waits self.old ≡ [] }
         requires some { 0 < length self.old.rest.now }
         ensures given { (model : Model) (text given : Text)
             → WalkHasGiven model self.old text given → WalkHasGiven model self.new text given }
@@ -222,26 +178,26 @@ impl<'a> Walk<'a> {
     // What the first chunk of the rest settles waits.
     #[inline(always)]
     fn keep(&mut self, chunk: Chunk)
-        requires cleared { IsClear self.old }
+        requires none { waits self.old ≡ [] }
         requires within { IsChunkWithin chunk self.old.rest.now }
+        requires item { chunk.verbatim_len ≡ 0 }
         ensures waits { waits self.new ≡ chunk_output_text chunk self.old.rest.now }
         ensures rest { self.new.rest.now ≡ drop chunk.len self.old.rest.now }
         ensures transducer { self.new.transducer ≡ self.old.transducer }
         ensures end { self.new.end ≡ self.old.end }
     {
         let Chunk {
-            verbatim_len,
+            verbatim_len: _,
             start,
             len,
             item_output,
         } = chunk;
         let text = self.rest;
-        self.verbatim = &text[..verbatim_len];
         self.rest = &text[len..];
         match item_output {
             StepOutput::Nothing => {}
-            StepOutput::Literal => self.literal = &text[start..len],
-            StepOutput::Output(output) => self.output = Some(output),
+            StepOutput::Literal => self.bytes = &text[start..len],
+            StepOutput::Output(output) => self.output = PendingOutput::of(output),
         }
     }
 }
@@ -260,33 +216,4 @@ pub(crate) fn finish_rest(transducer: Transducer, rest: &[u8]) -> Result<(), Ref
         },
         Err(refusal) => Err(refusal),
     }
-}
-
-// An output that has a byte.
-#[inline(always)]
-fn some_of(output: Output) -> Option<Output>
-    ensures { text_of_some result ≡ output_text output }
-{
-    if output.len() == 0 {
-        return None;
-    }
-    Some(output)
-}
-
-fn len_in(output: &Option<Output>) -> u128
-    ensures total { result ≡ length (text_of_some output.now) }
-    ensures few { result < 2 ^ 100 }
-{
-    match output {
-        Some(output) => output.len(),
-        None => 0,
-    }
-}
-
-fn all_len(verbatim: usize, literal: usize, output: u128) -> u128
-    requires { output < 2 ^ 100 }
-    ensures total { result ≡ verbatim + (literal + output) }
-    ensures few { result < 2 ^ 101 }
-{
-    verbatim as u128 + (literal as u128 + output)
 }

@@ -20,7 +20,7 @@ use Rattle.pf_text.specs.declared.pieces.Pieces.{Pieces}
 use Rattle.pf_text.specs.declared.refusal.Refusal.{Refusal}
 use Rattle.pf_text.specs.PieceHistory.{Gives, GivesNext, GivesPiece, HasGiven, items_of}
 use Rattle.pf_text.proofs.Texts.{Reads-unique}
-use Rattle.pf_compare.specs.declared.lone_difference.LoneDifference.{LoneDifference}
+use Rattle.pf_compare.specs.declared.differences.LoneDifference.{LoneDifference}
 use Rattle.pf_compare.specs.declared.owned_args.OwnedArg.{OwnedArg}
 use Rattle.pf_compare.specs.declared.witnesses.Witness.{Witness}
 use Rattle.pf_compare.specs.Answers.{HaveSameTypes, IsCandidateAt, PrintTheSame, PrintUnlike, probe_at}

@@ -1,7 +1,6 @@
 -- Outlines of numbers.
-use Rattle.std.proofs.Common.{◌≡◌, ◌≢◌, ℕ, zero, suc, ◌+◌, ◌-◌, ◌<◌, ◌≤◌, max, Bool, true, false, [], ◌∷◌, ◌++◌, length, replicate, refl, sym, ap, ◌∙◌, subst, arith, ℤ}
-use Rattle.std.specs.Prelude.{IsFalse, IsTrue, nat_abs, nat_lt, ◌&&◌, if◌then◌else◌}
-use Rattle.std.specs.Fmt.{digit_glyph}
+use Rattle.std.proofs.Common.{◌≡◌, ◌≢◌, ℕ, ◌+◌, ◌-◌, ◌≤◌, max, Bool, true, false, [], ◌++◌, length, replicate, refl, sym, ap, ◌∙◌, subst, arith, ℤ}
+use Rattle.std.specs.Prelude.{IsFalse, nat_abs, ◌&&◌, if◌then◌else◌}
 use Rattle.std.specs.Int.Digits.{digits_of}
 use Rattle.std.proofs.lemmas.Bool.Decides.{nat_tests}
 use Rattle.std.proofs.lemmas.List.{length-append, length-map, length-replicate}
@@ -10,10 +9,15 @@ use Rattle.pf_values.specs.declared.conversions.Conv.TheVariants.{O}
 use Rattle.pf_values.specs.declared.conversions.Kind.{Kind}
 use Rattle.pf_values.specs.declared.conversions.Kind.TheVariants as kinds
 use Rattle.pf_values.specs.declared.flags.Flag.TheVariants.{Alt}
+use Rattle.pf_values.specs.declared.lengths.Length.{Length}
 use Rattle.pf_values.specs.declared.models.Model.{Model}
+use Rattle.pf_values.specs.Directives.{effective_precision}
 use Rattle.pf_values.specs.meaning.Arguments.{Number, IsValue}
+use Rattle.pf_values.specs.meaning.Bases.{number_of}
 use Rattle.pf_values.specs.meaning.Conversions.{
   base_of,
+  base_under,
+  has_capitals,
   is_octal,
   is_signed,
   is_text,
@@ -22,7 +26,6 @@ use Rattle.pf_values.specs.meaning.Conversions.{
 }
 use Rattle.pf_values.specs.meaning.DataModel.{bit_count, bits_under}
 use Rattle.pf_values.specs.meaning.Flags.{has}
-use Rattle.pf_values.specs.Directives.{effective_precision}
 use Rattle.pf_values.specs.meaning.Normal.{precision_of}
 use Rattle.pf_values.specs.meaning.Printing.{Prints, PrintsKind, PrintsNumber, field, is_zero_filled, sign_or_prefix}
 use Rattle.pf_values.specs.meaning.Specification.{Specification, width_of}
@@ -31,25 +34,14 @@ use Rattle.pf_values.proofs.NumberTexts.{value_text-is}
 use Rattle.pf_values.proofs.Printed.{count_of, filled_precision, natural_len, natural_of, precision_under, printed_precision}
 use Rattle.pf_values.proofs.PrintsOnce.{PrintsNumber-is, value_text}
 use Rattle.pf_values.proofs.Values.{IsConverted-unique}
-use Rattle.pf_probes.proofs.Digits.{natural_small}
 use Rattle.pf_render.specs.Zeros.{fewest_digits}
 use Rattle.pf_compare.specs.declared.outlines.SignOrPrefix.{SignOrPrefix}
 use Rattle.pf_compare.specs.declared.outlines.Outline.{Outline}
-use Rattle.pf_compare.specs.declared.values.CountedValue.{CountedValue}
-use Rattle.pf_compare.specs.declared.values.Value.{Value}
-use Rattle.pf_values.specs.declared.lengths.Length.{Length}
-use Rattle.pf_compare.specs.Outlines.{HasOutlineText, PredictsDifference, IsCountedValueOf, HasSignAndSize, IsOfValue, IsOutlineOf, digit_below_ten, digits_under, outline_text, with_prefix_and_zeros, sign_or_prefix_text, directive_digits, outline_len}
-
--- one digit below ten
-glyph_below : (upper : Bool) (n : ℕ) → n < 10 → digit_glyph upper n ≡ 48 + n
-glyph_below upper n h = grind (arith, nat_tests)
-
-pub one_digit : (base : ℕ) (upper : Bool) (n : ℕ) → 2 ≤ base → n < 10 → n < base → digits_under base upper n ≡ digit_below_ten n
-one_digit base upper zero b h l = refl
-one_digit base upper (suc n) b h l = natural_small base upper (suc n) b (omega arith) l ∙ ap (λ d. d ∷ []) (glyph_below upper (suc n) h)
-
-pub below : (n m : ℕ) → IsTrue (nat_lt n m) → n < m
-below n m h = grind (arith, nat_tests)
+use Rattle.pf_compare.specs.declared.outlines.CountedValue.{CountedValue}
+use Rattle.pf_compare.specs.declared.outlines.Value.{Value}
+use Rattle.pf_compare.specs.Outlines.{DoLieApart, DoTextsDiffer, HasOutlineText, HasSignAndSize, IsCountedValueOf, IsOfValue, IsOutlineOf, IsUnderKind, Lacks, between_spaces, body_len, kind_digits, outline_body, outline_len, outline_text, sign_or_prefix_text, with_prefix_and_zeros}
+use Rattle.pf_compare.proofs.DigitLemmas.{differ_behind_zeros, kind_above_one, number_lacks_space, prefix_unlike_zeros, same_front}
+use Rattle.pf_compare.proofs.FieldLemmas.{differ_between, differ_in_length, length_between, told_apart}
 
 -- how many digits are printed
 fewest_under : (conv : Conv) (alt : Bool) (n : ℕ) → natural_len (is_octal conv && alt) (base_of conv) n ≡ (if is_octal conv && alt then count_of (base_of conv) n + 1 else count_of (base_of conv) n)
@@ -91,7 +83,7 @@ pub outlined : (model : Model) (s : Specification) (number : ℤ) (value : Value
     → ((v : ℤ) → HasSignAndSize value v → sign_or_prefix_text prefix ≡ sign_or_prefix s v)
     → count ≡ length (digits_of (base_of s.conv) value.size)
     → digits ≡ max (effective_precision s (length (sign_or_prefix_text prefix))) (fewest_digits s count)
-    → HasOutlineText o digits value.size (λ t. field s (with_prefix_and_zeros (sign_or_prefix_text prefix) digits t))
+    → HasOutlineText o digits count value.size (λ t. field s (with_prefix_and_zeros (sign_or_prefix_text prefix) digits t))
     → IsOutlineOf model s number o
 outlined model s number value prefix count digits o integer h prefixes e f draws =
     let v = h.whole in
@@ -99,38 +91,26 @@ outlined model s number value prefix count digits o integer h prefixes e f draws
     let counted : count ≡ count_of (base_of s.conv) (nat_abs v) = e ∙ ap (λ n. length (digits_of (base_of s.conv) n)) h.parts.size in
     let len : digits ≡ max (printed_precision s v) (natural_of s (nat_abs v))
     = f ∙ ap (λ t. max (effective_precision s (length t)) (fewest_digits s count)) before ∙ ap (λ k. max (effective_precision s (length (sign_or_prefix s v))) (fewest_digits s k)) counted ∙ len_is s v in
-    let long : length (directive_digits s value.size) ≡ count = length-map _ _ ∙ sym e in
-    let fits : length (directive_digits s value.size) ≤ digits = omega (arith, long, f, fewest_most (is_octal s.conv && has s.flags Alt) count) in
-    let zeros : digits - length (directive_digits s value.size) ≡ max (printed_precision s v) (natural_of s (nat_abs v)) - count_of (base_of s.conv) (nat_abs v) = omega (arith, len, long, counted) in
-    let text : with_prefix_and_zeros (sign_or_prefix_text prefix) digits (directive_digits s value.size) ≡ value_text s v
-    = ap (λ t. t ++ (replicate (digits - length (directive_digits s value.size)) zero_digit ++ directive_digits s value.size)) before
-    ∙ ap (λ k. sign_or_prefix s v ++ (replicate k zero_digit ++ directive_digits s value.size)) zeros
-    ∙ ap (λ n. sign_or_prefix s v ++ (replicate (max (printed_precision s v) (natural_of s (nat_abs v)) - count_of (base_of s.conv) (nat_abs v)) zero_digit ++ directive_digits s n)) h.parts.size
+    let long : length (kind_digits (kind_of s.conv) value.size) ≡ count = length-map _ _ ∙ sym e in
+    let fits : length (kind_digits (kind_of s.conv) value.size) ≤ digits = omega (arith, long, f, fewest_most (is_octal s.conv && has s.flags Alt) count) in
+    let zeros : digits - length (kind_digits (kind_of s.conv) value.size) ≡ max (printed_precision s v) (natural_of s (nat_abs v)) - count_of (base_of s.conv) (nat_abs v) = omega (arith, len, long, counted) in
+    let text : with_prefix_and_zeros (sign_or_prefix_text prefix) digits (kind_digits (kind_of s.conv) value.size) ≡ value_text s v
+    = ap (λ t. t ++ (replicate (digits - length (kind_digits (kind_of s.conv) value.size)) zero_digit ++ kind_digits (kind_of s.conv) value.size)) before
+    ∙ ap (λ k. sign_or_prefix s v ++ (replicate k zero_digit ++ kind_digits (kind_of s.conv) value.size)) zeros
+    ∙ ap (λ n. sign_or_prefix s v ++ (replicate (max (printed_precision s v) (natural_of s (nat_abs v)) - count_of (base_of s.conv) (nat_abs v)) zero_digit ++ kind_digits (kind_of s.conv) n)) h.parts.size
     ∙ sym (value_text-is s v) in
     record {
-      enough = subst (λ n. length (directive_digits s n) ≤ o.digits) (sym draws.size_is) (subst (λ k. length (directive_digits s value.size) ≤ k) (sym draws.digits_are) fits);
+      under = record {
+        count = draws.count_is ∙ sym long ∙ ap (λ n. length (kind_digits (kind_of s.conv) n)) (sym draws.size_is);
+        enough = (let count_is = draws.count_is in let digits_are = draws.digits_are in omega (arith, count_is, digits_are, fits, long));
+        no_space = draws.no_space;
+      };
       prints = λ out g.
           printed_number model s number v out integer h.converted g
           ∙ ap (field s) (sym text)
-          ∙ sym (draws.drawn_is (directive_digits s value.size) fits)
-          ∙ ap (λ n. outline_text o (directive_digits s n)) (sym draws.size_is);
+          ∙ sym (draws.drawn_is (kind_digits (kind_of s.conv) value.size) fits)
+          ∙ ap (λ n. outline_text o (kind_digits (kind_of s.conv) n)) (sym draws.size_is);
     }
-
-length_drawn : (o : Outline) (t : Text) → length t ≤ o.digits → length (outline_text o t) ≡ outline_len o
-length_drawn o t h =
-    let prefix = sign_or_prefix_text o.prefix in
-    let zeros = replicate (o.digits - length t) zero_digit in
-    omega (
-      arith,
-      h,
-      length-append (replicate o.spaces_before space ++ (prefix ++ (zeros ++ t))) (replicate o.spaces_after space),
-      length-append (replicate o.spaces_before space) (prefix ++ (zeros ++ t)),
-      length-append prefix (zeros ++ t),
-      length-append zeros t,
-      length-replicate {A = ℕ} o.spaces_before space,
-      length-replicate {A = ℕ} o.spaces_after space,
-      length-replicate {A = ℕ} (o.digits - length t) zero_digit,
-    )
 
 -- one conversion and one length modifier make one value
 pub one_value : (model : Model) (s t : Specification) (number : ℤ) (counted : CountedValue) → s.conv ≡ t.conv → s.length ≡ t.length → IsCountedValueOf model s number counted → IsCountedValueOf model t number counted
@@ -142,16 +122,74 @@ one_value model s t number counted e f h =
       few = h.few;
     }
 
-module _ (model : Model) (s t : Specification) (n : ℤ) (x y : Outline) (h : IsOutlineOf model s n x) (g : IsOutlineOf model t n y) where
-  -- texts of other lengths differ
-  pub predicted_unlike : outline_len x ≢ outline_len y → PredictsDifference model s t (Number n) true
-  predicted_unlike e p q a b = λ same. e (
-      sym (length_drawn x (directive_digits s x.size) h.enough)
-      ∙ ap length (sym (h.prints p a) ∙ same ∙ g.prints q b)
-      ∙ length_drawn y (directive_digits t y.size) g.enough
-      )
+length_body : (k : Kind) (o : Outline) → IsUnderKind k o → length (outline_body o (kind_digits k o.size)) ≡ body_len o
+length_body k o h =
+    let prefix = sign_or_prefix_text o.prefix in
+    let digits = kind_digits k o.size in
+    let zeros = replicate (o.digits - length digits) zero_digit in
+    let count = h.count in
+    let enough = h.enough in
+    omega (arith, count, enough, length-append prefix (zeros ++ digits), length-append zeros digits, length-replicate {A = ℕ} (o.digits - length digits) zero_digit)
 
-  -- one outline of the same digits is one text
-  pub predicted_alike : x ≡ y → directive_digits s x.size ≡ directive_digits t x.size → PredictsDifference model s t (Number n) false
-  predicted_alike e f p q a b =
-      h.prints p a ∙ ap (outline_text x) f ∙ ap (λ (o : Outline). outline_text o (directive_digits t o.size)) e ∙ sym (g.prints q b)
+body_lacks_space : (k : Kind) (o : Outline) → IsUnderKind k o → Lacks space (outline_body o (kind_digits k o.size))
+body_lacks_space k o h = number_lacks_space (sign_or_prefix_text o.prefix) (o.digits - length (kind_digits k o.size)) (number_of (base_under k)) (has_capitals k) o.size h.no_space
+
+-- a sign or prefix beside zeros
+zeros_beside : (j k : Kind) (x y : Outline) → IsUnderKind k y → sign_or_prefix_text x.prefix ≢ sign_or_prefix_text y.prefix
+    → (sign_or_prefix_text y.prefix ≡ []) × (length (sign_or_prefix_text x.prefix) ≤ y.digits - y.count)
+    → outline_body x (kind_digits j x.size) ≢ outline_body y (kind_digits k y.size)
+zeros_beside j k x y h other g = λ same.
+    let count = h.count in
+    let room = g.1 in
+    prefix_unlike_zeros x.prefix _ (kind_digits k y.size) (y.digits - length (kind_digits k y.size)) (λ none. other (none ∙ sym g.0)) (omega (arith, count, room))
+    (same ∙ ap (λ p. p ++ (replicate (y.digits - length (kind_digits k y.size)) zero_digit ++ kind_digits k y.size)) g.0)
+
+module _ (j k : Kind) (x y : Outline) (h : IsUnderKind j x) (g : IsUnderKind k y) where
+  -- numbers with bodies of other lengths differ
+  pub bodies_of_lengths : body_len x ≢ body_len y → outline_body x (kind_digits j x.size) ≢ outline_body y (kind_digits k y.size)
+  bodies_of_lengths e = differ_in_length _ _ _ _ (length_body j x h) (length_body k y g) e
+
+  -- with one prefix they differ as their digits do
+  pub bodies_of_digits : body_len x ≡ body_len y → sign_or_prefix_text x.prefix ≡ sign_or_prefix_text y.prefix → (told : Bool) → DoTextsDiffer (kind_digits j x.size) (kind_digits k y.size) told
+      → DoTextsDiffer (outline_body x (kind_digits j x.size)) (outline_body y (kind_digits k y.size)) told
+  bodies_of_digits e same true other = λ whole. differ_behind_zeros (number_of (base_under j)) (number_of (base_under k)) (has_capitals j) (has_capitals k) x.size y.size
+      (x.digits - length (kind_digits j x.size)) (y.digits - length (kind_digits k y.size)) (sign_or_prefix_text x.prefix) (kind_above_one j) (kind_above_one k) other
+      (whole ∙ ap (λ p. p ++ (replicate (y.digits - length (kind_digits k y.size)) zero_digit ++ kind_digits k y.size)) (sym same))
+  bodies_of_digits e same false alike =
+      let long = ap length same in
+      let digits : x.digits ≡ y.digits = omega (arith, e, long) in
+      ap (λ p. with_prefix_and_zeros p x.digits (kind_digits j x.size)) same
+      ∙ ap (λ n. with_prefix_and_zeros (sign_or_prefix_text y.prefix) n (kind_digits j x.size)) digits
+      ∙ ap (with_prefix_and_zeros (sign_or_prefix_text y.prefix) y.digits) alike
+
+  -- two prefixes of one length that differ
+  pub bodies_of_prefixes : sign_or_prefix_text x.prefix ≢ sign_or_prefix_text y.prefix → length (sign_or_prefix_text x.prefix) ≡ length (sign_or_prefix_text y.prefix)
+      → outline_body x (kind_digits j x.size) ≢ outline_body y (kind_digits k y.size)
+  bodies_of_prefixes other e = λ same. other (same_front (sign_or_prefix_text x.prefix) (sign_or_prefix_text y.prefix) _ _ e same)
+
+  pub bodies_of_zeros : sign_or_prefix_text x.prefix ≢ sign_or_prefix_text y.prefix → (sign_or_prefix_text y.prefix ≡ []) × (length (sign_or_prefix_text x.prefix) ≤ y.digits - y.count)
+      → outline_body x (kind_digits j x.size) ≢ outline_body y (kind_digits k y.size)
+  bodies_of_zeros other beside = zeros_beside j k x y g other beside
+
+  pub bodies_of_other_zeros : sign_or_prefix_text x.prefix ≢ sign_or_prefix_text y.prefix → (sign_or_prefix_text x.prefix ≡ []) × (length (sign_or_prefix_text y.prefix) ≤ x.digits - x.count)
+      → outline_body x (kind_digits j x.size) ≢ outline_body y (kind_digits k y.size)
+  bodies_of_other_zeros other beside = λ same. zeros_beside k j y x h (λ e. other (sym e)) beside (sym same)
+
+  -- in their fields
+  pub outlines_of_lengths : outline_len x ≢ outline_len y → outline_text x (kind_digits j x.size) ≢ outline_text y (kind_digits k y.size)
+  outlines_of_lengths e = differ_in_length _ _ _ _
+      (length_between x.spaces_before (outline_body x (kind_digits j x.size)) x.spaces_after ∙ ap (λ n. x.spaces_before + n + x.spaces_after) (length_body j x h))
+      (length_between y.spaces_before (outline_body y (kind_digits k y.size)) y.spaces_after ∙ ap (λ n. y.spaces_before + n + y.spaces_after) (length_body k y g)) e
+
+  pub outlines_of_bodies : outline_body x (kind_digits j x.size) ≢ outline_body y (kind_digits k y.size) → outline_text x (kind_digits j x.size) ≢ outline_text y (kind_digits k y.size)
+  outlines_of_bodies other = differ_between x.spaces_before _ x.spaces_after y.spaces_before _ y.spaces_after (body_lacks_space j x h) (body_lacks_space k y g) other
+
+  pub outlines_apart : outline_len x ≡ outline_len y → outline_body x (kind_digits j x.size) ≡ outline_body y (kind_digits k y.size) → (told : Bool) → DoLieApart (body_len x) x.spaces_before y.spaces_before told
+      → DoTextsDiffer (outline_text x (kind_digits j x.size)) (outline_text y (kind_digits k y.size)) told
+  outlines_apart e same told apart =
+      let one : length (outline_body x (kind_digits j x.size)) ≡ body_len x = length_body j x h in
+      let two : length (outline_body y (kind_digits k y.size)) ≡ body_len y = length_body k y g in
+      let long = ap length same in
+      subst (λ t. DoTextsDiffer (outline_text x (kind_digits j x.size)) (between_spaces y.spaces_before t y.spaces_after) told) same
+      (told_apart (outline_body x (kind_digits j x.size)) x.spaces_before x.spaces_after y.spaces_before y.spaces_after (body_lacks_space j x h) (omega (arith, one, two, long, e)) told
+      (subst (λ n. DoLieApart n x.spaces_before y.spaces_before told) (sym one) apart))

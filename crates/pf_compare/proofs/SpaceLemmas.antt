@@ -20,7 +20,7 @@ use Rattle.pf_values.specs.meaning.Text.{Text, space}
 use Rattle.pf_values.proofs.Printed.{count_of, filled_precision, length-printed_digits, natural_len, natural_of, precision_under, printed_digits, printed_precision}
 use Rattle.pf_values.proofs.PrintsOnce.{value_text}
 use Rattle.pf_compare.specs.declared.predictions.EqualPrintRange.{EqualPrintRange}
-use Rattle.pf_compare.specs.declared.values.Value.{Value}
+use Rattle.pf_compare.specs.declared.outlines.Value.{Value}
 use Rattle.pf_compare.specs.Outlines.{HasSignAndSize}
 use Rattle.pf_compare.specs.Spaces.{PrintEqualIn, LeavesRoomForSpace, IsInEqualPrintRange, with_space}
 use Rattle.pf_compare.proofs.OutlineLemmas.{printed_number}

@@ -7,7 +7,7 @@ use Rattle.pf_values.specs.meaning.Text.{Text}
 use Rattle.pf_text.specs.declared.pieces.Pieces.{Pieces}
 use Rattle.pf_text.specs.PieceHistory.{HasGiven}
 use Rattle.pf_compare.specs.declared.layouts.DirectiveSpan.{DirectiveSpan}
-use Rattle.pf_compare.specs.declared.lone_difference.LoneDifference.{LoneDifference}
+use Rattle.pf_compare.specs.declared.differences.LoneDifference.{LoneDifference}
 
 -- the index of the argument that comes after those of some items
 abbrev pub IsIndexAfter : List Item → ℕ → Type 0

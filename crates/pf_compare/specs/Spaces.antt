@@ -10,7 +10,7 @@ use Rattle.pf_values.specs.meaning.Normal.{precision_of}
 use Rattle.pf_values.specs.meaning.Printing.{is_zero_filled}
 use Rattle.pf_values.specs.meaning.Specification.{Specification, width_of}
 use Rattle.pf_compare.specs.declared.predictions.EqualPrintRange.{EqualPrintRange}
-use Rattle.pf_compare.specs.declared.values.Value.{Value}
+use Rattle.pf_compare.specs.declared.outlines.Value.{Value}
 use Rattle.pf_compare.specs.Outlines.{PredictsDifference, IsOfValue}
 
 -- a specification with the flag ` ` added

@@ -1,19 +1,22 @@
-//! Comparing two formats.
-ghost use Rattle.std.specs.Prelude.{◌≡◌, ◌≢◌, IfOk, MatchBool, MatchResult, false};
+//! Comparing two formats, and confirming that two print different bytes for some arguments.
+ghost use Rattle.std.specs.Prelude.{◌≡◌, ◌≢◌, ◌↔◌, ◌⊎◌, IfErr, IfOk, IsTrue, MatchBool, MatchOption, MatchResult, false};
+ghost use Rattle.std.specs.Option.{option_map};
 ghost use Rattle.pf_values.specs.meaning.DataModel.{arg_type};
+ghost use Rattle.pf_values.specs.meaning.Text.{Text};
 ghost use Rattle.pf_canon.specs.Comparison.{AreTextsSame};
-ghost use Rattle.pf_compare.specs.Answers.{HaveSameTypes, HindersComparison, IsComparisonOf};
+ghost use Rattle.pf_render.specs.Rendering.{Renders};
+ghost use Rattle.pf_compare.specs.Answers.{AreUnlike, HaveSameTypes, HindersComparison, IsComparisonOf, PrintsSome, TellApart};
 ghost use Rattle.pf_compare.specs.Lone.{FormatsDifferInOne};
 ghost use Rattle.pf_compare.specs.declared.comparisons.CompareFault.TheVariants.{Memory};
 
+use crate::differences::{LoneDifference, first_type_difference, lone_difference};
 use crate::layouts::lay_out;
-use crate::lone_difference::{LoneDifference, lone_difference};
 use crate::owned_args::OwnedArg;
-use crate::type_lists::first_type_difference;
 use crate::witnesses::{Witness, first_witness, lone_witness};
 use pf_canon::{Side, same_text};
+use pf_render::{RenderVecFault, render_vec};
 use pf_text::Refusal;
-use pf_values::{Directive, Model};
+use pf_values::{Arg, Directive, Model};
 use std::alloc::{AllocError, Global};
 use thiserror::Error;
 
@@ -168,5 +171,57 @@ impl From<AllocError> for CompareFault {
 
     fn from(_error: AllocError) -> CompareFault {
         CompareFault::Memory
+    }
+}
+
+/// Whether two formats are accepted, take these arguments in a data model, and print different
+/// bytes for them. Memory is taken only for a format that takes the arguments and prints something.
+pub fn confirms(
+    alloc: Global,
+    model: Model,
+    f: &[u8],
+    g: &[u8],
+    args: &[Arg<'_>],
+) -> Result<bool, AllocError>
+    ensures told { IfOk result (λ told. IsTrue told ↔ TellApart model f.now g.now args.now) }
+    ensures memory { IfErr result
+        (λ _. PrintsSome model f.now args.now ⊎ PrintsSome model g.now args.now) }
+{
+    let x = rendering_of(alloc, model, f, args)?;
+    let y = rendering_of(alloc, model, g, args)?;
+    Ok(differ(x, y))
+}
+
+// Whether there are two texts, and they differ.
+fn differ(x: Option<Vec<u8>>, y: Option<Vec<u8>>) -> bool
+    ensures { IsTrue result
+        ↔ AreUnlike (option_map (λ v. v.items) x) (option_map (λ v. v.items) y) }
+{
+    if let Some(x) = x {
+        if let Some(y) = y {
+            return x.as_slice() != y.as_slice();
+        }
+    }
+    false
+}
+
+// What a format prints for arguments, if it takes them.
+fn rendering_of(
+    alloc: Global,
+    model: Model,
+    text: &[u8],
+    args: &[Arg<'_>],
+) -> Result<Option<Vec<u8>>, AllocError>
+    ensures memory { IfErr result (λ _. PrintsSome model text.now args.now) }
+    ensures told { IfOk result (λ some. MatchOption some
+        ((out : Text) → ¬ Renders model text.now args.now out)
+        (λ bytes. Renders model text.now args.now bytes.items)) }
+{
+    match render_vec(alloc, model, text, args) {
+        Ok(bytes) => Ok(Some(bytes)),
+        Err(RenderVecFault::Memory) => Err(AllocError),
+        Err(RenderVecFault::Refused(_)) => Ok(None),
+        Err(RenderVecFault::WrongCount { .. }) => Ok(None),
+        Err(RenderVecFault::WrongType(_)) => Ok(None),
     }
 }

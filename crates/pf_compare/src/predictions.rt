@@ -1,21 +1,21 @@
 //! Whether two directives print different bytes for a candidate, where that is known without
 //! printing them.
-ghost use Rattle.std.specs.Prelude.{◌≡◌, ℕ, false, IfSome, IsFalse, IsTrue, replicate, ◌<◌, length};
-ghost use Rattle.pf_values.specs.declared.models.Model.{Model};
-ghost use Rattle.pf_values.specs.meaning.Arguments.{Number, String};
-ghost use Rattle.pf_values.specs.meaning.Conversions.{base_of, base_under, has_capitals, is_string, is_text, is_upper, kind_of};
-ghost use Rattle.pf_values.specs.meaning.Bases.{number_of};
-ghost use Rattle.pf_values.specs.meaning.Specification.{Specification};
-ghost use Rattle.pf_probes.specs.Candidate.{candidate_argument};
-ghost use Rattle.pf_compare.specs.Outlines.{PredictsDifference, digit_below_ten, digits_under};
-ghost use Rattle.pf_compare.specs.Spaces.{PrintEqualIn, LeavesRoomForSpace, IsInEqualPrintRange, with_space};
+ghost use Rattle.std.specs.Prelude.{◌≡◌, ◌≢◌, ◌-◌, ℕ, [], false, IfSome, IsFalse, IsTrue, MatchBool, replicate, ◌<◌, ◌≤◌, length};
+ghost use Rattle.std.specs.Fmt.{digit_glyph};
 ghost use Rattle.std.specs.Int.Digits.{digits_of};
 ghost use Rattle.pf_values.specs.declared.conversions.Kind.TheVariants as kinds;
+ghost use Rattle.pf_values.specs.meaning.Arguments.{Number, String};
+ghost use Rattle.pf_values.specs.meaning.Conversions.{is_char, is_string, is_text, kind_of};
+ghost use Rattle.pf_values.specs.meaning.Specification.{Specification};
+ghost use Rattle.pf_probes.specs.Candidate.{candidate_argument};
+ghost use Rattle.pf_compare.specs.Outlines.{DoLieApart, DoTextsDiffer, IsUnderKind, PredictsDifference, kind_digits, outline_body, outline_text, sign_or_prefix_text};
+ghost use Rattle.pf_compare.specs.RunOutlines.{run_outline_text};
+ghost use Rattle.pf_compare.specs.Spaces.{PrintEqualIn, LeavesRoomForSpace, IsInEqualPrintRange};
 
-use crate::outlines::{Outline, StringOutline};
-use crate::values::{CountedValue, Value};
+use crate::differences::{are_equal_beside_space, are_unlike};
+use crate::outlines::{CountedValue, Outline, RunOutline, SignOrPrefix, Value};
 use pf_probes::Candidate;
-use pf_values::{Conv, Directive, Flag, FlagSet, Kind, Length, Model};
+use pf_values::{Directive, Flag, Kind, Model, ValueKind};
 
 /// Whether two directives print different bytes for a candidate; `None` where only printing them
 /// decides. The range of equal texts is the same for all candidates.
@@ -31,18 +31,24 @@ pub(crate) fn predict(
 {
     match candidate {
         Candidate::Number(number) => predict_number(model, first, second, equal_range, number),
-        Candidate::Repeat { byte: _, count } => predict_repeat(first, second, count),
+        Candidate::Repeat { byte, count } => predict_repeat(model, first, second, byte, count),
     }
 }
 
 // The same for a string that is one byte, so many times.
-fn predict_repeat(first: &Directive, second: &Directive, count: u16) -> Option<bool>
-    ensures { IfSome result (λ told. (model : Model) (byte : ℕ)
-        → PredictsDifference model first.now second.now (String (replicate count byte)) told) }
+fn predict_repeat(
+    model: Model,
+    first: &Directive,
+    second: &Directive,
+    byte: u8,
+    count: u16,
+) -> Option<bool>
+    ensures { IfSome result
+        (PredictsDifference model first.now second.now (String (replicate count byte))) }
 {
     if is_string(first) {
         if is_string(second) {
-            return predict_string(first, second, count);
+            return predict_string(model, first, second, byte, count);
         }
     }
     None
@@ -55,28 +61,50 @@ fn is_string(directive: &Directive) -> bool
     matches!(directive.conv().kind(), Kind::String)
 }
 
-fn predict_string(first: &Directive, second: &Directive, count: u16) -> Option<bool>
+fn predict_string(
+    model: Model,
+    first: &Directive,
+    second: &Directive,
+    byte: u8,
+    count: u16,
+) -> Option<bool>
     requires first { IsTrue (is_string first.now.conv) }
     requires second { IsTrue (is_string second.now.conv) }
-    ensures { IfSome result (λ told. (model : Model) (byte : ℕ)
-        → PredictsDifference model first.now second.now (String (replicate count byte)) told) }
+    ensures { IfSome result
+        (PredictsDifference model first.now second.now (String (replicate count byte))) }
 {
-    let one = StringOutline::of(first, count);
-    let two = StringOutline::of(second, count);
+    let one = RunOutline::of_string(first, count);
+    let two = RunOutline::of_string(second, count);
+    runs_differ(&one, &two, byte)
+}
+
+// Whether a byte repeated is different bytes in two outlines. A space isn't told from those around
+// it.
+fn runs_differ(one: &RunOutline, two: &RunOutline, byte: u8) -> Option<bool>
+    ensures { IfSome result
+        (DoTextsDiffer (run_outline_text one.now byte) (run_outline_text two.now byte)) }
+{
     if one.len() != two.len() {
         return Some(true);
     }
-    if are_equal_string_outlines(&one, &two) {
-        return Some(false);
+    if byte == b' ' {
+        return None;
     }
-    None
+    if one.count != two.count {
+        return Some(true);
+    }
+    Some(lie_apart(usize::from(one.count), one.spaces_before, two.spaces_before))
 }
 
+// Whether two equal texts of so many bytes lie apart, behind so many spaces each.
 #[inline(always)]
-fn are_equal_string_outlines(one: &StringOutline, two: &StringOutline) -> bool
-    ensures { IsTrue result → one.now ≡ two.now }
+fn lie_apart(len: usize, before: u16, other: u16) -> bool
+    ensures { DoLieApart len before other result }
 {
-    one == two
+    if len == 0 {
+        return false;
+    }
+    before != other
 }
 
 fn predict_number(
@@ -97,7 +125,30 @@ fn predict_number(
             return predict_integer(model, first, second, number);
         }
     }
+    if is_char(first) {
+        if is_char(second) {
+            return predict_char(model, first, second, number);
+        }
+    }
     None
+}
+
+#[inline(always)]
+fn is_char(directive: &Directive) -> bool
+    ensures { IsTrue result → IsTrue (is_char directive.now.conv) }
+{
+    matches!(directive.conv().kind(), Kind::Char)
+}
+
+// The same of two directives that print a byte.
+fn predict_char(model: Model, first: &Directive, second: &Directive, number: i128) -> Option<bool>
+    requires first { IsTrue (is_char first.now.conv) }
+    requires second { IsTrue (is_char second.now.conv) }
+    ensures { IfSome result (PredictsDifference model first.now second.now (Number number)) }
+{
+    let one = RunOutline::of_char(first);
+    let two = RunOutline::of_char(second);
+    runs_differ(&one, &two, u8::of(number))
 }
 
 #[inline(always)]
@@ -129,7 +180,7 @@ fn is_in_equal_range(
     }
 }
 
-// The same of two directives that print integers: the bytes differ where the lengths do.
+// The same of two directives that print integers.
 fn predict_integer(
     model: Model,
     first: &Directive,
@@ -143,55 +194,128 @@ fn predict_integer(
     let counted = CountedValue::of(model, first, number);
     let one = Outline::of(first, counted);
     let two = Outline::of(second, counted.for_directive(model, first, second, number));
+    outlines_differ(&one, first.conv().kind(), &two, second.conv().kind())
+}
+
+// Whether two numbers in their fields are different bytes, with the digits that these kinds give.
+fn outlines_differ(one: &Outline, first: Kind, two: &Outline, second: Kind) -> Option<bool>
+    requires first { IsUnderKind first one.now }
+    requires second { IsUnderKind second two.now }
+    ensures { IfSome result (DoTextsDiffer (outline_text one.now (kind_digits first one.now.size))
+        (outline_text two.now (kind_digits second two.now.size))) }
+{
     if one.len() != two.len() {
         return Some(true);
     }
-    if are_equal_outlines(&one, &two) {
-        if have_same_digits(first.conv(), second.conv(), one.size) {
-            return Some(false);
-        }
+    match bodies_differ(one, first, two, second) {
+        None => None,
+        Some(true) => Some(true),
+        Some(false) => Some(lie_apart(one.body_len(), one.spaces_before, two.spaces_before)),
+    }
+}
+
+// The same of what comes between their spaces. A sign or prefix of one and zeros of the other
+// differ; where it stands beside digits, that isn't told.
+fn bodies_differ(one: &Outline, first: Kind, two: &Outline, second: Kind) -> Option<bool>
+    requires first { IsUnderKind first one.now }
+    requires second { IsUnderKind second two.now }
+    ensures { IfSome result (DoTextsDiffer (outline_body one.now (kind_digits first one.now.size))
+        (outline_body two.now (kind_digits second two.now.size))) }
+{
+    if one.body_len() != two.body_len() {
+        return Some(true);
+    }
+    if have_same_prefix(one.prefix, two.prefix) {
+        return Some(digits_differ(first, one.size, second, two.size));
+    }
+    if one.prefix.len() == two.prefix.len() {
+        return Some(true);
+    }
+    if has_zeros_beside(one, two.prefix) {
+        return Some(true);
+    }
+    if has_zeros_beside(two, one.prefix) {
+        return Some(true);
     }
     None
 }
 
-#[inline(always)]
-fn are_equal_outlines(one: &Outline, two: &Outline) -> bool
-    ensures { IsTrue result → one.now ≡ two.now }
+fn have_same_prefix(one: SignOrPrefix, two: SignOrPrefix) -> bool
+    ensures { MatchBool result (sign_or_prefix_text one ≡ sign_or_prefix_text two)
+        (sign_or_prefix_text one ≢ sign_or_prefix_text two) }
 {
-    one == two
-}
-
-// Whether a number has the same digits under two conversions: it does in one base, and where it is
-// one digit below ten.
-#[inline(always)]
-fn have_same_digits(first: Conv, second: Conv, number: u64) -> bool
-    ensures { IsTrue result → digits_under (base_of first) (is_upper first) number
-        ≡ digits_under (base_of second) (is_upper second) number }
-{
-    if same_conv(first, second) {
+    if one == two {
         return true;
     }
-    kinds_have_same_digits(first.kind(), second.kind(), number)
+    !are_unlike(one.text(), two.text())
 }
 
-fn kinds_have_same_digits(first: Kind, second: Kind, number: u64) -> bool
-    ensures { IsTrue result
-        → digits_under (number_of (base_under first)) (has_capitals first) number
-        ≡ digits_under (number_of (base_under second)) (has_capitals second) number }
+// Whether a number has no sign or prefix, and zeros where another one has this.
+#[inline(always)]
+fn has_zeros_beside(outline: &Outline, prefix: SignOrPrefix) -> bool
+    requires { outline.now.count ≤ outline.now.digits }
+    ensures { IsTrue result → (sign_or_prefix_text outline.now.prefix ≡ [])
+        × (length (sign_or_prefix_text prefix) ≤ outline.now.digits - outline.now.count) }
+{
+    match outline.prefix {
+        SignOrPrefix::Nothing => prefix.len() <= outline.digits - outline.count,
+        _ => false,
+    }
+}
+
+// Whether two numbers have different digits, each as its kind gives them.
+fn digits_differ(first: Kind, one: u64, second: Kind, two: u64) -> bool
+    ensures { DoTextsDiffer (kind_digits first one) (kind_digits second two) result }
 {
     if first == second {
-        return true;
+        if one == two {
+            return false;
+        }
     }
-    is_one_digit(first, number) && is_one_digit(second, number)
+    some_digit_differs(first, one, second, two)
 }
 
-#[inline(always)]
-fn is_one_digit(kind: Kind, number: u64) -> bool
-    ensures { IsTrue result
-        → digits_under (number_of (base_under kind)) (has_capitals kind) number
-        ≡ digit_below_ten number }
+// The same, digit by digit from the last.
+fn some_digit_differs(first: Kind, one: u64, second: Kind, two: u64) -> bool
+    ensures { DoTextsDiffer (kind_digits first one) (kind_digits second two) result }
 {
-    number < 10 && number < kind.base().number()
+    let base = first.base().number();
+    let other = second.base().number();
+    let mut left = one;
+    let mut right = two;
+    while left > 0 {
+        if right == 0 {
+            return true;
+        }
+        if glyphs_differ(
+            left % base,
+            first.has_capitals(),
+            right % other,
+            second.has_capitals(),
+        ) {
+            return true;
+        }
+        left /= base;
+        right /= other;
+    }
+    right > 0
+}
+
+// Whether two digits are different bytes.
+#[inline(always)]
+fn glyphs_differ(one: u64, capitals: bool, two: u64, others: bool) -> bool
+    requires first { one < 16 }
+    requires second { two < 16 }
+    ensures { MatchBool result (digit_glyph capitals one ≢ digit_glyph others two)
+        (digit_glyph capitals one ≡ digit_glyph others two) }
+{
+    if one != two {
+        return true;
+    }
+    if one < 10 {
+        return false;
+    }
+    capitals != others
 }
 
 // The greatest power of 10 below 2^64 has this exponent.
@@ -251,57 +375,4 @@ fn space_limit(directive: &Directive) -> u64
         return 0;
     }
     10u64.pow(u32::from((width - 1).min(MOST_DIGITS)))
-}
-
-/// Whether two directives have the same parts.
-pub(crate) fn are_equal(first: &Directive, second: &Directive) -> bool
-    ensures { IsTrue result → first.now ≡ second.now }
-{
-    same_flags(first.flags(), second.flags())
-        && same_number(first.width(), second.width())
-        && same_number(first.precision(), second.precision())
-        && same_length(first.length(), second.length())
-        && same_conv(first.conv(), second.conv())
-}
-
-/// Whether two directives have the same parts but for the flag ` `.
-pub(crate) fn are_equal_beside_space(first: &Directive, second: &Directive) -> bool
-    ensures { IsTrue result → with_space first.now ≡ with_space second.now }
-{
-    same_flags(
-        first.flags().with(Flag::Space),
-        second.flags().with(Flag::Space),
-    ) && same_number(first.width(), second.width())
-        && same_number(first.precision(), second.precision())
-        && same_length(first.length(), second.length())
-        && same_conv(first.conv(), second.conv())
-}
-
-fn same_flags(first: FlagSet, second: FlagSet) -> bool
-    ensures { IsTrue result → first ≡ second }
-{
-    first.has(Flag::Minus) == second.has(Flag::Minus)
-        && first.has(Flag::Plus) == second.has(Flag::Plus)
-        && first.has(Flag::Space) == second.has(Flag::Space)
-        && first.has(Flag::Alt) == second.has(Flag::Alt)
-        && first.has(Flag::Zero) == second.has(Flag::Zero)
-        && first.has(Flag::Group) == second.has(Flag::Group)
-}
-
-fn same_number(first: Option<u16>, second: Option<u16>) -> bool
-    ensures { IsTrue result → first ≡ second }
-{
-    first == second
-}
-
-pub(crate) fn same_length(first: Length, second: Length) -> bool
-    ensures { IsTrue result → first ≡ second }
-{
-    first == second
-}
-
-pub(crate) fn same_conv(first: Conv, second: Conv) -> bool
-    ensures { IsTrue result → first ≡ second }
-{
-    first == second
 }

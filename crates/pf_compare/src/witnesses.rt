@@ -1,21 +1,26 @@
-//! Arguments for which two formats print different bytes.
-ghost use Rattle.std.specs.Prelude.{◌≡◌, IfOk, List, ◌++◌};
+//! Arguments for which two formats print different bytes: the first of the probes that tell them apart.
+//! One is searched only where the formats print the same for neutral arguments.
+ghost use Rattle.std.specs.Prelude.{◌≡◌, ◌≢◌, ◌≤◌, ◌+◌, ◌-◌, [], ◌++◌, IfOk, IfSome, IsTrue, List, MatchBool, drop, length, take};
+ghost use Rattle.pf_values.specs.Arg.{argument_of};
+ghost use Rattle.pf_values.specs.Candidates.{neutral};
+ghost use Rattle.pf_values.specs.declared.models.Model.TheVariants.{Lp64};
 ghost use Rattle.pf_values.specs.declared.types.ArgType.{ArgType};
+ghost use Rattle.pf_values.specs.meaning.Arguments.{HasType};
 ghost use Rattle.pf_values.specs.meaning.DataModel.{arg_type};
 ghost use Rattle.pf_values.specs.meaning.Items.{HasItems, IsAccepted, Item, Reads, types};
-ghost use Rattle.pf_text.specs.PieceHistory.{items_of};
-ghost use Rattle.pf_compare.specs.Layouts.{HaveSameTypeLists, IsLayoutOf, span_types};
-ghost use Rattle.pf_compare.specs.Lone.{DifferInOne};
-ghost use Rattle.pf_compare.specs.Witnesses.{AreNeutral, AwaitsCandidate, FindsWitness, HasCandidate, IsWitnessAt};
+ghost use Rattle.pf_probes.specs.Candidate as probes;
+ghost use Rattle.pf_compare.specs.Answers.{FindsProbe};
+ghost use Rattle.pf_compare.specs.Layouts.{HaveSameTypesAndBytes, HaveSameTypeLists, AreTriedBelow, ReplacementsEqual, ReplacementsDiffer, FindsUnlike, IsSpanIn, IsLayoutOf, replace_span, span_types};
+ghost use Rattle.pf_compare.specs.Lone.{DifferInOne, span_alone};
+ghost use Rattle.pf_compare.specs.Spaces.{PrintEqualIn};
+ghost use Rattle.pf_compare.specs.Witnesses.{AwaitsCandidate, FindsWitness, HasCandidate, IsWitnessAt};
 
-use crate::layouts::{DirectiveSpan, Layout};
-use crate::lone_difference::LoneDifference;
+use crate::differences::{LoneDifference, are_equal, are_unlike};
+use crate::layouts::{DirectiveSpan, Layout, neutrals, neutrals_of, print};
 use crate::owned_args::OwnedArg;
-use crate::probe_search::{Probe, are_unlike, first_candidate_alone, first_probe};
-use crate::type_lists::arg_type;
-use pf_probes::candidate_row;
-use pf_text::{Piece, Pieces};
-use pf_values::{ArgType, Model};
+use crate::predictions::{EqualPrintRange, predict};
+use pf_probes::{Candidate, candidate_row};
+use pf_values::{Arg, ArgType, Directive, Model};
 use std::alloc::{AllocError, Global};
 
 /// Arguments for which two formats print different bytes, and their place among the candidates.
@@ -52,20 +57,6 @@ pub(crate) fn first_witness(
         }
         None => Ok(None),
     }
-}
-
-fn neutrals(
-    alloc: Global,
-    model: Model,
-    spans: &[DirectiveSpan],
-) -> Result<Vec<OwnedArg>, AllocError>
-    ensures { IfOk result (λ args. AreNeutral (span_types model spans.now) args.items) }
-{
-    let mut args = Vec::with_capacity(alloc, spans.len())?;
-    for span in spans {
-        args.push(OwnedArg::neutral(alloc, span.directive.arg_type(model)))?;
-    }
-    Ok(args)
 }
 
 fn witness_of(
@@ -110,41 +101,6 @@ pub(crate) fn lone_witness(
     }
 }
 
-// The neutral arguments of an accepted format.
-fn neutrals_of(alloc: Global, model: Model, text: &[u8]) -> Result<Vec<OwnedArg>, AllocError>
-    requires { IsAccepted text.now }
-    ensures { IfOk result (λ args. (items : List Item) → Reads text.now items
-        → AreNeutral (types model items) args.items) }
-{
-    let mut args = Vec::new(alloc);
-    for piece in Pieces::new(text) {
-        match piece {
-            Ok(piece) => push_neutral(alloc, model, &piece, &mut args)?,
-            Err(_) => unreachable!(),
-        }
-    }
-    Ok(args)
-}
-
-fn push_neutral(
-    alloc: Global,
-    model: Model,
-    piece: &Piece<'_>,
-    args: &mut Vec<OwnedArg>,
-) -> Result<(), AllocError>
-    ensures { IfOk result (λ _. (items : List Item)
-        → AreNeutral (types model items) args.old.items
-        → AreNeutral (types model (items ++ items_of piece.now)) args.new.items) }
-{
-    match arg_type(model, piece) {
-        Some(arg_type) => {
-            args.push(OwnedArg::neutral(alloc, arg_type))?;
-            Ok(())
-        }
-        None => Ok(()),
-    }
-}
-
 // The arguments of a probe, of neutral ones.
 fn with_candidate(
     alloc: Global,
@@ -164,4 +120,281 @@ fn with_candidate(
         args,
         renderings: probe.place as u8 + 1,
     })
+}
+
+/// All arguments are neutral, but the one with this index is the candidate of its type with this
+/// place.
+#[derive(Clone, Copy)]
+pub(crate) struct Probe {
+    pub(crate) index: usize,
+    pub(crate) place: usize,
+}
+
+/// The first probe for which two formats print different bytes. They print the same for neutral
+/// arguments, so what each prints for a probe differs from that in one span alone.
+pub(crate) fn first_probe(
+    alloc: Global,
+    model: Model,
+    first: &Layout,
+    second: &Layout,
+) -> Result<Option<Probe>, AllocError>
+    requires equal { HaveSameTypesAndBytes model first.now second.now }
+    ensures { IfOk result (λ found.
+        (xs ys : List Item) → IsLayoutOf model xs first.now → IsLayoutOf model ys second.now
+        → types model xs ≡ types model ys → FindsProbe model xs ys found) }
+{
+    let mut index = 0;
+    while index < first.spans.len() {
+        let found = first_candidate(
+            alloc,
+            model,
+            &first.bytes,
+            &first.spans[index],
+            &second.spans[index],
+        )?;
+        match found {
+            Some(place) => return Ok(Some(Probe { index, place })),
+            None => index += 1,
+        }
+    }
+    Ok(None)
+}
+
+// The place of the first candidate for which the bytes of two directives, put into their spans, make
+// different texts. One directive in one span makes one text for every argument.
+fn first_candidate(
+    alloc: Global,
+    model: Model,
+    whole: &[u8],
+    first: &DirectiveSpan,
+    second: &DirectiveSpan,
+) -> Result<Option<usize>, AllocError>
+    requires one_type { arg_type model first.now.directive ≡ arg_type model second.now.directive }
+    requires neutral { ReplacementsEqual model whole.now first.now second.now
+        (neutral (arg_type model first.now.directive)) }
+    requires first { IsSpanIn whole.now first.now }
+    requires second { IsSpanIn whole.now second.now }
+    ensures { IfOk result
+        (FindsUnlike model whole.now first.now second.now (arg_type model first.now.directive)) }
+{
+    if are_equal_spans(first, second) {
+        return Ok(None);
+    }
+    first_candidate_from(
+        alloc,
+        model,
+        whole,
+        first,
+        second,
+        first.directive.arg_type(model),
+        1,
+    )
+}
+
+/// The place of the first candidate for which two directives print different bytes: alone, each is
+/// put into one span of an empty text.
+pub(crate) fn first_candidate_alone(
+    alloc: Global,
+    model: Model,
+    first: &Directive,
+    second: &Directive,
+) -> Result<Option<usize>, AllocError>
+    requires one_type { arg_type model first.now ≡ arg_type model second.now }
+    ensures { IfOk result (FindsUnlike model [] (span_alone first.now) (span_alone second.now)
+        (arg_type model first.now)) }
+{
+    first_candidate_from(
+        alloc,
+        model,
+        b"",
+        &span_alone(first),
+        &span_alone(second),
+        first.arg_type(model),
+        0,
+    )
+}
+
+fn span_alone(directive: &Directive) -> DirectiveSpan
+    ensures { result ≡ span_alone directive.now }
+{
+    DirectiveSpan {
+        directive: *directive,
+        start: 0,
+        end: 0,
+    }
+}
+
+fn are_equal_spans(first: &DirectiveSpan, second: &DirectiveSpan) -> bool
+    ensures { IsTrue result → first.now ≡ second.now }
+{
+    have_same_place(first, second) && are_equal(&first.directive, &second.directive)
+}
+
+fn have_same_place(first: &DirectiveSpan, second: &DirectiveSpan) -> bool
+    ensures { IsTrue result
+        → (first.now.start ≡ second.now.start) × (first.now.end ≡ second.now.end) }
+{
+    first.start == second.start && first.end == second.end
+}
+
+// The place of the first candidate of their type that makes different texts, from a place on before
+// which none does. The neutral one is the first.
+fn first_candidate_from(
+    alloc: Global,
+    model: Model,
+    whole: &[u8],
+    first: &DirectiveSpan,
+    second: &DirectiveSpan,
+    wanted: ArgType,
+    from: usize,
+) -> Result<Option<usize>, AllocError>
+    requires first_type { arg_type model first.now.directive ≡ wanted }
+    requires second_type { arg_type model second.now.directive ≡ wanted }
+    requires tried { AreTriedBelow model whole.now first.now second.now wanted from }
+    requires first { IsSpanIn whole.now first.now }
+    requires second { IsSpanIn whole.now second.now }
+    ensures { IfOk result (FindsUnlike model whole.now first.now second.now wanted) }
+{
+    let row = candidate_row(model, wanted);
+    let equal_range = EqualPrintRange::of(&first.directive, &second.directive);
+    let mut place = from;
+    while place < row.len() {
+        if candidate_differs(
+            alloc,
+            model,
+            whole,
+            first,
+            second,
+            equal_range,
+            wanted,
+            row[place],
+        )? {
+            return Ok(Some(place));
+        }
+        place += 1;
+    }
+    Ok(None)
+}
+
+// Whether the bytes of two directives for a candidate, put into their spans, make different texts.
+fn candidate_differs(
+    alloc: Global,
+    model: Model,
+    whole: &[u8],
+    first: &DirectiveSpan,
+    second: &DirectiveSpan,
+    equal_range: Option<EqualPrintRange>,
+    wanted: ArgType,
+    candidate: Candidate,
+) -> Result<bool, AllocError>
+    requires equal_range { IfSome equal_range (PrintEqualIn first.now.directive second.now.directive) }
+    requires first_type { arg_type model first.now.directive ≡ wanted }
+    requires second_type { arg_type model second.now.directive ≡ wanted }
+    requires typed { HasType model (probes.candidate_argument candidate) wanted }
+    requires held { HasType Lp64 (probes.candidate_argument candidate) wanted }
+    requires first { IsSpanIn whole.now first.now }
+    requires second { IsSpanIn whole.now second.now }
+    ensures { IfOk result (λ told. MatchBool told
+        (ReplacementsDiffer model whole.now first.now second.now (probes.candidate_argument candidate))
+        (ReplacementsEqual model whole.now first.now second.now (probes.candidate_argument candidate))) }
+{
+    if have_same_place(first, second) {
+        if let Some(told) = predict(
+            model,
+            &first.directive,
+            &second.directive,
+            equal_range,
+            candidate,
+        ) {
+            return Ok(told);
+        }
+    }
+    let argument = OwnedArg::of(alloc, wanted, candidate)?;
+    printed_differ(alloc, model, whole, first, second, argument.as_arg())
+}
+
+// The same for an argument, by printing. In one place only the printed bytes are compared, and
+// nothing where both directives print what they print for a neutral argument.
+fn printed_differ(
+    alloc: Global,
+    model: Model,
+    whole: &[u8],
+    first: &DirectiveSpan,
+    second: &DirectiveSpan,
+    argument: Arg<'_>,
+) -> Result<bool, AllocError>
+    requires typed_first { HasType model (argument_of argument)
+        (arg_type model first.now.directive) }
+    requires typed_second { HasType model (argument_of argument)
+        (arg_type model second.now.directive) }
+    requires first { IsSpanIn whole.now first.now }
+    requires second { IsSpanIn whole.now second.now }
+    ensures { IfOk result (λ told. MatchBool told
+        (ReplacementsDiffer model whole.now first.now second.now (argument_of argument.entry))
+        (ReplacementsEqual model whole.now first.now second.now (argument_of argument.entry))) }
+{
+    let x = print(alloc, model, &first.directive, argument)?;
+    let y = print(alloc, model, &second.directive, argument)?;
+    if have_same_place(first, second) {
+        return Ok(are_unlike(&x, &y));
+    }
+    if is_unchanged(whole, first, &x) {
+        if is_unchanged(whole, second, &y) {
+            return Ok(false);
+        }
+    }
+    replaced_differ(alloc, whole, first, second, &x, &y)
+}
+
+// Whether a span holds these bytes.
+fn is_unchanged(whole: &[u8], span: &DirectiveSpan, printed: &[u8]) -> bool
+    requires { IsSpanIn whole.now span.now }
+    ensures { IsTrue result → replace_span whole.now span.now printed.now ≡ whole.now }
+{
+    !are_unlike(&whole[span.start..span.end], printed)
+}
+
+// Whether a text with one span replaced differs from it with another one replaced, by the part that
+// the two spans lie in.
+fn replaced_differ(
+    alloc: Global,
+    whole: &[u8],
+    first: &DirectiveSpan,
+    second: &DirectiveSpan,
+    x: &[u8],
+    y: &[u8],
+) -> Result<bool, AllocError>
+    requires first { IsSpanIn whole.now first.now }
+    requires second { IsSpanIn whole.now second.now }
+    ensures { IfOk result (λ told. MatchBool told
+        (replace_span whole.now first.now x.now ≢ replace_span whole.now second.now y.now)
+        (replace_span whole.now first.now x.now ≡ replace_span whole.now second.now y.now)) }
+{
+    let from = first.start.min(second.start);
+    let to = first.end.max(second.end);
+    let one = replace_span(alloc, &whole[from..to], from, first, x)?;
+    let two = replace_span(alloc, &whole[from..to], from, second, y)?;
+    Ok(are_unlike(&one, &two))
+}
+
+// A part of a text that begins at `from`, with these bytes in the place of its span.
+fn replace_span(
+    alloc: Global,
+    part: &[u8],
+    from: usize,
+    span: &DirectiveSpan,
+    printed: &[u8],
+) -> Result<Vec<u8>, AllocError>
+    requires ordered { span.now.start ≤ span.now.end }
+    requires after { from ≤ span.now.start }
+    requires before { span.now.end ≤ from + length part.now }
+    ensures { IfOk result (λ bytes.
+        bytes.items ≡ take (span.now.start - from) part.now ++ printed.now
+        ++ drop (span.now.end - from) part.now) }
+{
+    let mut out = Vec::new(alloc);
+    out.extend_from_slice(&part[..span.start - from])?;
+    out.extend_from_slice(printed)?;
+    out.extend_from_slice(&part[span.end - from..])?;
+    Ok(out)
 }

@@ -1,6 +1,5 @@
 //! The words that give arguments.
-use crate::OwnedArg;
-use crate::owned_bytes::OwnedBytes;
+use crate::{OwnedArg, OwnedBytes};
 use std::alloc::Global;
 use std::test::Fail;
 

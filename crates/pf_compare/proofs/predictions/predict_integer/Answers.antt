@@ -1,23 +1,32 @@
-use Rattle.std.proofs.Common.{◌≡◌, ◌∙◌, arith, of_z, rules, subst, sym, to_z}
+use Rattle.std.proofs.Common.{◌≡◌, ap, arith, of_z, subst, sym, to_z, ◌∙◌}
 use Rattle.std.specs.Int.{w128}
 use Rattle.std.proofs.lemmas.Int.{ints}
-use Rattle.pf_values.specs.declared.conversions.Conv.{Conv}
-use Rattle.pf_values.specs.meaning.Conversions.{base_of, is_upper}
-use Rattle.pf_compare.specs.Outlines.{digits_under, directive_digits}
-use Rattle.pf_compare.proofs.OutlineLemmas.{predicted_alike, predicted_unlike}
+use Rattle.std.proofs.lemmas.Option.{IfSome_then}
+use Rattle.pf_values.specs.declared.conversions.Kind.{Kind}
+use Rattle.pf_values.specs.meaning.Conversions.{kind_of}
+use Rattle.pf_compare.specs.Outlines.{IsUnderKind, kind_digits, outline_text}
+use Rattle.pf_compare.proofs.FieldLemmas.{told_of_texts}
 use Rattle.pf_compare.proofs.predictions.predict_integer.Goals as goal
 
-pub returns-then-len : goal.returns-then-len
-returns-then-len c =
+pub outlines_differ-requires-clause-first : goal.outlines_differ-requires-clause-first
+outlines_differ-requires-clause-first c =
     let number : to_z w128 (of_z w128 c.args.number) ≡ c.args.number = omega (arith, ints) in
-    predicted_unlike c.args.model c.args.first.now c.args.second.now c.args.number c.of-one.result c.of-two.result (c.of-one.ensures _ _ (rw number at c.of-counted.ensures)) (c.of-two.ensures _ _ (rw number at c.for_directive.ensures))
-    (λ e. c.if-len.true (c.len.ensures ∙ e ∙ sym c.len-2.ensures))
+    let outlined = c.of-one.ensures _ _ (rw number at c.of-counted.ensures) in
+    subst (λ (k : Kind). IsUnderKind k c.of-one.result) (sym (c.kind.ensures ∙ ap kind_of c.conv.ensures.value)) outlined.under
 
-pub returns-then-have_same_digits : goal.returns-then-have_same_digits
-returns-then-have_same_digits c =
+pub outlines_differ-requires-clause-second : goal.outlines_differ-requires-clause-second
+outlines_differ-requires-clause-second c =
     let number : to_z w128 (of_z w128 c.args.number) ≡ c.args.number = omega (arith, ints) in
-    predicted_alike c.args.model c.args.first.now c.args.second.now c.args.number c.of-one.result c.of-two.result (c.of-one.ensures _ _ (rw number at c.of-counted.ensures)) (c.of-two.ensures _ _ (rw number at c.for_directive.ensures))
-    (c.are_equal_outlines.ensures (rw c.if-are_equal_outlines.true (search rules)))
-    (subst (λ (conv : Conv). digits_under (base_of conv) (is_upper conv) c.of-one.result.size ≡ directive_digits c.args.second.now c.of-one.result.size) c.conv.ensures.value
-    (subst (λ (conv : Conv). digits_under (base_of c.conv.result) (is_upper c.conv.result) c.of-one.result.size ≡ digits_under (base_of conv) (is_upper conv) c.of-one.result.size) c.conv-then-are_equal_outlines.ensures.value
-    (c.have_same_digits.ensures (rw c.if-have_same_digits.true (search rules)))))
+    let outlined = c.of-two.ensures _ _ (rw number at c.for_directive.ensures) in
+    subst (λ (k : Kind). IsUnderKind k c.of-two.result) (sym (c.kind-2.ensures ∙ ap kind_of c.conv-2.ensures.value)) outlined.under
+
+pub returns : goal.returns
+returns c =
+    let number : to_z w128 (of_z w128 c.args.number) ≡ c.args.number = omega (arith, ints) in
+    let one = c.of-one.ensures _ _ (rw number at c.of-counted.ensures) in
+    let two = c.of-two.ensures _ _ (rw number at c.for_directive.ensures) in
+    let first = c.kind.ensures ∙ ap kind_of c.conv.ensures.value in
+    let second = c.kind-2.ensures ∙ ap kind_of c.conv-2.ensures.value in
+    IfSome_then c.outlines_differ.result c.outlines_differ.ensures (told_of_texts c.args.model c.args.first.now c.args.second.now _ _ _
+    (λ out h. one.prints out h ∙ ap (λ (k : Kind). outline_text c.of-one.result (kind_digits k c.of-one.result.size)) (sym first))
+    (λ out h. two.prints out h ∙ ap (λ (k : Kind). outline_text c.of-two.result (kind_digits k c.of-two.result.size)) (sym second)))

@@ -8,4 +8,4 @@ returns-in-Ok-clause-next c model start left taken given items reader end read h
 
 pub returns-in-Err-clause-next : goal.returns-in-Err-clause-next
 returns-in-Err-clause-next c model start left taken given items reader end read h =
-    refuses_end model c.args.self.now.transducer start left taken given items h read reader end c.in-Err.refusal _ (refl, c.requires.none_pending) (c.in-Err.ensures.ended model taken given items h)
+    refuses_end model c.args.self.now.transducer start left taken given items h read reader end c.in-Err.refusal _ (refl, c.requires.1) (c.in-Err.ensures.ended model taken given items h)

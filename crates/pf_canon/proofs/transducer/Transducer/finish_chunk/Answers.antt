@@ -54,6 +54,7 @@ returns-in-Ok c =
           record { before = c.loop-at.self; byte = get_or text at 0; first = drop_more text at 0 c.loop-at-test.true; through = now.1; model_is = refl; waiting = refl; takes = c.in-Ok.ensures.fed (t ++ take at text) now.0 now.1.after } in
           c.end_chunk.ensures.fed model t out now.0 fed;
       within = c.end_chunk.ensures.within;
+      verbatim_len = c.end_chunk.ensures.verbatim_len;
       few = (let few = i.few in omega (arith, few, c.end_chunk.ensures.few, c.end_chunk.ensures.len));
     }
 
@@ -66,6 +67,7 @@ returns-in-Err c =
           let before = c.loop-at.invariant.through model t out items h in
           refused_in model c.loop-at.self (record c.loop-at.self { scanner = c.feed.new.self }) t out text before.0 c.args.verbatim_len at _ c.in-Err.refusal (drop_more text at 0 c.loop-at-test.true) before.1 (c.in-Err.ensures.fed (t ++ take at text) before.0 before.1.after);
       within = (let verbatim_len = c.loop-at.invariant.verbatim_len in omega (arith, verbatim_len, c.loop-at-test.true));
+      verbatim_len = tt;
       few = tt;
     }
 
@@ -76,6 +78,7 @@ returns c =
     record {
       fed = λ model t out items h. let now = i.through model t out items h in all_inside model c.loop-at.self t out c.args.text.now now.0 c.args.verbatim_len c.loop-at.at now.1;
       within = record { some = omega (arith, c.requires.some, c.loop-at-test.false); verbatim_len = verbatim_len; start = omega arith; len = i.within };
+      verbatim_len = refl;
       few =
           let few = i.few in
           let within = i.within in

@@ -1,0 +1,11 @@
+use Rattle.std.proofs.Common.{◌≤◌, ◌+◌}
+use Rattle.pf_compare.proofs.TypeListLemmas.{AreInStep}
+use Rattle.pf_compare.proofs.differences.first_type_difference.Given as goal
+
+abbrev pub invariant-loop-piece : goal.invariant-loop-piece
+invariant-loop-piece l = record {
+  can : (goal.iterator-loop-piece).can_next l.piece-iterator;
+  finite : (goal.iterator-loop-piece).is_finite l.piece-iterator;
+  bound : l.index + (goal.iterator-loop-piece).remaining l.piece-iterator ≤ (goal.iterator-loop-piece).remaining l.initial.piece-iterator;
+  steps : AreInStep l.model l.piece-iterator l.others l.f l.g l.index;
+}

@@ -1,0 +1,344 @@
+//! Where two formats differ: in which directive alone, and in the type of which argument; whether two
+//! directives have the same parts.
+ghost use Rattle.std.specs.Prelude.{◌≡◌, ◌≢◌, ◌≤◌, ◌∷◌, [], ◌++◌, IfSome, IsFalse, IsTrue, List, MatchBool, MatchOption, Some, length, map};
+ghost use Rattle.std.specs.Option.{option_to_list};
+ghost use Rattle.pf_values.specs.declared.models.Model.{Model};
+ghost use Rattle.pf_values.specs.declared.types.ArgType.{ArgType};
+ghost use Rattle.pf_values.specs.meaning.Items.{IsAccepted, Item, Reads, Byte, Directive as item_of, types};
+ghost use Rattle.pf_values.specs.meaning.Text.{Text, percent};
+ghost use Rattle.pf_text.specs.PieceHistory.{items_of};
+ghost use Rattle.pf_text.specs.Signatures.{TakesTypes};
+ghost use Rattle.pf_render.specs.Rendering.{DifferFirstAt};
+ghost use Rattle.pf_compare.specs.Lone.{DifferInOneAtMost, FormatsDifferInOne, HasFollowed, IsIndexAfter};
+ghost use Rattle.pf_compare.specs.Spaces.{with_space};
+ghost use Rattle.pf_compare.specs.TypeLists.{HasGivenTypes};
+
+use pf_text::{Piece, Pieces};
+use pf_values::{ArgType, Conv, Directive, Flag, FlagSet, Length, Model};
+
+/// The directive in which two formats differ, as each has it, and the index of its argument.
+#[derive(Clone, Copy)]
+pub(crate) struct LoneDifference {
+    pub(crate) index: usize,
+    pub(crate) first: Directive,
+    pub(crate) second: Directive,
+}
+
+/// Where two formats differ in one directive alone, if that is found. It takes no memory.
+pub(crate) fn lone_difference(f: &[u8], g: &[u8]) -> Option<LoneDifference>
+    ensures { IfSome result (FormatsDifferInOne f.now g.now) }
+{
+    if !diverge_in_directive(f, g) {
+        return None;
+    }
+    let mut found = None;
+    let mut index = 0;
+    let mut others = Pieces::new(g);
+    for piece in Pieces::new(f) {
+        match piece {
+            Ok(piece) => {
+                if !next_piece_matches(&mut found, index, &piece, &mut others) {
+                    return None;
+                }
+                index += arg_count(&piece);
+            }
+            Err(_) => return None,
+        }
+    }
+    match others.next() {
+        Some(_) => None,
+        None => found,
+    }
+}
+
+// Whether the first bytes in which two texts differ are inside of what looks like a directive. Else
+// the texts differ in literal bytes, and needn't be read.
+fn diverge_in_directive(f: &[u8], g: &[u8]) -> bool {
+    have_similar_ends(f.last(), g.last()) && ends_in_directive(&f[..common_prefix_len(f, g)])
+}
+
+// Whether two texts with these last bytes end in the same byte, or each in a letter.
+#[inline(always)]
+fn have_similar_ends(one: Option<&u8>, two: Option<&u8>) -> bool {
+    if let Some(one) = one {
+        if let Some(two) = two {
+            return one == two || (one.is_ascii_alphabetic() && two.is_ascii_alphabetic());
+        }
+    }
+    false
+}
+
+// How many bytes two texts begin with in common.
+fn common_prefix_len(f: &[u8], g: &[u8]) -> usize
+    ensures { result ≤ length f.now }
+{
+    let most = f.len().min(g.len());
+    for at in 0..most {
+        if f[at] != g[at] {
+            return at;
+        }
+    }
+    most
+}
+
+// Whether only parts of a directive come after the last `%`.
+fn ends_in_directive(text: &[u8]) -> bool {
+    for back in 0..text.len() {
+        match text[text.len() - 1 - back] {
+            b'%' => return true,
+            b'0'..=b'9' | b'.' | b'-' | b'+' | b' ' | b'#' => {}
+            b'h' | b'l' | b'j' | b'z' | b't' => {}
+            _ => return false,
+        }
+    }
+    false
+}
+
+// Whether the next piece of the second format is this piece of the first one. One directive in all
+// may differ, and is noted.
+fn next_piece_matches(
+    found: &mut Option<LoneDifference>,
+    index: usize,
+    piece: &Piece<'_>,
+    others: &mut Pieces<'_>,
+) -> bool
+    ensures { IsTrue result → (g : Text) (xs : List Item)
+        → HasFollowed others.old g xs found.old → IsIndexAfter xs index
+        → HasFollowed others.new g (xs ++ items_of piece.now) found.new }
+{
+    match others.next() {
+        Some(next) => match next {
+            Ok(other) => match_or_note(found, index, piece, &other),
+            Err(_) => false,
+        },
+        None => false,
+    }
+}
+
+#[inline(always)]
+fn match_or_note(
+    found: &mut Option<LoneDifference>,
+    index: usize,
+    one: &Piece<'_>,
+    two: &Piece<'_>,
+) -> bool
+    ensures { IsTrue result → (xs ys : List Item)
+        → DifferInOneAtMost xs ys found.old → IsIndexAfter xs index
+        → DifferInOneAtMost (xs ++ items_of one.now) (ys ++ items_of two.now) found.new }
+{
+    if are_equal_pieces(one, two) {
+        return true;
+    }
+    if found.is_some() {
+        return false;
+    }
+    match as_directive(one) {
+        Some(first) => match as_directive(two) {
+            Some(second) => {
+                *found = Some(LoneDifference {
+                    index,
+                    first,
+                    second,
+                });
+                true
+            }
+            None => false,
+        },
+        None => false,
+    }
+}
+
+#[inline(always)]
+fn are_equal_pieces(one: &Piece<'_>, two: &Piece<'_>) -> bool
+    ensures { IsTrue result → items_of one.now ≡ items_of two.now }
+{
+    match one {
+        Piece::Literal(literal) => is_literal(two, literal),
+        Piece::Percent => is_percent(two),
+        Piece::Directive(directive) => is_directive(two, directive),
+    }
+}
+
+#[inline(always)]
+fn is_literal(piece: &Piece<'_>, wanted: &[u8]) -> bool
+    ensures { IsTrue result → map Byte wanted.now ≡ items_of piece.now }
+{
+    match piece {
+        Piece::Literal(literal) => !are_unlike(wanted, literal),
+        Piece::Percent => false,
+        Piece::Directive(_) => false,
+    }
+}
+
+#[inline(always)]
+fn is_percent(piece: &Piece<'_>) -> bool
+    ensures { IsTrue result → Byte percent ∷ [] ≡ items_of piece.now }
+{
+    match piece {
+        Piece::Percent => true,
+        Piece::Literal(_) => false,
+        Piece::Directive(_) => false,
+    }
+}
+
+#[inline(always)]
+fn is_directive(piece: &Piece<'_>, wanted: &Directive) -> bool
+    ensures { IsTrue result → item_of wanted.now ∷ [] ≡ items_of piece.now }
+{
+    match piece {
+        Piece::Directive(directive) => are_equal(wanted, directive),
+        Piece::Literal(_) => false,
+        Piece::Percent => false,
+    }
+}
+
+#[inline(always)]
+fn as_directive(piece: &Piece<'_>) -> Option<Directive>
+    ensures { IfSome result (λ directive. items_of piece.now ≡ item_of directive ∷ []) }
+{
+    match piece {
+        Piece::Directive(directive) => Some(*directive),
+        Piece::Literal(_) => None,
+        Piece::Percent => None,
+    }
+}
+
+// How many arguments a piece takes.
+#[inline(always)]
+fn arg_count(piece: &Piece<'_>) -> usize
+    ensures value { (model : Model) → result ≡ length (types model (items_of piece.now)) }
+    ensures few { result ≤ 1 }
+{
+    match piece {
+        Piece::Directive(_) => 1,
+        Piece::Literal(_) => 0,
+        Piece::Percent => 0,
+    }
+}
+
+/// The first index at which the argument types of two accepted formats differ, if they do. It takes
+/// no memory.
+pub(crate) fn first_type_difference(model: Model, f: &[u8], g: &[u8]) -> Option<u64>
+    requires first { IsAccepted f.now }
+    requires second { IsAccepted g.now }
+    ensures { (xs ys : List Item) → Reads f.now xs → Reads g.now ys
+        → MatchOption result (types model xs ≡ types model ys)
+        (DifferFirstAt (types model xs) (types model ys)) }
+{
+    let mut index = 0;
+    let mut others = Pieces::new(g);
+    for piece in Pieces::new(f) {
+        match piece {
+            Ok(piece) => {
+                if let Some(wanted) = arg_type(model, &piece) {
+                    if !is_type(next_type(model, &mut others), wanted) {
+                        return Some(index);
+                    }
+                    index += 1;
+                }
+            }
+            Err(_) => unreachable!(),
+        }
+    }
+    match next_type(model, &mut others) {
+        Some(_) => Some(index),
+        None => None,
+    }
+}
+
+// The type of the next argument of an accepted format, if one comes.
+fn next_type(model: Model, pieces: &mut Pieces<'_>) -> Option<ArgType>
+    ensures { (t : Text) (done : List ArgType) → IsAccepted t → HasGivenTypes model pieces.old t done
+        → MatchOption result (TakesTypes model t done)
+        (λ next. HasGivenTypes model pieces.new t (done ++ next ∷ [])) }
+{
+    while let Some(piece) = pieces.next() {
+        if let Ok(piece) = piece {
+            if let Some(next) = arg_type(model, &piece) {
+                return Some(next);
+            }
+        }
+    }
+    None
+}
+
+fn is_type(given: Option<ArgType>, wanted: ArgType) -> bool
+    ensures yes { IsTrue result → given ≡ Some wanted }
+    ensures other { IsFalse result → given ≢ Some wanted }
+{
+    match given {
+        Some(given) => given == wanted,
+        None => false,
+    }
+}
+
+/// The type of the argument that a piece takes, if it takes one.
+pub(crate) fn arg_type(model: Model, piece: &Piece<'_>) -> Option<ArgType>
+    ensures { option_to_list result ≡ types model (items_of piece.now) }
+{
+    match piece {
+        Piece::Directive(directive) => Some(directive.arg_type(model)),
+        Piece::Percent => None,
+        Piece::Literal(_) => None,
+    }
+}
+
+/// Whether two directives have the same parts.
+pub(crate) fn are_equal(first: &Directive, second: &Directive) -> bool
+    ensures { IsTrue result → first.now ≡ second.now }
+{
+    same_flags(first.flags(), second.flags())
+        && same_number(first.width(), second.width())
+        && same_number(first.precision(), second.precision())
+        && same_length(first.length(), second.length())
+        && same_conv(first.conv(), second.conv())
+}
+
+/// Whether two directives have the same parts but for the flag ` `.
+pub(crate) fn are_equal_beside_space(first: &Directive, second: &Directive) -> bool
+    ensures { IsTrue result → with_space first.now ≡ with_space second.now }
+{
+    same_flags(
+        first.flags().with(Flag::Space),
+        second.flags().with(Flag::Space),
+    ) && same_number(first.width(), second.width())
+        && same_number(first.precision(), second.precision())
+        && same_length(first.length(), second.length())
+        && same_conv(first.conv(), second.conv())
+}
+
+fn same_flags(first: FlagSet, second: FlagSet) -> bool
+    ensures { IsTrue result → first ≡ second }
+{
+    first.has(Flag::Minus) == second.has(Flag::Minus)
+        && first.has(Flag::Plus) == second.has(Flag::Plus)
+        && first.has(Flag::Space) == second.has(Flag::Space)
+        && first.has(Flag::Alt) == second.has(Flag::Alt)
+        && first.has(Flag::Zero) == second.has(Flag::Zero)
+        && first.has(Flag::Group) == second.has(Flag::Group)
+}
+
+fn same_number(first: Option<u16>, second: Option<u16>) -> bool
+    ensures { IsTrue result → first ≡ second }
+{
+    first == second
+}
+
+pub(crate) fn same_length(first: Length, second: Length) -> bool
+    ensures { IsTrue result → first ≡ second }
+{
+    first == second
+}
+
+pub(crate) fn same_conv(first: Conv, second: Conv) -> bool
+    ensures { IsTrue result → first ≡ second }
+{
+    first == second
+}
+
+/// Whether two texts differ.
+pub(crate) fn are_unlike(x: &[u8], y: &[u8]) -> bool
+    ensures { MatchBool result (x.now ≢ y.now) (x.now ≡ y.now) }
+{
+    x != y
+}
