@@ -6,4 +6,3 @@ mod canonical_texts;
 mod comparison;
 mod interface;
 mod literals;
-mod names;
