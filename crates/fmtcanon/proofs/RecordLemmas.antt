@@ -13,7 +13,7 @@ use Rattle.fmtcanon.specs.declared.records.Coming.{Coming}
 use Rattle.fmtcanon.specs.declared.records.Conversation.{Conversation}
 use Rattle.fmtcanon.specs.declared.records.Stop.{Stop}
 use Rattle.fmtcanon.specs.declared.records.Stop.TheVariants.{Memory, Write}
-use Rattle.fmtcanon.specs.declared.replies.Replies.{Replies}
+use Rattle.fmtcanon.specs.declared.records.Replies.{Replies}
 use Rattle.fmtcanon.specs.declared.outcome.Outcome.{Outcome}
 use Rattle.fmtcanon.specs.declared.outcome.Outcome.TheVariants as outcomes
 use Rattle.fmtcanon.proofs.RecordTexts.{all_more}

@@ -16,7 +16,7 @@ use Rattle.fmtcanon.specs.Records.{IsReply, Reply, RunWrites, replies_text, repl
 use Rattle.fmtcanon.specs.declared.outcome.Outcome.{Outcome}
 use Rattle.fmtcanon.specs.declared.task.Question.{Question}
 use Rattle.fmtcanon.specs.declared.task.RecordQuestion.{RecordQuestion}
-use Rattle.fmtcanon.specs.declared.replies.Replies.{Replies}
+use Rattle.fmtcanon.specs.declared.records.Replies.{Replies}
 
 -- a count that stays at a bound goes on from one that did
 min-more : (a b m : ℕ) → min (min a m + b) m ≡ min (a + b) m

@@ -11,7 +11,7 @@ use Rattle.fmtcanon.specs.declared.outcome.Outcome.TheVariants as outcomes
 use Rattle.fmtcanon.specs.declared.task.RecordQuestion.{RecordQuestion}
 use Rattle.fmtcanon.specs.declared.records.Coming.{Coming}
 use Rattle.fmtcanon.specs.declared.records.Conversation.{Conversation}
-use Rattle.fmtcanon.specs.declared.replies.Replies.{Replies}
+use Rattle.fmtcanon.specs.declared.records.Replies.{Replies}
 use Rattle.fmtcanon.specs.declared.records.Stop.{Stop}
 use Rattle.fmtcanon.specs.declared.records.Stop.TheVariants.{Memory, Write}
 

@@ -1,5 +1,5 @@
 //! The answer to a question.
-ghost use Rattle.std.specs.Prelude.{◌≡◌, Err, MatchResult, Ok, IfOk, MatchOption, Some, map};
+ghost use Rattle.std.specs.Prelude.{◌≡◌, Err, IfErr, MatchResult, Ok, IfOk, MatchOption, Some, map};
 ghost use Rattle.pf_signatures.specs.Items.{IsPosixAccepted};
 ghost use Rattle.fmtcanon.specs.Answers.{IsAnswer, IsQuestionFault, HasCanonicalLine, IsFormatFault, IsGivenFault, IsGivenPairFault, IsWholeFault, IsFaultInTexts, IsFaultInText, side_of};
 ghost use Rattle.fmtcanon.specs.declared.answer.Ending.TheVariants.{Done};
@@ -16,17 +16,17 @@ ghost use Rattle.fmtcanon.specs.Shows.{HasShownLines};
 ghost use Rattle.fmtcanon.specs.TypeLines.{HasTypeLines};
 ghost use Rattle.fmtcanon.specs.declared.formats.GivenFormat.{GivenFormat};
 
-use crate::argument_lines::{argument_lines, fit_answer};
-use crate::comparison::comparison_answer;
+use crate::arguments::arguments_for;
+use crate::comparison::{comparison_answer, fit_answer};
 use crate::formats::{GivenFormat, Notation};
 use crate::models::Models;
 use crate::outcome::Fault;
-use crate::run::print_format;
 use crate::show_lines::show_lines;
 use crate::task::Question;
-use crate::type_lines::type_lines;
+use crate::type_lines::{argument_lines, type_lines};
 use pf_canon::{Side, canonical_with_room};
 use pf_literals::LiteralFault;
+use pf_render::{RenderVecFault, render_vec};
 use pf_signatures::{SignatureRefusal, arguments};
 use pf_text::{Refusal, check};
 use pf_values::Model;
@@ -321,6 +321,28 @@ fn side_of(fault: Fault) -> Option<Side>
         Fault::Refused { side, .. } => side,
         Fault::RefusedWhole { side, .. } => side,
         _ => None,
+    }
+}
+
+// What a format prints in a data model for the arguments that words give.
+fn print_format(
+    alloc: Global,
+    model: Model,
+    format: &[u8],
+    words: &[&str],
+) -> Result<Vec<u8>, Fault>
+    ensures ok { IfOk result
+        (λ out. IsPrinted model format.now (map (λ s. s.now) words.now) out.items) }
+    ensures err { IfErr result (IsArgumentFault model format.now (map (λ s. s.now) words.now)) }
+{
+    let args = arguments_for(alloc, model, format, words)?;
+    match render_vec(alloc, model, format, &args) {
+        Ok(out) => Ok(out),
+        Err(fault) => match fault {
+            RenderVecFault::Memory => Err(Fault::Memory),
+            // The format takes just these arguments.
+            _ => unreachable!(),
+        },
     }
 }
 

@@ -1,4 +1,4 @@
-//! The definition of the command for `clap`.
+//! The definition of the command for `clap`, with its texts.
 ghost use Rattle.std.specs.Prelude.{◌≡◌, IfOk, false};
 ghost use Rattle.std.specs.List.{fold};
 ghost use Rattle.clap.specs.Simple.{with_rule};
@@ -7,7 +7,6 @@ ghost use Rattle.clap.specs.declared.builder.command.Command.TheViews.{out-Comma
 ghost use Rattle.clap.specs.declared.builder.value_parser.ValueParser.TheVariants.{Names};
 ghost use Rattle.fmtcanon.specs.Words.{IsCommand, any_arguments, on_format, on_literals, on_nothing, on_records, row_app, row_of, the_command, top_app, whole_option, with_row};
 
-use crate::command_texts as texts;
 use crate::models::{NAMES, NAMES_OR_MORE};
 use clap::{Arg, ArgAction, Command};
 use std::alloc::{AllocError, Global};
@@ -57,49 +56,49 @@ fn definition_with<'a>(
         Row {
             name: "types",
             about: "Writes the types of the arguments of a format, a line each",
-            below: texts::TYPES,
+            below: TYPES_HELP,
             arguments: Arguments::WholeRecords,
             models: one,
         },
         Row {
             name: "canon",
             about: "Writes the canonical string of a format, which all formats of its meaning share",
-            below: texts::CANON,
+            below: CANON_HELP,
             arguments: Arguments::Records,
             models: one,
         },
         Row {
             name: "show",
             about: "Writes the parts of a format, and what its directives are reduced to, a line each",
-            below: texts::SHOW,
+            below: SHOW_HELP,
             arguments: Arguments::Records,
             models: one,
         },
         Row {
             name: "format",
             about: "Writes what a format prints for arguments, and nothing else",
-            below: texts::FORMAT,
+            below: FORMAT_HELP,
             arguments: Arguments::Format,
             models: one,
         },
         Row {
             name: "same",
             about: "Tells whether one format may stand for another; if not, in what they differ",
-            below: texts::SAME,
+            below: SAME_HELP,
             arguments: Arguments::Pairs,
             models: more,
         },
         Row {
             name: "fits",
             about: "Tells whether one format takes just the arguments of another, in the whole language",
-            below: texts::FITS,
+            below: FITS_HELP,
             arguments: Arguments::Pairs,
             models: one,
         },
         Row {
             name: "stream",
             about: "Writes the canonical string of standard input",
-            below: texts::STREAM,
+            below: STREAM_HELP,
             arguments: Arguments::Nothing,
             models: one,
         },
@@ -141,7 +140,7 @@ fn top<'a>(alloc: Global) -> Result<Command<'a>, AllocError>
     Command::new(alloc, "fmtcanon")
         .about("Reads printf formats, and brings them to one canonical spelling")
         .version("0.2.0")
-        .after_help(texts::PROGRAM)
+        .after_help(PROGRAM_HELP)
         .no_binary_name(true)
         .subcommand_required(true)
         .disable_help_subcommand(true)
@@ -226,3 +225,131 @@ fn taking_arguments<'a>(alloc: Global, command: Command<'a>) -> Result<Command<'
     let help = "An argument: `n:` and a decimal number, or `s:` and a string";
     command.arg(Arg::new(alloc, "ARG").num_args(0..).help(help))
 }
+
+/// What is printed where formats are missing or misplaced among the words.
+pub const MISPLACED: &str = "\
+error: formats are wanted among the words, or the option '--null', and not both
+
+For more information, try '--help'.
+";
+
+// The text below the help of each command has an example, the rule of `--`, the exit statuses, and
+// where refusals are explained.
+const PROGRAM_HELP: &str = "\
+Example:
+  fmtcanon same '%5c' '    %c'
+
+A format that begins with - stands after --, as in: fmtcanon canon -- '-%i'
+Where that is forgotten, the tip may name a part of the format. Give the whole of it after --.
+
+Exit status:
+  0  all was written; under same: one format may stand for the other; under fits: the types agree
+  1  under same: the types or the bytes differ; under fits: the types do
+  2  a format is refused
+  3  wrong words or arguments, or a record too few; also help and version, on standard error
+  4  a read or a write failed, or memory ran out
+
+docs/REFUSALS.md of the source says what each refusal means, and what to write instead.";
+
+const TYPES_HELP: &str = "\
+Example:
+  fmtcanon types '%s: %u files'
+  fmtcanon types --whole '%2$s of %1$.2f'
+  printf '%s\\0' %i %5c | fmtcanon types --null
+
+A format that begins with - stands after --, as in: fmtcanon types -- '-%i'
+Where that is forgotten, the tip may name a part of the format. Give the whole of it after --.
+
+With --null formats come from standard input, each with a zero byte after it. A reply is a status, a
+space, what is written or the line of the refusal, and a zero byte. The exit status is the greatest.
+
+Exit status: 0 written, 2 refused, 3 wrong words, 4 a write failed or memory ran out
+Refusals: docs/REFUSALS.md of the source says what each means, and what to write instead.";
+
+const CANON_HELP: &str = "\
+Example:
+  fmtcanon canon 'Total: %i of %u%%'
+  fmtcanon canon --literal '\"Total:\\t%i\" \"\\n\"'
+  printf '%s\\0' %i %5c | fmtcanon canon --null
+
+A format that begins with - stands after --, as in: fmtcanon canon -- '-%i'
+Where that is forgotten, the tip may name a part of the format. Give the whole of it after --.
+
+With --null formats come from standard input, each with a zero byte after it. A reply is a status, a
+space, what is written or the line of the refusal, and a zero byte. The exit status is the greatest.
+
+Exit status: 0 written, 2 refused, 3 wrong words, 4 a write failed or memory ran out
+Refusals: docs/REFUSALS.md of the source says what each means, and what to write instead.";
+
+const SHOW_HELP: &str = "\
+Example:
+  fmtcanon show 'x%20d%%'
+  printf '%s\\0' %i %5c | fmtcanon show --null
+
+A format that begins with - stands after --, as in: fmtcanon show -- '-%i'
+Where that is forgotten, the tip may name a part of the format. Give the whole of it after --.
+
+With --null formats come from standard input, each with a zero byte after it. A reply is a status, a
+space, what is written or the line of the refusal, and a zero byte. The exit status is the greatest.
+
+Exit status: 0 written, 2 refused, 3 wrong words, 4 a write failed or memory ran out
+Refusals: docs/REFUSALS.md of the source says what each means, and what to write instead.";
+
+const FORMAT_HELP: &str = "\
+Example:
+  fmtcanon format '%-8s|%+05d' s:ab n:-42
+
+A format that begins with - stands after --, as in: fmtcanon format -- '-%i' n:5
+Where that is forgotten, the tip may name a part of the format. Give the whole of it after --.
+A number below zero is n:-5, and stands without --. The word -5 is no argument, also after --.
+
+Exit status: 0 written, 2 refused, 3 wrong words or arguments,
+4 a write failed or memory ran out
+Refusals: docs/REFUSALS.md of the source says what each means, and what to write instead.";
+
+const SAME_HELP: &str = "\
+Example:
+  fmtcanon same '%05d' '%.5d'
+  fmtcanon same --model both '%zu' '%lu'
+  printf '%s\\0' %i %d %5c %-5c | fmtcanon same --null
+
+A format that begins with - stands after --, as in: fmtcanon same -- '-%i' '-%d'
+Where that is forgotten, the tip may name a part of the format. Give the whole of it after --.
+
+With --null formats come two by two from standard input, each with a zero byte after it. A reply is a
+status, a space, what is written or the line of the refusal, and a zero byte. The exit status is the
+greatest.
+
+Exit status: 0 same, 1 different, 2 one of the two is refused, 3 wrong words or a format too few,
+4 a write failed or memory ran out
+Refusals: docs/REFUSALS.md of the source says what each means, and what to write instead.";
+
+const FITS_HELP: &str = "\
+Example:
+  fmtcanon fits '%s of %d' '%2$d/%1$s'
+  printf '%s\\0' %d %i %.2f %d | fmtcanon fits --null
+
+A format that begins with - stands after --, as in: fmtcanon fits -- '-%d' '-%i'
+Where that is forgotten, the tip may name a part of the format. Give the whole of it after --.
+
+It is about the types of arguments alone, as for translations. same tells whether the bytes are the
+same, too.
+
+With --null formats come two by two from standard input, each with a zero byte after it. A reply is a
+status, a space, what is written or the line of the refusal, and a zero byte. The exit status is the
+greatest.
+
+Exit status: 0 fits, 1 the types differ, 2 one of the two is refused, 3 wrong words or a format too
+few, 4 a write failed or memory ran out
+Refusals: docs/REFUSALS.md of the source says what each means, and what to write instead.";
+
+const STREAM_HELP: &str = "\
+Example:
+  printf %s 'Total: %i' | fmtcanon stream
+
+A format that begins with - needs no -- here: it is no word.
+It writes as it reads, so bytes may stand on standard output before the format is refused.
+
+Exit status: 0 written, 2 refused, 3 wrong words,
+4 a read or a write failed or memory ran out
+Refusals: docs/REFUSALS.md of the source says what each means, and what to write instead.";

@@ -1,20 +1,23 @@
-//! How two formats compare, as lines.
+//! Two formats compared, as lines: by what they print, and by their types alone.
 ghost use Rattle.std.specs.Prelude.{◌≡◌, ◌<◌, ◌++◌, IfOk, MatchResult, codes, decimal, flat_map};
-ghost use Rattle.fmtcanon.specs.Answers.{IsPairFault};
+ghost use Rattle.fmtcanon.specs.Answers.{IsFitFault, IsPairFault};
+ghost use Rattle.fmtcanon.specs.ArgumentLines.{IsFitAnswer, fit_ending, fit_line};
 ghost use Rattle.fmtcanon.specs.Comparisons.{IsComparisonAnswer, IsComparisonIn, IsComparisonInEach, argument_line, ending_of, ending_with, verdict_lines};
 ghost use Rattle.fmtcanon.specs.Lines.{line};
 
 use crate::answer::{Answer, Ending};
-use crate::argument_lines::types_line;
 use crate::models::{Models, name_of};
 use crate::outcome::Fault;
+use itoa::Buffer;
+use pf_canon::Side;
 use pf_compare::{OwnedArg, Verdict, compare};
+use pf_signatures::{FitsRefusal, fits};
 use pf_values::Model;
 use std::alloc::{AllocError, Global};
 
 /// Whether two formats mean the same in a data model; else where their types differ, or arguments
 /// for which they print different bytes, each as the word that gives it. In more than one, each
-/// verdict stands below the name of its model.
+/// verdict comes below the name of its model.
 pub fn comparison_answer(
     alloc: Global,
     models: Models,
@@ -116,5 +119,58 @@ fn argument_lines(alloc: Global, args: &[OwnedArg]) -> Result<Vec<u8>, AllocErro
         arg.push_word(&mut out)?;
         out.push(b'\n')?;
     }
+    Ok(out)
+}
+
+/// Whether the second format takes just the arguments of the first, in a data model; else the least
+/// index at which they differ. Both may be of the whole language.
+pub fn fit_answer(alloc: Global, model: Model, first: &[u8], second: &[u8]) -> Result<Answer, Fault>
+    ensures { MatchResult result
+        (λ answer. IsFitAnswer model first.now second.now answer.bytes.items answer.ending)
+        (IsFitFault model first.now second.now) }
+{
+    match fits(model, first, second) {
+        Ok(index) => Ok(Answer {
+            bytes: fit_line(alloc, index)?,
+            ending: fit_ending(index),
+        }),
+        Err(FitsRefusal::First(refusal)) => Err(Fault::RefusedWhole {
+            side: Some(Side::First),
+            refusal,
+        }),
+        Err(FitsRefusal::Second(refusal)) => Err(Fault::RefusedWhole {
+            side: Some(Side::Second),
+            refusal,
+        }),
+    }
+}
+
+fn fit_line(alloc: Global, index: Option<u64>) -> Result<Vec<u8>, AllocError>
+    ensures { IfOk result (λ out. out.items ≡ fit_line index) }
+{
+    match index {
+        None => Vec::from_slice(alloc, b"fits\n"),
+        Some(index) => types_line(alloc, index),
+    }
+}
+
+fn fit_ending(index: Option<u64>) -> Ending
+    ensures { result ≡ fit_ending index }
+{
+    match index {
+        None => Ending::Same,
+        Some(_) => Ending::Different,
+    }
+}
+
+// The line of the first argument at which types differ.
+fn types_line(alloc: Global, index: u64) -> Result<Vec<u8>, AllocError>
+    ensures { IfOk result
+        (λ out. out.items ≡ line (codes "types differ at argument " ++ decimal index)) }
+{
+    let mut digits = Buffer::new();
+    let mut out = Vec::from_slice(alloc, b"types differ at argument ")?;
+    out.extend_from_slice(digits.format(index).as_bytes())?;
+    out.push(b'\n')?;
     Ok(out)
 }

@@ -2,29 +2,23 @@
 #![tactic(auto)]
 
 mod answer;
-mod argument_lines;
 mod arguments;
 mod command;
-mod command_texts;
 mod comparison;
 mod formats;
 mod laws;
 mod models;
 mod outcome;
 mod records;
-mod replies;
-mod report;
 mod run;
 mod show_lines;
-mod stream;
 mod task;
 #[cfg(test)]
 mod tests;
 mod type_lines;
 
-use outcome::Outcome;
+use outcome::{Outcome, report};
 use pf_values::Counted;
-use report::report;
 use run::run;
 use std::alloc::AllocError;
 use std::io::{BufReader, BufWriter, ErrorKind};

@@ -1,24 +1,28 @@
 //! Formats that come as records, each with a zero byte after it, and the replies to them.
-ghost use Rattle.std.specs.Prelude.{◌≡◌, ◌≢◌, ◌<◌, ◌++◌, ◌∷◌, [], List, MatchOption, MatchResult, OnOk, MatchBool, is_err, length, true};
+ghost use Rattle.std.specs.Prelude.{◌≡◌, ◌≢◌, ◌≤◌, ◌<◌, ◌++◌, ◌∷◌, [], List, MatchBool, MatchOption, MatchResult, OnErr, OnOk, is_err, length, max, take, true};
 ghost use Rattle.std.specs.Io.{ReadsAtMost};
 ghost use Rattle.std.specs.Io.KnownBytes.{ReadConsumes};
 ghost use Rattle.pf_values.specs.Counting.{calls_after, calls_of, device_of, failures_after, failures_of, is_flushed};
 ghost use Rattle.pf_values.specs.meaning.Text.{Text};
-ghost use Rattle.fmtcanon.specs.Conversations.{AddsReply, HasCome, HasReplies, HasSaid, HasStopped, HasStoppedAt, HasRepliedTo, HasRepliedToText, RecordsFinish, RecordsStop, WritesReplies, waiting_text};
+ghost use Rattle.fmtcanon.specs.Conversations.{AddsReply, HasCome, HasRepliedTo, HasRepliedToText, HasReplies, HasSaid, HasSaidFirst, HasStopped, HasStoppedAt, RecordsFinish, RecordsStop, WritesReplies, waiting_text};
+ghost use Rattle.fmtcanon.specs.Outcomes.{status_of};
 ghost use Rattle.fmtcanon.specs.Questions.{IsAbout, formats_wanted};
-ghost use Rattle.fmtcanon.specs.Records.{RecordsEnd, RepliesFirst, Reply, last_record};
+ghost use Rattle.fmtcanon.specs.Records.{IsReply, RecordsEnd, RepliesFirst, Reply, last_record, reply_bytes};
 
-use crate::outcome::Outcome;
-use crate::replies::Replies;
+use crate::answer::answer_to;
+use crate::outcome::{Fault, Outcome, fault_line};
 use crate::task::{Question, RecordQuestion};
 use memchr::memchr;
-use pf_values::Counted;
+use pf_values::{Counted, write_bytes};
 use std::alloc::{AllocError, Global};
 use std::io::{Read, Write};
 use std::{io, mem};
 
 // How many bytes are read at a time. They lie on the stack, which can't grow where memory is used up.
-const BLOCK: usize = 8_192;
+const READ_BLOCK: usize = 8_192;
+
+// Replies are written by blocks of at least this size, but where a flush is wanted.
+const REPLY_BLOCK: usize = 65_536;
 
 // What has come of the next question: the first format, where two are wanted, and a part of a record.
 #[derive(Drop)]
@@ -58,7 +62,7 @@ pub fn answer_records<R: Read, W: Write>(
         result }
 {
     let mut conversation = Conversation::new(alloc, kind);
-    let mut block = [0u8; BLOCK];
+    let mut block = [0u8; READ_BLOCK];
     // So many reads are never made. A reader may always have more, and each run returns.
     for _turn in 0..u64::MAX {
         if let Err(count) = conversation.flush(writer) {
@@ -353,4 +357,143 @@ impl Coming {
     {
         !self.part.is_empty()
     }
+}
+
+// Replies that wait to be written, and what is known of all that came.
+#[derive(Drop)]
+struct Replies {
+    waiting: Vec<u8>,
+    // The greatest status.
+    greatest: u8,
+    // How many bytes have gone out.
+    written: u128,
+}
+
+impl Replies {
+    // None came.
+    fn new(alloc: Global) -> Replies
+        ensures { HasReplies result [] [] }
+    {
+        Replies {
+            waiting: Vec::new(alloc),
+            greatest: 0,
+            written: 0,
+        }
+    }
+
+    // The greatest status of all that came, and 0 where none did.
+    fn greatest(&self) -> u8
+        ensures { result ≡ self.now.greatest }
+    {
+        self.greatest
+    }
+
+    // Adds the reply to a question. Where a growth is refused, nothing is added.
+    fn add(&mut self, alloc: Global, question: &Question<'_>) -> Result<(), AllocError>
+        ensures { (kind : RecordQuestion) (formats : List Text) (sent : Text)
+            (replies : List Reply)
+            → IsAbout question.now kind formats → HasReplies self.old sent replies
+            → MatchResult result
+            (λ _. (reply : Reply) × IsReply kind reply × (reply.formats ≡ formats)
+            × HasReplies self.new sent (replies ++ reply ∷ []))
+            (λ _. HasReplies self.new sent replies) }
+    {
+        match answer_to(alloc, question) {
+            Ok(answer) => self.push(&Outcome::of_ending(answer.ending), &answer.bytes),
+            Err(fault) => match fault {
+                Fault::Memory => Err(AllocError),
+                _ => {
+                    let line = fault_line(&fault);
+                    self.push(&Outcome::of_fault(fault), line.as_str().as_bytes())
+                }
+            },
+        }
+    }
+
+    // Adds the reply that says this, of a run that ends so.
+    fn push(&mut self, outcome: &Outcome, said: &[u8]) -> Result<(), AllocError>
+        requires { status_of outcome.now ≤ 9 }
+        ensures bytes { OnOk result (waiting_text self.new
+            ≡ waiting_text self.old ++ reply_bytes (status_of outcome.now) said.now) }
+        ensures greatest { OnOk result
+            (self.new.greatest ≡ max self.old.greatest (status_of outcome.now)) }
+        ensures written { self.new.written ≡ self.old.written }
+        ensures none { OnErr result (waiting_text self.new ≡ waiting_text self.old) }
+        ensures same { OnErr result (self.new.greatest ≡ self.old.greatest) }
+    {
+        let status = outcome.status();
+        let len = self.waiting.len();
+        if push_reply(&mut self.waiting, status, said).is_err() {
+            self.waiting.truncate(len);
+            return Err(AllocError);
+        }
+        self.greatest = self.greatest.max(status);
+        Ok(())
+    }
+
+    // Writes those that wait, if they are a block.
+    fn write_block<W: Write>(&mut self, writer: &mut Counted<W>) -> Result<(), u128>
+        ensures { (start : Counted W) (replies : List Reply)
+            → HasSaid W.contents self.old start writer.old replies
+            → MatchResult result
+            (λ _. HasSaid W.contents self.new start writer.new replies)
+            (HasSaidFirst W.contents start writer.new replies) }
+    {
+        if self.waiting.len() < REPLY_BLOCK {
+            return Ok(());
+        }
+        self.write(writer)
+    }
+
+    // Writes those that wait, and flushes. The `Err` says how many bytes have gone out by then.
+    fn flush<W: Write>(&mut self, writer: &mut Counted<W>) -> Result<(), u128>
+        ensures said { (start : Counted W) (replies : List Reply)
+            → HasSaid W.contents self.old start writer.old replies
+            → MatchResult result
+            (λ _. HasSaid W.contents self.new start writer.new replies)
+            (HasSaidFirst W.contents start writer.new replies) }
+        ensures none { OnOk result (waiting_text self.new ≡ []) }
+        ensures flushed { OnOk result (is_flushed writer.new ≡ true) }
+    {
+        self.write(writer)?;
+        match writer.flush() {
+            Ok(()) => Ok(()),
+            Err(_) => Err(self.written),
+        }
+    }
+
+    // Writes those that wait.
+    fn write<W: Write>(&mut self, writer: &mut Counted<W>) -> Result<(), u128>
+        ensures said { (start : Counted W) (replies : List Reply)
+            → HasSaid W.contents self.old start writer.old replies
+            → MatchResult result
+            (λ _. HasSaid W.contents self.new start writer.new replies)
+            (HasSaidFirst W.contents start writer.new replies) }
+        ensures none { OnOk result (waiting_text self.new ≡ []) }
+    {
+        match write_bytes(writer, &self.waiting) {
+            Ok(()) => {
+                self.written = self.written.saturating_add(self.waiting.len() as u128);
+                self.waiting.clear();
+                Ok(())
+            }
+            Err(short) => Err(self.written.saturating_add(short.written as u128)),
+        }
+    }
+}
+
+// Where a growth is refused, a part of the reply may be left after the bytes.
+fn push_reply(out: &mut Vec<u8>, status: u8, said: &[u8]) -> Result<(), AllocError>
+    requires { status ≤ 9 }
+    ensures ok { OnOk result (out.new.items ≡ out.old.items ++ reply_bytes status said.now) }
+    ensures err { OnErr result (take (length out.old.items) out.new.items ≡ out.old.items) }
+{
+    let text = match said.split_last() {
+        Some((_, text)) => text,
+        None => said,
+    };
+    out.extend_from_slice(&[b'0' + status, b' '])?;
+    out.extend_from_slice(text)?;
+    out.push(0)?;
+    Ok(())
 }

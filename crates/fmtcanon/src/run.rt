@@ -1,16 +1,14 @@
 //! A run of the program.
-ghost use Rattle.std.specs.Prelude.{map, IfErr, IfOk};
+ghost use Rattle.std.specs.Prelude.{map};
 ghost use Rattle.fmtcanon.specs.Outcomes.{outcome_of};
-ghost use Rattle.fmtcanon.specs.Runs.{ProgramEnds, AnswerEnds, WritingEnds};
-ghost use Rattle.fmtcanon.specs.FormatArguments.{IsArgumentFault, IsPrinted};
+ghost use Rattle.fmtcanon.specs.Runs.{AnswerEnds, ProgramEnds, WritingEnds};
+ghost use Rattle.fmtcanon.specs.Streams.{CopyEnds};
 
 use crate::answer::{Answer, answer_to};
-use crate::arguments::arguments_for;
-use crate::outcome::{Fault, Outcome};
+use crate::outcome::Outcome;
 use crate::records::answer_records;
-use crate::stream::copy;
 use crate::task::{NoTask, Question, Task, task_of};
-use pf_render::{RenderVecFault, render_vec};
+use pf_canon::{CopyFault, copy_canonical};
 use pf_values::{Counted, Model, write_bytes};
 use std::alloc::Global;
 use std::io::{Read, Write};
@@ -62,24 +60,33 @@ fn write_answer<W: Write>(answer: &Answer, writer: &mut Counted<W>) -> Outcome
     }
 }
 
-/// What a format prints in a data model for the arguments that words give.
-pub fn print_format(
-    alloc: Global,
+/// Copies the canonical string of what the reader hands out in a data model. What was written is
+/// flushed at the end, at a refusal and where a read fails; these two are reported even where that
+/// flush fails.
+pub fn copy<R: Read, W: Write>(
     model: Model,
-    format: &[u8],
-    words: &[&str],
-) -> Result<Vec<u8>, Fault>
-    ensures ok { IfOk result
-        (λ out. IsPrinted model format.now (map (λ s. s.now) words.now) out.items) }
-    ensures err { IfErr result (IsArgumentFault model format.now (map (λ s. s.now) words.now)) }
+    reader: &mut Counted<R>,
+    writer: &mut Counted<W>,
+) -> Outcome
+    ensures { CopyEnds model R.remaining W.contents reader.old reader.new writer.old writer.new
+        result }
 {
-    let args = arguments_for(alloc, model, format, words)?;
-    match render_vec(alloc, model, format, &args) {
-        Ok(out) => Ok(out),
-        Err(fault) => match fault {
-            RenderVecFault::Memory => Err(Fault::Memory),
-            // The format takes just these arguments.
-            _ => unreachable!(),
+    match copy_canonical(model, reader, writer) {
+        Ok(count) => match writer.flush() {
+            Ok(()) => Outcome::Done,
+            Err(_) => Outcome::Write(count),
         },
+        Err(CopyFault::Refused(refusal)) => {
+            let _ = writer.flush();
+            Outcome::Refused {
+                side: None,
+                refusal,
+            }
+        }
+        Err(CopyFault::Read) => {
+            let _ = writer.flush();
+            Outcome::Read
+        }
+        Err(CopyFault::Write(written)) => Outcome::Write(written),
     }
 }

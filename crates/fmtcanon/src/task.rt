@@ -8,8 +8,7 @@ ghost use Rattle.pf_values.specs.meaning.Text.{Text};
 ghost use Rattle.fmtcanon.specs.Models.{model_in};
 ghost use Rattle.fmtcanon.specs.Tasks.{Asks, AsksOther, IsAnsweredBy, IsAsked, IsNoTaskOf, IsNoTaskOn, IsTaskOn, Names, formats_in, is_set, notation_in, rows_in};
 
-use crate::command::definition;
-use crate::command_texts as texts;
+use crate::command::{MISPLACED, definition};
 use crate::formats::{GivenFormat, Notation};
 use crate::models::{Models, model_of, models_of};
 use clap::error::ErrorKind;
@@ -295,7 +294,7 @@ fn question_in<'a>(inner: &ArgMatches<'a>, kind: RecordQuestion) -> Option<Quest
 
 // The answer where formats are missing, or are given where none is wanted.
 fn misplaced(alloc: Global) -> NoTask {
-    match String::from_str(alloc, texts::MISPLACED) {
+    match String::from_str(alloc, MISPLACED) {
         Ok(text) => NoTask::Usage(text),
         Err(AllocError) => NoTask::Memory,
     }

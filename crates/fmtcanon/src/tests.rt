@@ -11,8 +11,7 @@ mod sizes;
 mod streams;
 mod written_rows;
 
-use crate::outcome::Outcome;
-use crate::report::report;
+use crate::outcome::{Outcome, report};
 use crate::run::run;
 use pf_canon::Side;
 use pf_text::Refusal;

@@ -1,9 +1,11 @@
-//! The types of a format's arguments, a line for each.
+//! The types of a format's arguments, a line for each: in the profile, and in the whole language.
 ghost use Rattle.std.specs.Prelude.{◌≡◌, IfOk, MatchResult, flat_map};
-ghost use Rattle.fmtcanon.specs.Answers.{IsFormatFault};
+ghost use Rattle.fmtcanon.specs.Answers.{IsFormatFault, IsWholeFault};
+ghost use Rattle.fmtcanon.specs.ArgumentLines.{HasArgumentLines, argument_line, argument_name};
 ghost use Rattle.fmtcanon.specs.TypeLines.{HasTypeLines, type_line, type_name};
 
 use crate::outcome::Fault;
+use pf_signatures::{ArgumentType, arguments_vec};
 use pf_text::signature;
 use pf_values::{ArgType, Model};
 use std::alloc::{AllocError, Global};
@@ -14,10 +16,10 @@ pub fn type_lines(alloc: Global, model: Model, format: &[u8]) -> Result<Vec<u8>,
         (IsFormatFault format.now) }
 {
     let types = signature(alloc, model, format)?;
-    Ok(lines_of(alloc, types.as_slice())?)
+    Ok(lines_of_types(alloc, types.as_slice())?)
 }
 
-fn lines_of(alloc: Global, types: &[ArgType]) -> Result<Vec<u8>, AllocError>
+fn lines_of_types(alloc: Global, types: &[ArgType]) -> Result<Vec<u8>, AllocError>
     ensures { IfOk result (λ out. out.items ≡ flat_map type_line types.now) }
 {
     let mut out = Vec::new(alloc);
@@ -40,5 +42,50 @@ pub fn type_name(arg_type: ArgType) -> &'static str
         ArgType::LongLong => "long long",
         ArgType::ULongLong => "unsigned long long",
         ArgType::Str => "string",
+    }
+}
+
+/// A line for each argument of a format of the whole language in a data model, or its refusal.
+pub fn argument_lines(alloc: Global, model: Model, format: &[u8]) -> Result<Vec<u8>, Fault>
+    ensures { MatchResult result (λ out. HasArgumentLines model format.now out.items)
+        (IsWholeFault model format.now) }
+{
+    let types = arguments_vec(alloc, model, format)?;
+    Ok(lines_of_arguments(alloc, &types)?)
+}
+
+fn lines_of_arguments(alloc: Global, types: &[ArgumentType]) -> Result<Vec<u8>, AllocError>
+    ensures { IfOk result (λ out. out.items ≡ flat_map argument_line types.now) }
+{
+    let mut out = Vec::new(alloc);
+    for argument_type in types {
+        out.extend_from_slice(argument_name(*argument_type).as_bytes())?;
+        out.push(b'\n')?;
+    }
+    Ok(out)
+}
+
+/// A type in words, as C spells it but for strings, wide characters and pointers.
+pub fn argument_name(argument_type: ArgumentType) -> &'static str
+    ensures { result.now ≡ argument_name argument_type }
+{
+    match argument_type {
+        ArgumentType::Int => "int",
+        ArgumentType::UInt => "unsigned int",
+        ArgumentType::Long => "long",
+        ArgumentType::ULong => "unsigned long",
+        ArgumentType::LongLong => "long long",
+        ArgumentType::ULongLong => "unsigned long long",
+        ArgumentType::Str => "string",
+        ArgumentType::Double => "double",
+        ArgumentType::LongDouble => "long double",
+        ArgumentType::WideChar => "wide character",
+        ArgumentType::WideString => "wide string",
+        ArgumentType::Pointer => "pointer",
+        ArgumentType::PointerToSChar => "pointer to signed char",
+        ArgumentType::PointerToShort => "pointer to short",
+        ArgumentType::PointerToInt => "pointer to int",
+        ArgumentType::PointerToLong => "pointer to long",
+        ArgumentType::PointerToLongLong => "pointer to long long",
     }
 }

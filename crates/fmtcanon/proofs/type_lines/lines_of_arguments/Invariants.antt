@@ -1,7 +1,7 @@
 use Rattle.std.proofs.Common.{◌≡◌, take}
 use Rattle.std.specs.Prelude.{flat_map}
 use Rattle.fmtcanon.specs.ArgumentLines.{argument_line}
-use Rattle.fmtcanon.proofs.argument_lines.lines_of.Given as goal
+use Rattle.fmtcanon.proofs.type_lines.lines_of_arguments.Given as goal
 
 -- the lines so far
 abbrev pub invariant-loop-argument_type : goal.invariant-loop-argument_type

@@ -1,7 +1,7 @@
 use Rattle.std.proofs.Common.{◌≡◌, take}
 use Rattle.std.specs.Prelude.{flat_map}
 use Rattle.fmtcanon.specs.TypeLines.{type_line}
-use Rattle.fmtcanon.proofs.type_lines.lines_of.Given as goal
+use Rattle.fmtcanon.proofs.type_lines.lines_of_types.Given as goal
 
 -- the lines so far
 abbrev pub invariant-loop-arg_type : goal.invariant-loop-arg_type

@@ -1,7 +1,7 @@
 use Rattle.std.proofs.Common.{rules, subst}
 use Rattle.pf_values.specs.Counting.{WritesAll, WritesFirst}
 use Rattle.fmtcanon.proofs.ReplyLemmas.{said_all, said_first}
-use Rattle.fmtcanon.proofs.replies.Replies.write.Goals as goal
+use Rattle.fmtcanon.proofs.records.Replies.write.Goals as goal
 
 pub returns-in-Ok-clause-said : goal.returns-in-Ok-clause-said
 returns-in-Ok-clause-said g c =

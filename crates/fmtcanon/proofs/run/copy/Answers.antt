@@ -1,5 +1,5 @@
 use Rattle.fmtcanon.proofs.StreamLemmas.{read_well, stop_kept}
-use Rattle.fmtcanon.proofs.stream.copy.Goals as goal
+use Rattle.fmtcanon.proofs.run.copy.Goals as goal
 
 pub returns-in-Err-Refused : goal.returns-in-Err-Refused
 returns-in-Err-Refused g c =

@@ -1,7 +1,7 @@
 use Rattle.std.proofs.Common.{inl, inr, rules, subst, sym}
 use Rattle.fmtcanon.specs.Answers.{IsAnswer}
 use Rattle.fmtcanon.proofs.ReplyLemmas.{reply_added}
-use Rattle.fmtcanon.proofs.replies.Replies.add.Goals as goal
+use Rattle.fmtcanon.proofs.records.Replies.add.Goals as goal
 
 pub returns-in-Ok : goal.returns-in-Ok
 returns-in-Ok c =
