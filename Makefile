@@ -115,7 +115,7 @@ wrong-bodies: tools
 	python3 tests/wrong_bodies_test.py
 	python3 tests/wrong_bodies.py --jobs $(JOBS)
 
-# A tool that is missing is told, and fails.
+# A tool that is missing is named, and that fails.
 tools:
 	@command -v rt > /dev/null || { echo 'rt is missing: it is the command of the Rattle kit'; exit 1; }
 	@command -v python3 > /dev/null || { echo 'python3 is missing: the package python3 has it'; exit 1; }

@@ -69,8 +69,8 @@ static int64_t same_models(const char *f, size_t n)
 
 static int64_t compare(const char *f, size_t n)
 {
-    fmtcanon_comparison told;
-    return fmtcanon_compare(LP64, f, n, f, n, out, sizeof out, &told, &error);
+    fmtcanon_comparison found;
+    return fmtcanon_compare(LP64, f, n, f, n, out, sizeof out, &found, &error);
 }
 
 static int64_t parse(const char *f, size_t n)

@@ -21,8 +21,8 @@ PAIRS = {
 def instructions(program, first, second):
     """Instructions of a whole process."""
     words = ["valgrind", "--tool=callgrind", "--callgrind-out-file=/dev/null", program, "same", first, second]
-    told = subprocess.run(words, capture_output=True, check=False).stderr.decode(errors="replace")
-    return int(re.search(r"Collected : (\d+)", told).group(1))
+    output = subprocess.run(words, capture_output=True, check=False).stderr.decode(errors="replace")
+    return int(re.search(r"Collected : (\d+)", output).group(1))
 
 
 def main():

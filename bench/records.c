@@ -48,7 +48,7 @@ static void canon(void)
 }
 
 /* The words of arguments, each in a line; the zero after the last one ends the reply. */
-static void tell_words(int64_t len)
+static void put_words(int64_t len)
 {
     fputs("1 different", stdout);
     for (char *word = out; word < out + len; word += strlen(word) + 1)
@@ -61,16 +61,16 @@ static void same(void)
     long size, more;
     while ((size = next(&record, &record_room)) >= 0 && (more = next(&other, &other_room)) >= 0) {
         fmtcanon_error e;
-        fmtcanon_comparison told;
-        int64_t len = fmtcanon_compare(FMTCANON_LP64, record, (size_t)size, other, (size_t)more, out, out_room, &told, &e);
+        fmtcanon_comparison found;
+        int64_t len = fmtcanon_compare(FMTCANON_LP64, record, (size_t)size, other, (size_t)more, out, out_room, &found, &e);
         if (len < 0)
             refuse(&e, e.side ? "second: " : "first: ");
-        else if (told.verdict == FMTCANON_SAME)
+        else if (found.verdict == FMTCANON_SAME)
             fwrite("0 same", 1, 7, stdout);
-        else if (told.verdict == FMTCANON_TYPES)
-            printf("1 types differ at argument %llu%c", (unsigned long long)told.number, 0);
+        else if (found.verdict == FMTCANON_TYPES)
+            printf("1 types differ at argument %llu%c", (unsigned long long)found.number, 0);
         else
-            tell_words(len);
+            put_words(len);
     }
 }
 

@@ -5,7 +5,7 @@ Usage: bench/records.py PROGRAM FOLDER
 
 FOLDER has libfmtcanon.a, as `make library` leaves it. It needs gcc and valgrind. What start and end of a process take
 isn't in a count: it is the difference of the records twice over and once. The two write the same bytes, or it stops.
-Then it tells the resident memory of a run over 1 MB, 100 MB and 1 GB of records.
+Then it prints the resident memory of a run over 1 MB, 100 MB and 1 GB of records.
 """
 
 import os
@@ -42,7 +42,7 @@ def cost(words, text):
 
 
 def records(program, driver):
-    """The table of runs over records. Under `same` each format stands beside itself, and beside the one before it."""
+    """The table of runs over records. Under `same` each format is compared with itself, and with the one before it."""
     formats = SHAPES.split(b"\0")[:-1]
     twins = b"".join(text + b"\0" + text + b"\0" for text in formats)
     texts = [("canon", "", SHAPES), ("same", ", a format and itself", twins), ("same", ", a format and the next one", SHAPES)]

@@ -1,7 +1,7 @@
 /* The calls as the header declares them: `error` may be NULL, and then the reason of a refusal is dropped.
  *
  * The calls that are proved want a place for it. In the library these have the front proved_ in their
- * names and are seen by this file alone, which stands before them and does nothing else.
+ * names, and this file alone sees and calls them.
  */
 #include "fmtcanon.h"
 

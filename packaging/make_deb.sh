@@ -34,7 +34,7 @@ gzip -9n "$stage"/usr/share/man/man*/*
 } > "$documents/copyright"
 rm "$documents/LICENSE"
 mv "$documents/CHANGELOG.md" "$documents/changelog"
-printf '%s\n' "fmtcanon ($version) unstable; urgency=low" '' '  * What has changed stands in the file changelog.' '' \
+printf '%s\n' "fmtcanon ($version) unstable; urgency=low" '' '  * The file changelog lists the changes.' '' \
     " -- $maintainer  $(date -R -u -d @"${SOURCE_DATE_EPOCH:-$(stat -c %Y CHANGELOG.md)}")" \
     > "$documents/changelog.Debian"
 gzip -9n "$documents/changelog" "$documents/changelog.Debian"

@@ -6,7 +6,7 @@ Usage: tests/arguments.py PROGRAM FOLDER
 FOLDER has libfmtcanon.so, as `make library` leaves it. It needs gcc, and the GNU C library that Python runs on. Its last
 line is 'N passed, M failed', and it exits with 1 where M isn't 0.
 
-`parse_printf_format` tells how many arguments there are, where each is, and its kind; it tells no signs, takes `ll` for `l`
+`parse_printf_format` says how many arguments there are, where each is, and its kind; it knows no signs, takes `ll` for `l`
 and `%lc` for `%c`, and gives each pointer of `%n` one code. What is left is gcc's, whose warnings know all of a type.
 """
 
@@ -33,7 +33,7 @@ LENGTHS = {
     **dict.fromkeys("CSp", [""]),
     "n": INTEGER_LENGTHS,
 }
-# What stands between the percent sign and the length modifier, without numbers and with them.
+# What comes between the percent sign and the length modifier, without numbers and with them.
 FORMS = ["", "*", ".*", "*.*", "5.*", "*.3", "*."]
 NUMBERED = ["1$", "2$*1$", "2$.*1$", "3$*2$.*1$", "1$*3$.*2$", "2$*1$.*1$", "1$5", "1$.3"]
 # The codes of <printf.h>: PA_INT, PA_CHAR, PA_WCHAR, PA_STRING, PA_WSTRING, PA_POINTER and PA_DOUBLE, and its flags.
@@ -91,7 +91,7 @@ def specifications():
 
 
 def takes(form, conversion):
-    """Whether a form may stand before a conversion: no precision of characters and pointers, and nothing before n."""
+    """Whether a form may come before a conversion: no precision of characters and pointers, and nothing before n."""
     if conversion == "n":
         return form in ("", "1$")
     return "." not in form or conversion not in "cCp"
@@ -116,7 +116,7 @@ def parsed(library, format):
 
 
 def try_parsed(module, library, trials):
-    """As many arguments as the C library tells, and each of a type of its code."""
+    """As many arguments as the C library finds, and each of a type of its code."""
     for format in formats():
         types = [kind.name for kind in module.arguments(format)]
         codes = parsed(library, format)

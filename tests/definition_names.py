@@ -1,4 +1,4 @@
-"""The names that definitions of two crates have: a name stands for one thing, whichever crate defines it.
+"""The names that definitions of two crates have: a name means one thing, whichever crate defines it.
 
 `clashes` lists the names that the `specs/` of two crates define; `tests/documents.py` holds them to EXCEPTIONS.
 """

@@ -12,7 +12,7 @@ each growth of each command refused, one a run.
 
 No run is ended by a signal, none exits with 0 or 1 with bytes missing, and nothing is written for a refused format.
 A space may be too small for the system to start the program, which it then kills, or its loader ends it: the sizes
-are told.
+are printed.
 
 It needs a Linux system with gcc. Its last line is 'N passed, M failed', and it exits with 1 where M isn't 0.
 """
@@ -64,7 +64,7 @@ REFUSED = [
     (["same", "%d", "%y"], b"second: " + UNEXPECTED),
     (["canon", LONG_FORMAT + "%"], b"refused 2 Truncated at byte 1201\n"),
 ]
-# What `stream` settles before it is refused, and that it is told even where nothing can be written.
+# What `stream` settles before it is refused, and the report of that, which comes even where nothing can be written.
 STREAM_REFUSED = (b"a%.0sb%5d%q", b"ab%.0s%5d", b"refused 3 Unexpected at byte 10\n")
 # Words that are a fault of their own or ask for help, with the status.
 NOT_ASKED = [
@@ -123,8 +123,8 @@ def closing(streams):
 def run_over(program, words, stdin, stdout=subprocess.DEVNULL, closed=(), stderr=subprocess.PIPE):
     """The status and standard error of a run into this file descriptor, with some streams closed."""
     options = {"stdout": stdout, "stderr": stderr, "preexec_fn": closing(closed)}
-    status, _, told = run(program, words, stdin, **options)
-    return status, told
+    status, _, report = run(program, words, stdin, **options)
+    return status, report
 
 
 def failing_outputs(program, words, stdin):
@@ -144,7 +144,7 @@ def failing_outputs(program, words, stdin):
 
 
 def try_outputs(program, trials):
-    """What is written fails, and what is refused or empty is told as ever."""
+    """What is written fails, and what is refused or empty ends as ever."""
     for words, stdin, _, _ in ANSWERED:
         for device, got in failing_outputs(program, words, stdin):
             trials.expect(f"{name_of(words)}, standard output {device}", got, WRITE_FAILED)
@@ -198,7 +198,7 @@ def try_errors(program, trials):
 
 
 def try_reports(program, trials):
-    """The status is as ever where the line on standard error can't be written, whatever it would tell."""
+    """The status is as ever where the line on standard error can't be written, whatever it would say."""
     with open("/dev/full", "wb") as full:
         for closed, stderr in [([2], subprocess.DEVNULL), ([], full)]:
             for words, status in NOT_ASKED:
@@ -230,7 +230,7 @@ def run_idle(program, words, sent=b""):
 
 
 def try_idle(program, trials):
-    """A command that needs no input doesn't wait for any; `stream` tells a refusal as soon as it is there."""
+    """A command that needs no input doesn't wait for any; `stream` reports a refusal as soon as it is there."""
     for words, _, status, text in ANSWERED:
         if words != ["stream"]:
             trials.expect(f"{name_of(words)}, an idle pipe", run_idle(program, words), (status, text, b""))
@@ -248,7 +248,7 @@ def try_idle(program, trials):
 
 
 def try_terminal(program, trials):
-    """One end of file is enough: a terminal tells it once, and then has more."""
+    """One end of file is enough: a terminal gives it once, and then has more."""
     for sent, text in [(b"%5c!\n\x04", b"    %c!\n"), (b"\x04", b"")]:
         master, slave = pty.openpty()
         modes = termios.tcgetattr(slave)
@@ -304,8 +304,8 @@ def try_calls(program, trials):
             trials.expect(f"{name_of(words)}: no write", calls_of(program, words, b"", work)[1], [])
         for words, _ in [*REFUSED, *NOT_ASKED]:
             reads, writes = calls_of(program, words, b"", work)
-            is_told = [stream == 2 and asked == moved > 0 for stream, asked, moved in writes]
-            trials.expect(f"{name_of(words)}: no read, and one write, which is the report", (reads, is_told), ([], [True]))
+            is_report = [stream == 2 and asked == moved > 0 for stream, asked, moved in writes]
+            trials.expect(f"{name_of(words)}: no read, and one write, which is the report", (reads, is_report), ([], [True]))
         for size in SIZES:
             reads, writes = calls_of(program, ["stream"], b"x" * size, work)
             trials.expect(f"stream of {size} bytes: writes", [one[0] for one in writes], [1] * blocks(size))
@@ -480,7 +480,7 @@ def try_growths(program, trials):
             trials.expect(f"{name_of(words)}: each of {count} growths and all after it", all_after, ["out of memory"] * count + ["as ever"])
             trials.expect(f"{name_of(words)}: another end of one refused", {"otherwise"} & set(one), set())
             if (words, answer[0]) not in NOT_ASKED:
-                trials.expect(f"{name_of(words)}: refused and not told", one[:-1].count("as ever"), 1)
+                trials.expect(f"{name_of(words)}: refused and not reported", one[:-1].count("as ever"), 1)
 
 
 def main():

@@ -26,7 +26,7 @@ README_WORDS = 1200
 # The commands with rows of a model of the program.
 MODEL_COMMANDS = ["canon", "same", "format", "show", "stream", "types"]
 # Names in the documents that are none of this repository's: of C and its library, of other tools and of the kit, and
-# words that stand for others.
+# placeholders.
 FOREIGN_NAMES = set("""
     cents errno memset intmax_t ptrdiff_t strerror uintmax_t I64
     xargs git msgfmt msgunfmt pipefail fix fmt imports plant PYTHONPATH PKG_CONFIG_PATH ldconfig pip pkg config cflags libs pkgconfig sudo
@@ -70,7 +70,7 @@ def pairs_of(count):
     return count * (count - 1) // 2
 
 
-def told_counts():
+def tested_counts():
     """What docs/TESTED.md says is tested: patterns of its numbers, each with the numbers that the files give."""
     grids = [f"pf_render/src/tests/grid/{name}.rt" for name in ["binary", "hexadecimal", "octal", "signed", "unsigned"]]
     texts = sum(map(table_rows, grids)) + data_count("long.txt")
@@ -129,31 +129,31 @@ def with_digits(text):
 
 
 def try_numbers(trials):
-    """The numbers of rows, tests and wrong bodies that the documents tell are those of the files."""
+    """The numbers of rows, tests and wrong bodies in the documents are those of the files."""
     tested = with_digits((TOP / "docs/TESTED.md").read_text(encoding="utf-8"))
     proved = with_digits((TOP / "docs/PROVED.md").read_text(encoding="utf-8"))
     words = len((TOP / "README.md").read_text(encoding="utf-8").split())
     trials.expect(f"README.md has at most {README_WORDS} words: {words}", words <= README_WORDS, True)
     checked = set()
-    for pattern, counts in told_counts():
-        told = re.search(pattern, tested)
-        trials.expect(f"docs/TESTED.md: {pattern}", told and [int(number) for number in told.groups()], counts)
-        checked.update(told.start(group) for group in range(1, len(counts) + 1) if told)
+    for pattern, counts in tested_counts():
+        found = re.search(pattern, tested)
+        trials.expect(f"docs/TESTED.md: {pattern}", found and [int(number) for number in found.groups()], counts)
+        checked.update(found.start(group) for group in range(1, len(counts) + 1) if found)
     for pattern in PLAIN_NUMBERS:
-        for told in re.finditer(pattern, tested):
-            checked.update(told.start() + number.start() for number in re.finditer(r"\d+", told.group()))
+        for found in re.finditer(pattern, tested):
+            checked.update(found.start() + number.start() for number in re.finditer(r"\d+", found.group()))
     callers = [name for path in (TOP / "crates/uses/src").glob("*.rt") for name in re.findall(r"^pub fn (\w+)", path.read_text(encoding="utf-8"), re.MULTILINE)]
-    told = re.search(r"(\d+) such callers", proved)
-    trials.expect("callers of crates/uses in docs/PROVED.md", told and int(told.group(1)), len(callers))
+    found = re.search(r"(\d+) such callers", proved)
+    trials.expect("callers of crates/uses in docs/PROVED.md", found and int(found.group(1)), len(callers))
     unchecked = [tested[number.start() - 20:number.end() + 20] for number in re.finditer(r"\d+", tested) if number.start() not in checked]
     trials.expect("numbers of docs/TESTED.md that nothing checks", unchecked, [])
     contributing = (TOP / "docs/CONTRIBUTING.md").read_text(encoding="utf-8")
     for crate in sorted(path.name for path in (TOP / "crates").iterdir()):
-        told = re.search(rf"\| `{crate}` \| \d+ \| (\d+) \| (\d+) \|", contributing)
+        found = re.search(rf"\| `{crate}` \| \d+ \| (\d+) \| (\d+) \|", contributing)
         sources = (TOP / "crates" / crate / "src").rglob("*.rt")
         tests = sum(source.read_text(encoding="utf-8").count("#[test]\n") for source in sources)
         edits = len([it for folder in ["must-fail", "wrong-bodies"] for it in (TOP / "crates" / crate / folder).glob("*.edit")])
-        trials.expect(f"tests and wrong bodies of {crate} in CONTRIBUTING.md", told and told.groups(), (str(tests), str(edits)))
+        trials.expect(f"tests and wrong bodies of {crate} in CONTRIBUTING.md", found and found.groups(), (str(tests), str(edits)))
 
 
 def documents():
@@ -196,14 +196,14 @@ def try_names(trials):
         names |= {name for name in re.findall(r"\b[A-Za-z_]\w\w+", blocks) if re.search(r"_|[a-z][A-Z]", name)}
         foreign -= names
         trials.expect(f"names of {document} that the code has not", sorted(names - known), [])
-        told = {span.rstrip("/") for span in spans if re.fullmatch(r"\.?[\w-]+(/[\w.+-]+)+/?|[\w-]+\.(rt|antt|md|py|c|txt|jsonl)", span)}
-        missing = [span for span in told if "/out/" not in span and not any(path.endswith("/" + span) for _, path in paths)]
+        named = {span.rstrip("/") for span in spans if re.fullmatch(r"\.?[\w-]+(/[\w.+-]+)+/?|[\w-]+\.(rt|antt|md|py|c|txt|jsonl)", span)}
+        missing = [span for span in named if "/out/" not in span and not any(path.endswith("/" + span) for _, path in paths)]
         trials.expect(f"paths of {document} that are not there", sorted(missing), [])
     trials.expect("foreign names that no document has", sorted(foreign), [])
 
 
 def try_map(trials):
-    """Each source file of a crate stands in the part of docs/ARCHITECTURE.md on that crate."""
+    """The part of docs/ARCHITECTURE.md on a crate has each of its source files."""
     text = (TOP / "docs/ARCHITECTURE.md").read_text(encoding="utf-8")
     parts = dict(re.findall(r"^### `(\w+)`\n(.*?)(?=^##)", text, flags=re.DOTALL | re.MULTILINE))
     for crate in sorted((TOP / "crates").iterdir()):
@@ -226,8 +226,8 @@ def crate_rows():
 def try_graph(trials):
     """The table of what crates need is that of crates.txt."""
     text = (TOP / "docs/ARCHITECTURE.md").read_text(encoding="utf-8")
-    told = text.split("| Crate | Needs of these | Needs of the kit |\n|---|---|---|\n")[1].split("\n\n")[0].splitlines()
-    trials.expect("what crates need, in docs/ARCHITECTURE.md", told, list(crate_rows()))
+    rows = text.split("| Crate | Needs of these | Needs of the kit |\n|---|---|---|\n")[1].split("\n\n")[0].splitlines()
+    trials.expect("what crates need, in docs/ARCHITECTURE.md", rows, list(crate_rows()))
 
 
 def try_edits(trials):
@@ -251,14 +251,14 @@ def plain_code(text):
 
 
 def try_callers(trials):
-    """Each caller that a document shows stands in the code, where it is proved and tested."""
+    """The code has each caller that a document shows, where it is proved and tested."""
     sources = [plain_code(path.read_text(encoding="utf-8")) for path in TOP.glob("crates/*/src/**/*.rt")]
     for document, text in documents():
         for language, block in fences(text):
             for item in re.split(r"(?<=^})$", block, flags=re.MULTILINE) if language == "rust" else []:
                 item = plain_code(item)
                 found = any(item in source for source in sources)
-                trials.expect(f"{document}: this stands in the code: {item[:60]}", found, True)
+                trials.expect(f"{document}: the code has this: {item[:60]}", found, True)
 
 
 def main():

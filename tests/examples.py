@@ -41,7 +41,7 @@ def page_section(page, name):
 
 
 def plain_lines(page, name):
-    """The lines of a section that is set as it stands, or of the synopsis."""
+    """The lines of a section that is set as it is, or of the synopsis."""
     body = re.search(rf"^\.SH {name}\n(.*?)(?=^\.SH |\Z)", page, flags=re.DOTALL | re.MULTILINE).group(1)
     body = re.sub(r"\n\.(I|RI) ", " ", body).replace("\\(aq", "'").replace("\\-", "-").replace("\\e", "\\")
     for line in body.splitlines():
@@ -64,8 +64,8 @@ def try_page(program, trials):
     found = [(tag.split()[0], text) for tag, text in page_section(page, "COMMANDS")]
     trials.expect("commands of the manual page", found, top["Commands"])
     usages = [usage.replace("<", "").replace(">", "") for name in commands for usage in helps[name]["Usage"]]
-    told = [f"fmtcanon {tag}" for tag, _ in page_section(page, "COMMANDS")]
-    trials.expect("arguments in the manual page's commands", told, usages)
+    listed = [f"fmtcanon {tag}" for tag, _ in page_section(page, "COMMANDS")]
+    trials.expect("arguments in the manual page's commands", listed, usages)
     synopsis = [line for line in plain_lines(page, "SYNOPSIS") if "--" not in line and "COMMAND" not in line]
     trials.expect("the synopsis", synopsis, usages)
     wanted = {re.sub(r"\W", "", name): text for one in helps.values() for name, text in one["Arguments"]}
@@ -100,9 +100,9 @@ def try_completions(program, trials):
     trials.expect("bash: s", completed(["s"]), [name for name in commands if name.startswith("s")])
     trials.expect("bash: --", completed(["--"]), [option for option in options if option.startswith("--")])
     for name in commands:
-        told = dict(help_of(program, [name])["Options"])
-        one = [option.split()[0] for names in told for option in names.split(", ")]
-        models = re.search(r"possible values: (.*)\]", told["--model <MODEL>"]).group(1).split(", ")
+        listed = dict(help_of(program, [name])["Options"])
+        one = [option.split()[0] for names in listed for option in names.split(", ")]
+        models = re.search(r"possible values: (.*)\]", listed["--model <MODEL>"]).group(1).split(", ")
         trials.expect(f"bash: {name} --model", completed([name, "--model", ""]), models)
         trials.expect(f"bash: {name} --model=", completed([name, "--model", "="]), models)
         trials.expect(f"bash: {name} --model=i", completed([name, "--model", "=", "i"]), ["ilp32"])
@@ -113,8 +113,8 @@ def try_completions(program, trials):
         trials.expect(f"bash: {name} and a format", completed([name, ""]), [])
         trials.expect(f"bash: {name} and what follows", completed([name, "%d", ""]), ["n:", "s:"] if name == "format" else [])
     words = ["bash", "-c", 'source "$0"; complete -p fmtcanon', TOP / "completions/fmtcanon.bash"]
-    told = subprocess.run(words, stdout=subprocess.PIPE, timeout=TIMEOUT, check=True).stdout.decode()
-    trials.expect("bash: a space follows a command", told, "complete -F _fmtcanon fmtcanon\n")
+    output = subprocess.run(words, stdout=subprocess.PIPE, timeout=TIMEOUT, check=True).stdout.decode()
+    trials.expect("bash: a space follows a command", output, "complete -F _fmtcanon fmtcanon\n")
     zsh = (TOP / "completions/_fmtcanon").read_text(encoding="utf-8")
     trials.expect("zsh: commands", re.findall(r"^        '([a-z]+):(.*)'$", zsh, flags=re.MULTILINE), top["Commands"])
     fish = (TOP / "completions/fmtcanon.fish").read_text(encoding="utf-8")
@@ -126,8 +126,8 @@ def try_completions(program, trials):
         trials.expect(f"fish: {names}", f"-s {short} -l {long} -d '{text}'" in fish, True)
     for name in commands:
         for argument, text in help_of(program, [name])["Arguments"]:
-            is_told = f":{text}: '" in zsh.replace("\\:", ":")
-            trials.expect(f"zsh: {argument} of {name}", is_told, True)
+            is_there = f":{text}: '" in zsh.replace("\\:", ":")
+            trials.expect(f"zsh: {argument} of {name}", is_there, True)
 
 
 def main():

@@ -11,7 +11,7 @@ TIMEOUT = 60
 
 
 class Trials:
-    """Counts what was tried, and tells each failure."""
+    """Counts what was tried, and prints each failure."""
 
     def __init__(self):
         self.passed = 0
@@ -25,7 +25,7 @@ class Trials:
         print(f"FAILED {name}\n  wanted {wanted!r}\n  got    {got!r}")
 
     def end(self):
-        """Tells how many passed and failed, and answers the status to exit with."""
+        """Prints how many passed and failed, and returns the status to exit with."""
         print(f"{self.passed} passed, {self.failed} failed")
         return 1 if self.failed else 0
 

@@ -125,8 +125,8 @@ def try_missing(work, trials):
     for part in ["include", "man", "packaging", "completions", "examples", "docs", "python"]:
         shutil.copytree(TOP / part, tree / part)
     shutil.copy(TOP / "Makefile", tree)
-    status, told = make(["install", f"DESTDIR={stage}", *PLACES], folder=tree)
-    trials.expect("make install of nothing", (status != 0, "crates/fmtcanon/out/fmtcanon is missing: make builds it" in told), (True, True))
+    status, output = make(["install", f"DESTDIR={stage}", *PLACES], folder=tree)
+    trials.expect("make install of nothing", (status != 0, "crates/fmtcanon/out/fmtcanon is missing: make builds it" in output), (True, True))
     trials.expect("nothing is installed", stage.exists(), False)
 
 

@@ -112,21 +112,21 @@ def try_header(trials):
     verdicts = source_numbers("fmtcanon_c/src/comparison.rt", r"Verdict::(\w+)[^=]*=> \((\d+),", {"Args": "DIFFERENT"})
     trials.expect("verdicts", header_numbers("fmtcanon_verdict"), verdicts)
     for name, source, struct in [("fmtcanon_error", "interface", "CError"), ("fmtcanon_comparison", "comparison", "CComparison")]:
-        told = re.search(rf"typedef struct {name} \{{(.*?)\}}", header_text(), flags=re.DOTALL).group(1)
+        fields = re.search(rf"typedef struct {name} \{{(.*?)\}}", header_text(), flags=re.DOTALL).group(1)
         text = (SOURCES / f"{source}.rt").read_text(encoding="utf-8")
         code = re.search(rf"#\[repr\(C\)\][^{{]*struct {struct} \{{(.*?)\n\}}", text, flags=re.DOTALL).group(1)
         wanted = [(NUMBERS[kind], field) for field, kind in re.findall(r"pub (\w+): (\w+),", code)]
-        trials.expect(f"fields of {name}", re.findall(r"(\w+) (\w+);", told), wanted)
-    told = dict(re.findall(r"FMTCANON_ERROR_(\w+) \((-\d+)\)", header_text()))
+        trials.expect(f"fields of {name}", re.findall(r"(\w+) (\w+);", fields), wanted)
+    declared = dict(re.findall(r"FMTCANON_ERROR_(\w+) \((-\d+)\)", header_text()))
     code = dict(re.findall(r"NO_(\w+): i64 = (-\d+);", (SOURCES / "interface.rt").read_text(encoding="utf-8")))
-    trials.expect("errors that are no refusal", told, {"NOMEMORY": code["MEMORY"], "MODEL": code["MODEL"], "NOPLACE": code["PLACE"]})
+    trials.expect("errors that are no refusal", declared, {"NOMEMORY": code["MEMORY"], "MODEL": code["MODEL"], "NOPLACE": code["PLACE"]})
     version = ".".join(re.findall(r"FMTCANON_VERSION_\w+ (\d+)", header_text()))
-    told = re.search(r"^## (\S+),", (TOP / "CHANGELOG.md").read_text(encoding="utf-8"), flags=re.MULTILINE).group(1)
-    trials.expect("the version of the header", version, told)
+    latest = re.search(r"^## (\S+),", (TOP / "CHANGELOG.md").read_text(encoding="utf-8"), flags=re.MULTILINE).group(1)
+    trials.expect("the version of the header", version, latest)
     made = re.search(r"^VERSION = (\S+)$", (TOP / "Makefile").read_text(encoding="utf-8"), flags=re.MULTILINE).group(1)
-    trials.expect("the version of the Makefile", made, told)
+    trials.expect("the version of the Makefile", made, latest)
     python = re.search(r'^version = "(\S+)"$', (TOP / "python/pyproject.toml").read_text(encoding="utf-8"), flags=re.MULTILINE).group(1)
-    trials.expect("the version of the Python module", python, told)
+    trials.expect("the version of the Python module", python, latest)
 
 
 def lines_of(words, **options):
@@ -204,10 +204,10 @@ def canonical_line(module, one, model):
 
 
 def verdict_line(module, one, other, model):
-    told = module.compare(one, other, model=model)
-    number = len(told.arguments) if told.arguments is not None else told.types_differ_at or 0
-    words = b"".join(word + b"\0" for word in map(word_of, told.arguments or ()))
-    return f"verdict {int(told.verdict)} {number} {words.hex()}"
+    found = module.compare(one, other, model=model)
+    number = len(found.arguments) if found.arguments is not None else found.types_differ_at or 0
+    words = b"".join(word + b"\0" for word in map(word_of, found.arguments or ()))
+    return f"verdict {int(found.verdict)} {number} {words.hex()}"
 
 
 def models_line(module, one, other):
@@ -226,14 +226,14 @@ def program_answer(module, command, formats, models):
     """What the program answers, by the Python module: the status, and the bytes on the two streams."""
     try:
         if command == "same":
-            told = [same_lines(module, *formats, model) for model in models]
+            answers = [same_lines(module, *formats, model) for model in models]
             names = [f"{model.name.lower()}\n".encode() if models[1:] else b"" for model in models]
-            are_same = [lines == b"same\n" for lines in told]
+            are_same = [lines == b"same\n" for lines in answers]
             # The calls that answer by yes or no say the same.
             found = module.same_in(*formats)
             if are_same != [model in found for model in models] or are_same != [module.same(*formats, model=model) for model in models]:
                 return "compare, same and same_in differ"
-            return 0 if all(are_same) else 1, b"".join(name + lines for name, lines in zip(names, told)), b""
+            return 0 if all(are_same) else 1, b"".join(name + lines for name, lines in zip(names, answers)), b""
         if command == "canon":
             canonical = module.canonical(formats[0], model=models[0])
             if module.is_canonical(formats[0], model=models[0]) != (canonical == formats[0]):
@@ -264,12 +264,12 @@ def argument_of(word):
 
 
 def same_lines(module, one, other, model):
-    told = module.compare(one, other, model=model)
-    if told.verdict is module.Verdict.SAME:
+    found = module.compare(one, other, model=model)
+    if found.verdict is module.Verdict.SAME:
         return b"same\n"
-    if told.verdict is module.Verdict.TYPES:
-        return b"types differ at argument %d\n" % told.types_differ_at
-    return b"".join(word + b"\n" for word in [b"different", *map(word_of, told.arguments)])
+    if found.verdict is module.Verdict.TYPES:
+        return b"types differ at argument %d\n" % found.types_differ_at
+    return b"".join(word + b"\n" for word in [b"different", *map(word_of, found.arguments)])
 
 
 def try_program_rows(module, trials):
@@ -315,7 +315,7 @@ def try_program(program, module, trials):
 
 
 def try_document(prefix, work, trials):
-    """Each command of docs/C.md answers what stands below it, with the library installed."""
+    """Each command of docs/C.md prints what the page shows below it, with the library installed."""
     document = TOP / "docs/C.md"
     (work / "canon.c").write_bytes((TOP / "examples/canon.c").read_bytes())
     environment = {
@@ -334,7 +334,7 @@ def try_document(prefix, work, trials):
     source = " ".join((TOP / "examples/canon.c").read_text(encoding="utf-8").split())
     for language, block in fences(document.read_text(encoding="utf-8")):
         if language == "c":
-            trials.expect("the block of docs/C.md stands in examples/canon.c", " ".join(block.split()) in source, True)
+            trials.expect("examples/canon.c has the block of docs/C.md", " ".join(block.split()) in source, True)
 
 
 def try_unit_tests(program, folder, trials):

@@ -1,5 +1,5 @@
 #!/usr/bin/env python3
-"""Holds string literals of C source to a C compiler: what sources stand for, and that what is encoded is compiled to just the text.
+"""Holds string literals of C source to a C compiler: the bytes of sources, and that what is encoded is compiled to just the text.
 
 Usage: tests/literals.py PROGRAM FOLDER
 
@@ -23,13 +23,13 @@ from library import load_module  # noqa: E402
 
 COUNT = 2000
 SEED = 20
-# With these no compiler replaces trigraphs, and what stands in a literal is taken as it is.
+# With these no compiler replaces trigraphs, and a literal is taken as it is.
 GCC = ["gcc", "-std=gnu11", "-w"]
 STRICT = ["-std=c11", "-Wall", "-Wextra", "-pedantic", "-Werror"]
 SIMPLE = b"\"\\'?abtnvfr"
 OCTAL = b"01234567"
 WHITE = [b"", b" ", b"\t", b"\n", b"\n  ", b" \v\f ", b"\r\n"]
-# Bytes that may stand as they are in a literal.
+# Bytes that a literal may have as they are.
 PLAIN = bytes(byte for byte in range(1, 256) if byte not in b'"\\\n\r')
 THIRDS = b"=/'()!<>-"
 
@@ -101,7 +101,7 @@ def compiled(compiler, sources, work):
     lines = ["#include <stdio.h>", "#define ONE(s) fwrite(s, 1, sizeof(s), stdout)", "int main(void)", "{"]
     program = "\n".join(lines).encode() + b"\n"
     for source in sources:
-        # The length of each stands before it, since a text may hold anything.
+        # The length of each comes before it, since a text may hold anything.
         program += b'    printf("%zu ", sizeof(\n' + source + b"\n));\n    ONE(\n" + source + b"\n);\n"
     file = work / "literals.c"
     file.write_bytes(program + b"    return 0;\n}\n")
@@ -132,7 +132,7 @@ def try_encoded(module, compiler, trials, work):
     """The literal of a text is compiled without a word, and to just the text."""
     listed = list(texts())
     literals = [module.encode_literal(text) for text in listed]
-    # Bytes that are no UTF-8 stand in comments and literals of many sources; gcc takes them as they are.
+    # Many sources have bytes that are no UTF-8 in comments and literals; gcc takes them as they are.
     found, said = compiled([*compiler, *STRICT], literals, work)
     trials.expect(f"{compiler}: literals are compiled without a warning", (found is not None, said), (True, ""))
     for text, bytes_found in zip(listed, found or []):

@@ -28,10 +28,10 @@ def accepts(program, model, format, number):
 def asserts_of(program, model, length, named, conversion):
     """What must hold of a type, by what the program says of a directive that prints it."""
     format = f"%{length}{conversion}"
-    told = run(program, ["types", "--model", model, "--", format])[1].decode().strip()
+    spelled = run(program, ["types", "--model", model, "--", format])[1].decode().strip()
     # A narrow argument is promoted to int (C11 6.3.1.1, paragraph 2).
     value = f"(({named})0 + 0)" if length in ("h", "hh") else f"({named})0"
-    yield f"_Static_assert(_Generic({value}, {told}: 1, default: 0), \"{format} takes {told}\");"
+    yield f"_Static_assert(_Generic({value}, {spelled}: 1, default: 0), \"{format} takes {spelled}\");"
     core = run(program, ["canon", "--model", model, "--", f"%{WIDE}{length}{conversion}"])[1].decode().strip()
     digits = int("".join(filter(str.isdigit, core))) - (conversion == "d")
     greatest = f"(({named})-1 > 0 ? ({named})-1 : ({named})((1ULL << (8 * sizeof({named}) - 1)) - 1))"

@@ -39,7 +39,7 @@ FISH = [
 
 
 class Tools:
-    """Tells what is missing, each tool once."""
+    """Prints what is missing, each tool once."""
 
     def __init__(self, trials):
         self.trials = trials
@@ -82,7 +82,7 @@ def try_valgrind(folder, tools, module, trials, work):
     if tools.has("valgrind", "valgrind"):
         words = ["valgrind", "-q", "--error-exitcode=9", "--leak-check=full", "--show-leak-kinds=all"]
         lines = try_compiler(["gcc", "-std=c99", "-g"], folder, trials, work, words)
-        trials.expect("valgrind tells nothing", lines == list(python_lines(module, shapes())), True)
+        trials.expect("valgrind reports nothing", lines == list(python_lines(module, shapes())), True)
 
 
 def try_second(folder, module, trials, work):
@@ -104,7 +104,7 @@ def try_random(folder, trials, work):
 
 
 def try_gettext(folder, tools, trials):
-    """What fmtcanon-po tells, beside msgfmt."""
+    """What fmtcanon-po prints, beside msgfmt."""
     if tools.has("msgfmt", "gettext"):
         try_msgfmt(folder, trials)
 
@@ -133,8 +133,8 @@ def try_shells(tools, trials):
         file = TOP / "completions/fmtcanon.fish"
         trials.expect("fish reads its completion", lines_of(["fish", "-n", file]), (0, ""))
         for words, wanted in FISH:
-            status, told = lines_of(["fish", "--no-config", "-c", f"source {file}; complete -C 'fmtcanon {words}'"])
-            trials.expect(f"fish: {words}", (status, [line.split("\t")[0] for line in told.splitlines()]), (0, wanted))
+            status, output = lines_of(["fish", "--no-config", "-c", f"source {file}; complete -C 'fmtcanon {words}'"])
+            trials.expect(f"fish: {words}", (status, [line.split("\t")[0] for line in output.splitlines()]), (0, wanted))
     if tools.has("groff", "groff"):
         for page in sorted((TOP / "man").iterdir()):
             trials.expect(f"groff reads {page.name}", lines_of(["groff", "-man", "-ww", "-z", page]), (0, ""))

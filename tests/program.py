@@ -30,7 +30,7 @@ def try_rows(program, trials):
 
 
 def try_examples(program, trials):
-    """Each example of the documents answers what stands below it, on either stream."""
+    """Each example of the documents prints what is shown below it, on either stream."""
     folder = os.path.dirname(os.path.abspath(program))
     environment = {**os.environ, "PATH": folder + os.pathsep + os.environ["PATH"], "LC_ALL": "C.UTF-8"}
     for name in DOCUMENTS:
@@ -55,8 +55,8 @@ def try_usage(program, trials):
         found += 1
         trials.expect(f"usage of {words}", run(program, words), (3, b"", text.encode()))
     trials.expect("texts of usage", found, 20)
-    told = re.search(r"^## (\S+),", (TOP / "CHANGELOG.md").read_text(encoding="utf-8"), flags=re.MULTILINE)
-    trials.expect("the version at the top of CHANGELOG.md", run(program, ["--version"])[2].decode(), f"fmtcanon {told and told.group(1)}\n")
+    latest = re.search(r"^## (\S+),", (TOP / "CHANGELOG.md").read_text(encoding="utf-8"), flags=re.MULTILINE)
+    trials.expect("the version at the top of CHANGELOG.md", run(program, ["--version"])[2].decode(), f"fmtcanon {latest and latest.group(1)}\n")
 
 
 WHOLE = "## In the whole language\n"
@@ -71,7 +71,7 @@ def literal_rows():
 
 
 def try_literals(program, trials):
-    """Each row of REFUSALS.md on string literals is told so, and the one to write instead is accepted."""
+    """Each row of REFUSALS.md on string literals is a fault there, and the one to write instead is accepted."""
     rows = literal_rows()
     trials.expect("kinds of faults of literals in REFUSALS.md", sorted({int(row[1]) for row in rows}), list(range(1, 7)))
     for literal, number, at, instead in rows:
@@ -89,8 +89,8 @@ def try_whole(program, trials):
     trials.expect("kinds of the whole language alone in REFUSALS.md", kinds >= {19, 20, 21, 22}, True)
     for format, number, at, instead in rows:
         status, stdout, stderr = run(program, ["types", "--whole", "--", format])
-        told = re.fullmatch(rb"refused (\d+) \w+ at byte (\d+)\n", stderr)
-        trials.expect(f"types --whole {format}", (status, stdout, told and told.groups()), (2, b"", (number.encode(), at.encode())))
+        refusal = re.fullmatch(rb"refused (\d+) \w+ at byte (\d+)\n", stderr)
+        trials.expect(f"types --whole {format}", (status, stdout, refusal and refusal.groups()), (2, b"", (number.encode(), at.encode())))
         status, _, stderr = run(program, ["types", "--whole", "--", instead])
         trials.expect(f"{instead} is accepted, in the place of {format}", (status, stderr), (0, b""))
 
@@ -130,7 +130,7 @@ def try_words(program, trials):
     """Words that are no text, and many words."""
     status, stdout, stderr = run(program, ["canon", b"\xff"])
     trials.expect("a word that is not UTF-8", (status, stdout), (3, b""))
-    trials.expect("it is told in a line", re.fullmatch(rb"error: .*\n", stderr) is not None, True)
+    trials.expect("a line says so", re.fullmatch(rb"error: .*\n", stderr) is not None, True)
     words = ["format", "%d" * 40_000] + [f"n:{i}" for i in range(40_000)]
     wanted = "".join(map(str, range(40_000))).encode()
     trials.expect("40,000 arguments", run(program, words), (0, wanted, b""))
@@ -183,9 +183,9 @@ def try_devices(program, trials):
 
 
 def try_count(trials):
-    """docs/TESTED.md tells how many trials there are. This is the last of all, and counts itself."""
-    told = re.search(r"([\d,]+) runs and comparisons", (TOP / "docs/TESTED.md").read_text(encoding="utf-8"))
-    trials.expect("trials in docs/TESTED.md", told and int(told.group(1).replace(",", "")), trials.passed + trials.failed + 1)
+    """docs/TESTED.md says how many trials there are. This is the last of all, and counts itself."""
+    found = re.search(r"([\d,]+) runs and comparisons", (TOP / "docs/TESTED.md").read_text(encoding="utf-8"))
+    trials.expect("trials in docs/TESTED.md", found and int(found.group(1).replace(",", "")), trials.passed + trials.failed + 1)
 
 
 def main():

@@ -1,4 +1,4 @@
-"""Finds the functions of a Rattle source file, with the names by which a check tells them, and where their bodies are."""
+"""Finds the functions of a Rattle source file, with the names by which a check knows them, and where their bodies are."""
 
 import re
 from dataclasses import dataclass
@@ -13,8 +13,8 @@ NO_CODE = re.compile(r"""//[^\n]*|/\*.*?\*/|b?"(?:\\.|[^"\\])*"|b?'(?:\\(?:x..|u
 class Function:
     """A function: its path below the crate, and the offsets at which its contract and its body begin and its body ends.
 
-    Before its name may stand `pub` or `pub(..)`, with `extern` after it, and the block that it stands in has a head, where it
-    stands in one.
+    It may have `pub` or `pub(..)` before its name, with `extern` after that, and the head of the block that it is in, where it
+    is in one.
     """
 
     path: str
@@ -97,7 +97,7 @@ def body_of(code, start):
     at, contract = start, None
     while True:
         opens, ends = code.find("{", at), code.find(";", at)
-        # A semicolon in the head can only stand in an array's type.
+        # A semicolon in the head can only be in an array's type.
         ends_here = ends != -1 and (opens == -1 or ends < opens) and code[start:ends].count("[") == code[start:ends].count("]")
         if opens == -1 or ends_here:
             return None
@@ -110,20 +110,20 @@ def body_of(code, start):
 
 
 def functions(text, path, homes):
-    """The functions of the file at path, as `src/a/b.rt`, that stand in no other; homes are the modules of the types."""
+    """The functions of the file at path, as `src/a/b.rt`, that are in no other; homes are the modules of the types."""
     code, found = blanked(text), []
     walk(code, (0, len(code)), module_of(path), homes, found)
     return found
 
 
 def visibility_at(code, at):
-    """What stands before the `fn` at this offset: `pub` or `pub(..)`, with `extern` where C calls the function."""
+    """What comes before the `fn` at this offset: `pub` or `pub(..)`, with `extern` where C calls the function."""
     words = re.search(r"\b(pub(?:\([\w: ]*\))?)((?:\s+(?:const|unsafe|extern))*)\s+$", code[max(0, at - 80) : at])
     return words[1] + " extern" * ("extern" in words[2]) if words else ""
 
 
 def walk(code, span, names, homes, found, block=""):
-    """Adds the functions between two offsets, which stand in the module, block or trait of these names."""
+    """Adds the functions between two offsets, which are in the module, block or trait of these names."""
     at, end = span
     while True:
         item = ITEM.search(code, at, end)

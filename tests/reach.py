@@ -159,7 +159,7 @@ def of_code(others):
 
 
 def in_words(names):
-    """These definitions, to be told."""
+    """These definitions, to be printed."""
     return sorted(f"{path}.{name}" for path, name in names)
 
 

@@ -95,7 +95,7 @@ def try_calls(program, trials):
 
 
 def try_devices(program, trials):
-    """Before a read that fails the records that are whole have their replies; and a write that fails is told."""
+    """Before a read that fails the records that are whole have their replies; and a write that fails is reported."""
     for text, count in [(b"", 0), (b"%5", 0), (b"%5c\0%", 1), (RECORDS, 3), (RECORDS + b"x", 3)]:
         reader, writer = os.pipe()
         os.set_blocking(reader, False)

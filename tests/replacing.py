@@ -14,7 +14,7 @@ from harness import TIMEOUT, TOP
 
 PLACES = TOP / "tests/library/places.c"
 OLD, NEW = "%i items\\n", "%d items\\n"
-TOLD = {
+REPORTS = {
     "pattern": """\
 places.c:2: left: a name beside it may be a macro that is part of the string
 places.c:3: left: without libclang it isn't sure: the macro in line 3 may change what a call is
@@ -47,7 +47,7 @@ places.c:20: left: it is only a part of the argument
 # The lines of places.c that have the new format then.
 CHANGED = {"pattern": [17], "libclang": [10, 13, 17]}
 UNSURE = "a.c:1: left: without libclang it isn't sure: "
-# Words, a source, what is told, and the source after it where it is another.
+# Words, a source, what is printed, and the source after it where it is another.
 SOURCES = [
     # The digit after an escape stays a digit.
     (["\\0010%i", "\\0010%d"], 'printf("\\1" "0%i", n);', "a.c:1: replaced\n", 'printf("\\0010%d", n);'),
@@ -112,7 +112,7 @@ PATTERN_SOURCES = [
     (["%i", "%d"], '#include <err.h>\nvoid f(char *s) { warn(s); if (s) warn("%i", 1); }', "a.c:2: replaced\n", '#include <err.h>\nvoid f(char *s) { warn(s); if (s) warn("%d", 1); }'),
     (["%i", "%d"], 'void f(char *) __attribute__((format(printf, 1, 2))); void g() { printf("%i", 1); }', "a.c:1: replaced\n",
      'void f(char *) __attribute__((format(printf, 1, 2))); void g() { printf("%d", 1); }'),
-    (["%i", "%d"], 'f(printf("%i", 1));', "a.c:1: left: the call stands within the brackets of a name, which may be a macro\n", None),
+    (["%i", "%d"], 'f(printf("%i", 1));', "a.c:1: left: the call is within the brackets of a name, which may be a macro\n", None),
     (["%i", "%d"], '#include "a.h"\nprintf("%i", 1);', 'a.c:2: left: without libclang it isn\'t sure: "a.h" in line 1 may define macros\n', None),
     (["%i", "%d"], 'int n = 4 //* 2\n; printf("%i", n);', UNSURE[:4] + "2: left: without libclang it isn't sure: in line 1 the first standard of C has a division and a comment\n", None),
     (["%i", "%d"], 'f(\n#if A\n)\n#endif\nprintf("%i", 1);', "a.c:5: left: without libclang it isn't sure: line 2 is a directive within brackets\n", None),
@@ -209,9 +209,9 @@ class Tool:
 def try_places(tool, trials):
     file, source = tool.work / "places.c", PLACES.read_bytes()
     file.write_bytes(source)
-    trials.expect("replace --dry-run", tool.run(["--dry-run", OLD, NEW, "places.c"]), (1, TOLD[tool.reader], ""))
+    trials.expect("replace --dry-run", tool.run(["--dry-run", OLD, NEW, "places.c"]), (1, REPORTS[tool.reader], ""))
     trials.expect("a dry run changes nothing", file.read_bytes() == source, True)
-    trials.expect("replace", tool.run([OLD, NEW, "places.c"]), (1, TOLD[tool.reader], ""))
+    trials.expect("replace", tool.run([OLD, NEW, "places.c"]), (1, REPORTS[tool.reader], ""))
     lines = file.read_text().splitlines()
     changed = [number for number, line in enumerate(lines, 1) if "%d items\\n" in line]
     trials.expect("lines with the new format", changed, CHANGED[tool.reader])
@@ -221,10 +221,10 @@ def try_places(tool, trials):
 
 def try_sources(tool, rows, trials):
     file = tool.work / "a.c"
-    for words, source, told, wanted in rows:
+    for words, source, report, wanted in rows:
         file.write_text(source, encoding="utf-8")
-        status = 1 if "left" in told else 0
-        trials.expect(f"replace {words} in {source[:60]!r}", tool.run([*words, "a.c"]), (status, told, ""))
+        status = 1 if "left" in report else 0
+        trials.expect(f"replace {words} in {source[:60]!r}", tool.run([*words, "a.c"]), (status, report, ""))
         trials.expect(f"the source after {words}", file.read_bytes().decode(), source if wanted is None else wanted)
 
 
@@ -236,14 +236,14 @@ def try_programs(tool, trials):
         source = f"{source}\n" if source.startswith("\ufeff") else f"#include <stdio.h>\n{source}\n"
         before = tool.printed(source)
         trials.expect(f"{name}: it compiles", before[0] != "not compiled", True)
-        status, told, fault = tool.run(["%i", "%d", "a.c"])
-        trials.expect(f"{name}: {told}", (status, "left: " in told, "replaced" in told, fault), (1, True, False, ""))
+        status, report, fault = tool.run(["%i", "%d", "a.c"])
+        trials.expect(f"{name}: {report}", (status, "left: " in report, "replaced" in report, fault), (1, True, False, ""))
         trials.expect(f"{name}: what it prints", tool.printed((tool.work / "a.c").read_text(encoding="utf-8")), before)
     for name, source in CALLS.items():
         source = f"#include <stdio.h>\n{source}\n"
         before = tool.printed(source)
-        status, told, fault = tool.run(["%i\\n", "%d\\n", "a.c"])
-        trials.expect(f"a call {name}", (status, set(told.split(" ")[1:]) & {"left:"}, fault), (0, set(), ""))
+        status, report, fault = tool.run(["%i\\n", "%d\\n", "a.c"])
+        trials.expect(f"a call {name}", (status, set(report.split(" ")[1:]) & {"left:"}, fault), (0, set(), ""))
         after = (tool.work / "a.c").read_text(encoding="utf-8")
         trials.expect(f"a call {name}: the source", after, source.replace("%i", "%d"))
         trials.expect(f"a call {name}: what it prints", tool.printed(after), before)
@@ -252,10 +252,10 @@ def try_programs(tool, trials):
 def try_words(tool, trials):
     file = tool.work / "a.c"
     for words, line in WRONG:
-        status, told, fault = tool.run(words)
-        trials.expect(f"replace {words}", (status, told, line in fault), (2, "", True))
-    status, told, fault = tool.run(["--help"])
-    trials.expect("replace --help", (status, "Usage: fmtcanon-replace" in told, fault), (0, True, ""))
+        status, report, fault = tool.run(words)
+        trials.expect(f"replace {words}", (status, report, line in fault), (2, "", True))
+    status, report, fault = tool.run(["--help"])
+    trials.expect("replace --help", (status, "Usage: fmtcanon-replace" in report, fault), (0, True, ""))
     file.write_text('#include <stdio.h>\nint main(void) { return printf("%i", 1); }', encoding="utf-8")
     (tool.work / "link.c").symlink_to("a.c")
     trials.expect("replace on a link", tool.run(["%i", "%d", "link.c"]), (0, "link.c:2: replaced\n", ""))
@@ -268,9 +268,9 @@ def try_long_line(tool, trials):
     source = "int main(void) { int n = 1;" + call * (LONG_LINE // len(call)) + " }"
     (tool.work / "a.c").write_text("#include <stdio.h>\n" + source, encoding="utf-8")
     start = resource.getrusage(resource.RUSAGE_CHILDREN).ru_utime
-    status, told, _ = tool.run(["%i%i", "%d%d", "a.c"])
+    status, report, _ = tool.run(["%i%i", "%d%d", "a.c"])
     took = resource.getrusage(resource.RUSAGE_CHILDREN).ru_utime - start
-    trials.expect("a long line", (status, told.count("replaced")), (0, LONG_LINE // len(call)))
+    trials.expect("a long line", (status, report.count("replaced")), (0, LONG_LINE // len(call)))
     trials.expect(f"a long line in {SECONDS} seconds of the processor", took < SECONDS, True)
 
 
@@ -296,8 +296,8 @@ def try_parsing(folder, python, trials):
         try_long_line(tool, trials)
         source = '#include "b/tell.h"\nvoid f(void) { printf("%i", 1); }'
         (tool.work / "a.c").write_text(source, encoding="utf-8")
-        told = "a.c:1: left: the file as a whole: libclang: line 1: 'b/tell.h' file not found\n"
-        trials.expect("a header that isn't there", tool.run(["%i", "%d", "a.c"]), (1, told, ""))
+        report = "a.c:1: left: the file as a whole: libclang: line 1: 'b/tell.h' file not found\n"
+        trials.expect("a header that isn't there", tool.run(["%i", "%d", "a.c"]), (1, report, ""))
         (tool.work / "inc/b").mkdir(parents=True)
         (tool.work / "inc/b/tell.h").write_text("#include <stdio.h>\n#define MORE(x) #x\n", encoding="utf-8")
         trials.expect("a header that a flag finds", tool.run(["--flag", "-Iinc", "%i", "%d", "a.c"]), (0, "a.c:2: replaced\n", ""))

@@ -24,7 +24,7 @@ TRIED = [
     ("fmtcanon canon 'Total: %i of %u%%'", "Total: %d of %u%%\n"),
     ("python3 -c 'import fmtcanon; print(fmtcanon.same(\"%5c\", \"    %c\"))'", "True\n"),
     ("fmtcanon-po --strict right.po 2>&1", "2 messages judged, 0 not judged\n"),
-    ("fmtcanon-po wrong.po > told 2>&1; echo $?", "1\n"),
+    ("fmtcanon-po wrong.po > faults 2>&1; echo $?", "1\n"),
     ("fmtcanon-replace %zu %lu size.c || true", "size.c:2: left: in ILP32 the types differ at argument 0; in LLP64 the types differ at argument 0\n"),
     ("fmtcanon-replace --model lp64 %zu %lu size.c", "size.c:2: replaced\n"),
     ("cc -std=c99 -o canon canon.c $(pkg-config --cflags --libs fmtcanon) && ./canon %05u", "%.5u\n"),
@@ -68,8 +68,8 @@ def is_left(root):
 
 def try_package(root, trials):
     shutil.copy(PACKAGE, root / "package.deb")
-    status, told = shell([CHROOT, root, "dpkg", "-i", "/package.deb"])
-    trials.expect(f"dpkg -i: {told if status else ''}", status, 0)
+    status, output = shell([CHROOT, root, "dpkg", "-i", "/package.deb"])
+    trials.expect(f"dpkg -i: {output if status else ''}", status, 0)
     try_commands("the package", root, trials)
     trials.expect("dpkg -P", shell([CHROOT, root, "dpkg", "-P", "fmtcanon"])[0], 0)
     (root / "package.deb").unlink()
@@ -80,8 +80,8 @@ def try_archive(root, trials):
     shell(["tar", "-xzf", ARCHIVE, "-C", root / "root"])
     folder = f"/root/fmtcanon-{VERSION}-linux-x86_64"
     for target in ["install", "uninstall"]:
-        status, told = shell([CHROOT, root, "/bin/sh", "-c", f"cd {folder} && make {target}" + (" && ldconfig" if target == "install" else "")])
-        trials.expect(f"make {target} in the archive: {told if status else ''}", status, 0)
+        status, output = shell([CHROOT, root, "/bin/sh", "-c", f"cd {folder} && make {target}" + (" && ldconfig" if target == "install" else "")])
+        trials.expect(f"make {target} in the archive: {output if status else ''}", status, 0)
         if target == "install":
             try_commands("the archive", root, trials)
     shutil.rmtree(root / folder[1:])
@@ -97,14 +97,14 @@ def try_root(tools, trials):
     with tempfile.TemporaryDirectory() as work:
         root = Path(work) / "root"
         release = re.search(r"VERSION_CODENAME=(\w+)", Path("/etc/os-release").read_text(encoding="utf-8")).group(1)
-        status, told = shell(["debootstrap", "--variant=minbase", f"--include={INCLUDED}", release, root])
-        trials.expect(f"debootstrap: {told[-300:] if status else ''}", status, 0)
+        status, output = shell(["debootstrap", "--variant=minbase", f"--include={INCLUDED}", release, root])
+        trials.expect(f"debootstrap: {output[-300:] if status else ''}", status, 0)
         if status == 0:
             try_package(root, trials)
             try_archive(root, trials)
     if tools.has("lintian", "lintian"):
-        told = shell(["lintian", "--fail-on", "error", PACKAGE])
-        trials.expect(f"lintian: {told[1] if told[0] else ''}", told[0], 0)
+        output = shell(["lintian", "--fail-on", "error", PACKAGE])
+        trials.expect(f"lintian: {output[1] if output[0] else ''}", output[0], 0)
 
 
 def try_wheel(trials):
@@ -120,23 +120,23 @@ def try_wheel(trials):
         words = [folder / "pip", "install", "--no-index", "--quiet", "--disable-pip-version-check", *wheels]
         if shutil.which("unshare") and os.geteuid() == 0:
             words = [shutil.which("unshare"), "--net", *words]
-        status, told = shell(words, env=environment, cwd=work)
-        trials.expect(f"pip install of the wheel: {told}", status, 0)
+        status, output = shell(words, env=environment, cwd=work)
+        trials.expect(f"pip install of the wheel: {output}", status, 0)
         script = "import fmtcanon, importlib.metadata as m; print(fmtcanon.canonical('%i'), fmtcanon.format('%05d', 7), *fmtcanon.show('%%'), fmtcanon.__version__, m.version('fmtcanon'), m.metadata('fmtcanon')['License'])"
         wanted = (0, f"%d b'00007' Percent(spelling='%%') {VERSION} {VERSION} MIT\n")
         trials.expect("the module of the wheel", shell([folder / "python", "-c", script], env=environment, cwd=work), wanted)
         put_samples(Path(work))
-        told = shell([folder / "fmtcanon-po", "right.po"], env=environment, cwd=work)
-        trials.expect("fmtcanon-po of the wheel", told, (0, "2 messages judged, 0 not judged\n"))
-        told = shell([folder / "fmtcanon-replace", "--model", "lp64", "%zu", "%lu", "size.c"], env=environment, cwd=work)
-        trials.expect("fmtcanon-replace of the wheel", told, (0, "size.c:2: replaced\n"))
-        status, told = shell([folder / "pip", "check"], env=environment, cwd=work)
-        trials.expect(f"pip check: {told}", status, 0)
+        output = shell([folder / "fmtcanon-po", "right.po"], env=environment, cwd=work)
+        trials.expect("fmtcanon-po of the wheel", output, (0, "2 messages judged, 0 not judged\n"))
+        output = shell([folder / "fmtcanon-replace", "--model", "lp64", "%zu", "%lu", "size.c"], env=environment, cwd=work)
+        trials.expect("fmtcanon-replace of the wheel", output, (0, "size.c:2: replaced\n"))
+        status, output = shell([folder / "pip", "check"], env=environment, cwd=work)
+        trials.expect(f"pip check: {output}", status, 0)
 
 
 def try_all(program, tools, trials):
     """All of it; and that the program in the package is the one that was built."""
     try_wheel(trials)
     try_root(tools, trials)
-    status, told, _ = run(program, ["canon", "%i"])
-    trials.expect("the program", (status, told), (0, b"%d\n"))
+    status, output, _ = run(program, ["canon", "%i"])
+    trials.expect("the program", (status, output), (0, b"%d\n"))

@@ -41,7 +41,7 @@ def rows_of(name):
 
 
 def fields_of(name):
-    """The rows of a file with a row a line, in which `|` stands after each field, and `#` before a remark."""
+    """The rows of a file with a row a line, in which `|` comes after each field, and `#` before a remark."""
     lines = (ROWS / name).read_text(encoding="utf-8").splitlines()
     return [line.split("|")[:-1] for line in lines if not line.startswith("#")]
 
@@ -84,7 +84,7 @@ def try_streams(program, trials, name):
 
 
 def try_usages(program, trials):
-    """Help and faults of the words are told on standard error alone."""
+    """Help and faults of the words go to standard error alone."""
     for words, begins in rows_of("usages.jsonl"):
         status, stdout, stderr = run(program, words)
         trials.expect(words, (status, stdout, stderr[:len(begins)]), (3, b"", begins.encode()))
@@ -96,9 +96,9 @@ def try_usages(program, trials):
 def refusal_of(result):
     """The kind and the place of a run's refusal; None where the text is accepted."""
     status, _, stderr = result
-    told = re.fullmatch(rb"refused (\d+) \w+ at byte (\d+)\n", stderr)
-    if status == 2 and told:
-        return [int(number) for number in told.groups()]
+    found = re.fullmatch(rb"refused (\d+) \w+ at byte (\d+)\n", stderr)
+    if status == 2 and found:
+        return [int(number) for number in found.groups()]
     return None if (status, stderr) == (0, b"") else result
 
 
@@ -199,7 +199,7 @@ ALIKE = {
 
 
 def whole_text(field, byte):
-    """A text in which the longest run of a byte is told by its length: what comes before, how often, what comes after."""
+    """A text in which the longest run of a byte is given by its length: what comes before, how often, what comes after."""
     head, count, tail = field.split("~")
     return head + byte * int(count) + tail
 
@@ -373,20 +373,20 @@ def verdict_of(program, model, first, second):
         return b" ".join(refused.groups()).decode()
     if (status, lines) == (0, ["same"]):
         return "same"
-    told = re.fullmatch(r"types differ at argument (\d+)", lines[0])
-    if told:
-        return f"types {told.group(1)}"
+    differs = re.fullmatch(r"types differ at argument (\d+)", lines[0])
+    if differs:
+        return f"types {differs.group(1)}"
     is_confirmed = are_told_apart(program, model, first, second, lines[1:])
     return " ".join(["different", *map(short_word, lines[1:]), *([] if is_confirmed else ["unconfirmed"])])
 
 
 def short_word(word):
-    """A word, with a string of many bytes told by their number."""
+    """A word, with the number of the bytes in the place of a long string."""
     return f"{word[:3]}*{len(word) - 2}" if word.startswith("s:") and len(word) > 3 else word
 
 
 def try_verdicts(program, trials):
-    """Each pair is told as a model of the definitions tells it, and the arguments are confirmed."""
+    """Each pair has the verdict of a model of the definitions, and the arguments are confirmed."""
     for first, second, wanted in rows_of("verdicts.jsonl"):
         trials.expect([first, second], verdict_of(program, "lp64", first, second), wanted)
 
@@ -395,41 +395,41 @@ def try_every_two(program, trials):
     """Formats are the same just where their canonical texts are one; else they are told apart."""
     rows = rows_of("canonical_pairs.jsonl")
     for (first, canonical), (second, other) in itertools.product(rows, rows):
-        told = verdict_of(program, "lp64", first, second)
-        is_right = told == "same" if canonical == other else told.startswith(("types", "different"))
-        trials.expect([first, second], is_right and "unconfirmed" not in told, True)
+        found = verdict_of(program, "lp64", first, second)
+        is_right = found == "same" if canonical == other else found.startswith(("types", "different"))
+        trials.expect([first, second], is_right and "unconfirmed" not in found, True)
     for first, canonical in rows:
         trials.expect([first, canonical], verdict_of(program, "lp64", first, canonical), "same")
         trials.expect([canonical, first], verdict_of(program, "lp64", canonical, first), "same")
 
 
 def compared(module, model, first, second):
-    """The verdict of the library with how many words it tells, and how many renderings that took."""
+    """The verdict of the library with how many words it gives, and how many renderings that took."""
     texts = [text.encode() for text in (first, second)]
-    told, error = module._Comparison(), module._Error()
+    answer, error = module._Comparison(), module._Error()
     sized = [part for text in texts for part in (text, len(text))]
     call = module._library().fmtcanon_compare
-    size = max(0, call(module.Model[model.upper()], *sized, None, 0, told, error))
+    size = max(0, call(module.Model[model.upper()], *sized, None, 0, answer, error))
     out = ctypes.create_string_buffer(size + 1)
-    call(module.Model[model.upper()], *sized, out, len(out), told, error)
-    return told.verdict, told.number, told.renderings, out.raw[:size].split(b"\0")[:-1]
+    call(module.Model[model.upper()], *sized, out, len(out), answer, error)
+    return answer.verdict, answer.number, answer.renderings, out.raw[:size].split(b"\0")[:-1]
 
 
 def try_comparisons(program, module, trials):
     """The last argument that tells two formats apart, and the place of it among the candidates."""
     for model, first, second, verdict, last, renderings in rows_of("comparisons.jsonl"):
-        told = " ".join(filter(None, [verdict, last]))
+        expected = " ".join(filter(None, [verdict, last]))
         found = re.sub(r"^different.* ", "different ", verdict_of(program, model, first, second))
-        trials.expect(f"{model} {first} {second}", [found, compared(module, model, first, second)[2]], [told, renderings])
+        trials.expect(f"{model} {first} {second}", [found, compared(module, model, first, second)[2]], [expected, renderings])
 
 
 def try_long_comparisons(module, trials):
     """Formats with thousands of directives are told apart, in time."""
     for first, second, number, renderings in rows_of("long_comparisons.jsonl"):
         texts = ["".join(part * count for part, count in parts) for parts in (first, second)]
-        verdict, told, found, words = compared(module, "lp64", *texts)
+        verdict, many, found, words = compared(module, "lp64", *texts)
         wanted = (3 if number else 1, number, renderings, number)
-        trials.expect(f"{first} {second}", (verdict, told, found, len(words)), wanted)
+        trials.expect(f"{first} {second}", (verdict, many, found, len(words)), wanted)
 
 
 # Every two normal directives of a grid are told apart by a candidate.
@@ -465,7 +465,7 @@ def grid_of(program, model, kind):
     return [format for format, row in reduced.items() if row == (format, 0, 0, format, 0) and row[3] != "%.0s"]
 
 
-def places_told(first, second):
+def places_that_differ(first, second):
     return [place for place, (one, other) in enumerate(zip(first, second)) if one != other]
 
 
@@ -476,11 +476,11 @@ def try_candidates(program, trials):
             words = candidate_words(model, kind)
             formats = grid_of(program, model, kind)
             texts = [texts_of(program, model, format, words) for format in formats]
-            told = [places_told(one, other) for one, other in itertools.combinations(texts, 2)]
-            alone = sorted({places[0] for places in told if len(places) == 1})
+            places_of_pairs = [places_that_differ(one, other) for one, other in itertools.combinations(texts, 2)]
+            alone = sorted({places[0] for places in places_of_pairs if len(places) == 1})
             name = f"{model}: {kind}"
             trials.expect(f"{name}: directives of the grid", len(formats), count)
-            trials.expect(f"{name}: pairs that no candidate tells apart", told.count([]), 0)
+            trials.expect(f"{name}: pairs that no candidate tells apart", places_of_pairs.count([]), 0)
             trials.expect(f"{name}: candidates that tell a pair apart alone", alone, needed)
 
 
@@ -489,7 +489,7 @@ def try_single_candidates(program, trials):
     for first, second, place in rows_of("told_by_one.jsonl"):
         words = candidate_words("lp64", type_of(program, "lp64", first))
         texts = [texts_of(program, "lp64", format, words) for format in (first, second)]
-        trials.expect([first, second], places_told(*texts), [place])
+        trials.expect([first, second], places_that_differ(*texts), [place])
     forms = [format for format, in rows_of("forms_of_int.jsonl")]
     texts = {format: texts_of(program, "lp64", format, candidate_words("lp64", "int")) for format in forms}
     for first, second in itertools.combinations(forms, 2):
@@ -521,15 +521,15 @@ def try_many_directives(program, trials):
 
 
 def try_many_arguments(program, trials):
-    """`format` prints any number of arguments, and `same` tells them."""
+    """`format` prints any number of arguments, and `same` prints their words."""
     for count in range(41):
         digits = [str(at % 10) for at in range(count)]
         words = [f"n:{digit}" for digit in digits]
         trials.expect(f"{count} arguments", printed(program, "lp64", "%d" * count, words), "".join(digits).encode())
         front = "%d" * count
         trials.expect(f"{count} and one alike", verdict_of(program, "lp64", front + "%d", front + "%i"), "same")
-        told = " ".join(["different", *["n:0"] * (count + 1)])
-        trials.expect(f"{count} and one other", verdict_of(program, "lp64", front + "%d", front + "%5d"), told)
+        expected = " ".join(["different", *["n:0"] * (count + 1)])
+        trials.expect(f"{count} and one other", verdict_of(program, "lp64", front + "%d", front + "%5d"), expected)
 
 
 # The calls of the C library.
@@ -538,27 +538,27 @@ def try_many_arguments(program, trials):
 def called(module, row):
     """What a call of a row answers: its result, its buffer, its error and its comparison."""
     call, model, texts, room = row["call"], row["model"], row["texts"], row["room"]
-    error, told = module._Error(7, 8, 9), module._Comparison(7, 8, 9)
+    error, found = module._Error(7, 8, 9), module._Comparison(7, 8, 9)
     out = ctypes.create_string_buffer(b"Z" * (room or 0), room or 0)
     words = [] if model is None else [model]
     for text in texts:
         words += [text.encode(), len(text.encode())] if isinstance(text, str) else [text]
     words += [] if room is None else [out, room]
-    words += [told] if call == "compare" else []
+    words += [found] if call == "compare" else []
     words += [] if call in ("kind_name", "version") else [error]
     result = getattr(module._library(), f"fmtcanon_{call}")(*words)
     return {
         "result": result,
         "out": out.raw[:len(row["out"])].decode("latin-1"),
         "error": [error.at, error.kind, error.side],
-        "told": [told.number, told.verdict],
+        "comparison": [found.number, found.verdict],
     }
 
 
 def try_calls(module, trials):
-    """Each call answers as its row says, and leaves as it was what it doesn't tell."""
+    """Each call answers as its row says, and leaves all else as it was."""
     for row in rows_of("calls.jsonl"):
-        wanted = {key: row[key] for key in ("result", "out", "error", "told")}
+        wanted = {key: row[key] for key in ("result", "out", "error", "comparison")}
         trials.expect(f"{row['call']} {row['model']} {row['texts']}", called(module, row), wanted)
 
 

@@ -14,7 +14,7 @@ from pathlib import Path
 from harness import TIMEOUT, TOP
 
 CATALOGS = TOP / "tests/catalogs"
-# A catalog with its exit status, and what is told of it.
+# A catalog with its exit status, and what is printed of it.
 CHECKED = [
     ("right.po", 0, "2 messages judged, 0 not judged\n"),
     ("empty.po", 0, "0 messages judged, 0 not judged\n"),
@@ -120,7 +120,7 @@ NO_CATALOGS = [
     ('msgid ""\nmsgstr "Content-Type: text/plain; charset=NOSUCH\\n"\n', 0),
 ]
 PLURAL = b"Content-Type: text/plain; charset=ISO-8859-1\nPlural-Forms: nplurals=2; plural=n != 1;\n"
-# The messages of a .mo file, and what is told of it with each option.
+# The messages of a .mo file, and what is printed of it with each option.
 BINARY = [
     (b"", PLURAL),
     (b"%d file\0%d files", b"%d Datei\0%s Dateien"),
@@ -129,7 +129,7 @@ BINARY = [
     (b"menu\4%u", b"%u\n"),
     (b"no format", b"\n"),
 ]
-TOLD_OF_BINARY = [
+REPORTS_OF_BINARY = [
     ([], 0, """\
 a.mo:1: warning: if it is a C format: format specifications in 'msgid_plural' and 'msgstr[1]' for argument 1 are not the same: int and string ["%d file"]
 a.mo:3: warning: if it is a C format: 'msgstr' is not a valid C format string, unlike 'msgid'. Reason: refused 3 Unexpected at byte 6 ["100% of it"]
@@ -181,13 +181,13 @@ def try_binaries(folder, trials):
         file = Path(work) / "a.mo"
         for order in "<>":
             file.write_bytes(binary(BINARY, order))
-            for words, _, told in TOLD_OF_BINARY:
-                trials.expect(f"check_po.py {words} a.mo", check_po(folder, [*words, "a.mo"], where=work), (1, "", told))
+            for words, _, report in REPORTS_OF_BINARY:
+                trials.expect(f"check_po.py {words} a.mo", check_po(folder, [*words, "a.mo"], where=work), (1, "", report))
         whole = file.read_bytes()
         for size in [4, 10, 27, 28, 40, len(whole) - 2]:
             file.write_bytes(whole[:size])
-            status, out, told = check_po(folder, ["a.mo"], where=work)
-            trials.expect(f"{size} bytes of a.mo", (status, out, told.startswith("a.mo:0: it can't be read: ")), (1, "", True))
+            status, out, report = check_po(folder, ["a.mo"], where=work)
+            trials.expect(f"{size} bytes of a.mo", (status, out, report.startswith("a.mo:0: it can't be read: ")), (1, "", True))
         file.write_bytes(binary(BINARY[:1] + [(b"%d", b"%s")], "<"))
         trials.expect("a warning alone", check_po(folder, ["a.mo"], where=work)[0], 0)
         trials.expect("a warning alone, --strict", check_po(folder, ["--strict", "a.mo"], where=work)[0], 1)
@@ -195,35 +195,35 @@ def try_binaries(folder, trials):
 
 def try_catalogs(folder, trials):
     """The check of message catalogs."""
-    for catalog, status, told in CHECKED:
-        trials.expect(f"check_po.py {catalog}", check_po(folder, [catalog]), (status, "", told))
+    for catalog, status, report in CHECKED:
+        trials.expect(f"check_po.py {catalog}", check_po(folder, [catalog]), (status, "", report))
         data = (CATALOGS / catalog).read_bytes()
-        told = re.sub(rf"^{catalog}:", "-:", told, flags=re.MULTILINE)
-        trials.expect(f"check_po.py - of {catalog}", check_po(folder, ["-"], data), (status, "", told))
-        has_unjudged = " 0 not judged" not in told
+        report = re.sub(rf"^{catalog}:", "-:", report, flags=re.MULTILINE)
+        trials.expect(f"check_po.py - of {catalog}", check_po(folder, ["-"], data), (status, "", report))
+        has_unjudged = " 0 not judged" not in report
         trials.expect(f"check_po.py --strict {catalog}", check_po(folder, ["--strict", catalog])[0], 1 if has_unjudged else status)
     for catalog, line in UNREADABLE:
-        status, out, told = check_po(folder, [catalog])
+        status, out, report = check_po(folder, [catalog])
         trials.expect(f"check_po.py {catalog}", (status, out), (1, ""))
-        trials.expect(f"what it tells of {catalog}", told.startswith(f"{catalog}:{line}: it can't be read: ") and "Traceback" not in told, True)
+        trials.expect(f"what it says of {catalog}", report.startswith(f"{catalog}:{line}: it can't be read: ") and "Traceback" not in report, True)
     for text, line in NO_CATALOGS:
-        status, out, told = check_po(folder, ["-"], text.encode())
-        trials.expect(f"no catalog: {text!r}", (status, out, told[: told.find(" ")]), (1, "", f"-:{line}:"))
-    for words, told in IN_MODELS:
-        trials.expect(f"check_po.py {words} models.po", check_po(folder, [*words, "models.po"]), (1, "", told))
+        status, out, report = check_po(folder, ["-"], text.encode())
+        trials.expect(f"no catalog: {text!r}", (status, out, report[: report.find(" ")]), (1, "", f"-:{line}:"))
+    for words, report in IN_MODELS:
+        trials.expect(f"check_po.py {words} models.po", check_po(folder, [*words, "models.po"]), (1, "", report))
     trials.expect("both data models where none is said", check_po(folder, ["models.po"])[2], IN_MODELS[-1][1])
     for words in [["--model", "LP64", "right.po"], ["--model", "both"], ["--what", "right.po"], []]:
-        status, out, told = check_po(folder, words)
-        trials.expect(f"check_po.py {words}", (status, out, "Usage" in told), (2, "", True))
-    status, out, told = check_po(folder, ["--help"])
-    trials.expect("check_po.py --help", (status, "Usage: fmtcanon-po" in out, told), (0, True, ""))
-    told = "2 messages judged, 0 not judged\n"
-    trials.expect("two catalogs", check_po(folder, ["--", "right.po", "empty.po"]), (0, "", told))
+        status, out, report = check_po(folder, words)
+        trials.expect(f"check_po.py {words}", (status, out, "Usage" in report), (2, "", True))
+    status, out, report = check_po(folder, ["--help"])
+    trials.expect("check_po.py --help", (status, "Usage: fmtcanon-po" in out, report), (0, True, ""))
+    report = "2 messages judged, 0 not judged\n"
+    trials.expect("two catalogs", check_po(folder, ["--", "right.po", "empty.po"]), (0, "", report))
     try_binaries(folder, trials)
 
 
 def fault_lines(text):
-    """The faults of formats and newlines in what either tool tells: each line with the words that both have."""
+    """The faults of formats and newlines in what either tool prints: each line with the words that both have."""
     kinds = r"format specifications in|number of format|is not a valid C format|do not both"
     for line in text.splitlines():
         found = re.match(rf"(\S+:\d+): (.*(?:{kinds})[^:.\[]*)", line)
@@ -232,11 +232,11 @@ def fault_lines(text):
 
 
 def try_msgfmt(folder, trials):
-    """What it tells of the catalogs is what msgfmt tells, but where it can't judge."""
+    """It finds the faults in the catalogs that msgfmt finds, but where it can't judge."""
     environment = {**os.environ, "LC_ALL": "C", "LANGUAGE": ""}
     for catalog, _, ours in CHECKED:
         # With -c it reads the rule for plural forms, but shows no fault where the header is missing.
-        told = "".join(
+        report = "".join(
             subprocess.run(
                 ["msgfmt", check, "-o", os.devnull, catalog], cwd=CATALOGS, env=environment, check=False, timeout=TIMEOUT,
                 stderr=subprocess.PIPE,
@@ -244,9 +244,9 @@ def try_msgfmt(folder, trials):
             for check in ["-c", "--check-format"]
         )
         unjudged = set(re.findall(r"^(\S+): warning", ours, flags=re.MULTILINE))
-        theirs = {fault for fault in fault_lines(told) if fault[0] not in unjudged}
+        theirs = {fault for fault in fault_lines(report) if fault[0] not in unjudged}
         # Of two faults in one line it shows one, and counts both.
         trials.expect(f"msgfmt {catalog}", sorted(theirs - set(fault_lines(ours))), [])
         if not unjudged and theirs:
-            found = set(re.findall(r"found \d+ fatal", ours)) & set(re.findall(r"found \d+ fatal", told))
+            found = set(re.findall(r"found \d+ fatal", ours)) & set(re.findall(r"found \d+ fatal", report))
             trials.expect(f"how many faults msgfmt has in {catalog}", len(found), 1)

@@ -1,5 +1,5 @@
 #!/usr/bin/env python3
-"""Tells the public functions in whose bodies no edit of must-fail/ or wrong-bodies/ changes anything.
+"""Lists the public functions in whose bodies no edit of must-fail/ or wrong-bodies/ changes anything.
 
 Usage: tests/turned.py
 
@@ -79,7 +79,7 @@ def turned_by(text, crate, homes):
 
 
 def name_of(function, traits):
-    """The name by which a public function is told: a method of a trait of the library's own has one for all types."""
+    """The name by which a public function is listed: a method of a trait of the library's own has one for all types."""
     _, head = rattle_functions.split_parameters(function.block)
     trait = rattle_functions.plain_name(head.partition(" for ")[0])
     if " for " in head and trait in traits:

@@ -4,13 +4,13 @@
 Usage: tests/wrong_bodies.py [--jobs N] [CRATE ..] [NAME ..]
 
 A wrong body is an edit, a file crates/NAME/must-fail/*.edit or crates/NAME/wrong-bodies/*.edit: a line 'file: PATH', and
-then pairs of lines 'old: TEXT' and 'new: TEXT', where the old text stands once in that file. In wrong-bodies/ a line
-'after: TEXT' may stand before a pair: then it is the first old text after that text, which stands once. It is tried on a copy
-of its crate, over what a proof of the crate as it stands has kept in out/. Edits of different functions share a check. Where names
+then pairs of lines 'old: TEXT' and 'new: TEXT', where the old text is once in that file. In wrong-bodies/ a line
+'after: TEXT' may come before a pair: then it is the first old text after that text, which is there once. It is tried on a copy
+of its crate, over what a proof of the crate without an edit has kept in out/. Edits of different functions share a check. Where names
 of edits are given, those alone are tried.
 
 It is refused where a goal is open in a function whose body it changes: no search proves it, or the answer that a file of
-proofs/ gives to it is of another type. The crate as it stands is proved, so the goal is open for the edit alone. Where a
+proofs/ gives to it is of another type. The crate without it is proved, so the goal is open for the edit alone. Where a
 file of proofs/ only names what is gone, the edit may be harmless: then the crate's tests are run with it, and one must
 fail. An edit of a constant, of a table or of a file of specs/ is tried alone, and any function or lemma may refuse it.
 
@@ -59,18 +59,18 @@ class Verdict(Enum):
 
 @dataclass
 class Edit:
-    """A wrong body: its pairs, and the functions in whose bodies they stand."""
+    """A wrong body: its pairs, and the functions in whose bodies they are."""
 
     name: str
     pairs: list = field(default_factory=list)
-    # The paths below the crate; none where a text stands in no body.
+    # The paths below the crate; none where a text is in no body.
     functions: frozenset = frozenset()
     why_broken: str = ""
 
 
 @dataclass(frozen=True)
 class Pair:
-    """An old and a new text of a file, and the text after which the old one stands, where that is told."""
+    """An old and a new text of a file, and the text after which the old one comes, where that is given."""
 
     file: str
     old: str
@@ -79,12 +79,12 @@ class Pair:
 
     def place(self, text):
         """Where the old text begins in the text of the file."""
-        told = self.after or self.old
-        if text.count(told) != 1:
-            raise ValueError(f"an old text stands in {self.file} {text.count(told)} times, and not once")
-        at = text.find(self.old, text.index(told))
+        first = self.after or self.old
+        if text.count(first) != 1:
+            raise ValueError(f"an old text is in {self.file} {text.count(first)} times, and not once")
+        at = text.find(self.old, text.index(first))
         if at == -1:
-            raise ValueError(f"an old text does not stand in {self.file} after {self.after!r}")
+            raise ValueError(f"an old text is not in {self.file} after {self.after!r}")
         return at
 
     def applied(self, text):
@@ -95,17 +95,17 @@ class Pair:
 
 def read_pairs(text):
     """The pairs of an edit."""
-    told = {}
+    parts = {}
     for line in text.splitlines():
         word, _, rest = line.partition(":")
         rest = rest.removeprefix(" ")
         if word in ("file", "after", "old"):
-            told[word] = rest.strip() if word == "file" else rest
+            parts[word] = rest.strip() if word == "file" else rest
         elif word == "new":
-            if not told.get("file") or not told.get("old"):
-                raise ValueError("a line 'new:' stands before any 'file:' or 'old:'")
-            yield Pair(new=rest, **told)
-            told = {"file": told["file"]}
+            if not parts.get("file") or not parts.get("old"):
+                raise ValueError("a line 'new:' comes before any 'file:' or 'old:'")
+            yield Pair(new=rest, **parts)
+            parts = {"file": parts["file"]}
         elif line.strip():
             raise ValueError(f"a line is none of file, after, old and new: {line!r}")
 
@@ -124,7 +124,7 @@ def applied(pairs, crate, texts):
 
 
 def places_of(pairs, crate, homes):
-    """Each pair with the functions in whose bodies it stands, where those before it are applied."""
+    """Each pair with the functions in whose bodies it is, where those before it are applied."""
     texts = {}
     for pair in pairs:
         before = text_in(crate, texts, pair.file)
@@ -171,7 +171,7 @@ def crate_lines():
 
 
 def crates_below(name):
-    """The crates of this repository that this one stands on."""
+    """The crates of this repository that this one needs."""
     lines = crate_lines()
     direct = [it for it in lines[name].partition(":")[2].split() if it in lines]
     return sorted({below for it in direct for below in [it, *crates_below(it)]})
@@ -193,7 +193,7 @@ def run(folder, *words):
 
 
 class Room:
-    """A copy of the sources, with what the proof of one crate kept and what it stands on."""
+    """A copy of the sources, with what the proof of one crate kept and what it needs."""
 
     def __init__(self, name, folder):
         self.name, self.crate = name, folder / "crates" / name
@@ -226,7 +226,7 @@ class Room:
         return run(self.crate, "check", "--jobs", "1", *flags, *only)[0]
 
     def tests(self):
-        """What the tests of the crate print, or of the first that stands on it and has any; and their status."""
+        """What the tests of the crate print, or of the first that needs it and has any; and their status."""
         above = [it for it in crate_lines() if self.name in crates_below(it)]
         for name in [self.name, *above]:
             crate = self.crate.parent / name
@@ -247,7 +247,7 @@ class Report:
         return bool(re.search(r"^(only=\d+ )?holes=\d+$", self.text, re.MULTILINE))
 
     def names(self, path):
-        """The names under which the check tells of the function at this path: its own, and those of its closures."""
+        """The names under which the check lists the function at this path: its own, and those of its closures."""
         module, _, name = path.rpartition("::")
         outer, _, block = module.rpartition("::")
         closures = [f"{self.crate}::{m}::fn::{f}::" if m else f"{self.crate}::fn::{f}::" for m, f in [(module, name), (outer, f"{block}::{name}")]]
@@ -327,9 +327,9 @@ class Trial:
         for edit in edits:
             if edit.why_broken:
                 self.verdicts[edit.name] = Verdict.BROKEN, edit.why_broken
-                self.tell(edit)
+                self.print_verdict(edit)
 
-    def tell(self, edit):
+    def print_verdict(self, edit):
         """Prints what became of an edit, as soon as that is known."""
         kind, why = self.verdicts[edit.name]
         with PRINTING:
@@ -364,7 +364,7 @@ class Trial:
         for edit in edits:
             self.verdicts[edit.name] = verdict_of(report, edit)
             if self.verdicts[edit.name][0] is Verdict.REFUSED:
-                self.tell(edit)
+                self.print_verdict(edit)
 
     def alone(self, edit):
         """Tries an edit with nothing beside it, and runs the tests with it where only a proof file refuses it."""
@@ -375,7 +375,7 @@ class Trial:
             if failed:
                 self.verdicts[edit.name] = Verdict.BY_A_TEST, failed
         if self.verdicts[edit.name][0] is not Verdict.REFUSED:
-            self.tell(edit)
+            self.print_verdict(edit)
 
     def failing_test(self, texts):
         """A test that fails with these texts and not without them, if there is one."""
@@ -395,7 +395,7 @@ class Trial:
         return [name for name, why in failed if "within the time limit" not in why]
 
     def is_proved(self):
-        """Whether the functions that edits change are proved as they stand, over the same kept work."""
+        """Whether the functions that edits change are proved without the edits, over the same kept work."""
         paths = {path for edit in self.edits for path in edit.functions}
         if not paths:
             return True
@@ -406,15 +406,15 @@ class Trial:
         """Prints how many edits were refused, and answers how many passed and failed."""
         passed = sum(kind.is_good() for kind, _ in self.verdicts.values())
         if not is_proved:
-            print(f"{self.name}: NOT PROVED as it stands, so its edits show nothing")
+            print(f"{self.name}: NOT PROVED without an edit, so its edits show nothing")
         print(f"{self.name}: {passed} of {len(self.edits)} edits refused", flush=True)
         return (passed, len(self.edits) - passed) if is_proved else (0, len(self.edits))
 
 
 def try_all(trials, jobs):
-    """Tries the edits of these trials, in batches and then alone where that doesn't show them refused; answers which crates are proved as they stand."""
+    """Tries the edits of these trials, in batches and then alone where that doesn't show them refused; returns which crates are proved without an edit."""
     batched = [(trial, *group) for trial in trials for group in trial.batches()]
-    # Those of a crate that stands on many come first, since each of their edits costs the most, so that none is left alone at the end.
+    # Those of a crate that needs many come first, since each of their edits costs the most, so that none is left alone at the end.
     batched.sort(key=lambda it: (-len(crates_below(it[0].name)), -len(it[1])))
     with ThreadPoolExecutor(jobs) as pool:
         list(pool.map(lambda it: it[0].judge(*it[1:]), batched))
@@ -437,11 +437,11 @@ def main():
     options = parser.parse_args()
     names = [it for it in options.words if it in crate_lines()] or list(crate_lines())
     wanted = [it for it in options.words if it not in crate_lines()]
-    # A check keeps what it proved, and builds what the crate stands on: so those come first on which no other stands.
+    # A check keeps what it proved, and builds what the crate needs: so those come first that no other needs.
     for name in [it for it in names if not any(it in crates_below(other) for other in names)]:
         said, status = run(TOP / "crates" / name, "check")
         if status:
-            print(said, f"{name}: it is not proved as it stands", sep="\n")
+            print(said, f"{name}: it is not proved without an edit", sep="\n")
             return 1
     with tempfile.TemporaryDirectory(prefix="wrong-bodies-") as folder:
         trials = list(trials_of(names, wanted, folder))

@@ -1,5 +1,5 @@
 #!/usr/bin/env python3
-"""Tries tests/wrong_bodies.py itself: each kind of edit must be told as what it is.
+"""Tries tests/wrong_bodies.py itself: each kind of edit must have the verdict that it should.
 
 Usage: tests/wrong_bodies_test.py
 
@@ -130,8 +130,8 @@ class Kinds(unittest.TestCase):
         with tempfile.TemporaryDirectory(prefix="wrong-bodies-") as folder:
             trial = Trial(CRATE.name, edits, folder)
             self.assertEqual(try_all([trial], 1), [True])
-        told = {name: kind for name, (kind, _) in trial.verdicts.items()}
-        self.assertEqual(told, {name: kind for name, _, kind in kinds})
+        found = {name: kind for name, (kind, _) in trial.verdicts.items()}
+        self.assertEqual(found, {name: kind for name, _, kind in kinds})
 
     def test_each_kind(self):
         self.expect(KINDS)

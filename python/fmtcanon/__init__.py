@@ -12,7 +12,7 @@ What a format means hangs on the data model of the machine on which it is used: 
 a `Model` or its name, "lp64", "ilp32" or "llp64", and is LP64 where it isn't given. `ValueError` is raised for
 what is no data model.
 
-A format of C source stands in string literals: `decode_literal` gives the bytes that they stand for,
+C source has a format in string literals: `decode_literal` returns the bytes that they stand for,
 `encode_literal` the one literal of some bytes, and `source_offset` the place in the literals of a
 byte. What is no string literal raises `BadLiteral`.
 
@@ -91,7 +91,7 @@ __all__ = [
     "version",
 ]
 
-# The version of this module, and of the library that comes with it; version() tells the one that is loaded.
+# The version of this module, and of the library that comes with it; version() returns that of the one that is loaded.
 __version__ = "0.2.0"
 
 Format = Union[str, bytes, bytearray, memoryview]
@@ -425,16 +425,16 @@ def _argument(word: bytes) -> Union[int, bytes]:
 
 def compare(first: Format, second: Format, *, model: DataModel = Model.LP64) -> Comparison:
     """What two formats are to each other, with arguments that they print differently."""
-    f, g, told = _bytes(first), _bytes(second), _Comparison()
+    f, g, answer = _bytes(first), _bytes(second), _Comparison()
 
     def call(*arguments: Any) -> int:
         *texts, out, room, error = arguments
-        return _library().fmtcanon_compare(*texts, out, room, told, error)
+        return _library().fmtcanon_compare(*texts, out, room, answer, error)
 
     words = _filled(call, 4096, _number(model), f, len(f), g, len(g))
-    verdict = Verdict(told.verdict)
+    verdict = Verdict(answer.verdict)
     if verdict is Verdict.TYPES:
-        return Comparison(verdict, types_differ_at=told.number)
+        return Comparison(verdict, types_differ_at=answer.number)
     if verdict is Verdict.DIFFERENT:
         return Comparison(verdict, arguments=tuple(map(_argument, words.split(b"\0")[:-1])))
     return Comparison(verdict)
@@ -443,7 +443,7 @@ def compare(first: Format, second: Format, *, model: DataModel = Model.LP64) -> 
 def decode_literal(source: Format) -> bytes:
     """The bytes that one or more string literals of C source stand for (C11 6.4.5).
 
-    White space may stand before, between and behind them. Raises BadLiteral for anything else.
+    White space may come before, between and behind them. Raises BadLiteral for anything else.
     """
     text, error = _bytes(source), _Error()
     # No element stands for more bytes than it has.

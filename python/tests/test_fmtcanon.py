@@ -60,10 +60,10 @@ class Calls(unittest.TestCase):
             ("%d%d", (1, 2**31), "argument 1: wrong type"),
             ("%llu", (10**20,), "argument 0: not an argument"),
         ]
-        for format, arguments, told in wrong:
+        for format, arguments, reason in wrong:
             with self.assertRaises(ValueError) as raised:
                 fmtcanon.format(format, *arguments)
-            self.assertEqual(str(raised.exception), told)
+            self.assertEqual(str(raised.exception), reason)
         with self.assertRaises(ValueError):
             fmtcanon.format("%s", b"a\0b")
         with self.assertRaises(TypeError):
@@ -99,8 +99,8 @@ class Calls(unittest.TestCase):
         self.assertFalse(fmtcanon.same("%zu", "%lu", model=Model.ILP32))
         self.assertEqual(fmtcanon.compare("%zu", "%u", model=Model.ILP32).verdict, Verdict.SAME)
         self.assertEqual(fmtcanon.compare("%zu", "%u").types_differ_at, 0)
-        told = fmtcanon.compare("%zx", "%u", model=Model.ILP32)
-        self.assertEqual(told.arguments, (4294967295,))
+        found = fmtcanon.compare("%zx", "%u", model=Model.ILP32)
+        self.assertEqual(found.arguments, (4294967295,))
 
     def test_same_in(self):
         self.assertEqual(fmtcanon.same_in("%i", b"%d"), [Model.LP64, Model.ILP32, Model.LLP64])

@@ -5,7 +5,7 @@ Usage: tests/field/catalogs.py [--list] [FOLDER]
 
 FOLDER is /usr/share/locale where it isn't given. Each .mo file below it is turned into a .po file by
 msgunfmt, and each message with a % gets the flag c-format, since a .mo file has no flags. Both tools
-then read that file. --list writes each message of which only one of the two tells a fault, to
+then read that file. --list writes each message in which only one of the two finds a fault, to
 standard error. It needs gettext, and the module fmtcanon with its library.
 """
 
@@ -52,15 +52,15 @@ def flagged(text):
 
 
 def faults_of(text, pattern=FAULT):
-    """The lines of the catalog with a fault, each with what is told first."""
+    """The lines of the catalog with a fault, each with what is said of it first."""
     found = {}
-    for line, told in pattern.findall(text):
-        found.setdefault(int(line), told)
+    for line, words in pattern.findall(text):
+        found.setdefault(int(line), words)
     return found
 
 
 def compared(mo):
-    """What both tools say of one file, as counts, and the faults that only one tells."""
+    """What both tools say of one file, as counts, and the faults that only one finds."""
     counts, alone = Counter(catalogs=1), []
     plain = run(["msgunfmt", "-w", "0", "--no-wrap", "-o", "-", str(mo)])
     if plain.returncode:
@@ -68,14 +68,14 @@ def compared(mo):
     with TemporaryDirectory() as work:
         po = Path(work) / "a.po"
         po.write_bytes(flagged(plain.stdout))
-        told = run(["msgfmt", "-c", "-o", os.devnull, str(po)]).stderr.decode(errors="replace")
+        report = run(["msgfmt", "-c", "-o", os.devnull, str(po)]).stderr.decode(errors="replace")
         ours = io.StringIO()
         checker = Checker(ours, list(fmtcanon.Model))
         checker.check_data("a.po", po.read_bytes())
-    if "can't be read" in ours.getvalue() or "multibyte" in told:
+    if "can't be read" in ours.getvalue() or "multibyte" in report:
         return Counter(catalogs=1, unread=1), [f"{mo}: {ours.getvalue()[:100]}"]
     counts.update(judged=checker.judged, unjudged=checker.unjudged, messages=checker.judged + checker.unjudged)
-    theirs, found = faults_of(told), faults_of(ours.getvalue())
+    theirs, found = faults_of(report), faults_of(ours.getvalue())
     unjudged = faults_of(ours.getvalue(), WARNING)
     for line in theirs.keys() | found.keys():
         if line in theirs and line in found:

@@ -28,7 +28,7 @@ from fmtcanon.replace.places import Reading  # noqa: E402
 from fmtcanon.replace.tokens import Unclear, doubt_in  # noqa: E402
 
 FOLDERS = ["/usr/share/doc"]
-# What stands in a reason for one file alone.
+# What a reason has for one file alone.
 DETAILS = [
     (r"sure: .* may define macros", "sure: a header that isn't the C library's may define macros"),
     (r"argument of \S+, which", "argument of a function or macro, which"),

@@ -131,27 +131,27 @@ static void one(const char *text, size_t len, size_t at)
 static void two(const char *f, size_t f_len, const char *g, size_t g_len, size_t at)
 {
     fmtcanon_error error = {77, 78, 79};
-    fmtcanon_comparison told = {77, 78, 79};
+    fmtcanon_comparison found = {77, 78, 79};
     int64_t same = fmtcanon_same(model, f, f_len, g, g_len, &error), n, again;
     char *out;
-    n = fmtcanon_compare(model, f, f_len, g, g_len, NULL, 0, &told, &error);
+    n = fmtcanon_compare(model, f, f_len, g, g_len, NULL, 0, &found, &error);
     if (same < 0) {
-        if (n != same || told.number != 77 || told.verdict != 78) stop("compare, refused", at);
+        if (n != same || found.number != 77 || found.verdict != 78) stop("compare, refused", at);
         refused(&error, same, at);
         return;
     }
-    if (n < 0 || (told.verdict == FMTCANON_SAME) != (same == 1)) stop("compare", at);
+    if (n < 0 || (found.verdict == FMTCANON_SAME) != (same == 1)) stop("compare", at);
     out = taken((size_t)n + 1);
     memset(out, 'Z', (size_t)n + 1);
     if (n) {
-        again = fmtcanon_compare(model, f, f_len, g, g_len, out, (size_t)n - 1, &told, &error);
+        again = fmtcanon_compare(model, f, f_len, g, g_len, out, (size_t)n - 1, &found, &error);
         if (again != n || !all_are(out, 0, (size_t)n + 1, 'Z')) stop("words without room", at);
     }
-    again = fmtcanon_compare(model, f, f_len, g, g_len, out, (size_t)n, &told, &error);
+    again = fmtcanon_compare(model, f, f_len, g, g_len, out, (size_t)n, &found, &error);
     if (again != n || out[n] != 'Z') stop("words", at);
     if (n && out[n - 1] != 0) stop("the end of the words", at);
     if (!is_untouched(&error)) stop("error", at);
-    printf("verdict %u %lu", (unsigned)told.verdict, (unsigned long)told.number);
+    printf("verdict %u %lu", (unsigned)found.verdict, (unsigned long)found.number);
     write_hex(out, (size_t)n);
     putchar('\n');
     free(out);

@@ -111,7 +111,7 @@ static void models(void)
 {
     static const int none[] = {-1, 3, 4, 32, 64, 0x7fffffff, -0x7fffffff - 1};
     fmtcanon_error e = {77, 78, 79};
-    fmtcanon_comparison told = {77, 78, 79};
+    fmtcanon_comparison found = {77, 78, 79};
     char out[8] = "ZZZZZZZ";
     unsigned char *bytes = (unsigned char *)out;
     size_t i;
@@ -121,10 +121,10 @@ static void models(void)
         WANT(fmtcanon_canonical(none[i], "%d", 2, out, 8, &e) == FMTCANON_ERROR_MODEL);
         WANT(fmtcanon_types(none[i], "%d", 2, bytes, 8, &e) == FMTCANON_ERROR_MODEL);
         WANT(fmtcanon_same(none[i], "%d", 2, "%d", 2, &e) == FMTCANON_ERROR_MODEL);
-        WANT(fmtcanon_compare(none[i], "a", 1, "b", 1, out, 8, &told, &e) == FMTCANON_ERROR_MODEL);
+        WANT(fmtcanon_compare(none[i], "a", 1, "b", 1, out, 8, &found, &e) == FMTCANON_ERROR_MODEL);
     }
     WANT(!strcmp(out, "ZZZZZZZ") && e.at == 77 && e.kind == 78 && e.side == 79);
-    WANT(told.number == 77 && told.verdict == 78 && told.renderings == 79);
+    WANT(found.number == 77 && found.verdict == 78 && found.renderings == 79);
     WANT(fmtcanon_canonical(ILP32, "%ju", 3, out, 8, &e) == 4 && !strcmp(out, "%llu"));
     WANT(fmtcanon_canonical(LLP64, "%zx", 3, out, 8, &e) == 4 && !strcmp(out, "%llx"));
     WANT(fmtcanon_types(ILP32, "%zu%jd%ld", 9, bytes, 8, &e) == 3);
@@ -144,19 +144,19 @@ static void models(void)
 static void two_texts(void)
 {
     fmtcanon_error e;
-    fmtcanon_comparison told;
+    fmtcanon_comparison found;
     char out[32];
     WANT(fmtcanon_same(LP64, "%d", 2, "%y", 2, &e) == -FMTCANON_UNEXPECTED);
     WANT(e.side == 1 && e.at == 1);
     WANT(fmtcanon_same(LP64, "%*d", 3, "%y", 2, &e) == -FMTCANON_STAR && e.side == 0);
-    WANT(fmtcanon_compare(LP64, "%i", 2, "%d", 2, out, sizeof out, &told, &e) == 0);
-    WANT(told.verdict == FMTCANON_SAME && told.number == 0 && told.renderings == 0);
-    WANT(fmtcanon_compare(LP64, "%d%s", 4, "%d", 2, out, sizeof out, &told, &e) == 0);
-    WANT(told.verdict == FMTCANON_TYPES && told.number == 1 && told.renderings == 0);
-    WANT(fmtcanon_compare(LP64, "a", 1, "b", 1, NULL, 0, &told, &e) == 0);
-    WANT(told.verdict == FMTCANON_DIFFERENT && told.number == 0 && told.renderings == 1);
-    WANT(fmtcanon_compare(LP64, "%05d%s", 6, "%.5d%s", 6, out, sizeof out, &told, &e) == 8);
-    WANT(told.verdict == FMTCANON_DIFFERENT && told.number == 2);
+    WANT(fmtcanon_compare(LP64, "%i", 2, "%d", 2, out, sizeof out, &found, &e) == 0);
+    WANT(found.verdict == FMTCANON_SAME && found.number == 0 && found.renderings == 0);
+    WANT(fmtcanon_compare(LP64, "%d%s", 4, "%d", 2, out, sizeof out, &found, &e) == 0);
+    WANT(found.verdict == FMTCANON_TYPES && found.number == 1 && found.renderings == 0);
+    WANT(fmtcanon_compare(LP64, "a", 1, "b", 1, NULL, 0, &found, &e) == 0);
+    WANT(found.verdict == FMTCANON_DIFFERENT && found.number == 0 && found.renderings == 1);
+    WANT(fmtcanon_compare(LP64, "%05d%s", 6, "%.5d%s", 6, out, sizeof out, &found, &e) == 8);
+    WANT(found.verdict == FMTCANON_DIFFERENT && found.number == 2);
     WANT(!memcmp(out, "n:-1\0s:\0", 8));
 }
 
@@ -310,7 +310,7 @@ static void pages(void)
         "%.0sx", "",                             "%'5",
     };
     fmtcanon_error e;
-    fmtcanon_comparison told;
+    fmtcanon_comparison found;
     size_t i, cap;
     for (i = 0; i < COUNT(formats); i++) {
         size_t len = strlen(formats[i]);
@@ -326,16 +326,16 @@ static void pages(void)
         m = fmtcanon_types(LP64, text, len, NULL, 0, &e);
         for (cap = 0; cap < (size_t)m + 3; cap++)
             WANT(fmtcanon_types(LP64, text, len, (unsigned char *)at_end(cap), cap, &e) == m);
-        w = fmtcanon_compare(LP64, text, len, "%.1d", 4, NULL, 0, &told, &e);
+        w = fmtcanon_compare(LP64, text, len, "%.1d", 4, NULL, 0, &found, &e);
         for (cap = 0; cap < (size_t)w + 3; cap++)
-            WANT(fmtcanon_compare(LP64, text, len, "%.1d", 4, at_end(cap), cap, &told, &e) == w);
+            WANT(fmtcanon_compare(LP64, text, len, "%.1d", 4, at_end(cap), cap, &found, &e) == w);
     }
 }
 
 static void nothing(void)
 {
     fmtcanon_error e;
-    fmtcanon_comparison told;
+    fmtcanon_comparison found;
     char one[1] = {'Z'};
     char small[8];
     WANT(fmtcanon_check(NULL, 0, &e) == 0 && fmtcanon_is_canonical(LP64, NULL, 0, &e) == 1);
@@ -346,14 +346,14 @@ static void nothing(void)
     WANT(fmtcanon_types(LP64, "%d", 2, NULL, 0, &e) == 1);
     WANT(fmtcanon_same(LP64, NULL, 0, NULL, 0, &e) == 1);
     WANT(fmtcanon_same(LP64, NULL, 0, "", 0, &e) == 1);
-    WANT(fmtcanon_compare(LP64, NULL, 0, NULL, 0, NULL, 0, &told, &e) == 0);
+    WANT(fmtcanon_compare(LP64, NULL, 0, NULL, 0, NULL, 0, &found, &e) == 0);
     WANT(fmtcanon_check("%d junk %", 2, &e) == 0);
     WANT(fmtcanon_canonical(LP64, "%d", 2, small, (size_t)-1 >> 1, &e) == 2);
     WANT(!strcmp(small, "%d"));
 }
 
 /* One of the calls that take memory. */
-static int64_t growing(int call, char *out, size_t cap, fmtcanon_comparison *told,
+static int64_t growing(int call, char *out, size_t cap, fmtcanon_comparison *found,
                        fmtcanon_error *e)
 {
     static const char many[] = "%d%d%d%d%d%d%d%d%d%d%4095d%4095d";
@@ -362,7 +362,7 @@ static int64_t growing(int call, char *out, size_t cap, fmtcanon_comparison *tol
     if (call == 2) return fmtcanon_decode_literal("\"a\\n\"", 5, out, cap, e);
     if (call == 3) return fmtcanon_encode_literal("a\n", 2, out, cap);
     if (call == 4) return fmtcanon_arguments(LP64, "%*.*f", 5, (unsigned char *)out, cap, e);
-    return fmtcanon_compare(LP64, "%d%s", 4, "%d%.4095s", 9, out, cap, told, e);
+    return fmtcanon_compare(LP64, "%d%s", 4, "%d%.4095s", 9, out, cap, found, e);
 }
 
 static void refusals_of_memory(void)
@@ -372,12 +372,12 @@ static void refusals_of_memory(void)
     for (call = 0; call < 6; call++) {
         for (n = 0;; n++) {
             fmtcanon_error e = {77, 78, 79};
-            fmtcanon_comparison told = {77, 78, 79};
+            fmtcanon_comparison found = {77, 78, 79};
             int64_t result;
             out[0] = 'Z';
             growths = held = 0;
             fails_at = n;
-            result = growing(call, out, sizeof out, &told, &e);
+            result = growing(call, out, sizeof out, &found, &e);
             fails_at = -1;
             WANT(held == 0);
             if (growths <= n) {
@@ -386,7 +386,7 @@ static void refusals_of_memory(void)
             }
             WANT(result == FMTCANON_ERROR_NOMEMORY && out[0] == 'Z');
             WANT(e.at == 77 && e.kind == 78 && e.side == 79);
-            WANT(told.number == 77 && told.verdict == 78 && told.renderings == 79);
+            WANT(found.number == 77 && found.verdict == 78 && found.renderings == 79);
         }
         WANT(n > 0);
     }
@@ -399,19 +399,19 @@ static void memory_given_back(void)
     static char out[16384];
     static const size_t rooms[] = {0, 1, 8, sizeof out};
     fmtcanon_error e;
-    fmtcanon_comparison told;
+    fmtcanon_comparison found;
     size_t i;
     int call;
     for (i = 0; i < COUNT(rooms); i++) {
         for (call = 0; call < 6; call++) {
             growths = held = 0;
-            WANT(growing(call, out, rooms[i], &told, &e) > 0);
+            WANT(growing(call, out, rooms[i], &found, &e) > 0);
             WANT(growths > 0 && held == 0 && (call == 1 || call == 5 || growths == 1));
         }
         growths = held = 0;
         WANT(fmtcanon_canonical(LP64, "%d%y", 4, out, rooms[i], &e) == -FMTCANON_UNEXPECTED);
         WANT(fmtcanon_types(LP64, "%d%d%d%d%d%d%d%d%d%y", 20, NULL, 0, &e) == -FMTCANON_UNEXPECTED);
-        WANT(fmtcanon_compare(LP64, "%d", 2, "%d%y", 4, out, rooms[i], &told, &e) < 0);
+        WANT(fmtcanon_compare(LP64, "%d", 2, "%d%y", 4, out, rooms[i], &found, &e) < 0);
         WANT(held == 0);
     }
 }
@@ -419,7 +419,7 @@ static void memory_given_back(void)
 static void without_memory(void)
 {
     fmtcanon_error e;
-    fmtcanon_comparison told;
+    fmtcanon_comparison found;
     unsigned char out[8];
     growths = 0;
     fmtcanon_check("%d", 2, &e);
@@ -428,8 +428,8 @@ static void without_memory(void)
     fmtcanon_same(LP64, "%4095d%5c", 9, "%4095d    %c", 12, &e);
     fmtcanon_same_models("%4095d%5c", 9, "%4095d    %c", 12, &e);
     fmtcanon_types(LP64, "%d%d%d%d%d%d%d%d", 16, out, 8, &e);
-    fmtcanon_compare(LP64, "%i", 2, "%d", 2, NULL, 0, &told, &e);
-    fmtcanon_compare(LP64, "%i", 2, "%s", 2, NULL, 0, &told, &e);
+    fmtcanon_compare(LP64, "%i", 2, "%d", 2, NULL, 0, &found, &e);
+    fmtcanon_compare(LP64, "%i", 2, "%s", 2, NULL, 0, &found, &e);
     fmtcanon_canonical(LP64, "%y", 2, NULL, 0, &e);
     fmtcanon_decode_literal("\"\" \"\"", 5, NULL, 0, &e);
     fmtcanon_decode_literal("\"\\q", 3, NULL, 0, &e);
@@ -443,10 +443,10 @@ static void *in_small_stack(void *p)
 {
     static char out[8192];
     fmtcanon_error e;
-    fmtcanon_comparison told;
+    fmtcanon_comparison found;
     (void)p;
     fmtcanon_canonical(LP64, "%4095d%.4095s%#o%zd", 19, out, sizeof out, &e);
-    fmtcanon_compare(LP64, "%4095d%s", 8, "%4095d%.4095s", 13, out, sizeof out, &told, &e);
+    fmtcanon_compare(LP64, "%4095d%s", 8, "%4095d%.4095s", 13, out, sizeof out, &found, &e);
     return NULL;
 }
 

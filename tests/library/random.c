@@ -82,14 +82,14 @@ static int two(const char *first, const char *second, int type)
 {
     char words[ROOM];
     fmtcanon_error e;
-    fmtcanon_comparison told;
+    fmtcanon_comparison found;
     int64_t n = fmtcanon_compare(LP64, first, strlen(first), second, strlen(second), words,
-                                 sizeof words, &told, &e);
+                                 sizeof words, &found, &e);
     if (n < 0 || n > ROOM) stop("compare", first, second);
-    if (told.verdict == FMTCANON_SAME && !prints_alike(first, second, type, any_number(), "hello"))
+    if (found.verdict == FMTCANON_SAME && !prints_alike(first, second, type, any_number(), "hello"))
         stop("same, but prints", first, second);
-    if (told.verdict != FMTCANON_DIFFERENT) return 0;
-    if (told.number != 1) stop("one word", first, second);
+    if (found.verdict != FMTCANON_DIFFERENT) return 0;
+    if (found.number != 1) stop("one word", first, second);
     if (prints_alike(first, second, type, (long)strtoull(words + 2, NULL, 10), words + 2))
         stop("different, but prints", first, second);
     return 1;

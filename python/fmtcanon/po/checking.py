@@ -15,7 +15,7 @@ UNJUDGED = {fmtcanon.Kind.WIDTH_TOO_LARGE, fmtcanon.Kind.PRECISION_TOO_LARGE}
 GNU_BYTES = b"mqZIw"
 # In a numbered format such a byte is one by which a specification isn't numbered.
 GNU_KINDS = {fmtcanon.Kind.UNEXPECTED, fmtcanon.Kind.MIXED}
-# The flag I of the GNU C library, other digits, stands in translations and changes no type.
+# The flag I of the GNU C library, other digits, is for translations and changes no type.
 OTHER_DIGITS = re.compile(r"%%|%([-+ #0'I]*I[-+ #0'I]*)(?=[0-9]*(?:\.[0-9]*)?(?:hh|h|ll|l|j|z|t)?[diu])")
 # So much of a message is shown.
 SHOWN = 60
@@ -40,8 +40,8 @@ def difference(wanted, found, may_be_fewer):
     for at, (one, other) in enumerate(zip(wanted, found), 1):
         if one != other:
             names = f"{shown_type(one)} and {shown_type(other)}"
-            told = f"format specifications in '{{}}' and '{{}}' for argument {at} are not the same"
-            return f"{told}: {names}"
+            fault = f"format specifications in '{{}}' and '{{}}' for argument {at} are not the same"
+            return f"{fault}: {names}"
     return None
 
 
@@ -71,13 +71,13 @@ class Checker:
         self.is_whole = True
         self.is_certain = True
 
-    def tell(self, file, line, text):
+    def report(self, file, line, text):
         self.faults += 1
         print(f"{file}:{line}: {text}", file=self.out)
 
-    def tell_of(self, file, message, text):
+    def report_of(self, file, message, text):
         if self.is_certain:
-            self.tell(file, message.line, f"{text} [{shown(message.msgid)}]")
+            self.report(file, message.line, f"{text} [{shown(message.msgid)}]")
         else:
             self.warn_of(file, message, f"if it is a C format: {text}")
 
@@ -91,10 +91,10 @@ class Checker:
             catalog = read_catalog(data)
             rule = rule_of(catalog.header)
         except Unreadable as fault:
-            self.tell(file, fault.line, f"it can't be read: {fault}")
+            self.report(file, fault.line, f"it can't be read: {fault}")
             return
         except (ValueError, ArithmeticError, RecursionError) as error:
-            self.tell(file, 0, f"it can't be read: {error}")
+            self.report(file, 0, f"it can't be read: {error}")
             return
         if catalog.hidden:
             self.unjudged += catalog.hidden
@@ -106,7 +106,7 @@ class Checker:
     def check_message(self, file, message, rule, has_flags):
         self.is_certain = True
         for fault in newline_faults(message):
-            self.tell_of(file, message, fault)
+            self.report_of(file, message, fault)
         if "c-format" in message.flags:
             is_format = True
         else:
@@ -148,14 +148,14 @@ class Checker:
                 self.warn_of(file, message, f"'{name}' isn't checked: {refusal}")
             else:
                 reason = f"'{name}' is not a valid C format string, unlike '{known}'. Reason: {refusal}"
-                self.tell_of(file, message, reason)
+                self.report_of(file, message, reason)
             return True
         reasons = [difference(one, other, may_be_fewer) for one, other in zip(wanted, found)]
         for model, reason in zip(self.models, reasons):
             if reason:
                 # The data model is named where it isn't so in each.
                 where = "" if all(reasons) else f", in {model.name}"
-                self.tell_of(file, message, reason.format(known, name) + where)
+                self.report_of(file, message, reason.format(known, name) + where)
                 break
         return True
 

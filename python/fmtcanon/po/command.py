@@ -12,7 +12,7 @@ Usage: fmtcanon-po [OPTION].. FILE..
 FILE is a .po or a .mo file, or - for standard input. Each message with the flag c-format that has a
 translation is checked, but for fuzzy and obsolete ones. The translation must take arguments of the
 same types, in the same order. A plural form has to take those of msgid_plural, and so has msgid; it
-may leave the last ones out where it stands for a few numbers only, as in 'one file'. Each message,
+may leave the last ones out where it is for a few numbers only, as in 'one file'. Each message,
 whatever its flags, has to begin and end with a newline where its translation does.
 
 A .mo file doesn't say which messages are C formats. So each one with a % is checked, and what would
@@ -20,11 +20,11 @@ be a fault of a C format is a warning there, unless --c-format is given. Its mes
 and no lines.
 
 Formats are those of POSIX fprintf, with numbered arguments, *, floating conversions, %p and %n. A
-macro of <inttypes.h>, as %<PRIu64>, stands for a type of its own.
+macro of <inttypes.h>, as %<PRIu64>, is of a type of its own.
 
-A fault is told as by `msgfmt -c`: the file, the line, the message and the reason. What can't be
-judged, as it is no C format (%m and others of the GNU C library), is told as a warning. The last lines
-say how many messages with formats were judged, how many were not, and how many faults there are.
+A fault is printed as by `msgfmt -c`: the file, the line, the message and the reason. What can't be
+judged, as it is no C format (%m and others of the GNU C library), is a warning. The last lines say
+how many messages with formats were judged, how many were not, and how many faults there are.
 
 The exit status is 1 where there is a fault, or where a file can't be read, 2 for wrong words, else 0.
 """
@@ -77,7 +77,7 @@ def check_files(checker, files):
         try:
             data = read_bytes(file)
         except OSError as error:
-            checker.tell(file, 0, f"it can't be read: {error.strerror}")
+            checker.report(file, 0, f"it can't be read: {error.strerror}")
         else:
             checker.check_data(file, data)
 

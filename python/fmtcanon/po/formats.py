@@ -5,19 +5,19 @@ import re
 import fmtcanon
 
 # A macro of <inttypes.h> in the place of a length modifier and a conversion, as xgettext writes it. Which type it
-# stands for hangs on the machine.
+# means hangs on the machine.
 MACRO = re.compile(
     r"%%|(?P<front>%(?:(?P<number>[1-9][0-9]*)\$)?(?P<flags>[-+ #0'I]*)"
     r"(?:\*(?:[1-9][0-9]*\$)?|[0-9]+)?(?:\.(?:\*(?:[1-9][0-9]*\$)?|[0-9]*))?)<(?P<name>\w+)>"
 )
 
 
-# Its name tells the conversion (C11 7.8.1, paragraph 3), and so which flags it takes.
+# Its name has the conversion (C11 7.8.1, paragraph 3), and so which flags it takes.
 NAMED = re.compile(r"PRI([dioxXu])")
 
 
 def conversion_of(match):
-    """A conversion that takes the flags which the macro's takes: those that are there, where its name doesn't tell."""
+    """A conversion that takes the flags which the macro's takes: those that are there, where its name has none."""
     named = NAMED.match(match.group("name"))
     if named:
         return named.group(1)

@@ -1,8 +1,8 @@
-"""The expression of Plural-Forms: which form stands for a number."""
+"""The expression of Plural-Forms: which form is for a number."""
 
 import re
 
-# A form that stands for no more numbers than these, of the first thousand, may leave arguments out.
+# A form that is for no more numbers than these, of the first thousand, may leave arguments out.
 FEW_NUMBERS = 5
 NUMBERS = range(1001)
 # Numbers are of the type unsigned long.
@@ -27,7 +27,7 @@ OPERATIONS = {
 
 
 class PluralRule:
-    """An expression, and how often each form stands for a number."""
+    """An expression, and which form is for each number."""
 
     def __init__(self, text):
         if len(text) > 1000 or TOKEN.sub("", text).strip():
@@ -40,11 +40,11 @@ class PluralRule:
         self.form_of = [self.form(n) for n in NUMBERS]
 
     def is_few(self, form, flags):
-        """Whether a form stands for a few numbers, or of the range of its message for one at most."""
+        """Whether a form is for a few numbers, or of the range of its message for one at most."""
         if self.form_of.count(form) <= FEW_NUMBERS:
             return True
-        told = next((flag for flag in flags if flag.startswith("range:")), "")
-        span = re.fullmatch(r"range:\s*(\d+)\s*\.\.\s*(\d+)", told)
+        listed = next((flag for flag in flags if flag.startswith("range:")), "")
+        span = re.fullmatch(r"range:\s*(\d+)\s*\.\.\s*(\d+)", listed)
         return span is not None and self.form_of[int(span.group(1)) : int(span.group(2)) + 1].count(form) <= 1
 
     def take(self, *wanted):
@@ -104,6 +104,6 @@ class PluralRule:
 
 
 def rule_of(header):
-    """The rule that a header tells, or None."""
+    """The rule that a header has, or None."""
     expression = re.search(r"plural\s*=\s*([^;\n]*)", header)
     return PluralRule(expression.group(1)) if expression else None

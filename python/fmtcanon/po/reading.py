@@ -32,7 +32,7 @@ class Unreadable(Exception):
 class Message:
     """A message with its translations.
 
-    Its line is that of the first msgstr, as msgfmt tells it; in a .mo file it is the message's number.
+    Its line is that of the first msgstr, as msgfmt prints it; in a .mo file it is the message's number.
     """
 
     def __init__(self, line, flags):
@@ -48,7 +48,7 @@ class Message:
 
 
 class Catalog:
-    """The messages of a file, the text of its header, and what it doesn't tell."""
+    """The messages of a file, the text of its header, and what it doesn't say."""
 
     def __init__(self, messages, has_flags=True, hidden=0):
         self.messages = [one for one in messages if one.msgid]
@@ -60,9 +60,9 @@ class Catalog:
 
 
 def charset_of(data):
-    """The charset that the header tells, or UTF-8."""
-    told = CHARSET.search(data)
-    name = told.group(1).decode() if told else "CHARSET"
+    """The charset that the header names, or UTF-8."""
+    found = CHARSET.search(data)
+    name = found.group(1).decode() if found else "CHARSET"
     return "utf-8" if name == "CHARSET" else name
 
 
@@ -137,11 +137,11 @@ class PoReader:
                 self.comment(token)
             elif kind == "string":
                 if self.keyword is None:
-                    raise Unreadable(line, "a string stands after no keyword")
+                    raise Unreadable(line, "a string comes after no keyword")
                 self.strings.append(unquoted(token, self.charset, line))
             elif kind == "form":
                 if self.keyword != "msgstr" or self.form is not None or self.strings:
-                    raise Unreadable(line, "a number in brackets stands after msgstr alone")
+                    raise Unreadable(line, "a number in brackets comes after msgstr alone")
                 self.form = int(token[1:-1])
             else:
                 self.finish_keyword()
@@ -164,7 +164,7 @@ class PoReader:
         if keyword in ("domain", "msgctxt", "msgid"):
             self.finish_message()
         elif self.message is None:
-            raise Unreadable(line, f"{keyword} stands before msgid")
+            raise Unreadable(line, f"{keyword} comes before msgid")
         if keyword == "msgid":
             self.message, self.flags = Message(line, self.flags), set()
 
@@ -181,7 +181,7 @@ class PoReader:
             self.message.plural = text
         elif keyword == "msgstr":
             if (self.form is None) != (self.message.plural is None) or (self.form or 0) in self.message.forms:
-                raise Unreadable(self.line, "msgstr has a number exactly where msgid_plural stands, each another")
+                raise Unreadable(self.line, "msgstr has a number exactly where there is a msgid_plural, each another")
             if not self.message.forms:
                 self.message.line = self.line
             self.message.forms[self.form or 0] = text

@@ -2,7 +2,7 @@
 
 Usage: fmtcanon-replace [OPTION].. OLD NEW FILE.c..
 
-  --dry-run              tells what would be done, and changes no file
+  --dry-run              says what would be done, and changes no file
   --model MODEL          in which data models the two have to mean the same: lp64, ilp32, llp64,
                          both for the first two, or all; all where it isn't given, so that the
                          source means the same wherever it is compiled
@@ -13,11 +13,11 @@ Usage: fmtcanon-replace [OPTION].. OLD NEW FILE.c..
   --flag FLAG            a word for libclang, as -Iinclude or -DNAME
   --help                 prints this text
 
-OLD and NEW are formats as they stand in C between the quotes, so that '%i\\n' ends in a newline.
+OLD and NEW are formats as C has them between the quotes, so that '%i\\n' ends in a newline.
 Nothing is replaced unless both take the same arguments and print the same bytes for all of them.
 
 A place is one or more string literals side by side that make up OLD. It is replaced where it is
-surely the format of a call of the printf family, or of NAME. libclang tells the calls, where it is
+surely the format of a call of the printf family, or of NAME. libclang finds the calls, where it is
 there (python3-clang) and finds no error in the file. Else a pattern does, and is sure only in a file
 that includes headers of the C library alone and defines no macro but plain values. Either takes the
 file as it is compiled with the flags given, and with no other macro from a command line.
@@ -41,7 +41,7 @@ from .pattern import Pattern
 from .places import Reading
 from .tokens import Unclear, decoded, doubt_in
 
-# Where the format stands among the arguments of a call, counted from 0.
+# The place of the format among the arguments of a call, counted from 0.
 FUNCTIONS = {
     b"printf": 0, b"vprintf": 0, b"warn": 0, b"warnx": 0, b"vwarn": 0, b"vwarnx": 0,
     b"fprintf": 1, b"vfprintf": 1, b"dprintf": 1, b"vdprintf": 1, b"sprintf": 1, b"vsprintf": 1,
@@ -115,12 +115,12 @@ def why_no_format(place, functions):
 
 def difference(old, new, model):
     """In what two formats differ in a data model, or None."""
-    told = fmtcanon.compare(old, new, model=model)
-    if told.verdict is fmtcanon.Verdict.SAME:
+    found = fmtcanon.compare(old, new, model=model)
+    if found.verdict is fmtcanon.Verdict.SAME:
         return None
-    if told.verdict is fmtcanon.Verdict.TYPES:
-        return f"the types differ at argument {told.types_differ_at}"
-    return f"the two print different bytes for {told.arguments}"
+    if found.verdict is fmtcanon.Verdict.TYPES:
+        return f"the types differ at argument {found.types_differ_at}"
+    return f"the two print different bytes for {found.arguments}"
 
 
 def difference_in(old, new, models):
@@ -136,7 +136,7 @@ def has_grouping(text):
 
 
 def reader_of(file, reading, options):
-    """What tells whether a place is surely the format of a call."""
+    """What finds out whether a place is surely the format of a call."""
     if options.reader != "pattern":
         try:
             return Parsed(file, options.functions, options.chosen, options.flags)
@@ -228,7 +228,7 @@ def format_of(word):
     """The format that a word gives."""
     inside = os.fsencode(word)
     if re.search(rb'(?<!\\)(?:\\\\)*"|(?<!\\)(?:\\\\)*\\$', inside):
-        raise Unclear("a format is given as it stands between the quotes")
+        raise Unclear("a format is given as C has it between the quotes")
     return decoded(b'"' + inside + b'"')
 
 

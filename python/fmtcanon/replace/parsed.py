@@ -32,10 +32,10 @@ def parsed(file, flags):
         unit = cindex.Index.create().parse(file, args=flags)
     except (cindex.LibclangError, cindex.TranslationUnitLoadError) as error:
         raise Unparsed(str(error)) from error
-    for told in unit.diagnostics:
-        if told.severity >= cindex.Diagnostic.Error:
-            raise Unparsed(f"line {told.location.line}: {told.spelling}")
-    # What stands in such a file is read twice, and may mean two things.
+    for found in unit.diagnostics:
+        if found.severity >= cindex.Diagnostic.Error:
+            raise Unparsed(f"line {found.location.line}: {found.spelling}")
+    # Such a file is read twice, and may mean two things.
     names = [one.include.name for one in unit.get_includes() if one.include]
     if any(os.path.samefile(name, file) for name in names if os.path.exists(name)):
         raise Unparsed("the file includes itself")

@@ -77,7 +77,7 @@ class Pattern:
         if self.unclear:
             return f"without libclang it isn't sure: {self.unclear}"
         if place.call.is_inside:
-            return "the call stands within the brackets of a name, which may be a macro"
+            return "the call is within the brackets of a name, which may be a macro"
         name = place.call.function
         if name in self.chosen:
             return None

@@ -1,4 +1,4 @@
-"""The places of string literals in C source, with what stands round them, by a pattern.
+"""The places of string literals in C source, with what is round them, by a pattern.
 
 One pass over the tokens finds the literals, the brackets that are open round each, and what the file
 says of the names of functions: so the time is linear in the length of the file.
@@ -15,7 +15,7 @@ NOTHING = ("", b"")
 
 
 class Place:
-    """String literals side by side, and what stands round them."""
+    """String literals side by side, and what is round them."""
 
     def __init__(self, start, line, before, call):
         self.start = start
@@ -53,7 +53,7 @@ class Call:
         self.function = function
         self.is_inside = is_inside
         self.argument = 0
-        # Whether no declaration can stand here, and where the name before it is.
+        # Whether there can be no declaration here, and where the name before it is.
         self.is_call = True
         self.line = 0
 
@@ -67,7 +67,7 @@ class Call:
 
 
 class Directive:
-    """A line of the preprocessor: its words, as they stand."""
+    """A line of the preprocessor: its words, as they are."""
 
     def __init__(self, line):
         self.line = line
@@ -83,7 +83,7 @@ class Directive:
 
 
 class Reading:
-    """What one pass over a source tells: its places, its directives, and names that it declares."""
+    """What one pass over a source finds: its places, its directives, and names that it declares."""
 
     def __init__(self, source, functions):
         self.functions = functions
