@@ -25,7 +25,7 @@ use Rattle.pf_compare.specs.declared.owned_args.OwnedArg.{OwnedArg}
 use Rattle.pf_compare.specs.declared.witnesses.Witness.{Witness}
 use Rattle.pf_compare.specs.Answers.{HaveSameTypes, IsCandidateAt, PrintTheSame, PrintUnlike, probe_at}
 use Rattle.pf_compare.specs.Layouts.{ReplacementsEqual, ReplacementsDiffer, FindsUnlike, IsFirstUnlike}
-use Rattle.pf_compare.specs.Lone.{DifferInOne, DifferInOneAtMost, FormatsDifferInOne, HasFollowed, IsIndexAfter, span_alone}
+use Rattle.pf_compare.specs.Lone.{AreToldApartAt, DifferInOne, DifferInOneAtMost, FormatsDifferInOne, HasFollowed, IsIndexAfter, span_alone}
 use Rattle.pf_compare.specs.Witnesses.{AreNeutral, AwaitsCandidate, FindsWitness, IsWitnessAt}
 use Rattle.pf_compare.proofs.CandidateLemmas.{candidate_has_type, contains_at}
 use Rattle.pf_compare.proofs.ProbeLemmas.{neutral_first, set_neutral}
@@ -194,6 +194,13 @@ module _ (model : Model) (s t : Specification) (after : List Item) where
         (probes_typed place_of place argument (record { type = arg_type model s; type_is = type_at before; argument_is = e })) argument (neutral_set argument)
         (unlike_alone same_type argument (candidate_has_type model (arg_type model s) place argument e) h)
 
+    pub apart_here : (place : ℕ) → IsFirstUnlike model [] (span_alone s) (span_alone t) (arg_type model s) place → (args : List Argument) × HasTypes model args (types model first_items) × PrintUnlike model first_items second_items args
+    apart_here place h = (
+      probe_at (types model first_items) place_of h.argument,
+      probes_typed place_of place h.argument (record { type = arg_type model s; type_is = type_at before; argument_is = h.argument_is }),
+      unlike_here place h.argument h.argument_is h.unlike,
+    )
+
     neutral_level : (place : ℕ) → IsFirstUnlike model [] (span_alone s) (span_alone t) (arg_type model s) (suc place) → ReplacementsEqual model [] (span_alone s) (span_alone t) (neutral (arg_type model s))
     neutral_level place h = h.earlier 0 (neutral (arg_type model s)) (omega arith) (neutral_first model (arg_type model s))
 
@@ -313,6 +320,15 @@ module _ (model : Model) (xs ys : List Item) (difference : LoneDifference) (h : 
         = subst (λ l. IsWitnessAt model (types model l) (record { index = difference.index; place = place }) witness) h.first_is w in
         back_in (Some witness) (found_alone model difference.first difference.second h.after h.before same_type place witness found
         (subst (λ i. IsWitnessAt model (types model (h.before ++ Directive difference.first ∷ h.after)) (record { index = i; place = place }) witness) (h.index_is model) there))
+
+    -- they print different texts for some arguments
+    pub lone_apart : (place : ℕ) → AreToldApartAt model difference place → (args : List Argument) × HasTypes model args (types model xs) × PrintUnlike model xs ys args
+    lone_apart place found =
+        let there = apart_here model difference.first difference.second h.after h.before same_type place found in (
+          there.0,
+          subst (λ l. HasTypes model there.0 (types model l)) (sym h.first_is) there.1,
+          subst (λ l. PrintUnlike model l ys there.0) (sym h.first_is) (subst (λ l. PrintUnlike model (h.before ++ Directive difference.first ∷ h.after) l there.0) (sym h.second_is) there.2),
+        )
 
     pub lone_none : FindsUnlike model [] (span_alone difference.first) (span_alone difference.second) (arg_type model difference.first) None → FindsWitness model xs ys None
     lone_none found = back_in None (none_alone model difference.first difference.second h.after h.before same_type found)

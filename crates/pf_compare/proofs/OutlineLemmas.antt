@@ -66,7 +66,7 @@ fewest_most true count = omega arith
 fewest_most false count = omega arith
 
 -- a number is printed as its value
-under_number : (model : Model) (k : Kind) (s : Specification) (n : ℤ) (body : Text) → IsFalse (prints_text k) → PrintsKind model k s (Number n) body → PrintsNumber model s n body
+pub under_number : (model : Model) (k : Kind) (s : Specification) (n : ℤ) (body : Text) → IsFalse (prints_text k) → PrintsKind model k s (Number n) body → PrintsNumber model s n body
 under_number model kinds.Signed s n body e h = h
 under_number model (kinds.Unsigned base capitals) s n body e h = h
 under_number model kinds.Char s n body e h = absurd cc

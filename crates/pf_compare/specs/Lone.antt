@@ -1,11 +1,13 @@
 -- Two formats that differ in one directive alone. This project's own.
-use Rattle.std.specs.Prelude.{◌≡◌, ℕ, List, ◌∷◌, ◌++◌, length, Option, Some, None}
+use Rattle.std.specs.Prelude.{◌≡◌, ℕ, List, [], ◌∷◌, ◌++◌, length, Option, Some, None}
 use Rattle.pf_values.specs.declared.models.Model.{Model}
+use Rattle.pf_values.specs.meaning.DataModel.{arg_type}
 use Rattle.pf_values.specs.meaning.Items.{HasItems, Item, Directive, types}
 use Rattle.pf_values.specs.meaning.Specification.{Specification}
 use Rattle.pf_values.specs.meaning.Text.{Text}
 use Rattle.pf_text.specs.declared.pieces.Pieces.{Pieces}
 use Rattle.pf_text.specs.PieceHistory.{HasGiven}
+use Rattle.pf_compare.specs.Layouts.{IsFirstUnlike}
 use Rattle.pf_compare.specs.declared.layouts.DirectiveSpan.{DirectiveSpan}
 use Rattle.pf_compare.specs.declared.differences.LoneDifference.{LoneDifference}
 
@@ -45,3 +47,8 @@ pub record HasFollowed (pieces : Pieces) (t : Text) (xs : List Item)
 -- a directive alone, with the one span of an empty text
 abbrev pub span_alone : Specification → DirectiveSpan
 span_alone s = record { directive = s; start = 0; end = 0 }
+
+-- the first candidate for which the two directives print different bytes has this place
+abbrev pub AreToldApartAt : Model → LoneDifference → ℕ → Type 0
+AreToldApartAt model difference place = IsFirstUnlike model [] (span_alone difference.first)
+    (span_alone difference.second) (arg_type model difference.first) place

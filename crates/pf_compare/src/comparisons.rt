@@ -6,13 +6,14 @@ ghost use Rattle.pf_values.specs.meaning.Text.{Text};
 ghost use Rattle.pf_canon.specs.Comparison.{AreTextsSame};
 ghost use Rattle.pf_render.specs.Rendering.{Renders};
 ghost use Rattle.pf_compare.specs.Answers.{AreUnlike, HaveSameTypes, HindersComparison, IsComparisonOf, PrintsSome, TellApart};
-ghost use Rattle.pf_compare.specs.Lone.{FormatsDifferInOne};
+ghost use Rattle.pf_compare.specs.Lone.{AreToldApartAt, FormatsDifferInOne};
 ghost use Rattle.pf_compare.specs.declared.comparisons.CompareFault.TheVariants.{Memory};
+ghost use Rattle.pf_compare.specs.declared.comparisons.Verdict.TheVariants.{Same};
 
-use crate::differences::{LoneDifference, first_type_difference, lone_difference};
+use crate::differences::{LoneDifference, are_unlike, first_type_difference, lone_difference};
 use crate::layouts::lay_out;
 use crate::owned_args::OwnedArg;
-use crate::witnesses::{Witness, first_witness, lone_witness};
+use crate::witnesses::{Witness, first_witness, foreseen_candidate, lone_witness, witness_at};
 use pf_canon::{Side, same_text};
 use pf_render::{RenderVecFault, render_vec};
 use pf_text::Refusal;
@@ -28,17 +29,50 @@ pub fn compare(alloc: Global, model: Model, f: &[u8], g: &[u8]) -> Result<Compar
     ensures { MatchResult result (IsComparisonOf model f.now g.now)
         (HindersComparison model f.now g.now) }
 {
-    let same = match same_text(model, f, g) {
-        Ok(same) => same,
-        Err((side, refusal)) => return Err(CompareFault::Refused(side, refusal)),
-    };
-    if same {
-        return Ok(Comparison {
-            verdict: Verdict::Same,
-            renderings: 0,
-        });
+    if are_unlike(f, g) {
+        return compare_unlike(alloc, model, f, g);
     }
-    compare_apart(alloc, model, f, g)
+    compare_any(alloc, model, f, g)
+}
+
+// Compares two formats whose bytes differ. Where that is in one directive alone, most are told apart
+// by it, and their canonical texts needn't be compared.
+#[inline(never)]
+fn compare_unlike(
+    alloc: Global,
+    model: Model,
+    f: &[u8],
+    g: &[u8],
+) -> Result<Comparison, CompareFault>
+    ensures { MatchResult result (IsComparisonOf model f.now g.now)
+        (HindersComparison model f.now g.now) }
+{
+    match lone_difference(f, g) {
+        Some(difference) => compare_lone(alloc, model, f, g, &difference),
+        None => compare_any(alloc, model, f, g),
+    }
+}
+
+// Compares two formats that may differ anywhere, or nowhere.
+fn compare_any(alloc: Global, model: Model, f: &[u8], g: &[u8]) -> Result<Comparison, CompareFault>
+    ensures { MatchResult result (IsComparisonOf model f.now g.now)
+        (HindersComparison model f.now g.now) }
+{
+    match are_equivalent(model, f, g) {
+        Ok(true) => Ok(same_comparison()),
+        Ok(false) => compare_apart(alloc, model, f, g),
+        Err(fault) => Err(fault),
+    }
+}
+
+fn are_equivalent(model: Model, f: &[u8], g: &[u8]) -> Result<bool, CompareFault>
+    ensures { MatchResult result (AreTextsSame model f.now g.now)
+        (HindersComparison model f.now g.now) }
+{
+    match same_text(model, f, g) {
+        Ok(same) => Ok(same),
+        Err((side, refusal)) => Err(CompareFault::Refused(side, refusal)),
+    }
 }
 
 // Compares two formats that aren't equivalent.
@@ -53,9 +87,6 @@ fn compare_apart(
     ensures { MatchResult result (IsComparisonOf model f.now g.now)
         (HindersComparison model f.now g.now) }
 {
-    if let Some(difference) = lone_difference(f, g) {
-        return compare_lone(alloc, model, f, g, &difference);
-    }
     if let Some(index) = first_type_difference(model, f, g) {
         return Ok(Comparison {
             verdict: Verdict::Types(index),
@@ -65,7 +96,7 @@ fn compare_apart(
     Ok(compare_bytes(alloc, model, f, g)?)
 }
 
-// Compares two formats that differ in one directive alone, and aren't equivalent.
+// Compares two formats that differ in one directive alone.
 fn compare_lone(
     alloc: Global,
     model: Model,
@@ -73,8 +104,7 @@ fn compare_lone(
     g: &[u8],
     difference: &LoneDifference,
 ) -> Result<Comparison, CompareFault>
-    requires apart { AreTextsSame model f.now g.now false }
-    requires lone { FormatsDifferInOne f.now g.now difference.now }
+    requires { FormatsDifferInOne f.now g.now difference.now }
     ensures { MatchResult result (IsComparisonOf model f.now g.now)
         (HindersComparison model f.now g.now) }
 {
@@ -84,7 +114,10 @@ fn compare_lone(
             renderings: 0,
         });
     }
-    Ok(compare_directives(alloc, model, f, g, difference)?)
+    match foreseen_candidate(model, &difference.first, &difference.second) {
+        Some(place) => Ok(compare_at(alloc, model, f, g, difference, place)?),
+        None => compare_unforeseen(alloc, model, f, g, difference),
+    }
 }
 
 fn have_different_types(model: Model, first: &Directive, second: &Directive) -> bool
@@ -94,7 +127,60 @@ fn have_different_types(model: Model, first: &Directive, second: &Directive) -> 
     first.arg_type(model) != second.arg_type(model)
 }
 
-// The same where the two directives take arguments of one type.
+// The same where the candidate is known that tells the two directives apart.
+fn compare_at(
+    alloc: Global,
+    model: Model,
+    f: &[u8],
+    g: &[u8],
+    difference: &LoneDifference,
+    place: usize,
+) -> Result<Comparison, AllocError>
+    requires lone { FormatsDifferInOne f.now g.now difference.now }
+    requires types { arg_type model difference.now.first ≡ arg_type model difference.now.second }
+    requires found { AreToldApartAt model difference.now place }
+    ensures { IfOk result (IsComparisonOf model f.now g.now) }
+{
+    match witness_at(alloc, model, f, difference, place) {
+        Ok(Witness { args, renderings }) => Ok(Comparison {
+            verdict: Verdict::Args(args),
+            renderings,
+        }),
+        Err(error) => Err(error),
+    }
+}
+
+// The same where none is: the formats may be equivalent.
+fn compare_unforeseen(
+    alloc: Global,
+    model: Model,
+    f: &[u8],
+    g: &[u8],
+    difference: &LoneDifference,
+) -> Result<Comparison, CompareFault>
+    requires lone { FormatsDifferInOne f.now g.now difference.now }
+    requires types { arg_type model difference.now.first ≡ arg_type model difference.now.second }
+    ensures { MatchResult result (IsComparisonOf model f.now g.now)
+        (HindersComparison model f.now g.now) }
+{
+    match are_equivalent(model, f, g) {
+        Ok(true) => Ok(same_comparison()),
+        Ok(false) => Ok(compare_directives(alloc, model, f, g, difference)?),
+        Err(fault) => Err(fault),
+    }
+}
+
+fn same_comparison() -> Comparison
+    ensures { result ≡ record { verdict = Same; renderings = 0 } }
+{
+    Comparison {
+        verdict: Verdict::Same,
+        renderings: 0,
+    }
+}
+
+// Compares two formats that aren't equivalent, and differ in one directive alone, with the types
+// alike.
 fn compare_directives(
     alloc: Global,
     model: Model,

@@ -2,6 +2,7 @@
 //! directives have the same parts.
 ghost use Rattle.std.specs.Prelude.{◌≡◌, ◌≢◌, ◌≤◌, ◌∷◌, [], ◌++◌, IfSome, IsFalse, IsTrue, List, MatchBool, MatchOption, Some, length, map};
 ghost use Rattle.std.specs.Option.{option_to_list};
+ghost use Rattle.pf_values.specs.declared.conversions.Conv.{Conv};
 ghost use Rattle.pf_values.specs.declared.models.Model.{Model};
 ghost use Rattle.pf_values.specs.declared.types.ArgType.{ArgType};
 ghost use Rattle.pf_values.specs.meaning.Items.{IsAccepted, Item, Reads, Byte, Directive as item_of, types};
@@ -298,13 +299,26 @@ pub(crate) fn are_equal(first: &Directive, second: &Directive) -> bool
 pub(crate) fn are_equal_beside_space(first: &Directive, second: &Directive) -> bool
     ensures { IsTrue result → with_space first.now ≡ with_space second.now }
 {
+    are_alike_beside_conv(first, second) && same_conv(first.conv(), second.conv())
+}
+
+/// Whether two directives are of one kind, and differ in the flag ` ` at most. These print the same
+/// for most arguments, or for all.
+pub(crate) fn are_mostly_alike(first: &Directive, second: &Directive) -> bool {
+    are_alike_beside_conv(first, second) && first.conv().kind() == second.conv().kind()
+}
+
+// Whether two directives have the same parts but for the flag ` ` and the conversion.
+fn are_alike_beside_conv(first: &Directive, second: &Directive) -> bool
+    ensures { IsTrue result → (conv : Conv)
+        → record (with_space first.now) { conv = conv } ≡ record (with_space second.now) { conv = conv } }
+{
     same_flags(
         first.flags().with(Flag::Space),
         second.flags().with(Flag::Space),
     ) && same_number(first.width(), second.width())
         && same_number(first.precision(), second.precision())
         && same_length(first.length(), second.length())
-        && same_conv(first.conv(), second.conv())
 }
 
 fn same_flags(first: FlagSet, second: FlagSet) -> bool

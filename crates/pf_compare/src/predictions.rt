@@ -6,7 +6,10 @@ ghost use Rattle.std.specs.Int.Digits.{digits_of};
 ghost use Rattle.pf_values.specs.declared.conversions.Kind.TheVariants as kinds;
 ghost use Rattle.pf_values.specs.meaning.Arguments.{Number, String};
 ghost use Rattle.pf_values.specs.meaning.Conversions.{is_char, is_string, is_text, kind_of};
+ghost use Rattle.pf_values.specs.declared.models.Model.{Model};
+ghost use Rattle.pf_values.specs.meaning.Printing.{Prints};
 ghost use Rattle.pf_values.specs.meaning.Specification.{Specification};
+ghost use Rattle.pf_values.specs.meaning.Text.{Text};
 ghost use Rattle.pf_probes.specs.Candidate.{candidate_argument};
 ghost use Rattle.pf_compare.specs.Outlines.{DoLieApart, DoTextsDiffer, IsUnderKind, PredictsDifference, kind_digits, outline_body, outline_text, sign_or_prefix_text};
 ghost use Rattle.pf_compare.specs.RunOutlines.{run_outline_text};
@@ -19,6 +22,7 @@ use pf_values::{Directive, Flag, Kind, Model, ValueKind};
 
 /// Whether two directives print different bytes for a candidate; `None` where only printing them
 /// decides. The range of equal texts is the same for all candidates.
+#[inline(always)]
 pub(crate) fn predict(
     model: Model,
     first: &Directive,
@@ -107,6 +111,7 @@ fn lie_apart(len: usize, before: u16, other: u16) -> bool
     before != other
 }
 
+#[inline(always)]
 fn predict_number(
     model: Model,
     first: &Directive,
@@ -130,7 +135,27 @@ fn predict_number(
             return predict_char(model, first, second, number);
         }
     }
+    if is_told_by_zero(first, second, number) {
+        return Some(true);
+    }
+    if is_told_by_zero(second, first, number) {
+        return Some(true);
+    }
     None
+}
+
+// Whether a number is 0, which the one directive prints as a byte: no integer is printed with such a
+// byte.
+fn is_told_by_zero(one: &Directive, other: &Directive, number: i128) -> bool
+    ensures { IsTrue result → (model : Model) (p q : Text) → Prints model one.now (Number number) p
+        → Prints model other.now (Number number) q → p ≢ q }
+{
+    if number == 0 {
+        if is_char(one) {
+            return is_integer(other);
+        }
+    }
+    false
 }
 
 #[inline(always)]

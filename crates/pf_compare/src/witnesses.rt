@@ -1,6 +1,6 @@
 //! Arguments for which two formats print different bytes: the first of the probes that tell them apart.
 //! One is searched only where the formats print the same for neutral arguments.
-ghost use Rattle.std.specs.Prelude.{◌≡◌, ◌≢◌, ◌≤◌, ◌+◌, ◌-◌, [], ◌++◌, IfOk, IfSome, IsTrue, List, MatchBool, drop, length, take};
+ghost use Rattle.std.specs.Prelude.{◌≡◌, ◌≢◌, ◌≤◌, ◌+◌, ◌-◌, [], ◌++◌, IfOk, IfSome, IsTrue, List, MatchBool, Some, drop, length, take};
 ghost use Rattle.pf_values.specs.Arg.{argument_of};
 ghost use Rattle.pf_values.specs.Candidates.{neutral};
 ghost use Rattle.pf_values.specs.declared.models.Model.TheVariants.{Lp64};
@@ -10,12 +10,12 @@ ghost use Rattle.pf_values.specs.meaning.DataModel.{arg_type};
 ghost use Rattle.pf_values.specs.meaning.Items.{HasItems, IsAccepted, Item, Reads, types};
 ghost use Rattle.pf_probes.specs.Candidate as probes;
 ghost use Rattle.pf_compare.specs.Answers.{FindsProbe};
-ghost use Rattle.pf_compare.specs.Layouts.{HaveSameTypesAndBytes, HaveSameTypeLists, AreTriedBelow, ReplacementsEqual, ReplacementsDiffer, FindsUnlike, IsSpanIn, IsLayoutOf, replace_span, span_types};
-ghost use Rattle.pf_compare.specs.Lone.{DifferInOne, span_alone};
+ghost use Rattle.pf_compare.specs.Layouts.{HaveSameTypesAndBytes, HaveSameTypeLists, AreTriedBelow, ReplacementsEqual, ReplacementsDiffer, FindsUnlike, IsFirstUnlike, IsSpanIn, IsLayoutOf, replace_span, span_types};
+ghost use Rattle.pf_compare.specs.Lone.{AreToldApartAt, DifferInOne, span_alone};
 ghost use Rattle.pf_compare.specs.Spaces.{PrintEqualIn};
 ghost use Rattle.pf_compare.specs.Witnesses.{AwaitsCandidate, FindsWitness, HasCandidate, IsWitnessAt};
 
-use crate::differences::{LoneDifference, are_equal, are_unlike};
+use crate::differences::{LoneDifference, are_equal, are_mostly_alike, are_unlike};
 use crate::layouts::{DirectiveSpan, Layout, neutrals, neutrals_of, print};
 use crate::owned_args::OwnedArg;
 use crate::predictions::{EqualPrintRange, predict};
@@ -88,17 +88,33 @@ pub(crate) fn lone_witness(
     let found = first_candidate_alone(alloc, model, &difference.first, &difference.second)?;
     match found {
         Some(place) => {
-            let args = neutrals_of(alloc, model, f)?;
-            let probe = Probe {
-                index: difference.index,
-                place,
-            };
-            let arg_type = difference.first.arg_type(model);
-            let witness = with_candidate(alloc, model, args, arg_type, probe)?;
+            let witness = witness_at(alloc, model, f, difference, place)?;
             Ok(Some(witness))
         }
         None => Ok(None),
     }
+}
+
+/// The same where the candidate is known that tells the two directives apart.
+pub(crate) fn witness_at(
+    alloc: Global,
+    model: Model,
+    f: &[u8],
+    difference: &LoneDifference,
+    place: usize,
+) -> Result<Witness, AllocError>
+    requires one_type { arg_type model difference.now.first ≡ arg_type model difference.now.second }
+    requires first { (xs ys : List Item) × HasItems f.now xs × DifferInOne xs ys difference.now }
+    requires found { AreToldApartAt model difference.now place }
+    ensures { IfOk result (λ witness. (xs ys : List Item)
+        → Reads f.now xs → DifferInOne xs ys difference.now → FindsWitness model xs ys (Some witness)) }
+{
+    let args = neutrals_of(alloc, model, f)?;
+    let probe = Probe {
+        index: difference.index,
+        place,
+    };
+    with_candidate(alloc, model, args, difference.first.arg_type(model), probe)
 }
 
 // The arguments of a probe, of neutral ones.
@@ -212,6 +228,53 @@ pub(crate) fn first_candidate_alone(
         first.arg_type(model),
         0,
     )
+}
+
+/// The place of the first candidate for which two directives print different bytes, where the first
+/// few show it without printing them.
+pub(crate) fn foreseen_candidate(
+    model: Model,
+    first: &Directive,
+    second: &Directive,
+) -> Option<usize>
+    requires { arg_type model first.now ≡ arg_type model second.now }
+    ensures { IfSome result (IsFirstUnlike model [] (span_alone first.now) (span_alone second.now)
+        (arg_type model first.now)) }
+{
+    let row = candidate_row(model, first.arg_type(model));
+    let equal_range = EqualPrintRange::of(first, second);
+    let most = foreseen_count(first, second, equal_range, row.len());
+    let mut place = 0;
+    while place < most {
+        match predict(model, first, second, equal_range, row[place]) {
+            Some(true) => return Some(place),
+            Some(false) => place += 1,
+            None => return None,
+        }
+    }
+    None
+}
+
+// Most directives that differ are told apart by one of the first so many candidates.
+const FORESEEN: usize = 7;
+
+// How many of so many candidates are tried before it is known that the formats aren't equivalent:
+// all where that is cheap, and none where they are likely to be.
+fn foreseen_count(
+    first: &Directive,
+    second: &Directive,
+    equal_range: Option<EqualPrintRange>,
+    count: usize,
+) -> usize
+    ensures { result ≤ count }
+{
+    if equal_range.is_some() {
+        return count;
+    }
+    if are_mostly_alike(first, second) {
+        return 0;
+    }
+    count.min(FORESEEN)
 }
 
 fn span_alone(directive: &Directive) -> DirectiveSpan

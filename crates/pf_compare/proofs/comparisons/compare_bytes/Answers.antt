@@ -1,6 +1,6 @@
 use Rattle.std.proofs.Common.{subst}
 use Rattle.pf_compare.specs.Witnesses.{FindsWitness}
-use Rattle.pf_compare.proofs.VerdictLemmas.{always_found, args_verdict, laid_types, one_types}
+use Rattle.pf_compare.proofs.VerdictLemmas.{always_found, args_verdict, laid_types, not_equivalent, one_types}
 use Rattle.pf_compare.proofs.comparisons.compare_bytes.Goals as goal
 
 pub first_witness-requires : goal.first_witness-requires
@@ -19,5 +19,5 @@ returns c =
     let a = c.in_ok-first.ensures in
     let b = c.in_ok-second.ensures in
     let same = laid_types c.args.model c.args.f.now c.args.g.now c.in_ok-first.first c.in_ok-second.second a b c.requires.types in
-    args_verdict c.args.model c.args.f.now c.args.g.now a.items b.items a.accepted b.accepted same c.requires.apart c.in-Some.field-0
+    args_verdict c.args.model c.args.f.now c.args.g.now a.items b.items a.accepted b.accepted same (not_equivalent c.args.model c.args.f.now c.args.g.now c.requires.apart) c.in-Some.field-0
     (subst (FindsWitness c.args.model a.items b.items) c.in-Some.is (c.in_ok-args.ensures a.items b.items a.laid b.laid same))
