@@ -20,7 +20,7 @@ use crate::layouts::{DirectiveSpan, Layout, neutrals, neutrals_of, print};
 use crate::owned_args::OwnedArg;
 use crate::predictions::{EqualPrintRange, predict};
 use pf_probes::{Candidate, candidate_row};
-use pf_values::{Arg, ArgType, Directive, Model};
+use pf_values::{Arg, ArgType, Directive, Kind, Model};
 use std::alloc::{AllocError, Global};
 
 /// Arguments for which two formats print different bytes, and their place among the candidates.
@@ -255,11 +255,9 @@ pub(crate) fn foreseen_candidate(
     None
 }
 
-// Most directives that differ are told apart by one of the first so many candidates.
-const FORESEEN: usize = 7;
-
 // How many of so many candidates are tried before it is known that the formats aren't equivalent:
-// all where that is cheap, and none where they are likely to be.
+// all where they can't be or where that is cheap, and none where they are likely to be. Else 0 and 1
+// tell most directives apart, unless zeros fill the one field alone: then it may take -1.
 fn foreseen_count(
     first: &Directive,
     second: &Directive,
@@ -268,13 +266,23 @@ fn foreseen_count(
 ) -> usize
     ensures { result ≤ count }
 {
-    if equal_range.is_some() {
+    if equal_range.is_some() || !may_be_equivalent(first, second) {
         return count;
     }
     if are_mostly_alike(first, second) {
         return 0;
     }
-    count.min(FORESEEN)
+    if first.is_zero_filled() != second.is_zero_filled() {
+        return count.min(7);
+    }
+    count.min(2)
+}
+
+// Whether two directives print numbers of one kind and one length modifier. No others are
+// equivalent but strings, whose candidates are few.
+fn may_be_equivalent(first: &Directive, second: &Directive) -> bool {
+    let kind = first.conv().kind();
+    kind == second.conv().kind() && first.length() == second.length() && kind != Kind::String
 }
 
 fn span_alone(directive: &Directive) -> DirectiveSpan
