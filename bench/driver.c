@@ -21,6 +21,7 @@ uint64_t bench_canonical(const char *text, size_t len);
 bool bench_is_canonical(const char *text, size_t len);
 uint64_t bench_canonical_len(const char *text, size_t len);
 bool bench_same_text(const char *first, size_t first_len, const char *second, size_t second_len);
+bool bench_same_stream(const char *first, size_t first_len, const char *second, size_t second_len);
 uint64_t bench_compare(const char *first, size_t first_len, const char *second, size_t second_len);
 uint64_t bench_scanner(const char *text, size_t len);
 bool bench_render_two(const char *text, size_t len, int number, const char *string, size_t string_len,
@@ -38,6 +39,7 @@ static uint64_t call_is_canonical(const char *text, size_t len) { return bench_i
 /* The text beside itself, and beside one that differs at once. */
 static uint64_t call_fits(const char *text, size_t len) { return bench_fits(text, len, text, len); }
 static uint64_t call_same(const char *text, size_t len) { return bench_same_text(text, len, text, len); }
+static uint64_t call_same_stream(const char *text, size_t len) { return bench_same_stream(text, len, text, len); }
 static uint64_t call_other(const char *text, size_t len) { return bench_same_text(text, len, "\t", 1); }
 
 /* The text beside the one before it. */
@@ -117,6 +119,7 @@ static const struct {
     {"is_canonical", call_is_canonical},
     {"canonical_len", bench_canonical_len},
     {"same_text", call_same},
+    {"same_stream", call_same_stream},
     {"same_text, differs at once", call_other},
     {"same_text, unrelated", call_before},
     {"same_text of a pair", call_same_pair},

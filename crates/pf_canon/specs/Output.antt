@@ -5,6 +5,7 @@ use Rattle.pf_values.specs.meaning.Text.{Text, space, zero_digit}
 use Rattle.pf_text.specs.Plain.{silents}
 use Rattle.pf_canon.specs.declared.output.Output.{Output}
 use Rattle.pf_canon.specs.declared.output.PendingOutput.{PendingOutput}
+use Rattle.pf_canon.specs.declared.output.PendingOutput.TheVariants as pending
 
 -- spaces, zeros, silent directives, other bytes, and spaces
 abbrev pub in_order : Text → Text → Text → Text → Text → Text
@@ -40,11 +41,8 @@ abbrev pub Pops : Text → Option ℕ → Text → Type 0
 Pops t None rest = (t ≡ []) × (rest ≡ [])
 Pops t (Some byte) rest = t ≡ byte ∷ rest
 
--- the bytes of an output, if there is one
-abbrev pub text_of_some : Option Output → Text
-text_of_some None = []
-text_of_some (Some output) = output_text output
-
--- those that are still to be given
+-- what is still to be given
 abbrev pub pending_text : PendingOutput → Text
-pending_text p = drop p.given (text_of_some p.output)
+pending_text pending.Nothing = []
+pending_text (pending.Literal byte) = byte ∷ []
+pending_text (pending.Output output given) = drop given (output_text output)

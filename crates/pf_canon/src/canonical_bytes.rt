@@ -80,7 +80,7 @@ impl ByteTransducer {
     {
         ByteTransducer {
             transducer: Transducer::new(model),
-            pending: PendingOutput::new(),
+            pending: PendingOutput::Nothing,
             is_open: true,
         }
     }
@@ -99,6 +99,7 @@ impl ByteTransducer {
     }
 
     /// Takes from the text, until something is pending or the text is over.
+    #[inline(always)]
     pub(crate) fn fill<B: Bytes>(&mut self, bytes: &mut B) -> Result<(), StreamFault>
         ensures { FillsBy B.left B.kept B.failed self.old bytes.old result self.new bytes.new }
     {
@@ -109,6 +110,7 @@ impl ByteTransducer {
     }
 
     // Whether nothing is pending, and the text may go on.
+    #[inline(always)]
     fn wants_byte(&self) -> bool
         ensures { MatchBool result (WantsByte self.now) (IsFilled self.now) }
     {
@@ -119,6 +121,7 @@ impl ByteTransducer {
     }
 
     /// The first bytes that are pending, some if there are any.
+    #[inline(always)]
     pub(crate) fn front(&self) -> &[u8]
         ensures { IsFrontOf (pending_in self.now) result.now }
     {
@@ -144,13 +147,14 @@ impl ByteTransducer {
         ensures counts { CountsDrain B.kept B.failed result bytes.old bytes.new }
     {
         while self.is_open {
-            self.pending = PendingOutput::new();
+            self.pending = PendingOutput::Nothing;
             self.ask(bytes)?;
         }
         Ok(())
     }
 
     // Asks for the next byte of the text, or its end. What that settles is pending.
+    #[inline(never)]
     fn ask<B: Bytes>(&mut self, bytes: &mut B) -> Result<(), StreamFault>
         requires { WantsByte self.old }
         ensures next { (model : Model) (start : Known) (taken given : Text)

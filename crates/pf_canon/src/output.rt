@@ -1,15 +1,16 @@
 //! What one item settles, to be put into a sink at once, or to be given in slices or byte by byte.
-ghost use Rattle.std.specs.Prelude.{◌≡◌, ◌*◌, ◌<◌, ℕ, drop, flat_map, length, replicate, ◌+◌, [], ◌∷◌, ◌^◌};
+ghost use Rattle.std.specs.Prelude.{◌≡◌, ◌*◌, ◌<◌, ℕ, drop, flat_map, length, replicate, ◌+◌, ◌^◌};
 ghost use Rattle.pf_values.specs.meaning.Canonical.{item_spelling};
 ghost use Rattle.pf_text.specs.Plain.{silents};
 ghost use Rattle.pf_values.specs.declared.padding.TheConstants.{MAX_RUN};
-ghost use Rattle.pf_canon.specs.Output.{IsFrontOf, text_after_zeros, output_text, silent_bytes, Pops, pending_text, text_of_some};
+ghost use Rattle.pf_canon.specs.Output.{IsFrontOf, text_after_zeros, output_text, silent_bytes, Pops, pending_text};
 ghost use Rattle.pf_canon.specs.Transducer.{byte_output_text};
 
 use crate::sink::{Sink, put_repeated, put_silents};
 use pf_text::Spelling;
 use pf_values::padding;
 use pf_values::padding::MAX_RUN;
+use std::slice;
 
 /// What a step of the scanner settles.
 #[derive(Drop)]
@@ -127,43 +128,34 @@ fn whole_len(spaces: u16, zeros: u16, silents: u64, spelling: usize, trail: u16)
     padding + u128::from(silents) * 4 + spelling as u128
 }
 
-/// An output of which the first bytes were given, or nothing.
+/// What was settled, but for the bytes that were given.
 #[derive(Drop)]
-pub(crate) struct PendingOutput {
-    output: Option<Output>,
-    given: u128,
+pub(crate) enum PendingOutput {
+    /// Nothing.
+    Nothing,
+    /// A literal byte.
+    Literal(u8),
+    /// An output, and how many of its bytes were given.
+    Output(Output, u128),
 }
 
 impl PendingOutput {
-    /// Nothing is pending.
-    #[inline(always)]
-    pub(crate) fn new() -> PendingOutput
-        ensures { pending_text result ≡ [] }
-    {
-        PendingOutput {
-            output: None,
-            given: 0,
-        }
-    }
-
     /// All of an output is pending.
     #[inline(always)]
     pub(crate) fn of(output: Output) -> PendingOutput
         ensures { pending_text result ≡ output_text output }
     {
-        PendingOutput {
-            output: Some(output),
-            given: 0,
-        }
+        PendingOutput::Output(output, 0)
     }
 
     /// All that a byte settles is pending.
+    #[inline(always)]
     pub(crate) fn of_byte(output: StepOutput, byte: u8) -> PendingOutput
         ensures { pending_text result ≡ byte_output_text output byte }
     {
         match output {
-            StepOutput::Nothing => PendingOutput::new(),
-            StepOutput::Literal => PendingOutput::of(literal(byte)),
+            StepOutput::Nothing => PendingOutput::Nothing,
+            StepOutput::Literal => PendingOutput::Literal(byte),
             StepOutput::Output(output) => PendingOutput::of(output),
         }
     }
@@ -173,9 +165,10 @@ impl PendingOutput {
     pub(crate) fn front(&self) -> &[u8]
         ensures { IsFrontOf (pending_text self.now) result.now }
     {
-        match &self.output {
-            Some(output) => output.front(self.given),
-            None => &[],
+        match self {
+            PendingOutput::Nothing => &[],
+            PendingOutput::Literal(byte) => slice::from_ref(byte),
+            PendingOutput::Output(output, given) => output.front(*given),
         }
     }
 
@@ -183,8 +176,17 @@ impl PendingOutput {
     pub(crate) fn skip(&mut self, count: usize)
         ensures { pending_text self.new ≡ drop count (pending_text self.old) }
     {
-        let given = self.given.saturating_add(count as u128);
-        self.given = given.min(len_in(&self.output));
+        if count == 0 {
+            return;
+        }
+        if let PendingOutput::Output(output, given) = self {
+            let past = given.saturating_add(count as u128);
+            if past < output.len() {
+                *given = past;
+                return;
+            }
+        }
+        *self = PendingOutput::Nothing;
     }
 
     /// Gives the next byte, and returns it.
@@ -194,30 +196,5 @@ impl PendingOutput {
         let byte = *self.front().first()?;
         self.skip(1);
         Some(byte)
-    }
-}
-
-fn len_in(output: &Option<Output>) -> u128
-    ensures total { result ≡ length (text_of_some output.now) }
-    ensures few { result < 2 ^ 100 }
-{
-    match output {
-        Some(output) => output.len(),
-        None => 0,
-    }
-}
-
-// A literal byte.
-fn literal(byte: u8) -> Output
-    ensures { output_text result ≡ byte ∷ [] }
-{
-    let mut spelling = Spelling::new();
-    spelling.push(byte);
-    Output {
-        spaces: 0,
-        zeros: 0,
-        silents: 0,
-        spelling,
-        trail: 0,
     }
 }

@@ -35,7 +35,7 @@ impl<'a> Walk<'a> {
             transducer,
             rest,
             bytes: &[],
-            output: PendingOutput::new(),
+            output: PendingOutput::Nothing,
             end: None,
         }
     }

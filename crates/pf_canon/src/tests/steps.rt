@@ -100,18 +100,29 @@ fn rows_of_two_texts(rt: HostRuntime) {
     }
 }
 
-#[test]
-fn the_second_text_is_read_no_further(rt: HostRuntime) {
-    let first: &[u8] = b"%s%y";
-    let second: &[u8] = b"%s%zabc";
-    let mut r = Counted::new(first);
-    let mut s = Counted::new(whole(second, 1));
+// Whether the first text is refused at its last byte, and this is left of the second then.
+fn leaves(first: &str, second: &str, left: &str) -> bool {
+    let at = first.len().saturating_sub(1) as u64;
     let want = SideFault {
         side: Side::First,
-        fault: StreamFault::Refused(refusal(RefusalKind::Unexpected, 3)),
+        fault: StreamFault::Refused(refusal(RefusalKind::Unexpected, at)),
     };
-    assert!(rt; same_stream(Model::Lp64, &mut r, &mut s) == Err(want));
-    assert!(rt; has_left(s.into_inner(), b"%zabc"));
+    let mut r = Counted::new(first.as_bytes());
+    let mut s = Counted::new(whole(second.as_bytes(), 1));
+    same_stream(Model::Lp64, &mut r, &mut s) == Err(want)
+        && has_left(s.into_inner(), left.as_bytes())
+}
+
+#[test]
+fn the_second_text_is_read_no_further(rt: HostRuntime) {
+    for (first, second, left) in [
+        ("%s%y", "%s%zabc", "%zabc"),
+        ("%y", "abc", "abc"),
+        ("%20d%y", "         %11dabc", "abc"),
+        ("         %11d%y", "%20dabc", "abc"),
+    ] {
+        assert!(rt; leaves(first, second, left), "{first} {second}");
+    }
 }
 
 #[test]
