@@ -136,6 +136,7 @@ fn go_in_step(first: &mut Walk<'_>, second: &mut Walk<'_>) -> bool
     }
 }
 
+// The same of two texts that come byte by byte. What is pending of them is compared slice by slice.
 fn same_bytes<A: Bytes, B: Bytes>(model: Model, a: &mut A, b: &mut B) -> Result<bool, SideFault>
     ensures compared { MatchResult result
         (EndsBoth model (A.left a.old) (A.left a.new) (B.left b.old) (B.left b.new))
