@@ -20,7 +20,7 @@ use crate::layouts::{DirectiveSpan, Layout, neutrals, neutrals_of, print};
 use crate::owned_args::OwnedArg;
 use crate::predictions::{EqualPrintRange, predict};
 use pf_probes::{Candidate, candidate_row};
-use pf_values::{Arg, ArgType, Directive, Kind, Model};
+use pf_values::{Arg, ArgType, Directive, Flag, Kind, Model};
 use std::alloc::{AllocError, Global};
 
 /// Arguments for which two formats print different bytes, and their place among the candidates.
@@ -257,7 +257,7 @@ pub(crate) fn foreseen_candidate(
 
 // How many of so many candidates are tried before it is known that the formats aren't equivalent:
 // all where they can't be or where that is cheap, and none where they are likely to be. Else 0 and 1
-// tell most directives apart, unless zeros fill the one field alone: then it may take -1.
+// tell most directives apart, and -1 where the sign of a number takes the place of a zero.
 fn foreseen_count(
     first: &Directive,
     second: &Directive,
@@ -272,10 +272,16 @@ fn foreseen_count(
     if are_mostly_alike(first, second) {
         return 0;
     }
-    if first.is_zero_filled() != second.is_zero_filled() {
+    if first.is_zero_filled() != second.is_zero_filled() && has_minus_alone(first) {
         return count.min(7);
     }
     count.min(2)
+}
+
+// Whether a directive prints a sign before negative numbers alone.
+fn has_minus_alone(directive: &Directive) -> bool {
+    let flags = directive.flags();
+    directive.conv().kind() == Kind::Signed && !flags.has(Flag::Plus) && !flags.has(Flag::Space)
 }
 
 // Whether two directives print numbers of one kind and one length modifier. No others are
