@@ -151,7 +151,7 @@ def try_places(module, trials):
 
 
 def try_program(program, module, trials):
-    """The program writes the literal of the canonical string of the bytes."""
+    """The program writes the literal of the canonical text of the bytes."""
     for source in list(sources())[::40]:
         try:
             source.decode()

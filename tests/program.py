@@ -158,7 +158,7 @@ def try_sizes(program, trials):
     trials.expect("the same, printed", run(program, ["format", "%lx", f"n:{greatest}"]), (0, b"f" * 16, b""))
     trials.expect("one more", run(program, ["format", "%lx", f"n:{greatest + 1}"])[0], 3)
     text = (b" " * 4084 + b"%11d") * 1000
-    trials.expect("a canonical string of four million bytes", run(program, ["canon", "%4095d" * 1000]), (0, text + b"\n", b""))
+    trials.expect("a canonical text of four million bytes", run(program, ["canon", "%4095d" * 1000]), (0, text + b"\n", b""))
     trials.expect("the same by stream", run(program, ["stream"], b"%4095d" * 1000), (0, text, b""))
     trials.expect("four million bytes by stream", run(program, ["stream"], b"%i%%x!" * 700_000), (0, b"%d%%x!" * 700_000, b""))
 

@@ -23,7 +23,7 @@ from harness import TOP, Trials  # noqa: E402
 
 FOLDER = "Rattle.pf_values.specs.meaning"
 # The functions whose contracts are the headline, and what a refusal says.
-STARTS = [("pf_compare/src/laws.rt", "headline"), ("pf_text/src/checking.rt", "check")]
+STARTS = [("pf_compare/src/laws.rt", "headline"), ("pf_text/src/pieces.rt", "check")]
 NAME = r"[^\W\d]\w*"
 # An import: of names of a module, or of a module by another name.
 IMPORT = re.compile(rf"^ *(?:ghost )?(pub )?use (Rattle[\w.]+?)(?:\.\{{([^{{}}]*)\}}| as ({NAME}));?$", re.MULTILINE)

@@ -41,10 +41,10 @@ place_there text bytes index None none is within = let there = has_place text by
 place_there text bytes index (Some at) place is within = place
 
 -- the place of a byte in literals
-pub place_told : (given : GivenFormat) (index at : ℕ) (found : Option ℕ) → given.notation ≡ Literals
+pub place_in_literals : (given : GivenFormat) (index at : ℕ) (found : Option ℕ) → given.notation ≡ Literals
     → MatchOption found (HasNoPlace given.text.now index) (IsPlaceOf given.text.now index) → at ≡ unwrap_or found index
     → (bytes : Text) → IsFormat given bytes → index ≤ length bytes → IsPlaceInText given.notation given.text.now index at
-place_told given index at found is place e bytes gives within =
+place_in_literals given index at found is place e bytes gives within =
     let text = given.text.now in
     let there = place_there text bytes index found place (subst (λ n. GivesBytes n text bytes) is gives) within in
     subst (λ n. IsPlaceInText n text index at) (sym is) (subst (IsPlaceOf text index) (sym e) there)
@@ -64,11 +64,11 @@ IsOfBytes bytes Memory = ⊤
 -- why the bytes of a format have no answer, at the place in the text
 pub given_fault : (IsFault : Text → Fault → Type 0) (given : GivenFormat) (bytes : Text) (fault reported : Fault) → ((f : Fault) → IsFault bytes f → IsOfBytes bytes f)
     → IsFormat given bytes → IsFault bytes fault → IsFaultInText given fault reported → IsGivenFault IsFault given reported
-given_fault IsFault given bytes (Refused None refusal) reported of gives h (at, is, tells) =
-    subst (IsGivenFault IsFault given) (sym is) (record { bytes = bytes; gives = gives; at = refusal.at; holds = h; place_is = tells bytes gives (of (Refused None refusal) h) })
+given_fault IsFault given bytes (Refused None refusal) reported of gives h (at, is, of_place) =
+    subst (IsGivenFault IsFault given) (sym is) (record { bytes = bytes; gives = gives; at = refusal.at; holds = h; place_is = of_place bytes gives (of (Refused None refusal) h) })
 given_fault IsFault given bytes (Refused (Some side) refusal) reported of gives h is = absurd (of (Refused (Some side) refusal) h)
-given_fault IsFault given bytes (RefusedWhole None refusal) reported of gives h (at, is, tells) =
-    subst (IsGivenFault IsFault given) (sym is) (record { bytes = bytes; gives = gives; at = refusal.at; holds = h; place_is = tells bytes gives (of (RefusedWhole None refusal) h) })
+given_fault IsFault given bytes (RefusedWhole None refusal) reported of gives h (at, is, of_place) =
+    subst (IsGivenFault IsFault given) (sym is) (record { bytes = bytes; gives = gives; at = refusal.at; holds = h; place_is = of_place bytes gives (of (RefusedWhole None refusal) h) })
 given_fault IsFault given bytes (RefusedWhole (Some side) refusal) reported of gives h is = absurd (of (RefusedWhole (Some side) refusal) h)
 given_fault IsFault given bytes (BadLiteral side refusal) reported of gives h is = absurd (of (BadLiteral side refusal) h)
 given_fault IsFault given bytes (BadWord index) reported of gives h is = subst (IsGivenFault IsFault given) (sym is) (bytes, gives, h)
@@ -110,10 +110,10 @@ module _ (first second : GivenFormat) (one other : Text) (g : IsFormat first one
   -- why two formats of the profile have no answer, at the place in the text
   pub pair_fault : (fault reported : Fault) → IsPairFault one other fault → IsFaultInTexts first second (side_of fault) fault reported → IsGivenPairFault IsFormatFault IsAccepted first second reported
   pair_fault (Refused None refusal) reported hinders is = absurd hinders
-  pair_fault (Refused (Some sides.First) refusal) reported hinders (at, is, tells) =
-      subst (IsGivenPairFault IsFormatFault IsAccepted first second) (sym is) (record { bytes = one; gives = g; at = refusal.at; holds = hinders; place_is = tells one g (refused_within one refusal.kind refusal.at hinders) })
-  pair_fault (Refused (Some sides.Second) refusal) reported hinders (at, is, tells) =
-      subst (IsGivenPairFault IsFormatFault IsAccepted first second) (sym is) ((one, g, hinders.0), record { bytes = other; gives = h; at = refusal.at; holds = hinders.1; place_is = tells other h (refused_within other refusal.kind refusal.at hinders.1) })
+  pair_fault (Refused (Some sides.First) refusal) reported hinders (at, is, of_place) =
+      subst (IsGivenPairFault IsFormatFault IsAccepted first second) (sym is) (record { bytes = one; gives = g; at = refusal.at; holds = hinders; place_is = of_place one g (refused_within one refusal.kind refusal.at hinders) })
+  pair_fault (Refused (Some sides.Second) refusal) reported hinders (at, is, of_place) =
+      subst (IsGivenPairFault IsFormatFault IsAccepted first second) (sym is) ((one, g, hinders.0), record { bytes = other; gives = h; at = refusal.at; holds = hinders.1; place_is = of_place other h (refused_within other refusal.kind refusal.at hinders.1) })
   pair_fault (RefusedWhole side refusal) reported hinders is = absurd hinders
   pair_fault (BadLiteral side refusal) reported hinders is = absurd hinders
   pair_fault (BadWord index) reported hinders is = absurd hinders
@@ -125,10 +125,10 @@ module _ (first second : GivenFormat) (one other : Text) (g : IsFormat first one
   pub fit_fault : (model : Model) (fault reported : Fault) → IsFitFault model one other fault → IsFaultInTexts first second (side_of fault) fault reported
       → IsGivenPairFault (IsWholeFault model) (IsPosixAccepted model) first second reported
   fit_fault model (RefusedWhole None refusal) reported hinders is = absurd hinders
-  fit_fault model (RefusedWhole (Some sides.First) refusal) reported hinders (at, is, tells) =
-      subst (IsGivenPairFault (IsWholeFault model) (IsPosixAccepted model) first second) (sym is) (record { bytes = one; gives = g; at = refusal.at; holds = hinders; place_is = tells one g (whole_within model one refusal.kind refusal.at hinders) })
-  fit_fault model (RefusedWhole (Some sides.Second) refusal) reported hinders (at, is, tells) =
-      subst (IsGivenPairFault (IsWholeFault model) (IsPosixAccepted model) first second) (sym is) ((one, g, hinders.0), record { bytes = other; gives = h; at = refusal.at; holds = hinders.1; place_is = tells other h (whole_within model other refusal.kind refusal.at hinders.1) })
+  fit_fault model (RefusedWhole (Some sides.First) refusal) reported hinders (at, is, of_place) =
+      subst (IsGivenPairFault (IsWholeFault model) (IsPosixAccepted model) first second) (sym is) (record { bytes = one; gives = g; at = refusal.at; holds = hinders; place_is = of_place one g (whole_within model one refusal.kind refusal.at hinders) })
+  fit_fault model (RefusedWhole (Some sides.Second) refusal) reported hinders (at, is, of_place) =
+      subst (IsGivenPairFault (IsWholeFault model) (IsPosixAccepted model) first second) (sym is) ((one, g, hinders.0), record { bytes = other; gives = h; at = refusal.at; holds = hinders.1; place_is = of_place other h (whole_within model other refusal.kind refusal.at hinders.1) })
   fit_fault model (Refused side refusal) reported hinders is = absurd hinders
   fit_fault model (BadLiteral side refusal) reported hinders is = absurd hinders
   fit_fault model (BadWord index) reported hinders is = absurd hinders

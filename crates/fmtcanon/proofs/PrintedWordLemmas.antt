@@ -84,18 +84,18 @@ short_of false B16 n h = short_unsigned n (2 ^ 16) (omega arith) h
 short_of false B32 n h = short_unsigned n (2 ^ 32) (omega arith) h
 short_of false B64 n h = short_unsigned n (2 ^ 64) (omega arith) h
 
-pub told_is_read : (model : Model) → PrintedWordIsRead model
-told_is_read model (Number n) Int h = number_spells n (short_of true (type_bits model Int) n h)
-told_is_read model (Number n) UInt h = number_spells n (short_of false (type_bits model UInt) n h)
-told_is_read model (Number n) Long h = number_spells n (short_of true (type_bits model Long) n h)
-told_is_read model (Number n) ULong h = number_spells n (short_of false (type_bits model ULong) n h)
-told_is_read model (Number n) LongLong h = number_spells n (short_of true (type_bits model LongLong) n h)
-told_is_read model (Number n) ULongLong h = number_spells n (short_of false (type_bits model ULongLong) n h)
-told_is_read model (Number n) Str h = absurd h
-told_is_read model (String bytes) Str h = (h, refl)
-told_is_read model (String bytes) Int h = absurd h
-told_is_read model (String bytes) UInt h = absurd h
-told_is_read model (String bytes) Long h = absurd h
-told_is_read model (String bytes) ULong h = absurd h
-told_is_read model (String bytes) LongLong h = absurd h
-told_is_read model (String bytes) ULongLong h = absurd h
+pub word_is_read : (model : Model) → PrintedWordIsRead model
+word_is_read model (Number n) Int h = number_spells n (short_of true (type_bits model Int) n h)
+word_is_read model (Number n) UInt h = number_spells n (short_of false (type_bits model UInt) n h)
+word_is_read model (Number n) Long h = number_spells n (short_of true (type_bits model Long) n h)
+word_is_read model (Number n) ULong h = number_spells n (short_of false (type_bits model ULong) n h)
+word_is_read model (Number n) LongLong h = number_spells n (short_of true (type_bits model LongLong) n h)
+word_is_read model (Number n) ULongLong h = number_spells n (short_of false (type_bits model ULongLong) n h)
+word_is_read model (Number n) Str h = absurd h
+word_is_read model (String bytes) Str h = (h, refl)
+word_is_read model (String bytes) Int h = absurd h
+word_is_read model (String bytes) UInt h = absurd h
+word_is_read model (String bytes) Long h = absurd h
+word_is_read model (String bytes) ULong h = absurd h
+word_is_read model (String bytes) LongLong h = absurd h
+word_is_read model (String bytes) ULongLong h = absurd h

@@ -25,7 +25,7 @@ use Rattle.fmtcanon.specs.Lines.{line}
 use Rattle.fmtcanon.specs.Shows.{HasShownLines}
 use Rattle.fmtcanon.specs.TypeLines.{HasTypeLines}
 
--- the canonical string of an accepted format, in a notation, and a newline
+-- the canonical text of an accepted format, in a notation, and a newline
 abbrev pub HasCanonicalLine : Notation → Model → Text → Text → Type 0
 HasCanonicalLine notation model format out =
     (canonical : Text) × IsCanonicalFor model format canonical

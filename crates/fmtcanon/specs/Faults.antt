@@ -4,8 +4,8 @@ use Rattle.pf_literals.specs.declared.faults.LiteralFault.{LiteralFault}
 use Rattle.pf_literals.specs.declared.faults.LiteralFault.TheVariants as literal
 use Rattle.pf_signatures.specs.declared.refusals.SignatureFault.{SignatureFault}
 use Rattle.pf_signatures.specs.declared.refusals.SignatureFault.TheVariants as signature
-use Rattle.pf_text.specs.declared.faults.TextFault.{TextFault}
-use Rattle.pf_text.specs.declared.faults.TextFault.TheVariants as text
+use Rattle.pf_text.specs.declared.refusal.TextFault.{TextFault}
+use Rattle.pf_text.specs.declared.refusal.TextFault.TheVariants as text
 use Rattle.pf_canon.specs.declared.faults.Side.{Side}
 use Rattle.pf_canon.specs.declared.faults.CanonFault.{CanonFault}
 use Rattle.pf_canon.specs.declared.faults.CanonFault.TheVariants as canonical
@@ -19,7 +19,7 @@ abbrev pub of_text : TextFault → Fault
 of_text (text.Refused refusal) = Refused None refusal
 of_text text.Memory = Memory
 
--- a fault of making the canonical string of one
+-- a fault of making the canonical text of one
 abbrev pub of_canonical : CanonFault → Fault
 of_canonical (canonical.Refused refusal) = Refused None refusal
 of_canonical canonical.Memory = Memory

@@ -1,4 +1,4 @@
--- What a run leaves that copies the canonical string of its reader. This project's own.
+-- What a run leaves that copies the canonical text of its reader. This project's own.
 use Rattle.std.specs.Prelude.{◌≡◌, ℕ, None, Some, true, ◌⊎◌}
 use Rattle.pf_values.specs.declared.counting.Counted.{Counted}
 use Rattle.pf_values.specs.declared.models.Model.{Model}
@@ -11,7 +11,7 @@ use Rattle.fmtcanon.specs.declared.outcome.Outcome.TheVariants.{Done, Same, Diff
 
 module _ (model : Model) {R W : Type 0} (remaining : R → Known) (contents : W → Known)
     (reader left : Counted R) (old new : Counted W) where
-  -- the whole canonical string of what was taken up to the end went out
+  -- the whole canonical text of what was taken up to the end went out
   abbrev pub AllCopied : ℕ → Type 0
   AllCopied count = CopiesAll model
       (remaining (device_of reader)) (remaining (device_of left))

@@ -346,7 +346,7 @@ fn print_format(
     }
 }
 
-// The canonical string of a format in a notation, and a newline.
+// The canonical text of a format in a notation, and a newline.
 fn canonical_line(
     alloc: Global,
     notation: Notation,

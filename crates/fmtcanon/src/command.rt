@@ -62,7 +62,7 @@ fn definition_with<'a>(
         },
         Row {
             name: "canon",
-            about: "Writes the canonical string of a format, which all formats of its meaning share",
+            about: "Writes the canonical text of a format, which all formats of its meaning share",
             below: CANON_HELP,
             arguments: Arguments::Records,
             models: one,
@@ -97,7 +97,7 @@ fn definition_with<'a>(
         },
         Row {
             name: "stream",
-            about: "Writes the canonical string of standard input",
+            about: "Writes the canonical text of standard input",
             below: STREAM_HELP,
             arguments: Arguments::Nothing,
             models: one,

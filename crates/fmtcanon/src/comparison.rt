@@ -8,7 +8,7 @@ ghost use Rattle.fmtcanon.specs.Lines.{line};
 use crate::answer::{Answer, Ending};
 use crate::models::{Models, name_of};
 use crate::outcome::Fault;
-use itoa::Buffer;
+use crate::show_lines::push_decimal;
 use pf_canon::Side;
 use pf_compare::{OwnedArg, Verdict, compare};
 use pf_signatures::{FitsRefusal, fits};
@@ -168,9 +168,8 @@ fn types_line(alloc: Global, index: u64) -> Result<Vec<u8>, AllocError>
     ensures { IfOk result
         (λ out. out.items ≡ line (codes "types differ at argument " ++ decimal index)) }
 {
-    let mut digits = Buffer::new();
     let mut out = Vec::from_slice(alloc, b"types differ at argument ")?;
-    out.extend_from_slice(digits.format(index).as_bytes())?;
+    push_decimal(&mut out, index)?;
     out.push(b'\n')?;
     Ok(out)
 }

@@ -258,10 +258,10 @@ pub type Line = ArrayString<96>;
 pub fn report<E: Write>(outcome: &Outcome, errors: &mut Counted<E>)
     ensures { WritesReport E.contents errors.old errors.new (report_text outcome.now) }
 {
-    let _ = tell(outcome, errors);
+    let _ = write_report(outcome, errors);
 }
 
-fn tell<E: Write>(outcome: &Outcome, errors: &mut Counted<E>) -> Result<(), ShortWrite>
+fn write_report<E: Write>(outcome: &Outcome, errors: &mut Counted<E>) -> Result<(), ShortWrite>
     ensures { Writes E.contents errors.old errors.new (report_text outcome.now) result }
 {
     match outcome {

@@ -60,7 +60,7 @@ fn write_answer<W: Write>(answer: &Answer, writer: &mut Counted<W>) -> Outcome
     }
 }
 
-/// Copies the canonical string of what the reader hands out in a data model. What was written is
+/// Copies the canonical text of what the reader hands out in a data model. What was written is
 /// flushed at the end, at a refusal and where a read fails; these two are reported even where that
 /// flush fails.
 pub fn copy<R: Read, W: Write>(

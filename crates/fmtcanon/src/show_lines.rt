@@ -58,7 +58,7 @@ fn push_run(out: &mut Vec<u8>, len: usize) -> Result<(), AllocError>
         (λ _. out.new.items ≡ out.old.items ++ line (codes "text " ++ decimal len)) }
 {
     out.extend_from_slice(b"text ")?;
-    push_number(out, len as u64)?;
+    push_decimal(out, len as u64)?;
     out.push(b'\n')?;
     Ok(())
 }
@@ -100,7 +100,7 @@ fn push_reduced(out: &mut Vec<u8>, reduced: Reduced) -> Result<(), AllocError>
     push_padding(out, spaces, zeros)?;
     push_core(out, core)?;
     out.push(b' ')?;
-    push_number(out, u64::from(trail))
+    push_decimal(out, u64::from(trail))
 }
 
 // The padding before a core.
@@ -109,9 +109,9 @@ fn push_padding(out: &mut Vec<u8>, spaces: u16, zeros: u16) -> Result<(), AllocE
         out.new.items
         ≡ out.old.items ++ (decimal spaces ++ codes " " ++ decimal zeros ++ codes " ")) }
 {
-    push_number(out, u64::from(spaces))?;
+    push_decimal(out, u64::from(spaces))?;
     out.push(b' ')?;
-    push_number(out, u64::from(zeros))?;
+    push_decimal(out, u64::from(zeros))?;
     out.push(b' ')?;
     Ok(())
 }
@@ -125,8 +125,8 @@ fn push_core(out: &mut Vec<u8>, core: Core) -> Result<(), AllocError>
     }
 }
 
-// The decimal digits of a number.
-fn push_number(out: &mut Vec<u8>, number: u64) -> Result<(), AllocError>
+/// Puts the decimal digits of a number after what `out` has.
+pub(crate) fn push_decimal(out: &mut Vec<u8>, number: u64) -> Result<(), AllocError>
     ensures { IfOk result (λ _. out.new.items ≡ out.old.items ++ decimal number) }
 {
     let mut digits = Buffer::new();

@@ -23,7 +23,7 @@ pub enum Question<'a> {
     Types(Model, GivenFormat<'a>),
     /// The types of the arguments of a format of the whole language.
     Arguments(Model, GivenFormat<'a>),
-    /// The canonical string of a format.
+    /// The canonical text of a format.
     Canon(Model, GivenFormat<'a>),
     /// What a format is made of.
     Show(Model, GivenFormat<'a>),
@@ -64,7 +64,7 @@ pub enum RecordQuestion {
     Types(Notation, Model),
     /// The types of the arguments of each, in the whole language.
     Arguments(Notation, Model),
-    /// The canonical string of each.
+    /// The canonical text of each.
     Canon(Notation, Model),
     /// What each is made of.
     Show(Notation, Model),
@@ -138,7 +138,7 @@ pub enum Task<'a> {
     Answer(Question<'a>),
     /// It answers the same question about each record that the reader hands out, or each two.
     Records(RecordQuestion),
-    /// It copies the canonical string of what the reader hands out, in this data model.
+    /// It copies the canonical text of what the reader hands out, in this data model.
     Stream(Model),
 }
 

@@ -36,16 +36,16 @@ fn report_of(alloc: Global, outcome: &Outcome) -> (u8, Vec<u8>) {
 // Whether a run answers this, or is refused, writes nothing and reports this.
 fn answers(alloc: Global, words: &[&str], want: &str) -> bool {
     let (outcome, written) = ran(alloc, words);
-    let (status, told) = report_of(alloc, &outcome);
+    let (status, reported) = report_of(alloc, &outcome);
     match outcome {
         Outcome::Done | Outcome::Same => {
-            status == 0 && told.is_empty() && written.as_slice() == want.as_bytes()
+            status == 0 && reported.is_empty() && written.as_slice() == want.as_bytes()
         }
         Outcome::Different => {
-            status == 1 && told.is_empty() && written.as_slice() == want.as_bytes()
+            status == 1 && reported.is_empty() && written.as_slice() == want.as_bytes()
         }
         Outcome::Refused { .. } => {
-            status == 2 && written.is_empty() && told.as_slice() == want.as_bytes()
+            status == 2 && written.is_empty() && reported.as_slice() == want.as_bytes()
         }
         _ => false,
     }
@@ -87,8 +87,8 @@ fn a_word_has_no_zero_byte(rt: HostRuntime) {
 
 // Whether an outcome has this status, and this is reported of it.
 fn is_reported(alloc: Global, outcome: Outcome, status: u8, line: &str) -> bool {
-    let (answered, told) = report_of(alloc, &outcome);
-    answered == status && told.as_slice() == line.as_bytes()
+    let (answered, reported) = report_of(alloc, &outcome);
+    answered == status && reported.as_slice() == line.as_bytes()
 }
 
 // What has a number in its line.
@@ -211,8 +211,8 @@ fn is_cut(alloc: Global, words: &[&str], want: &[u8]) -> bool {
         let mut writer = Counted::new(&mut place[..room]);
         let outcome = run(alloc, words, &mut reader, &mut writer);
         let failures = writer.failures();
-        let is_told = matches!(outcome, Outcome::Write(n) if n == room as u128);
-        if !is_told || failures != 1 || place[..room] != want[..room] {
+        let is_reported = matches!(outcome, Outcome::Write(n) if n == room as u128);
+        if !is_reported || failures != 1 || place[..room] != want[..room] {
             return false;
         }
     }

@@ -137,12 +137,12 @@ pub extern "C" fn fmtcanon_fits(model: i32, first: &[u8], second: &[u8], error: 
         result (error.new ≡ error.old) }
 {
     match model_of(model) {
-        Some(model) => tell_fit(model, first, second, error),
+        Some(model) => fits_in(model, first, second, error),
         None => NO_MODEL,
     }
 }
 
-fn tell_fit(model: Model, first: &[u8], second: &[u8], error: &mut CError) -> i64
+fn fits_in(model: Model, first: &[u8], second: &[u8], error: &mut CError) -> i64
     ensures { AnswersFit model first.now second.now error.old result error.new }
 {
     match fits(model, first, second) {

@@ -27,12 +27,12 @@ pub extern "C" fn fmtcanon_is_canonical(model: i32, text: &[u8], error: &mut CEr
         result (error.new ≡ error.old) }
 {
     match model_of(model) {
-        Some(model) => tell_canonical(model, text, error),
+        Some(model) => is_canonical_in(model, text, error),
         None => NO_MODEL,
     }
 }
 
-fn tell_canonical(model: Model, text: &[u8], error: &mut CError) -> i64
+fn is_canonical_in(model: Model, text: &[u8], error: &mut CError) -> i64
     ensures { AnswersCanonical model text.now error.old result error.new }
 {
     match is_canonical(model, text) {
@@ -89,12 +89,12 @@ pub extern "C" fn fmtcanon_canonical_length(model: i32, text: &[u8], error: &mut
         result (error.new ≡ error.old) }
 {
     match model_of(model) {
-        Some(model) => tell_length(model, text, error),
+        Some(model) => canonical_length_in(model, text, error),
         None => NO_MODEL,
     }
 }
 
-fn tell_length(model: Model, text: &[u8], error: &mut CError) -> i64
+fn canonical_length_in(model: Model, text: &[u8], error: &mut CError) -> i64
     ensures { AnswersLength model text.now error.old result error.new }
 {
     match canonical_len(model, text) {

@@ -22,12 +22,12 @@ pub extern "C" fn fmtcanon_same(model: i32, first: &[u8], second: &[u8], error: 
         result (error.new ≡ error.old) }
 {
     match model_of(model) {
-        Some(model) => tell_same(model, first, second, error),
+        Some(model) => same_in(model, first, second, error),
         None => NO_MODEL,
     }
 }
 
-fn tell_same(model: Model, first: &[u8], second: &[u8], error: &mut CError) -> i64
+fn same_in(model: Model, first: &[u8], second: &[u8], error: &mut CError) -> i64
     ensures { AnswersSame model first.now second.now error.old result error.new }
 {
     match same_text(model, first, second) {

@@ -5,7 +5,7 @@ ghost use Rattle.pf_values.specs.meaning.Items.{types};
 ghost use Rattle.pf_text.specs.PieceHistory.{items_of};
 ghost use Rattle.pf_text.specs.Signatures.{TakesTypes, HindersSignature, types_of};
 
-use crate::faults::TextFault;
+use crate::refusal::TextFault;
 use crate::pieces::{Piece, Pieces};
 use crate::signatures::Signature;
 use pf_values::{ArgType, Model};

@@ -3,8 +3,6 @@
 #![tactic(auto)]
 
 mod argument_types;
-mod checking;
-mod faults;
 pub mod laws;
 mod letters;
 mod pieces;
@@ -20,10 +18,8 @@ mod state;
 mod tests;
 
 pub use argument_types::signature;
-pub use checking::check;
-pub use faults::TextFault;
-pub use pieces::{Piece, Pieces};
-pub use refusal::Refusal;
+pub use pieces::{Piece, Pieces, check};
+pub use refusal::{Refusal, TextFault};
 pub use scanner::{Scanner, Step};
 pub use search::literal_len;
 pub use signatures::Signature;

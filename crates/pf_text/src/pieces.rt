@@ -1,6 +1,8 @@
-//! The pieces of a format in memory: runs of literal bytes, `%%`, and directives.
-ghost use Rattle.std.specs.Prelude.{◌≡◌, ◌<◌, ◌≤◌, List, [], length, IsFalse, MatchOption, ⊤};
-ghost use Rattle.pf_values.specs.meaning.Items.{Item};
+//! The pieces of a format in memory: runs of literal bytes, `%%`, and directives; and whether a
+//! text is a format.
+ghost use Rattle.std.specs.Prelude.{◌≡◌, ◌<◌, ◌≤◌, List, [], length, IsFalse, MatchOption, MatchResult, ⊤};
+ghost use Rattle.pf_values.specs.meaning.Items.{IsAccepted, Item};
+ghost use Rattle.pf_values.specs.meaning.Refusals.{IsRefusedAt};
 ghost use Rattle.pf_values.specs.meaning.Text.{Text};
 ghost use Rattle.pf_text.specs.History.{EndsRun};
 
@@ -152,4 +154,18 @@ impl<'a> Iterator for Pieces<'a> {
             Err(refusal) => Some(Err(refusal)),
         }
     }
+}
+
+/// Whether the text is accepted, or where and why it is refused.
+pub fn check(text: &[u8]) -> Result<(), Refusal>
+    ensures { MatchResult result (λ _. IsAccepted text.now)
+        (λ refusal. IsRefusedAt text.now refusal.kind refusal.at) }
+{
+    for piece in Pieces::new(text) {
+        match piece {
+            Ok(_) => {}
+            Err(refusal) => return Err(refusal),
+        }
+    }
+    Ok(())
 }

@@ -12,7 +12,7 @@ use crate::search::literal_len;
 use crate::specification::{conv_at, modifier_at};
 use pf_values::{Conv, Length};
 
-/// How many bytes of the text come before the first item that isn't plain. Plain items are literal
+/// How many bytes of the text come before the first item that isn't plain. These are literal
 /// bytes, `%%`, and of the directives those that are normal in each data model and have a conversion
 /// alone, or a number's with `#` or a length modifier. It makes no directive, sees no scanner, and
 /// is never inlined, as `literal_len`.

@@ -1,4 +1,4 @@
-//! Where and why a text is refused.
+//! Where and why a text is refused, and why one has no signature.
 
 use pf_values::RefusalKind;
 use thiserror::Error;
@@ -11,4 +11,15 @@ pub struct Refusal {
     pub kind: RefusalKind,
     /// Where it is refused.
     pub at: u64,
+}
+
+/// Why a text has no signature.
+#[derive(Clone, Copy, Debug, PartialEq, Eq, Error)]
+pub enum TextFault {
+    /// The text is refused.
+    #[error("{0}")]
+    Refused(Refusal),
+    /// Memory was refused.
+    #[error("out of memory")]
+    Memory,
 }

@@ -43,7 +43,7 @@ pub fn shows_difference(alloc: Global, model: Model, old: &[u8], new: &[u8], num
     ensures { IsTrue result → TellApart model old.now new.now (args.Int number ∷ []) }
 {
     match confirms(alloc, model, old, new, &[Arg::Int(number)]) {
-        Ok(told) => told,
+        Ok(differ) => differ,
         Err(_) => false,
     }
 }

@@ -86,7 +86,7 @@ fn an_answer_is_flushed_once_after_its_bytes(rt: HostRuntime) {
 }
 
 #[test]
-fn a_flush_that_fails_is_told_after_all_bytes(rt: HostRuntime) {
+fn a_flush_that_fails_is_reported_after_all_bytes(rt: HostRuntime) {
     for at in 0..8 {
         let Some((words, len)) = answer_of(rt.alloc(), at) else {
             assert!(rt; false);

@@ -62,7 +62,7 @@ fn render_vec_seen(alloc: Global) -> Seen {
 
 fn confirms_seen(alloc: Global) -> Seen {
     match confirms(alloc, Model::Ilp32, b"%05d", b"%.5d", &[Arg::Int(-1)]) {
-        Ok(told) => answer_of(told),
+        Ok(differ) => answer_of(differ),
         Err(AllocError) => Seen::Memory,
     }
 }

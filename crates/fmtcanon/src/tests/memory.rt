@@ -13,7 +13,7 @@ use std::alloc::{AllocError, Global};
 
 // The answer about two formats.
 #[derive(Clone, Copy, Debug, PartialEq, Eq)]
-enum Told {
+enum Seen {
     Same,
     Types(u64),
     Args,
@@ -23,38 +23,38 @@ enum Told {
     Memory,
 }
 
-fn answer_about(alloc: Global, f: &str, g: &str) -> Told {
+fn answer_about(alloc: Global, f: &str, g: &str) -> Seen {
     match compare(alloc, Model::Lp64, f.as_bytes(), g.as_bytes()) {
         Ok(comparison) => match comparison.verdict {
-            Verdict::Same => Told::Same,
-            Verdict::Types(index) => Told::Types(index),
-            Verdict::Args(_) => Told::Args,
+            Verdict::Same => Seen::Same,
+            Verdict::Types(index) => Seen::Types(index),
+            Verdict::Args(_) => Seen::Args,
         },
         Err(CompareFault::Refused(side, refusal)) => match side {
-            Side::First => Told::First(refusal.kind.number(), refusal.at),
-            Side::Second => Told::Second(refusal.kind.number(), refusal.at),
+            Side::First => Seen::First(refusal.kind.number(), refusal.at),
+            Side::Second => Seen::Second(refusal.kind.number(), refusal.at),
         },
-        Err(CompareFault::Memory) => Told::Memory,
+        Err(CompareFault::Memory) => Seen::Memory,
     }
 }
 
 #[rattlefmt::skip]
-static COMPARISONS: [(&str, &str, Told); 10] = [
-    ("%zd", "%ld", Told::Same),
-    ("%5c", "    %c", Told::Same),
-    ("", "", Told::Same),
-    ("%d", "%u", Told::Types(0)),
-    ("%d%d", "%d%ld", Told::Types(1)),
-    ("%s%4095c", "%s", Told::Types(1)),
-    ("%y", "%d", Told::First(3, 1)),
-    ("%y", "%z", Told::First(3, 1)),
-    ("%d", "%l", Told::Second(2, 2)),
-    ("%05d", "%.5d", Told::Memory),
+static COMPARISONS: [(&str, &str, Seen); 10] = [
+    ("%zd", "%ld", Seen::Same),
+    ("%5c", "    %c", Seen::Same),
+    ("", "", Seen::Same),
+    ("%d", "%u", Seen::Types(0)),
+    ("%d%d", "%d%ld", Seen::Types(1)),
+    ("%s%4095c", "%s", Seen::Types(1)),
+    ("%y", "%d", Seen::First(3, 1)),
+    ("%y", "%z", Seen::First(3, 1)),
+    ("%d", "%l", Seen::Second(2, 2)),
+    ("%05d", "%.5d", Seen::Memory),
 ];
 
 #[test]
 fn compare_takes_no_memory_but_for_arguments(rt: HostRuntime) -> Result<(), AllocError> {
-    let mut answers = [Told::Args; 10];
+    let mut answers = [Seen::Args; 10];
     let exhausted = Exhausted::new(rt.alloc())?;
     let refused = is_all_refused(rt.alloc());
     for (at, (f, g, _)) in COMPARISONS.iter().enumerate() {

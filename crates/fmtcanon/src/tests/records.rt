@@ -37,12 +37,12 @@ fn is_cut(alloc: Global, room: usize, step: usize, kind: ErrorKind) -> bool {
     let mut reader = Counted::new(RECORDS);
     let mut writer = Counted::new(Cut::new(within, step.max(1), kind, false));
     let outcome = run(alloc, CANON.as_slice(), &mut reader, &mut writer);
-    let is_told = if room < REPLIES.len() {
+    let is_reported = if room < REPLIES.len() {
         matches!(outcome, Outcome::Write(n) if n == room as u128) && writer.failures() == 1
     } else {
         matches!(outcome, Outcome::Answered(2)) && writer.failures() == 0
     };
-    is_told && Some(writer.into_inner().taken()) == REPLIES.get(..room.min(REPLIES.len()))
+    is_reported && Some(writer.into_inner().taken()) == REPLIES.get(..room.min(REPLIES.len()))
 }
 
 #[test]

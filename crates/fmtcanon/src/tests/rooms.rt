@@ -37,7 +37,7 @@ type Row<'a> = (&'a [&'a str], &'a [u8], &'a [u8]);
 
 // How a run ended: its status and its lines on standard error.
 #[derive(Clone, Copy, Debug, PartialEq, Eq)]
-enum Told {
+enum Ending {
     // so many bytes went out, and one call failed
     Cut(u128),
     // all went out, and no call failed
@@ -47,20 +47,20 @@ enum Told {
     Other,
 }
 
-fn end_of(outcome: &Outcome, failures: u64) -> Told {
+fn end_of(outcome: &Outcome, failures: u64) -> Ending {
     match outcome {
-        Outcome::Write(written) if failures == 1 => Told::Cut(*written),
-        Outcome::Done | Outcome::Same | Outcome::Different if failures == 0 => Told::Whole,
+        Outcome::Write(written) if failures == 1 => Ending::Cut(*written),
+        Outcome::Done | Outcome::Same | Outcome::Different if failures == 0 => Ending::Whole,
         Outcome::Refused {
             side: None,
             refusal,
-        } => Told::Refused(refusal.at, failures),
-        _ => Told::Other,
+        } => Ending::Refused(refusal.at, failures),
+        _ => Ending::Other,
     }
 }
 
 // How a run over a device ended, where exactly the front went out that has room there.
-fn run_over(alloc: Global, row: Row<'_>, device: Narrow) -> Option<Told> {
+fn run_over(alloc: Global, row: Row<'_>, device: Narrow) -> Option<Ending> {
     let mut place = [0u8; PLACE];
     let room = place.get_mut(..device.room)?;
     let mut reader = Counted::new(row.1);
@@ -87,7 +87,7 @@ fn is_cut(alloc: Global, row: Row<'_>, step: usize, kind: ErrorKind) -> bool {
             kind,
             flush_fails: true,
         };
-        if run_over(alloc, row, device) != Some(Told::Cut(room as u128)) {
+        if run_over(alloc, row, device) != Some(Ending::Cut(room as u128)) {
             return false;
         }
     }
@@ -95,7 +95,7 @@ fn is_cut(alloc: Global, row: Row<'_>, step: usize, kind: ErrorKind) -> bool {
 }
 
 // How a run ends where there is just the room for all.
-fn told_at_end(alloc: Global, row: Row<'_>, step: usize, flush_fails: bool) -> Option<Told> {
+fn ending_of(alloc: Global, row: Row<'_>, step: usize, flush_fails: bool) -> Option<Ending> {
     let device = Narrow {
         room: row.2.len(),
         step,
@@ -108,8 +108,8 @@ fn told_at_end(alloc: Global, row: Row<'_>, step: usize, flush_fails: bool) -> O
 // Whether all goes out where there is just the room for it, and a failing flush is reported then.
 fn is_whole(alloc: Global, row: Row<'_>, step: usize) -> bool {
     let len = row.2.len() as u128;
-    told_at_end(alloc, row, step, false) == Some(Told::Whole)
-        && told_at_end(alloc, row, step, true) == Some(Told::Cut(len))
+    ending_of(alloc, row, step, false) == Some(Ending::Whole)
+        && ending_of(alloc, row, step, true) == Some(Ending::Cut(len))
 }
 
 // Whether an answer is cut in each room that is too small, however the device fails, and else is whole.
@@ -189,25 +189,25 @@ fn each_room_before_a_refusal(rt: HostRuntime) {
             for kind in KINDS {
                 assert!(rt; is_cut(alloc, row, step, kind), "{at} {step} {kind:?}");
             }
-            let flushed = told_at_end(alloc, row, step, false);
-            assert!(rt; flushed == Some(Told::Refused(at, 0)), "{at} {step}");
-            let failed = told_at_end(alloc, row, step, true);
-            assert!(rt; failed == Some(Told::Refused(at, 1)), "{at} {step}");
+            let flushed = ending_of(alloc, row, step, false);
+            assert!(rt; flushed == Some(Ending::Refused(at, 0)), "{at} {step}");
+            let failed = ending_of(alloc, row, step, true);
+            assert!(rt; failed == Some(Ending::Refused(at, 1)), "{at} {step}");
         }
     }
 }
 
-// The canonical string of `%4095d`, and a string for which `%s` and the longest precision differ.
+// The canonical text of `%4095d`, and a string for which `%s` and the longest precision differ.
 #[test]
 fn each_room_for_long_answers(rt: HostRuntime) -> Result<(), AllocError> {
     let mut padded = repeat(rt.alloc(), " ", 4_084)?;
     padded.push_str("%11d")?;
     let row = (STREAM.as_slice(), b"%4095d".as_slice(), padded.as_bytes());
-    let mut told = String::from_str(rt.alloc(), "different\ns:")?;
-    told.push_str(&repeat(rt.alloc(), "A", 4_096)?)?;
-    told.push('\n')?;
+    let mut answer = String::from_str(rt.alloc(), "different\ns:")?;
+    answer.push_str(&repeat(rt.alloc(), "A", 4_096)?)?;
+    answer.push('\n')?;
     let words = ["same", "%s", "%.4095s"];
-    let other = (words.as_slice(), b"".as_slice(), told.as_bytes());
+    let other = (words.as_slice(), b"".as_slice(), answer.as_bytes());
     for step in STEPS {
         assert!(rt;
             is_cut(rt.alloc(), row, step, ErrorKind::Interrupted),

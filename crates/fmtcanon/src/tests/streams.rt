@@ -91,8 +91,8 @@ fn stream_keeps_no_padding(rt: HostRuntime) {
 fn is_read_fault(alloc: Global, bytes: &[u8], fail_at: u64, want: &[u8]) -> bool {
     for step in STEPS {
         let (outcome, written) = stream_over(alloc, bytes, step, Some(fail_at));
-        let is_told = matches!(outcome, Outcome::Read) && outcome.status() == 4;
-        if !is_told || written.as_slice() != want {
+        let is_reported = matches!(outcome, Outcome::Read) && outcome.status() == 4;
+        if !is_reported || written.as_slice() != want {
             return false;
         }
     }
@@ -110,7 +110,7 @@ static SETTLED: [(u64, &[u8]); 6] = [
 ];
 
 #[test]
-fn a_read_that_fails_is_told_after_what_is_settled(rt: HostRuntime) {
+fn a_read_that_fails_is_reported_after_what_is_settled(rt: HostRuntime) {
     for (fail_at, want) in &SETTLED {
         assert!(rt;
             is_read_fault(rt.alloc(), b"a%.0sb%5d", *fail_at, want),
@@ -128,12 +128,12 @@ fn is_cut(alloc: Global, want: &[u8], step: usize, room: usize) -> bool {
     let mut reader = Counted::new(feed(b"a%.0sb%5d", step, None));
     let mut writer = Counted::new(part);
     let outcome = run(alloc, ["stream"].as_slice(), &mut reader, &mut writer);
-    let is_told = matches!(outcome, Outcome::Write(n) if n == room as u128);
-    is_told && writer.failures() == 1 && place.get(..room) == Some(front)
+    let is_reported = matches!(outcome, Outcome::Write(n) if n == room as u128);
+    is_reported && writer.failures() == 1 && place.get(..room) == Some(front)
 }
 
 #[test]
-fn a_write_that_fails_is_told_with_what_went_out(rt: HostRuntime) {
+fn a_write_that_fails_is_reported_with_what_went_out(rt: HostRuntime) {
     let want = b"ab%.0s%5d";
     for step in STEPS {
         for room in 0..want.len() {
@@ -163,12 +163,12 @@ fn calls_of(writer: &Watched) -> (usize, u32, usize) {
 // Whether a text ends so, and its bytes went out before one flush.
 fn is_done_once(alloc: Global, fails: bool) -> bool {
     let (outcome, writer) = watch_stream(alloc, b"ab%5d", None, fails);
-    let is_told = if fails {
+    let is_reported = if fails {
         matches!(outcome, Outcome::Write(5))
     } else {
         matches!(outcome, Outcome::Done)
     };
-    is_told && calls_of(&writer) == (5, 1, 5)
+    is_reported && calls_of(&writer) == (5, 1, 5)
 }
 
 // A refusal and a read that fails are reported even where the flush fails.

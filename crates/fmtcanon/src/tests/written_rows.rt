@@ -168,7 +168,7 @@ pub(super) static UNFINISHED: [(&[u8], &[u8], u64); 6] = [
     (b"%y", b"", 1),
 ];
 
-/// A directive and its canonical string.
+/// A directive and its canonical text.
 #[rattlefmt::skip]
 pub(super) static DIRECTIVES: [(&[u8], &[u8]); 29] = [
     (b"%i", b"%d"),

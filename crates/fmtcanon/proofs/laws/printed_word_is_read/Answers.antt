@@ -1,5 +1,5 @@
-use Rattle.fmtcanon.proofs.PrintedWordLemmas.{told_is_read}
+use Rattle.fmtcanon.proofs.PrintedWordLemmas.{word_is_read}
 use Rattle.fmtcanon.proofs.laws.printed_word_is_read.Goals as goal
 
 pub returns : goal.returns
-returns c = told_is_read
+returns c = word_is_read

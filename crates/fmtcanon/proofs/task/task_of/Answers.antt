@@ -31,10 +31,10 @@ parsed : (app : App) (words : List Text) (m : ArgMatches) → IsCommand app → 
 parsed app words m is matches no_fault = (no_fault (free_command app is), (matches (simple_command app is)).1)
 
 -- a name and rows that equations give are of one subcommand
-joined : {X : Type 0} (o : Option X) (told : X → Text × List Row) (name : Text) (rows : List Row) → Some name ≡ option_map (λ x. (told x).0) o
-    → Some rows ≡ option_map (λ (p : Text × List Row). p.1) (option_map told o) → option_map told o ≡ Some (name, rows)
-joined None told name rows e h = absurd (cc)
-joined (Some x) told name rows e h = ap₂ (λ n r. Some (n, r)) (ap (λ o. unwrap_or o name) (sym e)) (ap (λ o. unwrap_or o rows) (sym h))
+joined : {X : Type 0} (o : Option X) (named : X → Text × List Row) (name : Text) (rows : List Row) → Some name ≡ option_map (λ x. (named x).0) o
+    → Some rows ≡ option_map (λ (p : Text × List Row). p.1) (option_map named o) → option_map named o ≡ Some (name, rows)
+joined None named name rows e h = absurd (cc)
+joined (Some x) named name rows e h = ap₂ (λ n r. Some (n, r)) (ap (λ o. unwrap_or o name) (sym e)) (ap (λ o. unwrap_or o rows) (sym h))
 
 -- the words name the subcommand that the code finds
 named : (app : App) (words : List Text) (m : ArgMatches) (name : Text) (inner : ArgMatches)

@@ -7,5 +7,5 @@ use Rattle.fmtcanon_c.proofs.argument_types.fmtcanon_fits.Goals as goal
 pub returns-in-Some : goal.returns-in-Some
 returns-in-Some c =
     let number : c.args.model ≡ to_z w32 (of_z w32 c.args.model) = omega (arith, ints) in
-    let code : to_z w64 (of_z w64 c.tell_fit.result) ≡ c.tell_fit.result = omega (arith, ints) in
-    rw code (inl (c.in-Some.model, ap model_of number ∙ sym c.in-Some.ensures, c.tell_fit.ensures))
+    let code : to_z w64 (of_z w64 c.fits_in.result) ≡ c.fits_in.result = omega (arith, ints) in
+    rw code (inl (c.in-Some.model, ap model_of number ∙ sym c.in-Some.ensures, c.fits_in.ensures))

@@ -7,5 +7,5 @@ use Rattle.fmtcanon_c.proofs.canonical_texts.fmtcanon_canonical_length.Goals as 
 pub returns-in-Some : goal.returns-in-Some
 returns-in-Some c =
     let number : c.args.model ≡ to_z w32 (of_z w32 c.args.model) = omega (arith, ints) in
-    let code : to_z w64 (of_z w64 c.tell_length.result) ≡ c.tell_length.result = omega (arith, ints) in
-    rw code (inl (c.in-Some.model, ap model_of number ∙ sym c.in-Some.ensures, c.tell_length.ensures))
+    let code : to_z w64 (of_z w64 c.canonical_length_in.result) ≡ c.canonical_length_in.result = omega (arith, ints) in
+    rw code (inl (c.in-Some.model, ap model_of number ∙ sym c.in-Some.ensures, c.canonical_length_in.ensures))

@@ -7,5 +7,5 @@ use Rattle.fmtcanon_c.proofs.comparison.fmtcanon_same.Goals as goal
 pub returns-in-Some : goal.returns-in-Some
 returns-in-Some c =
     let number : c.args.model ≡ to_z w32 (of_z w32 c.args.model) = omega (arith, ints) in
-    let code : to_z w64 (of_z w64 c.tell_same.result) ≡ c.tell_same.result = omega (arith, ints) in
-    rw code (inl (c.in-Some.model, ap model_of number ∙ sym c.in-Some.ensures, c.tell_same.ensures))
+    let code : to_z w64 (of_z w64 c.same_in.result) ≡ c.same_in.result = omega (arith, ints) in
+    rw code (inl (c.in-Some.model, ap model_of number ∙ sym c.in-Some.ensures, c.same_in.ensures))

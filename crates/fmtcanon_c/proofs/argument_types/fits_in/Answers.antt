@@ -1,7 +1,7 @@
 use Rattle.std.proofs.Common.{inl, inr, refl, subst}
 use Rattle.pf_signatures.specs.Laws.{ComparesArgumentTypes}
 use Rattle.fmtcanon_c.proofs.SignatureLemmas.{they_differ}
-use Rattle.fmtcanon_c.proofs.argument_types.tell_fit.Goals as goal
+use Rattle.fmtcanon_c.proofs.argument_types.fits_in.Goals as goal
 
 pub returns-in-Ok-Some : goal.returns-in-Ok-Some
 returns-in-Ok-Some c =

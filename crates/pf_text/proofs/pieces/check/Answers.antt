@@ -3,7 +3,7 @@ use Rattle.pf_values.specs.declared.models.Model.TheVariants.{Lp64}
 use Rattle.pf_values.specs.meaning.Items.{types}
 use Rattle.pf_text.specs.PieceHistory.{HasGiven, items_of}
 use Rattle.pf_text.proofs.SignatureLemmas.{HasFound, all_found, more_found, refused}
-use Rattle.pf_text.proofs.checking.check.Goals as goal
+use Rattle.pf_text.proofs.pieces.check.Goals as goal
 
 pub loop-piece-init : goal.loop-piece-init
 loop-piece-init c =
