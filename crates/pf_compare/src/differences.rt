@@ -274,7 +274,8 @@ fn is_type(given: Option<ArgType>, wanted: ArgType) -> bool
 
 /// Whether two directives have the same parts.
 pub(crate) fn are_equal(first: &Directive, second: &Directive) -> bool
-    ensures { IsTrue result → first.now ≡ second.now }
+    ensures yes { IsTrue result → first.now ≡ second.now }
+    ensures other { IsFalse result → first.now ≢ second.now }
 {
     same_flags(first.flags(), second.flags())
         && same_number(first.width(), second.width())
@@ -310,7 +311,8 @@ fn are_alike_beside_conv(first: &Directive, second: &Directive) -> bool
 }
 
 fn same_flags(first: FlagSet, second: FlagSet) -> bool
-    ensures { IsTrue result → first ≡ second }
+    ensures yes { IsTrue result → first ≡ second }
+    ensures other { IsFalse result → first ≢ second }
 {
     first.has(Flag::Minus) == second.has(Flag::Minus)
         && first.has(Flag::Plus) == second.has(Flag::Plus)
@@ -321,19 +323,22 @@ fn same_flags(first: FlagSet, second: FlagSet) -> bool
 }
 
 fn same_number(first: Option<u16>, second: Option<u16>) -> bool
-    ensures { IsTrue result → first ≡ second }
+    ensures yes { IsTrue result → first ≡ second }
+    ensures other { IsFalse result → first ≢ second }
 {
     first == second
 }
 
 pub(crate) fn same_length(first: Length, second: Length) -> bool
-    ensures { IsTrue result → first ≡ second }
+    ensures yes { IsTrue result → first ≡ second }
+    ensures other { IsFalse result → first ≢ second }
 {
     first == second
 }
 
 pub(crate) fn same_conv(first: Conv, second: Conv) -> bool
-    ensures { IsTrue result → first ≡ second }
+    ensures yes { IsTrue result → first ≡ second }
+    ensures other { IsFalse result → first ≢ second }
 {
     first == second
 }
