@@ -185,19 +185,6 @@ prefix_unlike_zeros p x t n h l = not_where_zeros (sign_or_prefix_text p) x t n 
 above_space : (b : ℕ) → space < b → b ≢ space
 above_space b h = λ e. absurd (omega (arith, h, e))
 
-two_letters : (b c : ℕ) → space < b → space < c → Lacks space (b ∷ (c ∷ []))
-two_letters b c h g = (above_space b h, (above_space c g, tt))
-
-pub letters_lack_space : (base : Base) (capitals : Bool) → Lacks space (prefix_of base capitals)
-letters_lack_space Binary false = two_letters 48 98 (omega arith) (omega arith)
-letters_lack_space Binary true = two_letters 48 66 (omega arith) (omega arith)
-letters_lack_space Octal false = tt
-letters_lack_space Octal true = tt
-letters_lack_space Decimal false = tt
-letters_lack_space Decimal true = tt
-letters_lack_space Hexadecimal false = two_letters 48 120 (omega arith) (omega arith)
-letters_lack_space Hexadecimal true = two_letters 48 88 (omega arith) (omega arith)
-
 glyph_above : (upper : Bool) (d : ℕ) → space < digit_glyph upper d
 glyph_above true d = grind (arith, nat_tests)
 glyph_above false d = grind (arith, nat_tests)

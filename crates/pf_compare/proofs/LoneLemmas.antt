@@ -8,12 +8,12 @@ use Rattle.pf_values.specs.meaning.Arguments.{Argument, HasType, HasTypes}
 use Rattle.pf_values.specs.Candidates.{candidates, neutral, neutrals}
 use Rattle.pf_values.specs.meaning.DataModel.{arg_type}
 use Rattle.pf_values.specs.meaning.Items.{Item, Byte, Directive, Reads, types}
-use Rattle.pf_values.specs.meaning.Printing.{Prints}
+use Rattle.pf_values.specs.meaning.Printing.{PrintAlike, Prints}
 use Rattle.pf_values.specs.meaning.Specification.{Specification}
 use Rattle.pf_values.specs.meaning.Text.{Text}
-use Rattle.pf_values.proofs.Alike.{PrintsAll-unique, all_printed, all_printed-is}
+use Rattle.pf_values.proofs.Alike.{AreAlike, PrintsAll-unique, all_printed, all_printed-is, alike_after, alike_before, printed-alike}
 use Rattle.pf_values.proofs.ItemTypes.{types-append}
-use Rattle.pf_values.proofs.PrintsOnce.{Prints-unique, printed_text}
+use Rattle.pf_values.proofs.PrintsOnce.{Prints-unique, printed-is, printed_text}
 use Rattle.pf_probes.proofs.Probes.{probe_typed}
 use Rattle.pf_text.specs.declared.pieces.Piece.{Piece}
 use Rattle.pf_text.specs.declared.pieces.Pieces.{Pieces}
@@ -25,7 +25,7 @@ use Rattle.pf_compare.specs.declared.owned_args.OwnedArg.{OwnedArg}
 use Rattle.pf_compare.specs.declared.witnesses.Witness.{Witness}
 use Rattle.pf_compare.specs.Answers.{HaveSameTypes, IsCandidateAt, PrintTheSame, PrintUnlike, probe_at}
 use Rattle.pf_compare.specs.Layouts.{ReplacementsEqual, ReplacementsDiffer, FindsUnlike, IsFirstUnlike}
-use Rattle.pf_compare.specs.Lone.{AreToldApartAt, DifferInOne, DifferInOneAtMost, FormatsDifferInOne, HasFollowed, IsIndexAfter, span_alone}
+use Rattle.pf_compare.specs.Lone.{AreToldApartAt, DifferInOne, DifferInOneAtMost, FormatsDifferInOne, HasFollowed, IsIndexAfter, PrintAlikeOnCandidates, span_alone}
 use Rattle.pf_compare.specs.Witnesses.{AreNeutral, AwaitsCandidate, FindsWitness, IsWitnessAt}
 use Rattle.pf_compare.proofs.CandidateLemmas.{candidate_has_type, contains_at}
 use Rattle.pf_compare.proofs.ProbeLemmas.{neutral_first, set_neutral}
@@ -250,6 +250,19 @@ module _ (model : Model) (s t : Specification) (after : List Item) where
         let level = h 0 (neutral (arg_type model s)) (neutral_first model (arg_type model s)) in
         (all_neutral level, λ i k other c. anywhere level i k other c (λ at e. h k other e))
 
+    -- lists that print the same have directives that do
+    pub alike_here : AreAlike model first_items second_items → PrintAlikeOnCandidates model s t
+    alike_here same k other e =
+        let typed = candidate_has_type model (arg_type model s) k other e in
+        let args = probe_at (types model first_items) place_of other in
+        let args_typed = probes_typed place_of k other (record { type = arg_type model s; type_is = type_at before; argument_is = e }) in (
+          printed_text model s other,
+          printed_text model t other,
+          printed-is model s other typed,
+          printed-is model t other (subst (HasType model other) same_type typed),
+          ap (λ u. u ++ []) (one_printed before args other (neutral_set other) (same.same_bytes args args_typed)),
+        )
+
 -- two texts were read so far, and differ in one directive at most
 pub record AreAlong (first second : Pieces) (f g : Text) (index : ℕ) (found : Option LoneDifference) : Type 0 where
   pub read : Text
@@ -330,8 +343,19 @@ module _ (model : Model) (xs ys : List Item) (difference : LoneDifference) (h : 
           subst (λ l. PrintUnlike model l ys there.0) (sym h.first_is) (subst (λ l. PrintUnlike model (h.before ++ Directive difference.first ∷ h.after) l there.0) (sym h.second_is) there.2),
         )
 
-    pub lone_none : FindsUnlike model [] (span_alone difference.first) (span_alone difference.second) (arg_type model difference.first) None → FindsWitness model xs ys None
-    lone_none found = back_in None (none_alone model difference.first difference.second h.after h.before same_type found)
+    -- if they print the same, then the two directives print the same for each candidate
+    pub lone_alike : AreAlike model xs ys → PrintAlikeOnCandidates model difference.first difference.second
+    lone_alike same = alike_here model difference.first difference.second h.after h.before same_type
+        (subst (λ l. AreAlike model (h.before ++ Directive difference.first ∷ h.after) l) h.second_is (subst (λ l. AreAlike model l ys) h.first_is same))
+
+-- they print the same where the two directives do
+pub lone_lists_alike : (model : Model) (xs ys : List Item) (difference : LoneDifference) → DifferInOne xs ys difference → PrintAlike model (Directive difference.first ∷ []) (Directive difference.second ∷ []) → AreAlike model xs ys
+lone_lists_alike model xs ys difference h same =
+    let first = difference.first in
+    let second = difference.second in
+    let whole = alike_after model h.before (Directive first ∷ h.after) (Directive second ∷ h.after)
+    (alike_before model (Directive first ∷ []) (Directive second ∷ []) h.after (printed-alike model (Directive first ∷ []) (Directive second ∷ []) same)) in
+    subst (λ l. AreAlike model l ys) (sym h.first_is) (subst (λ l. AreAlike model (h.before ++ Directive first ∷ h.after) l) (sym h.second_is) whole)
 
 module _ (model : Model) (f g : Text) (difference : LoneDifference) (h : FormatsDifferInOne f g difference) where
   pub lone_types : arg_type model difference.first ≢ arg_type model difference.second → (xs ys : List Item) → Reads f xs → Reads g ys → DifferFirstAt (types model xs) (types model ys) difference.index

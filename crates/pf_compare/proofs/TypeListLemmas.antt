@@ -1,5 +1,5 @@
 -- The argument types of two texts, side by side.
-use Rattle.std.proofs.Common.{◌≡◌, ◌≢◌, ℕ, zero, suc, ◌+◌, ◌<◌, List, [], ◌∷◌, ◌++◌, length, get_or, refl, sym, ap, ◌∙◌, subst, arith, Some, None, Ok, Err, Result, Option}
+use Rattle.std.proofs.Common.{◌≡◌, ◌≢◌, ℕ, zero, suc, ◌+◌, List, [], ◌∷◌, ◌++◌, length, refl, sym, ap, ◌∙◌, subst, arith, Some, None, Ok, Err, Result, Option}
 use Rattle.std.specs.Prelude.{slice_get, MatchOption}
 use Rattle.std.proofs.lemmas.List.{append-nil, append_assoc, length-map, length_push}
 use Rattle.pf_values.specs.declared.models.Model.{Model}
@@ -30,7 +30,7 @@ use Rattle.pf_compare.specs.declared.layouts.Layout.{Layout}
 use Rattle.pf_compare.specs.Answers.{HaveSameTypes}
 use Rattle.pf_compare.specs.Layouts.{IsLayoutOf, span_types}
 use Rattle.pf_compare.specs.TypeLists.{HasGivenTypes}
-use Rattle.pf_compare.proofs.ListLemmas.{get_map, get_some, get_within, take_whole}
+use Rattle.pf_compare.proofs.ListLemmas.{get_some, get_within, take_whole}
 
 -- The items of a front are the first items of the text.
 kept_by : (items : List Item) (step : Step) → (more : List Item) × (with_step items step ≡ items ++ more)
@@ -160,9 +160,6 @@ same_types_of model f g a b same =
 -- The types of spans are those of the items.
 pub length-hole_types : (model : Model) (spans : List DirectiveSpan) → length (span_types model spans) ≡ length spans
 length-hole_types model spans = length-map spans (λ span. arg_type model span.directive)
-
-pub hole_type_at : (model : Model) (spans : List DirectiveSpan) (i : ℕ) (d : DirectiveSpan) → i < length spans → slice_get (span_types model spans) i ≡ Some (arg_type model (get_or spans i d).directive)
-hole_type_at model spans i d h = get_map (λ span. arg_type model span.directive) spans i d h
 
 hole_type_got : (model : Model) (spans : List DirectiveSpan) (i : ℕ) (span : DirectiveSpan) → slice_get spans i ≡ Some span → slice_get (span_types model spans) i ≡ Some (arg_type model span.directive)
 hole_type_got model [] i span e = absurd (cc)

@@ -7,7 +7,9 @@ use Rattle.pf_values.specs.meaning.Specification.{Specification}
 use Rattle.pf_values.specs.meaning.Text.{Text}
 use Rattle.pf_text.specs.declared.pieces.Pieces.{Pieces}
 use Rattle.pf_text.specs.PieceHistory.{HasGiven}
-use Rattle.pf_compare.specs.Layouts.{IsFirstUnlike}
+use Rattle.pf_reduce.specs.Reducing.{core_of}
+use Rattle.pf_reduce.specs.declared.results.Reduced.{Reduced}
+use Rattle.pf_compare.specs.Layouts.{FindsUnlike, IsFirstUnlike}
 use Rattle.pf_compare.specs.declared.layouts.DirectiveSpan.{DirectiveSpan}
 use Rattle.pf_compare.specs.declared.differences.LoneDifference.{LoneDifference}
 
@@ -52,3 +54,15 @@ span_alone s = record { directive = s; start = 0; end = 0 }
 abbrev pub AreToldApartAt : Model → LoneDifference → ℕ → Type 0
 AreToldApartAt model difference place = IsFirstUnlike model [] (span_alone difference.first)
     (span_alone difference.second) (arg_type model difference.first) place
+
+-- two directives print the same for each candidate of the type of the first
+abbrev pub PrintAlikeOnCandidates : Model → Specification → Specification → Type 0
+PrintAlikeOnCandidates model s t =
+    FindsUnlike model [] (span_alone s) (span_alone t) (arg_type model s) None
+
+-- two reductions print the same around the same directive
+pub record HaveSameParts (first second : Reduced) : Type 0 where
+  pub spaces : first.spaces ≡ second.spaces
+  pub zeros : first.zeros ≡ second.zeros
+  pub core : core_of first.core ≡ core_of second.core
+  pub trail : first.trail ≡ second.trail

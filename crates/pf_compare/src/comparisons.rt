@@ -11,9 +11,13 @@ ghost use Rattle.pf_compare.specs.declared.comparisons.CompareFault.TheVariants.
 ghost use Rattle.pf_compare.specs.declared.comparisons.Verdict.TheVariants.{Same};
 
 use crate::differences::{LoneDifference, are_unlike, first_type_difference, lone_difference};
+use crate::laws::one_canonical_text;
 use crate::layouts::lay_out;
 use crate::owned_args::OwnedArg;
-use crate::witnesses::{Witness, first_witness, foreseen_candidate, lone_witness, witness_at};
+use crate::reductions::print_alike;
+use crate::witnesses::{
+    Witness, first_candidate_alone, first_witness, foreseen_candidate, witness_at,
+};
 use pf_canon::{Side, same_text};
 use pf_render::{RenderVecFault, render_vec};
 use pf_text::Refusal;
@@ -35,8 +39,8 @@ pub fn compare(alloc: Global, model: Model, f: &[u8], g: &[u8]) -> Result<Compar
     compare_any(alloc, model, f, g)
 }
 
-// Compares two formats whose bytes differ. Where that is in one directive alone, most are told apart
-// by it, and their canonical texts needn't be compared.
+// Compares two formats whose bytes differ. Where that is in one directive alone, the two directives
+// are compared, and not their canonical texts.
 #[inline(never)]
 fn compare_unlike(
     alloc: Global,
@@ -150,7 +154,8 @@ fn compare_at(
     }
 }
 
-// The same where none is: the formats may be equivalent.
+// The same where none is: the two directives may print the same. Then the formats are equivalent, and
+// that they have a canonical text takes one reading.
 fn compare_unforeseen(
     alloc: Global,
     model: Model,
@@ -163,10 +168,13 @@ fn compare_unforeseen(
     ensures { MatchResult result (IsComparisonOf model f.now g.now)
         (HindersComparison model f.now g.now) }
 {
-    match are_equivalent(model, f, g) {
-        Ok(true) => Ok(same_comparison()),
-        Ok(false) => Ok(compare_directives(alloc, model, f, g, difference)?),
-        Err(fault) => Err(fault),
+    if print_alike(model, &difference.first, &difference.second) {
+        one_canonical_text(model, f);
+        return Ok(same_comparison());
+    }
+    match first_candidate_alone(alloc, model, &difference.first, &difference.second)? {
+        Some(place) => Ok(compare_at(alloc, model, f, g, difference, place)?),
+        None => unreachable!(),
     }
 }
 
@@ -176,29 +184,6 @@ fn same_comparison() -> Comparison
     Comparison {
         verdict: Verdict::Same,
         renderings: 0,
-    }
-}
-
-// Compares two formats that aren't equivalent, and differ in one directive alone, with the types
-// alike.
-fn compare_directives(
-    alloc: Global,
-    model: Model,
-    f: &[u8],
-    g: &[u8],
-    difference: &LoneDifference,
-) -> Result<Comparison, AllocError>
-    requires apart { AreTextsSame model f.now g.now false }
-    requires lone { FormatsDifferInOne f.now g.now difference.now }
-    requires types { arg_type model difference.now.first ≡ arg_type model difference.now.second }
-    ensures { IfOk result (IsComparisonOf model f.now g.now) }
-{
-    match lone_witness(alloc, model, f, difference)? {
-        Some(Witness { args, renderings }) => Ok(Comparison {
-            verdict: Verdict::Args(args),
-            renderings,
-        }),
-        None => unreachable!(),
     }
 }
 

@@ -1,7 +1,6 @@
 //! Where two formats differ: in which directive alone, and in the type of which argument; whether two
 //! directives have the same parts.
 ghost use Rattle.std.specs.Prelude.{◌≡◌, ◌≢◌, ◌≤◌, ◌∷◌, [], ◌++◌, IfSome, IsFalse, IsTrue, List, MatchBool, MatchOption, Some, length, map};
-ghost use Rattle.std.specs.Option.{option_to_list};
 ghost use Rattle.pf_values.specs.declared.conversions.Conv.{Conv};
 ghost use Rattle.pf_values.specs.declared.models.Model.{Model};
 ghost use Rattle.pf_values.specs.declared.types.ArgType.{ArgType};
@@ -231,7 +230,7 @@ pub(crate) fn first_type_difference(model: Model, f: &[u8], g: &[u8]) -> Option<
     for piece in Pieces::new(f) {
         match piece {
             Ok(piece) => {
-                if let Some(wanted) = arg_type(model, &piece) {
+                if let Some(wanted) = piece.arg_type(model) {
                     if !is_type(next_type(model, &mut others), wanted) {
                         return Some(index);
                     }
@@ -255,7 +254,7 @@ fn next_type(model: Model, pieces: &mut Pieces<'_>) -> Option<ArgType>
 {
     while let Some(piece) = pieces.next() {
         if let Ok(piece) = piece {
-            if let Some(next) = arg_type(model, &piece) {
+            if let Some(next) = piece.arg_type(model) {
                 return Some(next);
             }
         }
@@ -273,20 +272,10 @@ fn is_type(given: Option<ArgType>, wanted: ArgType) -> bool
     }
 }
 
-/// The type of the argument that a piece takes, if it takes one.
-pub(crate) fn arg_type(model: Model, piece: &Piece<'_>) -> Option<ArgType>
-    ensures { option_to_list result ≡ types model (items_of piece.now) }
-{
-    match piece {
-        Piece::Directive(directive) => Some(directive.arg_type(model)),
-        Piece::Percent => None,
-        Piece::Literal(_) => None,
-    }
-}
-
 /// Whether two directives have the same parts.
 pub(crate) fn are_equal(first: &Directive, second: &Directive) -> bool
-    ensures { IsTrue result → first.now ≡ second.now }
+    ensures yes { IsTrue result → first.now ≡ second.now }
+    ensures other { IsFalse result → first.now ≢ second.now }
 {
     same_flags(first.flags(), second.flags())
         && same_number(first.width(), second.width())
@@ -322,7 +311,8 @@ fn are_alike_beside_conv(first: &Directive, second: &Directive) -> bool
 }
 
 fn same_flags(first: FlagSet, second: FlagSet) -> bool
-    ensures { IsTrue result → first ≡ second }
+    ensures yes { IsTrue result → first ≡ second }
+    ensures other { IsFalse result → first ≢ second }
 {
     first.has(Flag::Minus) == second.has(Flag::Minus)
         && first.has(Flag::Plus) == second.has(Flag::Plus)
@@ -333,19 +323,22 @@ fn same_flags(first: FlagSet, second: FlagSet) -> bool
 }
 
 fn same_number(first: Option<u16>, second: Option<u16>) -> bool
-    ensures { IsTrue result → first ≡ second }
+    ensures yes { IsTrue result → first ≡ second }
+    ensures other { IsFalse result → first ≢ second }
 {
     first == second
 }
 
 pub(crate) fn same_length(first: Length, second: Length) -> bool
-    ensures { IsTrue result → first ≡ second }
+    ensures yes { IsTrue result → first ≡ second }
+    ensures other { IsFalse result → first ≢ second }
 {
     first == second
 }
 
 pub(crate) fn same_conv(first: Conv, second: Conv) -> bool
-    ensures { IsTrue result → first ≡ second }
+    ensures yes { IsTrue result → first ≡ second }
+    ensures other { IsFalse result → first ≢ second }
 {
     first == second
 }

@@ -73,29 +73,8 @@ fn witness_of(
     with_candidate(alloc, model, args, arg_type, probe)
 }
 
-/// The first probe for which two formats print different bytes, which differ in one directive alone.
-pub(crate) fn lone_witness(
-    alloc: Global,
-    model: Model,
-    f: &[u8],
-    difference: &LoneDifference,
-) -> Result<Option<Witness>, AllocError>
-    requires one_type { arg_type model difference.now.first ≡ arg_type model difference.now.second }
-    requires first { (xs ys : List Item) × HasItems f.now xs × DifferInOne xs ys difference.now }
-    ensures { IfOk result (λ found. (xs ys : List Item)
-        → Reads f.now xs → DifferInOne xs ys difference.now → FindsWitness model xs ys found) }
-{
-    let found = first_candidate_alone(alloc, model, &difference.first, &difference.second)?;
-    match found {
-        Some(place) => {
-            let witness = witness_at(alloc, model, f, difference, place)?;
-            Ok(Some(witness))
-        }
-        None => Ok(None),
-    }
-}
-
-/// The same where the candidate is known that tells the two directives apart.
+/// Arguments for which two formats print different bytes that differ in one directive alone, of the
+/// candidate that tells the two directives apart.
 pub(crate) fn witness_at(
     alloc: Global,
     model: Model,

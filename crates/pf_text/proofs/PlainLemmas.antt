@@ -1,6 +1,6 @@
 -- Items that are spelled as the canonical text spells them.
 use Rattle.std.proofs.Common.{◌≡◌, ◌≢◌, ℕ, zero, suc, ◌+◌, ◌-◌, ◌*◌, ◌<◌, ◌≤◌, min, true, false, Bool, List, [], ◌∷◌, ◌++◌, length, map, take, drop, Some, None, refl, sym, ap, ap₂, ◌∙◌, subst, arith, inl, inr, get_or}
-use Rattle.std.specs.Prelude.{flat_map, is_some, MatchBool, Option, ◌==◌, ◌⊎◌, if◌then◌else◌}
+use Rattle.std.specs.Prelude.{flat_map, is_some, IsFalse, MatchBool, Option, ◌==◌, ◌⊎◌, if◌then◌else◌}
 use Rattle.std.specs.Fmt.{digits}
 use Rattle.std.specs.List.{AllByRecursion}
 use Rattle.std.proofs.Math.ListN.{drop_of_length-le}
@@ -21,8 +21,8 @@ use Rattle.pf_values.specs.meaning.Conversions.{conv_letter, kept_conv, kind_of}
 use Rattle.pf_values.specs.meaning.Bits.{by_bits}
 use Rattle.pf_values.specs.meaning.DataModel.{Bits, B8, B16, B32, B64, bits_under, kept_length}
 use Rattle.pf_values.specs.meaning.Defined.{IsDefined, refused_as}
-use Rattle.pf_values.specs.declared.flags.Flag.TheVariants.{Alt}
-use Rattle.pf_values.specs.meaning.Flags.{no_flags, with_flag}
+use Rattle.pf_values.specs.declared.flags.Flag.TheVariants.{Alt, Group, Plus, Space}
+use Rattle.pf_values.specs.meaning.Flags.{has, no_flags, with_flag}
 use Rattle.pf_values.specs.meaning.Lengths.{length_letters}
 use Rattle.pf_values.specs.meaning.Items.{Item, Byte, Directive, IsReadAs, Reads}
 use Rattle.pf_values.specs.meaning.Normal.{HasNormalForm, IsNormal, IsNormalPlain, IsNormalPrefixed, IsNormalSigned, IsNormalString, digits_at_most, silent}
@@ -81,27 +81,22 @@ prefixed_normal model modifier conv = record { least = λ some. omega (arith, so
 string_normal : IsNormalString (bare S)
 string_normal = record { shows_some = λ e. cc; width = tt; left = λ e. absurd (cc) }
 
+-- a flag other than `#` isn't there
+lacks_flag : (alternative : Bool) (modifier : Length) (conv : Conv) → IsFalse (has (parts alternative modifier conv).flags Group) × IsFalse (has (parts alternative modifier conv).flags Plus) × IsFalse (has (parts alternative modifier conv).flags Space)
+lacks_flag true modifier conv = (refl, refl, refl)
+lacks_flag false modifier conv = (refl, refl, refl)
+
 -- where it is defined, has the modifier and the conversion that are kept, and a normal form
 parts_normal : (model : Model) (alternative : Bool) (modifier : Length) (conv : Conv) → refused_as (parts alternative modifier conv) ≡ None → kept_length model modifier ≡ modifier → kept_conv conv ≡ conv → HasNormalForm model (kind_of conv) (parts alternative modifier conv) → IsNormal model (parts alternative modifier conv)
-parts_normal model true modifier conv allowed length_kept conv_kept form =
+parts_normal model alternative modifier conv allowed length_kept conv_kept form =
+    let lacks = lacks_flag alternative modifier conv in
     record {
       defined = record { width = λ e. cc; allowed = allowed };
-      no_group = refl;
+      no_group = lacks.0;
       length = length_kept;
       conv = conv_kept;
-      no_plus = λ e. absurd (cc);
-      no_space = λ e. absurd (cc);
-      precision = λ e. absurd (cc);
-      form = form;
-    }
-parts_normal model false modifier conv allowed length_kept conv_kept form =
-    record {
-      defined = record { width = λ e. cc; allowed = allowed };
-      no_group = refl;
-      length = length_kept;
-      conv = conv_kept;
-      no_plus = λ e. absurd (cc);
-      no_space = λ e. absurd (cc);
+      no_plus = λ e. let none = lacks.1 in absurd (cc);
+      no_space = λ e. let none = lacks.2 in absurd (cc);
       precision = λ e. absurd (cc);
       form = form;
     }

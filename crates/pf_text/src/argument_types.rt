@@ -1,12 +1,9 @@
 //! Reading the argument types of a format.
 ghost use Rattle.std.specs.Prelude.{◌≡◌, ◌≤◌, [], MatchResult};
-ghost use Rattle.std.specs.Option.{option_to_list};
-ghost use Rattle.pf_values.specs.meaning.Items.{types};
-ghost use Rattle.pf_text.specs.PieceHistory.{items_of};
 ghost use Rattle.pf_text.specs.Signatures.{TakesTypes, HindersSignature, types_of};
 
+use crate::pieces::Pieces;
 use crate::refusal::TextFault;
-use crate::pieces::{Piece, Pieces};
 use crate::signatures::Signature;
 use pf_values::{ArgType, Model};
 use smallvec::SmallVec;
@@ -43,22 +40,11 @@ fn push_types<A: Allocator + Copy>(
             Ok(piece) => piece,
             Err(refusal) => return Err(TextFault::Refused(refusal)),
         };
-        if let Some(arg_type) = arg_type(model, piece) {
+        if let Some(arg_type) = piece.arg_type(model) {
             if found.push(arg_type).is_err() {
                 return Err(TextFault::Memory);
             }
         }
     }
     Ok(())
-}
-
-// The type of the argument that a piece takes, if it takes one.
-fn arg_type(model: Model, piece: Piece<'_>) -> Option<ArgType>
-    ensures { option_to_list result ≡ types model (items_of piece.entry) }
-{
-    match piece {
-        Piece::Directive(directive) => Some(directive.arg_type(model)),
-        Piece::Percent => None,
-        Piece::Literal(_) => None,
-    }
 }

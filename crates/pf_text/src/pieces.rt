@@ -8,7 +8,7 @@ ghost use Rattle.pf_text.specs.History.{EndsRun};
 
 use crate::refusal::Refusal;
 use crate::scanner::{Scanner, Step};
-use pf_values::Directive;
+use pf_values::{ArgType, Directive, Model};
 
 /// A piece of a format.
 #[derive(Clone, Copy, Debug, PartialEq, Eq)]
@@ -19,6 +19,24 @@ pub enum Piece<'a> {
     Percent,
     /// A conversion specification.
     Directive(Directive),
+}
+
+impl Piece<'_> {
+    ghost use Rattle.std.specs.Option.{option_to_list};
+    ghost use Rattle.pf_values.specs.meaning.Items.{types};
+    ghost use Rattle.pf_text.specs.PieceHistory.{items_of};
+
+    /// The type of the argument that the piece takes in this data model, if it takes one.
+    #[inline]
+    pub fn arg_type(&self, model: Model) -> Option<ArgType>
+        ensures { option_to_list result ≡ types model (items_of self.now) }
+    {
+        match self {
+            Piece::Directive(directive) => Some(directive.arg_type(model)),
+            Piece::Percent => None,
+            Piece::Literal(_) => None,
+        }
+    }
 }
 
 /// The pieces of a text, in order, up to its end or to where it is refused. Then the refusal is

@@ -1,0 +1,70 @@
+//! Whether two directives print the same, by what they are reduced to.
+ghost use Rattle.std.specs.Prelude.{◌≡◌, ◌≢◌, ◌∷◌, [], IsFalse, IsTrue, MatchBool};
+ghost use Rattle.pf_values.specs.declared.models.Model.{Model as DataModel};
+ghost use Rattle.pf_values.specs.meaning.DataModel.{arg_type};
+ghost use Rattle.pf_values.specs.meaning.Items.{Directive as item_of};
+ghost use Rattle.pf_values.specs.meaning.Normal.{IsNormal, silent};
+ghost use Rattle.pf_values.specs.meaning.Printing.{PrintAlike};
+ghost use Rattle.pf_reduce.specs.Reducing.{core_of};
+ghost use Rattle.pf_compare.specs.Lone.{HaveSameParts, PrintAlikeOnCandidates};
+
+use crate::differences::are_equal;
+use pf_reduce::{Core, Reduced, reduce};
+use pf_values::{Directive, Model};
+
+/// Whether two directives of one type print the same for each argument. If they don't, some
+/// candidate tells them apart.
+pub(crate) fn print_alike(model: Model, first: &Directive, second: &Directive) -> bool
+    requires { arg_type model first.now ≡ arg_type model second.now }
+    ensures { MatchBool result (PrintAlike model (item_of first.now ∷ []) (item_of second.now ∷ []))
+        (¬ PrintAlikeOnCandidates model first.now second.now) }
+{
+    let one = reduce(model, first);
+    let two = reduce(model, second);
+    have_same_parts(&one, &two)
+}
+
+fn have_same_parts(one: &Reduced, two: &Reduced) -> bool
+    ensures yes { IsTrue result → HaveSameParts one.now two.now }
+    ensures other { IsFalse result → ¬ HaveSameParts one.now two.now }
+{
+    one.spaces == two.spaces
+        && one.zeros == two.zeros
+        && one.trail == two.trail
+        && are_equal_cores(one.core, two.core)
+}
+
+fn are_equal_cores(one: Core, two: Core) -> bool
+    ensures yes { IsTrue result → core_of one ≡ core_of two }
+    ensures other { IsFalse result → core_of one ≢ core_of two }
+{
+    match one {
+        Core::Normal(normal) => is_normal_core(two, &normal.directive()),
+        Core::Silent => is_silent(two),
+    }
+}
+
+// Whether a core is this normal directive.
+fn is_normal_core(core: Core, wanted: &Directive) -> bool
+    requires { (model : DataModel) × IsNormal model wanted.now }
+    ensures yes { IsTrue result → wanted.now ≡ core_of core }
+    ensures other { IsFalse result → wanted.now ≢ core_of core }
+{
+    match core {
+        Core::Normal(normal) => are_equal(wanted, &normal.directive()),
+        Core::Silent => false,
+    }
+}
+
+fn is_silent(core: Core) -> bool
+    ensures yes { IsTrue result → silent ≡ core_of core }
+    ensures other { IsFalse result → silent ≢ core_of core }
+{
+    match core {
+        Core::Normal(normal) => {
+            let _ = normal.directive();
+            false
+        }
+        Core::Silent => true,
+    }
+}
