@@ -10,7 +10,7 @@ use Rattle.pf_values.specs.meaning.Canonical.{IsCanonicalOf}
 use Rattle.pf_values.specs.meaning.Items.{Item, IsAccepted}
 use Rattle.pf_values.specs.meaning.Refusals.{IsRefusedAt}
 use Rattle.pf_text.specs.declared.refusal.Refusal.{Refusal}
-use Rattle.pf_canon.specs.declared.copy.Written.{Written}
+use Rattle.pf_canon.specs.declared.copy.Gathered.{Gathered}
 use Rattle.pf_canon.specs.Sink.{Counts}
 use Rattle.pf_canon.specs.declared.faults.CopyFault.{CopyFault}
 use Rattle.pf_canon.specs.declared.faults.CopyFault.TheVariants as faults
@@ -35,20 +35,34 @@ module _ {W : Type 0} (contents : W → Known) (old new : Counted W) (bytes : Te
   Puts (Ok after) = PutsAll after
   Puts (Err after) = PutsFirst after
 
+module _ {W : Type 0} (contents : W → Known) (old new : Counted W) (waiting bytes : Text) (before : ℕ) where
+  -- Of the bytes that waited and of these all went out but for those that wait still; and how many
+  -- went out by then.
+  pub record GathersAll (still : Text) (after : ℕ) : Type 0 where
+    pub out : Text
+    pub split : waiting ++ bytes ≡ out ++ still
+    pub puts : PutsAll contents old new out before after
+
+  -- that, or some first bytes went out, fewer than all
+  abbrev pub Gathers : Text → Result ℕ ℕ → Type 0
+  Gathers still (Ok after) = GathersAll still after
+  Gathers still (Err after) = PutsFirst contents old new (waiting ++ bytes) before after
+
   -- the same by whether the writer had failed before, and whether it has now: after a failure it
   -- isn't called
-  abbrev pub PutsBy : Bool → Bool → ℕ → Type 0
-  PutsBy false false after = PutsAll after
-  PutsBy false true after = PutsFirst after
-  PutsBy true true after = (new ≡ old) × (after ≡ before)
-  PutsBy true false after = ⊥
+  abbrev pub GathersBy : Bool → Bool → Text → ℕ → Type 0
+  GathersBy false false still after = GathersAll still after
+  GathersBy false true still after = PutsFirst contents old new (waiting ++ bytes) before after
+  GathersBy true true still after = (new ≡ old) × (after ≡ before)
+  GathersBy true false still after = ⊥
 
--- it is the same writer
-pub record HasPut {W : Type 0} (contents : W → Known) (old new : Written W)
+-- it is the same writer, and the same bytes wait
+pub record HasGathered {W : Type 0} (contents : W → Known) (old new : Gathered W)
     (bytes : Text) : Type 0 where
-  pub puts : PutsBy contents old.writer.now new.writer.now bytes
-      old.count old.has_failed new.has_failed new.count
+  pub puts : GathersBy contents old.writer.now new.writer.now old.waiting.now.items bytes
+      old.count old.has_failed new.has_failed new.waiting.now.items new.count
   pub same : new.writer.ghost_name ≡ old.writer.ghost_name
+  pub same_waiting : new.waiting.ghost_name ≡ old.waiting.ghost_name
 
 -- The transducer took `front`, and all that it settles went out.
 pub record IsWritten (model : Model) (r : Transducer) (front : Text) (w x : Known)
@@ -56,6 +70,15 @@ pub record IsWritten (model : Model) (r : Transducer) (front : Text) (w x : Know
   pub items : List Item
   pub out : Text
   pub through : IsThrough model r front items out
+  pub writer : Appends w x out
+  pub count : written ≡ length out
+
+-- the same, but the last bytes of what it settles wait
+pub record IsGathered (model : Model) (r : Transducer) (front : Text) (w x : Known)
+    (waiting : Text) (written : ℕ) : Type 0 where
+  pub items : List Item
+  pub out : Text
+  pub through : IsThrough model r front items (out ++ waiting)
   pub writer : Appends w x out
   pub count : written ≡ length out
 

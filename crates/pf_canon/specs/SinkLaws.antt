@@ -8,7 +8,7 @@ use Rattle.pf_values.specs.Counting.{Known, WritesFirst, device_of}
 use Rattle.pf_values.specs.meaning.Text.{Text}
 use Rattle.pf_values.proofs.WriteLemmas.{WritesFirst-more}
 use Rattle.pf_canon.specs.Sink.{IsStripped, IsFrontStripped, IsBuilt, IsCounted, IsSink}
-use Rattle.pf_canon.specs.Copy.{HasPut, PutsAll, PutsBy, PutsFirst}
+use Rattle.pf_canon.specs.Copy.{GathersAll, GathersBy, HasGathered, PutsAll, PutsFirst}
 
 -- a text that is put together, and a count
 pub builds : {R : Type 0} (bytes_of : R → Text) → IsSink (IsBuilt bytes_of)
@@ -45,9 +45,9 @@ strip_then None mid rest a b h g = rw h at g
 pub strips : IsSink IsStripped
 strips = record { none = λ s. strip_none s.left; both = λ a b c t u h g. strip_then a.left b.left c.left t u h g }
 
--- a writer with its count
+-- a writer with its count and with the bytes that wait
 module _ {W : Type 0} (contents : W → Known) where
-  all_all : (old mid new : Counted W) (a b : Text) (before after last : ℕ) → PutsAll contents old mid a before after → PutsAll contents mid new b after last → PutsAll contents old new (a ++ b) before last
+  pub all_all : (old mid new : Counted W) (a b : Text) (before after last : ℕ) → PutsAll contents old mid a before after → PutsAll contents mid new b after last → PutsAll contents old new (a ++ b) before last
   all_all old mid new a b before after last h g =
       let one = h.0 in
       let two = g.0 in (
@@ -59,7 +59,7 @@ module _ {W : Type 0} (contents : W → Known) where
             omega (arith, x, y, len),
       )
 
-  all_first : (old mid new : Counted W) (a b : Text) (before after last : ℕ) → PutsAll contents old mid a before after → PutsFirst contents mid new b after last → PutsFirst contents old new (a ++ b) before last
+  pub all_first : (old mid new : Counted W) (a b : Text) (before after last : ℕ) → PutsAll contents old mid a before after → PutsFirst contents mid new b after last → PutsFirst contents old new (a ++ b) before last
   all_first old mid new a b before after last h g =
       let one = h.0 in
       let fewer = g.fewer in
@@ -75,7 +75,7 @@ module _ {W : Type 0} (contents : W → Known) where
       }
 
   -- some of these bytes went out, whatever was to follow
-  first_alone : (old new : Counted W) (a b : Text) (before after : ℕ) → PutsFirst contents old new a before after → PutsFirst contents old new (a ++ b) before after
+  pub first_alone : (old new : Counted W) (a b : Text) (before after : ℕ) → PutsFirst contents old new a before after → PutsFirst contents old new (a ++ b) before after
   first_alone old new a b before after h =
       let fewer = h.fewer in
       let first = h.first in
@@ -87,24 +87,46 @@ module _ {W : Type 0} (contents : W → Known) where
         counts = h.counts;
       }
 
-  puts_none : (w : Counted W) (count : ℕ) (failed : Bool) → PutsBy contents w w [] count failed failed count
-  puts_none w count false = (record { appended = Appends-nil (contents (device_of w)); none_failed = refl }, λ few. omega arith)
-  puts_none w count true = (refl, refl)
+  pub none_put : (w : Counted W) (count : ℕ) → PutsAll contents w w [] count count
+  none_put w count = (record { appended = Appends-nil (contents (device_of w)); none_failed = refl }, λ few. omega arith)
 
-  puts_both : (old mid new : Counted W) (a b : Text) (before after last : ℕ) (f g h : Bool) → PutsBy contents old mid a before f g after → PutsBy contents mid new b after g h last → PutsBy contents old new (a ++ b) before f h last
-  puts_both old mid new a b before after last false false false x y = all_all old mid new a b before after last x y
-  puts_both old mid new a b before after last false false true x y = all_first old mid new a b before after last x y
-  puts_both old mid new a b before after last false true true x y = rw (y.0, y.1) (first_alone old mid a b before after x)
-  puts_both old mid new a b before after last false true false x y = absurd y
-  puts_both old mid new a b before after last true true true x y = (y.0 ∙ x.0, y.1 ∙ x.1)
-  puts_both old mid new a b before after last true true false x y = absurd y
-  puts_both old mid new a b before after last true false h x y = absurd x
+  gathers_none : (w : Counted W) (waiting : Text) (count : ℕ) (failed : Bool) → GathersBy contents w w waiting [] count failed failed waiting count
+  gathers_none w waiting count false = record {
+    out = [];
+    split = append-nil waiting;
+    puts = none_put w count;
+  }
+  gathers_none w waiting count true = (refl, refl)
 
-  pub writes : IsSink (HasPut contents)
-  writes = record {
-    none = λ s. record { puts = puts_none s.writer.now s.count s.has_failed; same = refl };
+  -- what waited, and then two texts
+  gathers_all : (old mid new : Counted W) (waiting still last a b : Text) (before after end : ℕ) → GathersAll contents old mid waiting a before still after → GathersAll contents mid new still b after last end → GathersAll contents old new waiting (a ++ b) before last end
+  gathers_all old mid new waiting still last a b before after end h g = record {
+    out = h.out ++ g.out;
+    split = sym (append_assoc waiting a b) ∙ ap (λ t. t ++ b) h.split ∙ append_assoc h.out still b ∙ ap (λ t. h.out ++ t) g.split ∙ sym (append_assoc h.out g.out last);
+    puts = all_all old mid new h.out g.out before after end h.puts g.puts;
+  }
+
+  gathers_first : (old mid new : Counted W) (waiting still a b : Text) (before after end : ℕ) → GathersAll contents old mid waiting a before still after → PutsFirst contents mid new (still ++ b) after end → PutsFirst contents old new (waiting ++ (a ++ b)) before end
+  gathers_first old mid new waiting still a b before after end h g =
+      let e : h.out ++ (still ++ b) ≡ waiting ++ (a ++ b) = sym (append_assoc h.out still b) ∙ ap (λ t. t ++ b) (sym h.split) ∙ append_assoc waiting a b in
+      subst (λ t. PutsFirst contents old new t before end) e (all_first old mid new h.out (still ++ b) before after end h.puts g)
+
+  gathers_both : (old mid new : Counted W) (waiting still last a b : Text) (before after end : ℕ) (f g h : Bool) → GathersBy contents old mid waiting a before f g still after → GathersBy contents mid new still b after g h last end → GathersBy contents old new waiting (a ++ b) before f h last end
+  gathers_both old mid new waiting still last a b before after end false false false x y = gathers_all old mid new waiting still last a b before after end x y
+  gathers_both old mid new waiting still last a b before after end false false true x y = gathers_first old mid new waiting still a b before after end x y
+  gathers_both old mid new waiting still last a b before after end false true true x y =
+      rw (y.0, y.1) (subst (λ t. PutsFirst contents old mid t before after) (append_assoc waiting a b) (first_alone old mid (waiting ++ a) b before after x))
+  gathers_both old mid new waiting still last a b before after end false true false x y = absurd y
+  gathers_both old mid new waiting still last a b before after end true true true x y = (y.0 ∙ x.0, y.1 ∙ x.1)
+  gathers_both old mid new waiting still last a b before after end true true false x y = absurd y
+  gathers_both old mid new waiting still last a b before after end true false h x y = absurd x
+
+  pub gathers : IsSink (HasGathered contents)
+  gathers = record {
+    none = λ s. record { puts = gathers_none s.writer.now s.waiting.now.items s.count s.has_failed; same = refl; same_waiting = refl };
     both = λ a b c t u h g. record {
-      puts = puts_both a.writer.now b.writer.now c.writer.now t u a.count b.count c.count a.has_failed b.has_failed c.has_failed h.puts g.puts;
+      puts = gathers_both a.writer.now b.writer.now c.writer.now a.waiting.now.items b.waiting.now.items c.waiting.now.items t u a.count b.count c.count a.has_failed b.has_failed c.has_failed h.puts g.puts;
       same = g.same ∙ h.same;
+      same_waiting = g.same_waiting ∙ h.same_waiting;
     };
   }

@@ -5,19 +5,23 @@ ghost use Rattle.pf_values.specs.Counting.{Known, device_of};
 ghost use Rattle.pf_values.specs.meaning.Text.{Text};
 ghost use Rattle.pf_canon.specs.declared.faults.CopyFault.TheVariants.{Read};
 ghost use Rattle.pf_canon.specs.Transducer.{IsChunkWithin, RefusesChunk, chunk_output_text};
-ghost use Rattle.pf_canon.specs.Copy.{CopiesAll, CopyStops, HasPut, IsWritten, Puts, ReadCounts, StopsIn, WriteCounts};
+ghost use Rattle.pf_canon.specs.Copy.{CopiesAll, CopyStops, Gathers, HasGathered, IsGathered, IsWritten, Puts, ReadCounts, StopsIn, WriteCounts};
 ghost use Rattle.pf_canon.specs.Output.{output_text};
-ghost use Rattle.pf_canon.specs.SinkLaws.{writes};
+ghost use Rattle.pf_canon.specs.SinkLaws.{gathers};
 
 use crate::chunk::Chunk;
 use crate::faults::CopyFault;
-use crate::limits::COPY_BLOCK;
+use crate::limits::{COPY_BLOCK, GATHERED};
 use crate::output::Output;
 use crate::sink::Sink;
 use crate::transducer::Transducer;
+use arrayvec::ArrayVec;
 use pf_text::Refusal;
 use pf_values::{Counted, Model, write_bytes};
 use std::io::{Read, Write};
+
+/// Bytes that wait to be written together.
+pub(crate) type Waiting = ArrayVec<u8, GATHERED>;
 
 /// How many bytes of a text were copied, and how many bytes have gone out by then.
 #[derive(Clone, Copy, Debug)]
@@ -77,7 +81,7 @@ pub fn copy_canonical<R: Read, W: Write>(
     }
 }
 
-// Copies a block.
+// Copies a block. What its chunks settle goes out by its end.
 #[inline(always)]
 fn copy_block<W: Write>(
     transducer: &mut Transducer,
@@ -93,33 +97,39 @@ fn copy_block<W: Write>(
         (StopsIn model front text.now start (W.contents (device_of w.new))) }
     ensures counts { WriteCounts w.old w.new result }
 {
+    let mut waiting = Waiting::new();
     let mut at = 0;
     let mut written = written;
     while at < text.len() {
-        let progress = match copy_chunk(transducer, &text[at..], w, written) {
+        let progress = match copy_chunk(transducer, &text[at..], w, &mut waiting, written) {
             Ok(progress) => progress,
             Err(fault) => return Err(fault),
         };
         at += progress.len;
         written = progress.written;
     }
-    Ok(written)
+    match put(w, &waiting, written) {
+        Ok(count) => Ok(count),
+        Err(count) => Err(CopyFault::Write(count)),
+    }
 }
 
-// Copies the first chunk of a text.
+// Copies the first chunk of a text. The last bytes of what is settled may wait.
 #[inline(always)]
 fn copy_chunk<W: Write>(
     transducer: &mut Transducer,
     text: &[u8],
     w: &mut Counted<W>,
+    waiting: &mut Waiting,
     written: u128,
 ) -> Result<CopyProgress, CopyFault>
     requires { 0 < length text.now }
     ensures copied { (model : Model) (front : Text) (start : Known)
-        → IsWritten model transducer.old front start (W.contents (device_of w.old)) written
+        → IsGathered model transducer.old front start (W.contents (device_of w.old))
+        waiting.old.items written
         → MatchResult result
-        (λ progress. IsWritten model transducer.new (front ++ take progress.len text.now) start
-        (W.contents (device_of w.new)) progress.written)
+        (λ progress. IsGathered model transducer.new (front ++ take progress.len text.now) start
+        (W.contents (device_of w.new)) waiting.new.items progress.written)
         (StopsIn model front text.now start (W.contents (device_of w.new))) }
     ensures some { IfOk result (λ progress. 0 < progress.len) }
     ensures within { IfOk result (λ progress. progress.len ≤ length text.now) }
@@ -129,10 +139,10 @@ fn copy_chunk<W: Write>(
         Ok(chunk) => chunk,
         Err(refused) => {
             let verbatim = &text[..refused.verbatim_len];
-            return Err(copy_before_refusal(verbatim, w, written, refused.refusal));
+            return Err(copy_before_refusal(verbatim, w, waiting, written, refused.refusal));
         }
     };
-    match write_chunk(&chunk, text, w, written) {
+    match gather_chunk(&chunk, text, w, waiting, written) {
         Ok(written) => Ok(CopyProgress {
             len: chunk.len,
             written,
@@ -145,20 +155,27 @@ fn copy_chunk<W: Write>(
     }
 }
 
-// Copies the verbatim bytes before a byte that is refused.
+// Copies what waits, and the verbatim bytes before a byte that is refused.
+#[inline(never)]
 fn copy_before_refusal<W: Write>(
     verbatim: &[u8],
     w: &mut Counted<W>,
+    waiting: &[u8],
     written: u128,
     refusal: Refusal,
 ) -> CopyFault
     ensures copied { (model : Model) (front out text : Text) (start : Known) (len : ℕ)
         → verbatim.now ≡ take len text
         → Appends start (W.contents (device_of w.old)) out → written ≡ length out
-        → RefusesChunk model front out text (record { verbatim_len = len; refusal = refusal })
+        → RefusesChunk model front (out ++ waiting.now) text
+        (record { verbatim_len = len; refusal = refusal })
         → StopsIn model front text start (W.contents (device_of w.new)) result }
     ensures counts { WriteCounts {E = Unit {0}} w.old w.new (Err result) }
 {
+    let written = match put(w, waiting, written) {
+        Ok(written) => written,
+        Err(written) => return CopyFault::Write(written),
+    };
     match put(w, verbatim, written) {
         Ok(_) => CopyFault::Refused(refusal),
         Err(written) => CopyFault::Write(written),
@@ -200,24 +217,27 @@ pub(crate) fn put<W: Write>(w: &mut Counted<W>, bytes: &[u8], count: u128) -> Re
     }
 }
 
-/// A writer, how many bytes went out, and whether it failed. Then nothing more is written.
+/// A writer, the bytes that wait to be written, how many went out, and whether it failed. Then
+/// nothing more is written.
 #[derive(Drop)]
-pub(crate) struct Written<'a, W> {
+pub(crate) struct Gathered<'a, 'b, W> {
     writer: &'a mut Counted<W>,
+    waiting: &'b mut Waiting,
     count: u128,
     has_failed: bool,
 }
 
-impl<W: Write> Sink for Written<'_, W> {
-    ghost given = { HasPut W.contents };
+impl<W: Write> Sink for Gathered<'_, '_, W> {
+    ghost given = { HasGathered W.contents };
 
-    ghost laws = { writes W.contents };
+    ghost laws = { gathers W.contents };
 
+    #[inline(always)]
     fn put(&mut self, bytes: &[u8]) {
         if self.has_failed {
             return;
         }
-        match put(self.writer, bytes, self.count) {
+        match gather(self.writer, self.waiting, bytes, self.count) {
             Ok(count) => self.count = count,
             Err(count) => {
                 self.count = count;
@@ -226,23 +246,63 @@ impl<W: Write> Sink for Written<'_, W> {
         }
     }
 
+    #[inline(always)]
     fn is_shut(&self) -> bool {
         self.has_failed
     }
 }
 
-/// Writes what a chunk at the front of a text settles, and counts on as `put` does.
-pub(crate) fn write_chunk<W: Write>(
+// Lets bytes wait behind others, while there is room for them.
+#[inline(always)]
+fn gather<W: Write>(
+    w: &mut Counted<W>,
+    waiting: &mut Waiting,
+    bytes: &[u8],
+    count: u128,
+) -> Result<u128, u128>
+    ensures { Gathers W.contents w.old w.new waiting.old.items bytes.now count waiting.new.items
+        result }
+{
+    match waiting.try_extend_from_slice(bytes) {
+        Ok(()) => Ok(count),
+        Err(_) => put_both(w, waiting, bytes, count),
+    }
+}
+
+// Writes what waits, and then these bytes.
+#[inline(never)]
+fn put_both<W: Write>(
+    w: &mut Counted<W>,
+    waiting: &mut Waiting,
+    bytes: &[u8],
+    count: u128,
+) -> Result<u128, u128>
+    ensures { Gathers W.contents w.old w.new waiting.old.items bytes.now count waiting.new.items
+        result }
+{
+    let count = match put(w, waiting, count) {
+        Ok(count) => count,
+        Err(count) => return Err(count),
+    };
+    waiting.clear();
+    put(w, bytes, count)
+}
+
+/// Gathers what a chunk at the front of a text settles, and counts on as `put` does.
+pub(crate) fn gather_chunk<W: Write>(
     chunk: &Chunk,
     text: &[u8],
     w: &mut Counted<W>,
+    waiting: &mut Waiting,
     count: u128,
 ) -> Result<u128, u128>
     requires { IsChunkWithin chunk.now text.now }
-    ensures { Puts W.contents w.old w.new (chunk_output_text chunk.now text.now) count result }
+    ensures { Gathers W.contents w.old w.new waiting.old.items
+        (chunk_output_text chunk.now text.now) count waiting.new.items result }
 {
-    let mut out = Written {
+    let mut out = Gathered {
         writer: w,
+        waiting,
         count,
         has_failed: false,
     };
@@ -254,15 +314,18 @@ pub(crate) fn write_chunk<W: Write>(
 }
 
 /// The same of an output.
-pub(crate) fn write_output<W: Write>(
+pub(crate) fn gather_output<W: Write>(
     output: &Output,
     w: &mut Counted<W>,
+    waiting: &mut Waiting,
     count: u128,
 ) -> Result<u128, u128>
-    ensures { Puts W.contents w.old w.new (output_text output.now) count result }
+    ensures { Gathers W.contents w.old w.new waiting.old.items (output_text output.now) count
+        waiting.new.items result }
 {
-    let mut out = Written {
+    let mut out = Gathered {
         writer: w,
+        waiting,
         count,
         has_failed: false,
     };
@@ -271,4 +334,15 @@ pub(crate) fn write_output<W: Write>(
         return Err(out.count);
     }
     Ok(out.count)
+}
+
+// Writes an output, and counts on as `put` does.
+fn write_output<W: Write>(output: &Output, w: &mut Counted<W>, count: u128) -> Result<u128, u128>
+    ensures { Puts W.contents w.old w.new (output_text output.now) count result }
+{
+    let mut waiting = Waiting::new();
+    match gather_output(output, w, &mut waiting, count) {
+        Ok(count) => put(w, &waiting, count),
+        Err(count) => Err(count),
+    }
 }

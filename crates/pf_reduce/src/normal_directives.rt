@@ -10,6 +10,7 @@ use crate::padding::Padding;
 use crate::results::{Core, Normal, Reduced};
 use pf_values::{Conv, Directive, Flag, FlagSet, Length, Model};
 
+#[inline(always)]
 fn new_directive(
     flags: FlagSet,
     width: u16,
@@ -27,6 +28,7 @@ fn new_directive(
 }
 
 /// The directive with these flags and this precision, in this padding.
+#[inline(always)]
 pub(crate) fn padded_core(
     model: Model,
     padding: Padding,
@@ -55,6 +57,7 @@ pub(crate) fn padded_core(
 }
 
 /// A precision of 1 is none.
+#[inline(always)]
 pub(crate) fn kept_precision(precision: u16) -> Option<u16>
     ensures { result ≡ kept_precision precision }
 {

@@ -8,6 +8,7 @@ use crate::signs::Sign;
 use pf_values::{Directive, Model};
 
 /// The field width, 0 for none.
+#[inline(always)]
 pub(crate) fn width(directive: &Directive) -> u16
     ensures value { result ≡ width_of directive.now }
     ensures limit { result ≤ MAX_NUMBER }
@@ -16,6 +17,7 @@ pub(crate) fn width(directive: &Directive) -> u16
 }
 
 /// The precision of an integer, 1 for none.
+#[inline(always)]
 pub(crate) fn precision(directive: &Directive) -> u16
     ensures value { result ≡ precision_of directive.now }
     ensures limit { result ≤ MAX_NUMBER }
@@ -24,6 +26,7 @@ pub(crate) fn precision(directive: &Directive) -> u16
 }
 
 /// The most digits that the value has.
+#[inline(always)]
 pub(crate) fn max_digits(model: Model, directive: &Directive) -> u16
     ensures value { result ≡ digits_at_most model directive.now }
     ensures limit { result ≤ 255 }
@@ -32,6 +35,7 @@ pub(crate) fn max_digits(model: Model, directive: &Directive) -> u16
 }
 
 /// The most digits that are printed.
+#[inline(always)]
 pub(crate) fn longest(model: Model, directive: &Directive) -> u16
     ensures value { result ≡ longest model directive.now }
     ensures limit { result ≤ MAX_NUMBER }
@@ -40,6 +44,7 @@ pub(crate) fn longest(model: Model, directive: &Directive) -> u16
 }
 
 /// The length of the sign that the flags ask for.
+#[inline(always)]
 pub(crate) fn sign_len(directive: &Directive) -> u16
     ensures value { result ≡ sign_len directive.now }
     ensures limit { result ≤ 1 }

@@ -21,6 +21,7 @@ impl Padding {
     ghost use Rattle.pf_reduce.specs.Padded.{IsUnseen, constants, with_padding, padding_of};
 
     /// As the directive says.
+    #[inline(always)]
     pub(crate) fn of(directive: &Directive) -> Padding
         ensures value { result ≡ padding_of directive.now }
         ensures limit { result.width ≤ MAX_NUMBER }
@@ -36,6 +37,7 @@ impl Padding {
     }
 
     /// A width of at most so many bytes, where no more are printed: the spaces beyond are constant.
+    #[inline(always)]
     pub(crate) fn with_width_at_most(self, most: u16) -> Padding
         requires { (self.spaces ≡ 0) × (self.zeros ≡ 0) × (self.trail ≡ 0) }
         ensures same { (body : Text) → length body ≤ most
@@ -62,6 +64,7 @@ impl Padding {
     }
 
     /// Where at least so many bytes are printed, a width of no more is none.
+    #[inline(always)]
     pub(crate) fn without_idle_width(self, least: u16) -> Padding
         ensures same { (body : Text) → least ≤ length body
             → with_padding self body ≡ with_padding result body }
@@ -77,6 +80,7 @@ impl Padding {
     }
 
     /// Whether spaces may come before what is printed.
+    #[inline(always)]
     pub(crate) fn has_spaces_before(self) -> bool
         ensures yes { result ≡ true → (self.left ≡ false) × (0 < self.width) }
         ensures no { result ≡ false → (self.left ≡ true) ⊎ (self.width ≡ 0) }
@@ -85,6 +89,7 @@ impl Padding {
     }
 
     /// Where so many zeros are printed first, they are constant.
+    #[inline(always)]
     pub(crate) fn past_zeros(self, count: u16) -> Padding
         requires apart { (self.left ≡ true) ⊎ (self.width ≡ 0) ⊎ (count ≡ 0) }
         requires room { constants self + count < 2 ^ 16 }
@@ -102,6 +107,7 @@ impl Padding {
     }
 
     /// Right-justified up to a width of which nobody sees the side.
+    #[inline(always)]
     pub(crate) fn right_up_to(self, most: u16) -> Padding
         ensures same { (body : Text) → (self.width ≤ most → IsUnseen self.width body)
             → with_padding self body ≡ with_padding result body }

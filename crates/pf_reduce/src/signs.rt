@@ -14,6 +14,7 @@ pub(crate) enum Sign {
 
 impl Sign {
     /// What the flags ask for: beside `+` a space doesn't count (C11 7.21.6.1, paragraph 6).
+    #[inline(always)]
     pub(crate) fn of(flags: FlagSet) -> Sign
         ensures { result ≡ sign_of flags }
     {
@@ -27,6 +28,7 @@ impl Sign {
     }
 
     /// The flag that asks for it.
+    #[inline(always)]
     pub(crate) fn flags(self) -> FlagSet
         ensures { result ≡ sign_flags self }
     {
@@ -37,6 +39,7 @@ impl Sign {
         }
     }
 
+    #[inline(always)]
     pub(crate) fn len(self) -> u16
         ensures { result ≡ sign_length self }
     {

@@ -89,5 +89,9 @@ fn push_letters(out: &mut Spelling, length: Length)
     ensures bytes { out.new.items ≡ out.old.items ++ length_letters length }
     ensures len { array_vec_len out.new ≤ array_vec_len out.old + 2 }
 {
-    out.try_extend_from_slice(length_letters(length)).unwrap();
+    let letters = length_letters(length);
+    if letters.is_empty() {
+        return;
+    }
+    out.try_extend_from_slice(letters).unwrap();
 }

@@ -186,6 +186,7 @@ impl Directive {
     }
 
     /// The most digits that its value has, the sign not counted; 0 for `c` and `s`.
+    #[inline(always)]
     pub fn max_digits(&self, model: models::Model) -> u8
         ensures { result ≡ digits_at_most model self.now }
     {

@@ -1,28 +1,43 @@
-use Rattle.std.proofs.Common.{◌++◌, ◌∙◌, ap, refl, take, drop, subst}
+use Rattle.std.proofs.Common.{◌++◌, ◌∙◌, ap, refl, sym, take, drop, subst}
 use Rattle.std.proofs.lemmas.List.{append_assoc, take_rest, take-append-drop}
 use Rattle.pf_canon.specs.Copy.{FirstOut}
-use Rattle.pf_canon.specs.Transducer.{chunk_output_text}
-use Rattle.pf_canon.proofs.CopyLemmas.{put_first, put_out}
+use Rattle.pf_canon.specs.Transducer.{IsThrough, RefusesChunk, chunk_output_text}
+use Rattle.pf_canon.proofs.CopyLemmas.{few_through, gather_out, put_first}
 use Rattle.pf_canon.proofs.ChunkLemmas.{passed_settles}
 use Rattle.pf_values.specs.Counting.{device_of}
 use Rattle.pf_canon.proofs.copy.copy_chunk.Goals as goal
 
-pub returns-in-Ok-write_chunk-clause-copied : goal.returns-in-Ok-write_chunk-clause-copied
-returns-in-Ok-write_chunk-clause-copied g c model front start h =
+pub returns-in-Ok-gather_chunk-clause-copied : goal.returns-in-Ok-gather_chunk-clause-copied
+returns-in-Ok-gather_chunk-clause-copied g c model front start h =
     let text = c.args.text.now in
     let f = c.in-Ok.chunk in
-    let fed = c.in-Ok.ensures.fed model front h.out h.items h.through in
-    put_out model g.W.Write.contents c.args.w.now c.write_chunk.new.w h.out (chunk_output_text f text) start c.args.written h.writer h.count c.feed_chunk.new.self (front ++ take f.len text) fed.items fed.through c.in-Ok-write_chunk.written c.in-Ok-write_chunk.ensures
+    let new = c.feed_chunk.new.self in
+    let t = front ++ take f.len text in
+    let chunk = chunk_output_text f text in
+    let waiting = c.args.waiting.now.items in
+    let fed = c.in-Ok.ensures.fed model front (h.out ++ waiting) h.items h.through in
+    let through = subst (IsThrough model new t fed.items) (append_assoc h.out waiting chunk) fed.through in
+    let all = c.in-Ok-gather_chunk.ensures in
+    gather_out model g.W.Write.contents c.args.w.now c.gather_chunk.new.w h.out (waiting ++ chunk) start c.args.written h.writer h.count (few_through model new t _ fed.items through) new t fed.items through all.out _ all.split c.in-Ok-gather_chunk.written all.puts
 
-pub returns-in-Err-write_chunk-clause-copied : goal.returns-in-Err-write_chunk-clause-copied
-returns-in-Err-write_chunk-clause-copied g c model front start h =
+pub returns-in-Err-gather_chunk-clause-copied : goal.returns-in-Err-gather_chunk-clause-copied
+returns-in-Err-gather_chunk-clause-copied g c model front start h =
     let text = c.args.text.now in
     let f = c.in-Ok.chunk in
-    let fed = c.in-Ok.ensures.fed model front h.out h.items h.through in
-    let all = rw take_rest at c.passed.ensures model (front ++ take f.len text) (h.out ++ chunk_output_text f text) fed.items fed.through in
+    let new = c.feed_chunk.new.self in
+    let t = front ++ take f.len text in
+    let chunk = chunk_output_text f text in
+    let waiting = c.args.waiting.now.items in
+    let fed = c.in-Ok.ensures.fed model front (h.out ++ waiting) h.items h.through in
+    let through = subst (IsThrough model new t fed.items) (append_assoc h.out waiting chunk) fed.through in
+    let all = rw take_rest at c.passed.ensures model t (h.out ++ (waiting ++ chunk)) fed.items through in
     let whole = append_assoc front (take f.len text) (drop f.len text) ∙ ap (λ t. front ++ t) (take-append-drop f.len text) in
-    subst (λ t. FirstOut model t start (g.W.Write.contents (device_of c.write_chunk.new.w)) c.in-Err-write_chunk.written) whole
-    (put_first model g.W.Write.contents c.args.w.now c.write_chunk.new.w h.out (chunk_output_text f text) start c.args.written h.writer h.count c.feed_chunk.new.self (front ++ take f.len text) fed.items fed.through _ all.0 (passed_settles model _ _ c.passed.result all.1) c.in-Err-write_chunk.written c.in-Err-write_chunk.ensures)
+    subst (λ t. FirstOut model t start (g.W.Write.contents (device_of c.gather_chunk.new.w)) c.in-Err-gather_chunk.written) whole
+    (put_first model g.W.Write.contents c.args.w.now c.gather_chunk.new.w h.out (waiting ++ chunk) start c.args.written h.writer h.count (few_through model new t _ fed.items through) _ all.0 (passed_settles model _ _ c.passed.result all.1) c.in-Err-gather_chunk.written c.in-Err-gather_chunk.ensures)
 
 pub returns-in-Err-clause-copied : goal.returns-in-Err-clause-copied
-returns-in-Err-clause-copied g c model front start h = c.copy_before_refusal.ensures.copied model front h.out c.args.text.now start c.in-Err.refused.verbatim_len refl h.writer h.count (c.in-Err.ensures.fed model front h.out h.items h.through)
+returns-in-Err-clause-copied g c model front start h =
+    let text = c.args.text.now in
+    let refused = c.in-Err.refused in
+    c.copy_before_refusal.ensures.copied model front h.out text start refused.verbatim_len refl h.writer h.count
+    (subst (λ u. RefusesChunk model front (h.out ++ u) text refused) (sym c.deref.ensures.0) (c.in-Err.ensures.fed model front (h.out ++ c.args.waiting.now.items) h.items h.through))
