@@ -65,8 +65,12 @@ pub(crate) fn put_silents<S: Sink>(sink: &mut S, times: u64)
 
 /// Bytes in memory, to which others are appended while there is room for them.
 pub(crate) trait TextBuffer {
-    /// The bytes.
+    // the bytes
     ghost bytes_of: { Self → Text };
+
+    /// The bytes.
+    fn bytes(&self) -> &[u8]
+        ensures { result.now ≡ bytes_of self.now };
 
     /// Appends bytes.
     fn append(&mut self, bytes: &[u8]) -> Result<(), AllocError>
@@ -76,6 +80,11 @@ pub(crate) trait TextBuffer {
 /// There is room until a growth is refused.
 impl<A: Allocator> TextBuffer for Vec<u8, A> {
     ghost bytes_of = { λ v. v.items };
+
+    #[inline(always)]
+    fn bytes(&self) -> &[u8] {
+        self.as_slice()
+    }
 
     // No bytes need no growth.
     fn append(&mut self, bytes: &[u8]) -> Result<(), AllocError> {
@@ -89,6 +98,11 @@ impl<A: Allocator> TextBuffer for Vec<u8, A> {
 /// There is room for so many bytes, and none is ever taken from an allocator.
 impl<const N: usize> TextBuffer for ArrayVec<u8, N> {
     ghost bytes_of = { λ v. v.items };
+
+    #[inline(always)]
+    fn bytes(&self) -> &[u8] {
+        self.as_slice()
+    }
 
     fn append(&mut self, bytes: &[u8]) -> Result<(), AllocError> {
         match self.try_extend_from_slice(bytes) {
