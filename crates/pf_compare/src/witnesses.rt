@@ -234,9 +234,10 @@ pub(crate) fn foreseen_candidate(
     None
 }
 
-// How many of so many candidates are tried before it is known that the formats aren't equivalent:
-// all where they can't be or where that is cheap, and none where they are likely to be. Else 0 and 1
-// tell most directives apart, and -1 where the sign of a number takes the place of a zero.
+// How many of so many candidates are tried before it is known whether the directives print the same:
+// all where they can't or where that is cheap, and none where they are likely to, as where `+` hides
+// the flag ` `. Else 0 and 1 tell most directives apart, and -1 where the sign of a number takes the
+// place of a zero.
 fn foreseen_count(
     first: &Directive,
     second: &Directive,
@@ -245,7 +246,10 @@ fn foreseen_count(
 ) -> usize
     ensures { result ≤ count }
 {
-    if equal_range.is_some() || !may_be_equivalent(first, second) {
+    if !may_be_equivalent(first, second) {
+        return count;
+    }
+    if equal_range.is_some() && !first.flags().has(Flag::Plus) {
         return count;
     }
     if are_mostly_alike(first, second) {
