@@ -24,11 +24,11 @@ use Rattle.pf_canon.specs.declared.transducer.Transducer.{Transducer}
 use Rattle.pf_canon.specs.Making.{IsMaking}
 use Rattle.pf_canon.specs.Output.{output_text}
 use Rattle.pf_canon.specs.Transducer.{GrowsByChunk, HasScannedDirective, HasScannedByte, IsThrough, TakesVerbatim, TakesText, RefusesChunk, Settles, SettlesTo, SettlesWhole, SettlesDirective, chunk_output_text, byte_output_text, more_of, step_output_text}
-use Rattle.pf_text.specs.Plain.{PassesPlain, PassesSilents, silents}
+use Rattle.pf_text.specs.CanonicalRuns.{PassesCanonicalRun, PassesSilents, silents}
 use Rattle.pf_canon.proofs.TextLemmas.{most_len-append, not_truncated}
 use Rattle.pf_text.proofs.SpellingLemmas.{length-spelled}
 use Rattle.pf_canon.proofs.MakingLemmas.{made_more, made_normal, made_settled, made_silents}
-use Rattle.pf_canon.proofs.TransducerLemmas.{directive_grown, grown, passed, passed_plain, through_few}
+use Rattle.pf_canon.proofs.TransducerLemmas.{directive_grown, grown, passed, passed_run, through_few}
 
 pub through_settles : (model : Model) (r : Transducer) (t out : Text) (items : List Item) → IsThrough model r t items out → SettlesTo model t out
 through_settles model r t out items h =
@@ -169,10 +169,10 @@ kept_literals model old new t out text items len h same e between idle passes =
 
 -- and so are items that are spelled as a canonical text spells them, where no silent directive
 -- waits
-pub kept_plain : (model : Model) (old new : Transducer) (t out text : Text) (items : List Item) (len : ℕ) → IsThrough model old t items out → new.model ≡ old.model → new.waiting ≡ old.waiting
-    → (0 < len → Reads t items) → (len ≡ 0 → new.scanner ≡ old.scanner) → (Reads t items → PassesPlain model t items text len new.scanner) → old.waiting ≡ 0 → TakesVerbatim model t out text len new
-kept_plain model old new t out text items len h same e between idle passes none =
-    kept model old new t out text items len h same e between idle (λ reads. let p = passes reads in record { items = items ++ p.more; through = passed_plain model old new t out text items len h p none same e })
+pub kept_run : (model : Model) (old new : Transducer) (t out text : Text) (items : List Item) (len : ℕ) → IsThrough model old t items out → new.model ≡ old.model → new.waiting ≡ old.waiting
+    → (0 < len → Reads t items) → (len ≡ 0 → new.scanner ≡ old.scanner) → (Reads t items → PassesCanonicalRun model t items text len new.scanner) → old.waiting ≡ 0 → TakesVerbatim model t out text len new
+kept_run model old new t out text items len h same e between idle passes none =
+    kept model old new t out text items len h same e between idle (λ reads. let p = passes reads in record { items = items ++ p.more; through = passed_run model old new t out text items len h p none same e })
 
 -- no longer front of a text is accepted
 pub refused_from : (front behind : Text) (refusal : Refusal) {t : Text} → front ++ behind ≡ t → refusal.at ≡ length front → behind ≢ [] → IsRefusedAt (front ++ behind) refusal.kind refusal.at

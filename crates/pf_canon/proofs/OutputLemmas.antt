@@ -7,7 +7,7 @@ use Rattle.pf_values.specs.meaning.Canonical.{item_spelling}
 use Rattle.pf_values.specs.meaning.Normal.{silent}
 use Rattle.pf_values.specs.meaning.Spelling.{spelling_of}
 use Rattle.pf_values.specs.meaning.Text.{Text, space, zero_digit}
-use Rattle.pf_text.specs.Plain.{silents}
+use Rattle.pf_text.specs.CanonicalRuns.{silents}
 use Rattle.pf_canon.specs.Output.{silent_bytes, whole_text}
 
 pub spelled_silent : spelling_of silent ≡ silent_bytes

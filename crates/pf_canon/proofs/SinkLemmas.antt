@@ -10,7 +10,7 @@ use Rattle.pf_values.specs.meaning.Normal.{silent}
 use Rattle.pf_values.specs.meaning.Refusals.{IsRefusedAt}
 use Rattle.pf_values.specs.meaning.Text.{Text}
 use Rattle.pf_text.specs.declared.refusal.Refusal.{Refusal}
-use Rattle.pf_text.specs.Plain.{silents}
+use Rattle.pf_text.specs.CanonicalRuns.{silents}
 use Rattle.pf_canon.specs.declared.limits.TheConstants.{BLOCK}
 use Rattle.pf_canon.specs.Answers.{IsCanonicalFor}
 use Rattle.pf_canon.specs.Sink.{IsSink, Counts, IsFrontStripped, IsLeft}

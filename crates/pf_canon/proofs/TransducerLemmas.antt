@@ -13,7 +13,7 @@ use Rattle.pf_values.specs.meaning.Text.{Text, percent, space, zero_digit}
 use Rattle.pf_text.specs.declared.scanner.Step.{Step}
 use Rattle.pf_text.specs.declared.scanner.Step.TheVariants as steps
 use Rattle.pf_text.specs.History.{IsAfter, IsLiteral, Says, with_step}
-use Rattle.pf_text.specs.Plain.{IsPlain, PassesPlain}
+use Rattle.pf_text.specs.CanonicalRuns.{IsCanonicalItem, PassesCanonicalRun}
 use Rattle.pf_text.proofs.SpellingLemmas.{length-spelled}
 use Rattle.pf_text.specs.History as scanned
 use Rattle.pf_reduce.specs.Reducing.{IsReducedTo}
@@ -22,14 +22,14 @@ use Rattle.pf_reduce.specs.declared.results.Reduced.{Reduced}
 use Rattle.pf_reduce.specs.NormalValues.{NormalDirective}
 use Rattle.pf_canon.specs.declared.output.StepOutput.{StepOutput}
 use Rattle.pf_canon.specs.declared.transducer.Transducer.{Transducer}
-use Rattle.pf_text.specs.Plain.{silents}
+use Rattle.pf_text.specs.CanonicalRuns.{silents}
 use Rattle.pf_canon.specs.Making.{IsMaking}
 use Rattle.pf_canon.specs.Output.{whole_text}
 use Rattle.pf_canon.specs.Transducer.{GrowsByByte, IsStepOf, IsThrough, Settles, byte_output_text, more_of}
 use Rattle.pf_canon.specs.Answers.{most_len}
 use Rattle.pf_canon.proofs.TextLemmas.{items_few, most_len-append}
 use Rattle.pf_canon.proofs.DirectiveLemmas.{directive_made}
-use Rattle.pf_canon.proofs.MakingLemmas.{made_canonical, made_more, made_plain, made_same}
+use Rattle.pf_canon.proofs.MakingLemmas.{made_canonical, made_more, made_run, made_same}
 use Rattle.pf_canon.proofs.PieceLemmas.{run_made, run_short}
 use Rattle.pf_canon.proofs.Printing.{reduced_items}
 
@@ -102,30 +102,30 @@ byte_short : (byte : ℕ) (b : Bool) → length (if b then percent ∷ percent �
 byte_short byte true = omega arith
 byte_short byte false = omega arith
 
-plain_short : (model : Model) (items : List Item) → AllByRecursion (IsPlain model) items → length (flat_map item_spelling items) ≤ most_len items
-plain_short model [] all = omega arith
-plain_short model (Byte byte ∷ items) all = omega (arith, length-append (item_spelling (Byte byte)) (flat_map item_spelling items), byte_short byte (byte == percent), plain_short model items all.1)
-plain_short model (Directive s ∷ items) all =
+run_is_short : (model : Model) (items : List Item) → AllByRecursion (IsCanonicalItem model) items → length (flat_map item_spelling items) ≤ most_len items
+run_is_short model [] all = omega arith
+run_is_short model (Byte byte ∷ items) all = omega (arith, length-append (item_spelling (Byte byte)) (flat_map item_spelling items), byte_short byte (byte == percent), run_is_short model items all.1)
+run_is_short model (Directive s ∷ items) all =
     let normal = all.0 in
-    omega (arith, length-append (spelling_of s) (flat_map item_spelling items), length-spelled s normal.defined, plain_short model items all.1)
+    omega (arith, length-append (spelling_of s) (flat_map item_spelling items), length-spelled s normal.defined, run_is_short model items all.1)
 
 -- items were taken that are spelled as a canonical text spells them, where no silent directive
 -- waits
-pub passed_plain : (model : Model) (old new : Transducer) (t out following : Text) (items : List Item) (len : ℕ) → IsThrough model old t items out → (p : PassesPlain model t items following len new.scanner) → old.waiting ≡ 0 → new.model ≡ old.model → new.waiting ≡ old.waiting
+pub passed_run : (model : Model) (old new : Transducer) (t out following : Text) (items : List Item) (len : ℕ) → IsThrough model old t items out → (p : PassesCanonicalRun model t items following len new.scanner) → old.waiting ≡ 0 → new.model ≡ old.model → new.waiting ≡ old.waiting
     → IsThrough model new (t ++ take len following) (items ++ p.more) (out ++ take len following)
-passed_plain model old new t out following items len h p none same e =
+passed_run model old new t out following items len h p none same e =
     let run = take len following in
     let more = p.more in
-    let whole = p.plain.whole in
+    let whole = p.canonical.whole in
     let few = h.few in
     let short = h.short in
-    let made = made_plain model more out (items ++ more) [] p.plain.plain (subst (IsMaking model out 0 (items ++ more)) (sym (append-nil more)) (made_more model out 0 items [] more (subst (λ w. IsMaking model out w items []) none h.made))) in
+    let made = made_run model more out (items ++ more) [] p.canonical.canonical (subst (IsMaking model out 0 (items ++ more)) (sym (append-nil more)) (made_more model out 0 items [] more (subst (λ w. IsMaking model out w items []) none h.made))) in
     record {
       model_is = same ∙ h.model_is;
       after = p.after;
       made = rw (e, none, whole) made;
       few = omega (arith, few, e, length-append t run);
-      short = omega (arith, short, e, none, length-append out run, ap length whole, plain_short model more p.plain.plain, most_len-append items more);
+      short = omega (arith, short, e, none, length-append out run, ap length whole, run_is_short model more p.canonical.canonical, most_len-append items more);
     }
 
 pub byte_settled : (model : Model) (b byte waiting : ℕ) (out : Text) (items : List Item) → b ≡ byte → IsLiteral byte → IsMaking model out waiting items [] → IsMaking model (out ++ byte ∷ []) waiting (items ++ Byte b ∷ []) []

@@ -2,7 +2,7 @@
 use Rattle.std.specs.Prelude.{◌≡◌, ℕ, [], ◌∷◌, ◌++◌, replicate, flat_map, drop, Option, Some, None}
 use Rattle.pf_values.specs.meaning.Canonical.{item_spelling}
 use Rattle.pf_values.specs.meaning.Text.{Text, space, zero_digit}
-use Rattle.pf_text.specs.Plain.{silents}
+use Rattle.pf_text.specs.CanonicalRuns.{silents}
 use Rattle.pf_canon.specs.declared.output.Output.{Output}
 use Rattle.pf_canon.specs.declared.output.PendingOutput.{PendingOutput}
 use Rattle.pf_canon.specs.declared.output.PendingOutput.TheVariants as pending

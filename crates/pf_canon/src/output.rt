@@ -1,7 +1,7 @@
 //! What one item settles, to be put into a sink at once, or to be given in slices or byte by byte.
 ghost use Rattle.std.specs.Prelude.{◌≡◌, ◌*◌, ◌<◌, ℕ, drop, flat_map, length, replicate, ◌+◌, ◌^◌};
 ghost use Rattle.pf_values.specs.meaning.Canonical.{item_spelling};
-ghost use Rattle.pf_text.specs.Plain.{silents};
+ghost use Rattle.pf_text.specs.CanonicalRuns.{silents};
 ghost use Rattle.pf_values.specs.declared.padding.TheConstants.{MAX_RUN};
 ghost use Rattle.pf_canon.specs.Output.{IsFrontOf, text_after_zeros, output_text, silent_bytes, Pops, pending_text};
 ghost use Rattle.pf_canon.specs.Transducer.{byte_output_text};

@@ -2,7 +2,7 @@
 ghost use Rattle.std.specs.Prelude.{◌≡◌, ℕ, flat_map, length, replicate, IsTrue, ◌++◌, IfOk};
 ghost use Rattle.pf_values.specs.meaning.Canonical.{item_spelling};
 ghost use Rattle.pf_values.specs.meaning.Text.{Text};
-ghost use Rattle.pf_text.specs.Plain.{silents};
+ghost use Rattle.pf_text.specs.CanonicalRuns.{silents};
 ghost use Rattle.pf_values.specs.declared.padding.TheConstants.{MAX_RUN};
 ghost use Rattle.pf_canon.specs.Sink.{IsSink, IsBuilt, IsStripped, IsFrontStripped, IsLeft};
 ghost use Rattle.pf_canon.specs.SinkLaws.{builds, strips};

@@ -208,7 +208,7 @@ impl Transducer {
         if self.waiting > 0 {
             return self.scanner.pass_literals(text);
         }
-        self.scanner.pass_plain(text)
+        self.scanner.pass_canonical_run(text)
     }
 
     // Takes the directive that a text begins with, if it is its own canonical text, and returns its

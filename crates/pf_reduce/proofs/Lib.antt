@@ -4,7 +4,7 @@ mod SignLemmas
 mod Carried
 mod CarriedIntegers
 mod Precisions
-mod PlainNumbers
+mod UnprefixedNumbers
 mod PrefixedNumbers
 mod SignedNumbers
 mod TextCores

@@ -41,7 +41,7 @@ use Rattle.pf_reduce.specs.Cores.{padded_core, core_of_parts, kept_precision}
 use Rattle.pf_reduce.specs.Padded.{IsUnseen, constants, with_padding, padding_of}
 use Rattle.pf_reduce.specs.Reducing.{IsNormalCore, IsReducedTo}
 use Rattle.pf_reduce.proofs.CarriedIntegers.{integer_reduced, kept_kind, width_is}
-use Rattle.pf_reduce.proofs.PlainNumbers.{digits_text, length-digits_text, natural_is}
+use Rattle.pf_reduce.proofs.UnprefixedNumbers.{digits_text, length-digits_text, natural_is}
 use Rattle.pf_reduce.proofs.Precisions.{PrintsLike, alt_kept, core_text, effective, filled_right, same_filled, same_number}
 
 -- `0x`, `0X` or `0b`, but nothing before 0

@@ -48,7 +48,7 @@ use Rattle.pf_reduce.specs.Padded.{IsUnseen, constants, with_padding, padding_of
 use Rattle.pf_reduce.specs.Reducing.{IsNormalCore, IsReducedTo}
 use Rattle.pf_reduce.specs.Signs.{sign_flags, sign_length, sign_of, sign_text}
 use Rattle.pf_reduce.proofs.CarriedIntegers.{integer_reduced, kept_kind, kept_sign, width_is}
-use Rattle.pf_reduce.proofs.PlainNumbers.{
+use Rattle.pf_reduce.proofs.UnprefixedNumbers.{
   digits_text,
   length-digits_text,
   natural_is,

@@ -44,13 +44,13 @@ pub(crate) fn reduce_unsigned(
         Alternative::Raised if alt => reduce_octal(model, directive),
         Alternative::Prefixed if alt => reduce_prefixed(model, directive),
         Alternative::Undefined | Alternative::Raised | Alternative::Prefixed => {
-            reduce_plain(model, directive)
+            reduce_unprefixed(model, directive)
         }
     }
 }
 
 // `u`, and `o x X b` without `#`: digits alone.
-fn reduce_plain(model: Model, directive: &Directive) -> Reduced
+fn reduce_unprefixed(model: Model, directive: &Directive) -> Reduced
     requires text { is_text directive.now.conv ≡ false }
     requires sign { is_signed directive.now.conv ≡ false }
     requires alt { has directive.now.flags Alt ≡ false }
@@ -64,7 +64,7 @@ fn reduce_plain(model: Model, directive: &Directive) -> Reduced
         .without_idle_width(precision)
         .past_zeros(zeros)
         .right_up_to(1);
-    plain_core(model, padding, directive, precision - zeros)
+    unprefixed_core(model, padding, directive, precision - zeros)
 }
 
 // `o` with `#`: digits that begin with 0.
@@ -85,7 +85,7 @@ fn reduce_octal(model: Model, directive: &Directive) -> Reduced
     }
     let zeros = 1 + (precision - 1).saturating_sub(digits);
     let padding = padding.past_zeros(zeros).right_up_to(1);
-    plain_core(model, padding, directive, precision - zeros)
+    unprefixed_core(model, padding, directive, precision - zeros)
 }
 
 // `x X b` with `#`: digits after a prefix of two letters.
@@ -129,7 +129,7 @@ pub(crate) fn reduce_signed(model: Model, directive: &Directive) -> Reduced
 }
 
 // Digits alone.
-fn plain_core(model: Model, padding: Padding, directive: &Directive, precision: u16) -> Reduced
+fn unprefixed_core(model: Model, padding: Padding, directive: &Directive, precision: u16) -> Reduced
     requires text { is_text directive.now.conv ≡ false }
     requires sign { is_signed directive.now.conv ≡ false }
     requires few { precision ≤ digits_at_most model directive.now }

@@ -4,7 +4,7 @@ ghost use Rattle.pf_values.specs.meaning.Defined.{IsDefined};
 ghost use Rattle.pf_values.specs.meaning.Normal.{
   IsNormal,
   IsNormalString,
-  IsNormalPlain,
+  IsNormalUnprefixed,
   IsNormalOctal,
   IsNormalFilled,
   IsNormalPrefixed,
@@ -77,7 +77,7 @@ fn has_unsigned_form(model: Model, directive: &Directive, alternative: Alternati
         Alternative::Prefixed if alt && zero => is_normal_filled(directive),
         Alternative::Prefixed if alt => is_normal_prefixed(model, directive),
         Alternative::Undefined | Alternative::Raised | Alternative::Prefixed => {
-            is_normal_plain(model, directive)
+            is_normal_unprefixed(model, directive)
         }
     }
 }
@@ -105,8 +105,8 @@ fn is_normal_string(directive: &Directive) -> bool
     }
 }
 
-fn is_normal_plain(model: Model, directive: &Directive) -> bool
-    ensures { IsTrue result ↔ IsNormalPlain model directive.now }
+fn is_normal_unprefixed(model: Model, directive: &Directive) -> bool
+    ensures { IsTrue result ↔ IsNormalUnprefixed model directive.now }
 {
     let width = width(directive);
     let precision = precision(directive);

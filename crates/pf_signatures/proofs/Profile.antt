@@ -15,7 +15,7 @@ use Rattle.pf_values.specs.meaning.DataModel.{arg_type, type_of_kind}
 use Rattle.pf_values.specs.meaning.Defined.{IsDefined as IsProfileDefined, breaks as profile_breaks, is_above_limit, undefined_kinds}
 use Rattle.pf_values.specs.meaning.Flags.{flag_byte, has}
 use Rattle.pf_values.specs.meaning.Items.{Byte as ProfileByte, Directive, HasItems, IsAccepted, IsReadAs as IsProfileReadAs, Item, Reads as ProfileReads, types}
-use Rattle.pf_values.specs.meaning.Lengths.{is_long, is_plain}
+use Rattle.pf_values.specs.meaning.Lengths.{is_long, is_absent}
 use Rattle.pf_values.specs.meaning.Printing.{AreEquivalent}
 use Rattle.pf_values.specs.meaning.Specification.{Specification as ProfileSpecification}
 use Rattle.pf_values.specs.meaning.Spelling.{
@@ -88,7 +88,7 @@ module _ (s : ProfileSpecification) (h : IsProfileDefined s) where
       let zero_flag = twice (is_text s.conv) (has s.flags Zero) all.1.1.1.1.0 in
       let group = turned (is_decimal s.conv) (has s.flags Group) all.1.1.1.1.1.0 in
       let precision = twice (is_char s.conv) (is_some s.precision) all.1.1.1.1.1.1.0 in
-      let modifier = length_stands (is_text s.conv) (is_plain s.length) (is_long s.length) wide all.1.1.1.1.1.1.1.0 in
+      let modifier = length_stands (is_text s.conv) (is_absent s.length) (is_long s.length) wide all.1.1.1.1.1.1.1.0 in
       let same = some_given s.precision in
       rw same (rw (alt, zero_flag, group, precision, modifier) refl)
 

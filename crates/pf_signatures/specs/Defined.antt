@@ -4,7 +4,7 @@ use Rattle.pf_values.specs.declared.flags.Flag.TheVariants.{Minus, Plus, Space, 
 use Rattle.pf_values.specs.declared.flags.FlagSet.{FlagSet}
 use Rattle.pf_values.specs.meaning.Conversions.{has_alternative_form, is_char, is_decimal, is_text}
 use Rattle.pf_values.specs.meaning.Flags.{has}
-use Rattle.pf_values.specs.meaning.Lengths.{is_long, is_plain}
+use Rattle.pf_values.specs.meaning.Lengths.{is_long, is_absent}
 use Rattle.pf_signatures.specs.declared.conversions.Conversion.{Conversion}
 use Rattle.pf_signatures.specs.declared.conversions.Conversion.TheVariants.{Profile, Float, UpperS, Count}
 use Rattle.pf_signatures.specs.declared.conversions.Floating.{Floating}
@@ -51,13 +51,13 @@ takes_precision _ = false
 -- a length modifier is (C11 7.21.6.1 p7); `lf` is `f`, and `lc` and `ls` are wide
 abbrev pub takes_modifier : Conversion → Modifier → Bool
 takes_modifier (Profile conv) (Integer length) =
-    not (is_text conv) || is_plain length || is_long length
+    not (is_text conv) || is_absent length || is_long length
 takes_modifier (Profile conv) LongDouble = false
-takes_modifier (Float floating) (Integer length) = is_plain length || is_long length
+takes_modifier (Float floating) (Integer length) = is_absent length || is_long length
 takes_modifier (Float floating) LongDouble = true
 takes_modifier Count (Integer length) = true
 takes_modifier Count LongDouble = false
-takes_modifier _ (Integer length) = is_plain length
+takes_modifier _ (Integer length) = is_absent length
 takes_modifier _ LongDouble = false
 
 abbrev pub is_count : Conversion → Bool

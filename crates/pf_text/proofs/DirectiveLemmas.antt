@@ -13,7 +13,7 @@ use Rattle.pf_text.specs.declared.scanner.Scanner.{Scanner}
 use Rattle.pf_text.specs.History.{IsAfter, TakesDirective}
 use Rattle.pf_text.specs.PieceHistory.{GivesPiece, HasGiven}
 use Rattle.pf_text.proofs.LiteralLemmas.{after_read}
-use Rattle.pf_text.proofs.PlainLemmas.{bare, conv_defined}
+use Rattle.pf_text.proofs.CanonicalRunLemmas.{bare, conv_defined}
 use Rattle.pf_text.proofs.ReadBack.{spelled_read}
 use Rattle.pf_text.proofs.Texts.{Reads-push}
 

@@ -8,7 +8,7 @@ pub mod Unique
 pub mod SpellingLemmas
 pub mod ReadBack
 pub mod LiteralLemmas
-pub mod PlainLemmas
+pub mod CanonicalRunLemmas
 mod SearchLemmas
 pub mod PieceLemmas
 pub mod DirectiveLemmas

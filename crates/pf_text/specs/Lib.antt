@@ -5,7 +5,7 @@ pub mod Letters
 pub mod Places
 pub mod States
 pub mod History
-pub mod Plain
+pub mod CanonicalRuns
 pub mod PieceHistory
 pub mod Signatures
 pub mod WholeRuns

@@ -3,10 +3,10 @@
 #![tactic(auto)]
 
 mod argument_types;
+mod canonical_runs;
 pub mod laws;
 mod letters;
 mod pieces;
-mod plain;
 mod refusal;
 mod scanner;
 mod search;

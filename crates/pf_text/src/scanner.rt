@@ -4,12 +4,12 @@ ghost use Rattle.pf_values.specs.declared.limits.TheConstants.{MAX_TEXT_LEN};
 ghost use Rattle.pf_values.specs.meaning.Items.{Item, Reads};
 ghost use Rattle.pf_values.specs.meaning.Text.{Text};
 ghost use Rattle.pf_values.specs.declared.models.Model.{Model};
-ghost use Rattle.pf_text.specs.Plain.{PassesPlain, PassesSilents};
+ghost use Rattle.pf_text.specs.CanonicalRuns.{PassesCanonicalRun, PassesSilents};
 ghost use Rattle.pf_text.specs.Stages.{state_of};
 ghost use Rattle.pf_text.specs.States.{next};
 ghost use Rattle.pf_text.specs.History.{IsAfter, HasRefused, Feeds, Finishes, Passes, TakesDirective, offset_of, refusal_by, refused_by, refusing};
 
-use crate::plain::{count_silents, plain_len};
+use crate::canonical_runs::{canonical_run_len, count_silents};
 use crate::refusal::Refusal;
 use crate::search::literal_len;
 use crate::specification::directive_at_front;
@@ -180,15 +180,15 @@ impl Scanner {
         taken as usize
     }
 
-    /// Takes the plain items at the front of `text`, and returns how many bytes they have. These
+    /// Takes the canonical items at the front of `text`, and returns how many bytes they have. These
     /// are literal bytes, `%%`, and the directives of a conversion alone that are normal, as they
     /// then are in each data model. One call of `feed` for each byte would do the same. Inside an
     /// item, and after a refusal, it takes none.
     #[inline(always)]
-    pub fn pass_plain(&mut self, text: &[u8]) -> usize
+    pub fn pass_canonical_run(&mut self, text: &[u8]) -> usize
         ensures within { result ≤ length text.now }
         ensures passed { (model : Model) (t : Text) (items : List Item) → IsAfter self.old t items
-            → Reads t items → PassesPlain model t items text.now result self.new }
+            → Reads t items → PassesCanonicalRun model t items text.now result self.new }
         ensures between { (t : Text) (items : List Item) → IsAfter self.old t items → 0 < result
             → Reads t items }
         ensures idle { result ≡ 0 → self.new ≡ self.old }
@@ -199,7 +199,7 @@ impl Scanner {
         }
         let room = MAX_TEXT_LEN.saturating_sub(self.offset);
         let most = (text.len() as u64).min(room);
-        let run = plain_len(&text[..most as usize]);
+        let run = canonical_run_len(&text[..most as usize]);
         self.offset += run as u64;
         run
     }

@@ -225,7 +225,7 @@ fn first_undefined(
     if precision.is_some() && kind.is_char() {
         return Some(RefusalKind::PrecisionUndefined);
     }
-    if !length.is_plain() && kind.is_text() {
+    if !length.is_absent() && kind.is_text() {
         return Some(RefusalKind::LengthUndefined);
     }
     None

@@ -1,7 +1,7 @@
 //! Length modifiers.
 ghost use Rattle.std.specs.Prelude.{◌≡◌};
 ghost use Rattle.pf_values.specs.meaning.DataModel.{kept_length};
-ghost use Rattle.pf_values.specs.meaning.Lengths.{is_long, is_plain};
+ghost use Rattle.pf_values.specs.meaning.Lengths.{is_long, is_absent};
 
 use crate::data_model::length_row;
 use crate::models::Model;
@@ -48,8 +48,8 @@ impl Length {
         length_row(model, self).kept
     }
 
-    pub(crate) fn is_plain(self) -> bool
-        ensures { result ≡ is_plain self }
+    pub(crate) fn is_absent(self) -> bool
+        ensures { result ≡ is_absent self }
     {
         matches!(self, Length::None)
     }

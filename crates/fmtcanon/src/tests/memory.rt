@@ -113,7 +113,7 @@ fn bytes_come() -> bool {
 fn bytes_are_taken() -> bool {
     let mut scanner = Scanner::new();
     let literals = scanner.pass_literals(b"ab%");
-    let plain = scanner.pass_plain(b"%%%d");
+    let plain = scanner.pass_canonical_run(b"%%%d");
     let silents = scanner.pass_silents(b"%.0s%");
     let is_fed = scanner.feed(b'%').is_ok();
     literals == 2 && plain == 4 && silents == 1 && is_fed && scanner.finish().is_err()

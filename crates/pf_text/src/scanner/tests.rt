@@ -64,7 +64,7 @@ fn runs_up_to_the_limit(rt: HostRuntime) {
 
 // No pair is cut in two.
 #[test]
-fn plain_runs_up_to_the_limit(rt: HostRuntime) {
+fn canonical_runs_up_to_the_limit(rt: HostRuntime) {
     for (left, taken) in [
         (0, 0),
         (1, 0),
@@ -78,7 +78,11 @@ fn plain_runs_up_to_the_limit(rt: HostRuntime) {
     ] {
         let start = LIMIT.saturating_sub(left);
         let mut scanner = after(start);
-        assert_eq!(rt; scanner.pass_plain(b"%dab%%%i%s"), taken, "{left} left");
+        assert_eq!(rt;
+            scanner.pass_canonical_run(b"%dab%%%i%s"),
+            taken,
+            "{left} left"
+        );
         assert_eq!(rt; scanner.offset(), start.saturating_add(taken as u64));
     }
 }
@@ -100,7 +104,7 @@ fn inside_an_item_no_run_is_taken(rt: HostRuntime) {
     let mut scanner = Scanner::new();
     assert!(rt; scanner.feed(b'%') == Ok(Step::More));
     assert_eq!(rt; scanner.pass_literals(b"abc"), 0);
-    assert_eq!(rt; scanner.pass_plain(b"abc"), 0);
+    assert_eq!(rt; scanner.pass_canonical_run(b"abc"), 0);
     assert_eq!(rt; scanner.pass_silents(b"%.0s"), 0);
     assert_eq!(rt; scanner.offset(), 1);
 }
@@ -111,7 +115,7 @@ fn each_letter_after_percent(rt: HostRuntime) {
         let mut scanner = Scanner::new();
         let taken = if b"%douxXbcs".contains(&letter) { 2 } else { 0 };
         assert_eq!(rt;
-            scanner.pass_plain(&[b'%', letter]),
+            scanner.pass_canonical_run(&[b'%', letter]),
             taken,
             "letter {letter}"
         );

@@ -6,7 +6,7 @@ use Rattle.pf_values.specs.declared.refusals.RefusalKind.{RefusalKind}
 use Rattle.pf_values.specs.declared.refusals.RefusalKind.TheVariants.{WidthTooLarge, PrecisionTooLarge, Wide, AltUndefined, ZeroUndefined, GroupUndefined, PrecisionUndefined, LengthUndefined}
 use Rattle.pf_values.specs.meaning.Conversions.{has_alternative_form, is_char, is_decimal, is_text}
 use Rattle.pf_values.specs.meaning.Flags.{has}
-use Rattle.pf_values.specs.meaning.Lengths.{is_long, is_plain}
+use Rattle.pf_values.specs.meaning.Lengths.{is_long, is_absent}
 use Rattle.pf_values.specs.meaning.Specification.{Specification}
 
 abbrev pub is_above_limit : Option ℕ → Bool
@@ -22,7 +22,7 @@ breaks s AltUndefined = not (has_alternative_form s.conv) && has s.flags Alt
 breaks s ZeroUndefined = is_text s.conv && has s.flags Zero
 breaks s GroupUndefined = not (is_decimal s.conv) && has s.flags Group
 breaks s PrecisionUndefined = is_char s.conv && is_some s.precision
-breaks s LengthUndefined = is_text s.conv && not (is_plain s.length)
+breaks s LengthUndefined = is_text s.conv && not (is_absent s.length)
 breaks s _ = false
 
 -- combinations that the standard leaves undefined, by their numbers

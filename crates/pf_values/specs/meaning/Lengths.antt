@@ -15,9 +15,9 @@ length_letters lengths.Z = codes "z"
 length_letters lengths.T = codes "t"
 
 -- no modifier
-abbrev pub is_plain : Length → Bool
-is_plain lengths.None = true
-is_plain _ = false
+abbrev pub is_absent : Length → Bool
+is_absent lengths.None = true
+is_absent _ = false
 
 abbrev pub is_long : Length → Bool
 is_long lengths.L = true

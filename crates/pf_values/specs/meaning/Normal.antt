@@ -37,7 +37,7 @@ pub record IsNormalString (s : Specification) : Type 0 where
   pub left : IsTrue (has s.flags Minus) → 1 < width_of s
 
 -- `u o x X b` without `#`
-pub record IsNormalPlain (model : Model) (s : Specification) : Type 0 where
+pub record IsNormalUnprefixed (model : Model) (s : Specification) : Type 0 where
   pub not_filled : IsFalse (has s.flags Zero)
   pub precision : precision_of s ≤ digits_at_most model s
   pub least : 0 < width_of s → precision_of s < width_of s
@@ -82,13 +82,13 @@ pub record IsNormalSigned (model : Model) (s : Specification) : Type 0 where
 abbrev pub HasPrefixedForm : Model → Bool → Bool → Specification → Type 0
 HasPrefixedForm model true true s = IsNormalFilled s
 HasPrefixedForm model true false s = IsNormalPrefixed model s
-HasPrefixedForm model false _ s = IsNormalPlain model s
+HasPrefixedForm model false _ s = IsNormalUnprefixed model s
 
 -- `u o x X b`, by what `#` does
 abbrev pub HasUnsignedForm : Model → Alternative → Specification → Type 0
-HasUnsignedForm model Undefined s = IsNormalPlain model s
+HasUnsignedForm model Undefined s = IsNormalUnprefixed model s
 HasUnsignedForm model Raised s =
-    MatchBool (has s.flags Alt) (IsNormalOctal model s) (IsNormalPlain model s)
+    MatchBool (has s.flags Alt) (IsNormalOctal model s) (IsNormalUnprefixed model s)
 HasUnsignedForm model Prefixed s = HasPrefixedForm model (has s.flags Alt) (has s.flags Zero) s
 
 -- `d`

@@ -1,7 +1,7 @@
 use Rattle.std.proofs.Common.{◌≤◌, ◌-◌}
 use Rattle.std.specs.Prelude.{flat_map}
 use Rattle.pf_values.specs.meaning.Canonical.{item_spelling}
-use Rattle.pf_text.specs.Plain.{silents}
+use Rattle.pf_text.specs.CanonicalRuns.{silents}
 use Rattle.pf_canon.proofs.sink.put_silents.Given as goal
 
 -- those that are not left were put

@@ -6,7 +6,7 @@ use Rattle.pf_values.specs.declared.flags.Flag.TheVariants.{Alt}
 use Rattle.pf_values.specs.meaning.Normal.{digits_at_most}
 use Rattle.pf_values.specs.Directives.{effective_precision}
 use Rattle.pf_reduce.specs.Padded.{with_padding, padding_of}
-use Rattle.pf_reduce.proofs.PlainNumbers.{
+use Rattle.pf_reduce.proofs.UnprefixedNumbers.{
   digits_reduced,
   length-octal_text,
   octal,
@@ -44,7 +44,7 @@ returns c =
     let p_is : p ≡ max (effective_precision s 0) 1 = c.max-precision.ensures ∙ ap (λ k. max k 1) c.effective_precision.ensures.value in
     let z = 1 + c.saturating_sub-zeros.result in
     let z_is : z ≡ 1 + (p - 1 - digits_at_most c.args.model s) = omega (arith, c.saturating_sub-zeros.ensures, c.max_digits-digits.ensures.value) in
-    rw c.plain_core.ensures.value (digits_reduced c.args.model s c.right_up_to-padding.result (p - z) text signed (rw c.plain_core.ensures.value at c.plain_core.ensures.normal) (omega (arith, c.of.ensures.limit, c.with_width_at_most.ensures.constant, c.max.ensures, c.without_idle_width-padding.ensures.constant, c.past_zeros.ensures.constant, c.right_up_to-padding.ensures.constant, c.effective_precision.ensures.limit, c.max-precision.ensures, z_is)) (λ v count.
+    rw c.unprefixed_core.ensures.value (digits_reduced c.args.model s c.right_up_to-padding.result (p - z) text signed (rw c.unprefixed_core.ensures.value at c.unprefixed_core.ensures.normal) (omega (arith, c.of.ensures.limit, c.with_width_at_most.ensures.constant, c.max.ensures, c.without_idle_width-padding.ensures.constant, c.past_zeros.ensures.constant, c.right_up_to-padding.ensures.constant, c.effective_precision.ensures.limit, c.max-precision.ensures, z_is)) (λ v count.
     let n = nat_abs v in
     let few = octal_count c.args.model s e n count in
     let body = octal_text p n in

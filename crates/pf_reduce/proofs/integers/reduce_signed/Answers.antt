@@ -8,7 +8,7 @@ use Rattle.pf_values.specs.meaning.Normal.{digits_at_most}
 use Rattle.pf_values.specs.Directives.{effective_precision}
 use Rattle.pf_reduce.specs.Padded.{with_padding, padding_of}
 use Rattle.pf_reduce.specs.Signs.{sign_length, sign_of}
-use Rattle.pf_reduce.proofs.PlainNumbers.{digits_text, length-digits_text}
+use Rattle.pf_reduce.proofs.UnprefixedNumbers.{digits_text, length-digits_text}
 use Rattle.pf_reduce.proofs.SignedNumbers.{signed_filled, signed_least, signed_most, signed_reduced, signed_text, unseen_signed_side}
 use Rattle.pf_reduce.proofs.integers.reduce_signed.Goals as goal
 

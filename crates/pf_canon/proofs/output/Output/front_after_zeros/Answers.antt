@@ -3,7 +3,7 @@ use Rattle.std.specs.Prelude.{flat_map}
 use Rattle.std.proofs.lemmas.List.{drop-replicate, take_rest}
 use Rattle.pf_values.specs.meaning.Canonical.{item_spelling}
 use Rattle.pf_values.specs.meaning.Text.{space}
-use Rattle.pf_text.specs.Plain.{silents}
+use Rattle.pf_text.specs.CanonicalRuns.{silents}
 use Rattle.pf_canon.specs.Output.{IsFrontOf}
 use Rattle.pf_canon.proofs.OutputLemmas.{length-silents}
 use Rattle.pf_canon.proofs.PlaceLemmas.{front_all, front_of_first, front_of_second}

@@ -2,7 +2,7 @@ use Rattle.std.proofs.Common.{◌++◌, replicate}
 use Rattle.std.specs.Prelude.{flat_map}
 use Rattle.pf_values.specs.meaning.Canonical.{item_spelling}
 use Rattle.pf_values.specs.meaning.Text.{space, zero_digit}
-use Rattle.pf_text.specs.Plain.{silents}
+use Rattle.pf_text.specs.CanonicalRuns.{silents}
 use Rattle.pf_canon.specs.Output.{text_after_zeros}
 use Rattle.pf_canon.proofs.output.Output.put.Goals as goal
 

@@ -1,5 +1,5 @@
 use Rattle.std.proofs.Common.{refl, arith}
-use Rattle.pf_canon.proofs.ChunkLemmas.{kept_literals, kept_plain}
+use Rattle.pf_canon.proofs.ChunkLemmas.{kept_literals, kept_run}
 use Rattle.pf_canon.proofs.transducer.Transducer.pass_verbatim.Goals as goal
 
 pub returns-then-self-gt0-clause-kept : goal.returns-then-self-gt0-clause-kept
@@ -9,5 +9,5 @@ returns-then-self-gt0-clause-kept c model t out items h =
 
 pub returns-clause-kept : goal.returns-clause-kept
 returns-clause-kept c model t out items h =
-    let passed = c.pass_plain.ensures in
-    kept_plain model c.args.self.now _ t out c.args.text.now items c.pass_plain.result h refl refl (passed.between t items h.after) passed.idle (passed.passed model t items h.after) (omega (arith, c.if-self-gt0.false))
+    let passed = c.pass_canonical_run.ensures in
+    kept_run model c.args.self.now _ t out c.args.text.now items c.pass_canonical_run.result h refl refl (passed.between t items h.after) passed.idle (passed.passed model t items h.after) (omega (arith, c.if-self-gt0.false))

@@ -1,6 +1,6 @@
 use Rattle.std.proofs.Common.{◌*◌}
-use Rattle.pf_text.specs.Plain.{silents}
-use Rattle.pf_text.proofs.PlainLemmas.{items_passed, silents_end}
+use Rattle.pf_text.specs.CanonicalRuns.{silents}
+use Rattle.pf_text.proofs.CanonicalRunLemmas.{items_passed, silents_end}
 use Rattle.pf_text.proofs.scanner.Scanner.pass_silents.Goals as goal
 
 pub returns-clause-passed : goal.returns-clause-passed

@@ -1,7 +1,7 @@
 use Rattle.std.proofs.Common.{◌≤◌, arith, drop, length}
 use Rattle.std.proofs.lemmas.List.{length-drop, take_rest}
-use Rattle.pf_text.proofs.PlainLemmas.{silents_more}
-use Rattle.pf_text.proofs.plain.count_silents.Goals as goal
+use Rattle.pf_text.proofs.CanonicalRunLemmas.{silents_more}
+use Rattle.pf_text.proofs.canonical_runs.count_silents.Goals as goal
 
 pub loop-at-preserved : goal.loop-at-preserved
 loop-at-preserved c =

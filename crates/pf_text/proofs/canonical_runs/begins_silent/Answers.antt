@@ -1,7 +1,7 @@
 use Rattle.std.proofs.Common.{◌≡◌, ◌≤◌, arith, get_or, length, refl}
 use Rattle.std.proofs.lemmas.Bool.Decides.{nat_tests}
-use Rattle.pf_text.proofs.PlainLemmas.{first_bytes, silent_bytes, spelled_silent}
-use Rattle.pf_text.proofs.plain.begins_silent.Goals as goal
+use Rattle.pf_text.proofs.CanonicalRunLemmas.{first_bytes, silent_bytes, spelled_silent}
+use Rattle.pf_text.proofs.canonical_runs.begins_silent.Goals as goal
 
 pub returns : goal.returns
 returns c =

@@ -112,8 +112,8 @@ digits_reduced model s p precision text sign normal few same =
     same v (count-le s.conv (bits_under model s.length) text v fits) ∙ ap (with_padding p) (sym core))
 
 -- what `u`, and `o x X b` without `#`, print
-pub plain_value : (s : Specification) (v : ℤ) → is_signed s.conv ≡ false → has s.flags Alt ≡ false → value_text s v ≡ digits_text s.conv (effective_precision s 0) (nat_abs v)
-plain_value s v sign alt = effective s v 0 (λ e. inl (ap length (no_prefix s v sign alt))) ∙ number_text-plain s (effective_precision s 0) v sign alt
+pub unprefixed_value : (s : Specification) (v : ℤ) → is_signed s.conv ≡ false → has s.flags Alt ≡ false → value_text s v ≡ digits_text s.conv (effective_precision s 0) (nat_abs v)
+unprefixed_value s v sign alt = effective s v 0 (λ e. inl (ap length (no_prefix s v sign alt))) ∙ number_text-plain s (effective_precision s 0) v sign alt
 
 -- some of the zeros in front
 pub split_zeros : (conv : Conv) (precision z n k : ℕ) → k ≡ z + (precision - z - count_of (base_of conv) n) → zero_digits (base_of conv) (is_upper conv) k n ≡ replicate z zero_digit ++ digits_text conv (precision - z) n

@@ -19,14 +19,14 @@ use Rattle.pf_text.specs.History.{EndsRun, IsAfter}
 abbrev pub silents : ℕ → List Item
 silents count = replicate count (Directive silent)
 
--- a plain item: a literal byte, or a normal directive
-abbrev pub IsPlain : Model → Item → Type 0
-IsPlain model (Byte byte) = byte ≢ 0
-IsPlain model (Directive s) = IsNormal model s
+-- a canonical item: a literal byte, or a normal directive
+abbrev pub IsCanonicalItem : Model → Item → Type 0
+IsCanonicalItem model (Byte byte) = byte ≢ 0
+IsCanonicalItem model (Directive s) = IsNormal model s
 
--- a text of plain items, each written in the one way
-pub record IsPlainText (model : Model) (t : Text) (items : List Item) : Type 0 where
-  pub plain : AllByRecursion (IsPlain model) items
+-- a text of canonical items, each written in the one way
+pub record IsCanonicalRun (model : Model) (t : Text) (items : List Item) : Type 0 where
+  pub canonical : AllByRecursion (IsCanonicalItem model) items
   pub whole : t ≡ flat_map item_spelling items
 
 -- the modifiers that a normal directive keeps in each data model
@@ -47,8 +47,8 @@ is_kept_number alternative O = not alternative
 is_kept_number alternative _ = false
 
 -- whether a directive with `#` or without, a modifier and a conversion is such a one
-abbrev pub has_plain_parts : Bool → Length → Conv → Bool
-has_plain_parts alternative modifier conv =
+abbrev pub has_canonical_parts : Bool → Length → Conv → Bool
+has_canonical_parts alternative modifier conv =
     if is_kept_modifier modifier then is_kept_number alternative conv else false
 
 -- `#`, if it is there
@@ -56,12 +56,12 @@ abbrev pub alternative_bytes : Bool → Text
 alternative_bytes true = 35 ∷ []
 alternative_bytes false = []
 
--- after a text that is read, plain items at the front of what follows were taken, and no literal
+-- after a text that is read, canonical items at the front of what follows were taken, and no literal
 -- byte follows
-pub record PassesPlain (model : Model) (t : Text) (items : List Item) (following : Text) (len : ℕ)
+pub record PassesCanonicalRun (model : Model) (t : Text) (items : List Item) (following : Text) (len : ℕ)
     (new : Scanner) : Type 0 where
   pub more : List Item
-  pub plain : IsPlainText model (take len following) more
+  pub canonical : IsCanonicalRun model (take len following) more
   pub after : IsAfter new (t ++ take len following) (items ++ more)
   pub reads : Reads (t ++ take len following) (items ++ more)
   pub longest : EndsRun (t ++ take len following) (drop len following)

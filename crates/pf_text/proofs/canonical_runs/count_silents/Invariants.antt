@@ -1,7 +1,7 @@
 use Rattle.std.proofs.Common.{◌≡◌, ◌≤◌, ◌-◌, ◌*◌, length, take}
 use Rattle.pf_values.specs.meaning.Items.{Reads}
-use Rattle.pf_text.specs.Plain.{silents}
-use Rattle.pf_text.proofs.plain.count_silents.Given as goal
+use Rattle.pf_text.specs.CanonicalRuns.{silents}
+use Rattle.pf_text.proofs.canonical_runs.count_silents.Given as goal
 
 abbrev pub invariant-loop-at : goal.invariant-loop-at
 invariant-loop-at l = record {

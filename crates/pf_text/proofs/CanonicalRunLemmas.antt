@@ -25,13 +25,13 @@ use Rattle.pf_values.specs.declared.flags.Flag.TheVariants.{Alt, Group, Plus, Sp
 use Rattle.pf_values.specs.meaning.Flags.{has, no_flags, with_flag}
 use Rattle.pf_values.specs.meaning.Lengths.{length_letters}
 use Rattle.pf_values.specs.meaning.Items.{Item, Byte, Directive, IsReadAs, Reads}
-use Rattle.pf_values.specs.meaning.Normal.{HasNormalForm, IsNormal, IsNormalPlain, IsNormalPrefixed, IsNormalSigned, IsNormalString, digits_at_most, silent}
+use Rattle.pf_values.specs.meaning.Normal.{HasNormalForm, IsNormal, IsNormalUnprefixed, IsNormalPrefixed, IsNormalSigned, IsNormalString, digits_at_most, silent}
 use Rattle.pf_values.specs.meaning.Specification.{Specification}
 use Rattle.pf_values.specs.meaning.Spelling.{spelling_of}
 use Rattle.pf_values.specs.meaning.Text.{Text, percent}
 use Rattle.pf_text.specs.History.{EndsRun, IsAfter, IsLiteral}
 use Rattle.pf_text.specs.Letters.{conv_of}
-use Rattle.pf_text.specs.Plain.{IsPlain, IsPlainText, BeginsSilent, PassesPlain, alternative_bytes, has_plain_parts, is_kept_modifier, is_kept_number, silents}
+use Rattle.pf_text.specs.CanonicalRuns.{IsCanonicalItem, IsCanonicalRun, BeginsSilent, PassesCanonicalRun, alternative_bytes, has_canonical_parts, is_kept_modifier, is_kept_number, silents}
 use Rattle.pf_text.specs.declared.scanner.Scanner.{Scanner}
 use Rattle.pf_text.proofs.LiteralLemmas.{after_read, or_full, stops}
 use Rattle.pf_text.proofs.ReadBack.{spelled_read}
@@ -39,19 +39,19 @@ use Rattle.pf_text.proofs.Texts.{Reads-push}
 use Rattle.pf_text.proofs.Sound.{byte_of_conv}
 
 -- a byte that is written as it is
-plain_written : (byte : ℕ) → IsLiteral byte → item_spelling (Byte byte) ≡ byte ∷ []
-plain_written byte h = let other = h.0 in grind (arith, nat_tests)
+run_written : (byte : ℕ) → IsLiteral byte → item_spelling (Byte byte) ≡ byte ∷ []
+run_written byte h = let other = h.0 in grind (arith, nat_tests)
 
 pub literal_written : (bytes : Text) → AllByRecursion IsLiteral bytes → flat_map item_spelling (map Byte bytes) ≡ bytes
 literal_written [] h = refl
-literal_written (byte ∷ bytes) h = ap (λ t. t ++ flat_map item_spelling (map Byte bytes)) (plain_written byte h.0) ∙ ap (λ t. byte ∷ t) (literal_written bytes h.1)
+literal_written (byte ∷ bytes) h = ap (λ t. t ++ flat_map item_spelling (map Byte bytes)) (run_written byte h.0) ∙ ap (λ t. byte ∷ t) (literal_written bytes h.1)
 
-literals_some : (model : Model) (bytes : Text) → AllByRecursion IsLiteral bytes → AllByRecursion (IsPlain model) (map Byte bytes)
+literals_some : (model : Model) (bytes : Text) → AllByRecursion IsLiteral bytes → AllByRecursion (IsCanonicalItem model) (map Byte bytes)
 literals_some model [] h = tt
 literals_some model (byte ∷ bytes) h = (h.0.1, literals_some model bytes h.1)
 
-pub literals_plain : (model : Model) (bytes : Text) → AllByRecursion IsLiteral bytes → IsPlainText model bytes (map Byte bytes)
-literals_plain model bytes h = record { plain = literals_some model bytes h; whole = sym (literal_written bytes h) }
+pub literals_are_canonical : (model : Model) (bytes : Text) → AllByRecursion IsLiteral bytes → IsCanonicalRun model bytes (map Byte bytes)
+literals_are_canonical model bytes h = record { canonical = literals_some model bytes h; whole = sym (literal_written bytes h) }
 
 -- a directive of `#` or nothing, a modifier and a conversion
 abbrev pub parts : Bool → Length → Conv → Specification
@@ -72,8 +72,8 @@ signed_normal model modifier = record {
   left = λ e. absurd (cc);
 }
 
-plain_normal : (model : Model) (modifier : Length) (conv : Conv) → 1 ≤ digits_at_most model (parts false modifier conv) → IsNormalPlain model (parts false modifier conv)
-plain_normal model modifier conv some = record { not_filled = refl; precision = some; least = λ some. omega (arith, some); most = omega arith; left = λ e. absurd (cc) }
+unprefixed_normal : (model : Model) (modifier : Length) (conv : Conv) → 1 ≤ digits_at_most model (parts false modifier conv) → IsNormalUnprefixed model (parts false modifier conv)
+unprefixed_normal model modifier conv some = record { not_filled = refl; precision = some; least = λ some. omega (arith, some); most = omega arith; left = λ e. absurd (cc) }
 
 prefixed_normal : (model : Model) (modifier : Length) (conv : Conv) → IsNormalPrefixed model (parts true modifier conv)
 prefixed_normal model modifier conv = record { least = λ some. omega (arith, some); most = omega arith; left = λ e. absurd (cc) }
@@ -113,7 +113,7 @@ conv_form model D other = signed_normal model lengths.None
 conv_form model I other = absurd (other refl)
 conv_form model C other = (refl, refl, refl)
 conv_form model S other = string_normal
-conv_form model _ other = plain_normal model lengths.None _ (omega arith)
+conv_form model _ other = unprefixed_normal model lengths.None _ (omega arith)
 
 conv_kept : (conv : Conv) → conv ≢ I → kept_conv conv ≡ conv
 conv_kept I other = absurd (other refl)
@@ -129,7 +129,7 @@ some_of_bits B16 a b c d p q r s = q
 some_of_bits B32 a b c d p q r s = r
 some_of_bits B64 a b c d p q r s = s
 
--- what is plain with a modifier, or with `#`, is defined and has a normal form
+-- what is canonical with a modifier, or with `#`, is defined and has a normal form
 module _ (model : Model) (modifier : Length) where
   abbrev bits : Bits
   bits = bits_under model modifier
@@ -139,11 +139,11 @@ module _ (model : Model) (modifier : Length) where
   number_form true UpperX number = prefixed_normal model modifier UpperX
   number_form true B number = prefixed_normal model modifier B
   number_form false D number = signed_normal model modifier
-  number_form false U number = plain_normal model modifier U (some_of_bits bits 3 5 10 20 (omega arith) (omega arith) (omega arith) (omega arith))
-  number_form false O number = plain_normal model modifier O (some_of_bits bits 3 6 11 22 (omega arith) (omega arith) (omega arith) (omega arith))
-  number_form false X number = plain_normal model modifier X (some_of_bits bits 2 4 8 16 (omega arith) (omega arith) (omega arith) (omega arith))
-  number_form false UpperX number = plain_normal model modifier UpperX (some_of_bits bits 2 4 8 16 (omega arith) (omega arith) (omega arith) (omega arith))
-  number_form false B number = plain_normal model modifier B (some_of_bits bits 8 16 32 64 (omega arith) (omega arith) (omega arith) (omega arith))
+  number_form false U number = unprefixed_normal model modifier U (some_of_bits bits 3 5 10 20 (omega arith) (omega arith) (omega arith) (omega arith))
+  number_form false O number = unprefixed_normal model modifier O (some_of_bits bits 3 6 11 22 (omega arith) (omega arith) (omega arith) (omega arith))
+  number_form false X number = unprefixed_normal model modifier X (some_of_bits bits 2 4 8 16 (omega arith) (omega arith) (omega arith) (omega arith))
+  number_form false UpperX number = unprefixed_normal model modifier UpperX (some_of_bits bits 2 4 8 16 (omega arith) (omega arith) (omega arith) (omega arith))
+  number_form false B number = unprefixed_normal model modifier B (some_of_bits bits 8 16 32 64 (omega arith) (omega arith) (omega arith) (omega arith))
   number_form _ _ number = absurd (cc)
 
   number_allowed : (alternative : Bool) (conv : Conv) → is_kept_number alternative conv ≡ true → refused_as (parts alternative modifier conv) ≡ None
@@ -166,27 +166,27 @@ modifier_kept model lengths.Z kept = absurd (cc)
 modifier_kept model lengths.T kept = absurd (cc)
 modifier_kept model _ kept = refl
 
-both_kept : (alternative : Bool) (modifier : Length) (conv : Conv) → has_plain_parts alternative modifier conv ≡ true → (is_kept_modifier modifier ≡ true) × (is_kept_number alternative conv ≡ true)
-both_kept alternative modifier conv plain = go (is_kept_modifier modifier) refl where
+both_kept : (alternative : Bool) (modifier : Length) (conv : Conv) → has_canonical_parts alternative modifier conv ≡ true → (is_kept_modifier modifier ≡ true) × (is_kept_number alternative conv ≡ true)
+both_kept alternative modifier conv canonical = go (is_kept_modifier modifier) refl where
   go : (b : Bool) → is_kept_modifier modifier ≡ b → (is_kept_modifier modifier ≡ true) × (is_kept_number alternative conv ≡ true)
-  go true e = (e, sym (ap (λ b. if b then is_kept_number alternative conv else false) e) ∙ plain)
-  go false e = let never = sym (ap (λ b. if b then is_kept_number alternative conv else false) e) ∙ plain in absurd (cc)
+  go true e = (e, sym (ap (λ b. if b then is_kept_number alternative conv else false) e) ∙ canonical)
+  go false e = let never = sym (ap (λ b. if b then is_kept_number alternative conv else false) e) ∙ canonical in absurd (cc)
 
--- so it is a plain item as it is spelled
-pub parts_plain : (model : Model) (alternative : Bool) (modifier : Length) (conv : Conv) → has_plain_parts alternative modifier conv ≡ true
-    → IsPlainText model (((percent ∷ []) ++ alternative_bytes alternative ++ length_letters modifier) ++ conv_letter conv ∷ []) (Directive (parts alternative modifier conv) ∷ [])
-parts_plain model alternative modifier conv plain = go alternative plain where
-  go : (alternative : Bool) → has_plain_parts alternative modifier conv ≡ true
-      → IsPlainText model (((percent ∷ []) ++ alternative_bytes alternative ++ length_letters modifier) ++ conv_letter conv ∷ []) (Directive (parts alternative modifier conv) ∷ [])
-  go true plain =
-      let kept = both_kept true modifier conv plain in
-      record { plain = (parts_normal model true modifier conv (number_allowed model modifier true conv kept.1) (modifier_kept model modifier kept.0) (number_kept true conv kept.1) (number_form model modifier true conv kept.1), tt); whole = sym (append-nil (spelling_of (parts true modifier conv))) }
-  go false plain =
-      let kept = both_kept false modifier conv plain in
-      record { plain = (parts_normal model false modifier conv (number_allowed model modifier false conv kept.1) (modifier_kept model modifier kept.0) (number_kept false conv kept.1) (number_form model modifier false conv kept.1), tt); whole = sym (append-nil (spelling_of (parts false modifier conv))) }
+-- so it is a canonical item as it is spelled
+pub parts_are_canonical : (model : Model) (alternative : Bool) (modifier : Length) (conv : Conv) → has_canonical_parts alternative modifier conv ≡ true
+    → IsCanonicalRun model (((percent ∷ []) ++ alternative_bytes alternative ++ length_letters modifier) ++ conv_letter conv ∷ []) (Directive (parts alternative modifier conv) ∷ [])
+parts_are_canonical model alternative modifier conv canonical = go alternative canonical where
+  go : (alternative : Bool) → has_canonical_parts alternative modifier conv ≡ true
+      → IsCanonicalRun model (((percent ∷ []) ++ alternative_bytes alternative ++ length_letters modifier) ++ conv_letter conv ∷ []) (Directive (parts alternative modifier conv) ∷ [])
+  go true canonical =
+      let kept = both_kept true modifier conv canonical in
+      record { canonical = (parts_normal model true modifier conv (number_allowed model modifier true conv kept.1) (modifier_kept model modifier kept.0) (number_kept true conv kept.1) (number_form model modifier true conv kept.1), tt); whole = sym (append-nil (spelling_of (parts true modifier conv))) }
+  go false canonical =
+      let kept = both_kept false modifier conv canonical in
+      record { canonical = (parts_normal model false modifier conv (number_allowed model modifier false conv kept.1) (modifier_kept model modifier kept.0) (number_kept false conv kept.1) (number_form model modifier false conv kept.1), tt); whole = sym (append-nil (spelling_of (parts false modifier conv))) }
 
-pub percent_plain : (model : Model) (letter : ℕ) → letter ≡ percent → (item : Item) × IsPlainText model (percent ∷ letter ∷ []) (item ∷ [])
-percent_plain model letter e = (Byte percent, record { plain = ((λ z. cc), tt); whole = ap (λ b. percent ∷ b ∷ []) e })
+pub percent_is_canonical : (model : Model) (letter : ℕ) → letter ≡ percent → (item : Item) × IsCanonicalRun model (percent ∷ letter ∷ []) (item ∷ [])
+percent_is_canonical model letter e = (Byte percent, record { canonical = ((λ z. cc), tt); whole = ap (λ b. percent ∷ b ∷ []) e })
 
 -- the bytes that begin a text, one by one
 abbrev pub bytes_of : ℕ → (ℕ → ℕ) → Text
@@ -198,22 +198,22 @@ first_bytes zero text few = refl
 first_bytes (suc n) [] few = absurd (omega (arith, few))
 first_bytes (suc n) (byte ∷ text) few = ap (λ t. byte ∷ t) (first_bytes n text (omega (arith, few)))
 
-pub conv_plain : (model : Model) (letter : ℕ) (o : Option Conv) → conv_of letter ≡ o → letter ≢ 105 → is_some o ≡ true → (item : Item) × IsPlainText model (percent ∷ letter ∷ []) (item ∷ [])
-conv_plain model letter None e other some = absurd (cc)
-conv_plain model letter (Some conv) e other some =
+pub conv_is_canonical : (model : Model) (letter : ℕ) (o : Option Conv) → conv_of letter ≡ o → letter ≢ 105 → is_some o ≡ true → (item : Item) × IsCanonicalRun model (percent ∷ letter ∷ []) (item ∷ [])
+conv_is_canonical model letter None e other some = absurd (cc)
+conv_is_canonical model letter (Some conv) e other some =
     let byte = byte_of_conv letter conv e in
-    (Directive (bare conv), record { plain = (conv_normal model conv (λ i. other (byte ∙ ap conv_letter i)), tt); whole = ap (λ b. percent ∷ b ∷ []) byte })
+    (Directive (bare conv), record { canonical = (conv_normal model conv (λ i. other (byte ∙ ap conv_letter i)), tt); whole = ap (λ b. percent ∷ b ∷ []) byte })
 
-all_append : (model : Model) (a b : List Item) → AllByRecursion (IsPlain model) a → AllByRecursion (IsPlain model) b → AllByRecursion (IsPlain model) (a ++ b)
+all_append : (model : Model) (a b : List Item) → AllByRecursion (IsCanonicalItem model) a → AllByRecursion (IsCanonicalItem model) b → AllByRecursion (IsCanonicalItem model) (a ++ b)
 all_append model [] b h g = g
 all_append model (item ∷ a) b h g = (h.0, all_append model a b h.1 g)
 
-pub plain_append : (model : Model) (t u : Text) (a b : List Item) → IsPlainText model t a → IsPlainText model u b → IsPlainText model (t ++ u) (a ++ b)
-plain_append model t u a b h g = record { plain = all_append model a b h.plain g.plain; whole = ap₂ (λ (x y : Text). x ++ y) h.whole g.whole ∙ sym (flat_map-append item_spelling a b) }
+pub run_append : (model : Model) (t u : Text) (a b : List Item) → IsCanonicalRun model t a → IsCanonicalRun model u b → IsCanonicalRun model (t ++ u) (a ++ b)
+run_append model t u a b h g = record { canonical = all_append model a b h.canonical g.canonical; whole = ap₂ (λ (x y : Text). x ++ y) h.whole g.whole ∙ sym (flat_map-append item_spelling a b) }
 
 -- more bytes of a text are such items
-pub plain_more : (model : Model) (text : Text) (at more : ℕ) (a b : List Item) → IsPlainText model (take at text) a → IsPlainText model (take more (drop at text)) b → IsPlainText model (take (at + more) text) (a ++ b)
-plain_more model text at more a b h g = subst (λ u. IsPlainText model u (a ++ b)) (sym (take-add at more text)) (plain_append model (take at text) (take more (drop at text)) a b h g)
+pub run_more : (model : Model) (text : Text) (at more : ℕ) (a b : List Item) → IsCanonicalRun model (take at text) a → IsCanonicalRun model (take more (drop at text)) b → IsCanonicalRun model (take (at + more) text) (a ++ b)
+run_more model text at more a b h g = subst (λ u. IsCanonicalRun model u (a ++ b)) (sym (take-add at more text)) (run_append model (take at text) (take more (drop at text)) a b h g)
 
 is_read_byte : (byte : ℕ) (b : Bool) → byte ≢ 0 → MatchBool b ((if b then percent ∷ percent ∷ [] else byte ∷ []) ≡ percent ∷ percent ∷ []) ((byte ≢ 0) × ((if b then percent ∷ percent ∷ [] else byte ∷ []) ≡ byte ∷ []))
 is_read_byte byte true some = refl
@@ -222,21 +222,21 @@ is_read_byte byte false some = (some, refl)
 pub byte_read : (byte : ℕ) → byte ≢ 0 → IsReadAs (item_spelling (Byte byte)) (Byte byte)
 byte_read byte some = is_read_byte byte (byte == percent) some
 
-read_plain : (model : Model) (item : Item) → IsPlain model item → IsReadAs (item_spelling item) item
-read_plain model (Byte byte) h = byte_read byte h
-read_plain model (Directive s) h = (spelled_read s h.defined, h.defined)
+read_run : (model : Model) (item : Item) → IsCanonicalItem model item → IsReadAs (item_spelling item) item
+read_run model (Byte byte) h = byte_read byte h
+read_run model (Directive s) h = (spelled_read s h.defined, h.defined)
 
-all_read : (model : Model) (items : List Item) → AllByRecursion (IsPlain model) items → Reads (flat_map item_spelling items) items
+all_read : (model : Model) (items : List Item) → AllByRecursion (IsCanonicalItem model) items → Reads (flat_map item_spelling items) items
 all_read model [] h = refl
-all_read model (item ∷ items) h = (item_spelling item, flat_map item_spelling items, read_plain model item h.0, all_read model items h.1, refl)
+all_read model (item ∷ items) h = (item_spelling item, flat_map item_spelling items, read_run model item h.0, all_read model items h.1, refl)
 
 -- a text of items after another
 pub Reads-append : (t u : Text) (a b : List Item) → Reads t a → Reads u b → Reads (t ++ u) (a ++ b)
 Reads-append t u [] b h g = rw h g
 Reads-append t u (item ∷ a) b h g = (h.0, h.1 ++ u, h.2, Reads-append h.1 u a b h.3 g, ap (λ x. x ++ u) h.4 ∙ append_assoc h.0 h.1 u)
 
-Reads-plain : (model : Model) (t u : Text) (items more : List Item) → Reads t items → IsPlainText model u more → Reads (t ++ u) (items ++ more)
-Reads-plain model t u items more h g = Reads-append t u items more h (subst (λ v. Reads v more) (sym g.whole) (all_read model more g.plain))
+Reads-canonical : (model : Model) (t u : Text) (items more : List Item) → Reads t items → IsCanonicalRun model u more → Reads (t ++ u) (items ++ more)
+Reads-canonical model t u items more h g = Reads-append t u items more h (subst (λ v. Reads v more) (sym g.whole) (all_read model more g.canonical))
 
 -- no literal byte follows such items
 ends_here : (t rest : Text) → (length t ≡ MAX_TEXT_LEN) ⊎ (0 < length rest → is_byte2 percent 0 (get_or rest 0 0) ≡ true) → EndsRun t rest
@@ -266,8 +266,8 @@ module _ (scanner : Scanner) (t text : Text) (items : List Item) (n most room : 
     long : length (take n text) ≡ n
     long = length-take-le n text (omega (arith, least, within, front_len))
 
-    plain_ends : (n < length (take most text) → is_byte2 percent 0 (get_or (take most text) n 0) ≡ true) → EndsRun (t ++ take n text) (drop n text)
-    plain_ends ends = elim (cases_lt n most) [
+    canonical_run_ends : (n < length (take most text) → is_byte2 percent 0 (get_or (take most text) n 0) ≡ true) → EndsRun (t ++ take n text) (drop n text)
+    canonical_run_ends ends = elim (cases_lt n most) [
       | inl less ↦
           let place : n + 0 ≡ n = omega arith in
           let here : get_or (take most text) n 0 ≡ get_or (drop n text) 0 0 = get_or-take most text n 0 less ∙ ap (λ k. get_or text k 0) (sym place) ∙ sym (get_or-drop n text 0 0) in
@@ -284,11 +284,11 @@ module _ (scanner : Scanner) (t text : Text) (items : List Item) (n most room : 
         subst (λ k. IsAfter (record scanner { offset = scanner.offset + k }) (t ++ take n text) (items ++ more)) long
         (after_read scanner t (take n text) items more h reads now (omega (arith, length-append t (take n text), long, h.offset, h.limit, least, full, within, front_len)))
 
-    pub plain_passed : {model : Model} (more : List Item) → IsPlainText model (take n (take most text)) more → (n < length (take most text) → is_byte2 percent 0 (get_or (take most text) n 0) ≡ true) → PassesPlain model t items text n (record scanner { offset = scanner.offset + n })
-    plain_passed {model} more plain ends =
-        let p = subst (λ u. IsPlainText model u more) taken plain in
-        let now = Reads-plain model t (take n text) items more reads p in
-        record { more = more; plain = p; after = read_passed more now; reads = now; longest = plain_ends ends }
+    pub run_passed : {model : Model} (more : List Item) → IsCanonicalRun model (take n (take most text)) more → (n < length (take most text) → is_byte2 percent 0 (get_or (take most text) n 0) ≡ true) → PassesCanonicalRun model t items text n (record scanner { offset = scanner.offset + n })
+    run_passed {model} more canonical ends =
+        let p = subst (λ u. IsCanonicalRun model u more) taken canonical in
+        let now = Reads-canonical model t (take n text) items more reads p in
+        record { more = more; canonical = p; after = read_passed more now; reads = now; longest = canonical_run_ends ends }
 
     -- where `%.0s` follows, though it doesn't in what the limit leaves, it passes the limit
     pub silents_end : ¬ BeginsSilent (drop n (take most text)) → BeginsSilent (drop n text) → MAX_TEXT_LEN < length (t ++ take n text) + 4

@@ -3,7 +3,7 @@ ghost use Rattle.std.specs.Prelude.{◌≡◌, ◌<◌, ◌≤◌, [], ◌∷◌
 ghost use Rattle.memchr.specs.Find.{Passes, is_byte2};
 ghost use Rattle.pf_values.specs.meaning.Items.{Item, Reads};
 ghost use Rattle.pf_values.specs.declared.models.Model.{Model};
-ghost use Rattle.pf_text.specs.Plain.{BeginsSilent, IsPlainText, alternative_bytes, has_plain_parts, is_kept_modifier, silents};
+ghost use Rattle.pf_text.specs.CanonicalRuns.{BeginsSilent, IsCanonicalRun, alternative_bytes, has_canonical_parts, is_kept_modifier, silents};
 ghost use Rattle.pf_text.specs.Places.{HasBytes};
 ghost use Rattle.pf_values.specs.meaning.Text.{percent};
 
@@ -12,20 +12,20 @@ use crate::search::literal_len;
 use crate::specification::{conv_at, modifier_at};
 use pf_values::{Conv, Length};
 
-/// How many bytes of the text come before the first item that isn't plain. These are literal
+/// How many bytes of the text come before the first item that isn't canonical. These are literal
 /// bytes, `%%`, and of the directives those that are normal in each data model and have a conversion
 /// alone, or a number's with `#` or a length modifier. It makes no directive, sees no scanner, and
 /// is never inlined, as `literal_len`.
 #[inline(never)]
-pub(crate) fn plain_len(text: &[u8]) -> usize
+pub(crate) fn canonical_run_len(text: &[u8]) -> usize
     ensures within { result ≤ length text.now }
-    ensures plain { (model : Model)
-        → (items : List Item) × IsPlainText model (take result text.now) items }
+    ensures canonical { (model : Model)
+        → (items : List Item) × IsCanonicalRun model (take result text.now) items }
     ensures ended { result < length text.now → Passes (is_byte2 37 0) text.now result }
 {
     let mut at = 0;
     while at < text.len() {
-        let more = plain_front(&text[at..]);
+        let more = canonical_front_len(&text[at..]);
         if more == 0 {
             return at;
         }
@@ -35,13 +35,13 @@ pub(crate) fn plain_len(text: &[u8]) -> usize
 }
 
 // How many bytes has the run of literal bytes that begins a text, or its first item, if that is
-// plain.
+// canonical.
 #[inline(always)]
-fn plain_front(text: &[u8]) -> usize
+fn canonical_front_len(text: &[u8]) -> usize
     requires { 0 < length text.now }
     ensures within { result ≤ length text.now }
-    ensures plain { (model : Model)
-        → (items : List Item) × IsPlainText model (take result text.now) items }
+    ensures canonical { (model : Model)
+        → (items : List Item) × IsCanonicalRun model (take result text.now) items }
     ensures ended { result ≡ 0 → Passes (is_byte2 37 0) text.now 0 }
 {
     if text[0] != b'%' {
@@ -50,26 +50,26 @@ fn plain_front(text: &[u8]) -> usize
     if text.len() < 2 {
         return 0;
     }
-    if ends_plain(text[1]) {
+    if ends_canonical_item(text[1]) {
         return 2;
     }
     parts_len(text)
 }
 
-// How many bytes has the directive that begins a text, if it is plain, with `#` or a length modifier.
+// How many bytes has the directive that begins a text, if it is canonical, with `#` or a length modifier.
 #[inline(always)]
 fn parts_len(text: &[u8]) -> usize
     requires { (1 ≤ length text.now) × (take 1 text.now ≡ percent ∷ []) }
     ensures within { result ≤ length text.now }
-    ensures plain { (model : Model)
-        → (items : List Item) × IsPlainText model (take result text.now) items }
+    ensures canonical { (model : Model)
+        → (items : List Item) × IsCanonicalRun model (take result text.now) items }
 {
     let (alternative, at) = alternative_at(text);
     let (modifier, at) = modifier_at(text, at);
     let Some(conv) = conv_at(text, at) else {
         return 0;
     };
-    if has_plain_parts(alternative, modifier, conv) {
+    if has_canonical_parts(alternative, modifier, conv) {
         return at + 1;
     }
     0
@@ -93,8 +93,8 @@ fn alternative_at(text: &[u8]) -> (bool, usize)
 // Whether a directive with `#` or without, a length modifier and a conversion is a number's, and
 // normal in each data model.
 #[inline(always)]
-fn has_plain_parts(alternative: bool, modifier: Length, conv: Conv) -> bool
-    ensures { result ≡ has_plain_parts alternative modifier conv }
+fn has_canonical_parts(alternative: bool, modifier: Length, conv: Conv) -> bool
+    ensures { result ≡ has_canonical_parts alternative modifier conv }
 {
     if !is_kept_modifier(modifier) {
         return false;
@@ -116,12 +116,12 @@ fn is_kept_modifier(modifier: Length) -> bool
     }
 }
 
-// Whether a byte after `%` ends a plain item: `%`, or a conversion, but not `i`, since `%d` is the
+// Whether a byte after `%` ends a canonical item: `%`, or a conversion, but not `i`, since `%d` is the
 // normal one.
 #[inline(always)]
-fn ends_plain(letter: u8) -> bool
+fn ends_canonical_item(letter: u8) -> bool
     ensures { (model : Model) → IsTrue result
-        → (item : Item) × IsPlainText model (37 ∷ letter ∷ []) (item ∷ []) }
+        → (item : Item) × IsCanonicalRun model (37 ∷ letter ∷ []) (item ∷ []) }
 {
     if letter == b'%' {
         return true;

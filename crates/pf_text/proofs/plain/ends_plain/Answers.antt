@@ -1,9 +1,0 @@
-use Rattle.std.proofs.Common.{sym, ◌∙◌}
-use Rattle.pf_text.proofs.PlainLemmas.{conv_plain, percent_plain}
-use Rattle.pf_text.proofs.plain.ends_plain.Goals as goal
-
-pub returns-then-letter-eq37 : goal.returns-then-letter-eq37
-returns-then-letter-eq37 c model e = percent_plain model c.args.letter c.if-letter-eq37.true
-
-pub returns : goal.returns
-returns c model e = conv_plain model c.args.letter c.conv_of.result (sym c.conv_of.ensures) c.if-letter-eq105.false (sym c.is_some.ensures ∙ e)
