@@ -25,7 +25,7 @@ use Rattle.pf_compare.specs.declared.owned_args.OwnedArg.{OwnedArg}
 use Rattle.pf_compare.specs.declared.witnesses.Witness.{Witness}
 use Rattle.pf_compare.specs.Answers.{HaveSameTypes, IsCandidateAt, PrintTheSame, PrintUnlike, probe_at}
 use Rattle.pf_compare.specs.Layouts.{ReplacementsEqual, ReplacementsDiffer, FindsUnlike, IsFirstUnlike}
-use Rattle.pf_compare.specs.Lone.{AreToldApartAt, DifferInOne, DifferInOneAtMost, FormatsDifferInOne, HasFollowed, IsIndexAfter, PrintAlikeOnCandidates, span_alone}
+use Rattle.pf_compare.specs.Lone.{AreToldApartAt, DifferInItems, DifferInOne, DifferInOneAtMost, FormatsDifferInOne, FormatsDifferInOneAtMost, HasFollowed, item_difference_of, IsIndexAfter, PrintAlikeOnCandidates, span_alone}
 use Rattle.pf_compare.specs.Witnesses.{AreNeutral, AwaitsCandidate, FindsWitness, IsWitnessAt}
 use Rattle.pf_compare.proofs.CandidateLemmas.{candidate_has_type, contains_at}
 use Rattle.pf_compare.proofs.ProbeLemmas.{neutral_first, set_neutral}
@@ -287,15 +287,17 @@ module _ (first new : Pieces) (second later : Pieces) (f g : Text) (index : ℕ)
       }
 
 -- the end of both
-pub along_whole : (first new second later : Pieces) (f g : Text) (index : ℕ) (found : Option LoneDifference) → AreAlong first second f g index found → Gives first None new → Gives second None later → IfSome found (FormatsDifferInOne f g)
-along_whole first new second later f g index None h steps ends = tt
-along_whole first new second later f g index (Some difference) h steps ends = record {
+pub along_whole : (first new second later : Pieces) (f g : Text) (index : ℕ) (found : Option LoneDifference) → AreAlong first second f g index found → Gives first None new → Gives second None later → DifferInItems f g (item_difference_of found)
+along_whole first new second later f g index found h steps ends = said found (record {
   xs = h.items;
   ys = h.followed.items;
   accepted_first = steps.next f h.read h.items h.given;
   accepted_second = ends.next g h.followed.read h.followed.items h.followed.given;
   items = h.followed.at_most;
-}
+}) where
+  said : (found : Option LoneDifference) → FormatsDifferInOneAtMost f g found → DifferInItems f g (item_difference_of found)
+  said None h = h
+  said (Some difference) h = h
 
 -- the items of texts that are the same but for one directive
 module _ (model : Model) (xs ys : List Item) (difference : LoneDifference) (h : DifferInOne xs ys difference) where

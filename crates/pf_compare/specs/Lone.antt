@@ -1,5 +1,5 @@
 -- Two formats that differ in one directive alone. This project's own.
-use Rattle.std.specs.Prelude.{◌≡◌, ℕ, List, [], ◌∷◌, ◌++◌, length, Option, Some, None}
+use Rattle.std.specs.Prelude.{◌≡◌, ℕ, List, [], ◌∷◌, ◌++◌, length, Option, Some, None, ⊤}
 use Rattle.pf_values.specs.declared.models.Model.{Model}
 use Rattle.pf_values.specs.meaning.DataModel.{arg_type}
 use Rattle.pf_values.specs.meaning.Items.{HasItems, Item, Directive, types}
@@ -11,6 +11,8 @@ use Rattle.pf_reduce.specs.Reducing.{core_of}
 use Rattle.pf_reduce.specs.declared.results.Reduced.{Reduced}
 use Rattle.pf_compare.specs.Layouts.{FindsUnlike, IsFirstUnlike}
 use Rattle.pf_compare.specs.declared.layouts.DirectiveSpan.{DirectiveSpan}
+use Rattle.pf_compare.specs.declared.differences.ItemDifference.{ItemDifference}
+use Rattle.pf_compare.specs.declared.differences.ItemDifference.TheVariants.{Lone, Nowhere, Unknown}
 use Rattle.pf_compare.specs.declared.differences.LoneDifference.{LoneDifference}
 
 -- the index of the argument that comes after those of some items
@@ -30,13 +32,28 @@ abbrev pub DifferInOneAtMost : List Item → List Item → Option LoneDifference
 DifferInOneAtMost xs ys (Some difference) = DifferInOne xs ys difference
 DifferInOneAtMost xs ys None = xs ≡ ys
 
--- two accepted texts are the same but for one directive
-pub record FormatsDifferInOne (f g : Text) (difference : LoneDifference) : Type 0 where
+-- the items of two accepted texts are the same but for one directive, or the same
+pub record FormatsDifferInOneAtMost (f g : Text) (found : Option LoneDifference) : Type 0 where
   pub xs : List Item
   pub ys : List Item
   pub accepted_first : HasItems f xs
   pub accepted_second : HasItems g ys
-  pub items : DifferInOne xs ys difference
+  pub items : DifferInOneAtMost xs ys found
+
+-- two accepted texts are the same but for one directive
+abbrev pub FormatsDifferInOne : Text → Text → LoneDifference → Type 0
+FormatsDifferInOne f g difference = FormatsDifferInOneAtMost f g (Some difference)
+
+-- what is answered where at most one directive differs
+abbrev pub item_difference_of : Option LoneDifference → ItemDifference
+item_difference_of None = Nowhere
+item_difference_of (Some difference) = Lone difference
+
+-- what an answer says of two texts
+abbrev pub DifferInItems : Text → Text → ItemDifference → Type 0
+DifferInItems f g Nowhere = FormatsDifferInOneAtMost f g None
+DifferInItems f g (Lone difference) = FormatsDifferInOne f g difference
+DifferInItems f g Unknown = ⊤
 
 -- what was given of a second text differs from these items in one directive at most
 pub record HasFollowed (pieces : Pieces) (t : Text) (xs : List Item)

@@ -1,16 +1,18 @@
 //! Comparing two formats, and confirming that two print different bytes for some arguments.
-ghost use Rattle.std.specs.Prelude.{◌≡◌, ◌≢◌, ◌↔◌, ◌⊎◌, IfErr, IfOk, IsTrue, MatchBool, MatchOption, MatchResult, false};
+ghost use Rattle.std.specs.Prelude.{◌≡◌, ◌≢◌, ◌↔◌, ◌⊎◌, IfErr, IfOk, IsTrue, MatchBool, MatchOption, MatchResult, None, false};
 ghost use Rattle.std.specs.Option.{option_map};
 ghost use Rattle.pf_values.specs.meaning.DataModel.{arg_type};
 ghost use Rattle.pf_values.specs.meaning.Text.{Text};
 ghost use Rattle.pf_canon.specs.Comparison.{AreTextsSame};
 ghost use Rattle.pf_render.specs.Rendering.{Renders};
 ghost use Rattle.pf_compare.specs.Answers.{AreUnlike, HaveSameTypes, HindersComparison, IsComparisonOf, PrintsSome, TellApart};
-ghost use Rattle.pf_compare.specs.Lone.{AreToldApartAt, FormatsDifferInOne};
+ghost use Rattle.pf_compare.specs.Lone.{AreToldApartAt, FormatsDifferInOne, FormatsDifferInOneAtMost};
 ghost use Rattle.pf_compare.specs.declared.comparisons.CompareFault.TheVariants.{Memory};
 ghost use Rattle.pf_compare.specs.declared.comparisons.Verdict.TheVariants.{Same};
 
-use crate::differences::{LoneDifference, are_unlike, first_type_difference, lone_difference};
+use crate::differences::{
+    ItemDifference, LoneDifference, are_unlike, first_type_difference, item_difference,
+};
 use crate::laws::one_canonical_text;
 use crate::layouts::lay_out;
 use crate::owned_args::OwnedArg;
@@ -39,8 +41,8 @@ pub fn compare(alloc: Global, model: Model, f: &[u8], g: &[u8]) -> Result<Compar
     compare_any(alloc, model, f, g)
 }
 
-// Compares two formats whose bytes differ. Where that is in one directive alone, the two directives
-// are compared, and not their canonical texts.
+// Compares two formats whose bytes differ. Where their items differ in one directive alone, the two
+// directives are compared, and not their canonical texts.
 #[inline(never)]
 fn compare_unlike(
     alloc: Global,
@@ -51,10 +53,20 @@ fn compare_unlike(
     ensures { MatchResult result (IsComparisonOf model f.now g.now)
         (HindersComparison model f.now g.now) }
 {
-    match lone_difference(f, g) {
-        Some(difference) => compare_lone(alloc, model, f, g, &difference),
-        None => compare_any(alloc, model, f, g),
+    match item_difference(f, g) {
+        ItemDifference::Nowhere => Ok(compare_equal_items(model, f, g)),
+        ItemDifference::Lone(difference) => compare_lone(alloc, model, f, g, &difference),
+        ItemDifference::Unknown => compare_any(alloc, model, f, g),
     }
+}
+
+// Compares two formats with the same items. That they have a canonical text takes one reading.
+fn compare_equal_items(model: Model, f: &[u8], g: &[u8]) -> Comparison
+    requires { FormatsDifferInOneAtMost f.now g.now None }
+    ensures { IsComparisonOf model f.now g.now result }
+{
+    one_canonical_text(model, f);
+    same_comparison()
 }
 
 // Compares two formats that may differ anywhere, or nowhere.

@@ -9,7 +9,7 @@ ghost use Rattle.pf_values.specs.meaning.Text.{Text, percent};
 ghost use Rattle.pf_text.specs.PieceHistory.{items_of};
 ghost use Rattle.pf_text.specs.Signatures.{TakesTypes};
 ghost use Rattle.pf_render.specs.Rendering.{DifferFirstAt};
-ghost use Rattle.pf_compare.specs.Lone.{DifferInOneAtMost, FormatsDifferInOne, HasFollowed, IsIndexAfter};
+ghost use Rattle.pf_compare.specs.Lone.{DifferInItems, DifferInOneAtMost, HasFollowed, IsIndexAfter, item_difference_of};
 ghost use Rattle.pf_compare.specs.Spaces.{with_space};
 ghost use Rattle.pf_compare.specs.TypeLists.{HasGivenTypes};
 
@@ -24,12 +24,23 @@ pub(crate) struct LoneDifference {
     pub(crate) second: Directive,
 }
 
-/// Where two formats differ in one directive alone, if that is found. It takes no memory.
-pub(crate) fn lone_difference(f: &[u8], g: &[u8]) -> Option<LoneDifference>
-    ensures { IfSome result (FormatsDifferInOne f.now g.now) }
+/// In which items two formats differ.
+#[derive(Clone, Copy)]
+pub(crate) enum ItemDifference {
+    /// In none: they are spelled in two ways at most.
+    Nowhere,
+    /// In one directive alone.
+    Lone(LoneDifference),
+    /// That wasn't found out, or one of them is refused.
+    Unknown,
+}
+
+/// In which items two formats differ. It takes no memory.
+pub(crate) fn item_difference(f: &[u8], g: &[u8]) -> ItemDifference
+    ensures { DifferInItems f.now g.now result }
 {
     if !diverge_in_directive(f, g) {
-        return None;
+        return ItemDifference::Unknown;
     }
     let mut found = None;
     let mut index = 0;
@@ -38,16 +49,26 @@ pub(crate) fn lone_difference(f: &[u8], g: &[u8]) -> Option<LoneDifference>
         match piece {
             Ok(piece) => {
                 if !next_piece_matches(&mut found, index, &piece, &mut others) {
-                    return None;
+                    return ItemDifference::Unknown;
                 }
                 index += arg_count(&piece);
             }
-            Err(_) => return None,
+            Err(_) => return ItemDifference::Unknown,
         }
     }
     match others.next() {
-        Some(_) => None,
-        None => found,
+        Some(_) => ItemDifference::Unknown,
+        None => item_difference_of(found),
+    }
+}
+
+#[inline(always)]
+fn item_difference_of(found: Option<LoneDifference>) -> ItemDifference
+    ensures { result ≡ item_difference_of found }
+{
+    match found {
+        Some(difference) => ItemDifference::Lone(difference),
+        None => ItemDifference::Nowhere,
     }
 }
 

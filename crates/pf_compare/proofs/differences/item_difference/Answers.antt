@@ -1,7 +1,7 @@
 use Rattle.std.proofs.Common.{[], refl, arith, rules, subst, sym, None}
 use Rattle.pf_text.specs.declared.pieces.Pieces.{Pieces}
 use Rattle.pf_compare.proofs.LoneLemmas.{AreAlong, along_more, along_whole}
-use Rattle.pf_compare.proofs.differences.lone_difference.Goals as goal
+use Rattle.pf_compare.proofs.differences.item_difference.Goals as goal
 
 pub loop-piece-init : goal.loop-piece-init
 loop-piece-init c = record {
@@ -25,4 +25,4 @@ loop-piece-preserved c =
 
 pub returns-in-None-next : goal.returns-in-None-next
 returns-in-None-next c =
-    along_whole c.loop-piece.piece-iterator c.next.new.self c.loop-piece.others c.next-2.new.self c.args.f.now c.args.g.now c.loop-piece.index c.loop-piece.found c.loop-piece.invariant.along c.in-None.ensures.steps c.in-None-next.ensures.steps
+    rw c.item_difference_of.ensures (along_whole c.loop-piece.piece-iterator c.next.new.self c.loop-piece.others c.next-2.new.self c.args.f.now c.args.g.now c.loop-piece.index c.loop-piece.found c.loop-piece.invariant.along c.in-None.ensures.steps c.in-None-next.ensures.steps)

@@ -1,6 +1,6 @@
 use Rattle.std.proofs.Common.{◌≤◌, ◌+◌}
 use Rattle.pf_compare.proofs.LoneLemmas.{AreAlong}
-use Rattle.pf_compare.proofs.differences.lone_difference.Given as goal
+use Rattle.pf_compare.proofs.differences.item_difference.Given as goal
 
 abbrev pub invariant-loop-piece : goal.invariant-loop-piece
 invariant-loop-piece l = record {
