@@ -107,7 +107,7 @@ fn ends_in_directive(text: &[u8]) -> bool {
     for back in 0..text.len() {
         match text[text.len() - 1 - back] {
             b'%' => return true,
-            b'0'..=b'9' | b'.' | b'-' | b'+' | b' ' | b'#' => {}
+            b'0'..=b'9' | b'.' | b'-' | b'+' | b' ' | b'#' | b'\'' => {}
             b'h' | b'l' | b'j' | b'z' | b't' => {}
             _ => return false,
         }

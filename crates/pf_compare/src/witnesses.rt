@@ -20,7 +20,7 @@ use crate::layouts::{DirectiveSpan, Layout, neutrals, neutrals_of, print};
 use crate::owned_args::OwnedArg;
 use crate::predictions::{EqualPrintRange, predict};
 use pf_probes::{Candidate, candidate_row};
-use pf_values::{Arg, ArgType, Directive, Flag, Kind, Model};
+use pf_values::{Arg, ArgType, Directive, Flag, Kind, Length, Model};
 use std::alloc::{AllocError, Global};
 
 /// Arguments for which two formats print different bytes, and their place among the candidates.
@@ -267,11 +267,23 @@ fn has_minus_alone(directive: &Directive) -> bool {
     directive.conv().kind() == Kind::Signed && !flags.has(Flag::Plus) && !flags.has(Flag::Space)
 }
 
-// Whether two directives print numbers of one kind and one length modifier. No others are
-// equivalent but strings, whose candidates are few.
+// Whether two directives of one type print numbers of one kind and one size. No others are equivalent
+// but strings, whose candidates are few.
 fn may_be_equivalent(first: &Directive, second: &Directive) -> bool {
     let kind = first.conv().kind();
-    kind == second.conv().kind() && first.length() == second.length() && kind != Kind::String
+    kind == second.conv().kind()
+        && have_one_size(first.length(), second.length())
+        && kind != Kind::String
+}
+
+// Whether two length modifiers of one type are of numbers of one size.
+fn have_one_size(one: Length, two: Length) -> bool {
+    one == two || !is_narrowing(one) && !is_narrowing(two)
+}
+
+// Whether a length modifier makes a number smaller than its type.
+fn is_narrowing(length: Length) -> bool {
+    matches!(length, Length::Hh | Length::H)
 }
 
 fn span_alone(directive: &Directive) -> DirectiveSpan
