@@ -1,31 +1,12 @@
 //! Normal directives made of their parts.
 ghost use Rattle.std.specs.Prelude.{◌≡◌};
-ghost use Rattle.pf_values.specs.meaning.Defined.{IsDefined};
 ghost use Rattle.pf_values.specs.meaning.Normal.{IsNormal};
-ghost use Rattle.pf_values.specs.Directives.{specification_of};
 ghost use Rattle.pf_reduce.specs.Cores.{padded_core, core_of_parts, kept_precision};
 ghost use Rattle.pf_reduce.specs.Reducing.{IsNormalCore};
 
 use crate::padding::Padding;
 use crate::results::{Core, Normal, Reduced};
-use pf_values::{Conv, Directive, Flag, FlagSet, Length, Model};
-
-#[inline(always)]
-fn new_directive(
-    flags: FlagSet,
-    width: u16,
-    precision: Option<u16>,
-    length: Length,
-    conv: Conv,
-) -> Directive
-    requires { IsDefined (specification_of flags (Some width) precision length conv) }
-    ensures { result ≡ specification_of flags (Some width) precision length conv }
-{
-    match Directive::new(flags, Some(width), precision, length, conv) {
-        Ok(directive) => directive,
-        Err(_) => unreachable!(),
-    }
-}
+use pf_values::{Directive, Flag, FlagSet, Model};
 
 /// The directive with these flags and this precision, in this padding.
 #[inline(always)]
@@ -47,7 +28,7 @@ pub(crate) fn padded_core(
     };
     let length = directive.length().representative(model);
     let conv = directive.conv().representative();
-    let core = new_directive(flags, padding.width, precision, length, conv);
+    let core = Directive::of_defined(flags, Some(padding.width), precision, length, conv);
     Reduced {
         spaces: padding.spaces,
         zeros: padding.zeros,

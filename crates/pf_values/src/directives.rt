@@ -98,6 +98,28 @@ impl Directive {
         })
     }
 
+    /// The directive of parts that are known to be defined, where nothing is left to refuse. A width
+    /// of 0 is none.
+    #[inline(always)]
+    pub fn of_defined(
+        flags: FlagSet,
+        width: Option<u16>,
+        precision: Option<u16>,
+        length: Length,
+        conv: Conv,
+    ) -> Directive
+        requires { IsDefined (specification_of flags width precision length conv) }
+        ensures { result ≡ specification_of flags width precision length conv }
+    {
+        Directive {
+            flags,
+            width: width.filter(|w| *w != 0),
+            precision,
+            length,
+            conv,
+        }
+    }
+
     /// The flags.
     pub fn flags(&self) -> FlagSet
         ensures value { result ≡ self.now.flags }
