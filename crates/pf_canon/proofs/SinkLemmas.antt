@@ -1,5 +1,5 @@
 -- What a sink was given.
-use Rattle.std.proofs.Common.{◌≡◌, ℕ, ◌+◌, ◌-◌, ◌*◌, ◌≤◌, [], ◌++◌, replicate, refl, sym, ap, ◌∙◌, subst, arith, length, take, ◌≢◌, Bool, drop, Option, Some, None}
+use Rattle.std.proofs.Common.{◌≡◌, ℕ, ◌+◌, ◌-◌, ◌*◌, ◌≤◌, ◌<◌, ◌^◌, [], ◌++◌, replicate, refl, sym, ap, ◌∙◌, subst, arith, length, take, ◌≢◌, Bool, drop, Option, Some, None}
 use Rattle.std.specs.Prelude.{flat_map, MatchResult, Result, Ok, Err, IsTrue, MatchOption, ◌↔◌}
 use Rattle.std.proofs.lemmas.List.{replicate-append-replicate, length-append, length-take-le, append-nil, append_cancel_left, take-append-drop}
 use Rattle.std.specs.Borrow.{Bor}
@@ -54,14 +54,27 @@ pub verbatim_put : {S : Type 0} {given : S → S → Text → Type 0} (laws : Is
 verbatim_put laws model t verbatim old mid new (Ok done) h g = (verbatim ++ g.0, laws.both old mid new verbatim g.0 h g.1, g.2)
 verbatim_put laws model t verbatim old mid new (Err refusal) h g = g
 
--- the verbatim bytes, and what follows, can be counted
-pub counted : (model : Model) (t more : Text) (verbatim_len len : ℕ) → verbatim_len ≤ length t → IsCanonicalFor model t (take verbatim_len t ++ more) → Counts verbatim_len (length more) len → (c : Text) × IsCanonicalFor model t c × (len ≡ length c)
-counted model t more verbatim_len len within h counts =
+-- the bytes of a canonical text can be counted
+few_bytes : (model : Model) (t c : Text) → IsCanonicalFor model t c → length c < 2 ^ 128
+few_bytes model t c h =
     let few = h.few in
     let limit = h.accepted.limit in
+    omega (arith, few, limit, most_items h.items, items_few t h.items h.accepted.reads)
+
+-- so they are where the verbatim bytes were counted, and then what follows
+pub counted : (model : Model) (t more : Text) (verbatim_len len : ℕ) → verbatim_len ≤ length t → IsCanonicalFor model t (take verbatim_len t ++ more) → Counts verbatim_len (length more) len → (c : Text) × IsCanonicalFor model t c × (len ≡ length c)
+counted model t more verbatim_len len within h counts =
     let all = length-append (take verbatim_len t) more in
     let front = length-take-le verbatim_len t within in
-    (take verbatim_len t ++ more, h, omega (arith, all, front, counts (omega (arith, all, front, few, limit, most_items h.items, items_few t h.items h.accepted.reads))))
+    let few = few_bytes model t (take verbatim_len t ++ more) h in
+    (take verbatim_len t ++ more, h, omega (arith, all, front, counts (omega (arith, all, front, few))))
+
+-- and where all went into empty room, whether there was enough or not
+pub counted_in_room : (model : Model) (t c : Text) (before after len : ℕ) → IsCanonicalFor model t c → before ≡ 0 → Counts before (length c) after → (after < 2 ^ 128 → len ≡ after) → (c : Text) × IsCanonicalFor model t c × (len ≡ length c)
+counted_in_room model t c before after len h empty counts is =
+    let few = few_bytes model t c h in
+    let all : after ≡ length c = omega (arith, empty, counts (omega (arith, few, empty))) in
+    (c, h, is (omega (arith, all, few)) ∙ all)
 
 pub front_stripped : (left : Bor Text) (bytes : Text) (rest : Option (Bor Text)) → MatchOption rest ((others : Text) → left.now ≢ bytes ++ others) (λ others. left.now ≡ bytes ++ others.now) → IsFrontStripped (Some left) bytes rest
 front_stripped left bytes (Some rest) h = h

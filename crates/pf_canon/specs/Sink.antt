@@ -1,5 +1,5 @@
 -- What is given bytes, one text after another. This project's own.
-use Rattle.std.specs.Prelude.{◌≡◌, ℕ, ◌+◌, ◌<◌, ◌^◌, false, [], ◌++◌, length, ◌≢◌, Option, Some, None}
+use Rattle.std.specs.Prelude.{◌≡◌, ℕ, ◌+◌, ◌<◌, ◌^◌, [], ◌++◌, length, ◌≢◌, Option, Some, None}
 use Rattle.std.specs.Borrow.{Bor}
 use Rattle.pf_values.specs.meaning.Text.{Text}
 use Rattle.pf_canon.specs.declared.sink.ByteCount.{ByteCount}
@@ -19,11 +19,15 @@ Counts before more after = before + more < 2 ^ 128 → after ≡ before + more
 abbrev pub IsCounted : ByteCount → ByteCount → Text → Type 0
 IsCounted old new bytes = Counts old.len (length bytes) new.len
 
--- they were appended, unless there was no room for them or for others before
-abbrev pub IsBuilt : {R : Type 0} → (R → Text) → TextBuilder R → TextBuilder R → Text → Type 0
-IsBuilt bytes_of old new bytes =
-    new.is_full ≡ false
-    → (old.is_full ≡ false) × (bytes_of new.buffer ≡ bytes_of old.buffer ++ bytes)
+-- the bytes of a text that is put together, and those for which there was no room
+abbrev pub given_len : {R : Type 0} → (R → Text) → TextBuilder R → ℕ
+given_len bytes_of builder = length (bytes_of builder.buffer) + builder.lost
+
+-- they were counted, and appended unless there was no room for them or for others before
+pub record IsBuilt {R : Type 0} (bytes_of : R → Text) (old new : TextBuilder R) (bytes : Text) : Type 0 where
+  pub count : Counts (given_len bytes_of old) (length bytes) (given_len bytes_of new)
+  pub whole : new.lost ≡ 0
+      → (old.lost ≡ 0) × (bytes_of new.buffer ≡ bytes_of old.buffer ++ bytes)
 
 -- this is left of a text after these bytes, or the text doesn't begin with them
 abbrev pub IsFrontStripped : Option (Bor Text) → Text → Option (Bor Text) → Type 0

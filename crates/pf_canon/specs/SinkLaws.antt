@@ -7,28 +7,38 @@ use Rattle.pf_values.specs.declared.counting.Counted.{Counted}
 use Rattle.pf_values.specs.Counting.{Known, WritesFirst, device_of}
 use Rattle.pf_values.specs.meaning.Text.{Text}
 use Rattle.pf_values.proofs.WriteLemmas.{WritesFirst-more}
-use Rattle.pf_canon.specs.Sink.{IsStripped, IsFrontStripped, IsBuilt, IsCounted, IsSink}
+use Rattle.pf_canon.specs.Sink.{Counts, IsStripped, IsFrontStripped, IsBuilt, IsCounted, IsSink, given_len}
 use Rattle.pf_canon.specs.Copy.{GathersAll, GathersBy, HasGathered, PutsAll, PutsFirst}
+
+-- a count goes on
+counts_none : (before : ℕ) → Counts before 0 before
+counts_none before few = omega arith
+
+counts_both : (before mid after : ℕ) (t u : Text) → Counts before (length t) mid → Counts mid (length u) after → Counts before (length (t ++ u)) after
+counts_both before mid after t u h g few =
+    let len = length-append t u in
+    let x : mid ≡ before + length t = h (omega (arith, few, len)) in
+    let y : after ≡ mid + length u = g (omega (arith, few, len, x)) in
+    omega (arith, x, y, len)
 
 -- a text that is put together, and a count
 pub builds : {R : Type 0} (bytes_of : R → Text) → IsSink (IsBuilt bytes_of)
 builds bytes_of = record {
-  none = λ s going. (going, sym (append-nil (bytes_of s.buffer)));
-  both = λ a b c t u h g going.
-      let last = g going in
-      let first = h last.0 in
-      (first.0, last.1 ∙ ap (λ v. v ++ u) first.1 ∙ append_assoc (bytes_of a.buffer) t u);
+  none = λ s. record {
+    count = counts_none (given_len bytes_of s);
+    whole = λ going. (going, sym (append-nil (bytes_of s.buffer)));
+  };
+  both = λ a b c t u h g. record {
+    count = counts_both (given_len bytes_of a) (given_len bytes_of b) (given_len bytes_of c) t u h.count g.count;
+    whole = λ going.
+        let last = g.whole going in
+        let first = h.whole last.0 in
+        (first.0, last.1 ∙ ap (λ v. v ++ u) first.1 ∙ append_assoc (bytes_of a.buffer) t u);
+  };
 }
 
 pub counts : IsSink IsCounted
-counts = record {
-  none = λ s few. omega arith;
-  both = λ a b c t u h g few.
-      let len = length-append t u in
-      let x : b.len ≡ a.len + length t = h (omega (arith, few, len)) in
-      let y : c.len ≡ b.len + length u = g (omega (arith, few, len, x)) in
-      omega (arith, x, y, len);
-}
+counts = record { none = λ s. counts_none s.len; both = λ a b c t u h g. counts_both a.len b.len c.len t u h g }
 
 strip_none : (left : Option (Bor Text)) → IsFrontStripped left [] left
 strip_none (Some left) = refl

@@ -1,10 +1,10 @@
 //! Where bytes are put, one text after another.
-ghost use Rattle.std.specs.Prelude.{◌≡◌, ℕ, flat_map, length, replicate, IsTrue, ◌++◌, IfOk};
+ghost use Rattle.std.specs.Prelude.{◌≡◌, ◌<◌, ◌^◌, ℕ, flat_map, length, replicate, IsTrue, ◌++◌, IfOk, OnErr};
 ghost use Rattle.pf_values.specs.meaning.Canonical.{item_spelling};
 ghost use Rattle.pf_values.specs.meaning.Text.{Text};
 ghost use Rattle.pf_text.specs.CanonicalRuns.{silents};
 ghost use Rattle.pf_values.specs.declared.padding.TheConstants.{MAX_RUN};
-ghost use Rattle.pf_canon.specs.Sink.{IsSink, IsBuilt, IsStripped, IsFrontStripped, IsLeft};
+ghost use Rattle.pf_canon.specs.Sink.{IsSink, IsBuilt, given_len, IsStripped, IsFrontStripped, IsLeft};
 ghost use Rattle.pf_canon.specs.SinkLaws.{builds, strips};
 
 use crate::limits::BLOCK;
@@ -72,9 +72,10 @@ pub(crate) trait TextBuffer {
     fn bytes(&self) -> &[u8]
         ensures { result.now ≡ bytes_of self.now };
 
-    /// Appends bytes.
+    /// Appends bytes, or none of them.
     fn append(&mut self, bytes: &[u8]) -> Result<(), AllocError>
-        ensures { IfOk result (λ _. bytes_of self.new ≡ bytes_of self.old ++ bytes.now) };
+        ensures all { IfOk result (λ _. bytes_of self.new ≡ bytes_of self.old ++ bytes.now) }
+        ensures none { OnErr result (bytes_of self.new ≡ bytes_of self.old) };
 }
 
 /// There is room until a growth is refused.
@@ -112,11 +113,20 @@ impl<const N: usize> TextBuffer for ArrayVec<u8, N> {
     }
 }
 
-/// A text that is being put together, and whether there was too little room for a part of it.
+/// A text that is being put together, and how many of its bytes found no room.
 #[derive(Drop)]
 pub(crate) struct TextBuilder<R> {
     pub(crate) buffer: R,
-    pub(crate) is_full: bool,
+    pub(crate) lost: u128,
+}
+
+impl<R: TextBuffer> TextBuilder<R> {
+    /// How many bytes were given, with those that found no room.
+    pub(crate) fn len(&self) -> u128
+        ensures { given_len R.bytes_of self.now < 2 ^ 128 → result ≡ given_len R.bytes_of self.now }
+    {
+        self.lost.saturating_add(self.buffer.bytes().len() as u128)
+    }
 }
 
 impl<R: TextBuffer> Sink for TextBuilder<R> {
@@ -128,7 +138,7 @@ impl<R: TextBuffer> Sink for TextBuilder<R> {
     fn put(&mut self, bytes: &[u8]) {
         match self.buffer.append(bytes) {
             Ok(()) => {}
-            Err(_) => self.is_full = true,
+            Err(_) => self.lost = self.lost.saturating_add(bytes.len() as u128),
         }
     }
 
