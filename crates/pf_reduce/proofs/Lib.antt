@@ -8,3 +8,4 @@ mod UnprefixedNumbers
 mod PrefixedNumbers
 mod SignedNumbers
 mod TextCores
+mod OwnCores

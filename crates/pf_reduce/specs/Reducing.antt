@@ -18,6 +18,15 @@ abbrev pub core_of : Core → Specification
 core_of (Normal n) = n.specification
 core_of Silent = silent
 
+-- a normal directive that is its own core, with nothing around it
+abbrev pub itself : Model → Specification → Reduced
+itself model s = record {
+  spaces = 0;
+  zeros = 0;
+  core = Normal (record { model = model; specification = s });
+  trail = 0;
+}
+
 -- the core is normal in the data model that it names, or `%.0s`
 abbrev pub IsNormalCore : Model → Core → Type 0
 IsNormalCore model (Normal n) = (n.model ≡ model) × IsNormal model n.specification

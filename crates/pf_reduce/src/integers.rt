@@ -11,14 +11,14 @@ ghost use Rattle.pf_values.specs.meaning.Conversions.{
 };
 ghost use Rattle.pf_reduce.specs.Prefixes.{is_prefixed};
 ghost use Rattle.pf_values.specs.meaning.Flags.{has, no_flags, with_flag};
-ghost use Rattle.pf_values.specs.meaning.Normal.{digits_at_most};
+ghost use Rattle.pf_values.specs.meaning.Normal.{IsNormal, digits_at_most};
 ghost use Rattle.pf_values.specs.meaning.Printing.{is_zero_filled};
 ghost use Rattle.pf_values.specs.meaning.Specification.{width_of};
 ghost use Rattle.pf_values.specs.meaning.Text.{Text};
 ghost use Rattle.pf_reduce.specs.declared.signs.Sign.TheVariants as signs;
 ghost use Rattle.pf_reduce.specs.Cores.{padded_core, kept_precision};
 ghost use Rattle.pf_reduce.specs.Padded.{with_padding};
-ghost use Rattle.pf_reduce.specs.Reducing.{IsNormalCore, IsReducedTo};
+ghost use Rattle.pf_reduce.specs.Reducing.{IsNormalCore, IsReducedTo, itself};
 ghost use Rattle.pf_reduce.specs.Signs.{sign_flags, sign_length, sign_text};
 
 use crate::normal_directives::{kept_precision, padded_core};
@@ -37,7 +37,8 @@ pub(crate) fn reduce_unsigned(
     requires text { is_text directive.now.conv ≡ false }
     requires sign { is_signed directive.now.conv ≡ false }
     requires alternative { alternative ≡ alternative_under (kind_of directive.now.conv) }
-    ensures { IsReducedTo model directive.now result }
+    ensures same { IsReducedTo model directive.now result }
+    ensures kept { IsNormal model directive.now → result ≡ itself model directive.now }
 {
     let alt = directive.flags().has(Flag::Alt);
     match alternative {
@@ -54,7 +55,8 @@ fn reduce_unprefixed(model: Model, directive: &Directive) -> Reduced
     requires text { is_text directive.now.conv ≡ false }
     requires sign { is_signed directive.now.conv ≡ false }
     requires alt { has directive.now.flags Alt ≡ false }
-    ensures { IsReducedTo model directive.now result }
+    ensures same { IsReducedTo model directive.now result }
+    ensures kept { IsNormal model directive.now → result ≡ itself model directive.now }
 {
     let digits = max_digits(model, directive);
     let precision = directive.effective_precision(0);
@@ -71,7 +73,8 @@ fn reduce_unprefixed(model: Model, directive: &Directive) -> Reduced
 fn reduce_octal(model: Model, directive: &Directive) -> Reduced
     requires octal { is_octal directive.now.conv ≡ true }
     requires alt { has directive.now.flags Alt ≡ true }
-    ensures { IsReducedTo model directive.now result }
+    ensures same { IsReducedTo model directive.now result }
+    ensures kept { IsNormal model directive.now → result ≡ itself model directive.now }
 {
     let digits = max_digits(model, directive);
     let precision = directive.effective_precision(0).max(1);
@@ -92,7 +95,8 @@ fn reduce_octal(model: Model, directive: &Directive) -> Reduced
 fn reduce_prefixed(model: Model, directive: &Directive) -> Reduced
     requires prefixed { is_prefixed directive.now.conv ≡ true }
     requires alt { has directive.now.flags Alt ≡ true }
-    ensures { IsReducedTo model directive.now result }
+    ensures same { IsReducedTo model directive.now result }
+    ensures kept { IsNormal model directive.now → result ≡ itself model directive.now }
 {
     if keeps_zeros(directive, 0) {
         let flags = FlagSet::empty().with(Flag::Alt).with(Flag::Zero);
@@ -109,7 +113,8 @@ fn reduce_prefixed(model: Model, directive: &Directive) -> Reduced
 /// `d i`: digits after a sign.
 pub(crate) fn reduce_signed(model: Model, directive: &Directive) -> Reduced
     requires { is_signed directive.now.conv ≡ true }
-    ensures { IsReducedTo model directive.now result }
+    ensures same { IsReducedTo model directive.now result }
+    ensures kept { IsNormal model directive.now → result ≡ itself model directive.now }
 {
     let sign = Sign::of(directive.flags());
     if keeps_zeros(directive, sign.len()) {
@@ -221,6 +226,11 @@ fn sign_in_field(sign: Sign, padding: Padding, precision: u16, digits: u16) -> S
         → result ≡ signs.Space → digits ≤ precision }
     ensures none { padding.left ≡ false → padding.width ≡ 1 + max precision digits
         → result ≡ signs.None → precision < digits }
+    ensures kept { (padding.left ≡ false → sign ≡ signs.Space
+        → padding.width ≢ 1 + max precision digits)
+        → (padding.left ≡ false → sign ≡ signs.None → digits ≤ precision
+        → padding.width ≢ 1 + max precision digits)
+        → result ≡ sign }
 {
     if padding.left || padding.width != 1 + precision.max(digits) {
         return sign;

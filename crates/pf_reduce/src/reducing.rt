@@ -4,8 +4,7 @@ ghost use Rattle.pf_values.specs.meaning.Normal.{IsNormal, silent};
 ghost use Rattle.pf_reduce.specs.Reducing.{IsReducedTo};
 
 use crate::integers::{reduce_signed, reduce_unsigned};
-use crate::normality::is_normal;
-use crate::results::{Core, Normal, Reduced};
+use crate::results::{Core, Reduced};
 use crate::texts::{reduce_char, reduce_string};
 use pf_values::{Directive, Kind, Model};
 
@@ -21,25 +20,6 @@ pub fn reduce(model: Model, directive: &Directive) -> Reduced
           core = Core.Normal (record { model = model; specification = directive.now });
           trail = 0;
         } }
-    ensures silent { directive.now ≡ silent
-        → result ≡ record { spaces = 0; zeros = 0; core = Core.Silent; trail = 0 } }
-{
-    if is_normal(model, directive) {
-        return Reduced {
-            spaces: 0,
-            zeros: 0,
-            core: Core::Normal(Normal::new(model, *directive)),
-            trail: 0,
-        };
-    }
-    reduce_other(model, directive)
-}
-
-// The same of a directive that isn't normal, whatever it is. Never inlined, so that a normal one is
-// copied as a whole and not part by part.
-#[inline(never)]
-fn reduce_other(model: Model, directive: &Directive) -> Reduced
-    ensures same { IsReducedTo model directive.now result }
     ensures silent { directive.now ≡ silent
         → result ≡ record { spaces = 0; zeros = 0; core = Core.Silent; trail = 0 } }
 {

@@ -1,11 +1,12 @@
 //! Characters and strings.
 ghost use Rattle.std.specs.Prelude.{◌≡◌, ◌≤◌, IfSome, Some};
 ghost use Rattle.pf_values.specs.declared.conversions.Conv.TheVariants.{C, S};
+ghost use Rattle.pf_values.specs.meaning.Normal.{IsNormal};
 ghost use Rattle.pf_values.specs.meaning.Printing.{printed_front};
 ghost use Rattle.pf_values.specs.meaning.Specification.{width_of};
 ghost use Rattle.pf_values.specs.meaning.Text.{Text};
 ghost use Rattle.pf_reduce.specs.Padded.{constants, with_padding};
-ghost use Rattle.pf_reduce.specs.Reducing.{IsReducedTo};
+ghost use Rattle.pf_reduce.specs.Reducing.{IsReducedTo, itself};
 
 use crate::normal_directives::padded_core;
 use crate::numbers::width;
@@ -16,7 +17,8 @@ use pf_values::{Directive, FlagSet, Model};
 /// `c`: one byte.
 pub(crate) fn reduce_char(model: Model, directive: &Directive) -> Reduced
     requires { directive.now.conv ≡ C }
-    ensures { IsReducedTo model directive.now result }
+    ensures same { IsReducedTo model directive.now result }
+    ensures kept { IsNormal model directive.now → result ≡ itself model directive.now }
 {
     let padding = Padding::of(directive)
         .with_width_at_most(1)
@@ -29,6 +31,7 @@ pub(crate) fn reduce_char(model: Model, directive: &Directive) -> Reduced
 pub(crate) fn reduce_string(model: Model, directive: &Directive) -> Reduced
     requires { directive.now.conv ≡ S }
     ensures same { IsReducedTo model directive.now result }
+    ensures kept { IsNormal model directive.now → result ≡ itself model directive.now }
     ensures silent { directive.now.precision ≡ Some 0
         → result ≡ record {
           spaces = width_of directive.now;
@@ -59,6 +62,9 @@ fn string_padding(padding: Padding, precision: Option<u16>) -> Padding
     ensures constant { constants result ≤ padding.width }
     ensures narrower { result.width ≤ padding.width }
     ensures width { IfSome precision (λ most. result.width ≤ most) }
+    ensures kept { IfSome precision (λ most. padding.width ≤ most)
+        → (constants result ≡ 0) × (result.width ≡ padding.width)
+        × (result.left ≡ padding.left) }
 {
     match precision {
         Some(most) => padding.with_width_at_most(most),

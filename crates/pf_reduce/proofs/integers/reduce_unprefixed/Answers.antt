@@ -1,14 +1,19 @@
-use Rattle.std.proofs.Common.{◌≡◌, ◌-◌, arith, ap, sym, ◌∙◌}
+use Rattle.std.proofs.Common.{◌≡◌, ◌-◌, ◌<◌, min, true, arith, ap, refl, sym, ◌∙◌}
 use Rattle.std.specs.Prelude.{nat_abs}
 use Rattle.pf_values.specs.meaning.Conversions.{base_of}
-use Rattle.pf_values.specs.meaning.Normal.{digits_at_most}
+use Rattle.pf_values.specs.declared.flags.Flag.TheVariants.{Minus}
+use Rattle.pf_values.specs.meaning.Flags.{has}
+use Rattle.pf_values.specs.meaning.Normal.{digits_at_most, precision_of}
+use Rattle.pf_values.specs.meaning.Specification.{width_of}
+use Rattle.pf_reduce.specs.Cores.{with_side}
 use Rattle.pf_values.proofs.Printed.{count_of}
 use Rattle.pf_reduce.specs.Padded.{with_padding, padding_of}
+use Rattle.pf_reduce.proofs.OwnCores.{bare_flags, beyond, own_field, own_number, own_side, unfilled_precision, unprefixed_form}
 use Rattle.pf_reduce.proofs.UnprefixedNumbers.{beyond_most, digits_reduced, digits_text, length-digits_text, one_or_none, unprefixed_value, split_zeros}
 use Rattle.pf_reduce.proofs.integers.reduce_unprefixed.Goals as goal
 
-pub returns : goal.returns
-returns c =
+pub returns-clause-same : goal.returns-clause-same
+returns-clause-same c =
     let s = c.args.directive.now in
     let p = c.effective_precision-precision.result in
     let z = c.saturating_sub-zeros.result in
@@ -24,3 +29,28 @@ returns c =
     ∙ ap (with_padding c.without_idle_width.result) (split_zeros s.conv p z n _ (rw z_is (beyond_most p (digits_at_most c.args.model s) (count_of (base_of s.conv) n) count)))
     ∙ c.past_zeros.ensures.same _
     ∙ c.right_up_to-padding.ensures.same _ (one_or_none _ _)))
+
+pub returns-clause-kept : goal.returns-clause-kept
+returns-clause-kept c = λ h.
+    let s = c.args.directive.now in
+    let form = unprefixed_form c.args.model s h c.requires.text c.requires.sign c.requires.alt in
+    let w = width_of s in
+    let p = c.effective_precision-precision.result in
+    let digits = c.max_digits-digits.result in
+    let d : digits ≡ digits_at_most c.args.model s = c.max_digits-digits.ensures.value in
+    let p_is : p ≡ precision_of s = c.effective_precision-precision.ensures.value ∙ unfilled_precision s 0 form.not_filled in
+    let given : c.of.result.width ≡ w = ap (λ q. q.width) c.of.ensures.value in
+    let few = form.most in
+    let fits = form.precision in
+    let none : c.saturating_sub-zeros.result ≡ 0 = omega (arith, c.saturating_sub-zeros.ensures, d, p_is, fits) in
+    let more : 0 < w → p < w = λ some. let m = form.least some in omega (arith, m, p_is) in
+    let at_most : c.with_width_at_most.result.width ≡ min w c.max.result = c.with_width_at_most.ensures.width ∙ ap (λ n. min n c.max.result) given in
+    let field : c.without_idle_width.result.width ≡ w = own_field w c.max.result p _ _ at_most (omega (arith, c.max.ensures, d, few)) more c.without_idle_width.ensures.idle c.without_idle_width.ensures.kept in
+    let past : c.past_zeros.result.width ≡ w = omega (arith, c.past_zeros.ensures.width, none, field) in
+    let left : c.past_zeros.result.left ≡ has s.flags Minus = c.past_zeros.ensures.left ∙ c.without_idle_width.ensures.left ∙ c.with_width_at_most.ensures.left ∙ ap (λ q. q.left) c.of.ensures.value in
+    let seen : c.past_zeros.result.left ≡ true → 1 < c.past_zeros.result.width = λ e. let b = beyond (precision_of s) w (form.left (sym left ∙ e)) form.least in omega (arith, past, b) in
+    c.unprefixed_core.ensures.value
+    ∙ own_number c.args.model s c.right_up_to-padding.result _ (p - c.saturating_sub-zeros.result) h c.requires.text (ap (with_side (has s.flags Minus)) refl ∙ bare_flags c.args.model s h c.requires.sign c.requires.alt form.not_filled) (omega (arith, none, p_is))
+    (omega (arith, c.of.ensures.limit, c.with_width_at_most.ensures.constant, c.without_idle_width.ensures.constant, c.past_zeros.ensures.constant, c.right_up_to-padding.ensures.constant, none, given, few, c.max.ensures, d))
+    (c.right_up_to-padding.ensures.width ∙ past)
+    (own_side _ _ _ 1 c.right_up_to-padding.ensures.wide c.right_up_to-padding.ensures.right seen ∙ left)

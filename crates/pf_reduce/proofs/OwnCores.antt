@@ -1,0 +1,329 @@
+-- A normal directive is its own core: each step of a reduction leaves its parts as they are.
+use Rattle.std.proofs.Common.{◌≡◌, ◌≢◌, ℕ, zero, suc, ◌+◌, ◌<◌, ◌≤◌, min, Bool, true, false, Option, Some, None, refl, sym, ap, ◌∙◌, subst, arith, rules, inl, inr}
+use Rattle.std.specs.Prelude.{if◌then◌else◌, ◌⊎◌, ◌&&◌, ◌||◌, MatchBool, is_none, not, unwrap_or}
+use Rattle.pf_values.specs.declared.bases.Alternative.{Alternative}
+use Rattle.pf_values.specs.declared.bases.Alternative.TheVariants.{Undefined, Raised, Prefixed}
+use Rattle.pf_values.specs.declared.bases.Base.TheVariants.{Octal}
+use Rattle.pf_values.specs.declared.conversions.Kind.{Kind}
+use Rattle.pf_values.specs.declared.conversions.Kind.TheVariants as kinds
+use Rattle.pf_values.specs.declared.flags.Flag.TheVariants.{Alt, Minus, Plus, Space, Zero}
+use Rattle.pf_values.specs.declared.flags.FlagSet.{FlagSet}
+use Rattle.pf_values.specs.declared.models.Model.{Model}
+use Rattle.pf_values.specs.meaning.Bases.{alternative_of}
+use Rattle.pf_values.specs.meaning.Conversions.{alternative_under, is_signed, is_text, kind_of, prints_signed, prints_string, prints_text}
+use Rattle.pf_values.specs.meaning.Flags.{has, no_flags, with_flag}
+use Rattle.pf_values.specs.meaning.Normal.{HasNormalForm, HasPrefixedForm, HasSignedForm, HasUnsignedForm, IsNormal, IsNormalFilled, IsNormalOctal, IsNormalPrefixed, IsNormalSigned, IsNormalUnprefixed, sign_len, precision_of}
+use Rattle.pf_values.specs.meaning.Printing.{is_zero_filled}
+use Rattle.pf_values.specs.declared.conversions.Conv.{Conv}
+use Rattle.pf_values.specs.declared.conversions.Conv.TheVariants.{D, I}
+use Rattle.pf_values.specs.meaning.Defined.{refused_as}
+use Rattle.pf_values.specs.meaning.Specification.{Specification, width_of}
+use Rattle.pf_values.specs.Directives.{effective_precision, width_given}
+use Rattle.pf_reduce.specs.declared.padding.Padding.{Padding}
+use Rattle.pf_reduce.specs.Cores.{kept_precision, padded_core, with_side}
+use Rattle.pf_reduce.specs.Padded.{constants, padding_of}
+use Rattle.pf_reduce.specs.declared.signs.Sign.{Sign}
+use Rattle.pf_reduce.specs.declared.signs.Sign.TheVariants as signs
+use Rattle.pf_reduce.specs.Signs.{sign_flags, sign_length, sign_of}
+use Rattle.pf_reduce.specs.Prefixes.{is_prefixed, puts_prefix}
+use Rattle.pf_reduce.specs.Reducing.{itself}
+
+-- the parts, written as a core writes them
+own_width : (w : Option ℕ) → w ≢ Some 0 → width_given (Some (unwrap_or w 0)) ≡ w
+own_width None h = refl
+own_width (Some zero) h = absurd (h refl)
+own_width (Some (suc w)) h = refl
+
+own_precision : (p : Option ℕ) → p ≢ Some 1 → kept_precision (unwrap_or p 1) ≡ p
+own_precision None h = refl
+own_precision (Some zero) h = refl
+own_precision (Some (suc zero)) h = absurd (h refl)
+own_precision (Some (suc (suc p))) h = refl
+
+pub own_core : (model : Model) (s : Specification) (q : Padding) (flags : FlagSet) (precision : Option ℕ)
+    → IsNormal model s → with_side (has s.flags Minus) flags ≡ s.flags → precision ≡ s.precision
+    → constants q ≡ 0 → q.width ≡ width_of s → q.left ≡ has s.flags Minus
+    → padded_core model s q flags precision ≡ itself model s
+own_core model s q flags precision h flags_are precision_is none width left =
+    let spaces : q.spaces ≡ 0 = omega (arith, none) in
+    let zeros : q.zeros ≡ 0 = omega (arith, none) in
+    let trail : q.trail ≡ 0 = omega (arith, none) in
+    rw (spaces, zeros, trail, width, left, flags_are, precision_is, h.length, h.conv, own_width s.width h.defined.width) refl
+
+different : false ≡ true → ⊥
+different e = cc
+
+too_narrow : (w sign : ℕ) → (1 ≤ sign) ⊎ (w ≤ 1) → sign ≡ 0 → 2 ≤ w → ⊥
+too_narrow w sign (inl some) none wide = omega (arith, some, none)
+too_narrow w sign (inr narrow) none wide = omega (arith, narrow, wide)
+
+-- a number's
+text_no_string : (k : Kind) → prints_text k ≡ false → prints_string k ≡ false
+text_no_string kinds.Signed e = refl
+text_no_string (kinds.Unsigned base capitals) e = refl
+text_no_string kinds.Char e = refl
+text_no_string kinds.String e = cc
+
+pub own_number : (model : Model) (s : Specification) (q : Padding) (flags : FlagSet) (p : ℕ)
+    → IsNormal model s → is_text s.conv ≡ false → with_side (has s.flags Minus) flags ≡ s.flags
+    → p ≡ precision_of s → constants q ≡ 0 → q.width ≡ width_of s → q.left ≡ has s.flags Minus
+    → padded_core model s q flags (kept_precision p) ≡ itself model s
+own_number model s q flags p h text flags_are p_is none width left =
+    let no_one : s.precision ≢ Some 1 = λ e. different (sym (text_no_string (kind_of s.conv) text) ∙ h.precision e) in
+    own_core model s q flags (kept_precision p) h flags_are (ap kept_precision p_is ∙ own_precision s.precision no_one) none width left
+
+pub unfilled_precision : (s : Specification) (front : ℕ) → has s.flags Zero ≡ false → effective_precision s front ≡ precision_of s
+unfilled_precision s front h = rw h refl
+
+-- the width stays, where it is at most so many bytes, and idle only where it is none
+pub own_field : (w most least a b : ℕ) → a ≡ min w most → w ≤ most → (0 < w → least < w)
+    → (a ≤ least → b ≡ 0) → (least < a → b ≡ a) → b ≡ w
+own_field zero most least a b e few more idle kept = idle (omega (arith, e))
+own_field (suc w) most least a b e few more idle kept =
+    let least_is = more (omega arith) in
+    let same : a ≡ suc w = omega (arith, e, few) in
+    kept (omega (arith, same, least_is)) ∙ same
+
+-- spaces come before what is right-justified in a field
+pub seen_before : (left : Bool) (w : ℕ) → (left ≡ true) ⊎ (w ≡ 0) → left ≡ false → 0 < w → ⊥
+seen_before left w (inl at_left) right some = different (sym right ∙ at_left)
+seen_before left w (inr none) right some = omega (arith, none, some)
+
+-- so does the side, where the width is seen
+pub own_side : (before after : Bool) (w most : ℕ) → (after ≡ true → (before ≡ true) × (most < w))
+    → (most < w → after ≡ before) → (before ≡ true → most < w) → after ≡ before
+own_side true after w most wide right seen = right (seen refl)
+own_side false true w most wide right seen = sym (wide refl).0
+own_side false false w most wide right seen = refl
+
+-- without flags but the side
+side_alone : (left : Bool) → with_side left no_flags ≡ record { minus = left; plus = false; space = false; alt = false; zero = false; group = false }
+side_alone true = refl
+side_alone false = refl
+
+bare : (m p s a z g : Bool) → p ≡ false → s ≡ false → a ≡ false → z ≡ false → g ≡ false
+    → with_side m no_flags ≡ record { minus = m; plus = p; space = s; alt = a; zero = z; group = g }
+bare m p s a z g hp hs ha hz hg = rw (hp, hs, ha, hz, hg) (side_alone m)
+
+false_else : (b : Bool) → (b ≡ true → false ≡ true) → b ≡ false
+false_else true h = sym (h refl)
+false_else false h = refl
+
+pub bare_flags : (model : Model) (s : Specification) → IsNormal model s → is_signed s.conv ≡ false → has s.flags Alt ≡ false → has s.flags Zero ≡ false → with_side (has s.flags Minus) no_flags ≡ s.flags
+bare_flags model s h signed alt unfilled =
+    let f = s.flags in
+    bare f.minus f.plus f.space f.alt f.zero f.group (false_else f.plus (λ e. sym signed ∙ h.no_plus e)) (false_else f.space (λ e. sym signed ∙ h.no_space e)) alt unfilled h.no_group
+
+-- digits alone
+raised_without : (alt : Bool) (P Q : Type 0) → alt ≡ false → MatchBool alt P Q → Q
+raised_without true P Q e h = absurd (different (sym e))
+raised_without false P Q e h = h
+
+prefixed_without : (model : Model) (s : Specification) (alt fill : Bool) → alt ≡ false → HasPrefixedForm model alt fill s → IsNormalUnprefixed model s
+prefixed_without model s true fill e h = absurd (different (sym e))
+prefixed_without model s false fill e h = h
+
+unprefixed_under : (model : Model) (s : Specification) (a : Alternative) → has s.flags Alt ≡ false → HasUnsignedForm model a s → IsNormalUnprefixed model s
+unprefixed_under model s Undefined alt h = h
+unprefixed_under model s Raised alt h = raised_without (has s.flags Alt) (IsNormalOctal model s) (IsNormalUnprefixed model s) alt h
+unprefixed_under model s Prefixed alt h = prefixed_without model s (has s.flags Alt) (has s.flags Zero) alt h
+
+unprefixed_kind : (model : Model) (s : Specification) (k : Kind) → prints_text k ≡ false → prints_signed k ≡ false → has s.flags Alt ≡ false → HasNormalForm model k s → IsNormalUnprefixed model s
+unprefixed_kind model s kinds.Signed text signed alt h = absurd (different (sym signed))
+unprefixed_kind model s (kinds.Unsigned base capitals) text signed alt h = unprefixed_under model s (alternative_of base) alt h
+unprefixed_kind model s kinds.Char text signed alt h = absurd (different (sym text))
+unprefixed_kind model s kinds.String text signed alt h = absurd (different (sym text))
+
+pub unprefixed_form : (model : Model) (s : Specification) → IsNormal model s → is_text s.conv ≡ false → is_signed s.conv ≡ false → has s.flags Alt ≡ false → IsNormalUnprefixed model s
+unprefixed_form model s h text signed alt = unprefixed_kind model s (kind_of s.conv) text signed alt h.form
+
+pub beyond : (p w : ℕ) → (0 < w) × (p ≡ 0 → 1 < w) → (0 < w → p < w) → 1 < w
+beyond zero w h more = h.1 refl
+beyond (suc p) w h more = let m = more h.0 in omega (arith, m)
+
+-- `o` with `#`
+octal_under : (model : Model) (s : Specification) (alt : Bool) → alt ≡ true → (P Q : Type 0) → MatchBool alt P Q → P
+octal_under model s true e P Q h = h
+octal_under model s false e P Q h = absurd (different e)
+
+pub octal_form : (model : Model) (s : Specification) → IsNormal model s → kind_of s.conv ≡ kinds.Unsigned Octal false → has s.flags Alt ≡ true → IsNormalOctal model s
+octal_form model s h is alt = octal_under model s (has s.flags Alt) alt (IsNormalOctal model s) (IsNormalUnprefixed model s) (subst (λ k. HasNormalForm model k s) is h.form)
+
+-- with `#`, and the side
+alt_side : (left : Bool) → with_side left (with_flag no_flags Alt) ≡ record { minus = left; plus = false; space = false; alt = true; zero = false; group = false }
+alt_side true = refl
+alt_side false = refl
+
+with_alt : (m p s a z g : Bool) → p ≡ false → s ≡ false → a ≡ true → z ≡ false → g ≡ false
+    → with_side m (with_flag no_flags Alt) ≡ record { minus = m; plus = p; space = s; alt = a; zero = z; group = g }
+with_alt m p s a z g hp hs ha hz hg = rw (hp, hs, ha, hz, hg) (alt_side m)
+
+pub alt_flags : (model : Model) (s : Specification) → IsNormal model s → is_signed s.conv ≡ false → has s.flags Alt ≡ true → has s.flags Zero ≡ false → with_side (has s.flags Minus) (with_flag no_flags Alt) ≡ s.flags
+alt_flags model s h signed alt unfilled =
+    let f = s.flags in
+    with_alt f.minus f.plus f.space f.alt f.zero f.group (false_else f.plus (λ e. sym signed ∙ h.no_plus e)) (false_else f.space (λ e. sym signed ∙ h.no_space e)) alt unfilled h.no_group
+
+-- digits after a prefix
+prefixed_under : (model : Model) (s : Specification) (a : Alternative) (alt : Bool) → has s.flags Alt ≡ alt → puts_prefix a ≡ true → alt ≡ true → HasUnsignedForm model a s → HasPrefixedForm model true (has s.flags Zero) s
+prefixed_under model s Undefined alt is e on h = absurd (different e)
+prefixed_under model s Raised alt is e on h = absurd (different e)
+prefixed_under model s Prefixed alt is e on h = subst (λ b. HasPrefixedForm model b (has s.flags Zero) s) (is ∙ on) h
+
+prefixed_kind : (model : Model) (s : Specification) (k : Kind) → puts_prefix (alternative_under k) ≡ true → has s.flags Alt ≡ true → HasNormalForm model k s → HasPrefixedForm model true (has s.flags Zero) s
+prefixed_kind model s kinds.Signed e alt h = absurd (different e)
+prefixed_kind model s (kinds.Unsigned base capitals) e alt h = prefixed_under model s (alternative_of base) true alt e refl h
+prefixed_kind model s kinds.Char e alt h = absurd (different e)
+prefixed_kind model s kinds.String e alt h = absurd (different e)
+
+-- a filled one keeps its zeros
+filled : (s : Specification) → IsNormalFilled s → has s.flags Zero ≡ true → is_zero_filled s ≡ true
+filled s h zeros = rw (zeros, h.right, h.no_precision) refl
+
+unfilled_from : (model : Model) (s : Specification) (fill : Bool) → has s.flags Zero ≡ fill → (is_zero_filled s ≡ true → (1 ≤ 0) ⊎ (width_of s ≤ 1)) → HasPrefixedForm model true fill s → IsNormalPrefixed model s × (has s.flags Zero ≡ false)
+unfilled_from model s true is idle h = absurd (too_narrow (width_of s) 0 (idle (filled s h is)) refl h.width)
+unfilled_from model s false is idle h = (h, is)
+
+pub prefixed_form : (model : Model) (s : Specification) → IsNormal model s → is_prefixed s.conv ≡ true → has s.flags Alt ≡ true → (is_zero_filled s ≡ true → (1 ≤ 0) ⊎ (width_of s ≤ 1)) → IsNormalPrefixed model s × (has s.flags Zero ≡ false)
+prefixed_form model s h form alt idle = unfilled_from model s (has s.flags Zero) refl idle (prefixed_kind model s (kind_of s.conv) form alt h.form)
+
+no_sign_kind : (k : Kind) → puts_prefix (alternative_under k) ≡ true → prints_signed k ≡ false
+no_sign_kind kinds.Signed e = absurd (different e)
+no_sign_kind (kinds.Unsigned base capitals) e = refl
+no_sign_kind kinds.Char e = refl
+no_sign_kind kinds.String e = refl
+
+no_text_kind : (k : Kind) → puts_prefix (alternative_under k) ≡ true → prints_text k ≡ false
+no_text_kind kinds.Signed e = refl
+no_text_kind (kinds.Unsigned base capitals) e = refl
+no_text_kind kinds.Char e = absurd (different e)
+no_text_kind kinds.String e = absurd (different e)
+
+pub prefixed_unsigned : (conv : Conv) → is_prefixed conv ≡ true → is_signed conv ≡ false
+prefixed_unsigned conv e = no_sign_kind (kind_of conv) e
+
+pub prefixed_number : (conv : Conv) → is_prefixed conv ≡ true → is_text conv ≡ false
+prefixed_number conv e = no_text_kind (kind_of conv) e
+
+-- what a directive that is filled with zeros has
+filled_parts : (zeros minus : Bool) (p : Option ℕ) → (zeros && not minus && is_none p) ≡ true → (zeros ≡ true) × (minus ≡ false) × (p ≡ None)
+filled_parts true false None e = (refl, refl, refl)
+filled_parts true false (Some p) e = absurd (different e)
+filled_parts true true p e = absurd (different e)
+filled_parts false minus p e = absurd (different e)
+
+filled_flags : (m p s a z g : Bool) → m ≡ false → p ≡ false → s ≡ false → a ≡ true → z ≡ true → g ≡ false
+    → with_side m (with_flag (with_flag no_flags Alt) Zero) ≡ record { minus = m; plus = p; space = s; alt = a; zero = z; group = g }
+filled_flags m p s a z g hm hp hs ha hz hg = rw (hm, hp, hs, ha, hz, hg) refl
+
+pub own_filled_prefixed : (model : Model) (s : Specification) → IsNormal model s → is_prefixed s.conv ≡ true → has s.flags Alt ≡ true → is_zero_filled s ≡ true → padded_core model s (padding_of s) (with_flag (with_flag no_flags Alt) Zero) None ≡ itself model s
+own_filled_prefixed model s h form alt fill =
+    let f = s.flags in
+    let parts = filled_parts f.zero f.minus s.precision fill in
+    let signed = prefixed_unsigned s.conv form in
+    own_core model s (padding_of s) (with_flag (with_flag no_flags Alt) Zero) None h (filled_flags f.minus f.plus f.space f.alt f.zero f.group parts.1 (false_else f.plus (λ e. sym signed ∙ h.no_plus e)) (false_else f.space (λ e. sym signed ∙ h.no_space e)) alt parts.0 h.no_group) (sym parts.2) refl refl refl
+
+-- the side is seen
+pub seen_from : (p w least unseen : ℕ) → (0 < w) × (p ≡ 0 → least < w) → (p ≡ 0 → unseen ≡ least) → (1 ≤ p → unseen ≡ 0) → unseen < w
+seen_from zero w least unseen h none some = let e = none refl in let l = h.1 refl in omega (arith, e, l)
+seen_from (suc p) w least unseen h none some = let e = some (omega arith) in omega (arith, e, h.0)
+
+-- digits after a sign
+sign_len_under : (plus space : Bool) → (if plus || space then 1 else 0) ≡ sign_length (if plus then signs.Plus else (if space then signs.Space else signs.None))
+sign_len_under true space = refl
+sign_len_under false true = refl
+sign_len_under false false = refl
+
+pub sign_len_is : (s : Specification) → sign_len s ≡ sign_length (sign_of s.flags)
+sign_len_is s = sign_len_under (has s.flags Plus) (has s.flags Space)
+
+space_under : (plus space : Bool) → (if plus then signs.Plus else (if space then signs.Space else signs.None)) ≡ signs.Space → space ≡ true
+space_under plus true e = refl
+space_under true false e = cc
+space_under false false e = cc
+
+pub space_is : (s : Specification) → sign_of s.flags ≡ signs.Space → has s.flags Space ≡ true
+space_is s e = space_under (has s.flags Plus) (has s.flags Space) e
+
+no_plus_under : (plus space : Bool) → (if plus then signs.Plus else (if space then signs.Space else signs.None)) ≢ signs.Plus → plus ≡ false
+no_plus_under true space h = absurd (h refl)
+no_plus_under false space h = refl
+
+pub no_plus_is : (s : Specification) → sign_of s.flags ≢ signs.Plus → has s.flags Plus ≡ false
+no_plus_is s h = no_plus_under (has s.flags Plus) (has s.flags Space) h
+
+signed_kind : (model : Model) (s : Specification) (k : Kind) → prints_signed k ≡ true → HasNormalForm model k s → HasSignedForm model s
+signed_kind model s kinds.Signed e h = h
+signed_kind model s (kinds.Unsigned base capitals) e h = absurd (different e)
+signed_kind model s kinds.Char e h = absurd (different e)
+signed_kind model s kinds.String e h = absurd (different e)
+
+unfilled_signed : (model : Model) (s : Specification) (fill : Bool) (len : ℕ) → has s.flags Zero ≡ fill → len ≡ sign_len s → (is_zero_filled s ≡ true → (1 ≤ len) ⊎ (width_of s ≤ 1)) → MatchBool fill (IsNormalFilled s × (sign_len s ≡ 0)) (IsNormalSigned model s) → IsNormalSigned model s × (has s.flags Zero ≡ false)
+unfilled_signed model s true len is len_is idle h = absurd (too_narrow (width_of s) len (idle (filled s h.0 is)) (len_is ∙ h.1) h.0.width)
+unfilled_signed model s false len is len_is idle h = (h, is)
+
+pub signed_form : (model : Model) (s : Specification) (len : ℕ) → IsNormal model s → is_signed s.conv ≡ true → len ≡ sign_len s → (is_zero_filled s ≡ true → (1 ≤ len) ⊎ (width_of s ≤ 1)) → IsNormalSigned model s × (has s.flags Zero ≡ false)
+signed_form model s len h signed len_is idle = unfilled_signed model s (has s.flags Zero) len refl len_is idle (signed_kind model s (kind_of s.conv) signed h.form)
+
+signed_conv : (conv : Conv) → is_signed conv ≡ true → (conv ≡ D) ⊎ (conv ≡ I)
+signed_conv D e = inl refl
+signed_conv I e = inr refl
+signed_conv _ e = cc
+
+no_alt_with : (s : Specification) → refused_as s ≡ None → (s.conv ≡ D) ⊎ (s.conv ≡ I) → has s.flags Alt ≡ false
+no_alt_with s allowed (inl is) = search rules
+no_alt_with s allowed (inr is) = search rules
+
+signed_no_alt : (s : Specification) → refused_as s ≡ None → is_signed s.conv ≡ true → has s.flags Alt ≡ false
+signed_no_alt s allowed signed = no_alt_with s allowed (signed_conv s.conv signed)
+
+signed_text : (k : Kind) → prints_signed k ≡ true → prints_text k ≡ false
+signed_text kinds.Signed e = refl
+signed_text (kinds.Unsigned base capitals) e = refl
+signed_text kinds.Char e = absurd (different e)
+signed_text kinds.String e = absurd (different e)
+
+pub signed_number : (conv : Conv) → is_signed conv ≡ true → is_text conv ≡ false
+signed_number conv e = signed_text (kind_of conv) e
+
+sign_side : (m p s : Bool) → (p ≡ true → s ≡ false) → with_side m (sign_flags (if p then signs.Plus else (if s then signs.Space else signs.None))) ≡ record { minus = m; plus = p; space = s; alt = false; zero = false; group = false }
+sign_side true true true h = absurd (different (sym (h refl)))
+sign_side false true true h = absurd (different (sym (h refl)))
+sign_side true true false h = refl
+sign_side true false true h = refl
+sign_side true false false h = refl
+sign_side false true false h = refl
+sign_side false false true h = refl
+sign_side false false false h = refl
+
+with_sign : (m p s a z g : Bool) → (p ≡ true → s ≡ false) → a ≡ false → z ≡ false → g ≡ false
+    → with_side m (sign_flags (if p then signs.Plus else (if s then signs.Space else signs.None))) ≡ record { minus = m; plus = p; space = s; alt = a; zero = z; group = g }
+with_sign m p s a z g one ha hz hg = rw (ha, hz, hg) (sign_side m p s one)
+
+pub signed_flags : (model : Model) (s : Specification) → IsNormal model s → is_signed s.conv ≡ true → (has s.flags Plus ≡ true → has s.flags Space ≡ false) → has s.flags Zero ≡ false → with_side (has s.flags Minus) (sign_flags (sign_of s.flags)) ≡ s.flags
+signed_flags model s h signed one unfilled =
+    let f = s.flags in
+    with_sign f.minus f.plus f.space f.alt f.zero f.group one (signed_no_alt s h.defined.allowed signed) unfilled h.no_group
+
+no_sign_under : (plus space : Bool) → sign_length (if plus then signs.Plus else (if space then signs.Space else signs.None)) ≡ 0 → (plus ≡ false) × (space ≡ false)
+no_sign_under true space e = cc
+no_sign_under false true e = cc
+no_sign_under false false e = (refl, refl)
+
+zeros_alone : (m p s a z g : Bool) → m ≡ false → p ≡ false → s ≡ false → a ≡ false → z ≡ true → g ≡ false
+    → with_side m (with_flag no_flags Zero) ≡ record { minus = m; plus = p; space = s; alt = a; zero = z; group = g }
+zeros_alone m p s a z g hm hp hs ha hz hg = rw (hm, hp, hs, ha, hz, hg) refl
+
+pub own_filled_signed : (model : Model) (s : Specification) → IsNormal model s → is_signed s.conv ≡ true → sign_length (sign_of s.flags) ≡ 0 → is_zero_filled s ≡ true → padded_core model s (padding_of s) (with_flag no_flags Zero) None ≡ itself model s
+own_filled_signed model s h signed none fill =
+    let f = s.flags in
+    let parts = filled_parts f.zero f.minus s.precision fill in
+    let no_sign = no_sign_under f.plus f.space none in
+    own_core model s (padding_of s) (with_flag no_flags Zero) None h (zeros_alone f.minus f.plus f.space f.alt f.zero f.group parts.1 no_sign.0 no_sign.1 (signed_no_alt s h.defined.allowed signed) parts.0 h.no_group) (sym parts.2) refl refl refl
+
+-- the side of a sign is seen
+pub seen_sign : (sign : Sign) (p w unseen : ℕ) → (0 < w) × (sign ≢ signs.Plus → p ≡ 0 → sign_length sign + 1 < w) → (sign ≡ signs.Plus → unseen ≡ 0) → (sign ≢ signs.Plus → p ≡ 0 → unseen ≡ sign_length sign + 1) → (1 ≤ p → unseen ≡ 0) → unseen < w
+seen_sign signs.Plus p w unseen h plus none some = let e = plus refl in omega (arith, e, h.0)
+seen_sign signs.Space zero w unseen h plus none some = let e = none (λ x. cc) refl in let l = h.1 (λ x. cc) refl in omega (arith, e, l)
+seen_sign signs.None zero w unseen h plus none some = let e = none (λ x. cc) refl in let l = h.1 (λ x. cc) refl in omega (arith, e, l)
+seen_sign signs.Space (suc p) w unseen h plus none some = let e = some (omega arith) in omega (arith, e, h.0)
+seen_sign signs.None (suc p) w unseen h plus none some = let e = some (omega arith) in omega (arith, e, h.0)
