@@ -101,6 +101,7 @@ define TRIALS
 	python3 tests/program.py $(PROGRAM)
 	python3 tests/rows.py $(PROGRAM) $(C)
 	python3 tests/devices.py $(PROGRAM)
+	python3 tests/rooms.py $(PROGRAM)
 	python3 tests/records.py $(PROGRAM)
 	python3 tests/library.py $(PROGRAM) $(C)
 	python3 tests/literals.py $(PROGRAM) $(C)

@@ -105,6 +105,7 @@ def tested_counts():
     yield r"(\d+) rows of `tests/rows/whole.jsonl`, (\d+) of them", [len(whole), len(whole) - HAND_WHOLE]
     records = data_rows("records.jsonl")
     yield r"(\d+) rows of `tests/rows/records.jsonl`, (\d+) of them", [len(records), len(records) - HAND_RECORDS]
+    yield r"(\d+) refused formats, (\d+) directives and (\d+) formats in which", [data_count(name) for name in ["cut_refusals.jsonl", "cut_directives.jsonl", "fronts.jsonl"]]
     yield r"(\d+) runs worked out by hand, (\d+) worked reductions and (\d+) calls", [data_count(name) for name in ["commands.jsonl", "reduced.txt", "calls.jsonl"]]
 
 
@@ -115,7 +116,8 @@ HAND_WHOLE = 29
 # Numbers of docs/TESTED.md that count no rows, tests or wrong bodies.
 PLAIN_NUMBERS = [
     r"each of the 256 bytes after 7 beginnings", r"16 shapes", r"take 1, 2, 3 or 7 bytes a call and then fail in one of 5 ways", r"40000 arguments",
-    r"conversations of 1000 records and 1000 pairs", r"one record of 100 million bytes", r"3 records into each room",
+    r"the replies to 3 records", r"move 1, 2, 3, 7 or 4096 bytes a call, and fail in one of 4 ways", r"loaded before the C library\): \d+ runs",
+    r"conversations of 1000 records and 1000 pairs", r"one record of 100 million bytes",
     r"UTF-8", r"\d+ runs and comparisons", r"no 2 normal directives", r"every 2 of", r"what the 2 say",
 ]
 NUMBER_WORDS = dict(zip("two three four five six seven eight nine ten eleven twelve".split(), range(2, 13)))

@@ -33,7 +33,7 @@ use pf_values::Model;
 use std::alloc::{AllocError, Global};
 
 /// How a run ends that writes all of an answer.
-#[derive(Clone, Copy, Debug, PartialEq, Eq)]
+#[derive(Clone, Copy)]
 pub enum Ending {
     /// With nothing but the answer.
     Done,
@@ -44,7 +44,7 @@ pub enum Ending {
 }
 
 /// What is written, and how the run ends then.
-#[derive(Debug, Drop)]
+#[derive(Drop)]
 pub struct Answer {
     /// What is written.
     pub bytes: Vec<u8>,

@@ -16,7 +16,7 @@ use std::alloc::Global;
 mod tests;
 
 /// An argument that has no type yet.
-#[derive(Clone, Copy, Debug)]
+#[derive(Clone, Copy)]
 pub enum UntypedArg<'a> {
     /// A number.
     Number(i128),

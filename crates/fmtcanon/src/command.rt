@@ -12,7 +12,7 @@ use clap::{Arg, ArgAction, Command};
 use std::alloc::{AllocError, Global};
 
 /// Which arguments a command takes. Each takes the option `--model`.
-#[derive(Clone, Copy, Debug)]
+#[derive(Clone, Copy)]
 pub enum Arguments {
     /// No others.
     Nothing,
@@ -27,7 +27,7 @@ pub enum Arguments {
 }
 
 /// A command: its name, a sentence about it, the text below its help, and what it takes.
-#[derive(Clone, Copy, Debug)]
+#[derive(Clone, Copy)]
 pub struct Row<'a> {
     name: &'a str,
     about: &'a str,

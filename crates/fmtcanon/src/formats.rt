@@ -11,7 +11,7 @@ use std::alloc::{AllocError, Global};
 use std::borrow::CowSlice;
 
 /// How formats are given, among the words and as records.
-#[derive(Clone, Copy, Debug)]
+#[derive(Clone, Copy)]
 pub enum Notation {
     /// By their bytes.
     Bytes,
@@ -32,7 +32,7 @@ impl Notation {
 }
 
 /// A format as it is given.
-#[derive(Clone, Copy, Debug)]
+#[derive(Clone, Copy)]
 pub struct GivenFormat<'a> {
     /// How it is given.
     pub notation: Notation,

@@ -13,7 +13,7 @@ pub const NAMES: &[&str] = &["lp64", "ilp32", "llp64"];
 pub const NAMES_OR_MORE: &[&str] = &["lp64", "ilp32", "llp64", "both", "all"];
 
 /// The data models in which two formats are compared.
-#[derive(Clone, Copy, Debug)]
+#[derive(Clone, Copy)]
 pub enum Models {
     /// This one.
     One(Model),

@@ -24,7 +24,7 @@ use std::alloc::AllocError;
 use std::io::Write;
 
 /// How a run ended.
-#[derive(Debug, Drop)]
+#[derive(Drop)]
 pub enum Outcome {
     /// All was written.
     Done,
@@ -127,7 +127,7 @@ impl Outcome {
 }
 
 /// Why a question has no answer.
-#[derive(Clone, Copy, Debug, PartialEq, Eq)]
+#[derive(Clone, Copy)]
 pub enum Fault {
     /// A format is refused.
     Refused {

@@ -41,7 +41,7 @@ struct Conversation {
 }
 
 // Why it stops before the end.
-#[derive(Clone, Copy, Debug)]
+#[derive(Clone, Copy)]
 enum Stop {
     // A growth was refused.
     Memory,

@@ -17,7 +17,7 @@ use pf_values::Model;
 use std::alloc::{AllocError, Global};
 
 /// A question about formats in a data model.
-#[derive(Debug, Drop)]
+#[derive(Drop)]
 pub enum Question<'a> {
     /// The types of the arguments of a format.
     Types(Model, GivenFormat<'a>),
@@ -58,7 +58,7 @@ pub enum Question<'a> {
 
 /// What is asked about formats, whichever they are, and how they are given: they may be among the
 /// words, or come as records.
-#[derive(Clone, Copy, Debug)]
+#[derive(Clone, Copy)]
 pub enum RecordQuestion {
     /// The types of the arguments of each.
     Types(Notation, Model),
@@ -132,7 +132,7 @@ impl RecordQuestion {
 }
 
 /// What a command does.
-#[derive(Debug, Drop)]
+#[derive(Drop)]
 pub enum Task<'a> {
     /// It answers a question about formats that are among the words.
     Answer(Question<'a>),
@@ -143,7 +143,7 @@ pub enum Task<'a> {
 }
 
 /// Why there is no task.
-#[derive(Debug, Drop)]
+#[derive(Drop)]
 pub enum NoTask {
     /// What is wrong with the words, or what `clap` answers in place of a command, help included.
     Usage(String),

@@ -1,15 +1,9 @@
 //! Runs that the built program doesn't show, and what is reported of an outcome.
 
-mod cuts;
 mod devices;
 mod exhaustion;
 mod growths;
 mod memory;
-mod records;
-mod rooms;
-mod sizes;
-mod streams;
-mod written_rows;
 
 use crate::outcome::{Outcome, report};
 use crate::run::run;
@@ -31,33 +25,6 @@ fn report_of(alloc: Global, outcome: &Outcome) -> (u8, Vec<u8>) {
     let mut errors = Counted::new(Vec::new(alloc));
     report(outcome, &mut errors);
     (outcome.status(), errors.into_inner())
-}
-
-// Whether a run answers this, or is refused, writes nothing and reports this.
-fn answers(alloc: Global, words: &[&str], want: &str) -> bool {
-    let (outcome, written) = ran(alloc, words);
-    let (status, reported) = report_of(alloc, &outcome);
-    match outcome {
-        Outcome::Done | Outcome::Same => {
-            status == 0 && reported.is_empty() && written.as_slice() == want.as_bytes()
-        }
-        Outcome::Different => {
-            status == 1 && reported.is_empty() && written.as_slice() == want.as_bytes()
-        }
-        Outcome::Refused { .. } => {
-            status == 2 && written.is_empty() && reported.as_slice() == want.as_bytes()
-        }
-        _ => false,
-    }
-}
-
-// A text so many times.
-fn repeat(alloc: Global, text: &str, count: usize) -> Result<String, AllocError> {
-    let mut whole = String::new(alloc);
-    for _ in 0..count {
-        whole.push_str(text)?;
-    }
-    Ok(whole)
 }
 
 // Words with zero bytes, which no system hands to a program, and the status and the line of the run.
@@ -166,55 +133,29 @@ fn has_each_number(
     Ok(true)
 }
 
+// Whether each outcome that has no number is reported so.
+fn has_each_line(alloc: Global) -> Result<bool, AllocError> {
+    let usage = Outcome::Usage(String::from_str(alloc, "as it is")?);
+    Ok(
+        is_reported(alloc, usage, 3, "as it is")
+            && is_reported(alloc, Outcome::Done, 0, "")
+            && is_reported(alloc, Outcome::Same, 0, "")
+            && is_reported(alloc, Outcome::Different, 1, "")
+            && is_reported(alloc, Outcome::Answered(2), 2, "")
+            && is_reported(alloc, Outcome::NoSecond, 3, "a second format is wanted\n")
+            && is_reported(alloc, Outcome::Read, 4, "read failed\n")
+            && is_reported(alloc, Outcome::Write(7), 4, "write failed\n")
+            && is_reported(alloc, Outcome::Memory, 4, "out of memory\n"),
+    )
+}
+
 #[test]
 fn each_outcome_has_its_status_and_line(rt: HostRuntime) -> Result<(), AllocError> {
-    let alloc = rt.alloc();
-    let usage = Outcome::Usage(String::from_str(alloc, "as it is")?);
-    assert!(rt; is_reported(alloc, usage, 3, "as it is"));
-    assert!(rt; is_reported(alloc, Outcome::Done, 0, ""));
-    assert!(rt; is_reported(alloc, Outcome::Same, 0, ""));
-    assert!(rt; is_reported(alloc, Outcome::Different, 1, ""));
-    assert!(rt; is_reported(alloc, Outcome::Answered(2), 2, ""));
-    assert!(rt; is_reported(alloc, Outcome::NoSecond, 3, "a second format is wanted\n"));
-    assert!(rt; is_reported(alloc, Outcome::Read, 4, "read failed\n"));
-    assert!(rt; is_reported(alloc, Outcome::Write(7), 4, "write failed\n"));
-    assert!(rt; is_reported(alloc, Outcome::Memory, 4, "out of memory\n"));
+    let is_right = has_each_line(rt.alloc())?;
+    assert!(rt; is_right);
     for (what, status, before, after) in &NUMBERED {
-        let right = has_each_number(alloc, *what, *status, before, after)?;
+        let right = has_each_number(rt.alloc(), *what, *status, before, after)?;
         assert!(rt; right, "{what:?}");
     }
     Ok(())
-}
-
-#[rattlefmt::skip]
-static CUT: [(&[&str], &[u8]); 6] = [
-    (&["canon", "%i of %u%%"], b"%d of %u%%\n"),
-    (&["types", "%i of %u%%"], b"int\nunsigned int\n"),
-    (&["show", "x%%%20d"], b"text 1\npercent\ndirective %20d: int: 9 0 %11d 0\n"),
-    (&["format", "%5d|%s", "n:42", "s:abc"], b"   42|abc"),
-    (&["same", "%zd", "%ld"], b"same\n"),
-    (&["same", "%05d%s", "%.5d%s"], b"different\nn:-1\ns:\n"),
-];
-
-#[test]
-fn what_fits_is_written(rt: HostRuntime) {
-    for (words, want) in &CUT {
-        assert!(rt; is_cut(rt.alloc(), words, want), "{words:?}");
-    }
-}
-
-// Whether a run of this answer writes just what fits, at each room that is too small.
-fn is_cut(alloc: Global, words: &[&str], want: &[u8]) -> bool {
-    for room in 0..want.len().min(32) {
-        let mut place = [0u8; 32];
-        let mut reader = Counted::new(b"".as_slice());
-        let mut writer = Counted::new(&mut place[..room]);
-        let outcome = run(alloc, words, &mut reader, &mut writer);
-        let failures = writer.failures();
-        let is_reported = matches!(outcome, Outcome::Write(n) if n == room as u128);
-        if !is_reported || failures != 1 || place[..room] != want[..room] {
-            return false;
-        }
-    }
-    true
 }

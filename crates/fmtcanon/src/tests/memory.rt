@@ -52,21 +52,21 @@ static COMPARISONS: [(&str, &str, Seen); 10] = [
     ("%05d", "%.5d", Seen::Memory),
 ];
 
-#[test]
-fn compare_takes_no_memory_but_for_arguments(rt: HostRuntime) -> Result<(), AllocError> {
-    let mut answers = [Seen::Args; 10];
-    let exhausted = Exhausted::new(rt.alloc())?;
-    let refused = is_all_refused(rt.alloc());
-    for (at, (f, g, _)) in COMPARISONS.iter().enumerate() {
-        if let Some(answer) = answers.get_mut(at) {
-            *answer = answer_about(rt.alloc(), f, g);
+// Whether each answer is as wanted, with every growth refused.
+fn has_each_answer(alloc: Global) -> Result<bool, AllocError> {
+    let _exhausted = Exhausted::new(alloc)?;
+    for (f, g, want) in &COMPARISONS {
+        if answer_about(alloc, f, g) != *want {
+            return Ok(false);
         }
     }
-    drop(exhausted);
-    assert!(rt; refused);
-    for (answer, (f, g, want)) in answers.iter().zip(COMPARISONS.iter()) {
-        assert_eq!(rt; *answer, *want, "{f} {g}");
-    }
+    Ok(is_all_refused(alloc))
+}
+
+#[test]
+fn compare_takes_no_memory_but_for_arguments(rt: HostRuntime) -> Result<(), AllocError> {
+    let is_right = has_each_answer(rt.alloc())?;
+    assert!(rt; is_right);
     Ok(())
 }
 
@@ -85,14 +85,8 @@ fn eight_types_take_no_memory(rt: HostRuntime) -> Result<(), AllocError> {
     let eight = length_of(rt.alloc(), b"%d%d%d%d%d%d%d%d");
     let nine = length_of(rt.alloc(), b"%d%d%d%d%d%d%d%d%d");
     drop(exhausted);
-    assert_eq!(rt; eight, Some(8));
-    assert_eq!(rt; nine, None);
+    assert!(rt; eight == Some(8) && nine.is_none());
     Ok(())
-}
-
-// The bytes that a call wrote into a place, if it answered with no fault.
-fn front(place: &[u8], rest: usize) -> Option<&[u8]> {
-    place.get(..place.len().checked_sub(rest)?)
 }
 
 // Whether `same_stream` answers that two texts mean the same.
@@ -154,39 +148,49 @@ fn directive_is_taken() -> bool {
         && reduce(Model::Lp64, &directive).spaces == 9
 }
 
-// Whether the other calls without an allocator answer.
-fn others_answer() -> bool {
-    streams_are_same()
-        && bytes_come()
-        && bytes_are_taken()
-        && pieces_come()
-        && directive_is_taken()
-        && !candidates(Model::Lp64, ArgType::Int).is_empty()
+// Whether the calls that go over a text in memory answer.
+fn texts_are_read() -> bool {
+    check(b"%d%%%-5s") == Ok(())
+        && is_canonical(Model::Lp64, b"%5d") == Ok(true)
+        && canonical_len(Model::Ilp32, b"%4095d") == Ok(4_088)
+        && same_text(Model::Lp64, b"%zd", b"%ld") == Ok(true)
+}
+
+// Whether `canonical_stream` writes what it settles.
+fn is_copied() -> bool {
+    let mut place = [0u8; 10];
+    let mut reader = Counted::new(b"a%.0sb%05u".as_slice());
+    let mut writer = Counted::new(place.as_mut_slice());
+    canonical_stream(Model::Lp64, &mut reader, &mut writer).is_ok() && place == *b"ab%.0s%.5u"
+}
+
+// Whether `render` writes what a format prints.
+fn is_rendered() -> bool {
+    let mut place = [0u8; 6];
+    let mut writer = Counted::new(place.as_mut_slice());
+    render(Model::Lp64, b"%5d|", &[Arg::Int(42)], &mut writer).is_ok() && place == *b"   42|"
+}
+
+// Whether the calls without an allocator answer with every growth refused.
+fn all_answer(alloc: Global) -> Result<bool, AllocError> {
+    let _exhausted = Exhausted::new(alloc)?;
+    Ok(
+        texts_are_read()
+            && is_copied()
+            && is_rendered()
+            && streams_are_same()
+            && bytes_come()
+            && bytes_are_taken()
+            && pieces_come()
+            && directive_is_taken()
+            && !candidates(Model::Lp64, ArgType::Int).is_empty()
+            && is_all_refused(alloc),
+    )
 }
 
 #[test]
 fn calls_without_an_allocator_take_none(rt: HostRuntime) -> Result<(), AllocError> {
-    let mut copied = [0u8; 16];
-    let mut printed = [0u8; 16];
-    let exhausted = Exhausted::new(rt.alloc())?;
-    let accepted = check(b"%d%%%-5s") == Ok(());
-    let recognized = is_canonical(Model::Lp64, b"%5d") == Ok(true);
-    let counted = canonical_len(Model::Ilp32, b"%4095d");
-    let same = same_text(Model::Lp64, b"%zd", b"%ld") == Ok(true);
-    let mut reader = Counted::new(b"a%.0sb%05u".as_slice());
-    let mut writer = Counted::new(copied.as_mut_slice());
-    let streamed = canonical_stream(Model::Lp64, &mut reader, &mut writer).is_ok();
-    let left = writer.into_inner().len();
-    let mut writer = Counted::new(printed.as_mut_slice());
-    let rendered = render(Model::Lp64, b"%5d|", &[Arg::Int(42)], &mut writer).is_ok();
-    let unused = writer.into_inner().len();
-    let others = others_answer();
-    let refused = is_all_refused(rt.alloc());
-    drop(exhausted);
-    assert!(rt; refused && others);
-    assert!(rt; accepted && recognized && same && streamed && rendered);
-    assert!(rt; counted == Ok(4_088));
-    assert!(rt; front(&copied, left) == Some(b"ab%.0s%.5u".as_slice()));
-    assert!(rt; front(&printed, unused) == Some(b"   42|".as_slice()));
+    let all_answer = all_answer(rt.alloc())?;
+    assert!(rt; all_answer);
     Ok(())
 }

@@ -1,0 +1,184 @@
+#!/usr/bin/env python3
+"""Tries the built program over standard streams that fail in the middle.
+
+Usage: tests/rooms.py PROGRAM
+
+Standard output takes some bytes and then fails: each answer of tests/rows/commands.jsonl and tests/rows/written.jsonl,
+what `stream` settles before a refusal, and replies to records go out in each room that is too small for them. Standard
+input hands out some bytes and then fails, or ends there: formats and records are cut after each byte. The streams
+are those of tests/narrow.c. How many bytes they move a call, and the error, take turns from run to run.
+
+It needs a Linux system with gcc. Its last line is 'N passed, M failed', and it exits with 1 where M isn't 0.
+"""
+
+import errno
+import itertools
+import json
+import os
+import sys
+import tempfile
+from concurrent.futures import ThreadPoolExecutor
+from pathlib import Path
+
+sys.dont_write_bytecode = True
+sys.path.insert(0, str(Path(__file__).resolve().parent))
+
+from devices import READ_FAILED, WRITE_FAILED, library_of  # noqa: E402
+from harness import TOP, Trials, run  # noqa: E402
+
+ROWS = TOP / "tests/rows"
+STEPS = [1, 2, 3, 7, 4096]
+FAULTS = [errno.EIO, errno.EAGAIN, errno.EPIPE, errno.ENOSPC]
+# Formats that are refused, what `stream` writes of each before, and the refusal. Worked out by hand.
+UNFINISHED = [
+    (b"a%.0sb%5d%q", b"ab%.0s%5d", b"refused 3 Unexpected at byte 10\n"),
+    (b"a%.0s%y", b"a", b"refused 3 Unexpected at byte 6\n"),
+    (b"%%.0s%y", b"%%.0s", b"refused 3 Unexpected at byte 6\n"),
+    (b"100%", b"100", b"refused 2 Truncated at byte 4\n"),
+    (b"%20d%y", b"         %11d", b"refused 3 Unexpected at byte 5\n"),
+    (b"%y", b"", b"refused 3 Unexpected at byte 1\n"),
+]
+RECORDS = b"%5c\0%*d\0%i\0"
+REPLIES = b"0     %c\x002 refused 5 Star at byte 1\x000 %d\x00"
+# Where the reply to a record ends, for each number of records that are whole.
+ENDS = [0, 9, 36, 41]
+NAMES = {1: "NulByte", 2: "Truncated", 3: "Unexpected", 4: "BadPercent", 5: "Star", 6: "Numbered", 7: "WidthTooLarge"}
+NAMES |= {8: "PrecisionTooLarge", 9: "Float", 10: "Pointer", 11: "Count", 12: "Wide", 13: "AltUndefined"}
+NAMES |= {15: "GroupUndefined", 16: "PrecisionUndefined", 17: "LengthUndefined"}
+
+
+def rows_of(name):
+    """The rows of a file, after the line that says where they come from."""
+    lines = (ROWS / name).read_text(encoding="utf-8").splitlines()
+    assert "source" in json.loads(lines[0])
+    return [json.loads(line) for line in lines[1:]]
+
+
+class Narrow:
+    """Runs of the program over streams that fail, a few side by side."""
+
+    def __init__(self, program, library, trials):
+        self.program, self.library, self.trials = program, library, trials
+        self.turns = itertools.cycle(itertools.product(STEPS, FAULTS))
+        self.asked = []
+
+    def expect(self, words, stdin, wanted, **limits):
+        """A run over streams with these limits, by ROOM and FEED, that is to end so."""
+        step, fault = next(self.turns)
+        limits |= {"STEP": step, "FAULT": fault}
+        self.asked.append((words, stdin, limits, wanted))
+
+    def answer(self, asked):
+        words, stdin, limits, _ = asked
+        environment = {**os.environ, "LD_PRELOAD": self.library, **{name: str(it) for name, it in limits.items()}}
+        return run(self.program, words, stdin, env=environment)
+
+    def end(self):
+        """Makes the runs, and holds each to what it was to be."""
+        with ThreadPoolExecutor(os.cpu_count()) as pool:
+            for (words, stdin, limits, wanted), got in zip(self.asked, pool.map(self.answer, self.asked)):
+                self.trials.expect(f"{words} over {stdin!r} with {limits}", got, wanted)
+
+
+def try_rooms(narrow, words, stdin, text):
+    """In each room that is too small just what fits goes out, and the write is reported."""
+    status, line = WRITE_FAILED
+    for room in range(len(text)):
+        narrow.expect(words, stdin, (status, text[:room], line), ROOM=room)
+
+
+def try_answers(narrow):
+    """The answers of the commands, and what `stream` settles of a text and of a directive."""
+    rows = [(row["words"], b"", row["stdout"], row["status"]) for row in rows_of("commands.jsonl") if row["status"] < 2]
+    texts = [*rows_of("written.jsonl"), *rows_of("cut_directives.jsonl")]
+    rows += [(["stream"], text.encode("latin-1"), canonical, 0) for text, canonical in texts]
+    for words, stdin, text, status in rows:
+        try_rooms(narrow, words, stdin, text.encode("latin-1"))
+        narrow.expect(words, stdin, (status, text.encode("latin-1"), b""), ROOM=len(text))
+
+
+def try_long_answers(narrow):
+    """Answers of some blocks: a room below, at and above each block's end, and some between."""
+    padded = b" " * 4084 + b"%11d"
+    string = b"different\ns:" + b"A" * 4096 + b"\n"
+    for words, stdin, text, status in [
+        (["stream"], b"%4095d" * 5, padded * 5, 0),
+        (["canon", "%4095d" * 5], b"", padded * 5 + b"\n", 0),
+        (["stream"], b"%.0s%.0s%4095c", b" " * 4094 + b"%.0s%.0s%c", 0),
+        (["same", "%s", "%.4095s"], b"", string, 1),
+    ]:
+        rooms = {place + more for place in range(0, len(text), 4096) for more in (-1, 0, 1, 1000)}
+        for room in sorted(it for it in rooms if 0 <= it < len(text)):
+            narrow.expect(words, stdin, (WRITE_FAILED[0], text[:room], WRITE_FAILED[1]), ROOM=room)
+        narrow.expect(words, stdin, (status, text, b""), ROOM=len(text))
+
+
+def try_refusals(narrow):
+    """What is settled is written before a refusal, which is reported even where that can't be."""
+    for stdin, text, line in UNFINISHED:
+        for room in range(len(text) + 1):
+            narrow.expect(["stream"], stdin, (2, text[:room], line), ROOM=room)
+
+
+def refusal(number, place):
+    return b"refused %d %s at byte %d\n" % (number, NAMES[number].encode(), place)
+
+
+def try_front(narrow, text, length, answer, written, settled):
+    """A text that ends after so many bytes, or fails there: a refusal before that comes first."""
+    ended = (0, written, b"") if answer is None else (2, written, refusal(*answer))
+    is_refused_before = answer is not None and answer[1] < length
+    failed = (2, settled, refusal(*answer)) if is_refused_before else (READ_FAILED[0], settled, READ_FAILED[1])
+    for _ in STEPS:
+        narrow.expect(["stream"], text[:length], ended)
+        narrow.expect(["stream"], text, failed, FEED=length)
+
+
+def try_fronts(narrow):
+    """Formats cut after each byte: what waits isn't settled, and what began isn't whole."""
+    for row in rows_of("fronts.jsonl"):
+        for length, answer, written, settled in row["fronts"]:
+            try_front(narrow, row["format"].encode("latin-1"), length, answer, written.encode(), settled.encode())
+    for text, literals, number, place in rows_of("cut_refusals.jsonl"):
+        text = text.encode("latin-1")
+        for length in range(len(text) + 1):
+            front = text[: min(length, literals)]
+            answer = (number, place) if length > place else (2, length) if length > literals else None
+            try_front(narrow, text, length, answer, front, front)
+    for row in rows_of("cut_directives.jsonl"):
+        text, whole = (it.encode("latin-1") for it in row)
+        for length in range(len(text) + 1):
+            answer = (2, length) if 0 < length < len(text) else None
+            out = whole if length == len(text) else b""
+            try_front(narrow, text, length, answer, out, out)
+
+
+def try_records(narrow):
+    """Replies to records: in each room, and to those that are whole where a read fails."""
+    for step in STEPS:
+        for room in range(len(REPLIES)):
+            narrow.expect(["canon", "-z"], RECORDS, (WRITE_FAILED[0], REPLIES[:room], WRITE_FAILED[1]), ROOM=room)
+        for length in range(len(RECORDS) + 1):
+            whole = REPLIES[: ENDS[RECORDS[:length].count(0)]]
+            narrow.expect(["canon", "-z"], RECORDS, (READ_FAILED[0], whole, READ_FAILED[1]), FEED=length)
+
+
+def main():
+    if len(sys.argv) != 2:
+        sys.exit(__doc__)
+    trials = Trials()
+    with tempfile.TemporaryDirectory() as work:
+        library, is_made = library_of("narrow", work)
+        trials.expect("narrow.c", is_made, True)
+        narrow = Narrow(os.path.abspath(sys.argv[1]), library, trials)
+        try_answers(narrow)
+        try_long_answers(narrow)
+        try_refusals(narrow)
+        try_fronts(narrow)
+        try_records(narrow)
+        narrow.end()
+    return trials.end()
+
+
+if __name__ == "__main__":
+    sys.exit(main())
