@@ -158,6 +158,13 @@ def try_hostile(program, module, trials):
         try_text(program, module, trials, text, kind and [kind, at])
 
 
+def try_flags(program, module, trials):
+    """Each flag is defined with each conversion, or refused at it, as the standard's table has it."""
+    for conversion, kinds in rows_of("flags.jsonl"):
+        for flag, kind in zip(FLAGS, kinds, strict=True):
+            try_text(program, module, trials, f"%{flag}{conversion}".encode(), [kind, 2] if kind else None)
+
+
 # What directives and formats print.
 
 
@@ -226,6 +233,33 @@ def try_numbers(program, trials):
     for path, names in tables.items():
         for format, number, text in (row for name in names for row in rattle_fields(path, name)):
             try_texts(program, trials, "lp64", format, [number], [text])
+
+
+def canonical(program, model, format):
+    status, stdout, stderr = answer(program, "canon", model, format)
+    return stdout.decode() if status == 0 and not stderr else (status, stderr)
+
+
+def try_models(program, trials):
+    """Each conversion under each modifier takes its type, has its canonical text, and fills a field up to its digits."""
+    for row in rows_of("models.jsonl"):
+        model, types, most_digits = row["model"], by_letter(row["types"]), by_letter(row["digits"])
+        for conversion, (at, length) in itertools.product("diuoxXb", enumerate(LENGTHS)):
+            given, core = f"{length}{conversion}", f"{row['modifiers'][at]}{conversion.replace('i', 'd')}"
+            trials.expect(f"{model} types of %{given}", type_of(program, model, f"%{given}"), types[conversion][at])
+            trials.expect(f"{model} canon %{given}", canonical(program, model, f"%{given}"), f"%{core}\n")
+            # A number of a signed type has a sign before its digits.
+            width = most_digits[conversion][at] + (conversion in "di")
+            wanted = f"{' ' * (200 - width)}%{width}{core}\n"
+            trials.expect(f"{model} canon %200{given}", canonical(program, model, f"%200{given}"), wanted)
+        for conversion, kind in {"c": "int", "s": "string"}.items():
+            trials.expect(f"{model} types of %{conversion}", type_of(program, model, f"%{conversion}"), kind)
+            trials.expect(f"{model} canon %{conversion}", canonical(program, model, f"%{conversion}"), f"%{conversion}\n")
+
+
+def by_letter(table):
+    """The rows of a table that has one for several letters, by each of these."""
+    return {letter: row for letters, row in table.items() for letter in letters}
 
 
 def try_formats(program, trials):
@@ -575,6 +609,8 @@ def main():
     try_refused(program, module, trials)
     try_bytes(program, module, trials)
     try_hostile(program, module, trials)
+    try_flags(program, module, trials)
+    try_models(program, trials)
     try_grid(program, trials)
     try_numbers(program, trials)
     try_formats(program, trials)
