@@ -288,6 +288,34 @@ def try_long_formats(program, trials):
         trials.expect(f"{format[:20]}.. is printed whole", printed(program, "lp64", format, words) == wanted.encode(), True)
 
 
+# The calls on string literals.
+
+
+def decoded(module, source):
+    """The bytes of a source, or the kind and the place of its fault."""
+    try:
+        return module.decode_literal(source)
+    except module.BadLiteral as fault:
+        return [int(fault.kind) - 200, fault.byte]
+
+
+def try_sources(module, trials):
+    """Sources, literals and places are as their rows say, and what is encoded is read back."""
+    for row in rows_of("sources.jsonl"):
+        if "literal" in row:
+            literal = module.encode_literal(row["text"].encode())
+            trials.expect(f"the literal of {row['text']!r}", literal, row["literal"].encode())
+        elif "index" in row:
+            place = module.source_offset(row["source"].encode(), row["index"])
+            trials.expect(f"byte {row['index']} of {row['source']!r}", place, row["place"])
+        else:
+            wanted = row["refused"] if "refused" in row else row["text"].encode()
+            trials.expect(f"the bytes of {row['source']!r}", decoded(module, row["source"].encode()), wanted)
+    # Each byte but zero after another, so that all runs and escapes come next to one another.
+    text = bytes(byte for step in [1, 3, 7, 63, 64, 97] for at in range(255) if (byte := (1 + at * step) % 256))
+    trials.expect("a literal of all bytes is read back", decoded(module, module.encode_literal(text)), text)
+
+
 # What directives are reduced to.
 
 
@@ -306,6 +334,12 @@ def shown(program, model, formats):
         for line in lines:
             spelling, spaces, zeros, core, trail = re.fullmatch(pattern, line).groups()
             yield spelling, int(spaces), int(zeros), core, int(trail)
+
+
+def try_spellings(program, trials):
+    """Each directive is shown in its one spelling."""
+    for format, spelling in rows_of("spellings.jsonl"):
+        trials.expect(f"the spelling of {format}", [row[0] for row in shown(program, "lp64", [format])], [spelling])
 
 
 def try_reduced(program, trials):
@@ -615,6 +649,7 @@ def main():
     try_numbers(program, trials)
     try_formats(program, trials)
     try_long_formats(program, trials)
+    try_spellings(program, trials)
     try_reduced(program, trials)
     try_cores(program, module, trials)
     try_reductions(program, trials)
@@ -627,6 +662,7 @@ def main():
     try_many_directives(program, trials)
     try_many_arguments(program, trials)
     try_calls(module, trials)
+    try_sources(module, trials)
     return trials.end()
 
 
