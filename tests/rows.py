@@ -158,6 +158,13 @@ def try_hostile(program, module, trials):
         try_text(program, module, trials, text, kind and [kind, at])
 
 
+def try_flags(program, module, trials):
+    """Each flag is defined with each conversion, or refused at it, as the standard's table has it."""
+    for conversion, kinds in rows_of("flags.jsonl"):
+        for flag, kind in zip(FLAGS, kinds, strict=True):
+            try_text(program, module, trials, f"%{flag}{conversion}".encode(), [kind, 2] if kind else None)
+
+
 # What directives and formats print.
 
 
@@ -228,6 +235,33 @@ def try_numbers(program, trials):
             try_texts(program, trials, "lp64", format, [number], [text])
 
 
+def canonical(program, model, format):
+    status, stdout, stderr = answer(program, "canon", model, format)
+    return stdout.decode() if status == 0 and not stderr else (status, stderr)
+
+
+def try_models(program, trials):
+    """Each conversion under each modifier takes its type, has its canonical text, and fills a field up to its digits."""
+    for row in rows_of("models.jsonl"):
+        model, types, most_digits = row["model"], by_letter(row["types"]), by_letter(row["digits"])
+        for conversion, (at, length) in itertools.product("diuoxXb", enumerate(LENGTHS)):
+            given, core = f"{length}{conversion}", f"{row['modifiers'][at]}{conversion.replace('i', 'd')}"
+            trials.expect(f"{model} types of %{given}", type_of(program, model, f"%{given}"), types[conversion][at])
+            trials.expect(f"{model} canon %{given}", canonical(program, model, f"%{given}"), f"%{core}\n")
+            # A number of a signed type has a sign before its digits.
+            width = most_digits[conversion][at] + (conversion in "di")
+            wanted = f"{' ' * (200 - width)}%{width}{core}\n"
+            trials.expect(f"{model} canon %200{given}", canonical(program, model, f"%200{given}"), wanted)
+        for conversion, kind in {"c": "int", "s": "string"}.items():
+            trials.expect(f"{model} types of %{conversion}", type_of(program, model, f"%{conversion}"), kind)
+            trials.expect(f"{model} canon %{conversion}", canonical(program, model, f"%{conversion}"), f"%{conversion}\n")
+
+
+def by_letter(table):
+    """The rows of a table that has one for several letters, by each of these."""
+    return {letter: row for letters, row in table.items() for letter in letters}
+
+
 def try_formats(program, trials):
     """Whole formats, strings and single bytes are printed as their rows say."""
     for name in ["WORKED", "OF_SUITES", "OF_LIBRARIES", "STRINGS", "CHARS"]:
@@ -254,6 +288,34 @@ def try_long_formats(program, trials):
         trials.expect(f"{format[:20]}.. is printed whole", printed(program, "lp64", format, words) == wanted.encode(), True)
 
 
+# The calls on string literals.
+
+
+def decoded(module, source):
+    """The bytes of a source, or the kind and the place of its fault."""
+    try:
+        return module.decode_literal(source)
+    except module.BadLiteral as fault:
+        return [int(fault.kind) - 200, fault.byte]
+
+
+def try_sources(module, trials):
+    """Sources, literals and places are as their rows say, and what is encoded is read back."""
+    for row in rows_of("sources.jsonl"):
+        if "literal" in row:
+            literal = module.encode_literal(row["text"].encode())
+            trials.expect(f"the literal of {row['text']!r}", literal, row["literal"].encode())
+        elif "index" in row:
+            place = module.source_offset(row["source"].encode(), row["index"])
+            trials.expect(f"byte {row['index']} of {row['source']!r}", place, row["place"])
+        else:
+            wanted = row["refused"] if "refused" in row else row["text"].encode()
+            trials.expect(f"the bytes of {row['source']!r}", decoded(module, row["source"].encode()), wanted)
+    # Each byte but zero after another, so that all runs and escapes come next to one another.
+    text = bytes(byte for step in [1, 3, 7, 63, 64, 97] for at in range(255) if (byte := (1 + at * step) % 256))
+    trials.expect("a literal of all bytes is read back", decoded(module, module.encode_literal(text)), text)
+
+
 # What directives are reduced to.
 
 
@@ -272,6 +334,12 @@ def shown(program, model, formats):
         for line in lines:
             spelling, spaces, zeros, core, trail = re.fullmatch(pattern, line).groups()
             yield spelling, int(spaces), int(zeros), core, int(trail)
+
+
+def try_spellings(program, trials):
+    """Each directive is shown in its one spelling."""
+    for format, spelling in rows_of("spellings.jsonl"):
+        trials.expect(f"the spelling of {format}", [row[0] for row in shown(program, "lp64", [format])], [spelling])
 
 
 def try_reduced(program, trials):
@@ -575,10 +643,13 @@ def main():
     try_refused(program, module, trials)
     try_bytes(program, module, trials)
     try_hostile(program, module, trials)
+    try_flags(program, module, trials)
+    try_models(program, trials)
     try_grid(program, trials)
     try_numbers(program, trials)
     try_formats(program, trials)
     try_long_formats(program, trials)
+    try_spellings(program, trials)
     try_reduced(program, trials)
     try_cores(program, module, trials)
     try_reductions(program, trials)
@@ -591,6 +662,7 @@ def main():
     try_many_directives(program, trials)
     try_many_arguments(program, trials)
     try_calls(module, trials)
+    try_sources(module, trials)
     return trials.end()
 
 

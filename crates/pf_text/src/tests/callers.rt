@@ -16,18 +16,25 @@ fn first_directive(format: &[u8]) -> Result<Option<Spelling>, Refusal> {
     Ok(None)
 }
 
+// Whether it is spelled `%05d`, where there is one.
+fn is_padded(format: &[u8]) -> Result<Option<bool>, Refusal> {
+    match first_directive(format)? {
+        Some(spelling) => Ok(Some(spelling.as_slice() == b"%05d".as_slice())),
+        None => Ok(None),
+    }
+}
+
 #[test]
 fn the_first_directive(rt: HostRuntime) {
-    let Ok(Some(spelling)) = first_directive(b"100%% %0000005d") else {
-        panic!(rt; "no directive is found");
+    let refusal = Refusal {
+        kind: RefusalKind::Truncated,
+        at: 4,
     };
-    assert!(rt; spelling.as_slice() == b"%05d".as_slice());
-    let Ok(none) = first_directive(b"100%%") else {
-        panic!(rt; "the text is refused");
-    };
-    assert!(rt; none.is_none());
-    let Err(refusal) = first_directive(b"100%") else {
-        panic!(rt; "the text is not refused");
-    };
-    assert!(rt; refusal.kind == RefusalKind::Truncated && refusal.at == 4);
+    assert!(rt;
+        [
+            is_padded(b"100%% %0000005d"),
+            is_padded(b"100%%"),
+            is_padded(b"100%"),
+        ] == [Ok(Some(true)), Ok(None), Err(refusal)]
+    );
 }

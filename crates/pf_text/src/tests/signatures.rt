@@ -1,78 +1,47 @@
-//! The types of arguments.
-use crate::{Refusal, TextFault, signature};
+//! Each call on a list of types, of which no command makes all, and the texts of faults.
+use crate::{Refusal, Signature, TextFault, signature};
 use pf_values::{ArgType, Model, RefusalKind};
-use std::alloc::AllocError;
+use std::alloc::{AllocError, Global};
 
-#[test]
-fn types_in_order(rt: HostRuntime) {
-    let found = signature(rt.alloc(), Model::Lp64, b"%d %hhu %zu %lld %s").expect(&rt, "accepted");
-    let wanted = [
-        ArgType::Int,
-        ArgType::Int,
-        ArgType::ULong,
-        ArgType::LongLong,
-        ArgType::Str,
-    ];
-    assert!(rt; found.as_slice() == wanted.as_slice());
-    assert_eq!(rt; found.len(), 5);
-    assert!(rt; !found.is_empty());
-    assert!(rt; found.get(2) == Some(ArgType::ULong));
-    assert!(rt; found.get(5) == None);
+fn is_list_of(found: &Signature, wanted: &[ArgType]) -> bool {
+    [
+        found.as_slice() == wanted,
+        found.len() == wanted.len(),
+        found.is_empty() == wanted.is_empty(),
+        found.get(0) == wanted.first().copied(),
+        found.get(wanted.len()).is_none(),
+    ] == [true; 5]
 }
 
-#[test]
-fn types_in_ilp32(rt: HostRuntime) {
-    let found = signature(rt.alloc(), Model::Ilp32, b"%zu%td%jx%ld").expect(&rt, "accepted");
-    let wanted = [
-        ArgType::UInt,
-        ArgType::Int,
-        ArgType::ULongLong,
-        ArgType::Long,
-    ];
-    assert!(rt; found.as_slice() == wanted.as_slice());
-}
-
-#[test]
-fn types_of_binary_numbers(rt: HostRuntime) {
-    let found = signature(rt.alloc(), Model::Lp64, b"%b%hhb%lb%llb%zb").expect(&rt, "accepted");
-    let wanted = [
-        ArgType::UInt,
-        ArgType::Int,
-        ArgType::ULong,
-        ArgType::ULongLong,
-        ArgType::ULong,
-    ];
-    assert!(rt; found.as_slice() == wanted.as_slice());
-}
-
-#[test]
-fn no_types(rt: HostRuntime) {
-    for format in ["", "100%%"] {
-        let found = signature(rt.alloc(), Model::Ilp32, format.as_bytes()).expect(&rt, "accepted");
-        assert_eq!(rt; found.len(), 0);
-        assert!(rt; found.is_empty());
-        assert!(rt; found.get(0) == None);
+fn has_types(alloc: Global, format: &[u8], wanted: &[ArgType]) -> bool {
+    match signature(alloc, Model::Lp64, format) {
+        Ok(found) => is_list_of(&found, wanted),
+        Err(_) => false,
     }
 }
 
 #[test]
-fn more_than_eight(rt: HostRuntime) {
-    let found = signature(rt.alloc(), Model::Lp64, b"%d%d%d%d%d%d%d%d%s").expect(&rt, "accepted");
-    assert_eq!(rt; found.len(), 9);
-    assert!(rt; found.get(8) == Some(ArgType::Str));
+fn types_in_order(rt: HostRuntime) {
+    let alloc = rt.alloc();
+    assert!(rt;
+        [
+            has_types(alloc, b"100%%", &[]),
+            has_types(alloc, b"%s%zu", &[ArgType::Str, ArgType::ULong]),
+            has_types(alloc, b"%d%d%d%d%d%d%d%d%d", &[ArgType::Int; 9]),
+        ] == [true; 3]
+    );
+}
+
+fn has_texts(alloc: Global) -> Result<bool, AllocError> {
+    let refused = TextFault::Refused(Refusal {
+        kind: RefusalKind::Unexpected,
+        at: 3,
+    });
+    let text = format!(in alloc; "{refused}, {}", TextFault::Memory)?;
+    Ok(text.as_str() == "refused (Unexpected) at byte 3, out of memory")
 }
 
 #[test]
-fn a_refused_text(rt: HostRuntime) -> Result<(), AllocError> {
-    let refusal = Refusal {
-        kind: RefusalKind::Unexpected,
-        at: 3,
-    };
-    let Err(fault) = signature(rt.alloc(), Model::Lp64, b"%d%y") else {
-        panic!(rt; "the text is not refused");
-    };
-    assert!(rt; fault == TextFault::Refused(refusal));
-    let texts = format!(in rt.alloc(); "{fault}, {}", TextFault::Memory)?;
-    assert!(rt; texts.as_str() == "refused (Unexpected) at byte 3, out of memory");
-    Ok(())
+fn text_of_a_refusal(rt: HostRuntime) {
+    assert!(rt; has_texts(rt.alloc()) == Ok(true));
 }

@@ -2,7 +2,7 @@
 use super::*;
 use std::io::{Error, ErrorKind};
 
-#[derive(Clone, Copy, Debug)]
+#[derive(Clone, Copy)]
 enum Answer {
     Takes(usize),
     Fails(ErrorKind),
@@ -51,7 +51,8 @@ fn counting(answer: Answer) -> Counted<Device> {
     Counted::new(Device { answer, calls: 0 })
 }
 
-// How many failures a write, a write of nothing, a read and a flush count, one after another.
+// How many failures a write, a write of nothing, a read and a flush count, one after another; and how many calls of the
+// device they are.
 fn failures_of_each(answer: Answer) -> ([u64; 4], u32) {
     let mut device = counting(answer);
     let _ = device.write(b"abc");
@@ -69,23 +70,27 @@ fn failures_of_each(answer: Answer) -> ([u64; 4], u32) {
 
 #[test]
 fn each_call_that_fails_counts_once(rt: HostRuntime) {
-    let rows = [
-        (Answer::Takes(3), [0, 0, 0, 0]),
-        (Answer::Takes(1), [0, 0, 0, 0]),
-        (Answer::Takes(0), [1, 1, 1, 1]),
-        (Answer::Fails(ErrorKind::Other), [1, 2, 3, 4]),
-        (Answer::Fails(ErrorKind::Interrupted), [1, 2, 3, 4]),
-        (Answer::Fails(ErrorKind::WouldBlock), [1, 2, 3, 4]),
-    ];
-    for (answer, want) in rows {
-        let (counts, calls) = failures_of_each(answer);
-        assert_eq!(rt; counts, want, "{answer:?}");
-        assert_eq!(rt; calls, 4, "{answer:?}");
-    }
+    assert!(rt;
+        [
+            failures_of_each(Answer::Takes(3)),
+            failures_of_each(Answer::Takes(1)),
+            failures_of_each(Answer::Takes(0)),
+            failures_of_each(Answer::Fails(ErrorKind::Other)),
+            failures_of_each(Answer::Fails(ErrorKind::Interrupted)),
+            failures_of_each(Answer::Fails(ErrorKind::WouldBlock)),
+        ] == [
+            ([0, 0, 0, 0], 4),
+            ([0, 0, 0, 0], 4),
+            ([1, 1, 1, 1], 4),
+            ([1, 2, 3, 4], 4),
+            ([1, 2, 3, 4], 4),
+            ([1, 2, 3, 4], 4),
+        ]
+    );
 }
 
-#[test]
-fn the_greatest_count_stays(rt: HostRuntime) {
+// The count after a failed write, and after two failures more, where one is left to the greatest; and the calls.
+fn counts_near_the_greatest() -> ([u64; 2], u32) {
     let device = Device {
         answer: Answer::Fails(ErrorKind::Other),
         calls: 0,
@@ -97,52 +102,80 @@ fn the_greatest_count_stays(rt: HostRuntime) {
         is_flushed: false,
     };
     let _ = counted.write(b"abc");
-    assert_eq!(rt; counted.failures(), u64::MAX);
+    let first = counted.failures();
     let _ = counted.write(b"abc");
     let _ = counted.flush();
-    assert_eq!(rt; counted.failures(), u64::MAX);
-    assert_eq!(rt; counted.into_inner().calls, 3);
+    let last = counted.failures();
+    ([first, last], counted.into_inner().calls)
+}
+
+#[test]
+fn the_greatest_count_stays(rt: HostRuntime) {
+    assert!(rt; counts_near_the_greatest() == ([u64::MAX; 2], 3));
+}
+
+fn outcome<T: Copy>(answer: io::Result<T>) -> Result<T, ErrorKind> {
+    match answer {
+        Ok(value) => Ok(value),
+        Err(error) => Err(error.kind()),
+    }
+}
+
+// What a write, a read and a flush answer, each with the calls of its device.
+fn written(answer: Answer, bytes: &[u8]) -> (Result<usize, ErrorKind>, u32) {
+    let mut device = counting(answer);
+    let found = outcome(device.write(bytes));
+    (found, device.into_inner().calls)
+}
+
+fn read(answer: Answer, place: &mut [u8]) -> (Result<usize, ErrorKind>, u32) {
+    let mut device = counting(answer);
+    let found = outcome(device.read(place));
+    (found, device.into_inner().calls)
+}
+
+fn flushed(answer: Answer) -> (Result<(), ErrorKind>, u32) {
+    let mut device = counting(answer);
+    let found = outcome(device.flush());
+    (found, device.into_inner().calls)
 }
 
 #[test]
 fn a_call_answers_as_the_device_does(rt: HostRuntime) {
-    let mut place = [0u8; 4];
-    assert_eq!(rt; counting(Answer::Takes(2)).write(b"abc").ok(), Some(2));
-    assert_eq!(rt; counting(Answer::Takes(2)).read(&mut place).ok(), Some(2));
-    assert!(rt; counting(Answer::Takes(2)).flush().is_ok());
+    let takes_two = Answer::Takes(2);
+    assert!(rt;
+        [written(takes_two, b"abc"), read(takes_two, &mut [0u8; 4])] == [(Ok(2), 1); 2]
+            && flushed(takes_two) == (Ok(()), 1)
+    );
+}
+
+// All that is given goes to the device in one call, however long it is, and an empty place, too.
+#[test]
+fn a_call_hands_on_all_that_it_is_given(rt: HostRuntime) {
+    let takes_all = Answer::Takes(usize::MAX);
+    assert!(rt;
+        [
+            written(takes_all, &[b'x'; 5_000]),
+            read(takes_all, &mut [0u8; 5_000]),
+            read(takes_all, &mut []),
+        ] == [(Ok(5_000), 1), (Ok(5_000), 1), (Ok(0), 1)]
+    );
+}
+
+fn fails_with(kind: ErrorKind) -> bool {
+    let fails = Answer::Fails(kind);
+    [written(fails, b"abc"), read(fails, &mut [0u8; 4])] == [(Err(kind), 1); 2]
+        && flushed(fails) == (Err(kind), 1)
 }
 
 #[test]
 fn the_kind_of_an_error_is_the_devices(rt: HostRuntime) {
-    let mut place = [0u8; 4];
     for kind in [
         ErrorKind::Interrupted,
         ErrorKind::WouldBlock,
         ErrorKind::BrokenPipe,
         ErrorKind::Other,
     ] {
-        let fails = Answer::Fails(kind);
-        let written = counting(fails).write(b"abc");
-        assert_eq!(rt; written.err().map(|e| e.kind()), Some(kind));
-        let read = counting(fails).read(&mut place);
-        assert_eq!(rt; read.err().map(|e| e.kind()), Some(kind));
-        let flushed = counting(fails).flush();
-        assert_eq!(rt; flushed.err().map(|e| e.kind()), Some(kind));
+        assert!(rt; fails_with(kind));
     }
-}
-
-// All that is given goes to the device in one call, however long it is, and an empty place, too.
-#[test]
-fn a_call_hands_on_all_that_it_is_given(rt: HostRuntime) {
-    let long = [b'x'; 5_000];
-    let mut device = counting(Answer::Takes(usize::MAX));
-    assert_eq!(rt; device.write(&long).ok(), Some(5_000));
-    assert_eq!(rt; device.into_inner().calls, 1);
-    let mut long = [0u8; 5_000];
-    let mut device = counting(Answer::Takes(usize::MAX));
-    assert_eq!(rt; device.read(&mut long).ok(), Some(5_000));
-    assert_eq!(rt; device.into_inner().calls, 1);
-    let mut device = counting(Answer::Takes(usize::MAX));
-    assert_eq!(rt; device.read(&mut []).ok(), Some(0));
-    assert_eq!(rt; device.into_inner().calls, 1);
 }
