@@ -1,169 +1,133 @@
-//! Two texts, compared in step.
+//! Two texts, compared in step: in memory and as streams.
 use super::devices::{feed_that_fails, has_left, whole};
-use super::{directives, formats};
+use super::formats;
+use super::streams::refusals;
 use crate::{Side, SideFault, StreamFault, same_stream, same_text};
 use pf_text::Refusal;
+use pf_values::devices::Feed;
 use pf_values::{Counted, Model, RefusalKind};
-use std::alloc::AllocError;
 
 static CUTS: [usize; 4] = [1, 2, 3, 7];
 
-// What `same_stream` answers of two texts in a cut.
-fn same_over(first: &str, second: &str, step: usize) -> Result<bool, SideFault> {
-    same_stream(
-        Model::Lp64,
-        &mut Counted::new(whole(first.as_bytes(), step)),
-        &mut Counted::new(whole(second.as_bytes(), step)),
-    )
+// What `same_stream` answers of two readers in a data model.
+fn same_over(model: Model, first: Feed<'_>, second: Feed<'_>) -> Result<bool, SideFault> {
+    same_stream(model, &mut Counted::new(first), &mut Counted::new(second))
 }
 
-// Whether `same_text` and `same_stream` in each cut answer so.
-fn all_answer(first: &str, second: &str, want: Result<bool, (Side, Refusal)>) -> bool {
-    let wanted = match want {
+// What `same_stream` is to answer, by the answer of `same_text`.
+fn of_streams(answer: Result<bool, (Side, Refusal)>) -> Result<bool, SideFault> {
+    match answer {
         Ok(same) => Ok(same),
         Err((side, refusal)) => Err(SideFault {
             side,
             fault: StreamFault::Refused(refusal),
         }),
-    };
+    }
+}
+
+// Whether `same_stream` answers as `same_text`, however the texts are cut.
+pub(super) fn streams_agree(model: Model, first: &[u8], second: &[u8]) -> bool {
+    let wanted = of_streams(same_text(model, first, second));
     for step in CUTS {
-        if same_over(first, second, step) != wanted {
+        if same_over(model, whole(first, step), whole(second, step)) != wanted {
             return false;
         }
     }
-    same_text(Model::Lp64, first.as_bytes(), second.as_bytes()) == want
+    true
 }
 
-fn refusal(kind: RefusalKind, at: u64) -> Refusal {
-    Refusal { kind, at }
+// The text of a row, which comes first.
+fn text_of(row: &'static str) -> &'static [u8] {
+    match row.split_once('¦') {
+        Some((text, _)) => text.as_bytes(),
+        None => row.as_bytes(),
+    }
 }
 
-// Whether one format means the same as those of a table that have its canonical text, and as no other.
-fn first_mistaken(
-    format: &str,
-    text: &str,
-    table: &[(&'static str, &'static str)],
-) -> Option<&'static str> {
-    for (other, other_text) in table {
-        if !all_answer(format, other, Ok(text == *other_text)) {
-            return Some(*other);
+// Whether streams agree beside each text of a table, on either side.
+fn agree_beside(text: &[u8], table: &'static str) -> bool {
+    for row in table.lines() {
+        let other = text_of(row);
+        if !streams_agree(Model::Lp64, text, other) || !streams_agree(Model::Lp64, other, text) {
+            return false;
         }
     }
-    None
+    true
 }
 
+// Every two texts that are accepted, every two that are refused, and one of each. What `same_text`
+// answers of them is tried by the C library (`tests/rows.py`).
 #[test]
-fn formats_of_one_canonical_text_are_the_same(rt: HostRuntime) {
-    for (format, text) in directives() {
-        assert_eq!(rt;
-            first_mistaken(format, text, directives()),
-            None,
-            "{format}"
-        );
+fn streams_are_compared_as_texts(rt: HostRuntime) {
+    for row in formats().lines() {
+        assert!(rt; agree_beside(text_of(row), formats()), "{row}");
     }
-    for (format, text) in formats() {
-        assert_eq!(rt; first_mistaken(format, text, formats()), None, "{format}");
-        assert!(rt; all_answer(format, text, Ok(true)), "{format}");
-    }
-}
-
-#[test]
-fn rows_of_two_texts(rt: HostRuntime) {
-    let y = RefusalKind::Unexpected;
-    for (first, second, want) in [
-        ("%zd", "%ld", Ok(true)),
-        ("%5c", "    %c", Ok(true)),
-        ("", "", Ok(true)),
-        ("%.0s%5c", "    %.0s%c", Ok(true)),
-        ("%.0s", "", Ok(false)),
-        ("%d", "%ld", Ok(false)),
-        ("a", "", Ok(false)),
-        ("a", "ab", Ok(false)),
-        ("%.0s!", "%.0s", Ok(false)),
-        ("a", "b%y", Err((Side::Second, refusal(y, 2)))),
-        ("b%y", "a", Err((Side::First, refusal(y, 2)))),
-        ("%d", "%d%y", Err((Side::Second, refusal(y, 3)))),
-        ("%s%y", "%s%z", Err((Side::First, refusal(y, 3)))),
-        (
-            "abc%",
-            "%y",
-            Err((Side::First, refusal(RefusalKind::Truncated, 4))),
-        ),
-        (
-            "abc",
-            "%",
-            Err((Side::Second, refusal(RefusalKind::Truncated, 1))),
-        ),
-        ("", "%.0s%q", Err((Side::Second, refusal(y, 5)))),
-    ] {
-        assert!(rt; all_answer(first, second, want), "{first} {second}");
+    for row in refusals().lines() {
+        let is_right = agree_beside(text_of(row), formats())
+            && agree_beside(text_of(row), refusals());
+        assert!(rt; is_right, "{row}");
     }
 }
 
 // Whether the first text is refused at its last byte, and this is left of the second then.
-fn leaves(first: &str, second: &str, left: &str) -> bool {
-    let at = first.len().saturating_sub(1) as u64;
+fn leaves(first: &[u8], second: &[u8], left: &[u8]) -> bool {
+    let refusal = Refusal {
+        kind: RefusalKind::Unexpected,
+        at: first.len().saturating_sub(1) as u64,
+    };
     let want = SideFault {
         side: Side::First,
-        fault: StreamFault::Refused(refusal(RefusalKind::Unexpected, at)),
+        fault: StreamFault::Refused(refusal),
     };
-    let mut r = Counted::new(first.as_bytes());
-    let mut s = Counted::new(whole(second.as_bytes(), 1));
-    same_stream(Model::Lp64, &mut r, &mut s) == Err(want)
-        && has_left(s.into_inner(), left.as_bytes())
+    let mut r = Counted::new(first);
+    let mut s = Counted::new(whole(second, 1));
+    same_stream(Model::Lp64, &mut r, &mut s) == Err(want) && has_left(s.into_inner(), left)
 }
 
 #[test]
 fn the_second_text_is_read_no_further(rt: HostRuntime) {
-    for (first, second, left) in [
-        ("%s%y", "%s%zabc", "%zabc"),
-        ("%y", "abc", "abc"),
-        ("%20d%y", "         %11dabc", "abc"),
-        ("         %11d%y", "%20dabc", "abc"),
-    ] {
-        assert!(rt; leaves(first, second, left), "{first} {second}");
-    }
+    let is_right = leaves(b"%s%y", b"%s%zabc", b"%zabc")
+        && leaves(b"%y", b"abc", b"abc")
+        && leaves(b"%20d%y", b"         %11dabc", b"abc")
+        && leaves(b"         %11d%y", b"%20dabc", b"abc");
+    assert!(rt; is_right);
+}
+
+// The failures of each reader, where a comparison stops at the one of this side.
+fn failures_at(first: Feed<'_>, second: Feed<'_>, side: Side) -> Option<(u64, u64)> {
+    let want = SideFault {
+        side,
+        fault: StreamFault::Read,
+    };
+    let mut r = Counted::new(first);
+    let mut s = Counted::new(second);
+    let is_named = same_stream(Model::Lp64, &mut r, &mut s) == Err(want);
+    is_named.then_some((r.failures(), s.failures()))
+}
+
+// Whether the side of a reader that fails after so many bytes is named; of two, the first.
+fn is_named(step: usize, at: usize) -> bool {
+    let text: &[u8] = b"ab%5dc";
+    let first = failures_at(
+        feed_that_fails(text, step, at),
+        whole(text, step),
+        Side::First,
+    );
+    let second = failures_at(
+        whole(text, step),
+        feed_that_fails(text, step, at),
+        Side::Second,
+    );
+    let later = feed_that_fails(text, step, 5);
+    let both = failures_at(later, feed_that_fails(text, step, at), Side::First);
+    first == Some((1, 0)) && second == Some((0, 1)) && both.is_some()
 }
 
 #[test]
 fn a_failing_reader_is_named_by_its_side(rt: HostRuntime) {
-    let text: &[u8] = b"ab%5dc";
     for step in CUTS {
-        for fails_at in 0..6usize {
-            let fault = StreamFault::Read;
-            let mut r = Counted::new(feed_that_fails(text, step, fails_at));
-            let mut s = Counted::new(whole(text, step));
-            let first = SideFault {
-                side: Side::First,
-                fault,
-            };
-            assert!(rt; same_stream(Model::Lp64, &mut r, &mut s) == Err(first));
-            assert_eq!(rt; (r.failures(), s.failures()), (1, 0));
-            let mut r = Counted::new(whole(text, step));
-            let mut s = Counted::new(feed_that_fails(text, step, fails_at));
-            let second = SideFault {
-                side: Side::Second,
-                fault,
-            };
-            assert!(rt; same_stream(Model::Lp64, &mut r, &mut s) == Err(second));
-            assert_eq!(rt; (r.failures(), s.failures()), (0, 1));
-            let mut r = Counted::new(feed_that_fails(text, step, 5));
-            let mut s = Counted::new(feed_that_fails(text, step, fails_at));
-            assert!(rt; same_stream(Model::Lp64, &mut r, &mut s) == Err(first));
+        for at in 0..6usize {
+            assert!(rt; is_named(step, at), "{step} {at}");
         }
     }
-}
-
-#[test]
-fn long_texts_in_step(rt: HostRuntime) -> Result<(), AllocError> {
-    let mut first = Vec::new(rt.alloc());
-    let mut second = Vec::new(rt.alloc());
-    for _ in 0..1000 {
-        first.extend_from_slice(b"%.0s%4095d")?;
-        second.extend_from_slice(b"%.0s%4095i")?;
-    }
-    assert!(rt; same_text(Model::Lp64, &first, &second) == Ok(true));
-    second.push(b'!')?;
-    assert!(rt; same_text(Model::Lp64, &first, &second) == Ok(false));
-    Ok(())
 }
