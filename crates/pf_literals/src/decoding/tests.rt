@@ -2,53 +2,86 @@
 use super::*;
 use crate::faults::{LiteralKind, LiteralRefusal};
 use linked_list_allocator::LocalHeap;
-use std::test::Fail;
+
+fn has_room(heap: &LocalHeap, len: usize) -> bool {
+    Vec::<u8, &LocalHeap>::with_capacity(heap, len).is_ok()
+}
+
+fn has_bytes(heap: &LocalHeap, source: &[u8], wanted: &[u8]) -> Result<bool, LiteralFault> {
+    match decode_in(heap, source) {
+        Ok(out) => Ok(out.as_slice() == wanted),
+        Err(fault) => Err(fault),
+    }
+}
+
+// Whether a heap of this size has room for the source's length, and whether the source has these bytes there.
+fn decoded(
+    alloc: Global,
+    size: usize,
+    source: &[u8],
+    wanted: &[u8],
+) -> Result<(bool, Result<bool, LiteralFault>), AllocError> {
+    let heap = LocalHeap::new(alloc, size)?;
+    let room = has_room(&heap, source.len());
+    Ok((room, has_bytes(&heap, source, wanted)))
+}
 
 // Whether the bytes of a source take one block of the source's length: they are there in the least heap that has room
 // for that, and want memory in each smaller one.
-fn takes_one_block(alloc: Global, source: &[u8], wanted: &[u8]) -> Result<bool, AllocError> {
+fn takes_one_block(alloc: Global, source: &[u8], wanted: &[u8]) -> bool {
     for size in 0..source.len().saturating_add(4096) {
-        let heap = LocalHeap::new(alloc, size)?;
-        let room = Vec::<u8, _>::with_capacity(&heap, source.len()).is_ok();
-        match decode_in(&heap, source) {
-            Ok(out) => return Ok(room && out.as_slice() == wanted),
-            Err(fault) => {
-                if room || fault != LiteralFault::Memory {
-                    return Ok(false);
-                }
-            }
+        match decoded(alloc, size, source, wanted) {
+            Ok((false, Err(LiteralFault::Memory))) => {}
+            answer => return answer == Ok((true, Ok(true))),
         }
     }
-    Ok(false)
+    false
 }
 
 #[test]
-fn one_growth_of_the_sources_length(rt: HostRuntime) -> Result<(), Fail> {
+fn one_growth_of_the_sources_length(rt: HostRuntime) {
     let alloc = rt.alloc();
-    assert!(rt; takes_one_block(alloc, b"\"a\"", b"a")?);
     assert!(rt;
-        takes_one_block(
-            alloc,
-            b"\"\\n\\n\\n\" \"abcdefghijklmnopqrstuvwxyz\" \"\\x41\"",
-            b"\n\n\nabcdefghijklmnopqrstuvwxyzA"
-        )?
+        [
+            takes_one_block(alloc, b"\"a\"", b"a"),
+            takes_one_block(
+                alloc,
+                b"\"\\n\\n\\n\" \"abcdefghijklmnopqrstuvwxyz\" \"\\x41\"",
+                b"\n\n\nabcdefghijklmnopqrstuvwxyzA"
+            ),
+        ] == [true; 2]
     );
-    Ok(())
+}
+
+// Whether a source has no bytes, where there is no memory for any.
+fn is_empty_without_memory(
+    alloc: Global,
+    source: &[u8],
+) -> Result<Result<bool, LiteralFault>, AllocError> {
+    let none = LocalHeap::new(alloc, 0)?;
+    let _taken = Vec::<u8, &LocalHeap>::with_capacity(&none, none.free())?;
+    Ok(has_bytes(&none, source, b""))
 }
 
 // A source of no bytes takes no memory, and a text that is refused is refused where there is none.
 #[test]
-fn none_where_none_is_wanted(rt: HostRuntime) -> Result<(), Fail> {
+fn none_where_none_is_wanted(rt: HostRuntime) {
     let alloc = rt.alloc();
-    let none = LocalHeap::new(alloc, 0)?;
-    let _taken = Vec::<u8, _>::with_capacity(&none, none.free())?;
-    assert!(rt; decode_in(&none, b" \"\" \"\" ").is_ok_and(|out| out.is_empty()));
-    assert!(rt; decode_in(&none, b"\"a\"").err() == Some(LiteralFault::Memory));
-    assert!(rt; decode_in(&none, b"\"\\n\"").err() == Some(LiteralFault::Memory));
     let refusal = LiteralRefusal {
         kind: LiteralKind::BadEscape,
         at: 5,
     };
-    assert!(rt; decode_in(&none, b"\"abcd\\q\"").err() == Some(LiteralFault::Refused(refusal)));
-    Ok(())
+    assert!(rt;
+        [
+            is_empty_without_memory(alloc, b" \"\" \"\" "),
+            is_empty_without_memory(alloc, b"\"a\""),
+            is_empty_without_memory(alloc, b"\"\\n\""),
+            is_empty_without_memory(alloc, b"\"abcd\\q\""),
+        ] == [
+            Ok(Ok(true)),
+            Ok(Err(LiteralFault::Memory)),
+            Ok(Err(LiteralFault::Memory)),
+            Ok(Err(LiteralFault::Refused(refusal))),
+        ]
+    );
 }

@@ -3,7 +3,7 @@ ghost use Rattle.std.specs.Prelude.{IsTrue};
 ghost use Rattle.pf_literals.specs.Elements.{Bytes};
 ghost use Rattle.pf_literals.specs.Sources.{IsSourceOf};
 
-use crate::{LiteralFault, decode, encode, source_offset};
+use crate::{LiteralFault, decode, encode};
 use std::alloc::Global;
 
 /// Whether two pieces of C source are known to denote one string.
@@ -29,15 +29,26 @@ fn in_one_literal(alloc: Global, source: &[u8]) -> Result<Vec<u8>, LiteralFault>
     }
 }
 
+fn is_in_one_literal(alloc: Global, source: &[u8], wanted: &[u8]) -> bool {
+    match in_one_literal(alloc, source) {
+        Ok(literal) => literal.as_slice() == wanted,
+        Err(_) => false,
+    }
+}
+
 #[test]
 fn callers_of_literals(rt: HostRuntime) {
     let alloc = rt.alloc();
-    assert!(rt; stand_for_one_string(alloc, b"\"\\t%d\"", b"\"\\11%\" \"d\""));
-    assert!(rt; !stand_for_one_string(alloc, b"\"%d\"", b"\"%i\""));
-    assert!(rt; !stand_for_one_string(alloc, b"%d", b"%d"));
-    let Ok(literal) = in_one_literal(alloc, b"\"Total:\\x9\" \"%i\" \"\\12\"") else {
-        panic!(rt; "the source is refused");
-    };
-    assert!(rt; literal.as_slice() == b"\"Total:\\t%i\\n\"".as_slice());
-    assert!(rt; source_offset(b"\"\\t%*d\"", 2) == Some(4));
+    assert!(rt;
+        [
+            stand_for_one_string(alloc, b"\"\\t%d\"", b"\"\\11%\" \"d\""),
+            stand_for_one_string(alloc, b"\"%d\"", b"\"%i\""),
+            stand_for_one_string(alloc, b"%d", b"%d"),
+            is_in_one_literal(
+                alloc,
+                b"\"Total:\\x9\" \"%i\" \"\\12\"",
+                b"\"Total:\\t%i\\n\""
+            ),
+        ] == [true, false, false, true]
+    );
 }
