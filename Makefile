@@ -100,6 +100,7 @@ define TRIALS
 	python3 tests/documents.py
 	python3 tests/program.py $(PROGRAM)
 	python3 tests/rows.py $(PROGRAM) $(C)
+	python3 tests/canonical_rows.py $(PROGRAM) $(C)
 	python3 tests/devices.py $(PROGRAM)
 	python3 tests/rooms.py $(PROGRAM)
 	python3 tests/records.py $(PROGRAM)

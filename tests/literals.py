@@ -20,6 +20,7 @@ sys.path.insert(0, str(Path(__file__).resolve().parent))
 
 from harness import TIMEOUT, Trials, run  # noqa: E402
 from library import load_module  # noqa: E402
+from rows import rows_of  # noqa: E402
 
 COUNT = 2000
 SEED = 20
@@ -164,6 +165,31 @@ def try_program(program, module, trials):
         trials.expect(f"canon --literal {source!r}", run(program, ["canon", "--literal", "--", source]), wanted)
 
 
+def decoded(module, source):
+    """The bytes of a source, or the kind and the place of its fault."""
+    try:
+        return module.decode_literal(source)
+    except module.BadLiteral as fault:
+        return [int(fault.kind) - 200, fault.byte]
+
+
+def try_sources(module, trials):
+    """Sources, literals and places are as their rows say, and what is encoded is read back."""
+    for row in rows_of("sources.jsonl"):
+        if "literal" in row:
+            literal = module.encode_literal(row["text"].encode())
+            trials.expect(f"the literal of {row['text']!r}", literal, row["literal"].encode())
+        elif "index" in row:
+            place = module.source_offset(row["source"].encode(), row["index"])
+            trials.expect(f"byte {row['index']} of {row['source']!r}", place, row["place"])
+        else:
+            wanted = row["refused"] if "refused" in row else row["text"].encode()
+            trials.expect(f"the bytes of {row['source']!r}", decoded(module, row["source"].encode()), wanted)
+    # Each byte but zero after another, so that all runs and escapes come next to one another.
+    text = bytes(byte for step in [1, 3, 7, 63, 64, 97] for at in range(255) if (byte := (1 + at * step) % 256))
+    trials.expect("a literal of all bytes is read back", decoded(module, module.encode_literal(text)), text)
+
+
 def main():
     program, folder, trials = sys.argv[1], Path(sys.argv[2]).resolve(), Trials()
     module = load_module(program, folder)
@@ -171,6 +197,7 @@ def main():
         try_decoded(module, GCC, trials, Path(name))
         try_encoded(module, ["gcc"], trials, Path(name))
     try_places(module, trials)
+    try_sources(module, trials)
     try_program(program, module, trials)
     return trials.end()
 

@@ -13,7 +13,6 @@ It needs a Linux system with gcc. Its last line is 'N passed, M failed', and it 
 
 import errno
 import itertools
-import json
 import os
 import sys
 import tempfile
@@ -24,9 +23,9 @@ sys.dont_write_bytecode = True
 sys.path.insert(0, str(Path(__file__).resolve().parent))
 
 from devices import READ_FAILED, WRITE_FAILED, library_of  # noqa: E402
-from harness import TOP, Trials, run  # noqa: E402
+from harness import Trials, run  # noqa: E402
+from rows import rows_of  # noqa: E402
 
-ROWS = TOP / "tests/rows"
 STEPS = [1, 2, 3, 7, 4096]
 FAULTS = [errno.EIO, errno.EAGAIN, errno.EPIPE, errno.ENOSPC]
 # Formats that are refused, what `stream` writes of each before, and the refusal. Worked out by hand.
@@ -45,13 +44,6 @@ ENDS = [0, 9, 36, 41]
 NAMES = {1: "NulByte", 2: "Truncated", 3: "Unexpected", 4: "BadPercent", 5: "Star", 6: "Numbered", 7: "WidthTooLarge"}
 NAMES |= {8: "PrecisionTooLarge", 9: "Float", 10: "Pointer", 11: "Count", 12: "Wide", 13: "AltUndefined"}
 NAMES |= {15: "GroupUndefined", 16: "PrecisionUndefined", 17: "LengthUndefined"}
-
-
-def rows_of(name):
-    """The rows of a file, after the line that says where they come from."""
-    lines = (ROWS / name).read_text(encoding="utf-8").splitlines()
-    assert "source" in json.loads(lines[0])
-    return [json.loads(line) for line in lines[1:]]
 
 
 class Narrow:
