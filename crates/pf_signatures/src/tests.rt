@@ -5,29 +5,46 @@ use crate::laws::{
 };
 use crate::{ArgumentType, FitsRefusal, SignatureRefusal, SignatureRefusalKind, arguments, fits};
 use pf_values::Model;
-use std::test::Fail;
+use std::alloc::{AllocError, Global};
 
 mod callers;
 
-#[test]
-fn types_kinds_and_what_they_say(rt: HostRuntime) -> Result<(), Fail> {
+fn are_types_numbered() -> bool {
     for (index, kind) in ArgumentType::ALL.iter().enumerate() {
-        assert!(rt; usize::from(kind.number()) == index + 1);
+        if usize::from(kind.number()) != index + 1 {
+            return false;
+        }
     }
+    true
+}
+
+fn do_kinds_ascend() -> bool {
     let mut before = 0;
     for kind in &SignatureRefusalKind::ALL {
-        assert!(rt; kind.number() > before);
+        if kind.number() <= before {
+            return false;
+        }
         before = kind.number();
     }
-    assert!(rt; SignatureRefusalKind::TwoTypes.name() == "TwoTypes");
+    true
+}
+
+fn has_texts(alloc: Global) -> Result<bool, AllocError> {
     let refusal = SignatureRefusal {
         kind: SignatureRefusalKind::Mixed,
         at: 4,
     };
-    let second = FitsRefusal::Second(refusal);
-    assert!(rt; format!(in rt.alloc(); "{refusal}")?.as_str() == "refused (Mixed) at byte 4");
+    let text = format!(in alloc; "{refusal}; {}", FitsRefusal::Second(refusal))?;
+    Ok(text.as_str() == "refused (Mixed) at byte 4; second: refused (Mixed) at byte 4")
+}
+
+#[test]
+fn types_kinds_and_what_they_say(rt: HostRuntime) {
     assert!(rt;
-        format!(in rt.alloc(); "{second}")?.as_str() == "second: refused (Mixed) at byte 4"
+        are_types_numbered()
+            && do_kinds_ascend()
+            && has_texts(rt.alloc()) == Ok(true)
+            && SignatureRefusalKind::TwoTypes.name() == "TwoTypes"
     );
     accepted_or_refused();
     never_both();
@@ -37,17 +54,19 @@ fn types_kinds_and_what_they_say(rt: HostRuntime) -> Result<(), Fail> {
     profile_types();
     same_fits();
     tables_have_each_once();
-    Ok(())
 }
 
 #[test]
 fn no_room_and_some(rt: HostRuntime) {
     let mut types = [ArgumentType::Pointer; 3];
-    assert!(rt; arguments(Model::Lp64, b"%*.*f", &mut []) == Ok(3));
-    assert!(rt; arguments(Model::Lp64, b"%s%ld", &mut types) == Ok(2));
-    assert!(rt; types[0] == ArgumentType::Str);
-    assert!(rt; types[1] == ArgumentType::Long);
-    assert!(rt; types[2] == ArgumentType::Pointer);
-    assert!(rt; fits(Model::Lp64, b"%zu", b"%lu") == Ok(None));
-    assert!(rt; fits(Model::Llp64, b"%zu", b"%lu") == Ok(Some(0)));
+    let counts = [
+        arguments(Model::Lp64, b"%*.*f", &mut []),
+        arguments(Model::Lp64, b"%s%ld", &mut types),
+    ];
+    assert!(rt;
+        counts == [Ok(3), Ok(2)]
+            && types == [ArgumentType::Str, ArgumentType::Long, ArgumentType::Pointer]
+            && fits(Model::Lp64, b"%zu", b"%lu") == Ok(None)
+            && fits(Model::Llp64, b"%zu", b"%lu") == Ok(Some(0))
+    );
 }

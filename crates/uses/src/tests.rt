@@ -10,115 +10,154 @@ use pf_values::{Conv, Counted, Directive, FlagSet, Length, Model, RefusalKind};
 
 #[test]
 fn a_format_may_replace_another(rt: HostRuntime) {
-    let alloc = rt.alloc();
-    assert!(rt; may_replace(alloc, Model::Lp64, b"%5c", b"    %c"));
-    assert!(rt; !may_replace(alloc, Model::Lp64, b"%05d", b"%.5d"));
-    assert!(rt; !may_replace(alloc, Model::Lp64, b"%f", b"%f"));
+    let (alloc, model) = (rt.alloc(), Model::Lp64);
+    assert!(rt;
+        [
+            may_replace(alloc, model, b"%5c", b"    %c"),
+            may_replace(alloc, model, b"%05d", b"%.5d"),
+            may_replace(alloc, model, b"%f", b"%f"),
+        ] == [true, false, false]
+    );
 }
 
 #[test]
 fn two_formats_are_equivalent(rt: HostRuntime) {
-    assert!(rt; are_equivalent(Model::Lp64, b"%5c", b"    %c") == Some(true));
-    assert!(rt; are_equivalent(Model::Lp64, b"%05d", b"%.5d") == Some(false));
-    assert!(rt; are_equivalent(Model::Lp64, b"%d", b"%f") == None);
+    assert!(rt;
+        [
+            are_equivalent(Model::Lp64, b"%5c", b"    %c"),
+            are_equivalent(Model::Lp64, b"%05d", b"%.5d"),
+            are_equivalent(Model::Lp64, b"%d", b"%f"),
+        ] == [Some(true), Some(false), None]
+    );
 }
 
 #[test]
 fn a_fault_has_a_place(rt: HostRuntime) {
-    assert!(rt; fault_at(b"100%, ok") == Some(4));
-    assert!(rt; fault_at(b"100%%, ok") == None);
+    assert!(rt; [fault_at(b"100%, ok"), fault_at(b"100%%, ok")] == [Some(4), None]);
+}
+
+// Whether the line goes out so into a place, which is filled with zeros before.
+fn is_printed(place: &mut [u8], answer: Result<(), RenderFault>, wanted: &[u8]) -> bool {
+    let mut writer = Counted::new(&mut *place);
+    let found = print_count(-42, &mut writer);
+    found == answer && *place == *wanted
 }
 
 #[test]
 fn a_count_is_printed(rt: HostRuntime) {
-    let mut line = [0u8; 16];
-    let mut writer = Counted::new(line.as_mut_slice());
-    assert!(rt; print_count(-42, &mut writer) == Ok(()));
-    assert!(rt; line.get(..9) == Some(b"-42 files".as_slice()));
-    let mut little = [0u8; 4];
-    let mut writer = Counted::new(little.as_mut_slice());
-    assert!(rt; print_count(-42, &mut writer) == Err(RenderFault::Write(4)));
-    assert!(rt; little.as_slice() == b"-42 ".as_slice());
+    assert!(rt;
+        [
+            is_printed(&mut [0u8; 11], Ok(()), b"-42 files\0\0"),
+            is_printed(&mut [0u8; 4], Err(RenderFault::Write(4)), b"-42 "),
+        ] == [true; 2]
+    );
 }
 
 #[test]
 fn one_int_is_taken(rt: HostRuntime) {
     let alloc = rt.alloc();
-    assert!(rt; takes_one_int(alloc, b"%hhx bytes"));
-    assert!(rt; !takes_one_int(alloc, b"%u bytes"));
-    assert!(rt; !takes_one_int(alloc, b"%d of %d"));
-    assert!(rt; !takes_one_int(alloc, b"100%"));
+    assert!(rt;
+        [
+            takes_one_int(alloc, b"%hhx bytes"),
+            takes_one_int(alloc, b"%u bytes"),
+            takes_one_int(alloc, b"%d of %d"),
+            takes_one_int(alloc, b"100%"),
+        ] == [true, false, false, false]
+    );
 }
 
 #[test]
 fn a_canonical_format_is_tidy(rt: HostRuntime) {
-    assert!(rt; is_tidy(Model::Lp64, b"%d%%"));
-    assert!(rt; !is_tidy(Model::Lp64, b"%i%%"));
-    assert!(rt; !is_tidy(Model::Lp64, b"%f"));
+    let model = Model::Lp64;
+    assert!(rt;
+        [
+            is_tidy(model, b"%d%%"),
+            is_tidy(model, b"%i%%"),
+            is_tidy(model, b"%f")
+        ] == [true, false, false]
+    );
 }
 
 #[test]
 fn a_canonical_string_fits(rt: HostRuntime) {
-    assert!(rt; fits(Model::Lp64, b"%5c", 6));
-    assert!(rt; !fits(Model::Lp64, b"%5c", 5));
-    assert!(rt; !fits(Model::Lp64, b"%", 5));
+    let model = Model::Lp64;
+    assert!(rt;
+        [
+            fits(model, b"%5c", 6),
+            fits(model, b"%5c", 5),
+            fits(model, b"%", 5)
+        ] == [true, false, false]
+    );
 }
 
 #[test]
 fn a_number_shows_a_difference(rt: HostRuntime) {
-    let alloc = rt.alloc();
-    assert!(rt; shows_difference(alloc, Model::Lp64, b"%05d", b"%.5d", -1));
-    assert!(rt; !shows_difference(alloc, Model::Lp64, b"%05d", b"%.5d", 1));
-    assert!(rt; !shows_difference(alloc, Model::Lp64, b"%ld", b"%d", -1));
+    let (alloc, model) = (rt.alloc(), Model::Lp64);
+    assert!(rt;
+        [
+            shows_difference(alloc, model, b"%05d", b"%.5d", -1),
+            shows_difference(alloc, model, b"%05d", b"%.5d", 1),
+            shows_difference(alloc, model, b"%ld", b"%d", -1),
+        ] == [true, false, false]
+    );
+}
+
+// The width of a column, where there is one.
+fn width_of_column(width: u16) -> Option<Option<u16>> {
+    match column(width) {
+        Some(directive) => Some(directive.width()),
+        None => None,
+    }
 }
 
 #[test]
 fn a_column_has_a_width(rt: HostRuntime) {
-    let Some(column_of_20) = column(20) else {
-        panic!(rt; "the width is above the limit");
-    };
-    assert!(rt; column_of_20.width() == Some(20));
-    assert!(rt; column(4096).is_none());
+    assert!(rt; [width_of_column(20), width_of_column(4096)] == [Some(Some(20)), None]);
 }
 
+// How many spaces stand before an int in a field, where there is such a field.
+fn spaces_before_int(width: u16) -> Option<u16> {
+    match Directive::new(FlagSet::empty(), Some(width), None, Length::None, Conv::D) {
+        Ok(field) => Some(spaces_in_front(Model::Lp64, &field)),
+        Err(_) => None,
+    }
+}
+
+// An int has a sign and at most ten digits.
 #[test]
 fn spaces_stand_in_front(rt: HostRuntime) {
-    let Ok(field) = Directive::new(FlagSet::empty(), Some(20), None, Length::None, Conv::D) else {
-        panic!(rt; "the directive is not defined");
-    };
-    // An int has a sign and at most ten digits.
-    assert!(rt; spaces_in_front(Model::Lp64, &field) == 9);
+    assert!(rt; spaces_before_int(20) == Some(9));
+}
+
+// Whether a format is copied, and what comes into eight bytes.
+fn copied(format: &[u8]) -> (bool, [u8; 8]) {
+    let mut copy = [0u8; 8];
+    let mut writer = Counted::new(copy.as_mut_slice());
+    let is_whole = copies_tidily(Model::Lp64, &mut Counted::new(format), &mut writer);
+    (is_whole, copy)
+}
+
+fn is_copied(format: &[u8], wanted: &[u8]) -> bool {
+    let (is_whole, copy) = copied(format);
+    is_whole && copy.as_slice() == wanted
 }
 
 #[test]
 fn a_format_is_copied(rt: HostRuntime) {
-    let mut copy = [0u8; 8];
-    let mut writer = Counted::new(copy.as_mut_slice());
-    assert!(rt;
-        copies_tidily(
-            Model::Lp64,
-            &mut Counted::new(b"%5c%i".as_slice()),
-            &mut writer
-        )
-    );
-    assert!(rt; copy.as_slice() == b"    %c%d".as_slice());
-    let mut copy = [0u8; 8];
-    let mut writer = Counted::new(copy.as_mut_slice());
-    assert!(rt;
-        !copies_tidily(
-            Model::Lp64,
-            &mut Counted::new(b"%i%f".as_slice()),
-            &mut writer
-        )
-    );
+    assert!(rt; is_copied(b"%5c%i", b"    %c%d") && !copied(b"%i%f").0);
 }
 
 #[test]
 fn a_translation_takes_another_type(rt: HostRuntime) {
-    let alloc = rt.alloc();
-    assert!(rt; other_type_at(alloc, Model::Lp64, b"%s: %u files", b"%u Dateien: %s") == Some(0));
-    assert!(rt; other_type_at(alloc, Model::Lp64, b"%s: %u files", b"%s: Dateien") == Some(1));
-    assert!(rt; other_type_at(alloc, Model::Lp64, b"%s: %u files", b"%s: %u Dateien") == None);
+    let (alloc, model) = (rt.alloc(), Model::Lp64);
+    let original = b"%s: %u files".as_slice();
+    assert!(rt;
+        [
+            other_type_at(alloc, model, original, b"%u Dateien: %s"),
+            other_type_at(alloc, model, original, b"%s: Dateien"),
+            other_type_at(alloc, model, original, b"%s: %u Dateien"),
+        ] == [Some(0), Some(1), None]
+    );
 }
 
 // The caller in `pf_reduce`'s CALLING.md that promises nothing.
@@ -135,20 +174,29 @@ fn reduced_char(width: u16) -> Result<(u16, Option<Directive>), RefusalKind> {
     Ok((reduced.spaces, directive_of(reduced.core)))
 }
 
+fn plain_char(width: Option<u16>) -> Result<Directive, RefusalKind> {
+    Directive::new(FlagSet::empty(), width, None, Length::None, Conv::C)
+}
+
 #[test]
 fn a_char_leaves_its_spaces_and_its_core(rt: HostRuntime) {
-    let Ok(plain) = Directive::new(FlagSet::empty(), None, None, Length::None, Conv::C) else {
-        panic!(rt; "the directive is not defined");
-    };
-    assert_eq!(rt; reduced_char(5), Ok((4, Some(plain))));
-    assert_eq!(rt; reduced_char(4096), Err(RefusalKind::WidthTooLarge));
+    assert!(rt;
+        [reduced_char(5), reduced_char(4096)]
+            == [
+                Ok((4, plain_char(None).ok())),
+                Err(RefusalKind::WidthTooLarge)
+            ]
+    );
+}
+
+fn is_normal_char(width: Option<u16>) -> Option<bool> {
+    match plain_char(width) {
+        Ok(directive) => Some(is_normal(Model::Lp64, &directive)),
+        Err(_) => None,
+    }
 }
 
 #[test]
 fn a_char_with_a_width_is_not_normal(rt: HostRuntime) {
-    for (width, wanted) in [(None, true), (Some(5), false)] {
-        let made = Directive::new(FlagSet::empty(), width, None, Length::None, Conv::C);
-        let found = made.map(|directive| is_normal(Model::Lp64, &directive));
-        assert_eq!(rt; found, Ok(wanted), "{width:?}");
-    }
+    assert!(rt; [is_normal_char(None), is_normal_char(Some(5))] == [Some(true), Some(false)]);
 }

@@ -3,7 +3,7 @@ ghost use Rattle.std.specs.Prelude.{IsTrue};
 ghost use Rattle.pf_literals.specs.Elements.{Bytes};
 ghost use Rattle.pf_literals.specs.Sources.{IsSourceOf};
 
-use crate::{LiteralFault, decode, encode};
+use crate::{LiteralFault, decode, encode, source_offset};
 use std::alloc::Global;
 
 /// Whether two pieces of C source are known to denote one string.
@@ -51,4 +51,11 @@ fn callers_of_literals(rt: HostRuntime) {
             ),
         ] == [true, false, false, true]
     );
+}
+
+// The places of an escape and of a byte in the run after it.
+#[test]
+fn a_byte_has_its_place(rt: HostRuntime) {
+    let source = b"\"\\t%*d\"".as_slice();
+    assert!(rt; [source_offset(source, 0), source_offset(source, 2)] == [Some(1), Some(4)]);
 }

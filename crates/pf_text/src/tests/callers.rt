@@ -16,10 +16,10 @@ fn first_directive(format: &[u8]) -> Result<Option<Spelling>, Refusal> {
     Ok(None)
 }
 
-// Whether it is spelled `%05d`, where there is one.
-fn is_padded(format: &[u8]) -> Result<Option<bool>, Refusal> {
+// Whether it is spelled so, where there is one.
+fn is_spelled(format: &[u8], wanted: &[u8]) -> Result<Option<bool>, Refusal> {
     match first_directive(format)? {
-        Some(spelling) => Ok(Some(spelling.as_slice() == b"%05d".as_slice())),
+        Some(spelling) => Ok(Some(spelling.as_slice() == wanted)),
         None => Ok(None),
     }
 }
@@ -32,9 +32,19 @@ fn the_first_directive(rt: HostRuntime) {
     };
     assert!(rt;
         [
-            is_padded(b"100%% %0000005d"),
-            is_padded(b"100%%"),
-            is_padded(b"100%"),
-        ] == [Ok(Some(true)), Ok(None), Err(refusal)]
+            is_spelled(b"100%% %0000005d", b"%05d"),
+            is_spelled(b"%'0+ -ld", b"%-+ 0'ld"),
+            is_spelled(b"%#10.0070hhX%d", b"%#10.70hhX"),
+            is_spelled(b"%.d", b"%.0d"),
+            is_spelled(b"100%%", b""),
+            is_spelled(b"100%", b""),
+        ] == [
+            Ok(Some(true)),
+            Ok(Some(true)),
+            Ok(Some(true)),
+            Ok(Some(true)),
+            Ok(None),
+            Err(refusal),
+        ]
     );
 }
