@@ -1,7 +1,6 @@
 //! The words that give arguments.
 use crate::{OwnedArg, OwnedBytes};
-use std::alloc::Global;
-use std::test::Fail;
+use std::alloc::{AllocError, Global};
 
 static NUMBERS: [(i64, &str); 4] = [
     (0, "n:0"),
@@ -10,29 +9,36 @@ static NUMBERS: [(i64, &str); 4] = [
     (i64::MIN, "n:-9223372036854775808"),
 ];
 
-fn has_word(alloc: Global, arg: &OwnedArg, word: &str) -> Result<bool, Fail> {
-    let mut out = Vec::from_slice(alloc, b"before ")?;
-    arg.push_word(&mut out)?;
-    Ok(out.starts_with(b"before ") && &out[7..] == word.as_bytes())
+// Whether the word of an argument is put after what is there.
+fn has_word(alloc: Global, arg: &OwnedArg, word: &str) -> bool {
+    let mut out = Vec::new(alloc);
+    let is_put = out.push(b'b').is_ok() && arg.push_word(&mut out).is_ok();
+    is_put && out.starts_with(b"b") && out.get(1..) == Some(word.as_bytes())
 }
 
 #[test]
-fn a_number_is_given_in_decimal(rt: HostRuntime) -> Result<(), Fail> {
-    let alloc = rt.alloc();
+fn a_number_is_given_in_decimal(rt: HostRuntime) {
     for (number, word) in &NUMBERS {
-        assert!(rt; has_word(alloc, &OwnedArg::LongLong(*number), word)?);
+        assert!(rt;
+            has_word(rt.alloc(), &OwnedArg::LongLong(*number), word),
+            "{word}"
+        );
     }
-    let greatest = OwnedArg::ULongLong(u64::MAX);
-    assert!(rt; has_word(alloc, &greatest, "n:18446744073709551615")?);
-    Ok(())
+    let greatest = "n:18446744073709551615";
+    assert!(rt; has_word(rt.alloc(), &OwnedArg::ULongLong(u64::MAX), greatest));
+}
+
+fn string_has_word(alloc: Global, count: u16, word: &str) -> Result<bool, AllocError> {
+    let arg = OwnedArg::Str(OwnedBytes::of_one_byte(alloc, b'A', count)?);
+    Ok(has_word(alloc, &arg, word))
+}
+
+fn strings_have_words(alloc: Global) -> bool {
+    has_word(alloc, &OwnedArg::Str(OwnedBytes::empty(alloc)), "s:")
+        && string_has_word(alloc, 3, "s:AAA").is_ok_and(|has| has)
 }
 
 #[test]
-fn a_string_is_given_by_its_bytes(rt: HostRuntime) -> Result<(), Fail> {
-    let alloc = rt.alloc();
-    let none = OwnedArg::Str(OwnedBytes::empty(alloc));
-    assert!(rt; has_word(alloc, &none, "s:")?);
-    let some = OwnedArg::Str(OwnedBytes::of_one_byte(alloc, b'A', 3)?);
-    assert!(rt; has_word(alloc, &some, "s:AAA")?);
-    Ok(())
+fn a_string_is_given_by_its_bytes(rt: HostRuntime) {
+    assert!(rt; strings_have_words(rt.alloc()));
 }
