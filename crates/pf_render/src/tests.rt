@@ -29,15 +29,15 @@ fn directive_of(format: &str) -> Option<Directive> {
     }
 }
 
-// The argument of a type that is this number.
+// The argument of a type that is this number, or 0 where that is out of range.
 fn number_of(arg_type: ArgType, number: i128) -> Option<Arg<'static>> {
     match arg_type {
-        ArgType::Int => Some(Arg::Int(i32::try_from(number).ok()?)),
-        ArgType::UInt => Some(Arg::UInt(u32::try_from(number).ok()?)),
-        ArgType::Long => Some(Arg::Long(i64::try_from(number).ok()?)),
-        ArgType::ULong => Some(Arg::ULong(u64::try_from(number).ok()?)),
-        ArgType::LongLong => Some(Arg::LongLong(i64::try_from(number).ok()?)),
-        ArgType::ULongLong => Some(Arg::ULongLong(u64::try_from(number).ok()?)),
+        ArgType::Int => Some(Arg::Int(i32::try_from(number).unwrap_or(0))),
+        ArgType::UInt => Some(Arg::UInt(u32::try_from(number).unwrap_or(0))),
+        ArgType::Long => Some(Arg::Long(i64::try_from(number).unwrap_or(0))),
+        ArgType::ULong => Some(Arg::ULong(u64::try_from(number).unwrap_or(0))),
+        ArgType::LongLong => Some(Arg::LongLong(i64::try_from(number).unwrap_or(0))),
+        ArgType::ULongLong => Some(Arg::ULongLong(u64::try_from(number).unwrap_or(0))),
         ArgType::Str => None,
     }
 }
@@ -87,32 +87,18 @@ fn arguments(
     Ok(Some(args))
 }
 
-// What a format prints into a writer and into memory, where that is the same.
-fn rendering_of(
-    alloc: Global,
-    format: &[u8],
-    args: &[Arg<'_>],
-) -> Result<Option<Vec<u8>>, AllocError> {
-    let mut out = Vec::new(alloc);
-    out.reserve(1 << 20)?;
-    let mut writer = Counted::new(out);
-    if render(Model::Lp64, format, args, &mut writer).is_err() || writer.failures() != 0 {
-        return Ok(None);
-    }
-    let out = writer.into_inner();
-    match render_vec(alloc, Model::Lp64, format, args) {
-        Ok(bytes) if bytes.as_slice() == out.as_slice() => Ok(Some(bytes)),
-        _ => Ok(None),
-    }
+// Whether a format writes this for these arguments.
+fn is_written(alloc: Global, format: &[u8], args: &[Arg<'_>], text: &[u8]) -> bool {
+    let mut writer = Counted::new(Vec::new(alloc));
+    render(Model::Lp64, format, args, &mut writer).is_ok()
+        && writer.failures() == 0
+        && writer.into_inner().as_slice() == text
 }
 
-// Whether a format prints this for these arguments.
-fn is_rendering(
-    alloc: Global,
-    format: &[u8],
-    args: &[Arg<'_>],
-    text: &[u8],
-) -> Result<bool, AllocError> {
-    let out = rendering_of(alloc, format, args)?;
-    Ok(out.as_deref() == Some(text))
+// Whether a format prints this for these arguments, into a writer and into memory.
+fn is_rendering(alloc: Global, format: &[u8], args: &[Arg<'_>], text: &[u8]) -> bool {
+    match render_vec(alloc, Model::Lp64, format, args) {
+        Ok(bytes) => bytes.as_slice() == text && is_written(alloc, format, args, text),
+        Err(_) => false,
+    }
 }

@@ -3,7 +3,6 @@ use super::*;
 use linked_list_allocator::LocalHeap;
 use pf_text::Refusal;
 use pf_values::{CBytes, RefusalKind};
-use std::alloc::AllocError;
 
 // The sizes of heaps that are tried: in the last ones there is room.
 const SIZES: usize = 1024;
@@ -21,53 +20,53 @@ fn arguments() -> [Arg<'static>; 2] {
     }
 }
 
-// The fault of a call over a heap; none where it prints this.
-fn fault_over(
-    heap: &LocalHeap,
+// How a call over a heap of this size ends: Ok, where it prints this; with its fault; or otherwise.
+fn end_in(
+    alloc: Global,
+    size: usize,
     format: &[u8],
     args: &[Arg<'_>],
     text: &[u8],
-) -> Option<RenderVecFault> {
-    match render_vec_in(heap, Model::Lp64, format, args) {
-        Ok(bytes) => (bytes.as_slice() != text).then_some(RenderVecFault::WrongType(0)),
-        Err(fault) => Some(fault),
+) -> Result<(), Option<RenderVecFault>> {
+    let Ok(heap) = LocalHeap::new(alloc, size) else {
+        return Err(None);
+    };
+    match render_vec_in(&heap, Model::Lp64, format, args) {
+        Ok(bytes) => (bytes.as_slice() == text).then_some(()).ok_or(None),
+        Err(fault) => Err(Some(fault)),
     }
 }
 
 // The size of the first heap that is large enough, where memory is refused in each one before it.
-fn first_enough(alloc: Global) -> Result<Option<usize>, AllocError> {
+fn first_enough(alloc: Global) -> Option<usize> {
+    let args = arguments();
     for size in 0..SIZES {
-        let heap = LocalHeap::new(alloc, size)?;
-        match fault_over(&heap, FORMAT, &arguments(), PRINTED) {
-            None => return Ok(Some(size)),
-            Some(RenderVecFault::Memory) => {}
-            Some(_) => return Ok(None),
+        match end_in(alloc, size, FORMAT, &args, PRINTED) {
+            Ok(()) => return Some(size),
+            Err(Some(RenderVecFault::Memory)) => {}
+            Err(_) => return None,
         }
     }
-    Ok(None)
+    None
 }
 
 #[test]
-fn growth_after_growth_is_refused(rt: HostRuntime) -> Result<(), AllocError> {
-    let size = first_enough(rt.alloc())?;
-    assert!(rt; size > Some(0));
-    Ok(())
+fn growth_after_growth_is_refused(rt: HostRuntime) {
+    assert!(rt; first_enough(rt.alloc()) > Some(0));
 }
 
-// The fault of a call that has no memory at all; none where it prints nothing.
-fn fault_without_memory(
+// Whether a call that has no memory at all ends so; it prints nothing, if it ends well.
+fn ends_without(
     alloc: Global,
     format: &[u8],
     args: &[Arg<'_>],
-) -> Result<Option<RenderVecFault>, AllocError> {
-    let heap = LocalHeap::new(alloc, 0)?;
-    Ok(fault_over(&heap, format, args, b""))
+    end: Result<(), RenderVecFault>,
+) -> bool {
+    end_in(alloc, 0, format, args, b"") == end.map_err(Some)
 }
 
-// What needs no memory is answered without any.
-#[test]
-fn no_memory_is_taken_for_nothing(rt: HostRuntime) -> Result<(), AllocError> {
-    let alloc = rt.alloc();
+// Whether what needs no memory is answered without any.
+fn takes_none(alloc: Global) -> bool {
     let refused = RenderVecFault::Refused(Refusal {
         kind: RefusalKind::Truncated,
         at: 4,
@@ -76,10 +75,14 @@ fn no_memory_is_taken_for_nothing(rt: HostRuntime) -> Result<(), AllocError> {
         wanted: 1,
         given: 0,
     };
-    let other = RenderVecFault::WrongType(0);
-    assert!(rt; fault_without_memory(alloc, b"%.0d", &[Arg::Int(0)])? == None);
-    assert!(rt; fault_without_memory(alloc, b"abc%", &[])? == Some(refused));
-    assert!(rt; fault_without_memory(alloc, b"abc%d", &[])? == Some(missing));
-    assert!(rt; fault_without_memory(alloc, b"abc%s", &[Arg::Int(0)])? == Some(other));
-    Ok(())
+    let number = [Arg::Int(0)];
+    ends_without(alloc, b"%.0d", &number, Ok(()))
+        && ends_without(alloc, b"abc%", &[], Err(refused))
+        && ends_without(alloc, b"abc%d", &[], Err(missing))
+        && ends_without(alloc, b"abc%s", &number, Err(RenderVecFault::WrongType(0)))
+}
+
+#[test]
+fn no_memory_is_taken_for_nothing(rt: HostRuntime) {
+    assert!(rt; takes_none(rt.alloc()));
 }

@@ -2,7 +2,7 @@
 use super::{directive_of, is_rendering};
 use crate::render_one;
 use pf_values::{Arg, CBytes, Counted, Model};
-use std::test::Fail;
+use std::alloc::Global;
 
 // All bytes but zero and `%`, which a text holds as they are.
 fn plain_bytes() -> [u8; 254] {
@@ -18,56 +18,61 @@ fn plain_bytes() -> [u8; 254] {
     bytes
 }
 
-#[test]
-fn bytes_print_themselves(rt: HostRuntime) -> Result<(), Fail> {
+// Whether all of them print themselves, as literal bytes and in a string.
+fn all_print_themselves(alloc: Global) -> bool {
     let bytes = plain_bytes();
-    assert_eq!(rt; bytes.last(), Some(&255));
-    assert!(rt; is_rendering(rt.alloc(), &bytes, &[], &bytes)?);
-    Ok(())
+    match CBytes::new(&bytes) {
+        Some(string) => {
+            bytes.last() == Some(&255)
+                && is_rendering(alloc, &bytes, &[], &bytes)
+                && is_rendering(alloc, b"%s", &[Arg::Str(string)], &bytes)
+        }
+        None => false,
+    }
 }
 
 #[test]
-fn strings_of_bytes(rt: HostRuntime) -> Result<(), Fail> {
-    let bytes = plain_bytes();
-    let Some(string) = CBytes::new(&bytes) else {
-        panic!(rt; "a zero byte is found");
-    };
-    assert!(rt; is_rendering(rt.alloc(), b"%s", &[Arg::Str(string)], &bytes)?);
+fn bytes_print_themselves(rt: HostRuntime) {
+    assert!(rt; all_print_themselves(rt.alloc()));
+}
+
+// Whether a string of bytes is cut between them, in a format with such bytes.
+fn is_cut_in_bytes(alloc: Global) -> bool {
     let Some(string) = CBytes::new(b"\xc3\xa9\x80\xff") else {
-        panic!(rt; "a zero byte is found");
+        return false;
     };
-    let is_right = is_rendering(
-        rt.alloc(),
-        b"\xff%.1s|%3.1s|%-4.2s\x80",
+    let format = b"\xff%.1s|%3.1s|%-4.2s\x80";
+    is_rendering(
+        alloc,
+        format,
         &[Arg::Str(string); 3],
         b"\xff\xc3|  \xc3|\xc3\xa9  \x80",
-    )?;
-    assert!(rt; is_right);
-    Ok(())
+    )
+}
+
+// The same by a directive alone.
+fn is_cut_alone(place: &mut [u8; 4]) -> bool {
+    let (Some(directive), Some(string)) = (directive_of("%-4.2s"), CBytes::new(b"\xe6\xbc\xa2"))
+    else {
+        return false;
+    };
+    let argument = Arg::Str(string);
+    if argument.arg_type() != directive.arg_type(Model::Lp64) {
+        return false;
+    }
+    let mut writer = Counted::new(place.as_mut_slice());
+    render_one(Model::Lp64, &directive, argument, &mut writer) == Ok(()) && *place == *b"\xe6\xbc  "
 }
 
 #[test]
-fn one_string(rt: HostRuntime) -> Result<(), Fail> {
-    let (Some(directive), Some(string)) = (directive_of("%-4.2s"), CBytes::new(b"\xe6\xbc\xa2"))
-    else {
-        panic!(rt; "no directive or no string");
-    };
-    let argument = Arg::Str(string);
-    assert!(rt; argument.arg_type() == directive.arg_type(Model::Lp64));
-    let mut writer = Counted::new(Vec::new(rt.alloc()));
-    assert_eq!(rt;
-        render_one(Model::Lp64, &directive, argument, &mut writer),
-        Ok(())
-    );
-    assert!(rt; writer.into_inner().as_slice() == b"\xe6\xbc  ".as_slice());
-    Ok(())
+fn strings_of_bytes(rt: HostRuntime) {
+    let is_right = is_cut_in_bytes(rt.alloc()) && is_cut_alone(&mut [0u8; 4]);
+    assert!(rt; is_right);
 }
 
 // Longer than a word of the program can be.
 #[test]
-fn a_long_literal(rt: HostRuntime) -> Result<(), Fail> {
-    let mut format = Vec::new(rt.alloc());
-    format.resize(500_000, b'a')?;
-    assert!(rt; is_rendering(rt.alloc(), format.as_slice(), &[], format.as_slice())?);
-    Ok(())
+fn a_long_literal(rt: HostRuntime) {
+    let format = [b'a'; 500_000];
+    assert!(rt; is_rendering(rt.alloc(), &format, &[], &format));
 }

@@ -1,22 +1,9 @@
-//! How often a writer is called, and a writer that takes nothing where it is full.
+//! How often a writer is called.
 use super::write_number;
-use crate::{RenderFault, render};
+use crate::render;
 use pf_values::{Arg, Counted, Model};
-use std::alloc::{AllocError, Global};
 use std::io;
 use std::io::Write;
-
-#[test]
-fn room_for_one_byte(rt: HostRuntime) {
-    let mut room = [0u8; 1];
-    let mut writer = Counted::new(room.as_mut_slice());
-    assert_eq!(rt;
-        render(Model::Lp64, b"%3d|", &[Arg::Int(5)], &mut writer),
-        Err(RenderFault::Write(1))
-    );
-    assert_eq!(rt; writer.failures(), 1);
-    assert_eq!(rt; room, [b' ']);
-}
 
 // Counts its calls and the bytes that it is given, which `Cut` doesn't.
 #[derive(Drop)]
@@ -39,79 +26,65 @@ impl Write for Calls {
     }
 }
 
+fn counting() -> Counted<Calls> {
+    Counted::new(Calls {
+        calls: 0,
+        bytes: 0,
+        flushes: 0,
+    })
+}
+
 // The calls of what writes, if it answers well.
 fn calls_of(format: &[u8]) -> Option<Calls> {
-    let mut writer = Counted::new(Calls {
-        calls: 0,
-        bytes: 0,
-        flushes: 0,
-    });
-    if render(Model::Lp64, format, &[Arg::Int(7)], &mut writer).is_err() {
-        return None;
-    }
-    Some(writer.into_inner())
+    let mut writer = counting();
+    let is_written = render(Model::Lp64, format, &[Arg::Int(7)], &mut writer).is_ok();
+    is_written.then_some(writer.into_inner())
 }
 
-// The same of a directive alone.
-fn calls_of_one(format: &str) -> Option<Calls> {
-    let mut writer = Counted::new(Calls {
-        calls: 0,
-        bytes: 0,
-        flushes: 0,
-    });
-    match write_number(format, 7, &mut writer) {
-        Some(Ok(())) => Some(writer.into_inner()),
-        _ => None,
-    }
-}
-
-// Padding goes out in blocks, and nothing is flushed.
-fn is_in_blocks(calls: &Calls) -> bool {
-    calls.bytes == 4095 && calls.calls <= 4 && calls.flushes == 0
+// Whether a directive alone goes out in few calls, since padding goes out in blocks, and nothing is
+// flushed.
+fn is_in_blocks(format: &str) -> bool {
+    let mut writer = counting();
+    let is_written = write_number(format, 7, &mut writer) == Some(Ok(()));
+    let calls = writer.into_inner();
+    is_written && calls.bytes == 4095 && calls.calls <= 4 && calls.flushes == 0
 }
 
 #[test]
 fn few_calls(rt: HostRuntime) {
     for format in ["%4095d", "%-4095d", "%04095d", "%.4095d", "%+4095.4000d"] {
-        let is_right = calls_of_one(format).is_some_and(|calls| is_in_blocks(&calls));
-        assert!(rt; is_right, "{format}");
+        assert!(rt; is_in_blocks(format), "{format}");
     }
 }
 
 // A run of literal bytes goes out as one.
 #[test]
 fn few_calls_for_literals(rt: HostRuntime) {
-    let is_right = match calls_of(b"0123456789%%abcdefghij%dABCDEFGHIJ") {
-        Some(calls) => calls.bytes == 32 && calls.calls == 5 && calls.flushes == 0,
-        None => false,
-    };
+    let calls = calls_of(b"0123456789%%abcdefghij%dABCDEFGHIJ");
+    let is_right = calls.is_some_and(|c| c.bytes == 32 && c.calls == 5 && c.flushes == 0);
     assert!(rt; is_right);
 }
 
-// A number between so many literal bytes on each side.
-fn format_between(alloc: Global, len: usize) -> Result<Vec<u8>, AllocError> {
-    let mut format = Vec::new(alloc);
-    format.resize(len, b'x')?;
-    format.extend_from_slice(b"%d")?;
-    format.resize(len.saturating_add(len).saturating_add(2), b'y')?;
-    Ok(format)
+// Whether a number between so many literal bytes on each side goes out with no flush.
+fn is_unflushed(len: usize) -> bool {
+    let mut place = [b'x'; 2 * LONGEST + 2];
+    let end = len.saturating_add(len).saturating_add(2);
+    let (Some(format), Some(number)) = (place.get_mut(..end), "%d".as_bytes().get(..2)) else {
+        return false;
+    };
+    let Some(middle) = format.get_mut(len..len.saturating_add(2)) else {
+        return false;
+    };
+    middle.copy_from_slice(number);
+    calls_of(format).is_some_and(|c| c.bytes == end.saturating_sub(1) && c.flushes == 0)
 }
 
-// Whether a format's bytes go out, so many and one more, with no flush.
-fn is_unflushed(format: &[u8], len: usize) -> bool {
-    match calls_of(format) {
-        Some(calls) => calls.bytes == len.saturating_add(len).saturating_add(1)
-            && calls.flushes == 0,
-        None => false,
-    }
-}
+const LONGEST: usize = 100_000;
 
 // However long a run is, nothing is flushed before it or after it.
 #[test]
-fn long_literals_are_not_flushed(rt: HostRuntime) -> Result<(), AllocError> {
-    for len in [1usize, 64, 4_096, 100_000] {
-        let format = format_between(rt.alloc(), len)?;
-        assert!(rt; is_unflushed(format.as_slice(), len), "{len}");
+fn long_literals_are_not_flushed(rt: HostRuntime) {
+    for len in [1usize, 64, 4_096, LONGEST] {
+        assert!(rt; is_unflushed(len), "{len}");
     }
-    Ok(())
 }

@@ -9,7 +9,6 @@ use pf_values::devices::Cut;
 use pf_values::{Arg, Counted, Directive, Model};
 use std::alloc::{AllocError, Global};
 use std::io::{ErrorKind, Write};
-use std::test::Fail;
 
 // No text of a table is longer.
 const PLACE: usize = 64;
@@ -173,14 +172,18 @@ static CASES: &str = "\
 %#8.5o|8|   00010|
 %20lld|-9223372036854775808|-9223372036854775808|";
 
+fn first_wrong_of_all() -> Option<&'static str> {
+    first_wrong_number(CASES)
+        .or(first_wrong_number(ROWS))
+        .or(first_wrong_number(SIGNED))
+        .or(first_wrong_number(UNSIGNED))
+        .or(first_wrong_number(OCTAL))
+        .or(first_wrong_number(HEXADECIMAL))
+}
+
 #[test]
 fn each_room_for_numbers(rt: HostRuntime) {
-    assert_eq!(rt; first_wrong_number(CASES), None);
-    assert_eq!(rt; first_wrong_number(ROWS), None);
-    assert_eq!(rt; first_wrong_number(SIGNED), None);
-    assert_eq!(rt; first_wrong_number(UNSIGNED), None);
-    assert_eq!(rt; first_wrong_number(OCTAL), None);
-    assert_eq!(rt; first_wrong_number(HEXADECIMAL), None);
+    assert_eq!(rt; first_wrong_of_all(), None);
 }
 
 // A row: a format, the words of its arguments, and what it prints.
@@ -217,13 +220,18 @@ fn first_wrong(alloc: Global, table: &'static str) -> Result<Option<&'static str
 // nothing.
 static MIXED: &str = "ab%%%5d,%-4sz%#x%c%.0s!%%¦n:42¦s:xy¦n:255¦n:65¦s:zzz¦ab%   42,xy  z0xffA!%";
 
+fn formats_are_exact(alloc: Global) -> Result<bool, AllocError> {
+    Ok(
+        first_wrong(alloc, MIXED)?.is_none()
+            && first_wrong(alloc, WORKED)?.is_none()
+            && first_wrong(alloc, OF_SUITES)?.is_none()
+            && first_wrong(alloc, OF_LIBRARIES)?.is_none(),
+    )
+}
+
 #[test]
-fn each_room_for_formats(rt: HostRuntime) -> Result<(), Fail> {
-    assert_eq!(rt; first_wrong(rt.alloc(), MIXED)?, None);
-    assert_eq!(rt; first_wrong(rt.alloc(), WORKED)?, None);
-    assert_eq!(rt; first_wrong(rt.alloc(), OF_SUITES)?, None);
-    assert_eq!(rt; first_wrong(rt.alloc(), OF_LIBRARIES)?, None);
-    Ok(())
+fn each_room_for_formats(rt: HostRuntime) {
+    assert!(rt; formats_are_exact(rt.alloc()).is_ok_and(|are| are));
 }
 
 // Whether a format that is one directive and then `|` is written so, and the directive alone, too.
@@ -248,29 +256,39 @@ fn first_wrong_short(table: &'static str) -> Option<&'static str> {
 
 #[test]
 fn each_room_for_strings_and_bytes(rt: HostRuntime) {
-    assert_eq!(rt; first_wrong_short(STRINGS), None);
-    assert_eq!(rt; first_wrong_short(CHARS), None);
+    assert_eq!(rt;
+        first_wrong_short(STRINGS).or(first_wrong_short(CHARS)),
+        None
+    );
 }
 
-// The greatest padding.
-#[test]
-fn each_room_for_a_wide_field(rt: HostRuntime) -> Result<(), Fail> {
-    let directive = directive_of("%4095d").expect(&rt, "accepted");
-    let mut text = Vec::new(rt.alloc());
-    text.resize(4_094, b' ')?;
-    text.push(b'7')?;
-    assert!(rt; is_exact_at_interrupts(&directive, 7, text.as_slice()));
-    Ok(())
+// Whether 7 is written so after the greatest padding.
+fn is_wide_exact() -> bool {
+    let mut text = [b' '; 4_095];
+    text[4_094] = b'7';
+    match directive_of("%4095d") {
+        Some(directive) => is_exact_at_interrupts(&directive, 7, &text),
+        None => false,
+    }
 }
 
-// The most zeros after a sign.
 #[test]
-fn each_room_for_many_zeros(rt: HostRuntime) -> Result<(), Fail> {
-    let directive = directive_of("%.4095d").expect(&rt, "accepted");
-    let mut text = Vec::new(rt.alloc());
-    text.push(b'-')?;
-    text.resize(4_095, b'0')?;
-    text.push(b'7')?;
-    assert!(rt; is_exact_at_interrupts(&directive, -7, text.as_slice()));
-    Ok(())
+fn each_room_for_a_wide_field(rt: HostRuntime) {
+    assert!(rt; is_wide_exact());
+}
+
+// The same after a sign and the most zeros.
+fn is_long_exact() -> bool {
+    let mut text = [b'0'; 4_096];
+    text[0] = b'-';
+    text[4_095] = b'7';
+    match directive_of("%.4095d") {
+        Some(directive) => is_exact_at_interrupts(&directive, -7, &text),
+        None => false,
+    }
+}
+
+#[test]
+fn each_room_for_many_zeros(rt: HostRuntime) {
+    assert!(rt; is_long_exact());
 }
