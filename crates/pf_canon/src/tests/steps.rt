@@ -56,7 +56,7 @@ fn agree_beside(text: &[u8], table: &'static str) -> bool {
 }
 
 // Every two texts that are accepted, every two that are refused, and one of each. What `same_text`
-// answers of them is tried by the C library (`tests/rows.py`).
+// answers of them is tried by the C library (`tests/canonical_rows.py`).
 #[test]
 fn streams_are_compared_as_texts(rt: HostRuntime) {
     for row in formats().lines() {
