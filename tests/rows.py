@@ -516,6 +516,19 @@ def sizes(most):
     return sorted({size for power in range(most + 1) for size in (1 << power, (1 << power) - 1)})
 
 
+def try_literal_sizes(program, trials):
+    """Each command answers for a text of literal bytes; one that no word can hold goes through `stream` and as a record."""
+    for size in sizes(20):
+        text = (b"abb" * (size // 3 + 1))[:size]
+        shown_line = b"text %d\n" % size if size else b""
+        runs = [(["stream"], text, text), (["canon", "-z"], text + b"\0", b"0 " + text + b"\0")]
+        if size + len("s:") < LONGEST_WORD:
+            runs += [(["canon", text], b"", text + b"\n"), (["types", text], b"", b""), (["show", text], b"", shown_line)]
+            runs += [(["format", text], b"", text), (["format", "%s", b"s:" + text], b"", text), (["same", text, text], b"", b"same\n")]
+        for words, stdin, wanted in runs:
+            trials.expect(f"{words[0]} of {size} bytes", run(program, words, stdin) == (0, wanted, b""), True)
+
+
 def try_many_directives(program, trials):
     """Each command answers for any number of directives that a word can hold."""
     for count in sizes(15):
@@ -603,6 +616,7 @@ def main():
     try_long_comparisons(module, trials)
     try_candidates(program, trials)
     try_single_candidates(program, trials)
+    try_literal_sizes(program, trials)
     try_many_directives(program, trials)
     try_many_arguments(program, trials)
     try_calls(module, trials)
