@@ -41,7 +41,7 @@ CPU = x86-64
 JOBS = $(shell awk -v n="$$(nproc)" '/^MemAvailable/ { m = int($$2 / 4000000); \
     if (m > n) m = n; if (m < 1) m = 1; print m }' /proc/meminfo)
 
-.PHONY: all program library archive test gate trials check-more wrong-bodies tools c-tools
+.PHONY: all program library archive test gate tried trials check-more wrong-bodies tools c-tools
 .PHONY: built install uninstall dist deb wheel tables
 
 all: program library
@@ -83,18 +83,26 @@ $(C)/second.a: library
 	rm -f $@
 	ar rcs $@ $(C)/second.o
 
-# The trials here take the program that `gate` has just proved and built; it leaves no library.
+# How long each part of the gate took.
+TIMED = bash -c 'TIMEFORMAT="$$*: %lR by the clock, %lU and %lS of a processor"; time "$$@"' timed
+
+# The trials here take the program that `gate` has just proved and built. It leaves nothing else that a check goes on
+# from, so the crates are proved once more, side by side, for the library and the wrong bodies.
 test:
-	$(MAKE) gate
-	$(MAKE) library
-	$(MAKE) wrong-bodies
+	$(TIMED) $(MAKE) gate
+	$(TIMED) rt all check --jobs $(JOBS)
+	$(TIMED) $(MAKE) library
+	$(TIMED) $(MAKE) wrong-bodies
+	$(TIMED) $(MAKE) tried
+
+tried:
 	$(TRIALS)
 
 gate: tools
 	RT_JOBS=$(JOBS) rt ci
 
 trials: program library
-	$(TRIALS)
+	$(MAKE) tried
 
 define TRIALS
 	python3 tests/documents.py
@@ -112,6 +120,7 @@ endef
 
 check-more: program library $(C)/second.a
 	python3 tests/more.py $(PROGRAM) $(C)
+	python3 tests/rooms.py --each $(PROGRAM)
 
 wrong-bodies: tools
 	python3 tests/wrong_bodies_test.py

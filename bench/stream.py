@@ -2,11 +2,15 @@
 """Rates and memory of `fmtcanon stream` beside a C loop over the same bytes, `tr` and `sed`.
 
 Usage: bench/stream.py PROGRAM [MEGABYTES]
+       bench/stream.py PROGRAM instructions
 
-The C loop keeps one state, reads blocks of 64 KiB and writes them as they are. It needs gcc.
+The C loop keeps one state, reads blocks of 64 KiB and writes them as they are. With the word instructions it counts, by
+callgrind, the instructions of `fmtcanon stream` and of the C loop for each byte, without start and end of the process.
+It needs gcc, and valgrind for that.
 """
 
 import os
+import re
 import subprocess
 import sys
 import tempfile
@@ -63,27 +67,51 @@ def resident(program, text):
     return most
 
 
+def counted(command, text):
+    """The instructions of a run over these bytes."""
+    words = ["valgrind", "--tool=callgrind", "--callgrind-out-file=/dev/null", *command]
+    ran = subprocess.run(words, input=text, stdout=subprocess.DEVNULL, stderr=subprocess.PIPE, check=True)
+    return int(re.search(rb"Collected : (\d+)", ran.stderr).group(1))
+
+
+def instructions(program, loop):
+    """Prints the instructions a byte of texts of a megabyte more than another."""
+    print("| Text | `stream`, instructions a byte | C loop |\n|---|---|---|")
+    for name, part in TEXTS.items():
+        block = part * (1_000_000 // len(part))
+        each = [(counted(command, 2 * block) - counted(command, block)) / len(block) for command in ([program, "stream"], [loop])]
+        print(f"| {name} | " + " | ".join(f"{one:.1f}" for one in each) + " |")
+
+
+def rates(program, loop, size, folder):
+    """Prints the rates over texts of this size, and the memory of the program."""
+    print("| Text | `stream`, MB/s | C loop | `tr` | `sed` | Resident, kB |\n|---|---|---|---|---|---|")
+    for name, part in TEXTS.items():
+        text = os.path.join(folder, "text")
+        block = part * (1_000_000 // len(part))
+        with open(text, "wb") as out:
+            for _ in range(size // len(block)):
+                out.write(block)
+        commands = [[program, "stream"], [loop], ["tr", "x", "y"], ["sed", "s/x/y/"]]
+        found = [rate(command, text, size) for command in commands]
+        print(f"| {name} | " + " | ".join(f"{one:,.0f}" for one in found) + f" | {resident(program, text):,} |")
+
+
 def main():
     if len(sys.argv) < 2:
         sys.exit(__doc__)
     program = os.path.abspath(sys.argv[1])
-    size = int(sys.argv[2] if len(sys.argv) > 2 else "100") * 1_000_000
+    words = sys.argv[2:]
     with tempfile.TemporaryDirectory() as folder:
         loop = os.path.join(folder, "loop")
         source = os.path.join(folder, "loop.c")
         with open(source, "w", encoding="ascii") as out:
             out.write(LOOP)
         subprocess.run(["gcc", "-O2", "-o", loop, source], check=True)
-        print("| Text | `stream`, MB/s | C loop | `tr` | `sed` | Resident, kB |\n|---|---|---|---|---|---|")
-        for name, part in TEXTS.items():
-            text = os.path.join(folder, "text")
-            block = part * (1_000_000 // len(part))
-            with open(text, "wb") as out:
-                for _ in range(size // len(block)):
-                    out.write(block)
-            commands = [[program, "stream"], [loop], ["tr", "x", "y"], ["sed", "s/x/y/"]]
-            rates = [rate(command, text, size) for command in commands]
-            print(f"| {name} | " + " | ".join(f"{one:,.0f}" for one in rates) + f" | {resident(program, text):,} |")
+        if words == ["instructions"]:
+            instructions(program, loop)
+        else:
+            rates(program, loop, int(words[0] if words else "100") * 1_000_000, folder)
 
 
 if __name__ == "__main__":

@@ -1,12 +1,13 @@
 #!/usr/bin/env python3
 """Tries the built program over standard streams that fail in the middle.
 
-Usage: tests/rooms.py PROGRAM
+Usage: tests/rooms.py [--each] PROGRAM
 
 Standard output takes some bytes and then fails: each answer of tests/rows/commands.jsonl and tests/rows/written.jsonl,
 what `stream` settles before a refusal, and replies to records go out in each room that is too small for them. Standard
 input hands out some bytes and then fails, or ends there: formats and records are cut after each byte. The streams
-are those of tests/narrow.c. How many bytes they move a call, and the error, take turns from run to run.
+are those of tests/narrow.c. How many bytes they move a call, and the error, take turns from run to run; with --each
+every run is made with each of them.
 
 It needs a Linux system with gcc. Its last line is 'N passed, M failed', and it exits with 1 where M isn't 0.
 """
@@ -49,16 +50,18 @@ NAMES |= {15: "GroupUndefined", 16: "PrecisionUndefined", 17: "LengthUndefined"}
 class Narrow:
     """Runs of the program over streams that fail, a few side by side."""
 
-    def __init__(self, program, library, trials):
+    def __init__(self, program, library, trials, tries_each):
         self.program, self.library, self.trials = program, library, trials
-        self.turns = itertools.cycle(itertools.product(STEPS, FAULTS))
+        ways = list(itertools.product(STEPS, FAULTS))
+        self.turns = itertools.cycle([ways] if tries_each else [[way] for way in ways])
+        # How often a run that is cheap is made, so that it takes more than one of the ways.
+        self.rounds = 1 if tries_each else len(STEPS)
         self.asked = []
 
     def expect(self, words, stdin, wanted, **limits):
         """A run over streams with these limits, by ROOM and FEED, that is to end so."""
-        step, fault = next(self.turns)
-        limits |= {"STEP": step, "FAULT": fault}
-        self.asked.append((words, stdin, limits, wanted))
+        for step, fault in next(self.turns):
+            self.asked.append((words, stdin, limits | {"STEP": step, "FAULT": fault}, wanted))
 
     def answer(self, asked):
         words, stdin, limits, _ = asked
@@ -121,7 +124,7 @@ def try_front(narrow, text, length, answer, written, settled):
     ended = (0, written, b"") if answer is None else (2, written, refusal(*answer))
     is_refused_before = answer is not None and answer[1] < length
     failed = (2, settled, refusal(*answer)) if is_refused_before else (READ_FAILED[0], settled, READ_FAILED[1])
-    for _ in STEPS:
+    for _ in range(narrow.rounds):
         narrow.expect(["stream"], text[:length], ended)
         narrow.expect(["stream"], text, failed, FEED=length)
 
@@ -147,7 +150,7 @@ def try_fronts(narrow):
 
 def try_records(narrow):
     """Replies to records: in each room, and to those that are whole where a read fails."""
-    for step in STEPS:
+    for _ in range(narrow.rounds):
         for room in range(len(REPLIES)):
             narrow.expect(["canon", "-z"], RECORDS, (WRITE_FAILED[0], REPLIES[:room], WRITE_FAILED[1]), ROOM=room)
         for length in range(len(RECORDS) + 1):
@@ -156,13 +159,15 @@ def try_records(narrow):
 
 
 def main():
-    if len(sys.argv) != 2:
+    tries_each = "--each" in sys.argv
+    words = [it for it in sys.argv[1:] if it != "--each"]
+    if len(words) != 1:
         sys.exit(__doc__)
     trials = Trials()
     with tempfile.TemporaryDirectory() as work:
         library, is_made = library_of("narrow", work)
         trials.expect("narrow.c", is_made, True)
-        narrow = Narrow(os.path.abspath(sys.argv[1]), library, trials)
+        narrow = Narrow(os.path.abspath(words[0]), library, trials, tries_each)
         try_answers(narrow)
         try_long_answers(narrow)
         try_refusals(narrow)

@@ -22,8 +22,8 @@ from wrong_bodies import FOLDERS, TOP, places_of, read_pairs  # noqa: E402
 
 # Public functions that have no edit, each with the reason.
 EXCEPTIONS = {
-    "pf_values::counting::Counted::into_inner": "the type of its parameter leaves one answer",
-    "pf_values::devices::cutting::Cut::drop": "it lets go of what is there, and can do nothing else",
+    "pf_values::counted::Counted::into_inner": "the type of its parameter leaves one answer",
+    "pf_values::devices::cut::Cut::drop": "it lets go of what is there, and can do nothing else",
 }
 
 

@@ -226,9 +226,9 @@ class Room:
         return run(self.crate, "check", "--jobs", "1", *flags, *only)[0]
 
     def tests(self):
-        """What the tests of the crate print, or of the first that needs it and has any; and their status."""
+        """What the tests of the crate print, or of the last that needs it and has any; and their status."""
         above = [it for it in crate_lines() if self.name in crates_below(it)]
-        for name in [self.name, *above]:
+        for name in [self.name, *reversed(above)]:
             crate = self.crate.parent / name
             if any("#[test]" in it.read_text(encoding="utf-8") for it in (crate / "src").rglob("*.rt")):
                 return run(crate, "try", "--test")

@@ -14,10 +14,10 @@ use Rattle.pf_values.specs.meaning.Text.{Text}
 use Rattle.fmtcanon.specs.ArgumentWords.{SpellsArgument}
 use Rattle.fmtcanon.specs.declared.outcome.Fault.TheVariants.{WrongCount}
 use Rattle.fmtcanon.specs.declared.arguments.UntypedArg.{UntypedArg}
-use Rattle.fmtcanon.specs.FormatArguments.{GivesArgument, IsArgumentFault, IsFirstBadWord, IsFirstWrongType, SpellArguments}
+use Rattle.fmtcanon.specs.FormatArguments.{SpellsSomeArgument, IsArgumentFault, IsFirstBadWord, IsFirstWrongType, SpellArguments}
 use Rattle.fmtcanon.specs.UntypedArgs.{argument_given}
 
-all_give : (words : List Text) (arguments : List Argument) → SpellArguments words arguments → AllByRecursion GivesArgument words
+all_give : (words : List Text) (arguments : List Argument) → SpellArguments words arguments → AllByRecursion SpellsSomeArgument words
 all_give [] arguments h = tt
 all_give (word ∷ words) [] h = absurd h
 all_give (word ∷ words) (argument ∷ arguments) h = ((argument, h.0), all_give words arguments h.1)
@@ -35,7 +35,7 @@ module _ (words : List (Bor Text)) (at : ℕ) (given : List UntypedArg)
         rw (map_more (λ (s : Bor Text). s.now) words at d here, map-append argument_given given (argument ∷ []), ← is_here)
         (all_zipped_more SpellsArgument _ _ word (argument_given argument) before h)
 
-    pub first_bad_word : (GivesArgument word → ⊥) → IsFirstBadWord (map (λ s. s.now) words) at
+    pub first_bad_word : (SpellsSomeArgument word → ⊥) → IsFirstBadWord (map (λ s. s.now) words) at
     first_bad_word bad = record {
       word = word;
       here = slice_get-map (λ (s : Bor Text). s.now) words at ∙ ap (λ (o : Option (Bor Text)). option_map (λ s. s.now) o) (slice_get-get_or words at d here) ∙ ap Some (sym is_here);

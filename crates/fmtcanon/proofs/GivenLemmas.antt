@@ -15,7 +15,7 @@ use Rattle.pf_values.specs.meaning.Text.{Text}
 use Rattle.pf_signatures.specs.Items.{IsPosixAccepted}
 use Rattle.fmtcanon.specs.Answers.{IsFitFault, IsFormatFault, IsPairFault, IsGivenFault, IsGivenPairFault, IsWholeFault, IsFaultInTexts, IsFaultInText, side_of}
 use Rattle.fmtcanon.specs.FormatArguments.{IsArgumentFault}
-use Rattle.fmtcanon.specs.Formats.{GivesBytes, IsFormat, IsPlaceInText}
+use Rattle.fmtcanon.specs.Formats.{HoldsFormat, IsFormat, IsPlaceInText}
 use Rattle.fmtcanon.specs.declared.outcome.Fault.{Fault}
 use Rattle.fmtcanon.specs.declared.outcome.Fault.TheVariants.{Refused, RefusedWhole, BadLiteral, BadWord, WrongCount, WrongType, Memory}
 use Rattle.fmtcanon.specs.declared.formats.GivenFormat.{GivenFormat}
@@ -46,7 +46,7 @@ pub place_in_literals : (given : GivenFormat) (index at : ℕ) (found : Option �
     → (bytes : Text) → IsFormat given bytes → index ≤ length bytes → IsPlaceInText given.notation given.text.now index at
 place_in_literals given index at found is place e bytes gives within =
     let text = given.text.now in
-    let there = place_there text bytes index found place (subst (λ n. GivesBytes n text bytes) is gives) within in
+    let there = place_there text bytes index found place (subst (λ n. HoldsFormat n text bytes) is gives) within in
     subst (λ n. IsPlaceInText n text index at) (sym is) (subst (IsPlaceOf text index) (sym e) there)
 
 -- the place of a fault is within the bytes, and no fault of literals is one of bytes

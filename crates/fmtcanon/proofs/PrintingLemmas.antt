@@ -5,7 +5,7 @@ use Rattle.pf_text.proofs.Texts.{Reads-unique}
 use Rattle.pf_text.specs.Signatures as signatures
 use Rattle.pf_render.specs.declared.faults.RenderVecFault.{RenderVecFault}
 use Rattle.pf_render.specs.declared.faults.RenderVecFault.TheVariants.{Refused, WrongCount, WrongType, Memory}
-use Rattle.pf_render.specs.Rendering.{HindersVec}
+use Rattle.pf_render.specs.Rendering.{FaultForRenderVec}
 use Rattle.pf_values.specs.declared.arguments.Arg.{Arg}
 use Rattle.pf_values.specs.declared.models.Model.{Model}
 use Rattle.pf_values.specs.declared.types.ArgType.{ArgType}
@@ -41,7 +41,7 @@ module _ (model : Model) (format : Text) (words : List Text) (args : List Arg) (
       (Reads-unique format takes.items gives.items takes.accepted.reads gives.given.accepted.reads)
       ∙ sym gives.types_are
 
-  pub only_memory_hinders : (fault : RenderVecFault) → HindersVec model format args fault → fault ≡ Memory
+  pub only_memory_hinders : (fault : RenderVecFault) → FaultForRenderVec model format args fault → fault ≡ Memory
   only_memory_hinders Memory h = refl
   only_memory_hinders (Refused refusal) h =
       absurd (h.not_accepted (gives.items, gives.given.accepted))

@@ -3,10 +3,10 @@ use Rattle.std.proofs.Common.{◌≡◌, ◌++◌, [], List, refl}
 use Rattle.std.specs.Prelude.{true}
 use Rattle.std.specs.Io.KnownBytes.{Consumes, IsAtEnd}
 use Rattle.std.proofs.KnownBytes.{Appends-nil}
-use Rattle.pf_values.specs.declared.counting.Counted.{Counted}
+use Rattle.pf_values.specs.declared.counted.Counted.{Counted}
 use Rattle.pf_values.specs.Counting.{Known, device_of, failures_of, is_flushed}
 use Rattle.pf_values.specs.meaning.Text.{Text}
-use Rattle.fmtcanon.specs.Conversations.{HasCome, HasReplies, HasRepliedTo, HasRepliedToText, RecordsFinish, RecordsStop, waiting_text}
+use Rattle.fmtcanon.specs.Conversations.{HasCome, HasReplies, HasRepliedTo, HasRepliedToText, RecordsFinish, RecordsEndEarly, waiting_text}
 use Rattle.fmtcanon.specs.Records.{IsRecords, RecordsEnd, ReadFails, last_record}
 use Rattle.fmtcanon.specs.declared.outcome.Outcome.{Outcome}
 use Rattle.fmtcanon.specs.declared.outcome.Outcome.TheVariants as outcomes
@@ -17,7 +17,7 @@ use Rattle.fmtcanon.proofs.RecordTexts.{cut_none}
 
 module _ (kind : RecordQuestion) {R W : Type 0} (remaining : R → Known) (contents : W → Known) (reader left : Counted R) (old new : Counted W) (taken : Text) (whole : List Text) (rest : Text) (cut : IsRecords taken whole rest) (took : Consumes (remaining (device_of reader)) (remaining (device_of left)) taken) where
   -- a write failed, memory was refused
-  pub left_stopped : failures_of left ≡ failures_of reader → (outcome : Outcome) → RecordsStop kind contents old new (whole ++ last_record rest) outcome → RecordsEnd kind remaining contents reader left old new outcome
+  pub left_stopped : failures_of left ≡ failures_of reader → (outcome : Outcome) → RecordsEndEarly kind contents old new (whole ++ last_record rest) outcome → RecordsEnd kind remaining contents reader left old new outcome
   left_stopped well outcomes.Memory h = (whole, rest, h.0, h.1, (taken, cut, took), well, h.2)
   left_stopped well (outcomes.Write count) h = (whole, rest, (taken, cut, took), well, h)
   left_stopped well (outcomes.Answered greatest) h = absurd h

@@ -2,17 +2,17 @@
 use Rattle.std.proofs.Common.{◌≡◌, ◌∙◌, ℕ, ◌<◌, ◌++◌, [], ◌∷◌, List, true, false, append-nil, append_assoc, ap, refl, subst, sym, length, Result, Ok, Err}
 use Rattle.std.specs.Prelude.{MatchResult, flat_map}
 use Rattle.std.proofs.lemmas.List.{flat_map_more}
-use Rattle.pf_values.specs.declared.counting.Counted.{Counted}
+use Rattle.pf_values.specs.declared.counted.Counted.{Counted}
 use Rattle.pf_values.specs.Counting.{Known, WritesAll, is_flushed}
 use Rattle.pf_values.specs.meaning.Text.{Text}
-use Rattle.fmtcanon.specs.Conversations.{AddsReply, HasCome, HasReplies, HasSaid, HasSaidFirst, HasStopped, HasRepliedTo, RecordsFinish, RecordsStop, WritesReplies, first_of, waiting_text}
+use Rattle.fmtcanon.specs.Conversations.{AddsReply, HasCome, HasReplies, HasSaid, HasSaidFirst, HasStopped, HasRepliedTo, RecordsFinish, RecordsEndEarly, WritesReplies, first_of, waiting_text}
 use Rattle.fmtcanon.specs.Questions.{formats_wanted}
 use Rattle.fmtcanon.specs.Records.{AreReplies, IsReply, RepliesAll, RepliesFirst, Reply, last_record}
 use Rattle.fmtcanon.specs.declared.task.RecordQuestion.{RecordQuestion}
 use Rattle.fmtcanon.specs.declared.records.Coming.{Coming}
 use Rattle.fmtcanon.specs.declared.records.Conversation.{Conversation}
-use Rattle.fmtcanon.specs.declared.records.Stop.{Stop}
-use Rattle.fmtcanon.specs.declared.records.Stop.TheVariants.{Memory, Write}
+use Rattle.fmtcanon.specs.declared.records.ConversationFault.{ConversationFault}
+use Rattle.fmtcanon.specs.declared.records.ConversationFault.TheVariants.{Memory, Write}
 use Rattle.fmtcanon.specs.declared.records.Replies.{Replies}
 use Rattle.fmtcanon.specs.declared.outcome.Outcome.{Outcome}
 use Rattle.fmtcanon.specs.declared.outcome.Outcome.TheVariants as outcomes
@@ -45,7 +45,7 @@ module _ (kind : RecordQuestion) where
 
   module _ {W : Type 0} (contents : W → Known) (c : Conversation) (start now : Counted W) (whole : List Text) (rest : Text) (h : HasRepliedTo kind contents c start now whole rest) where
     -- the record is whole, and its question was answered: what waits is written or not
-    pub ended : (mid : Replies) (new : Conversation) (w : Counted W) (r : Result (Unit {0}) Stop) → AddsReply kind (h.first ++ rest ∷ []) h.said.sent h.replies c.replies mid (Ok true)
+    pub ended : (mid : Replies) (new : Conversation) (w : Counted W) (r : Result (Unit {0}) ConversationFault) → AddsReply kind (h.first ++ rest ∷ []) h.said.sent h.replies c.replies mid (Ok true)
         → ((replies : List Reply) → HasSaid contents mid start now replies → WritesReplies contents new.replies start w replies r) → HasCome new.coming kind [] []
         → MatchResult r (λ _. HasRepliedTo kind contents new start w (whole ++ rest ∷ []) []) (HasStopped kind contents new start w (whole ++ rest ∷ []))
     ended mid new w r a writes come =
@@ -54,7 +54,7 @@ module _ (kind : RecordQuestion) where
         let said = writes (h.replies ++ reply ∷ []) (record { sent = h.said.sent; writes = h.said.writes; has = a.3 }) in
         go r are said
       where
-        go : {replies : List Reply} (r : Result (Unit {0}) Stop) → AreReplies kind (whole ++ rest ∷ []) replies [] → WritesReplies contents new.replies start w replies r
+        go : {replies : List Reply} (r : Result (Unit {0}) ConversationFault) → AreReplies kind (whole ++ rest ∷ []) replies [] → WritesReplies contents new.replies start w replies r
             → MatchResult r (λ _. HasRepliedTo kind contents new start w (whole ++ rest ∷ []) []) (HasStopped kind contents new start w (whole ++ rest ∷ []))
         go {replies} (Ok done) are said = record { first = []; replies = replies; are = are; come = come; said = said }
         go {replies} (Err Memory) are said = absurd said
@@ -100,12 +100,12 @@ module _ (kind : RecordQuestion) where
 
   module _ {W : Type 0} (contents : W → Known) (start now : Counted W) where
     -- replies to the first of some records are so, too, where more come
-    pub stopped_more : (c : Conversation) (records more : List Text) (stop : Stop) → HasStopped kind contents c start now records stop → HasStopped kind contents c start now (records ++ more) stop
+    pub stopped_more : (c : Conversation) (records more : List Text) (stop : ConversationFault) → HasStopped kind contents c start now records stop → HasStopped kind contents c start now (records ++ more) stop
     stopped_more c records more Memory h = (h.0, h.1 ++ more, are_more records more h.0 h.1 h.2, h.3)
     stopped_more c records more (Write count) h = (h.0, h.1 ++ more, are_more records more h.0 h.1 h.2, h.3)
 
     -- to stop is one way to end
-    pub stopped_at_end : (records : List Text) (outcome : Outcome) → RecordsStop kind contents start now records outcome → RecordsFinish kind contents start now records outcome
+    pub stopped_at_end : (records : List Text) (outcome : Outcome) → RecordsEndEarly kind contents start now records outcome → RecordsFinish kind contents start now records outcome
     stopped_at_end records (outcomes.Answered greatest) h = absurd h
     stopped_at_end records outcomes.NoSecond h = absurd h
     stopped_at_end records outcomes.Memory h = h

@@ -1,15 +1,15 @@
 -- One step of a run over records through a block.
 use Rattle.std.proofs.Common.{◌≡◌, ℕ, ◌+◌, ◌++◌, [], ◌∷◌, List, None, Some, append_assoc, drop, subst, sym, take}
 use Rattle.memchr.specs.Find.{IsFirstByte, is_byte}
-use Rattle.pf_values.specs.declared.counting.Counted.{Counted}
+use Rattle.pf_values.specs.declared.counted.Counted.{Counted}
 use Rattle.pf_values.specs.Counting.{Known}
 use Rattle.pf_values.specs.meaning.Text.{Text}
 use Rattle.fmtcanon.specs.Conversations.{HasCome, HasReplies, HasStopped, HasStoppedAt, HasRepliedTo, HasRepliedToText}
 use Rattle.fmtcanon.specs.Records.{IsRecords, last_record}
 use Rattle.fmtcanon.specs.declared.task.RecordQuestion.{RecordQuestion}
 use Rattle.fmtcanon.specs.declared.records.Conversation.{Conversation}
-use Rattle.fmtcanon.specs.declared.records.Stop.{Stop}
-use Rattle.fmtcanon.specs.declared.records.Stop.TheVariants.{Memory}
+use Rattle.fmtcanon.specs.declared.records.ConversationFault.{ConversationFault}
+use Rattle.fmtcanon.specs.declared.records.ConversationFault.TheVariants.{Memory}
 use Rattle.fmtcanon.proofs.RecordLemmas.{longer, refused, stopped_more}
 use Rattle.fmtcanon.proofs.RecordTexts.{cut_behind, cut_found, cut_last}
 
@@ -24,7 +24,7 @@ module _ (kind : RecordQuestion) {W : Type 0} (contents : W → Known) (c : Conv
         (next bytes, [], subst (λ b. IsRecords (taken ++ take (at + (len + 1)) block) (next b) []) (sym bytes_are) (cut_found taken block whole rest at h.2 len found), step whole rest h.3)
 
     -- the run stopped there
-    pub record_stopped : (stop : Stop) → ((whole : List Text) (rest : Text) → HasRepliedTo kind contents c start now whole rest → HasStopped kind contents new start w (whole ++ (rest ++ bytes) ∷ []) stop) → HasStoppedAt kind contents new start w (taken ++ block) stop
+    pub record_stopped : (stop : ConversationFault) → ((whole : List Text) (rest : Text) → HasRepliedTo kind contents c start now whole rest → HasStopped kind contents new start w (whole ++ (rest ++ bytes) ∷ []) stop) → HasStoppedAt kind contents new start w (taken ++ block) stop
     record_stopped stop step =
         let whole = h.0 in
         let rest = h.1 in

@@ -1,8 +1,8 @@
 -- What a report leaves.
 use Rattle.std.proofs.Common.{inl, inr}
 use Rattle.std.specs.Prelude.{Result, Ok, Err}
-use Rattle.pf_values.specs.declared.counting.Counted.{Counted}
-use Rattle.pf_values.specs.declared.writing.ShortWrite.{ShortWrite}
+use Rattle.pf_values.specs.declared.counted.Counted.{Counted}
+use Rattle.pf_values.specs.declared.writes.ShortWrite.{ShortWrite}
 use Rattle.pf_values.specs.Counting.{Known, Writes}
 use Rattle.pf_values.specs.meaning.Text.{Text}
 use Rattle.fmtcanon.specs.Reports.{WritesReport}

@@ -1,6 +1,6 @@
 -- What the run of a question leaves.
 use Rattle.std.proofs.Common.{◌≡◌, List, inl, refl}
-use Rattle.pf_values.specs.declared.counting.Counted.{Counted}
+use Rattle.pf_values.specs.declared.counted.Counted.{Counted}
 use Rattle.pf_values.specs.Counting.{Known}
 use Rattle.fmtcanon.specs.Answers.{IsQuestionFault}
 use Rattle.fmtcanon.specs.Outcomes.{outcome_of_fault}

@@ -12,9 +12,9 @@ use Rattle.pf_text.proofs.Unique.{same_whole}
 use Rattle.pf_text.specs.declared.pieces.Piece.{Piece}
 use Rattle.pf_text.specs.declared.pieces.Piece.TheVariants as pieces
 use Rattle.pf_text.specs.declared.pieces.Pieces.{Pieces}
-use Rattle.pf_text.specs.declared.refusal.Refusal.{Refusal}
+use Rattle.pf_text.specs.declared.scanner.Refusal.{Refusal}
 use Rattle.pf_text.specs.History.{EndsRun, IsLiteral}
-use Rattle.pf_text.specs.PieceHistory.{Gives, GivesNext, GivesPiece, GivesRefusal, HasGiven, IsPieceBefore, items_of}
+use Rattle.pf_text.specs.PieceHistory.{NextReturns, NextIs, NextIsPiece, NextIsRefusal, HasGiven, IsPieceBefore, items_of}
 use Rattle.pf_values.specs.declared.limits.TheConstants.{MAX_TEXT_LEN}
 use Rattle.pf_values.specs.meaning.Defined.{IsDefined}
 use Rattle.pf_values.specs.meaning.Items.{Item}
@@ -105,14 +105,14 @@ pushed model pieces t out new piece (Ok done) e h more = subst (HasShown model p
 pushed model pieces t out new piece (Err x) e h more = cc
 
 module _ (model : Model) (old new : Pieces) (t out : Text) (h : HasShown model old t out) where
-  module _ (next : Result Piece Refusal) (steps : Gives old (Some next) new) where
-    pub refused : (refusal : Refusal) → next ≡ Err refusal → GivesRefusal t h.items refusal
-    refused refusal e = subst (λ r. GivesNext (Some r) new t h.read h.items) e (steps.next t h.read h.items h.given)
+  module _ (next : Result Piece Refusal) (steps : NextReturns old (Some next) new) where
+    pub refused : (refusal : Refusal) → next ≡ Err refusal → NextIsRefusal t h.items refusal
+    refused refusal e = subst (λ r. NextIs (Some r) new t h.read h.items) e (steps.next t h.read h.items h.given)
 
     -- the line of one more piece
     pub more_shown : (piece : Piece) (part : Text) → next ≡ Ok piece → IsLineOf model (shown_of piece) part → HasShown model new t (out ++ part)
     more_shown piece part e is =
-        let g : GivesPiece new t h.read h.items piece = subst (λ r. GivesNext (Some r) new t h.read h.items) e (steps.next t h.read h.items h.given) in
+        let g : NextIsPiece new t h.read h.items piece = subst (λ r. NextIs (Some r) new t h.read h.items) e (steps.next t h.read h.items h.given) in
         let text = text_of_piece old new t h.read h.items piece h.given g in
         let left : old.rest.now ≡ g.more ++ new.rest.now = same_rest h.read _ _ (sym h.given.split ∙ g.given.split ∙ append_assoc h.read g.more new.rest.now) in
         record {
@@ -128,7 +128,7 @@ module _ (model : Model) (old new : Pieces) (t out : Text) (h : HasShown model o
         }
 
   -- the lines of all
-  pub all_shown : Gives old None new → HasShownLines model t out
+  pub all_shown : NextReturns old None new → HasShownLines model t out
   all_shown steps =
       let end = steps.next t h.read h.items h.given in
       let none = same_whole h.items h.read t old.rest.now h.given.reads end.reads h.given.split in

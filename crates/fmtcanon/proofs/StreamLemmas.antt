@@ -2,11 +2,11 @@
 use Rattle.std.proofs.Common.{◌≡◌, ℕ, Err, inl, inr, subst}
 use Rattle.std.specs.Io.KnownBytes.{Keeps}
 use Rattle.std.proofs.KnownBytes.{Appends-kept}
-use Rattle.pf_values.specs.declared.counting.Counted.{Counted}
+use Rattle.pf_values.specs.declared.counted.Counted.{Counted}
 use Rattle.pf_values.specs.declared.models.Model.{Model}
 use Rattle.pf_values.specs.Counting.{Known, failures_of}
 use Rattle.pf_values.specs.meaning.Text.{Text}
-use Rattle.pf_text.specs.declared.refusal.Refusal.{Refusal}
+use Rattle.pf_text.specs.declared.scanner.Refusal.{Refusal}
 use Rattle.pf_canon.specs.Copy.{CopyStops, ReadCounts, SettledOut}
 use Rattle.pf_canon.specs.declared.faults.CopyFault.{CopyFault}
 use Rattle.pf_canon.specs.declared.faults.CopyFault.TheVariants as faults

@@ -1,5 +1,5 @@
 -- What a question is answered with, and why it is not. This project's own.
-use Rattle.std.specs.Prelude.{◌≡◌, ℕ, ◌≤◌, List, length, Option, None, Some, map, ⊤}
+use Rattle.std.specs.Prelude.{◌≡◌, ℕ, ◌≤◌, length, Option, None, Some, map, ⊤}
 use Rattle.pf_signatures.specs.Items.{IsPosixAccepted}
 use Rattle.pf_signatures.specs.Refusals as whole
 use Rattle.pf_values.specs.declared.models.Model.{Model}

@@ -1,7 +1,7 @@
 -- What a run over records holds in memory, for private functions. This project's own.
 use Rattle.std.specs.Prelude.{◌≡◌, ℕ, ◌-◌, ◌^◌, ◌<◌, Bool, true, false, List, [], ◌∷◌, ◌++◌, length, min, Result, Ok, Err}
 use Rattle.std.specs.declared.alloc.AllocError.{AllocError}
-use Rattle.pf_values.specs.declared.counting.Counted.{Counted}
+use Rattle.pf_values.specs.declared.counted.Counted.{Counted}
 use Rattle.pf_values.specs.Counting.{Known, WritesAll, WritesFirst}
 use Rattle.pf_values.specs.meaning.Text.{Text}
 use Rattle.fmtcanon.specs.Questions.{formats_wanted}
@@ -12,8 +12,8 @@ use Rattle.fmtcanon.specs.declared.task.RecordQuestion.{RecordQuestion}
 use Rattle.fmtcanon.specs.declared.records.Coming.{Coming}
 use Rattle.fmtcanon.specs.declared.records.Conversation.{Conversation}
 use Rattle.fmtcanon.specs.declared.records.Replies.{Replies}
-use Rattle.fmtcanon.specs.declared.records.Stop.{Stop}
-use Rattle.fmtcanon.specs.declared.records.Stop.TheVariants.{Memory, Write}
+use Rattle.fmtcanon.specs.declared.records.ConversationFault.{ConversationFault}
+use Rattle.fmtcanon.specs.declared.records.ConversationFault.TheVariants.{Memory, Write}
 
 -- the count of bytes that went out
 abbrev pub count_of : ℕ → ℕ
@@ -66,7 +66,7 @@ module _ (kind : RecordQuestion) {W : Type 0} (contents : W → Known) where
     pub said : HasSaid contents c.replies start now replies
 
   -- Replies were made to the first of some records, and then memory was refused, or a write failed.
-  abbrev pub HasStopped : Conversation → Counted W → Counted W → List Text → Stop → Type 0
+  abbrev pub HasStopped : Conversation → Counted W → Counted W → List Text → ConversationFault → Type 0
   HasStopped c start now records Memory =
       (replies : List Reply) × (others : List Text) × AreReplies kind records replies others
       × HasSaid contents c.replies start now replies
@@ -79,7 +79,7 @@ module _ (kind : RecordQuestion) {W : Type 0} (contents : W → Known) where
   HasRepliedToText c start now taken =
       (whole : List Text) × (rest : Text) × IsRecords taken whole rest × HasRepliedTo c start now whole rest
 
-  abbrev pub HasStoppedAt : Conversation → Counted W → Counted W → Text → Stop → Type 0
+  abbrev pub HasStoppedAt : Conversation → Counted W → Counted W → Text → ConversationFault → Type 0
   HasStoppedAt c start now taken stop =
       (whole : List Text) × (rest : Text) × IsRecords taken whole rest
       × HasStopped c start now (whole ++ last_record rest) stop
@@ -97,7 +97,7 @@ AddsReply kind formats sent replies old new (Err e) = HasReplies new sent replie
 module _ {W : Type 0} (contents : W → Known) where
   -- a write of replies that wait, or of none
   abbrev pub WritesReplies : Replies → Counted W → Counted W → List Reply
-      → Result (Unit {0}) Stop → Type 0
+      → Result (Unit {0}) ConversationFault → Type 0
   WritesReplies r start now replies (Ok done) = HasSaid contents r start now replies
   WritesReplies r start now replies (Err Memory) = ⊥
   WritesReplies r start now replies (Err (Write count)) =
@@ -105,13 +105,13 @@ module _ {W : Type 0} (contents : W → Known) where
 
 module _ (kind : RecordQuestion) {W : Type 0} (contents : W → Known) (old new : Counted W) where
   -- what is written where it ends early, of replies to the first of these records
-  abbrev pub RecordsStop : List Text → Outcome → Type 0
-  RecordsStop records outcomes.Memory =
+  abbrev pub RecordsEndEarly : List Text → Outcome → Type 0
+  RecordsEndEarly records outcomes.Memory =
       (others : List Text) × (greatest : ℕ)
       × RepliesAll kind contents old new records others greatest
-  RecordsStop records (outcomes.Write count) =
+  RecordsEndEarly records (outcomes.Write count) =
       RepliesFirst kind contents old new records count
-  RecordsStop records outcome = ⊥
+  RecordsEndEarly records outcome = ⊥
 
   -- what is written at the end, of these records
   abbrev pub RecordsFinish : List Text → Outcome → Type 0
@@ -120,4 +120,4 @@ module _ (kind : RecordQuestion) {W : Type 0} (contents : W → Known) (old new 
   RecordsFinish records outcomes.NoSecond =
       (first : Text) × (greatest : ℕ) × (1 < formats_wanted kind)
       × RepliesAll kind contents old new records (first ∷ []) greatest
-  RecordsFinish records outcome = RecordsStop records outcome
+  RecordsFinish records outcome = RecordsEndEarly records outcome

@@ -4,8 +4,8 @@ use Rattle.pf_literals.specs.declared.faults.LiteralFault.{LiteralFault}
 use Rattle.pf_literals.specs.declared.faults.LiteralFault.TheVariants as literal
 use Rattle.pf_signatures.specs.declared.refusals.SignatureFault.{SignatureFault}
 use Rattle.pf_signatures.specs.declared.refusals.SignatureFault.TheVariants as signature
-use Rattle.pf_text.specs.declared.refusal.TextFault.{TextFault}
-use Rattle.pf_text.specs.declared.refusal.TextFault.TheVariants as text
+use Rattle.pf_text.specs.declared.signatures.TextFault.{TextFault}
+use Rattle.pf_text.specs.declared.signatures.TextFault.TheVariants as text
 use Rattle.pf_canon.specs.declared.faults.Side.{Side}
 use Rattle.pf_canon.specs.declared.faults.CanonFault.{CanonFault}
 use Rattle.pf_canon.specs.declared.faults.CanonFault.TheVariants as canonical

@@ -12,7 +12,7 @@ use Rattle.pf_values.specs.meaning.Printing.{PrintsAll}
 use Rattle.pf_values.specs.meaning.Refusals.{IsRefusedAt}
 use Rattle.pf_values.specs.meaning.Text.{Text}
 use Rattle.fmtcanon.specs.declared.outcome.Fault.{Fault}
-use Rattle.fmtcanon.specs.declared.outcome.Fault.TheVariants.{Refused, RefusedWhole, BadLiteral, BadWord, WrongCount, WrongType, Memory}
+use Rattle.fmtcanon.specs.declared.outcome.Fault.TheVariants.{Refused, BadWord, WrongCount, WrongType, Memory}
 use Rattle.fmtcanon.specs.ArgumentWords.{SpellsArgument}
 
 -- each word gives an argument, in order
@@ -20,15 +20,15 @@ abbrev pub SpellArguments : List Text → List Argument → Type 0
 SpellArguments words arguments = AllZip SpellsArgument words arguments
 
 -- a word gives some argument
-abbrev pub GivesArgument : Text → Type 0
-GivesArgument word = (argument : Argument) × SpellsArgument word argument
+abbrev pub SpellsSomeArgument : Text → Type 0
+SpellsSomeArgument word = (argument : Argument) × SpellsArgument word argument
 
 -- the word with this index gives no argument, and each before it gives one
 pub record IsFirstBadWord (words : List Text) (index : ℕ) : Type 0 where
   pub word : Text
   pub here : slice_get words index ≡ Some word
-  pub bad : ¬ GivesArgument word
-  pub good_before : AllByRecursion GivesArgument (take index words)
+  pub bad : ¬ SpellsSomeArgument word
+  pub good_before : AllByRecursion SpellsSomeArgument (take index words)
 
 -- the argument with this index is not of its type, and each before it is
 pub record IsFirstWrongType (model : Model) (arguments : List Argument) (wanted : List ArgType)

@@ -13,9 +13,9 @@ use Rattle.fmtcanon.specs.declared.formats.Notation.{Notation}
 use Rattle.fmtcanon.specs.declared.formats.Notation.TheVariants.{Bytes, Literals}
 
 -- a text gives these bytes: it is them, or it is string literals with these bytes
-abbrev pub GivesBytes : Notation → Text → Text → Type 0
-GivesBytes Bytes text bytes = bytes ≡ text
-GivesBytes Literals text bytes = IsSourceOf text bytes
+abbrev pub HoldsFormat : Notation → Text → Text → Type 0
+HoldsFormat Bytes text bytes = bytes ≡ text
+HoldsFormat Literals text bytes = IsSourceOf text bytes
 
 -- the place in the text of a byte that it gives, or of the end of the bytes
 abbrev pub IsPlaceInText : Notation → Text → ℕ → ℕ → Type 0
@@ -23,9 +23,9 @@ IsPlaceInText Bytes text index at = at ≡ index
 IsPlaceInText Literals text index at = IsPlaceOf text index at
 
 -- the text gives no bytes, for this reason
-abbrev pub GivesNoBytes : Notation → Text → LiteralRefusal → Type 0
-GivesNoBytes Bytes text refusal = ⊥
-GivesNoBytes Literals text refusal = IsFaultAt text refusal.kind refusal.at
+abbrev pub HoldsNoFormat : Notation → Text → LiteralRefusal → Type 0
+HoldsNoFormat Bytes text refusal = ⊥
+HoldsNoFormat Literals text refusal = IsFaultAt text refusal.kind refusal.at
 
 -- how bytes are written
 abbrev pub written_in : Notation → Text → Text
@@ -34,10 +34,10 @@ written_in Literals bytes = encoding bytes
 
 -- the same of a format that is given
 abbrev pub IsFormat : GivenFormat → Text → Type 0
-IsFormat given bytes = GivesBytes given.notation given.text.now bytes
+IsFormat given bytes = HoldsFormat given.notation given.text.now bytes
 
 abbrev pub IsNoFormat : GivenFormat → LiteralRefusal → Type 0
-IsNoFormat given refusal = GivesNoBytes given.notation given.text.now refusal
+IsNoFormat given refusal = HoldsNoFormat given.notation given.text.now refusal
 
 -- why it has no bytes
 abbrev pub IsBytesFault : GivenFormat → LiteralFault → Type 0

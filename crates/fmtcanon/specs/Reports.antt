@@ -1,6 +1,6 @@
 -- What is reported of an outcome on standard error. This project's own.
 use Rattle.std.specs.Prelude.{ℕ, [], ◌++◌, codes, decimal, length, ◌<◌, ◌⊎◌, Option, None, Some, string_bytes}
-use Rattle.pf_values.specs.declared.counting.Counted.{Counted}
+use Rattle.pf_values.specs.declared.counted.Counted.{Counted}
 use Rattle.pf_values.specs.Counting.{Known, WritesAll, WritesFirst}
 use Rattle.pf_values.specs.RefusalKinds.{name, number}
 use Rattle.pf_values.specs.meaning.Text.{Text}
@@ -8,7 +8,7 @@ use Rattle.pf_literals.specs.declared.faults.LiteralRefusal.{LiteralRefusal}
 use Rattle.pf_literals.specs.Kinds as literals
 use Rattle.pf_signatures.specs.declared.refusals.SignatureRefusal.{SignatureRefusal}
 use Rattle.pf_signatures.specs.Kinds as signatures
-use Rattle.pf_text.specs.declared.refusal.Refusal.{Refusal}
+use Rattle.pf_text.specs.declared.scanner.Refusal.{Refusal}
 use Rattle.pf_canon.specs.declared.faults.Side.{Side}
 use Rattle.pf_canon.specs.declared.faults.Side.TheVariants as sides
 use Rattle.fmtcanon.specs.Lines.{line}

@@ -1,13 +1,13 @@
 -- What a run leaves that copies the canonical text of its reader. This project's own.
-use Rattle.std.specs.Prelude.{◌≡◌, ℕ, None, Some, true, ◌⊎◌}
-use Rattle.pf_values.specs.declared.counting.Counted.{Counted}
+use Rattle.std.specs.Prelude.{◌≡◌, ℕ, None, true, ◌⊎◌}
+use Rattle.pf_values.specs.declared.counted.Counted.{Counted}
 use Rattle.pf_values.specs.declared.models.Model.{Model}
 use Rattle.pf_values.specs.Counting.{HasFailed, Known, device_of, failures_of, is_flushed}
 use Rattle.pf_canon.specs.Copy.{CopiesAll, CopyStops}
 use Rattle.pf_canon.specs.declared.faults.CopyFault.{CopyFault}
 use Rattle.pf_canon.specs.declared.faults.CopyFault.TheVariants as faults
 use Rattle.fmtcanon.specs.declared.outcome.Outcome.{Outcome}
-use Rattle.fmtcanon.specs.declared.outcome.Outcome.TheVariants.{Done, Same, Different, Refused, RefusedWhole, BadLiteral, BadWord, WrongCount, WrongType, Answered, NoSecond, Usage, Read, Write, Memory}
+use Rattle.fmtcanon.specs.declared.outcome.Outcome.TheVariants.{Done, Refused, Read, Write}
 
 module _ (model : Model) {R W : Type 0} (remaining : R → Known) (contents : W → Known)
     (reader left : Counted R) (old new : Counted W) where

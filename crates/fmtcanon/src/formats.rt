@@ -1,7 +1,7 @@
 //! Formats as they are given: by their bytes, or by string literals of C source.
 ghost use Rattle.std.specs.Prelude.{◌≡◌, ◌≤◌, IfOk, MatchResult, length};
 ghost use Rattle.std.specs.Cow.{cow_slice_items};
-ghost use Rattle.pf_literals.specs.Answers.{HindersDecoding};
+ghost use Rattle.pf_literals.specs.Answers.{FaultForDecode};
 ghost use Rattle.pf_literals.specs.Sources.{IsSourceOf};
 ghost use Rattle.pf_values.specs.meaning.Text.{Text};
 ghost use Rattle.fmtcanon.specs.Formats.{IsBytesFault, IsFormat, IsPlaceInText, written_in};
@@ -76,7 +76,7 @@ impl<'a> GivenFormat<'a> {
 // The bytes of string literals.
 fn decoded<'a>(alloc: Global, source: &'a [u8]) -> Result<CowSlice<'a, u8>, LiteralFault>
     ensures { MatchResult result (λ bytes. IsSourceOf source.now (cow_slice_items bytes))
-        (HindersDecoding source.now) }
+        (FaultForDecode source.now) }
 {
     match decode(alloc, source) {
         Ok(bytes) => Ok(CowSlice::Owned(bytes)),

@@ -4,7 +4,7 @@ ghost use Rattle.std.specs.Io.{ReadsAtMost};
 ghost use Rattle.std.specs.Io.KnownBytes.{ReadConsumes};
 ghost use Rattle.pf_values.specs.Counting.{calls_after, calls_of, device_of, failures_after, failures_of, is_flushed};
 ghost use Rattle.pf_values.specs.meaning.Text.{Text};
-ghost use Rattle.fmtcanon.specs.Conversations.{AddsReply, HasCome, HasRepliedTo, HasRepliedToText, HasReplies, HasSaid, HasSaidFirst, HasStopped, HasStoppedAt, RecordsFinish, RecordsStop, WritesReplies, waiting_text};
+ghost use Rattle.fmtcanon.specs.Conversations.{AddsReply, HasCome, HasRepliedTo, HasRepliedToText, HasReplies, HasSaid, HasSaidFirst, HasStopped, HasStoppedAt, RecordsFinish, RecordsEndEarly, WritesReplies, waiting_text};
 ghost use Rattle.fmtcanon.specs.Outcomes.{status_of};
 ghost use Rattle.fmtcanon.specs.Questions.{IsAbout, formats_wanted};
 ghost use Rattle.fmtcanon.specs.Records.{IsReply, RecordsEnd, RepliesFirst, Reply, last_record, reply_bytes};
@@ -42,7 +42,7 @@ struct Conversation {
 
 // Why it stops before the end.
 #[derive(Clone, Copy)]
-enum Stop {
+enum ConversationFault {
     // A growth was refused.
     Memory,
     // A write failed after so many bytes.
@@ -134,7 +134,7 @@ impl Conversation {
         alloc: Global,
         block: &[u8],
         writer: &mut Counted<W>,
-    ) -> Result<(), Stop>
+    ) -> Result<(), ConversationFault>
         ensures { (kind : RecordQuestion) (start : Counted W) (taken : Text)
             → HasRepliedToText kind W.contents self.old start writer.old taken
             → MatchResult result
@@ -150,7 +150,7 @@ impl Conversation {
         }
         match self.coming.extend(&block[at..]) {
             Ok(()) => Ok(()),
-            Err(AllocError) => Err(Stop::Memory),
+            Err(AllocError) => Err(ConversationFault::Memory),
         }
     }
 
@@ -160,7 +160,7 @@ impl Conversation {
         alloc: Global,
         bytes: &[u8],
         writer: &mut Counted<W>,
-    ) -> Result<(), Stop>
+    ) -> Result<(), ConversationFault>
         ensures { (kind : RecordQuestion) (start : Counted W) (whole : List Text) (rest : Text)
             → HasRepliedTo kind W.contents self.old start writer.old whole rest
             → MatchResult result
@@ -171,12 +171,16 @@ impl Conversation {
     {
         match self.coming.extend(bytes) {
             Ok(()) => self.end_record(alloc, writer),
-            Err(AllocError) => Err(Stop::Memory),
+            Err(AllocError) => Err(ConversationFault::Memory),
         }
     }
 
     // The record is whole.
-    fn end_record<W: Write>(&mut self, alloc: Global, writer: &mut Counted<W>) -> Result<(), Stop>
+    fn end_record<W: Write>(
+        &mut self,
+        alloc: Global,
+        writer: &mut Counted<W>,
+    ) -> Result<(), ConversationFault>
         ensures { (kind : RecordQuestion) (start : Counted W) (whole : List Text) (rest : Text)
             → HasRepliedTo kind W.contents self.old start writer.old whole rest
             → MatchResult result
@@ -192,7 +196,7 @@ impl Conversation {
                 self.coming.clear();
                 self.write_block(writer)
             }
-            Err(AllocError) => Err(Stop::Memory),
+            Err(AllocError) => Err(ConversationFault::Memory),
         }
     }
 
@@ -212,7 +216,7 @@ impl Conversation {
         }
     }
 
-    fn write_block<W: Write>(&mut self, writer: &mut Counted<W>) -> Result<(), Stop>
+    fn write_block<W: Write>(&mut self, writer: &mut Counted<W>) -> Result<(), ConversationFault>
         ensures coming { self.new.coming ≡ self.old.coming }
         ensures said { (start : Counted W) (replies : List Reply)
             → HasSaid W.contents self.old.replies start writer.old replies
@@ -220,7 +224,7 @@ impl Conversation {
     {
         match self.replies.write_block(writer) {
             Ok(()) => Ok(()),
-            Err(count) => Err(Stop::Write(count)),
+            Err(count) => Err(ConversationFault::Write(count)),
         }
     }
 
@@ -237,7 +241,11 @@ impl Conversation {
     }
 
     // A part of a record is the last one, if it isn't empty.
-    fn end_last<W: Write>(&mut self, alloc: Global, writer: &mut Counted<W>) -> Result<(), Stop>
+    fn end_last<W: Write>(
+        &mut self,
+        alloc: Global,
+        writer: &mut Counted<W>,
+    ) -> Result<(), ConversationFault>
         ensures { (kind : RecordQuestion) (start : Counted W) (whole : List Text) (rest : Text)
             → HasRepliedTo kind W.contents self.old start writer.old whole rest
             → MatchResult result
@@ -266,14 +274,14 @@ impl Conversation {
     }
 
     // Where memory was refused, the replies that wait still go out.
-    fn stop<W: Write>(&mut self, stop: Stop, writer: &mut Counted<W>) -> Outcome
+    fn stop<W: Write>(&mut self, stop: ConversationFault, writer: &mut Counted<W>) -> Outcome
         ensures { (kind : RecordQuestion) (start : Counted W) (records : List Text)
             → HasStopped kind W.contents self.old start writer.old records stop
-            → RecordsStop kind W.contents start writer.new records result }
+            → RecordsEndEarly kind W.contents start writer.new records result }
     {
         match stop {
-            Stop::Write(count) => Outcome::Write(count),
-            Stop::Memory => match self.replies.flush(writer) {
+            ConversationFault::Write(count) => Outcome::Write(count),
+            ConversationFault::Memory => match self.replies.flush(writer) {
                 Ok(()) => Outcome::Memory,
                 Err(count) => Outcome::Write(count),
             },

@@ -4,7 +4,7 @@ use Rattle.pf_values.specs.declared.models.Model.{Model}
 use Rattle.pf_values.specs.meaning.Items.{types}
 use Rattle.pf_values.specs.meaning.Text.{Text}
 use Rattle.pf_canon.specs.declared.faults.Side.TheVariants as sides
-use Rattle.pf_compare.specs.Answers.{HaveSameTypes, HindersComparison, IsComparisonOf, IsVerdict}
+use Rattle.pf_compare.specs.Answers.{HaveSameTypes, FaultForCompare, IsComparisonOf, IsVerdict}
 use Rattle.pf_compare.specs.declared.comparisons.CompareFault.{CompareFault}
 use Rattle.pf_compare.specs.declared.comparisons.CompareFault.TheVariants.{Refused, Memory}
 use Rattle.pf_compare.specs.declared.comparisons.Comparison.{Comparison}
@@ -12,10 +12,10 @@ use Rattle.pf_compare.specs.declared.comparisons.Verdict.{Verdict}
 use Rattle.pf_compare.specs.declared.comparisons.Verdict.TheVariants.{Same, Types, Args}
 use Rattle.fmtcanon_c.specs.declared.interface.CError.{CError}
 use Rattle.fmtcanon_c.specs.declared.comparison.CComparison.{CComparison}
-use Rattle.fmtcanon_c.specs.Calls.{PutsComparison, PutsNoComparison, AnswersVerdict, GivesArguments, IsFaultCode}
+use Rattle.fmtcanon_c.specs.Calls.{PutsComparison, PutsNoComparison, AnswersVerdict, HasSeparatingArguments, IsFaultCode}
 
 module _ (model : Model) (f g : Text) (c : Comparison) (is : IsComparisonOf model f g c) where
-  types_by : (v : Verdict) → IsVerdict model f g is.first is.second v c.renderings → GivesArguments v
+  types_by : (v : Verdict) → IsVerdict model f g is.first is.second v c.renderings → HasSeparatingArguments v
       → HaveSameTypes model f g
   types_by Same h gives = absurd gives
   types_by (Types index) h gives = absurd gives
@@ -26,9 +26,9 @@ module _ (model : Model) (f g : Text) (c : Comparison) (is : IsComparisonOf mode
   }
 
   -- two formats for which arguments are given have the same types, and aren't equivalent
-  pub may_want_memory : GivesArguments c.verdict → HindersComparison model f g Memory
+  pub may_want_memory : HasSeparatingArguments c.verdict → FaultForCompare model f g Memory
   may_want_memory gives =
-      (types_by c.verdict is.verdict gives, λ e. subst GivesArguments (is.same.1 e) gives)
+      (types_by c.verdict is.verdict gives, λ e. subst HasSeparatingArguments (is.same.1 e) gives)
 
 -- a comparison that was made is answered, unless there is no memory for the words
 pub made : (model : Model) (f g out : Text) (answer : CComparison) (error : CError) (code : ℤ) (out_now : Text)
@@ -54,7 +54,7 @@ made model f g out answer error code out_now answer_now c is gives = elim gives 
 
 -- a comparison that was not_compared leaves all but the error as it is
 pub not_compared : (model : Model) (f g out : Text) (answer : CComparison) (error error_now : CError) (code : ℤ)
-    (fault : CompareFault) → HindersComparison model f g fault → IsFaultCode fault error code error_now
+    (fault : CompareFault) → FaultForCompare model f g fault → IsFaultCode fault error code error_now
     → PutsNoComparison model f g out answer error code out answer error_now
 not_compared model f g out answer error error_now code (Refused sides.First refusal) h t = record {
   out_is = refl;

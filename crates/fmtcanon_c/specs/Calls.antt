@@ -8,10 +8,10 @@ use Rattle.pf_values.specs.meaning.Items.{IsAccepted}
 use Rattle.pf_values.specs.meaning.Printing.{AreEquivalent}
 use Rattle.pf_values.specs.meaning.Text.{Text}
 use Rattle.pf_text.specs.Signatures.{TakesManyArguments, TakesTypes}
-use Rattle.pf_canon.specs.Answers.{HindersCanonical, IsCanonicalFor}
+use Rattle.pf_canon.specs.Answers.{FaultForCanonical, IsCanonicalFor}
 use Rattle.pf_canon.specs.declared.faults.CanonFault.TheVariants as canon_faults
 use Rattle.pf_canon.specs.declared.faults.Side.TheVariants.{First, Second}
-use Rattle.pf_compare.specs.Answers.{HindersComparison, IsComparisonOf}
+use Rattle.pf_compare.specs.Answers.{FaultForCompare, IsComparisonOf}
 use Rattle.pf_compare.specs.declared.comparisons.CompareFault.{CompareFault}
 use Rattle.pf_compare.specs.declared.comparisons.CompareFault.TheVariants as compare_faults
 use Rattle.pf_compare.specs.declared.comparisons.Comparison.{Comparison}
@@ -83,7 +83,7 @@ abbrev pub PutsCanonical : Model → Text → Text → CError → ℤ → Text �
 PutsCanonical model t out error code out_now error_now =
     ((c : Text) × IsCanonicalFor model t c × (code ≡ pos (length c))
     × (out_now ≡ put (c ++ 0 ∷ []) out) × (error_now ≡ error))
-    ⊎ PutsNothing t (HindersCanonical model t canon_faults.Memory) out error code out_now error_now
+    ⊎ PutsNothing t (FaultForCanonical model t canon_faults.Memory) out error code out_now error_now
 
 -- a length as an answer; no memory holds a text with 2^63 bytes
 abbrev pub IsLengthCode : ℕ → ℤ → Type 0
@@ -110,10 +110,10 @@ words_of (Types index) = []
 words_of (Args args) = ended_words args.items
 
 -- a verdict that gives arguments
-abbrev pub GivesArguments : Verdict → Type 0
-GivesArguments Same = ⊥
-GivesArguments (Types index) = ⊥
-GivesArguments (Args args) = ⊤
+abbrev pub HasSeparatingArguments : Verdict → Type 0
+HasSeparatingArguments Same = ⊥
+HasSeparatingArguments (Types index) = ⊥
+HasSeparatingArguments (Args args) = ⊤
 
 -- the code of a verdict
 abbrev pub verdict_code : Verdict → ℕ
@@ -150,14 +150,14 @@ pub record PutsNoComparison (model : Model) (f g out : Text) (answer : CComparis
   pub out_is : out_now ≡ out
   pub answer_is : answer_now ≡ answer
   pub why : IsOneRefusedBy f g code error_now
-      ⊎ IsOut (HindersComparison model f g compare_faults.Memory) code error error_now
+      ⊎ IsOut (FaultForCompare model f g compare_faults.Memory) code error error_now
 
 -- the answer of a comparison that was made
 abbrev pub AnswersVerdict : Comparison → Text → CComparison → ℤ → Text → CComparison → Type 0
 AnswersVerdict comparison out answer code out_now answer_now =
     (IsComparisonCode comparison answer_now × (code ≡ pos (length (words_of comparison.verdict)))
     × (out_now ≡ put (words_of comparison.verdict) out))
-    ⊎ (GivesArguments comparison.verdict × (out_now ≡ out) × (answer_now ≡ answer)
+    ⊎ (HasSeparatingArguments comparison.verdict × (out_now ≡ out) × (answer_now ≡ answer)
     × (code ≡ NO_MEMORY))
 
 -- the answer of one that wasn't

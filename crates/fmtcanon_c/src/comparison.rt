@@ -3,7 +3,7 @@ ghost use Rattle.std.specs.Prelude.{◌≡◌, MatchResult, ◌⊎◌, IfOk};
 ghost use Rattle.pf_values.specs.declared.models.TheConstants.Model.{ALL};
 ghost use Rattle.pf_values.specs.meaning.Items.{IsAccepted};
 ghost use Rattle.pf_canon.specs.Comparison.{TextStops};
-ghost use Rattle.fmtcanon_c.specs.Calls.{AreSameModels, AnswersModels, AnswersSame, PutsComparison, PutsNoComparison, AnswersVerdict, IsFaultCode, IsComparisonCode, verdict_code, verdict_number, words_of, GivesArguments};
+ghost use Rattle.fmtcanon_c.specs.Calls.{AreSameModels, AnswersModels, AnswersSame, PutsComparison, PutsNoComparison, AnswersVerdict, IsFaultCode, IsComparisonCode, verdict_code, verdict_number, words_of, HasSeparatingArguments};
 ghost use Rattle.fmtcanon_c.specs.Models.{InModel};
 ghost use Rattle.fmtcanon_c.specs.Words.{ended_words};
 
@@ -175,7 +175,7 @@ fn verdict_numbers(verdict: &Verdict) -> (u32, u64)
 /// The words of the arguments that a verdict gives, each with a zero after it.
 pub(crate) fn words_of(alloc: Global, verdict: &Verdict) -> Result<Vec<u8>, AllocError>
     ensures { MatchResult result (λ out. out.items ≡ words_of verdict.now)
-        (λ _. GivesArguments verdict.now) }
+        (λ _. HasSeparatingArguments verdict.now) }
 {
     match verdict {
         Verdict::Same => Ok(Vec::new(alloc)),

@@ -8,7 +8,7 @@ use Rattle.pf_values.specs.declared.models.Model.{Model}
 use Rattle.pf_values.specs.Counting.{Known}
 use Rattle.pf_values.specs.meaning.Items.{Item}
 use Rattle.pf_values.specs.meaning.Text.{Text}
-use Rattle.pf_text.specs.declared.refusal.Refusal.{Refusal}
+use Rattle.pf_text.specs.declared.scanner.Refusal.{Refusal}
 use Rattle.pf_canon.specs.declared.faults.StreamFault.{StreamFault}
 use Rattle.pf_canon.specs.declared.faults.StreamFault.TheVariants as faults
 use Rattle.pf_canon.specs.declared.output.Output.{Output}
@@ -82,11 +82,11 @@ in_time model true r pending rest start left taken given byte e h going = record
   lean = h.lean (λ none. let both : byte ∷ rest ≡ [] = sym e ∙ none in cc);
 }
 
-abbrev pub GivesByte : Model → Bool → Transducer → Text → Known → Known → Text → ℕ → Text → Type 0
-GivesByte model is_open r rest start left given byte taken = HistoryOf model is_open r rest start left taken (given ++ byte ∷ []) × IsReadFor model taken given × (is_open ≡ true → IsInTime model taken given byte)
+abbrev pub GivenByte : Model → Bool → Transducer → Text → Known → Known → Text → ℕ → Text → Type 0
+GivenByte model is_open r rest start left given byte taken = HistoryOf model is_open r rest start left taken (given ++ byte ∷ []) × IsReadFor model taken given × (is_open ≡ true → IsInTime model taken given byte)
 
 -- a byte that waits is given
-pub gives : (model : Model) (is_open : Bool) (r : Transducer) (pending rest : Text) (start left : Known) (taken given : Text) (byte : ℕ) → pending ≡ byte ∷ rest → HistoryOf model is_open r pending start left taken given → GivesByte model is_open r rest start left given byte taken
+pub gives : (model : Model) (is_open : Bool) (r : Transducer) (pending rest : Text) (start left : Known) (taken given : Text) (byte : ℕ) → pending ≡ byte ∷ rest → HistoryOf model is_open r pending start left taken given → GivenByte model is_open r rest start left given byte taken
 gives model is_open r pending rest start left taken given byte e h = (
   given_more model is_open r pending (byte ∷ []) rest start left taken given e h,
   read_in model is_open r pending start left taken given h,

@@ -15,7 +15,7 @@ use Rattle.pf_canon.specs.declared.chunk.Chunk.{Chunk}
 use Rattle.pf_canon.specs.declared.chunk.ChunkRefusal.{ChunkRefusal}
 use Rattle.pf_canon.specs.declared.transducer.Transducer.{Transducer}
 use Rattle.pf_canon.specs.declared.faults.CanonFault.TheVariants.{Memory}
-use Rattle.pf_canon.specs.Answers.{HindersCanonical, IsCanonicalFor, most_len}
+use Rattle.pf_canon.specs.Answers.{FaultForCanonical, IsCanonicalFor, most_len}
 use Rattle.pf_canon.specs.Output.{output_text}
 use Rattle.pf_canon.specs.Transducer.{SettlesEnd, GrowsByChunk, IsThrough, IsUpTo, RefusesChunk, chunk_output_text, TakesVerbatim}
 
@@ -92,5 +92,5 @@ pub in_its_own : (model : Model) (r : Transducer) (t out : Text) (items : List I
 in_its_own model r t out items h = subst (λ m. IsThrough m r t items out) (sym h.model_is) h
 
 -- there may be no memory for a text of some bytes
-pub hindered : (model : Model) (t c : Text) → IsCanonicalFor model t c → 0 < length c → HindersCanonical model t Memory
+pub hindered : (model : Model) (t c : Text) → IsCanonicalFor model t c → 0 < length c → FaultForCanonical model t Memory
 hindered model t c h some = (c, h, λ none. absurd (omega (arith, some, ap length none)))

@@ -1,6 +1,6 @@
 -- Two formats that differ in one directive alone.
 use Rattle.std.proofs.Common.{◌≡◌, ◌≢◌, ℕ, zero, suc, ◌+◌, List, [], ◌∷◌, ◌++◌, length, refl, sym, ap, ◌∙◌, subst, arith, Some, None, Option, Ok, Result, inl, inr}
-use Rattle.std.specs.Prelude.{slice_get, slice_set, IfSome}
+use Rattle.std.specs.Prelude.{slice_get, slice_set}
 use Rattle.std.proofs.lemmas.Bool.{cases_lt}
 use Rattle.std.proofs.lemmas.List.{append_assoc, append_cancel_left, append_cancel_right, length-append}
 use Rattle.pf_values.specs.declared.models.Model.{Model}
@@ -17,8 +17,8 @@ use Rattle.pf_values.proofs.PrintsOnce.{Prints-unique, printed-is, printed_text}
 use Rattle.pf_probes.proofs.Probes.{probe_typed}
 use Rattle.pf_text.specs.declared.pieces.Piece.{Piece}
 use Rattle.pf_text.specs.declared.pieces.Pieces.{Pieces}
-use Rattle.pf_text.specs.declared.refusal.Refusal.{Refusal}
-use Rattle.pf_text.specs.PieceHistory.{Gives, GivesNext, GivesPiece, HasGiven, items_of}
+use Rattle.pf_text.specs.declared.scanner.Refusal.{Refusal}
+use Rattle.pf_text.specs.PieceHistory.{NextReturns, NextIs, NextIsPiece, HasGiven, items_of}
 use Rattle.pf_text.proofs.Texts.{Reads-unique}
 use Rattle.pf_compare.specs.declared.differences.LoneDifference.{LoneDifference}
 use Rattle.pf_compare.specs.declared.owned_args.OwnedArg.{OwnedArg}
@@ -43,10 +43,10 @@ same_more xs ys (Some difference) more h = record {
   index_is = h.index_is;
 }
 
-pub followed_more : (old new : Pieces) (t : Text) (xs more : List Item) (found after : Option LoneDifference) (next : Result Piece Refusal) (piece : Piece) → HasFollowed old t xs found → Gives old (Some next) new → next ≡ Ok piece
+pub followed_more : (old new : Pieces) (t : Text) (xs more : List Item) (found after : Option LoneDifference) (next : Result Piece Refusal) (piece : Piece) → HasFollowed old t xs found → NextReturns old (Some next) new → next ≡ Ok piece
     → ((ys : List Item) → DifferInOneAtMost xs ys found → DifferInOneAtMost (xs ++ more) (ys ++ items_of piece) after) → HasFollowed new t (xs ++ more) after
 followed_more old new t xs more found after next piece h steps e made =
-    let g : GivesPiece new t h.read h.items piece = subst (λ r. GivesNext (Some r) new t h.read h.items) e (steps.next t h.read h.items h.given) in
+    let g : NextIsPiece new t h.read h.items piece = subst (λ r. NextIs (Some r) new t h.read h.items) e (steps.next t h.read h.items h.given) in
     record { read = h.read ++ g.more; items = h.items ++ items_of piece; given = g.given; at_most = made h.items h.at_most }
 
 pub index_more : (xs more : List Item) (index count : ℕ) → IsIndexAfter xs index → ((model : Model) → count ≡ length (types model more)) → IsIndexAfter (xs ++ more) (index + count)
@@ -273,11 +273,11 @@ pub record AreAlong (first second : Pieces) (f g : Text) (index : ℕ) (found : 
 
 module _ (first new : Pieces) (second later : Pieces) (f g : Text) (index : ℕ) (found : Option LoneDifference) (h : AreAlong first second f g index found) where
   -- one piece more of both
-  pub along_more : (next : Result Piece Refusal) (piece : Piece) (count : ℕ) (after : Option LoneDifference) → Gives first (Some next) new → next ≡ Ok piece
+  pub along_more : (next : Result Piece Refusal) (piece : Piece) (count : ℕ) (after : Option LoneDifference) → NextReturns first (Some next) new → next ≡ Ok piece
       → ((t : Text) (xs : List Item) → HasFollowed second t xs found → IsIndexAfter xs index → HasFollowed later t (xs ++ items_of piece) after) → ((model : Model) → count ≡ length (types model (items_of piece)))
       → AreAlong new later f g (index + count) after
   along_more next piece count after steps e made counted =
-      let given : GivesPiece new f h.read h.items piece = subst (λ r. GivesNext (Some r) new f h.read h.items) e (steps.next f h.read h.items h.given) in
+      let given : NextIsPiece new f h.read h.items piece = subst (λ r. NextIs (Some r) new f h.read h.items) e (steps.next f h.read h.items h.given) in
       record {
         read = h.read ++ given.more;
         items = h.items ++ items_of piece;
@@ -287,7 +287,7 @@ module _ (first new : Pieces) (second later : Pieces) (f g : Text) (index : ℕ)
       }
 
 -- the end of both
-pub along_whole : (first new second later : Pieces) (f g : Text) (index : ℕ) (found : Option LoneDifference) → AreAlong first second f g index found → Gives first None new → Gives second None later → DifferInItems f g (item_difference_of found)
+pub along_whole : (first new second later : Pieces) (f g : Text) (index : ℕ) (found : Option LoneDifference) → AreAlong first second f g index found → NextReturns first None new → NextReturns second None later → DifferInItems f g (item_difference_of found)
 along_whole first new second later f g index found h steps ends = said found (record {
   xs = h.items;
   ys = h.followed.items;

@@ -40,7 +40,7 @@ use Rattle.pf_compare.specs.declared.outlines.Outline.{Outline}
 use Rattle.pf_compare.specs.declared.outlines.CountedValue.{CountedValue}
 use Rattle.pf_compare.specs.declared.outlines.Value.{Value}
 use Rattle.pf_compare.specs.Outlines.{DoLieApart, DoTextsDiffer, HasOutlineText, HasSignAndSize, IsCountedValueOf, IsOfValue, IsOutlineOf, IsUnderKind, Lacks, between_spaces, body_len, kind_digits, outline_body, outline_len, outline_text, sign_or_prefix_text, with_prefix_and_zeros}
-use Rattle.pf_compare.proofs.DigitLemmas.{differ_behind_zeros, kind_above_one, number_lacks_space, prefix_unlike_zeros, same_front}
+use Rattle.pf_compare.proofs.DigitLemmas.{differ_behind_zeros, kind_above_one, number_lacks_space, prefix_unlike_zeros}
 use Rattle.pf_compare.proofs.FieldLemmas.{differ_between, differ_in_length, length_between, told_apart}
 
 -- how many digits are printed
@@ -161,11 +161,6 @@ module _ (j k : Kind) (x y : Outline) (h : IsUnderKind j x) (g : IsUnderKind k y
       ap (λ p. with_prefix_and_zeros p x.digits (kind_digits j x.size)) same
       ∙ ap (λ n. with_prefix_and_zeros (sign_or_prefix_text y.prefix) n (kind_digits j x.size)) digits
       ∙ ap (with_prefix_and_zeros (sign_or_prefix_text y.prefix) y.digits) alike
-
-  -- two prefixes of one length that differ
-  pub bodies_of_prefixes : sign_or_prefix_text x.prefix ≢ sign_or_prefix_text y.prefix → length (sign_or_prefix_text x.prefix) ≡ length (sign_or_prefix_text y.prefix)
-      → outline_body x (kind_digits j x.size) ≢ outline_body y (kind_digits k y.size)
-  bodies_of_prefixes other e = λ same. other (same_front (sign_or_prefix_text x.prefix) (sign_or_prefix_text y.prefix) _ _ e same)
 
   pub bodies_of_zeros : sign_or_prefix_text x.prefix ≢ sign_or_prefix_text y.prefix → (sign_or_prefix_text y.prefix ≡ []) × (length (sign_or_prefix_text x.prefix) ≤ y.digits - y.count)
       → outline_body x (kind_digits j x.size) ≢ outline_body y (kind_digits k y.size)

@@ -11,13 +11,13 @@ use Rattle.pf_values.specs.meaning.Text.{Text}
 use Rattle.pf_values.proofs.ItemTypes.{types-append}
 use Rattle.pf_text.specs.declared.pieces.Piece.{Piece}
 use Rattle.pf_text.specs.declared.pieces.Pieces.{Pieces}
-use Rattle.pf_text.specs.declared.refusal.Refusal.{Refusal}
+use Rattle.pf_text.specs.declared.scanner.Refusal.{Refusal}
 use Rattle.pf_text.specs.declared.scanner.Step.{Step}
 use Rattle.pf_text.specs.declared.scanner.Step.TheVariants as steps
 use Rattle.pf_text.specs.Stages.{State}
 use Rattle.pf_text.specs.Stages.{Between}
 use Rattle.pf_text.specs.History.{with_step}
-use Rattle.pf_text.specs.PieceHistory.{Gives, items_of}
+use Rattle.pf_text.specs.PieceHistory.{NextReturns, items_of}
 use Rattle.pf_text.specs.Signatures.{TakesTypes}
 use Rattle.pf_text.specs.States.{Next, next}
 use Rattle.pf_text.proofs.Complete.{On}
@@ -75,7 +75,7 @@ found_as model pieces t done h = record { read = h.read; items = h.items; given 
 
 -- one piece more
 module _ (model : Model) (old new : Pieces) (t : Text) (done : List ArgType) (h : HasGivenTypes model old t done) where
-  module _ (given : Result Piece Refusal) (steps : Gives old (Some given) new) where
+  module _ (given : Result Piece Refusal) (steps : NextReturns old (Some given) new) where
     pub taken_more : (piece : Piece) (more : List ArgType) → given ≡ Ok piece → more ≡ types model (items_of piece) → HasGivenTypes model new t (done ++ more)
     taken_more piece more e same = taken_as model new t (done ++ more) (more_found model old new t done (found_as model old t done h) given steps piece more e same)
 
@@ -85,7 +85,7 @@ module _ (model : Model) (old new : Pieces) (t : Text) (done : List ArgType) (h 
     pub not_refused : IsAccepted t → (refusal : Refusal) → given ≡ Err refusal → ⊥
     not_refused accepted refusal e = (refused model old new t done (found_as model old t done h) given steps refusal e).refused.not_accepted accepted
 
-  pub taken_all : Gives old None new → TakesTypes model t done
+  pub taken_all : NextReturns old None new → TakesTypes model t done
   taken_all steps = all_found model old new t done (found_as model old t done h) steps
 
 -- both have taken the same types so far

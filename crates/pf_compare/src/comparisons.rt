@@ -5,7 +5,7 @@ ghost use Rattle.pf_values.specs.meaning.DataModel.{arg_type};
 ghost use Rattle.pf_values.specs.meaning.Text.{Text};
 ghost use Rattle.pf_canon.specs.Comparison.{AreTextsSame};
 ghost use Rattle.pf_render.specs.Rendering.{Renders};
-ghost use Rattle.pf_compare.specs.Answers.{AreUnlike, HaveSameTypes, HindersComparison, IsComparisonOf, PrintsSome, TellApart};
+ghost use Rattle.pf_compare.specs.Answers.{AreUnlike, HaveSameTypes, FaultForCompare, IsComparisonOf, PrintsSome, TellApart};
 ghost use Rattle.pf_compare.specs.Lone.{AreToldApartAt, FormatsDifferInOne, FormatsDifferInOneAtMost};
 ghost use Rattle.pf_compare.specs.declared.comparisons.CompareFault.TheVariants.{Memory};
 ghost use Rattle.pf_compare.specs.declared.comparisons.Verdict.TheVariants.{Same};
@@ -33,7 +33,7 @@ use thiserror::Error;
 /// both are accepted, have the same types, and are not equivalent.
 pub fn compare(alloc: Global, model: Model, f: &[u8], g: &[u8]) -> Result<Comparison, CompareFault>
     ensures { MatchResult result (IsComparisonOf model f.now g.now)
-        (HindersComparison model f.now g.now) }
+        (FaultForCompare model f.now g.now) }
 {
     if are_unlike(f, g) {
         return compare_unlike(alloc, model, f, g);
@@ -51,7 +51,7 @@ fn compare_unlike(
     g: &[u8],
 ) -> Result<Comparison, CompareFault>
     ensures { MatchResult result (IsComparisonOf model f.now g.now)
-        (HindersComparison model f.now g.now) }
+        (FaultForCompare model f.now g.now) }
 {
     match item_difference(f, g) {
         ItemDifference::Nowhere => Ok(compare_equal_items(model, f, g)),
@@ -72,7 +72,7 @@ fn compare_equal_items(model: Model, f: &[u8], g: &[u8]) -> Comparison
 // Compares two formats that may differ anywhere, or nowhere.
 fn compare_any(alloc: Global, model: Model, f: &[u8], g: &[u8]) -> Result<Comparison, CompareFault>
     ensures { MatchResult result (IsComparisonOf model f.now g.now)
-        (HindersComparison model f.now g.now) }
+        (FaultForCompare model f.now g.now) }
 {
     match are_equivalent(model, f, g) {
         Ok(true) => Ok(same_comparison()),
@@ -83,7 +83,7 @@ fn compare_any(alloc: Global, model: Model, f: &[u8], g: &[u8]) -> Result<Compar
 
 fn are_equivalent(model: Model, f: &[u8], g: &[u8]) -> Result<bool, CompareFault>
     ensures { MatchResult result (AreTextsSame model f.now g.now)
-        (HindersComparison model f.now g.now) }
+        (FaultForCompare model f.now g.now) }
 {
     match same_text(model, f, g) {
         Ok(same) => Ok(same),
@@ -101,7 +101,7 @@ fn compare_apart(
 ) -> Result<Comparison, CompareFault>
     requires { AreTextsSame model f.now g.now false }
     ensures { MatchResult result (IsComparisonOf model f.now g.now)
-        (HindersComparison model f.now g.now) }
+        (FaultForCompare model f.now g.now) }
 {
     if let Some(index) = first_type_difference(model, f, g) {
         return Ok(Comparison {
@@ -122,7 +122,7 @@ fn compare_lone(
 ) -> Result<Comparison, CompareFault>
     requires { FormatsDifferInOne f.now g.now difference.now }
     ensures { MatchResult result (IsComparisonOf model f.now g.now)
-        (HindersComparison model f.now g.now) }
+        (FaultForCompare model f.now g.now) }
 {
     if have_different_types(model, &difference.first, &difference.second) {
         return Ok(Comparison {
@@ -178,7 +178,7 @@ fn compare_unforeseen(
     requires lone { FormatsDifferInOne f.now g.now difference.now }
     requires types { arg_type model difference.now.first ≡ arg_type model difference.now.second }
     ensures { MatchResult result (IsComparisonOf model f.now g.now)
-        (HindersComparison model f.now g.now) }
+        (FaultForCompare model f.now g.now) }
 {
     if print_alike(model, &difference.first, &difference.second) {
         one_canonical_text(model, f);

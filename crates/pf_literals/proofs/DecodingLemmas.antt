@@ -5,7 +5,7 @@ use Rattle.pf_literals.specs.declared.cursor.Cursor.{Cursor}
 use Rattle.pf_literals.specs.declared.faults.LiteralFault.{LiteralFault}
 use Rattle.pf_literals.specs.declared.faults.LiteralFault.TheVariants.{Refused, Memory}
 use Rattle.pf_literals.specs.declared.faults.LiteralKind.{LiteralKind}
-use Rattle.pf_literals.specs.Answers.{HindersDecoding}
+use Rattle.pf_literals.specs.Answers.{FaultForDecode}
 use Rattle.pf_literals.specs.Elements.{Bytes}
 use Rattle.pf_literals.specs.Faults.{IsFaultAt}
 use Rattle.pf_literals.specs.Readings.{Fault, SourceReading, Whole, prefixed, source_reading}
@@ -36,7 +36,7 @@ some_bytes out more rest some e =
 
 -- memory wants for a part
 pub hindered : (t : Bytes) (out places more others : List ℕ) (old : SourceReading) (cursor : Cursor) (fault : LiteralFault) → source_reading t ≡ prefixed out places old
-    → old ≡ prefixed more others (reading_left t cursor) → 0 < length more → IsDecodingFault t cursor fault → HindersDecoding t fault
+    → old ≡ prefixed more others (reading_left t cursor) → 0 < length more → IsDecodingFault t cursor fault → FaultForDecode t fault
 hindered t out places more others old cursor (Refused refusal) so_far e some stop =
     refused t (out ++ more) (places ++ others) (reading_left t cursor) (moved t out places old so_far more others (reading_left t cursor) e) refusal.kind refusal.at stop
 hindered t out places more others old cursor Memory so_far e some (bytes, found, close, stop) = (

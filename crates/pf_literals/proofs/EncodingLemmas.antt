@@ -3,12 +3,10 @@ use Rattle.std.proofs.Common.{◌≡◌, ℕ, ◌+◌, ◌<◌, ◌≤◌, Bool,
 use Rattle.std.specs.Prelude.{◌==◌, None}
 use Rattle.std.proofs.lemmas.Bool.{and_right}
 use Rattle.std.proofs.lemmas.Bool.Decides.{nat_tests}
-use Rattle.std.proofs.lemmas.List.{drop-drop, length-take-le, take-append-drop}
-use Rattle.pf_literals.specs.declared.encoded_parts.EncodedPart.{EncodedPart}
+use Rattle.std.proofs.lemmas.List.{length-take-le, take-append-drop}
 use Rattle.pf_literals.specs.Elements.{Bytes, Plain, quote, written}
 use Rattle.pf_literals.specs.Encoding.{element_for, encoding, is_printed, simple_letter, spelled}
 use Rattle.pf_literals.specs.Verbatim.{IsVerbatim, is_special}
-use Rattle.pf_literals.specs.Spellings.{IsEncodedPartOf, ends_in_question, encoded_part_text, source_len}
 
 -- a byte of a run is written as itself
 plain_tests : (byte : ℕ) → is_special byte ≡ false → (simple_letter byte ≡ None) × (is_printed byte ≡ true) × ((byte == 63) ≡ false)
@@ -40,14 +38,6 @@ spelled-part after t len few verbatim some =
     ap (spelled after) (sym (take-append-drop len t))
     ∙ spelled-some after (take len t) (drop len t) verbatim (omega (arith, long, some))
     ∙ ap (λ n. take len t ++ spelled false (drop n t)) (sym long)
-
--- what is written of a text, a front further
-module _ (t : Bytes) (at : ℕ) (after : Bool) (part : EncodedPart) (is : IsEncodedPartOf after (drop at t) part) where
-  next : Bytes
-  next = drop (at + source_len part) t
-
-  pub written_there : spelled after (drop at t) ≡ encoded_part_text part ++ spelled (ends_in_question part) (drop (at + source_len part) t)
-  written_there = is.text ∙ ap (λ r. encoded_part_text part ++ spelled (ends_in_question part) r) (drop-drop (source_len part) at t)
 
 -- a run at the front, and what is behind it
 pub encoded_verbatim : (t : Bytes) (verbatim : ℕ) → verbatim ≤ length t → IsVerbatim (take verbatim t) → spelled false t ≡ take verbatim t ++ spelled false (drop verbatim t)

@@ -213,9 +213,6 @@ goes_on_by : (t more : Bytes) (literals : List StringLiteral) → IsSource (t ++
 goes_on_by t more literals s = (more, literal_bytes literals, (literals, s, refl))
 
 module _ (t front : Bytes) (literals : List StringLiteral) (clear : AreWhite front) (each : AllByRecursion IsStringLiteral literals) where
-  front_text : Bytes
-  front_text = front ++ flat_map literal_text literals
-
   close_bare : t ≡ front ++ [] → literals ≡ [] → CanGoOn t
   close_bare e none = goes_on_by t (quote ∷ quote ∷ []) ([] ++ (record { elements = []; behind = [] }) ∷ [])
       (closes (t ++ (quote ∷ quote ∷ [])) front [] [] clear tt tt (ap (λ r. r ++ (quote ∷ quote ∷ [])) e))

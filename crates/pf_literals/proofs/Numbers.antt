@@ -1,9 +1,8 @@
 -- Digits of numeric escape sequences, and what the code makes of them.
-use Rattle.std.proofs.Common.{◌≡◌, ◌≢◌, ℕ, suc, ◌+◌, ◌*◌, ◌<◌, ◌≤◌, true, false, [], ◌∷◌, ◌++◌, length, drop, get_or, refl, sym, ap, ◌∙◌, arith, inl, inr}
+use Rattle.std.proofs.Common.{◌≡◌, ◌≢◌, ℕ, suc, ◌+◌, ◌*◌, ◌<◌, ◌≤◌, true, false, [], ◌∷◌, ◌++◌, length, drop, refl, sym, ap, ◌∙◌, arith, inl, inr}
 use Rattle.std.specs.Prelude.{◌==◌, not, nat_lt}
 use Rattle.std.specs.List.{AllByRecursion}
 use Rattle.std.proofs.lemmas.Bool.{and_from, and_left, and_right, cases_lt, not_from_false, not_from_true}
-use Rattle.std.proofs.lemmas.List.{drop_more}
 use Rattle.std.proofs.lemmas.Bool.Decides.{nat_tests}
 use Rattle.pf_literals.specs.declared.faults.LiteralKind.TheVariants.{EscapeTooLarge}
 use Rattle.pf_literals.specs.declared.notations.Notation.{Notation}
@@ -106,14 +105,3 @@ module _ (notation : Notation) where
       go : (rest : Bytes) → numeric_token notation count number rest ≡ finished_numeric notation count number
       go [] = end_full count number full
       go (byte ∷ rest) = numeric_token-off (byte ∷ rest) count number (and_left (not (is_full notation count)) (is_escape_digit notation byte) (not_from_true _ full)) (cons_some byte rest)
-
-    module _ (less : count < length text) where
-      next_is : numeric_token notation 0 0 text ≡ numeric_token notation count number (get_or text count 0 ∷ drop (count + 1) text)
-      next_is = so_far ∙ ap (numeric_token notation count number) (drop_more text count 0 less)
-
-      module _ (room : is_full notation count ≡ false) (digit : is_escape_digit notation (get_or text count 0) ≡ true) where
-        pub stops_large : 255 < base notation * number + digit_value (get_or text count 0) → numeric_token notation 0 0 text ≡ Invalid EscapeTooLarge 0
-        stops_large many =
-            let on = goes count (get_or text count 0) (drop (count + 1) text) room digit in
-            let over = large (base notation * number + digit_value (get_or text count 0)) many in
-            next_is ∙ rw (on, over) refl

@@ -7,9 +7,9 @@ use Rattle.pf_literals.specs.Faults.{IsFaultAt}
 use Rattle.pf_literals.specs.Sources.{HasPlaces, IsSourceOf}
 
 -- why there are no bytes: memory may want only where the text is a source, and of some bytes
-abbrev pub HindersDecoding : Bytes → LiteralFault → Type 0
-HindersDecoding t (Refused refusal) = IsFaultAt t refusal.kind refusal.at
-HindersDecoding t Memory = (bytes : Bytes) × IsSourceOf t bytes × (bytes ≢ [])
+abbrev pub FaultForDecode : Bytes → LiteralFault → Type 0
+FaultForDecode t (Refused refusal) = IsFaultAt t refusal.kind refusal.at
+FaultForDecode t Memory = (bytes : Bytes) × IsSourceOf t bytes × (bytes ≢ [])
 
 -- the place of a byte of a source; behind its bytes, that of the last closing quote
 abbrev pub IsPlaceOf : Bytes → ℕ → ℕ → Type 0

@@ -1,6 +1,6 @@
 //! The bytes of a source of string literals.
 ghost use Rattle.std.specs.Prelude.{◌≡◌, ◌++◌, [], IfOk, MatchResult};
-ghost use Rattle.pf_literals.specs.Answers.{HindersDecoding};
+ghost use Rattle.pf_literals.specs.Answers.{FaultForDecode};
 ghost use Rattle.pf_literals.specs.Sources.{IsSourceOf};
 ghost use Rattle.pf_literals.specs.Walks.{IsDecodingFault, part_bytes};
 
@@ -16,7 +16,7 @@ mod tests;
 /// taken where there are no bytes.
 pub fn decode(alloc: Global, source: &[u8]) -> Result<Vec<u8>, LiteralFault>
     ensures { MatchResult result
-        (λ v. IsSourceOf source.now v.items) (HindersDecoding source.now) }
+        (λ v. IsSourceOf source.now v.items) (FaultForDecode source.now) }
 {
     decode_in(alloc, source)
 }
@@ -24,7 +24,7 @@ pub fn decode(alloc: Global, source: &[u8]) -> Result<Vec<u8>, LiteralFault>
 // The same, on any allocator.
 pub(crate) fn decode_in<A: Allocator>(alloc: A, source: &[u8]) -> Result<Vec<u8, A>, LiteralFault>
     ensures { MatchResult result
-        (λ v. IsSourceOf source.now v.items) (HindersDecoding source.now) }
+        (λ v. IsSourceOf source.now v.items) (FaultForDecode source.now) }
 {
     let mut out = Vec::new(alloc);
     append_all(source, &mut out)?;
@@ -35,7 +35,7 @@ pub(crate) fn decode_in<A: Allocator>(alloc: A, source: &[u8]) -> Result<Vec<u8,
 fn append_all<A: Allocator>(source: &[u8], out: &mut Vec<u8, A>) -> Result<(), LiteralFault>
     requires { out.old.items ≡ [] }
     ensures { MatchResult result
-        (λ _. IsSourceOf source.now out.new.items) (HindersDecoding source.now) }
+        (λ _. IsSourceOf source.now out.new.items) (FaultForDecode source.now) }
 {
     let mut cursor = Cursor::new();
     loop {

@@ -7,11 +7,11 @@ mod normal_directives;
 mod normality;
 mod numbers;
 mod padding;
-mod reducing;
+mod reduction;
 mod results;
 mod signs;
 mod texts;
 
 pub use normality::is_normal;
-pub use reducing::reduce;
+pub use reduction::reduce;
 pub use results::{Core, Normal, Reduced};

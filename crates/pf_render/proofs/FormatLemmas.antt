@@ -2,7 +2,7 @@
 use Rattle.std.proofs.Common.{◌≡◌, ℕ, suc, ◌+◌, ◌*◌, ◌^◌, ◌<◌, ◌≤◌, true, List, [], ◌∷◌, ◌++◌, length, map, drop, sym, ap, ◌∙◌, subst, arith, Some, None, Ok, Err, Result, get_or, drop-cons, refl}
 use Rattle.std.proofs.lemmas.List.{append-nil, append_assoc, append_cancel_left, length-append}
 use Rattle.pf_values.specs.declared.arguments.Arg.{Arg}
-use Rattle.pf_values.specs.declared.counting.Counted.{Counted}
+use Rattle.pf_values.specs.declared.counted.Counted.{Counted}
 use Rattle.pf_values.specs.declared.models.Model.{Model}
 use Rattle.pf_values.specs.meaning.Arguments.{HasTypes}
 use Rattle.pf_values.specs.Counting.{Known, WritesAll}
@@ -12,8 +12,8 @@ use Rattle.pf_values.specs.meaning.Text.{Text}
 use Rattle.pf_text.specs.declared.pieces.Piece.{Piece}
 use Rattle.pf_text.specs.declared.pieces.Piece.TheVariants as pieces
 use Rattle.pf_text.specs.declared.pieces.Pieces.{Pieces}
-use Rattle.pf_text.specs.declared.refusal.Refusal.{Refusal}
-use Rattle.pf_text.specs.PieceHistory.{Gives, GivesNext, GivesPiece, HasGiven, IsPieceBefore, items_of}
+use Rattle.pf_text.specs.declared.scanner.Refusal.{Refusal}
+use Rattle.pf_text.specs.PieceHistory.{NextReturns, NextIs, NextIsPiece, HasGiven, IsPieceBefore, items_of}
 use Rattle.pf_text.proofs.Texts.{Reads-unique}
 use Rattle.pf_render.specs.declared.piece_cache.PieceCache.{PieceCache}
 use Rattle.pf_render.specs.declared.piece_cache.FormatPart.{FormatPart}
@@ -106,7 +106,7 @@ module _ (model : Model) {W : Type 0} {contents : W → Known} {old : Counted W}
     counts = omega (arith, h.few, length_items h.read h.items h.given.reads, h.given.scanned.limit)
 
     -- what a format prints has been written
-    pub text_written : {new : Pieces} → Gives before None new → RendersTo model t args (λ out. WritesAll contents old now out)
+    pub text_written : {new : Pieces} → NextReturns before None new → RendersTo model t args (λ out. WritesAll contents old now out)
     text_written steps =
         let end = steps.next t h.read h.items h.given in
         let same : h.items ++ h.others ≡ h.items ++ [] = sym h.whole
@@ -114,17 +114,17 @@ module _ (model : Model) {W : Type 0} {contents : W → Known} {old : Counted W}
         ∙ sym (append-nil h.items) in
         (h.out, h.renders, all_written model h.printing (append_cancel_left h.items h.others [] same))
 
-    module _ {new : Pieces} {r : Result Piece Refusal} (steps : Gives before (Some r) new) where
+    module _ {new : Pieces} {r : Result Piece Refusal} (steps : NextReturns before (Some r) new) where
       -- an accepted text isn't refused
       pub no_refusal : {refusal : Refusal} → r ≡ Err refusal → ⊥
       no_refusal e =
-          let g = subst (λ x. GivesNext (Some x) new t h.read h.items) e (steps.next t h.read h.items h.given) in
+          let g = subst (λ x. NextIs (Some x) new t h.read h.items) e (steps.next t h.read h.items h.given) in
           g.refused.not_accepted (h.renders.takes.items, h.renders.takes.accepted)
 
       -- one more piece was given
       module _ {piece : Piece} (is : r ≡ Ok piece) (part : FormatPart) (same : items_of_part part ≡ items_of piece) where
-        pub piece_given : GivesPiece new t h.read h.items piece
-        piece_given = subst (λ x. GivesNext (Some x) new t h.read h.items) is (steps.next t h.read h.items h.given)
+        pub piece_given : NextIsPiece new t h.read h.items piece
+        piece_given = subst (λ x. NextIs (Some x) new t h.read h.items) is (steps.next t h.read h.items h.given)
 
         pub all_items : Begin (h.items ++ items_of piece) h.renders.takes.items
         all_items = let g = piece_given in front_items (h.read ++ g.more) new.rest.now _ _

@@ -17,8 +17,8 @@ use Rattle.pf_values.specs.meaning.Text.{Text}
 use Rattle.pf_text.specs.declared.pieces.Piece.{Piece}
 use Rattle.pf_text.specs.declared.pieces.Piece.TheVariants as pieces
 use Rattle.pf_text.specs.declared.pieces.Pieces.{Pieces}
-use Rattle.pf_text.specs.declared.refusal.Refusal.{Refusal}
-use Rattle.pf_text.specs.PieceHistory.{Gives, HasGiven, items_of}
+use Rattle.pf_text.specs.declared.scanner.Refusal.{Refusal}
+use Rattle.pf_text.specs.PieceHistory.{NextReturns, HasGiven, items_of}
 use Rattle.pf_values.proofs.ItemTypes.{types-append, types-bytes}
 use Rattle.pf_text.proofs.SignatureLemmas.{HasFound, all_found, more_given}
 use Rattle.pf_text.specs.Signatures as signatures
@@ -175,12 +175,12 @@ module _ (model : Model) {before : Pieces} {t : Text} {args : List Arg} {check :
   pub few_found : length h.types ≤ MAX_TEXT_LEN
   few_found = let found = h.found in omega (arith, ap length found.types_are, length_types model found.items, length_items found.read found.items found.given.reads, found.given.scanned.limit)
 
-  pub all_checked : {new : Pieces} → Gives before None new → signatures.TakesTypes model t h.types × CachesText cache t
+  pub all_checked : {new : Pieces} → NextReturns before None new → signatures.TakesTypes model t h.types × CachesText cache t
   all_checked {new} steps =
       let end = steps.next t h.found.read h.found.items h.found.given in
       (all_found model before new t h.types h.found steps, (h.found.items, end.reads, h.keeps))
 
-  module _ {new : Pieces} {r : Result Piece Refusal} (steps : Gives before (Some r) new) {piece : Piece} (is : r ≡ Ok piece) (after : ArgumentCheck) (more : PieceCache) (keeps : CachesItems more (h.found.items ++ items_of piece)) where
+  module _ {new : Pieces} {r : Result Piece Refusal} (steps : NextReturns before (Some r) new) {piece : Piece} (is : r ≡ Ok piece) (after : ArgumentCheck) (more : PieceCache) (keeps : CachesItems more (h.found.items ++ items_of piece)) where
     piece_checked : (wanted : List ArgType) → wanted ≡ types model (items_of piece) → HasChecked model after args (h.types ++ wanted) → IsChecked model new t args after more
     piece_checked wanted same checked =
         let found = h.found in

@@ -1,8 +1,8 @@
 -- What a call leaves that counts the bytes which it writes. C11 7.21.6.1 p14 has that number; how
 -- many went out before a failure is this project's own.
 use Rattle.std.specs.Prelude.{◌≡◌, ℕ, ◌<◌, length, Result, Ok, Err}
-use Rattle.pf_values.specs.declared.counting.Counted.{Counted}
-use Rattle.pf_values.specs.declared.writing.ShortWrite.{ShortWrite}
+use Rattle.pf_values.specs.declared.counted.Counted.{Counted}
+use Rattle.pf_values.specs.declared.writes.ShortWrite.{ShortWrite}
 use Rattle.pf_values.specs.Counting.{Known, WritesAll, WritesFirst}
 use Rattle.pf_values.specs.meaning.Text.{Text}
 

@@ -1,7 +1,7 @@
 -- What a call leaves that writes one more part of a format. This project's own.
 use Rattle.std.specs.Prelude.{◌≡◌, ℕ, ◌+◌, ◌^◌, ◌<◌, List, length, map, take, drop, Result, Ok, Err}
 use Rattle.pf_values.specs.declared.arguments.Arg.{Arg}
-use Rattle.pf_values.specs.declared.counting.Counted.{Counted}
+use Rattle.pf_values.specs.declared.counted.Counted.{Counted}
 use Rattle.pf_values.specs.declared.models.Model.{Model}
 use Rattle.pf_values.specs.Arg.{argument_of}
 use Rattle.pf_values.specs.meaning.Arguments.{Argument}

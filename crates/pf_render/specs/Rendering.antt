@@ -2,7 +2,7 @@
 use Rattle.std.specs.Prelude.{◌≡◌, ◌≢◌, ℕ, ◌<◌, List, [], length, map, take, slice_get, Some, Result, Ok, Err}
 use Rattle.std.specs.List.{AllZip}
 use Rattle.pf_values.specs.declared.arguments.Arg.{Arg}
-use Rattle.pf_values.specs.declared.counting.Counted.{Counted}
+use Rattle.pf_values.specs.declared.counted.Counted.{Counted}
 use Rattle.pf_values.specs.declared.models.Model.{Model}
 use Rattle.pf_values.specs.declared.types.ArgType.{ArgType}
 use Rattle.pf_values.specs.Arg.{argument_of, type_of}
@@ -62,12 +62,12 @@ pub record HasWrongType (model : Model) (t : Text) (args : List Arg) (index : �
   pub wrong : IsOfType model arg wanted → ⊥
 
 -- why nothing is written
-abbrev pub HindersRender : Model → Text → List Arg → RenderFault → Type 0
-HindersRender model t args (faults.Refused refusal) = IsRefusedAt t refusal.kind refusal.at
-HindersRender model t args (faults.WrongCount wanted given) =
+abbrev pub FaultForRender : Model → Text → List Arg → RenderFault → Type 0
+FaultForRender model t args (faults.Refused refusal) = IsRefusedAt t refusal.kind refusal.at
+FaultForRender model t args (faults.WrongCount wanted given) =
     HasWrongCount model t args wanted given
-HindersRender model t args (faults.WrongType index) = HasWrongType model t args index
-HindersRender model t args (faults.Write written) = ⊥
+FaultForRender model t args (faults.WrongType index) = HasWrongType model t args index
+FaultForRender model t args (faults.Write written) = ⊥
 
 -- what a call leaves in a writer, and answers: all that is printed, nothing, or exactly the first
 -- bytes
@@ -78,7 +78,7 @@ module _ (model : Model) {W : Type 0} (contents : W → Known) (old new : Counte
   StopsWith (faults.Write written) =
       RendersTo model t args (λ out. WritesFirst contents old new out written
       × (written < length out))
-  StopsWith fault = HindersRender model t args fault × (new ≡ old)
+  StopsWith fault = FaultForRender model t args fault × (new ≡ old)
 
   -- what a call leaves and answers: all that is printed went out, or there is a fault
   abbrev pub RendersInto : Result (Unit {0}) RenderFault → Type 0
@@ -86,14 +86,14 @@ module _ (model : Model) {W : Type 0} (contents : W → Known) (old new : Counte
   RendersInto (Err fault) = StopsWith fault
 
 -- the same of a call that gives what is printed; where that is nothing, it takes no memory
-abbrev pub HindersVec : Model → Text → List Arg → RenderVecFault → Type 0
-HindersVec model t args (vec_faults.Refused refusal) =
-    HindersRender model t args (faults.Refused refusal)
-HindersVec model t args (vec_faults.WrongCount wanted given) =
-    HindersRender model t args (faults.WrongCount wanted given)
-HindersVec model t args (vec_faults.WrongType index) =
-    HindersRender model t args (faults.WrongType index)
-HindersVec model t args vec_faults.Memory = RendersTo model t args (λ out. out ≢ [])
+abbrev pub FaultForRenderVec : Model → Text → List Arg → RenderVecFault → Type 0
+FaultForRenderVec model t args (vec_faults.Refused refusal) =
+    FaultForRender model t args (faults.Refused refusal)
+FaultForRenderVec model t args (vec_faults.WrongCount wanted given) =
+    FaultForRender model t args (faults.WrongCount wanted given)
+FaultForRenderVec model t args (vec_faults.WrongType index) =
+    FaultForRender model t args (faults.WrongType index)
+FaultForRenderVec model t args vec_faults.Memory = RendersTo model t args (λ out. out ≢ [])
 
 -- the fault of a call that renders into memory: there a write fails only where a growth is refused
 abbrev pub memory_fault : RenderFault → RenderVecFault

@@ -7,7 +7,7 @@ ghost use Rattle.pf_values.specs.meaning.Text.{Text};
 ghost use Rattle.pf_text.specs.Signatures.{TakesTypes};
 ghost use Rattle.pf_render.specs.Caching.{CachesItems, CachesText};
 ghost use Rattle.pf_render.specs.Matching.{IsOfTypeAt, TakesArguments, HasChecked};
-ghost use Rattle.pf_render.specs.Rendering.{HindersRender, IsOfType};
+ghost use Rattle.pf_render.specs.Rendering.{FaultForRender, IsOfType};
 
 use crate::faults::RenderFault;
 use crate::piece_cache::PieceCache;
@@ -24,7 +24,7 @@ pub(crate) fn check_arguments<'a>(
 ) -> Result<(), RenderFault>
     requires { CachesItems cache.old [] }
     ensures matched { MatchResult result (λ _. TakesArguments model text.now args.now)
-        (HindersRender model text.now args.now) }
+        (FaultForRender model text.now args.now) }
     ensures cache { OnOk result (CachesText cache.new text.now) }
 {
     let mut check = ArgumentCheck {
@@ -91,7 +91,7 @@ impl ArgumentCheck {
         ensures { (model : Model) (t : Text) (args : List Arg) (types : List ArgType)
             → given ≡ length args
             → TakesTypes model t types → HasChecked model self args types
-            → MatchResult result (λ _. TakesArguments model t args) (HindersRender model t args) }
+            → MatchResult result (λ _. TakesArguments model t args) (FaultForRender model t args) }
     {
         if self.wanted != given {
             return Err(RenderFault::WrongCount {

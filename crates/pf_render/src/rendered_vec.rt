@@ -1,6 +1,6 @@
 //! What a format prints, as a vector of bytes.
 ghost use Rattle.std.specs.Prelude.{◌≡◌, MatchResult};
-ghost use Rattle.pf_render.specs.Rendering.{HindersVec, Renders, memory_fault};
+ghost use Rattle.pf_render.specs.Rendering.{FaultForRenderVec, Renders, memory_fault};
 
 use crate::faults::{RenderFault, RenderVecFault};
 use crate::formats::render;
@@ -18,7 +18,7 @@ pub fn render_vec(
     args: &[Arg<'_>],
 ) -> Result<Vec<u8>, RenderVecFault>
     ensures { MatchResult result (λ bytes. Renders model text.now args.now bytes.items)
-        (HindersVec model text.now args.now) }
+        (FaultForRenderVec model text.now args.now) }
 {
     render_vec_in(alloc, model, text, args)
 }
@@ -30,7 +30,7 @@ fn render_vec_in<A: Allocator>(
     args: &[Arg<'_>],
 ) -> Result<Vec<u8, A>, RenderVecFault>
     ensures { MatchResult result (λ bytes. Renders model text.now args.now bytes.items)
-        (HindersVec model text.now args.now) }
+        (FaultForRenderVec model text.now args.now) }
 {
     let mut writer = Counted::new(Vec::new(alloc));
     match render(model, text, args, &mut writer) {

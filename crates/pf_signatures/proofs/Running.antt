@@ -302,12 +302,6 @@ module _ (model : Model) (style : Numbering) (position : Option ℕ) (set : Flag
             ∙ ap (λ f. after_amount model Width (flags_parts position f) byte) (sym h.set_is);
       }
 
-  reached_star : (before text : Text) (number : Option ℕ) → SpellsUpToFlags before position set → SpellsStar text position number → Reached model style Width (before ++ text) wide (fetch number Int ∷ [])
-  reached_star before text number h s =
-      let r = ready_width before h in
-      let st = starred model r.behind Width r.from [] wide r.star text number s in
-      record { behind = st.behind; to = st.to; run_is = run-append model _ before text ∙ ap (λ p. run model p text) r.run_is ∙ st.run_is; later = st.later }
-
 first_later : (model : Model) (style : Numbering) (n byte : ℕ) → Follows style (Some Unnumbered) → IsLater byte → posix_step model style (First n) byte ≡ after_amount model Width (with_width (parts_at None)) byte
 first_later model style n byte follows l = let digit = l.digit in let dollar = l.dollar in rw (digit, dollar) (go style follows) where
   go : (s : Numbering) → Follows s (Some Unnumbered) → after_first model s byte ≡ after_amount model Width (with_width (parts_at None)) byte

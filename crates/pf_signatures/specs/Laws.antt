@@ -1,9 +1,9 @@
 -- What the laws say, and what the calls answer.
-use Rattle.std.specs.Prelude.{◌≡◌, ◌≢◌, ℕ, ◌<◌, List, [], ◌∷◌, length, slice_get, ◌⊎◌, Option, Some, None, ⊤}
+use Rattle.std.specs.Prelude.{◌≡◌, ◌≢◌, ℕ, ◌<◌, List, [], ◌∷◌, length, slice_get, ◌⊎◌, Option, Some, None}
 use Rattle.pf_values.specs.declared.models.Model.{Model}
 use Rattle.pf_values.specs.meaning.Text.{Text}
-use Rattle.pf_signatures.specs.declared.fitting.FitsRefusal.{FitsRefusal}
-use Rattle.pf_signatures.specs.declared.fitting.FitsRefusal.TheVariants as refusals
+use Rattle.pf_signatures.specs.declared.comparison.FitsRefusal.{FitsRefusal}
+use Rattle.pf_signatures.specs.declared.comparison.FitsRefusal.TheVariants as refusals
 use Rattle.pf_signatures.specs.declared.refusals.SignatureRefusalKind.{SignatureRefusalKind}
 use Rattle.pf_signatures.specs.declared.refusals.SignatureFault.{SignatureFault}
 use Rattle.pf_signatures.specs.declared.refusals.SignatureFault.TheVariants as faults
@@ -49,15 +49,15 @@ pub record ComparesArgumentTypes (model : Model) (first second : Text) (index : 
   pub difference : IsFirstDifference types others index
 
 -- one of two texts is refused, and the first of them that is
-abbrev pub HindersFitting : Model → Text → Text → FitsRefusal → Type 0
-HindersFitting model first second (refusals.First refusal) =
+abbrev pub FaultForFits : Model → Text → Text → FitsRefusal → Type 0
+FaultForFits model first second (refusals.First refusal) =
     IsPosixRefusedAt model first refusal.kind refusal.at
-HindersFitting model first second (refusals.Second refusal) =
+FaultForFits model first second (refusals.Second refusal) =
     ((types : List ArgumentType) × HasArguments model first types)
     × IsPosixRefusedAt model second refusal.kind refusal.at
 
 -- why there is no list of types: want of memory only where a text is accepted and takes arguments
-abbrev pub HindersList : Model → Text → SignatureFault → Type 0
-HindersList model t (faults.Refused refusal) = IsPosixRefusedAt model t refusal.kind refusal.at
-HindersList model t faults.Memory =
+abbrev pub FaultForArguments : Model → Text → SignatureFault → Type 0
+FaultForArguments model t (faults.Refused refusal) = IsPosixRefusedAt model t refusal.kind refusal.at
+FaultForArguments model t faults.Memory =
     (types : List ArgumentType) × HasArguments model t types × (types ≢ [])

@@ -1,6 +1,6 @@
 //! The argument types of a format, in a slice or in a vector.
 ghost use Rattle.std.specs.Prelude.{◌≡◌, ◌<◌, ◌≤◌, ℕ, None, length, MatchResult, ◌+◌, IsTrue, is_some, IfErr, IfOk};
-ghost use Rattle.pf_signatures.specs.Laws.{HasCount, HindersList};
+ghost use Rattle.pf_signatures.specs.Laws.{HasCount, FaultForArguments};
 ghost use Rattle.pf_signatures.specs.Readings.{Fetches, fetch_trace};
 ghost use Rattle.pf_signatures.specs.Refusals.{IsPosixRefusedAt};
 ghost use Rattle.pf_signatures.specs.Types.{fetch};
@@ -107,7 +107,7 @@ pub fn arguments_vec(
     text: &[u8],
 ) -> Result<Vec<ArgumentType>, SignatureFault>
     ensures { MatchResult result (λ types. HasArguments model text.now types.items)
-        (HindersList model text.now) }
+        (FaultForArguments model text.now) }
 {
     let count = match arguments(model, text, &mut []) {
         Ok(count) => count,

@@ -4,9 +4,9 @@
 
 mod argument_types;
 mod automaton;
+mod comparison;
 mod conversions;
 mod fetches;
-mod fitting;
 pub mod laws;
 mod letters;
 mod pairs;
@@ -14,12 +14,10 @@ mod partial_specification;
 mod reader;
 mod refusals;
 mod tables;
-#[cfg(test)]
-mod tests;
 mod types;
 mod undefined_combinations;
 
 pub use argument_types::{arguments, arguments_vec};
-pub use fitting::{FitsRefusal, fits};
+pub use comparison::{FitsRefusal, fits};
 pub use refusals::{SignatureFault, SignatureRefusal, SignatureRefusalKind};
 pub use types::ArgumentType;

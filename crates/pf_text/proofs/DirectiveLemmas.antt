@@ -11,7 +11,7 @@ use Rattle.pf_text.specs.declared.pieces.Piece.TheVariants as pieces
 use Rattle.pf_text.specs.declared.pieces.Pieces.{Pieces}
 use Rattle.pf_text.specs.declared.scanner.Scanner.{Scanner}
 use Rattle.pf_text.specs.History.{IsAfter, TakesDirective}
-use Rattle.pf_text.specs.PieceHistory.{GivesPiece, HasGiven}
+use Rattle.pf_text.specs.PieceHistory.{NextIsPiece, HasGiven}
 use Rattle.pf_text.proofs.LiteralLemmas.{after_read}
 use Rattle.pf_text.proofs.CanonicalRunLemmas.{bare, conv_defined}
 use Rattle.pf_text.proofs.ReadBack.{spelled_read}
@@ -36,7 +36,7 @@ directive_taken scanner t text items len d h reads within read few =
 
 -- and given
 pub directive_given : (old new : Pieces) (t read : Text) (items : List Item) (len : ℕ) (d : Specification) → HasGiven old t read items → new.is_over ≡ old.is_over → new.rest.now ≡ drop len old.rest.now → TakesDirective read items old.rest.now len new.scanner d
-    → GivesPiece new t read items (pieces.Directive d)
+    → NextIsPiece new t read items (pieces.Directive d)
 directive_given old new t read items len d h over rest takes =
     let front = take len old.rest.now in
     let cut : old.rest.now ≡ front ++ new.rest.now = sym (take-append-drop len old.rest.now) ∙ ap (λ r. front ++ r) (sym rest) in

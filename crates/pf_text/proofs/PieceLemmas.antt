@@ -9,12 +9,12 @@ use Rattle.pf_values.specs.meaning.Text.{Text}
 use Rattle.pf_text.specs.declared.pieces.Piece.{Piece}
 use Rattle.pf_text.specs.declared.pieces.Piece.TheVariants as pieces
 use Rattle.pf_text.specs.declared.pieces.Pieces.{Pieces}
-use Rattle.pf_text.specs.declared.refusal.Refusal.{Refusal}
+use Rattle.pf_text.specs.declared.scanner.Refusal.{Refusal}
 use Rattle.pf_text.specs.declared.scanner.Scanner.{Scanner}
 use Rattle.pf_text.specs.declared.scanner.Step.{Step}
 use Rattle.pf_text.specs.declared.scanner.Step.TheVariants as steps
 use Rattle.pf_text.specs.History.{EndsRun, Feeds, Finishes, IsAfter, IsLiteral, Passes}
-use Rattle.pf_text.specs.PieceHistory.{Gives, GivesPiece, HasGiven, IsFed, IsInside, IsLongestRun}
+use Rattle.pf_text.specs.PieceHistory.{NextReturns, NextIsPiece, HasGiven, IsFed, IsInside, IsLongestRun}
 use Rattle.pf_text.proofs.PieceTexts.{literal_text, read_rest}
 
 -- no run of literal bytes begins here
@@ -59,7 +59,7 @@ module _ (old new : Pieces) (t read : Text) (items : List Item) (n : ℕ) (h : H
         record { some = λ e. some (sym (length-take-le n old.rest.now within) ∙ ap length e); literal = p.literal; longest = subst (EndsRun (read ++ run)) (sym rest) p.longest },
       )
 
-  pub run_given : (taken : Bor Text) → n ≢ 0 → n ≤ length old.rest.now → taken.now ≡ take n old.rest.now → new.rest.now ≡ drop n old.rest.now → GivesPiece new t read items (pieces.Literal taken)
+  pub run_given : (taken : Bor Text) → n ≢ 0 → n ≤ length old.rest.now → taken.now ≡ take n old.rest.now → new.rest.now ≡ drop n old.rest.now → NextIsPiece new t read items (pieces.Literal taken)
   run_given taken some within e rest =
       let here = subst GivesRun (sym e) (gives_run some within rest) in
       record { more = taken.now; given = here.0; whole = here.1 }
@@ -96,7 +96,7 @@ pub nothing_left : (rest : Text) → length rest ≤ 0 → rest ≡ []
 nothing_left [] h = refl
 nothing_left (b ∷ rest) h = absurd (omega arith)
 
-pub gives_piece : (old new : Pieces) (piece : Piece) → old.is_over ≡ false → ((t read : Text) (items : List Item) → HasGiven old t read items → GivesPiece new t read items piece) → Gives old (Some (Ok piece)) new
+pub gives_piece : (old new : Pieces) (piece : Piece) → old.is_over ≡ false → ((t read : Text) (items : List Item) → HasGiven old t read items → NextIsPiece new t read items piece) → NextReturns old (Some (Ok piece)) new
 gives_piece old new piece going given = record { next = given; over = λ closed. absurd (not_both old.is_over closed going); last = tt }
 
 -- The calls of `next`, from `old` to `now`.
@@ -119,7 +119,7 @@ module _ (old now : Pieces) (inside : (t read : Text) (items : List Item) → Ha
           takes = subst (λ r. Feeds (read ++ i.fed) items byte r scanner) e (fed (read ++ i.fed) items i.scanned);
         }
 
-    pub gives_refused : (refusal : Refusal) → r ≡ Err refusal → (new : Pieces) → new.is_over ≡ true → Gives old (Some (Err refusal)) new
+    pub gives_refused : (refusal : Refusal) → r ≡ Err refusal → (new : Pieces) → new.is_over ≡ true → NextReturns old (Some (Err refusal)) new
     gives_refused refusal e new over =
         record {
           next = λ t read items h.
@@ -145,7 +145,7 @@ module _ (old now : Pieces) (inside : (t read : Text) (items : List Item) → Ha
     whole_text : (t read : Text) (items : List Item) (h : HasGiven old t read items) → t ≡ read ++ (inside t read items h).fed
     whole_text t read items h = let i = inside t read items h in i.split ∙ ap (λ u. read ++ i.fed ++ u) none ∙ append-nil (read ++ i.fed)
 
-    pub gives_end : (done : Unit {0}) → r ≡ Ok done → Gives old None new
+    pub gives_end : (done : Unit {0}) → r ≡ Ok done → NextReturns old None new
     gives_end done e =
         record {
           next = λ t read items h.
@@ -157,7 +157,7 @@ module _ (old now : Pieces) (inside : (t read : Text) (items : List Item) → Ha
           last = over;
         }
 
-    pub gives_truncated : (refusal : Refusal) → r ≡ Err refusal → Gives old (Some (Err refusal)) new
+    pub gives_truncated : (refusal : Refusal) → r ≡ Err refusal → NextReturns old (Some (Err refusal)) new
     gives_truncated refusal e =
         record {
           next = λ t read items h.

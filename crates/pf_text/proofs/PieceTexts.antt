@@ -12,7 +12,7 @@ use Rattle.pf_text.specs.declared.pieces.Piece.{Piece}
 use Rattle.pf_text.specs.declared.pieces.Piece.TheVariants as pieces
 use Rattle.pf_text.specs.declared.pieces.Pieces.{Pieces}
 use Rattle.pf_text.specs.History.{IsLiteral}
-use Rattle.pf_text.specs.PieceHistory.{GivesPiece, HasGiven, IsPieceBefore, items_of}
+use Rattle.pf_text.specs.PieceHistory.{NextIsPiece, HasGiven, IsPieceBefore, items_of}
 use Rattle.pf_text.proofs.Unique.{Cuts, Later, Sooner, cuts, same_whole}
 
 -- the text of some items, and that of more
@@ -57,5 +57,5 @@ text_read (pieces.Directive d) read more rest items h g w =
     let r = read_rest items (items_of (pieces.Directive d)) read more h g in
     subst (IsTextOf (pieces.Directive d)) (sym (r.4 ∙ ap (λ u. r.0 ++ u) r.3 ∙ append-nil r.0)) r.2
 
-pub text_of_piece : (old new : Pieces) (t read : Text) (items : List Item) (piece : Piece) → HasGiven old t read items → (g : GivesPiece new t read items piece) → IsTextOf piece g.more
+pub text_of_piece : (old new : Pieces) (t read : Text) (items : List Item) (piece : Piece) → HasGiven old t read items → (g : NextIsPiece new t read items piece) → IsTextOf piece g.more
 text_of_piece old new t read items piece h g = text_read piece read g.more new.rest.now items h.reads g.given.reads g.whole

@@ -9,8 +9,8 @@ use Rattle.pf_values.specs.meaning.Text.{Text}
 use Rattle.pf_values.proofs.ItemTypes.{types-append}
 use Rattle.pf_text.specs.declared.pieces.Piece.{Piece}
 use Rattle.pf_text.specs.declared.pieces.Pieces.{Pieces}
-use Rattle.pf_text.specs.declared.refusal.Refusal.{Refusal}
-use Rattle.pf_text.specs.PieceHistory.{Gives, GivesNext, GivesPiece, GivesRefusal, HasGiven, items_of}
+use Rattle.pf_text.specs.declared.scanner.Refusal.{Refusal}
+use Rattle.pf_text.specs.PieceHistory.{NextReturns, NextIs, NextIsPiece, NextIsRefusal, HasGiven, items_of}
 use Rattle.pf_text.specs.Signatures.{TakesTypes, TakesManyArguments}
 
 pub no_success : {T E : Type 0} (r : Result T E) → true ≡ is_err r → IsOk r → ⊥
@@ -25,12 +25,12 @@ pub record HasFound (model : Model) (pieces : Pieces) (t : Text) (found : List A
   pub types_are : found ≡ types model items
 
 module _ (model : Model) (old new : Pieces) (t : Text) (found : List ArgType) (h : HasFound model old t found) where
-  module _ (next : Result Piece Refusal) (steps : Gives old (Some next) new) where
-    pub refused : (refusal : Refusal) → next ≡ Err refusal → GivesRefusal t h.items refusal
-    refused refusal e = subst (λ r. GivesNext (Some r) new t h.read h.items) e (steps.next t h.read h.items h.given)
+  module _ (next : Result Piece Refusal) (steps : NextReturns old (Some next) new) where
+    pub refused : (refusal : Refusal) → next ≡ Err refusal → NextIsRefusal t h.items refusal
+    refused refusal e = subst (λ r. NextIs (Some r) new t h.read h.items) e (steps.next t h.read h.items h.given)
 
-    pub more_given : (piece : Piece) → next ≡ Ok piece → GivesPiece new t h.read h.items piece
-    more_given piece e = subst (λ r. GivesNext (Some r) new t h.read h.items) e (steps.next t h.read h.items h.given)
+    pub more_given : (piece : Piece) → next ≡ Ok piece → NextIsPiece new t h.read h.items piece
+    more_given piece e = subst (λ r. NextIs (Some r) new t h.read h.items) e (steps.next t h.read h.items h.given)
 
     -- the types with those that one more piece takes
     pub more_found : (piece : Piece) (more : List ArgType) → next ≡ Ok piece → more ≡ types model (items_of piece) → HasFound model new t (found ++ more)
@@ -48,7 +48,7 @@ module _ (model : Model) (old new : Pieces) (t : Text) (found : List ArgType) (h
         let f = more_found piece (type ∷ []) e same in
         record { front = f.read; rest = new.rest.now; items = f.items; split = f.given.split; reads = f.given.reads; many = omega (arith, ap length f.types_are, length_push found type) }
 
-  pub all_found : Gives old None new → TakesTypes model t found
+  pub all_found : NextReturns old None new → TakesTypes model t found
   all_found steps =
       record {
         items = h.items;

@@ -8,12 +8,12 @@ use Rattle.pf_values.specs.meaning.Refusals.{IsGoodFront, IsRefusedAt}
 use Rattle.pf_values.specs.meaning.Text.{Text}
 use Rattle.pf_text.specs.declared.pieces.Piece.{Piece}
 use Rattle.pf_text.specs.declared.pieces.Pieces.{Pieces}
-use Rattle.pf_text.specs.declared.refusal.Refusal.{Refusal}
+use Rattle.pf_text.specs.declared.scanner.Refusal.{Refusal}
 use Rattle.pf_text.specs.declared.scanner.Scanner.{Scanner}
 use Rattle.pf_text.specs.declared.scanner.Step.{Step}
 use Rattle.pf_text.specs.declared.scanner.Step.TheVariants as steps
 use Rattle.pf_text.specs.History.{Feeds, Finishes, IsAfter, with_step}
-use Rattle.pf_text.specs.PieceHistory.{GivesPiece, GivesRefusal, HasGiven, items_of}
+use Rattle.pf_text.specs.PieceHistory.{NextIsPiece, NextIsRefusal, HasGiven, items_of}
 use Rattle.pf_text.specs.WholeRuns.{HasRun, ended_by}
 
 with_ended : (items : List Item) (step : Step) → with_step items step ≡ items ++ ended_by step
@@ -54,10 +54,10 @@ module _ (t : Text) (n : ℕ) (old : Scanner) (given : List Step) (h : IsAfter o
 
 -- Pieces of a text were given.
 module _ (t read : Text) (old : Pieces) (given : List Piece) (h : HasGiven old t read (flat_map items_of given)) where
-  pub one_given : (piece : Piece) (new : Pieces) (g : GivesPiece new t read (flat_map items_of given) piece) → HasGiven new t (read ++ g.more) (flat_map items_of (given ++ piece ∷ []))
+  pub one_given : (piece : Piece) (new : Pieces) (g : NextIsPiece new t read (flat_map items_of given) piece) → HasGiven new t (read ++ g.more) (flat_map items_of (given ++ piece ∷ []))
   one_given piece new g = subst (HasGiven new t (read ++ g.more)) (flat_map_more items_of [] given piece) g.given
 
-  pub pieces_refused : (refusal : Refusal) → GivesRefusal t (flat_map items_of given) refusal → HasRun t (flat_map items_of given) (Err refusal)
+  pub pieces_refused : (refusal : Refusal) → NextIsRefusal t (flat_map items_of given) refusal → HasRun t (flat_map items_of given) (Err refusal)
   pieces_refused refusal g =
       let front : g.front ≡ take refusal.at t = sym (take-append_seam g.front g.rest) ∙ ap (take (length g.front)) (sym g.split) ∙ ap (λ n. take n t) (sym g.place) in
       (g.refused, (g.part, subst (λ u. IsGoodFront u (flat_map items_of given) g.part) front g.good))

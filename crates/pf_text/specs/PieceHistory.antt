@@ -8,7 +8,7 @@ use Rattle.pf_values.specs.meaning.Text.{Text, percent}
 use Rattle.pf_text.specs.declared.pieces.Piece.{Piece}
 use Rattle.pf_text.specs.declared.pieces.Piece.TheVariants as pieces
 use Rattle.pf_text.specs.declared.pieces.Pieces.{Pieces}
-use Rattle.pf_text.specs.declared.refusal.Refusal.{Refusal}
+use Rattle.pf_text.specs.declared.scanner.Refusal.{Refusal}
 use Rattle.pf_text.specs.declared.scanner.Step.{Step}
 use Rattle.pf_text.specs.History.{EndsRun, IsAfter, IsLiteral, Takes}
 
@@ -39,7 +39,7 @@ IsPieceBefore pieces.Percent read rest = ⊤
 IsPieceBefore (pieces.Directive d) read rest = ⊤
 
 -- the next piece was given
-pub record GivesPiece (new : Pieces) (t read : Text) (items : List Item)
+pub record NextIsPiece (new : Pieces) (t read : Text) (items : List Item)
     (piece : Piece) : Type 0 where
   pub more : Text
   pub given : HasGiven new t (read ++ more) (items ++ items_of piece)
@@ -67,7 +67,7 @@ pub record IsFed (pieces : Pieces) (step : Step) (t read : Text) (items : List I
   pub takes : Takes (read ++ fed) items byte step pieces.scanner
 
 -- the text is refused after the items that were given
-pub record GivesRefusal (t : Text) (items : List Item) (refusal : Refusal) : Type 0 where
+pub record NextIsRefusal (t : Text) (items : List Item) (refusal : Refusal) : Type 0 where
   pub refused : IsRefusedAt t refusal.kind refusal.at
   pub front : Text
   pub rest : Text
@@ -77,10 +77,10 @@ pub record GivesRefusal (t : Text) (items : List Item) (refusal : Refusal) : Typ
   pub good : IsGoodFront front items part
 
 -- a piece, the refusal, or the end of an accepted text
-abbrev pub GivesNext : Option (Result Piece Refusal) → Pieces → Text → Text → List Item → Type 0
-GivesNext None new t read items = HasItems t items
-GivesNext (Some (Ok piece)) new t read items = GivesPiece new t read items piece
-GivesNext (Some (Err refusal)) new t read items = GivesRefusal t items refusal
+abbrev pub NextIs : Option (Result Piece Refusal) → Pieces → Text → Text → List Item → Type 0
+NextIs None new t read items = HasItems t items
+NextIs (Some (Ok piece)) new t read items = NextIsPiece new t read items piece
+NextIs (Some (Err refusal)) new t read items = NextIsRefusal t items refusal
 
 -- after the end and after a refusal nothing comes
 abbrev pub IsOverAfter : Option (Result Piece Refusal) → Pieces → Type 0
@@ -89,10 +89,10 @@ IsOverAfter (Some (Ok piece)) new = ⊤
 IsOverAfter (Some (Err refusal)) new = new.is_over ≡ true
 
 -- what a call of `next` gives
-pub record Gives (old : Pieces) (result : Option (Result Piece Refusal))
+pub record NextReturns (old : Pieces) (result : Option (Result Piece Refusal))
     (new : Pieces) : Type 0 where
   pub next : (t read : Text) (items : List Item) → HasGiven old t read items
-      → GivesNext result new t read items
+      → NextIs result new t read items
   pub over : old.is_over ≡ true → (result ≡ None) × (new ≡ old)
   pub last : IsOverAfter result new
 

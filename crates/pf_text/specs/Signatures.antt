@@ -5,8 +5,8 @@ use Rattle.pf_values.specs.declared.types.ArgType.{ArgType}
 use Rattle.pf_values.specs.meaning.Items.{HasItems, Item, Reads, types}
 use Rattle.pf_values.specs.meaning.Refusals.{IsRefusedAt}
 use Rattle.pf_values.specs.meaning.Text.{Text}
-use Rattle.pf_text.specs.declared.refusal.TextFault.{TextFault}
-use Rattle.pf_text.specs.declared.refusal.TextFault.TheVariants.{Memory, Refused}
+use Rattle.pf_text.specs.declared.signatures.TextFault.{TextFault}
+use Rattle.pf_text.specs.declared.signatures.TextFault.TheVariants.{Memory, Refused}
 use Rattle.pf_text.specs.declared.signatures.Signature.{Signature}
 
 -- the types that it holds, in order
@@ -30,6 +30,6 @@ pub record TakesManyArguments (model : Model) (t : Text) : Type 0 where
   pub many : 8 < length (types model items)
 
 -- why a text has no signature
-abbrev pub HindersSignature : Model → Text → TextFault → Type 0
-HindersSignature model t (Refused refusal) = IsRefusedAt t refusal.kind refusal.at
-HindersSignature model t Memory = TakesManyArguments model t
+abbrev pub FaultForSignature : Model → Text → TextFault → Type 0
+FaultForSignature model t (Refused refusal) = IsRefusedAt t refusal.kind refusal.at
+FaultForSignature model t Memory = TakesManyArguments model t

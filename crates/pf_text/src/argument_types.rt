@@ -1,10 +1,9 @@
 //! Reading the argument types of a format.
 ghost use Rattle.std.specs.Prelude.{◌≡◌, ◌≤◌, [], MatchResult};
-ghost use Rattle.pf_text.specs.Signatures.{TakesTypes, HindersSignature, types_of};
+ghost use Rattle.pf_text.specs.Signatures.{TakesTypes, FaultForSignature, types_of};
 
 use crate::pieces::Pieces;
-use crate::refusal::TextFault;
-use crate::signatures::Signature;
+use crate::signatures::{Signature, TextFault};
 use pf_values::{ArgType, Model};
 use smallvec::SmallVec;
 use std::alloc::{Allocator, Global};
@@ -16,7 +15,7 @@ mod tests;
 /// where there are more than eight of them.
 pub fn signature(alloc: Global, model: Model, text: &[u8]) -> Result<Signature, TextFault>
     ensures { MatchResult result (λ signature. TakesTypes model text.now (types_of signature))
-        (HindersSignature model text.now) }
+        (FaultForSignature model text.now) }
 {
     let mut found = SmallVec::new(alloc);
     match push_types(&mut found, model, text) {
@@ -33,7 +32,7 @@ fn push_types<A: Allocator + Copy>(
     requires none { found.old.items ≡ [] }
     requires room { 8 ≤ found.old.capacity }
     ensures { MatchResult result
-        (λ _. TakesTypes model text.now found.new.items) (HindersSignature model text.now) }
+        (λ _. TakesTypes model text.now found.new.items) (FaultForSignature model text.now) }
 {
     for piece in Pieces::new(text) {
         let piece = match piece {

@@ -13,8 +13,7 @@ ghost use Rattle.pf_text.specs.PieceHistory.{items_of};
 ghost use Rattle.pf_text.specs.WholeRuns.{HasRun, ended_by};
 
 use crate::pieces::{Piece, Pieces};
-use crate::refusal::Refusal;
-use crate::scanner::{Scanner, Step};
+use crate::scanner::{Refusal, Scanner, Step};
 use std::alloc::{AllocError, Global};
 
 /// A text has at most one list of items.

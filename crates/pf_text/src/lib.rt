@@ -7,7 +7,6 @@ mod canonical_runs;
 pub mod laws;
 mod letters;
 mod pieces;
-mod refusal;
 mod scanner;
 mod search;
 mod signatures;
@@ -19,8 +18,7 @@ mod tests;
 
 pub use argument_types::signature;
 pub use pieces::{Piece, Pieces, check};
-pub use refusal::{Refusal, TextFault};
-pub use scanner::{Scanner, Step};
+pub use scanner::{Refusal, Scanner, Step};
 pub use search::literal_len;
-pub use signatures::Signature;
+pub use signatures::{Signature, TextFault};
 pub use spelling::{Spelling, spell};

@@ -6,8 +6,7 @@ ghost use Rattle.pf_values.specs.meaning.Refusals.{IsRefusedAt};
 ghost use Rattle.pf_values.specs.meaning.Text.{Text};
 ghost use Rattle.pf_text.specs.History.{EndsRun};
 
-use crate::refusal::Refusal;
-use crate::scanner::{Scanner, Step};
+use crate::scanner::{Refusal, Scanner, Step};
 use pf_values::{ArgType, Directive, Model};
 
 /// A piece of a format.
@@ -49,7 +48,7 @@ pub struct Pieces<'a> {
 }
 
 impl<'a> Pieces<'a> {
-    ghost use Rattle.pf_text.specs.PieceHistory.{GivesPiece, HasGiven, IsFed, IsInside};
+    ghost use Rattle.pf_text.specs.PieceHistory.{NextIsPiece, HasGiven, IsFed, IsInside};
 
     /// All the pieces of a text.
     pub fn new(text: &'a [u8]) -> Pieces<'a>
@@ -66,7 +65,7 @@ impl<'a> Pieces<'a> {
     #[inline(always)]
     fn take_directive(&mut self) -> Option<Directive>
         ensures given { (t read : Text) (items : List Item) → HasGiven self.old t read items
-            → MatchOption result ⊤ (λ d. GivesPiece self.new t read items (Piece.Directive d)) }
+            → MatchOption result ⊤ (λ d. NextIsPiece self.new t read items (Piece.Directive d)) }
         ensures shorter { MatchOption result (self.new ≡ self.old)
             (λ _. length self.new.rest.now < length self.old.rest.now) }
         ensures going { self.new.is_over ≡ self.old.is_over }
@@ -81,7 +80,7 @@ impl<'a> Pieces<'a> {
     fn take_literal_run(&mut self) -> Option<&'a [u8]>
         ensures given { (t read : Text) (items : List Item) → HasGiven self.old t read items
             → MatchOption result (IsInside self.new t read items)
-            (λ run. GivesPiece self.new t read items (Piece.Literal run)) }
+            (λ run. NextIsPiece self.new t read items (Piece.Literal run)) }
         ensures shorter { MatchOption result (length self.new.rest.now ≤ length self.old.rest.now)
             (λ _. length self.new.rest.now < length self.old.rest.now) }
         ensures going { self.new.is_over ≡ self.old.is_over }
@@ -106,7 +105,7 @@ impl<'a> Pieces<'a> {
         requires { 0 < length self.old.rest.now }
         ensures given { (t read : Text) (items : List Item) → IsFed self.old step t read items
             → MatchOption result (IsInside self.new t read items)
-            (GivesPiece self.new t read items) }
+            (NextIsPiece self.new t read items) }
         ensures shorter { length self.new.rest.now < length self.old.rest.now }
         ensures going { self.new.is_over ≡ self.old.is_over }
     {
@@ -133,11 +132,11 @@ fn may_be_literal(text: &[u8]) -> bool
 }
 
 impl<'a> Iterator for Pieces<'a> {
-    ghost use Rattle.pf_text.specs.PieceHistory.{Gives, pieces_to_come};
+    ghost use Rattle.pf_text.specs.PieceHistory.{NextReturns, pieces_to_come};
 
     type Item = Result<Piece<'a>, Refusal>;
 
-    ghost next_gives = { Gives };
+    ghost next_gives = { NextReturns };
 
     ghost remaining = { pieces_to_come };
 

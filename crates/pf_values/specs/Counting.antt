@@ -2,8 +2,8 @@
 -- project's own: C11 7.21.6.1 p14 has one negative number for every failed write.
 use Rattle.std.specs.Prelude.{◌≡◌, ℕ, ◌+◌, ◌-◌, ◌^◌, ◌<◌, ◌≤◌, Bool, true, ◌&&◌, ◌==◌, nat_lt, min, length, take, Option, Result, Ok, Err, if◌then◌else◌}
 use Rattle.std.specs.Io.KnownBytes.{Appends}
-use Rattle.pf_values.specs.declared.counting.Counted.{Counted}
-use Rattle.pf_values.specs.declared.writing.ShortWrite.{ShortWrite}
+use Rattle.pf_values.specs.declared.counted.Counted.{Counted}
+use Rattle.pf_values.specs.declared.writes.ShortWrite.{ShortWrite}
 use Rattle.pf_values.specs.meaning.Text.{Text}
 
 module _ {T : Type 0} where

@@ -2,7 +2,7 @@
 use Rattle.std.specs.Prelude.{◌≡◌, ℕ, ◌-◌, Bool, length, take}
 use Rattle.std.specs.declared.io.ErrorKind.{ErrorKind}
 use Rattle.pf_values.specs.meaning.Text.{Text}
-use Rattle.pf_values.specs.declared.devices.cutting.Cut.{Cut}
+use Rattle.pf_values.specs.declared.devices.cut.Cut.{Cut}
 
 -- the bytes that it has taken, which fill the front of its place
 abbrev pub taken_of : Cut → Text

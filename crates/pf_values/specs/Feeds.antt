@@ -3,7 +3,7 @@ use Rattle.std.specs.Prelude.{ℕ, length, min, Option}
 use Rattle.std.specs.declared.io.ErrorKind.{ErrorKind}
 use Rattle.pf_values.specs.FaultPlaces.{up_to_fault}
 use Rattle.pf_values.specs.meaning.Text.{Text}
-use Rattle.pf_values.specs.declared.devices.feeding.Feed.{Feed}
+use Rattle.pf_values.specs.declared.devices.feed.Feed.{Feed}
 
 -- the bytes that it still hands out
 abbrev pub rest_of : Feed → Text

@@ -1,10 +1,8 @@
 //! A writer and a reader over memory, which fail where their caller wants it. They take no memory
 //! of their own.
 
-mod cutting;
-mod feeding;
-#[cfg(test)]
-mod tests;
+mod cut;
+mod feed;
 
-pub use cutting::Cut;
-pub use feeding::Feed;
+pub use cut::Cut;
+pub use feed::Feed;

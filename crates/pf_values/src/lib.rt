@@ -6,7 +6,7 @@
 mod arguments;
 mod bases;
 mod conversions;
-mod counting;
+mod counted;
 mod data_model;
 pub mod devices;
 mod directives;
@@ -17,16 +17,14 @@ pub mod limits;
 mod models;
 pub mod padding;
 mod refusals;
-#[cfg(test)]
-mod tests;
 mod types;
 mod value_kinds;
-mod writing;
+mod writes;
 
 pub use arguments::{Arg, CBytes};
 pub use bases::{Alternative, Base};
 pub use conversions::{Conv, Kind};
-pub use counting::Counted;
+pub use counted::Counted;
 pub use directives::Directive;
 pub use flags::{Flag, FlagSet};
 pub use lengths::Length;
@@ -34,4 +32,4 @@ pub use models::Model;
 pub use refusals::RefusalKind;
 pub use types::ArgType;
 pub use value_kinds::ValueKind;
-pub use writing::{ShortWrite, write_bytes};
+pub use writes::{ShortWrite, write_bytes};

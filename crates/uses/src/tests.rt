@@ -1,4 +1,5 @@
-//! Each use, where it says yes and where it says no.
+//! Each use, where it says yes and where it says no; and below, the tests of three libraries, which ask public calls
+//! alone. They are here since a crate with tests is proved once more for them.
 use crate::argument_types::{other_type_at, takes_one_int};
 use crate::canonical_texts::{copies_tidily, fits, is_tidy};
 use crate::directives::{column, spaces_in_front};
@@ -7,6 +8,10 @@ use crate::meaning::{are_equivalent, may_replace, shows_difference};
 use pf_reduce::{Core, is_normal, reduce};
 use pf_render::RenderFault;
 use pf_values::{Conv, Counted, Directive, FlagSet, Length, Model, RefusalKind};
+
+mod comparisons;
+mod signatures;
+mod values;
 
 #[test]
 fn a_format_may_replace_another(rt: HostRuntime) {

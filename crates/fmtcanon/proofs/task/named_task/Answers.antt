@@ -3,7 +3,7 @@ use Rattle.clap.specs.Matches.{first_value, found_of, matched_of, raw_values}
 use Rattle.clap.specs.Walk.{Text}
 use Rattle.clap.specs.declared.parser.matches.ArgMatches.{ArgMatches}
 use Rattle.clap.proofs.WalkLemmas.{first_value-rows, raw_values-rows}
-use Rattle.fmtcanon.specs.Tasks.{HasAllValues, HasValue, IsAsked, Names, rows_in}
+use Rattle.fmtcanon.specs.Tasks.{HasAllValues, HasValue, Names, rows_in}
 use Rattle.fmtcanon.specs.Words.{the_command}
 use Rattle.fmtcanon.proofs.command_line.WordLemmas.{IsWanted, at_asked, format_wants, value_given}
 use Rattle.fmtcanon.specs.declared.task.RecordQuestion.TheVariants as asked

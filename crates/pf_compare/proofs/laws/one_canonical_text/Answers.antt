@@ -4,7 +4,7 @@ use Rattle.pf_values.specs.declared.models.Model.{Model}
 use Rattle.pf_values.specs.meaning.Items.{IsAccepted}
 use Rattle.pf_values.specs.meaning.Refusals.{IsRefusedAt}
 use Rattle.pf_values.specs.meaning.Text.{Text}
-use Rattle.pf_text.specs.declared.refusal.Refusal.{Refusal}
+use Rattle.pf_text.specs.declared.scanner.Refusal.{Refusal}
 use Rattle.pf_canon.specs.Answers.{IsCanonicalFor}
 use Rattle.pf_values.specs.meaning.Headline.{HasOneCanonical}
 use Rattle.pf_compare.proofs.HeadlineLemmas.{only_one}

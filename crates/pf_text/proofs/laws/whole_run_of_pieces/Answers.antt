@@ -1,5 +1,5 @@
 use Rattle.std.proofs.Common.{◌++◌, [], Some, flat_map, sym, subst}
-use Rattle.pf_text.specs.PieceHistory.{GivesNext, HasGiven, items_of}
+use Rattle.pf_text.specs.PieceHistory.{NextIs, HasGiven, items_of}
 use Rattle.pf_text.proofs.WholeRunLemmas.{one_given, pieces_refused}
 use Rattle.pf_text.proofs.laws.whole_run_of_pieces.Goals as goal
 
@@ -13,7 +13,7 @@ loop-piece-preserved c =
     let t = c.args.text.now in
     let run = c.loop-piece.invariant.run in
     let items = flat_map items_of c.loop-piece.given.items in
-    let gives = subst (λ r. GivesNext (Some r) c.next.new.self t run.0 items) c.in-Ok.is (c.in-Some.ensures.steps.next t run.0 items run.1) in
+    let gives = subst (λ r. NextIs (Some r) c.next.new.self t run.0 items) c.in-Ok.is (c.in-Some.ensures.steps.next t run.0 items run.1) in
     record {
       can = tt;
       finite = tt;
@@ -25,7 +25,7 @@ returns-in-Err c =
     let t = c.args.text.now in
     let run = c.loop-piece.invariant.run in
     let items = flat_map items_of c.loop-piece.given.items in
-    pieces_refused t run.0 c.loop-piece.piece-iterator c.loop-piece.given.items run.1 c.in-Err.refusal (subst (λ r. GivesNext (Some r) c.next.new.self t run.0 items) c.in-Err.is (c.in-Some.ensures.steps.next t run.0 items run.1))
+    pieces_refused t run.0 c.loop-piece.piece-iterator c.loop-piece.given.items run.1 c.in-Err.refusal (subst (λ r. NextIs (Some r) c.next.new.self t run.0 items) c.in-Err.is (c.in-Some.ensures.steps.next t run.0 items run.1))
 
 pub returns : goal.returns
 returns c =

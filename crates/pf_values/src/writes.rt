@@ -1,11 +1,8 @@
 //! Writing bytes, with the exact count of those that went out.
 ghost use Rattle.pf_values.specs.Counting.{Writes};
 
-use crate::counting::Counted;
+use crate::counted::Counted;
 use std::io::Write;
-
-#[cfg(test)]
-mod tests;
 
 /// A write stopped after the first bytes.
 #[derive(Clone, Copy, Debug, PartialEq, Eq)]

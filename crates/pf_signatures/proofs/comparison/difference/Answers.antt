@@ -1,8 +1,8 @@
 use Rattle.std.proofs.Common.{◌≤◌, ◌∙◌, arith, inl, inr, length, sym}
 use Rattle.std.specs.Prelude.{◌⊎◌}
 use Rattle.pf_signatures.proofs.DifferenceLemmas.{both_end, full, one_longer, over_lists, places_differ, places_same, same_lists, same_more}
-use Rattle.pf_signatures.proofs.fitting.difference.Goals as goal
-use Rattle.pf_signatures.proofs.fitting.difference.Goals.{then-loop-index-test+then-index-count+else-index-beside, then-loop-index-test+else-index-count, else-loop-index-test}
+use Rattle.pf_signatures.proofs.comparison.difference.Goals as goal
+use Rattle.pf_signatures.proofs.comparison.difference.Goals.{then-loop-index-test+then-index-count+else-index-beside, then-loop-index-test+else-index-count, else-loop-index-test}
 
 pub returns-then-number : goal.returns-then-number
 returns-then-number c a b start from e f x y few =

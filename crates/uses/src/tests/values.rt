@@ -1,9 +1,13 @@
-//! What no run of the program shows: each public call once, with data that no word of a command can hold.
-use crate::laws::prints_once;
-use crate::{
+//! What no run of the program shows of `pf_values`: each public call once, with data that no word of a command can hold.
+use pf_values::laws::prints_once;
+use pf_values::{
     Arg, ArgType, Base, CBytes, Conv, Directive, Flag, FlagSet, Length, Model, RefusalKind,
     ValueKind,
 };
+
+mod counted;
+mod devices;
+mod writes;
 
 // The kind that refuses a directive of these numbers with three more faults, if any does.
 fn refusal_of(width: u16, precision: u16) -> Option<RefusalKind> {

@@ -3,7 +3,7 @@ use Rattle.pf_signatures.specs.declared.tables.TheConstants.{ROOM}
 use Rattle.pf_signatures.specs.declared.types.ArgumentType.{ArgumentType}
 use Rattle.pf_signatures.specs.Laws.{filled}
 use Rattle.pf_signatures.proofs.DifferenceLemmas.{SameUpTo}
-use Rattle.pf_signatures.proofs.fitting.difference.Given as goal
+use Rattle.pf_signatures.proofs.comparison.difference.Given as goal
 
 abbrev pub invariant-loop-index : goal.invariant-loop-index
 invariant-loop-index l = record {

@@ -1,5 +1,5 @@
 use Rattle.pf_signatures.proofs.DifferenceLemmas.{compared}
-use Rattle.pf_signatures.proofs.fitting.by_tables.Goals as goal
+use Rattle.pf_signatures.proofs.comparison.by_tables.Goals as goal
 
 pub returns-in-Ok-arguments : goal.returns-in-Ok-arguments
 returns-in-Ok-arguments c =

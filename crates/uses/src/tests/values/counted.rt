@@ -1,6 +1,7 @@
 //! Counting over devices that fail, take nothing or are interrupted.
-use super::*;
-use std::io::{Error, ErrorKind};
+use pf_values::Counted;
+use std::io;
+use std::io::{Error, ErrorKind, Read, Write};
 
 #[derive(Clone, Copy)]
 enum Answer {
@@ -87,31 +88,6 @@ fn each_call_that_fails_counts_once(rt: HostRuntime) {
             ([1, 2, 3, 4], 4),
         ]
     );
-}
-
-// The count after a failed write, and after two failures more, where one is left to the greatest; and the calls.
-fn counts_near_the_greatest() -> ([u64; 2], u32) {
-    let device = Device {
-        answer: Answer::Fails(ErrorKind::Other),
-        calls: 0,
-    };
-    let mut counted = Counted {
-        device,
-        failures: u64::MAX - 1,
-        calls: u64::MAX - 1,
-        is_flushed: false,
-    };
-    let _ = counted.write(b"abc");
-    let first = counted.failures();
-    let _ = counted.write(b"abc");
-    let _ = counted.flush();
-    let last = counted.failures();
-    ([first, last], counted.into_inner().calls)
-}
-
-#[test]
-fn the_greatest_count_stays(rt: HostRuntime) {
-    assert!(rt; counts_near_the_greatest() == ([u64::MAX; 2], 3));
 }
 
 fn outcome<T: Copy>(answer: io::Result<T>) -> Result<T, ErrorKind> {

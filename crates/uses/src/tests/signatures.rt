@@ -1,9 +1,11 @@
-//! What no run of the program shows: each public call once, and long formats.
-use crate::laws::{
+//! What no run of the program shows of `pf_signatures`: each public call once.
+use pf_signatures::laws::{
     accepted_or_refused, never_both, profile_types, refused_for_good, refused_once, same_fits,
     tables_have_each_once, types_once,
 };
-use crate::{ArgumentType, FitsRefusal, SignatureRefusal, SignatureRefusalKind, arguments, fits};
+use pf_signatures::{
+    ArgumentType, FitsRefusal, SignatureRefusal, SignatureRefusalKind, arguments, fits,
+};
 use pf_values::Model;
 use std::alloc::{AllocError, Global};
 

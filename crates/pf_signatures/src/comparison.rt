@@ -3,7 +3,7 @@ ghost use Rattle.std.specs.Prelude.{◌≡◌, ◌≤◌, List, length, ◌⊎�
 ghost use Rattle.pf_signatures.specs.declared.tables.TheConstants.{ROOM as MOST};
 ghost use Rattle.pf_signatures.specs.declared.types.ArgumentType.{ArgumentType as ArgumentTypeOf};
 ghost use Rattle.pf_signatures.specs.Items.{HasArguments};
-ghost use Rattle.pf_signatures.specs.Laws.{ComparesArgumentTypes, HindersFitting, IsFirstDifference, filled};
+ghost use Rattle.pf_signatures.specs.Laws.{ComparesArgumentTypes, FaultForFits, IsFirstDifference, filled};
 ghost use Rattle.pf_signatures.specs.Steps.{AreFew, DifferAt};
 
 use crate::argument_types::arguments;
@@ -31,7 +31,7 @@ pub enum FitsRefusal {
 /// prefix of the other. Where both are refused, the refusal is that of the first.
 pub fn fits(model: Model, first: &[u8], second: &[u8]) -> Result<Option<u64>, FitsRefusal>
     ensures { MatchResult result (ComparesArgumentTypes model first.now second.now)
-        (HindersFitting model first.now second.now) }
+        (FaultForFits model first.now second.now) }
 {
     match compare_in_step(model, first, second) {
         InStepResult::Equal => Ok(None),
@@ -49,7 +49,7 @@ fn by_step(
 ) -> Result<Option<u64>, FitsRefusal>
     requires { DifferAt model first.now second.now index }
     ensures { MatchResult result (ComparesArgumentTypes model first.now second.now)
-        (HindersFitting model first.now second.now) }
+        (FaultForFits model first.now second.now) }
 {
     match arguments(model, first, &mut []) {
         Err(refusal) => Err(FitsRefusal::First(refusal)),
@@ -65,7 +65,7 @@ fn by_step(
 fn by_tables(model: Model, first: &[u8], second: &[u8]) -> Result<Option<u64>, FitsRefusal>
     requires { AreFew model first.now second.now }
     ensures { MatchResult result (ComparesArgumentTypes model first.now second.now)
-        (HindersFitting model first.now second.now) }
+        (FaultForFits model first.now second.now) }
 {
     let mut types = [ArgumentType::Int; ROOM];
     let mut others = [ArgumentType::Int; ROOM];

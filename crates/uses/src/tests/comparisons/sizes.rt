@@ -1,5 +1,5 @@
 //! With ample memory `confirms` answers, at sizes on either side of each power of two and for any number of arguments.
-use crate::confirms;
+use pf_compare::confirms;
 use pf_values::{Arg, Model};
 use std::alloc::{AllocError, Global};
 

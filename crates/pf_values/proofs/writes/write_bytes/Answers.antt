@@ -2,7 +2,7 @@ use Rattle.std.proofs.Common.{arith}
 use Rattle.std.proofs.lemmas.Grind.{common_steps}
 use Rattle.std.proofs.lemmas.List.{take_rest}
 use Rattle.pf_values.proofs.WriteLemmas.{WritesAll-more}
-use Rattle.pf_values.proofs.writing.write_bytes.Goals as goal
+use Rattle.pf_values.proofs.writes.write_bytes.Goals as goal
 
 pub loop-written-preserved : goal.loop-written-preserved
 loop-written-preserved g c =

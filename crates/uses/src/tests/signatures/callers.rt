@@ -1,9 +1,9 @@
-//! The callers in CALLING.md.
+//! The callers in CALLING.md of `pf_signatures`.
 ghost use Rattle.std.specs.Prelude.{◌≡◌, IsTrue, List};
 ghost use Rattle.pf_signatures.specs.declared.types.ArgumentType.{ArgumentType as ArgumentTypeOf};
 ghost use Rattle.pf_signatures.specs.Items.{HasArguments};
 
-use crate::{ArgumentType, arguments, fits};
+use pf_signatures::{ArgumentType, arguments, fits};
 use pf_values::Model;
 
 /// Whether a translated format is known to take just the arguments of the one in the program.

@@ -1,4 +1,4 @@
-use Rattle.pf_signatures.proofs.fitting.by_step.Goals as goal
+use Rattle.pf_signatures.proofs.comparison.by_step.Goals as goal
 
 pub returns-in-Ok-arguments : goal.returns-in-Ok-arguments
 returns-in-Ok-arguments c =

@@ -1,6 +1,6 @@
-//! The words that give arguments.
-use crate::{OwnedArg, OwnedBytes};
-use std::alloc::{AllocError, Global};
+//! The words of numbers; rows of `same` have those of strings.
+use pf_compare::OwnedArg;
+use std::alloc::Global;
 
 static NUMBERS: [(i64, &str); 4] = [
     (0, "n:0"),
@@ -26,19 +26,4 @@ fn a_number_is_given_in_decimal(rt: HostRuntime) {
     }
     let greatest = "n:18446744073709551615";
     assert!(rt; has_word(rt.alloc(), &OwnedArg::ULongLong(u64::MAX), greatest));
-}
-
-fn string_has_word(alloc: Global, count: u16, word: &str) -> Result<bool, AllocError> {
-    let arg = OwnedArg::Str(OwnedBytes::of_one_byte(alloc, b'A', count)?);
-    Ok(has_word(alloc, &arg, word))
-}
-
-fn strings_have_words(alloc: Global) -> bool {
-    has_word(alloc, &OwnedArg::Str(OwnedBytes::empty(alloc)), "s:")
-        && string_has_word(alloc, 3, "s:AAA").is_ok_and(|has| has)
-}
-
-#[test]
-fn a_string_is_given_by_its_bytes(rt: HostRuntime) {
-    assert!(rt; strings_have_words(rt.alloc()));
 }

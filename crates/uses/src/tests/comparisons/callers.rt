@@ -1,5 +1,5 @@
-//! The caller in CALLING.md that `crates/uses` doesn't have.
-use crate::{CompareFault, Verdict, compare};
+//! A caller of `compare`, as CALLING.md of `pf_compare` has it.
+use pf_compare::{CompareFault, Verdict, compare};
 use pf_values::Model;
 use std::alloc::Global;
 

@@ -1,6 +1,6 @@
 //! Writing into a device with little room.
-use super::*;
-use crate::devices::Cut;
+use pf_values::devices::Cut;
+use pf_values::{Counted, ShortWrite, write_bytes};
 use std::io::ErrorKind;
 
 const TEXT: &[u8] = b"abcdefg";

@@ -1,5 +1,5 @@
 //! The devices, called one call after another.
-use super::*;
+use pf_values::devices::{Cut, Feed};
 use std::io;
 use std::io::{ErrorKind, Read, Write};
 

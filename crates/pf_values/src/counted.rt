@@ -15,9 +15,6 @@ ghost use Rattle.pf_values.specs.Counting.{
 use std::io;
 use std::io::{Read, Write};
 
-#[cfg(test)]
-mod tests;
-
 /// A reader or a writer over `T`, with how many of its calls failed.
 ///
 /// Each `read`, `write` and `flush` makes one such call of `T`, and repeats none, also not one that

@@ -1,6 +1,6 @@
 use Rattle.std.proofs.Common.{◌-◌, ◌≤◌, length, take}
 use Rattle.pf_values.specs.Counting.{WritesAll}
-use Rattle.pf_values.proofs.writing.write_bytes.Given as goal
+use Rattle.pf_values.proofs.writes.write_bytes.Given as goal
 
 -- the bytes so far went out, and no call failed
 abbrev pub invariant-loop-written : goal.invariant-loop-written
