@@ -83,17 +83,22 @@ $(C)/second.a: library
 	rm -f $@
 	ar rcs $@ $(C)/second.o
 
-# How long each part of the gate took.
-TIMED = bash -c 'TIMEFORMAT="$$*: %lR by the clock, %lU and %lS of a processor"; time "$$@"' timed
+# How long each part of the gate took, said where it ends, and of all of them at the end.
+MINUTES = out/minutes
+TIMED = bash -c 'TIMEFORMAT="$$*: %lR by the clock, %lU and %lS of a processor"; { time "$$@" 2>&3; } 3>&2 2>> $(MINUTES); \
+    ended=$$?; tail -n 1 $(MINUTES); exit $$ended' timed
 
 # The trials here take the program that `gate` has just proved and built. It leaves nothing else that a check goes on
 # from, so the crates are proved once more, side by side, for the library and the wrong bodies.
 test:
+	mkdir -p $(dir $(MINUTES))
+	rm -f $(MINUTES)
 	$(TIMED) $(MAKE) gate
 	$(TIMED) rt all check --jobs $(JOBS)
 	$(TIMED) $(MAKE) library
 	$(TIMED) $(MAKE) wrong-bodies
 	$(TIMED) $(MAKE) tried
+	@cat $(MINUTES)
 
 tried:
 	$(TRIALS)

@@ -70,7 +70,9 @@ def wanted_files():
 
 
 def make(words, folder=TOP, path=None):
-    environment = {**os.environ, "PATH": path or os.environ["PATH"]}
+    # A make above says through these that it prints the folders that it enters.
+    environment = {name: value for name, value in os.environ.items() if name not in ("MAKEFLAGS", "MAKELEVEL", "MFLAGS")}
+    environment["PATH"] = path or os.environ["PATH"]
     done = subprocess.run(
         ["make", "-s", *words], cwd=folder, env=environment, timeout=TIMEOUT, check=False, stdin=subprocess.DEVNULL,
         stdout=subprocess.PIPE, stderr=subprocess.STDOUT,

@@ -71,8 +71,8 @@ pub fn answer_records<R: Read, W: Write>(
         match read_block(reader, writer, &conversation, &mut block) {
             Ok(0) => return conversation.end(alloc, writer),
             Ok(len) => {
-                if let Err(stop) = conversation.take(alloc, &block[..len], writer) {
-                    return conversation.stop(stop, writer);
+                if let Err(fault) = conversation.take(alloc, &block[..len], writer) {
+                    return conversation.break_off(fault, writer);
                 }
             }
             Err(_) => return Outcome::Read,
@@ -143,8 +143,8 @@ impl Conversation {
     {
         let mut at = 0;
         while let Some(len) = memchr(0, &block[at..]) {
-            if let Err(stop) = self.take_record(alloc, &block[at..at + len], writer) {
-                return Err(stop);
+            if let Err(fault) = self.take_record(alloc, &block[at..at + len], writer) {
+                return Err(fault);
             }
             at += len + 1;
         }
@@ -236,7 +236,7 @@ impl Conversation {
     {
         match self.end_last(alloc, writer) {
             Ok(()) => self.finish(writer),
-            Err(stop) => self.stop(stop, writer),
+            Err(fault) => self.break_off(fault, writer),
         }
     }
 
@@ -274,12 +274,12 @@ impl Conversation {
     }
 
     // Where memory was refused, the replies that wait still go out.
-    fn stop<W: Write>(&mut self, stop: ConversationFault, writer: &mut Counted<W>) -> Outcome
+    fn break_off<W: Write>(&mut self, fault: ConversationFault, writer: &mut Counted<W>) -> Outcome
         ensures { (kind : RecordQuestion) (start : Counted W) (records : List Text)
-            → HasStopped kind W.contents self.old start writer.old records stop
+            → HasStopped kind W.contents self.old start writer.old records fault
             → RecordsEndEarly kind W.contents start writer.new records result }
     {
-        match stop {
+        match fault {
             ConversationFault::Write(count) => Outcome::Write(count),
             ConversationFault::Memory => match self.replies.flush(writer) {
                 Ok(()) => Outcome::Memory,

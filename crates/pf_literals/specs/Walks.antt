@@ -5,7 +5,7 @@ use Rattle.pf_literals.specs.declared.cursor.Cursor.{Cursor}
 use Rattle.pf_literals.specs.declared.cursor.SourcePart.{SourcePart}
 use Rattle.pf_literals.specs.declared.cursor.SourcePart.TheVariants.{Verbatim, Byte}
 use Rattle.pf_literals.specs.declared.cursor.NextPart.{NextPart}
-use Rattle.pf_literals.specs.declared.cursor.NextPart.TheVariants.{Given, End, Stop}
+use Rattle.pf_literals.specs.declared.cursor.NextPart.TheVariants as nexts
 use Rattle.pf_literals.specs.declared.faults.LiteralFault.{LiteralFault}
 use Rattle.pf_literals.specs.declared.faults.LiteralFault.TheVariants.{Refused, Memory}
 use Rattle.pf_literals.specs.declared.faults.LiteralKind.{LiteralKind}
@@ -27,10 +27,10 @@ part_places (Byte value at) = at ∷ []
 
 -- what comes next, between a cursor before it and behind it
 abbrev pub IsNextPart : Bytes → Cursor → NextPart → Cursor → Type 0
-IsNextPart t old (Given part) new =
+IsNextPart t old (nexts.Given part) new =
     reading_left t old ≡ prefixed (part_bytes part) (part_places part) (reading_left t new)
-IsNextPart t old (End close) new = reading_left t old ≡ Whole [] [] close
-IsNextPart t old (Stop refusal) new = reading_left t old ≡ Fault refusal.kind refusal.at
+IsNextPart t old (nexts.End close) new = reading_left t old ≡ Whole [] [] close
+IsNextPart t old (nexts.Refused refusal) new = reading_left t old ≡ Fault refusal.kind refusal.at
 
 -- a part ends at this byte or before it
 abbrev pub PartEndsBy : SourcePart → ℕ → Type 0
@@ -39,7 +39,7 @@ PartEndsBy (Byte value at) end = at + 1 ≤ end
 
 -- a part has a byte, and the cursor moves on
 abbrev pub AdvancesCursor : Bytes → Cursor → NextPart → Cursor → Type 0
-AdvancesCursor t old (Given part) new =
+AdvancesCursor t old (nexts.Given part) new =
     (old.at < new.at) × (new.at ≤ length t) × (0 < length (part_bytes part))
     × PartEndsBy part (length t)
 AdvancesCursor t old _ new = Unit {0}

@@ -26,7 +26,7 @@ pub(crate) enum NextPart<'a> {
     /// The end, and where the last literal closes.
     End(usize),
     /// The text is no source.
-    Stop(LiteralRefusal),
+    Refused(LiteralRefusal),
 }
 
 /// The place up to which a source was read.
@@ -70,7 +70,7 @@ impl Cursor {
             match cursor.next_part(source) {
                 NextPart::Given(_) => {}
                 NextPart::End(_) => return None,
-                NextPart::Stop(refusal) => return Some(refusal),
+                NextPart::Refused(refusal) => return Some(refusal),
             }
         }
     }
@@ -140,7 +140,7 @@ impl Cursor {
                 self.at += len;
                 Some(NextPart::Given(SourcePart::Byte(value, at)))
             }
-            Token::Invalid(kind, on) => Some(stop(kind, at + on)),
+            Token::Invalid(kind, on) => Some(refused(kind, at + on)),
         }
     }
 
@@ -150,17 +150,17 @@ impl Cursor {
         ensures further { (t : Bytes) (from : Cursor) → AdvancesCursor t from result self.new }
     {
         match self.place {
-            Place::Before => stop(LiteralKind::NoLiteral, self.at),
-            Place::Inside => stop(LiteralKind::Unterminated, self.at),
+            Place::Before => refused(LiteralKind::NoLiteral, self.at),
+            Place::Inside => refused(LiteralKind::Unterminated, self.at),
             Place::Behind(close) => NextPart::End(close),
         }
     }
 }
 
-fn stop<'a>(kind: LiteralKind, at: usize) -> NextPart<'a>
-    ensures { result ≡ NextPart.Stop (record { kind = kind; at = at }) }
+fn refused<'a>(kind: LiteralKind, at: usize) -> NextPart<'a>
+    ensures { result ≡ NextPart.Refused (record { kind = kind; at = at }) }
 {
-    NextPart::Stop(LiteralRefusal {
+    NextPart::Refused(LiteralRefusal {
         kind,
         at: at as u64,
     })

@@ -45,7 +45,7 @@ fn append_all<A: Allocator>(source: &[u8], out: &mut Vec<u8, A>) -> Result<(), L
                 Err(_) => return Err(fault_of(cursor, source)),
             },
             NextPart::End(_) => return Ok(()),
-            NextPart::Stop(refusal) => return Err(LiteralFault::Refused(refusal)),
+            NextPart::Refused(refusal) => return Err(LiteralFault::Refused(refusal)),
         }
     }
 }

@@ -21,7 +21,7 @@ pub fn source_offset(source: &[u8], index: u64) -> Option<u64>
                 None => left -= len_of(part),
             },
             NextPart::End(close) => return last_place(close, left),
-            NextPart::Stop(_) => return None,
+            NextPart::Refused(_) => return None,
         }
     }
 }

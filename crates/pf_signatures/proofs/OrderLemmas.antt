@@ -56,8 +56,8 @@ module _ (model : Model) (t : Text) (seen : List Fetch) (old : FetchTrace) (h : 
       let taken = told_taken model t seen (h.verdict_is ∙ ap (verdict_after seen) e) in
       accepted model t seen taken (wanted_types seen) (inl (record { unnumbered = h.unnumbered; types_are = refl }))
 
-  pub stop_in_order : (kind : SignatureRefusalKind) (at : ℕ) → old ≡ Fault kind at → IsPosixRefusedAt model t kind at
-  stop_in_order kind at e = subst (Tells model t) (h.verdict_is ∙ ap (verdict_after seen) e) (told model t)
+  pub refused_in_order : (kind : SignatureRefusalKind) (at : ℕ) → old ≡ Fault kind at → IsPosixRefusedAt model t kind at
+  refused_in_order kind at e = subst (Tells model t) (h.verdict_is ∙ ap (verdict_after seen) e) (told model t)
 
 -- the places of a slice
 pub length_filled : (old types : List ArgumentType) → length (filled old types) ≡ length old

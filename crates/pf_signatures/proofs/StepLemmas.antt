@@ -92,8 +92,8 @@ module _ (model : Model) (t : Text) (seen : List Fetch) (old : FetchTrace) (h : 
       | inr few ↦ few
     ]
 
-  pub ordered_stop : {kind : SignatureRefusalKind} {at : ℕ} → old ≡ Fault kind at → (types : List ArgumentType) → HasArguments model t types → ⊥
-  ordered_stop {kind} {at} e types a = let v = arguments_verdict model t types a in let no : Refused kind at ≡ Takes _ = sym (ap (verdict_after seen) e) ∙ sym h.verdict_is ∙ v in cc
+  pub ordered_refused : {kind : SignatureRefusalKind} {at : ℕ} → old ≡ Fault kind at → (types : List ArgumentType) → HasArguments model t types → ⊥
+  ordered_refused {kind} {at} e types a = let v = arguments_verdict model t types a in let no : Refused kind at ≡ Takes _ = sym (ap (verdict_after seen) e) ∙ sym h.verdict_is ∙ v in cc
 
 pub ordered_start : (model : Model) (t : Text) → IsOrdered model t [] (fetch_trace model t)
 ordered_start model t = record { verdict_is = refl; unnumbered = tt }
@@ -125,7 +125,7 @@ module _ (model : Model) (t : Text) (old new : Reader) where
     go None n e = record { f = f; at = h.0; next_is = refl; reads = h.2; none = n; type = same f.wanted w e }
     go (Some k) n e = cc
   next_wanted nexts.End w e h = cc
-  next_wanted (nexts.Stop refusal) w e h = cc
+  next_wanted (nexts.Refused refusal) w e h = cc
 
   pub next_end : (n : NextFetch) → unnumbered_next n ≡ unnumbered.End → IsNextFetch model t old n new → trace_left model t old ≡ Whole
   next_end (nexts.Fetched f) e h = go f.number e where
@@ -133,7 +133,7 @@ module _ (model : Model) (t : Text) (old new : Reader) where
     go None e = cc
     go (Some k) e = cc
   next_end nexts.End e h = h
-  next_end (nexts.Stop refusal) e h = cc
+  next_end (nexts.Refused refusal) e h = cc
 
   pub next_other : (seen : List Fetch) (n : NextFetch) → IsOrdered model t seen (trace_left model t old) → unnumbered_next n ≡ unnumbered.Other → IsNextFetch model t old n new → (types : List ArgumentType) → HasArguments model t types → length types ≤ ROOM
   next_other seen (nexts.Fetched f) o e h types a = go f.number refl e where
@@ -141,7 +141,7 @@ module _ (model : Model) (t : Text) (old new : Reader) where
     go None n e = cc
     go (Some k) n e = ordered_few model t seen (trace_left model t old) o f h.0 (trace_left model t new) k h.2 n types a
   next_other seen nexts.End o e h types a = cc
-  next_other seen (nexts.Stop refusal) o e h types a = absurd (ordered_stop model t seen (trace_left model t old) o h types a)
+  next_other seen (nexts.Refused refusal) o e h types a = absurd (ordered_refused model t seen (trace_left model t old) o h types a)
 
 -- what two of them make
 pub record IsSame (p q : UnnumberedNext) : Type 0 where

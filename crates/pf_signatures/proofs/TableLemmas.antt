@@ -173,8 +173,8 @@ module _ (model : Model) (t : Text) (seen : List Fetch) (f : Fetch) (at : ℕ) (
     pub end_by_number : left ≡ Whole → verdict model t ≡ Takes (seen ++ f ∷ [])
     end_by_number e = goes_on ∙ ap (verdict_after (seen ++ f ∷ [])) e
 
-    pub stop_by_number : (kind : SignatureRefusalKind) (place : ℕ) → left ≡ Fault kind place → IsPosixRefusedAt model t kind place
-    stop_by_number kind place e = subst (Tells model t) (goes_on ∙ ap (verdict_after (seen ++ f ∷ [])) e) (told model t)
+    pub refused_by_number : (kind : SignatureRefusalKind) (place : ℕ) → left ≡ Fault kind place → IsPosixRefusedAt model t kind place
+    refused_by_number kind place e = subst (Tells model t) (goes_on ∙ ap (verdict_after (seen ++ f ∷ [])) e) (told model t)
 
 pub same_fetch : (f : Fetch) (m : ℕ) → style_by f.number ≡ Numbered → IsWithin f → m ≡ unwrap_or f.number 1 → fetch (Some (m - 1 + 1)) f.wanted ≡ f
 same_fetch f m n w e = go f.number refl n where

@@ -65,4 +65,4 @@ module _ (model : Model) (style : Numbering) (t : Text) where
 pub carried : (model : Model) (t : Text) (old self : Reader) (n : NextFetch) (new : Reader) → trace_left model t old ≡ trace_left model t self → IsNextFetch model t self n new → IsNextFetch model t old n new
 carried model t old self (nexts.Fetched f) new e h = (h.0, h.1, e ∙ h.2)
 carried model t old self nexts.End new e h = e ∙ h
-carried model t old self (nexts.Stop refusal) new e h = e ∙ h
+carried model t old self (nexts.Refused refusal) new e h = e ∙ h

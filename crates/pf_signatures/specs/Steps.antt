@@ -24,7 +24,7 @@ unnumbered_fetch (Some n) wanted = unnumbered.Other
 abbrev pub unnumbered_next : NextFetch → UnnumberedNext
 unnumbered_next (nexts.Fetched f) = unnumbered_fetch f.number f.wanted
 unnumbered_next nexts.End = unnumbered.End
-unnumbered_next (nexts.Stop refusal) = unnumbered.Other
+unnumbered_next (nexts.Refused refusal) = unnumbered.Other
 
 abbrev pub paired : UnnumberedNext → UnnumberedNext → NextPair
 paired (unnumbered.Wanted a) (unnumbered.Wanted b) =

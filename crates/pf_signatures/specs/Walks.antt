@@ -18,7 +18,7 @@ abbrev pub IsNextFetch : Model → Text → Reader → NextFetch → Reader → 
 IsNextFetch model t old (nexts.Fetched f) new =
     (at : ℕ) × (new.at ≡ at + 1) × (trace_left model t old ≡ Fetches f at (trace_left model t new))
 IsNextFetch model t old nexts.End new = trace_left model t old ≡ Whole
-IsNextFetch model t old (nexts.Stop refusal) new = trace_left model t old ≡ Fault refusal.kind refusal.at
+IsNextFetch model t old (nexts.Refused refusal) new = trace_left model t old ≡ Fault refusal.kind refusal.at
 
 -- the reader moves on
 abbrev pub AdvancesReader : Text → Reader → NextFetch → Reader → Type 0

@@ -33,7 +33,7 @@ pub fn arguments(
     let mut reader = Reader::new();
     match reader.next_fetch(model, text) {
         NextFetch::End => Ok(0),
-        NextFetch::Stop(refusal) => Err(refusal),
+        NextFetch::Refused(refusal) => Err(refusal),
         NextFetch::Fetched(first) => match first.number {
             None => in_order(model, text, reader, first.wanted, out),
             Some(_) => by_number(model, text, reader, first, out),
@@ -68,7 +68,7 @@ fn in_order(
                 count += 1;
             }
             NextFetch::End => return Ok(count as u64),
-            NextFetch::Stop(refusal) => return Err(refusal),
+            NextFetch::Refused(refusal) => return Err(refusal),
         }
     }
 }

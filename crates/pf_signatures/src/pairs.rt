@@ -69,7 +69,7 @@ fn unnumbered_next(next: NextFetch) -> UnnumberedNext
             Some(_) => UnnumberedNext::Other,
         },
         NextFetch::End => UnnumberedNext::End,
-        NextFetch::Stop(_) => UnnumberedNext::Other,
+        NextFetch::Refused(_) => UnnumberedNext::Other,
     }
 }
 

@@ -29,7 +29,7 @@ pub(crate) enum NextFetch {
     /// The end.
     End,
     /// The text is refused.
-    Stop(SignatureRefusal),
+    Refused(SignatureRefusal),
 }
 
 /// A reader of a text: its place, the automaton, and whether arguments are numbered.
@@ -89,7 +89,7 @@ impl Reader {
             (λ next. AdvancesReader text.now self.old next self.new) }
     {
         if self.at as u64 >= MAX_TEXT_LEN {
-            return Some(stop(SignatureRefusalKind::TooLong, self.at));
+            return Some(refused(SignatureRefusalKind::TooLong, self.at));
         }
         if self.automaton.is_between() {
             if text[self.at] != b'%' {
@@ -120,7 +120,7 @@ impl Reader {
     {
         let run = run_len(&text[self.at..], self.at);
         if run == 0 {
-            return Some(stop(SignatureRefusalKind::NulByte, self.at));
+            return Some(refused(SignatureRefusalKind::NulByte, self.at));
         }
         self.at += run;
         None
@@ -181,7 +181,7 @@ impl Reader {
                 self.style = style_by(fetch.number);
                 Some(NextFetch::Fetched(fetch))
             }
-            Err(kind) => Some(stop(kind, self.at)),
+            Err(kind) => Some(refused(kind, self.at)),
         }
     }
 
@@ -195,7 +195,7 @@ impl Reader {
         if self.automaton.is_between() {
             return NextFetch::End;
         }
-        stop(SignatureRefusalKind::Truncated, self.at)
+        refused(SignatureRefusalKind::Truncated, self.at)
     }
 }
 
@@ -226,10 +226,10 @@ fn style_by(number: Option<u16>) -> Numbering
     }
 }
 
-fn stop(kind: SignatureRefusalKind, at: usize) -> NextFetch
-    ensures { result ≡ NextFetch.Stop (record { kind = kind; at = at }) }
+fn refused(kind: SignatureRefusalKind, at: usize) -> NextFetch
+    ensures { result ≡ NextFetch.Refused (record { kind = kind; at = at }) }
 {
-    NextFetch::Stop(SignatureRefusal {
+    NextFetch::Refused(SignatureRefusal {
         kind,
         at: at as u64,
     })

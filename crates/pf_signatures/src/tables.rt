@@ -70,7 +70,7 @@ impl Table {
             match reader.next_fetch(model, text) {
                 NextFetch::Fetched(next) => fetch = next,
                 NextFetch::End => return self.finish(text.len()),
-                NextFetch::Stop(refusal) => return Err(refusal),
+                NextFetch::Refused(refusal) => return Err(refusal),
             }
         }
     }

@@ -56,7 +56,7 @@ returns-in-Err-take g c =
     let flushed = c.in_default.ensures.said c.args.kind c.args.writer.now text.0 text.1 text.3 in
     let part = take c.in-Ok.len c.read_block.new.block in
     let stopped = c.in-Err-take.ensures c.args.kind c.args.writer.now at.0 (text.0, text.1, text.2, flushed) in
-    left_stopped c.args.kind g.R.Read.remaining g.W.Write.contents c.args.reader.now c.read_block.new.reader c.args.writer.now c.stop.new.writer (at.0 ++ part) stopped.0 stopped.1 stopped.2 (Consumes-trans _ _ _ at.0 part at.1 c.in-Ok.ensures.bytes.0) (c.in-Ok.ensures.failures ∙ inv.reads) c.stop.result (c.stop.ensures c.args.kind c.args.writer.now (stopped.0 ++ last_record stopped.1) stopped.3)
+    left_stopped c.args.kind g.R.Read.remaining g.W.Write.contents c.args.reader.now c.read_block.new.reader c.args.writer.now c.break_off.new.writer (at.0 ++ part) stopped.0 stopped.1 stopped.2 (Consumes-trans _ _ _ at.0 part at.1 c.in-Ok.ensures.bytes.0) (c.in-Ok.ensures.failures ∙ inv.reads) c.break_off.result (c.break_off.ensures c.args.kind c.args.writer.now (stopped.0 ++ last_record stopped.1) stopped.3)
 
 pub returns-in-Err-read_block : goal.returns-in-Err-read_block
 returns-in-Err-read_block g c =

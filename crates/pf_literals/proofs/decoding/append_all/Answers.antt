@@ -17,10 +17,10 @@ returns-in-End g c =
     let i = c.loop-part.invariant in
     (all_read c.args.source.now c.loop-part.out.items i.0 _ i.1 c.in-End.field-0 c.in-End.ensures.next).0
 
-pub returns-in-Stop : goal.returns-in-Stop
-returns-in-Stop g c =
+pub returns-in-Refused : goal.returns-in-Refused
+returns-in-Refused g c =
     let i = c.loop-part.invariant in
-    refused c.args.source.now c.loop-part.out.items i.0 _ i.1 c.in-Stop.refusal.kind c.in-Stop.refusal.at c.in-Stop.ensures.next
+    refused c.args.source.now c.loop-part.out.items i.0 _ i.1 c.in-Refused.refusal.kind c.in-Refused.refusal.at c.in-Refused.ensures.next
 
 pub returns-in-Err : goal.returns-in-Err
 returns-in-Err g c =

@@ -29,7 +29,7 @@ returns-in-End c =
     let i = c.loop-part.invariant in
     at_end c.args.source.now i.0 i.1 _ i.2 c.in-End.close c.in-End.ensures.next c.args.index c.loop-part.left c.last_place.result i.3 c.last_place.ensures
 
-pub returns-in-Stop : goal.returns-in-Stop
-returns-in-Stop c =
+pub returns-in-Refused : goal.returns-in-Refused
+returns-in-Refused c =
     let i = c.loop-part.invariant in
-    none_behind c.args.source.now i.0 i.1 _ i.2 c.args.index c.in-Stop.field-0.at c.in-Stop.field-0.kind c.in-Stop.ensures.next
+    none_behind c.args.source.now i.0 i.1 _ i.2 c.args.index c.in-Refused.field-0.at c.in-Refused.field-0.kind c.in-Refused.ensures.next

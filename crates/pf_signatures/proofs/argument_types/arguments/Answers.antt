@@ -8,8 +8,8 @@ returns-in-End-clause-types c =
     let t = c.args.text.now in
     record { types = []; accepted = no_arguments model t (sym (c.new-reader.ensures.left model t) ∙ c.in-End.ensures.next); count_is = refl; front = sym (filled_none c.args.out.now) }
 
-pub returns-in-Stop-clause-types : goal.returns-in-Stop-clause-types
-returns-in-Stop-clause-types c =
+pub returns-in-Refused-clause-types : goal.returns-in-Refused-clause-types
+returns-in-Refused-clause-types c =
     let model = c.args.model in
     let t = c.args.text.now in
-    refused_first model t c.in-Stop.refusal.kind c.in-Stop.refusal.at (sym (c.new-reader.ensures.left model t) ∙ c.in-Stop.ensures.next)
+    refused_first model t c.in-Refused.refusal.kind c.in-Refused.refusal.at (sym (c.new-reader.ensures.left model t) ∙ c.in-Refused.ensures.next)

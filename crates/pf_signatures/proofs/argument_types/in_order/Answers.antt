@@ -4,7 +4,7 @@ use Rattle.std.proofs.lemmas.List.{length-map, length_push, map_push}
 use Rattle.pf_signatures.specs.Laws.{filled}
 use Rattle.pf_signatures.specs.Readings.{wanted_types}
 use Rattle.pf_signatures.specs.Types.{fetch}
-use Rattle.pf_signatures.proofs.OrderLemmas.{end_in_order, filled_none, first_in_order, next_in_order, stop_in_order}
+use Rattle.pf_signatures.proofs.OrderLemmas.{end_in_order, filled_none, first_in_order, next_in_order, refused_in_order}
 use Rattle.pf_signatures.proofs.argument_types.in_order.Goals as goal
 
 pub loop-fetch-init : goal.loop-fetch-init
@@ -43,7 +43,7 @@ returns-in-End-clause-types c =
       front = i.3;
     }
 
-pub returns-in-Stop-clause-types : goal.returns-in-Stop-clause-types
-returns-in-Stop-clause-types c =
+pub returns-in-Refused-clause-types : goal.returns-in-Refused-clause-types
+returns-in-Refused-clause-types c =
     let i = c.loop-fetch.invariant in
-    stop_in_order c.args.model c.args.text.now i.0 _ i.1 c.in-Stop.refusal.kind c.in-Stop.refusal.at c.in-Stop.ensures.next
+    refused_in_order c.args.model c.args.text.now i.0 _ i.1 c.in-Refused.refusal.kind c.in-Refused.refusal.at c.in-Refused.ensures.next

@@ -11,7 +11,7 @@ returns-in-Err g c =
     let at = c.loop-len.at in
     let found = subst (λ t. IsFirstByte (is_byte 0) t (Some c.in-Some.len)) (take_rest block at) c.in-Some.ensures in
     let bytes_are : take ((at + c.in-Some.len) - at) (drop at block) ≡ take c.in-Some.len (drop at block) = ap (λ n. take n (drop at block)) (omega arith) in
-    λ kind start taken h. record_stopped kind g.W.Write.contents c.loop-len.self start c.loop-len.writer taken block at (c.loop-len.invariant.at kind start taken h) c.in-Some.len found _ bytes_are c.take_record.new.self c.take_record.new.writer c.in-Err.stop (λ whole rest is. c.in-Err.ensures kind start whole rest is)
+    λ kind start taken h. record_stopped kind g.W.Write.contents c.loop-len.self start c.loop-len.writer taken block at (c.loop-len.invariant.at kind start taken h) c.in-Some.len found _ bytes_are c.take_record.new.self c.take_record.new.writer c.in-Err.fault (λ whole rest is. c.in-Err.ensures kind start whole rest is)
 
 pub loop-len-preserved : goal.loop-len-preserved
 loop-len-preserved g c =

@@ -3,7 +3,7 @@ use Rattle.pf_signatures.specs.declared.refusals.SignatureRefusalKind.TheVariant
 use Rattle.pf_signatures.specs.Readings.{conflicts}
 use Rattle.pf_signatures.specs.Refusals.{IsPosixRefusedAt}
 use Rattle.pf_signatures.specs.Tabled.{TableHolds}
-use Rattle.pf_signatures.proofs.TableLemmas.{all_numbered, conflict_refused, end_by_number, finished, first_by_number, next_by_number, numbered_of, same_fetch, stop_by_number}
+use Rattle.pf_signatures.proofs.TableLemmas.{all_numbered, conflict_refused, end_by_number, finished, first_by_number, next_by_number, numbered_of, same_fetch, refused_by_number}
 use Rattle.pf_signatures.proofs.tables.Table.fill.Goals as goal
 
 pub loop-model-init : goal.loop-model-init
@@ -41,11 +41,11 @@ returns-in-End c =
     let verdict = end_by_number c.args.model t i.0 f i.1 _ i.2 both.0 c.in-End.ensures.next in
     finished c.args.model t c.add_fetch.new.self (i.0 ++ f ∷ []) _ c.finish.result verdict (all_numbered c.args.model t i.0 f i.1 _ i.2 both.0) both.1 refl (c.finish.ensures (i.0 ++ f ∷ []) both.1)
 
-pub returns-in-Stop : goal.returns-in-Stop
-returns-in-Stop c =
+pub returns-in-Refused : goal.returns-in-Refused
+returns-in-Refused c =
     let t = c.args.text.now in
     let i = c.loop-model.invariant in
     let f = c.loop-model.fetch in
     let same = same_fetch f c.from-number.result i.2.number i.2.within (c.from-number.ensures ∙ c.unwrap_or.ensures) in
     let both = subst (λ g. (conflicts i.0 g ≡ false) × TableHolds c.add_fetch.new.self (i.0 ++ g ∷ [])) same (c.if-not-add_fetch.ensures i.0 i.3) in
-    stop_by_number c.args.model t i.0 f i.1 _ i.2 both.0 c.in-Stop.refusal.kind c.in-Stop.refusal.at c.in-Stop.ensures.next
+    refused_by_number c.args.model t i.0 f i.1 _ i.2 both.0 c.in-Refused.refusal.kind c.in-Refused.refusal.at c.in-Refused.ensures.next

@@ -1,7 +1,7 @@
 use Rattle.std.proofs.Common.{refl, subst}
 use Rattle.fmtcanon.specs.Conversations.{HasStopped}
 use Rattle.fmtcanon.proofs.RecordLemmas.{out_all, out_first}
-use Rattle.fmtcanon.proofs.records.Conversation.stop.Goals as goal
+use Rattle.fmtcanon.proofs.records.Conversation.break_off.Goals as goal
 
 pub returns-in-Ok : goal.returns-in-Ok
 returns-in-Ok g c =
