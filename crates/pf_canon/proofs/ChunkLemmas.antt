@@ -27,6 +27,7 @@ use Rattle.pf_canon.specs.Transducer.{GrowsByChunk, HasScannedDirective, HasScan
 use Rattle.pf_text.specs.CanonicalRuns.{PassesCanonicalRun, PassesSilents, silents}
 use Rattle.pf_canon.proofs.TextLemmas.{most_len-append, not_truncated}
 use Rattle.pf_text.proofs.SpellingLemmas.{length-spelled}
+use Rattle.pf_values.proofs.Alike.{alike_refl}
 use Rattle.pf_canon.proofs.MakingLemmas.{made_more, made_normal, made_settled, made_silents}
 use Rattle.pf_canon.proofs.TransducerLemmas.{directive_grown, grown, passed, passed_run, through_few}
 
@@ -34,7 +35,7 @@ pub through_settles : (model : Model) (r : Transducer) (t out : Text) (items : L
 through_settles model r t out items h =
     let good = h.after.good in
     let splits = good.splits in
-    record { items = items; part = h.after.part; good = good; settled = made_settled model splits.whole out r.waiting items splits.reads h.made }
+    record { items = items; part = h.after.part; good = good; settled = made_settled model out r.waiting items h.made splits.whole items splits.reads (alike_refl model items) }
 
 -- inside an item nothing is settled
 pub inside : (model : Model) (old new : Transducer) (t out : Text) (items : List Item) (byte : ℕ) → IsThrough model old t items out → new.model ≡ old.model → new.waiting ≡ old.waiting → scanned.Takes t items byte steps.More new.scanner → IsThrough model new (t ++ byte ∷ []) items out

@@ -29,6 +29,7 @@ use Rattle.pf_canon.specs.Transducer.{GrowsByByte, IsStepOf, IsThrough, Settles,
 use Rattle.pf_canon.specs.Answers.{most_len}
 use Rattle.pf_canon.proofs.TextLemmas.{items_few, most_len-append}
 use Rattle.pf_canon.proofs.DirectiveLemmas.{directive_made}
+use Rattle.pf_values.proofs.Alike.{alike_refl}
 use Rattle.pf_canon.proofs.MakingLemmas.{made_canonical, made_more, made_run, made_same}
 use Rattle.pf_canon.proofs.PieceLemmas.{run_made, run_short}
 use Rattle.pf_canon.proofs.Printing.{reduced_items}
@@ -162,8 +163,8 @@ pub ended : (model : Model) (t out : Text) (waiting : ℕ) (items : List Item) �
 ended model t out waiting items reads h c e =
     let same : c ≡ flat_map item_spelling (silents waiting) = e ∙ append-nil (flat_map item_spelling (silents waiting)) in (
       reads,
-      subst (λ u. IsCanonicalOf model t (out ++ u)) (sym same) (made_canonical model t out waiting items reads h),
-      λ is. ap (λ u. out ++ u) same ∙ made_same model t out waiting items reads h is,
+      subst (λ u. IsCanonicalOf model t (out ++ u)) (sym same) (made_canonical model out waiting items h t items reads (alike_refl model items)),
+      λ is. ap (λ u. out ++ u) same ∙ made_same model out waiting items h t reads is,
     )
 
 pub most_items : (items : List Item) → most_len items ≤ 4120 * length items

@@ -147,11 +147,7 @@ fn copy_chunk<W: Write>(
             len: chunk.len,
             written,
         }),
-        Err(written) => {
-            // What was read counts as taken, and so does what it settles.
-            let _ = transducer.passed(&text[chunk.len..]);
-            Err(CopyFault::Write(written))
-        }
+        Err(written) => Err(CopyFault::Write(written)),
     }
 }
 

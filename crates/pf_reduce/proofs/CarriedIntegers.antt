@@ -84,7 +84,7 @@ kept_type_of model (kinds.Unsigned base capitals) length = ap (λ r. r.unsigned)
 kept_type_of model kinds.Char length = refl
 kept_type_of model kinds.String length = refl
 
-kept_type : (model : Model) (conv : Conv) (length : Length)
+pub kept_type : (model : Model) (conv : Conv) (length : Length)
     → type_under model (kept_conv conv) (kept_length model length) ≡ type_under model conv length
 kept_type model conv length =
     ap (λ k. type_of_kind model k (kept_length model length)) (kept_kind conv)

@@ -1,4 +1,6 @@
 mod NormalCores
+mod NormalForms
+mod Narrowing
 mod Paddings
 mod SignLemmas
 mod Carried
@@ -9,3 +11,7 @@ mod PrefixedNumbers
 mod SignedNumbers
 mod TextCores
 mod OwnCores
+mod UnsignedReductions
+mod SignedReductions
+mod TextReductions
+pub mod Reductions

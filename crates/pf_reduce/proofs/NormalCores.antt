@@ -44,25 +44,25 @@ sign_flags_are false signs.None s e = search rules
 sign_flags_are false signs.Plus s e = search rules
 sign_flags_are false signs.Space s e = search rules
 
-width_within : (w : ℕ) → w ≤ MAX_NUMBER → is_above_limit (width_given (Some w)) ≡ false
+pub width_within : (w : ℕ) → w ≤ MAX_NUMBER → is_above_limit (width_given (Some w)) ≡ false
 width_within zero h = refl
 width_within (suc w) h = grind (arith, nat_tests)
 
-precision_within : (p : ℕ) → p ≤ MAX_NUMBER → is_above_limit (kept_precision p) ≡ false
+pub precision_within : (p : ℕ) → p ≤ MAX_NUMBER → is_above_limit (kept_precision p) ≡ false
 precision_within zero h = grind (arith, nat_tests)
 precision_within (suc zero) h = refl
 precision_within (suc (suc p)) h = grind (arith, nat_tests)
 
-some_width : (w : ℕ) → width_given (Some w) ≢ Some 0
+pub some_width : (w : ℕ) → width_given (Some w) ≢ Some 0
 some_width zero e = cc
 some_width (suc w) e = cc
 
-no_precision_1 : (p : ℕ) → kept_precision p ≢ Some 1
+pub no_precision_1 : (p : ℕ) → kept_precision p ≢ Some 1
 no_precision_1 zero e = cc
 no_precision_1 (suc zero) e = cc
 no_precision_1 (suc (suc p)) e = cc
 
-kept_signed : (conv : Conv) → is_signed conv ≡ true → kept_conv conv ≡ D
+pub kept_signed : (conv : Conv) → is_signed conv ≡ true → kept_conv conv ≡ D
 kept_signed D e = refl
 kept_signed I e = refl
 kept_signed _ e = cc

@@ -1,9 +1,9 @@
 use Rattle.std.proofs.Common.{◌++◌, ◌∙◌, ap, refl, sym, take, drop, subst}
-use Rattle.std.proofs.lemmas.List.{append_assoc, take_rest, take-append-drop}
+use Rattle.std.proofs.lemmas.List.{append_assoc, take-append-drop}
 use Rattle.pf_canon.specs.Copy.{FirstOut}
 use Rattle.pf_canon.specs.Transducer.{IsThrough, RefusesChunk, chunk_output_text}
 use Rattle.pf_canon.proofs.CopyLemmas.{few_through, gather_out, put_first}
-use Rattle.pf_canon.proofs.ChunkLemmas.{passed_settles}
+use Rattle.pf_canon.proofs.RestLemmas.{through_rest}
 use Rattle.pf_values.specs.Counting.{device_of}
 use Rattle.pf_canon.proofs.copy.copy_chunk.Goals as goal
 
@@ -30,10 +30,10 @@ returns-in-Err-gather_chunk-clause-copied g c model front start h =
     let waiting = c.args.waiting.now.items in
     let fed = c.in-Ok.ensures.fed model front (h.out ++ waiting) h.items h.through in
     let through = subst (IsThrough model new t fed.items) (append_assoc h.out waiting chunk) fed.through in
-    let all = rw take_rest at c.passed.ensures model t (h.out ++ (waiting ++ chunk)) fed.items through in
+    let all = through_rest model new t (h.out ++ (waiting ++ chunk)) (drop f.len text) fed.items through in
     let whole = append_assoc front (take f.len text) (drop f.len text) ∙ ap (λ t. front ++ t) (take-append-drop f.len text) in
     subst (λ t. FirstOut model t start (g.W.Write.contents (device_of c.gather_chunk.new.w)) c.in-Err-gather_chunk.written) whole
-    (put_first model g.W.Write.contents c.args.w.now c.gather_chunk.new.w h.out (waiting ++ chunk) start c.args.written h.writer h.count (few_through model new t _ fed.items through) _ all.0 (passed_settles model _ _ c.passed.result all.1) c.in-Err-gather_chunk.written c.in-Err-gather_chunk.ensures)
+    (put_first model g.W.Write.contents c.args.w.now c.gather_chunk.new.w h.out (waiting ++ chunk) start c.args.written h.writer h.count (few_through model new t _ fed.items through) _ all.0 all.1 c.in-Err-gather_chunk.written c.in-Err-gather_chunk.ensures)
 
 pub returns-in-Err-clause-copied : goal.returns-in-Err-clause-copied
 returns-in-Err-clause-copied g c model front start h =

@@ -1,0 +1,169 @@
+-- Each directive that prints a number with a sign has a reduction.
+use Rattle.std.proofs.Common.{◌≡◌, ◌≢◌, ℕ, zero, suc, ◌+◌, ◌<◌, ◌≤◌, max, Bool, true, false, Some, None, ◌++◌, length, refl, sym, ap, ◌∙◌, arith, inl, inr}
+use Rattle.std.specs.Prelude.{nat_abs, ◌⊎◌}
+use Rattle.std.proofs.lemmas.Bool.{cases_lt}
+use Rattle.pf_values.specs.declared.conversions.Conv.{Conv}
+use Rattle.pf_values.specs.declared.conversions.Conv.TheVariants.{D, I}
+use Rattle.pf_values.specs.declared.flags.Flag.TheVariants.{Minus, Zero}
+use Rattle.pf_values.specs.declared.lengths.Length.{Length}
+use Rattle.pf_values.specs.declared.limits.TheConstants.{MAX_NUMBER}
+use Rattle.pf_values.specs.declared.models.Model.{Model}
+use Rattle.pf_values.specs.meaning.Conversions.{is_signed}
+use Rattle.pf_values.specs.meaning.DataModel.{Bits, B8, B16, B32, B64, bits_under, kept_length, most_digits}
+use Rattle.pf_values.specs.meaning.Defined.{IsDefined}
+use Rattle.pf_values.specs.meaning.Flags.{has, no_flags, with_flag}
+use Rattle.pf_values.specs.meaning.Normal.{IsNormal, digits_at_most}
+use Rattle.pf_values.specs.meaning.Printing.{is_negative, is_zero_filled}
+use Rattle.pf_values.specs.meaning.Specification.{Specification, width_of}
+use Rattle.pf_values.specs.meaning.Text.{Text}
+use Rattle.pf_values.specs.Directives.{effective_precision, specification_of}
+use Rattle.pf_values.proofs.DataModelLemmas.{kept_row}
+use Rattle.pf_reduce.specs.declared.padding.Padding.{Padding}
+use Rattle.pf_reduce.specs.declared.signs.Sign.{Sign}
+use Rattle.pf_reduce.specs.declared.signs.Sign.TheVariants as signs
+use Rattle.pf_reduce.specs.Cores.{core_of_parts, kept_precision, padded_core}
+use Rattle.pf_reduce.specs.Padded.{padding_of, with_padding}
+use Rattle.pf_reduce.specs.Signs.{sign_flags, sign_length, sign_of, sign_text}
+use Rattle.pf_reduce.proofs.CarriedIntegers.{width_is}
+use Rattle.pf_reduce.proofs.Narrowing.{narrowed, right_up_to, without_idle}
+use Rattle.pf_reduce.proofs.NormalCores.{kept_signed, normal_signed, some_width, width_within}
+use Rattle.pf_reduce.proofs.Precisions.{filled_right}
+use Rattle.pf_reduce.proofs.SignLemmas.{none_for, space_for}
+use Rattle.pf_reduce.proofs.SignedNumbers.{signed_filled, signed_least, signed_most, signed_reduced, signed_text, unseen_signed_side}
+use Rattle.pf_reduce.proofs.UnprefixedNumbers.{digits_text, length-digits_text}
+use Rattle.pf_reduce.proofs.UnsignedReductions.{Reduction, effective_limit, width_limit}
+
+-- filled with zeros
+made_filled : (model : Model) (w : ℕ) (length : Length) → kept_length model length ≡ length → w ≤ MAX_NUMBER → 2 ≤ w → IsNormal model (specification_of (with_flag no_flags Zero) (Some w) None length D)
+made_filled model w length same few wide = record {
+  defined = record { width = some_width w; allowed = rw (width_within w few) refl };
+  no_group = refl;
+  length = same;
+  conv = refl;
+  no_plus = λ e. cc;
+  no_space = λ e. cc;
+  precision = λ e. cc;
+  form = (record { right = refl; no_precision = refl; width = omega (arith, width_is w, wide) }, refl);
+}
+
+normal_filled : (model : Model) (s : Specification) (p : Padding) → is_signed s.conv ≡ true → p.width ≤ MAX_NUMBER → p.left ≡ false → 2 ≤ p.width → IsNormal model (core_of_parts model s p (with_flag no_flags Zero) None)
+normal_filled model s p signed few right wide = rw (kept_signed s.conv signed, right) (made_filled model p.width (kept_length model s.length) (ap (λ r. r.kept) (kept_row model s.length)) few wide)
+
+-- On the right, in a field for the most digits and a sign, one of two signs is as good as the other.
+record ReplacesSign (p : Padding) (sign : Sign) (longest precision digits : ℕ) (new : Sign) : Type 0 where
+  same : (negative : Bool) (number : Text) → length number ≤ longest → with_padding p (sign_text sign negative ++ number) ≡ with_padding p (sign_text new negative ++ number)
+  space : p.left ≡ false → p.width ≡ 1 + longest → new ≡ signs.Space → digits ≤ precision
+  none : p.left ≡ false → p.width ≡ 1 + longest → new ≡ signs.None → precision < digits
+
+no_other : (sign : Sign) → sign ≢ signs.Plus → (sign ≡ signs.Space) ⊎ (sign ≡ signs.None)
+no_other signs.None h = inr refl
+no_other signs.Plus h = absurd (h refl)
+no_other signs.Space h = inl refl
+
+module _ (p : Padding) (longest precision digits : ℕ) where
+  -- there is no such field
+  kept_sign : (sign : Sign) → (p.left ≡ true) ⊎ (p.width ≢ 1 + longest) → (new : Sign) × ReplacesSign p sign longest precision digits new
+  kept_sign sign elsewhere = (sign, record {
+    same = λ negative number few. refl;
+    space = λ right wide is. elim elsewhere [ | inl left ↦ absurd (cc) | inr other ↦ absurd (other wide) ];
+    none = λ right wide is. elim elsewhere [ | inl left ↦ absurd (cc) | inr other ↦ absurd (other wide) ];
+  })
+
+  space_or_none : (sign : Sign) → sign ≢ signs.Plus → p.left ≡ false → longest < p.width → (new : Sign) × ReplacesSign p sign longest precision digits new
+  space_or_none sign other right room = elim (cases_lt precision digits) [
+    | inl fewer ↦ (signs.None, record { same = λ negative number few. none_for sign p negative number (no_other sign other) right (omega (arith, few, room)); space = λ right wide is. cc; none = λ right wide is. fewer })
+    | inr enough ↦ (signs.Space, record { same = λ negative number few. space_for sign p negative number (no_other sign other) right (omega (arith, few, room)); space = λ right wide is. enough; none = λ right wide is. cc })
+  ]
+
+  in_its_field : (sign : Sign) → p.left ≡ false → longest < p.width → (new : Sign) × ReplacesSign p sign longest precision digits new
+  in_its_field signs.None right room = space_or_none signs.None (λ e. cc) right room
+  in_its_field signs.Plus right room = (signs.Plus, record { same = λ negative number few. refl; space = λ right wide is. cc; none = λ right wide is. cc })
+  in_its_field signs.Space right room = space_or_none signs.Space (λ e. cc) right room
+
+  by_side : (sign : Sign) (left : Bool) → p.left ≡ left → (new : Sign) × ReplacesSign p sign longest precision digits new
+  by_side sign true left = kept_sign sign (inl left)
+  by_side sign false right = elim (cases_lt longest p.width) [
+    | inl room ↦ in_its_field sign right room
+    | inr few ↦ kept_sign sign (inr (λ e. absurd (omega (arith, few, e))))
+  ]
+
+-- up to which width nobody sees the side
+record IsUnseenUpTo (sign : Sign) (precision most : ℕ) : Type 0 where
+  plus : sign ≡ signs.Plus → most ≡ 0
+  none : sign ≢ signs.Plus → precision ≡ 0 → most ≡ sign_length sign + 1
+  some : 1 ≤ precision → most ≡ 0
+  few : most ≤ 2
+
+unseen_up_to : (sign : Sign) (precision : ℕ) → (most : ℕ) × IsUnseenUpTo sign precision most
+unseen_up_to signs.Plus precision = (0, record { plus = λ e. refl; none = λ other. absurd (other refl); some = λ h. refl; few = omega arith })
+unseen_up_to sign (suc precision) = (0, record { plus = λ e. refl; none = λ other e. cc; some = λ h. refl; few = omega arith })
+unseen_up_to signs.None zero = (1, record { plus = λ e. cc; none = λ other e. refl; some = λ h. absurd (omega (arith, h)); few = omega arith })
+unseen_up_to signs.Space zero = (2, record { plus = λ e. cc; none = λ other e. refl; some = λ h. absurd (omega (arith, h)); few = omega arith })
+
+three_digits : (conv : Conv) (b : Bits) → is_signed conv ≡ true → 3 ≤ most_digits conv b
+three_digits D B8 e = omega arith
+three_digits D B16 e = omega arith
+three_digits D B32 e = omega arith
+three_digits D B64 e = omega arith
+three_digits I B8 e = omega arith
+three_digits I B16 e = omega arith
+three_digits I B32 e = omega arith
+three_digits I B64 e = omega arith
+three_digits _ b e = cc
+
+module _ (model : Model) (s : Specification) (defined : IsDefined s) (signed : is_signed s.conv ≡ true) where
+  -- the flag `0` is kept in a field of two bytes or more, where there is no sign
+  filled_field : is_zero_filled s ≡ true → sign_length (sign_of s.flags) ≡ 0 → 2 ≤ width_of s → Reduction model s
+  filled_field all none wide =
+      let normal = normal_filled model s (padding_of s) signed (width_limit s defined) (filled_right s all) wide in
+      (padded_core model s (padding_of s) (with_flag no_flags Zero) None, signed_filled model s signed all none (refl, normal))
+
+  unfilled_field : (is_zero_filled s ≡ true → (1 ≤ sign_length (sign_of s.flags)) ⊎ (width_of s ≤ 1)) → Reduction model s
+  unfilled_field idle =
+      let sign : Sign = sign_of s.flags in
+      let p : ℕ = effective_precision s (sign_length sign) in
+      let d : ℕ = digits_at_most model s in
+      let three = three_digits s.conv (bits_under model s.length) signed in
+      let w = width_limit s defined in
+      let few = effective_limit s (sign_length sign) defined in
+      let (a, narrow) = narrowed (has s.flags Minus) (width_of s) (1 + max p d) in
+      let (b, field) = without_idle a (sign_length sign + p) in
+      let (new, replaced) = by_side b (max p d) p d sign b.left refl in
+      let (c, again) = without_idle b (sign_length new + p) in
+      let (most, unseen) = unseen_up_to new p in
+      let (q, right) = right_up_to c most in
+      let small = unseen.few in
+      let on_the_right : q.left ≡ false → q.width ≡ 1 + max p d → (b.left ≡ false) × (b.width ≡ 1 + max p d) =
+      λ r wide. (sym (again.left) ∙ sym (right.kept (omega (arith, right.width, wide, small, three))) ∙ r, omega (arith, right.width, again.width, field.width, narrow.width, wide)) in
+      let normal : IsNormal model (core_of_parts model s q (sign_flags new) (kept_precision p)) =
+      normal_signed model s q new p signed (omega (arith, right.width, again.width, field.width, narrow.width, w), few)
+      (λ some. let least = again.some (omega (arith, right.width, some)) in omega (arith, right.width, least))
+      (omega (arith, right.width, again.width, field.width, narrow.width))
+      (λ r is wide. let at = on_the_right r wide in let enough = replaced.space at.0 at.1 is in let one = ap sign_length is in let least = again.some (omega (arith, right.width, wide)) in omega (arith, right.width, wide, enough, one, least))
+      (λ r is enough wide. let at = on_the_right r wide in let fewer = replaced.none at.0 at.1 is in omega (arith, enough, fewer))
+      (λ l. let wide = (right.wide l).1 in (omega (arith, right.width, wide), λ other zero. let at = unseen.none other zero in omega (arith, right.width, wide, at))) in (
+        padded_core model s q (sign_flags new) (kept_precision p),
+        signed_reduced model s signed q new p idle refl (refl, normal) (omega (arith, right.constant, again.constant, field.constant, narrow.constant, w)) (λ v count.
+        let number = digits_text D p (nat_abs v) in
+        let len = length-digits_text D p (nat_abs v) in
+        let before = signed_text sign p v in
+        let after = signed_text new p v in
+        narrow.same before (signed_most sign p d v count)
+        ∙ field.same before (signed_least sign p v)
+        ∙ replaced.same (is_negative v) number (omega (arith, len, count))
+        ∙ again.same after (signed_least new p v)
+        ∙ right.same after (unseen_signed_side new c.width most p v unseen.plus unseen.none unseen.some)),
+      )
+
+  by_fill : (filled : Bool) → is_zero_filled s ≡ filled → Reduction model s
+  by_fill true all = elim (cases_lt 0 (sign_length (sign_of s.flags))) [
+    | inl some ↦ unfilled_field (λ e. inl some)
+    | inr none ↦ elim (cases_lt 1 (width_of s)) [
+      | inl wide ↦ filled_field all (omega (arith, none)) wide
+      | inr few ↦ unfilled_field (λ e. inr few)
+    ]
+  ]
+  by_fill false no_fill = unfilled_field (λ e. absurd (cc))
+
+  pub signed_reduction : Reduction model s
+  signed_reduction = by_fill (is_zero_filled s) refl
