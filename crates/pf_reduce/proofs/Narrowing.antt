@@ -1,42 +1,26 @@
 -- The steps that narrow a field: each gives the padding that it leaves.
-use Rattle.std.proofs.Common.{◌≡◌, ℕ, ◌-◌, ◌<◌, ◌≤◌, min, Bool, true, false, ◌++◌, length, replicate, refl, ap, arith, inl, inr}
+use Rattle.std.specs.Prelude.{◌⊎◌}
+use Rattle.std.proofs.Common.{◌≡◌, ℕ, ◌+◌, ◌-◌, ◌<◌, ◌≤◌, min, Bool, true, false, ◌++◌, length, replicate, refl, ap, arith, inl, inr}
 use Rattle.std.proofs.lemmas.Bool.{cases_lt}
 use Rattle.pf_values.specs.meaning.Printing.{field_of}
 use Rattle.pf_values.specs.meaning.Text.{Text, space, zero_digit}
 use Rattle.pf_reduce.specs.declared.padding.Padding.{Padding}
-use Rattle.pf_reduce.specs.Padded.{IsUnseen, constants, with_padding}
-use Rattle.pf_reduce.proofs.Paddings.{at_most_left, at_most_right, right_field}
+use Rattle.pf_reduce.specs.Padded.{HasNoIdleWidth, IsNarrowedTo, IsPastZeros, IsRightUpTo}
+use Rattle.pf_reduce.proofs.Paddings.{at_most_left, at_most_right, past, right_field}
 
 -- a field with nothing around it
 abbrev pub bare : Bool → ℕ → Padding
 bare left width = record { spaces = 0; zeros = 0; width = width; left = left; trail = 0 }
 
--- Where at most so many bytes are printed, the spaces beyond are constant.
-pub record Narrowed (p : Padding) (most : ℕ) (q : Padding) : Type 0 where
-  pub same : (body : Text) → length body ≤ most → with_padding p body ≡ with_padding q body
-  pub constant : constants q ≡ p.width - most
-  pub left : q.left ≡ p.left
-  pub width : q.width ≡ min p.width most
+pub cut_on_the_left : (w most : ℕ) → IsNarrowedTo (bare true w) most (record { spaces = 0; zeros = 0; width = min w most; left = true; trail = w - most })
+cut_on_the_left w most = record { same = λ body few. at_most_left w most body few; constant = omega arith; left = refl; width = refl }
 
-pub narrowed : (left : Bool) (w most : ℕ) → (q : Padding) × Narrowed (bare left w) most q
-narrowed true w most = (
-  record { spaces = 0; zeros = 0; width = min w most; left = true; trail = w - most },
-  record { same = λ body few. at_most_left w most body few; constant = omega arith; left = refl; width = refl },
-)
-narrowed false w most = (
-  record { spaces = w - most; zeros = 0; width = min w most; left = false; trail = 0 },
-  record { same = λ body few. at_most_right w most body few; constant = omega arith; left = refl; width = refl },
-)
+pub cut_on_the_right : (w most : ℕ) → IsNarrowedTo (bare false w) most (record { spaces = w - most; zeros = 0; width = min w most; left = false; trail = 0 })
+cut_on_the_right w most = record { same = λ body few. at_most_right w most body few; constant = omega arith; left = refl; width = refl }
 
--- Where at least so many bytes are printed, a width of no more is none.
-pub record HasNoIdleWidth (p : Padding) (least : ℕ) (q : Padding) : Type 0 where
-  pub same : (body : Text) → least ≤ length body → with_padding p body ≡ with_padding q body
-  pub constant : constants q ≡ constants p
-  pub left : q.left ≡ p.left
-  pub width : q.width ≤ p.width
-  pub idle : p.width ≤ least → q.width ≡ 0
-  pub kept : least < p.width → q.width ≡ p.width
-  pub some : 0 < q.width → least < q.width
+pub narrowed : (left : Bool) (w most : ℕ) → (q : Padding) × IsNarrowedTo (bare left w) most q
+narrowed true w most = (record { spaces = 0; zeros = 0; width = min w most; left = true; trail = w - most }, cut_on_the_left w most)
+narrowed false w most = (record { spaces = w - most; zeros = 0; width = min w most; left = false; trail = 0 }, cut_on_the_right w most)
 
 idle_field : (left : Bool) (w : ℕ) (body : Text) → w ≤ length body → field_of left w body ≡ field_of left 0 body
 idle_field true w body h = let e : w - length body ≡ 0 - length body = omega arith in ap (λ n. body ++ replicate n space) e
@@ -44,40 +28,45 @@ idle_field false w body h = let e : w - length body ≡ 0 - length body = omega 
 
 pub without_idle : (p : Padding) (least : ℕ) → (q : Padding) × HasNoIdleWidth p least q
 without_idle p least = elim (cases_lt least p.width) [
-  | inl more ↦ (p, record { same = λ body h. refl; constant = refl; left = refl; width = omega arith; idle = λ few. absurd (omega (arith, few, more)); kept = λ h. refl; some = λ h. more })
+  | inl more ↦ (p, record { same = λ body h. refl; constant = refl; left = refl; idle = λ few. absurd (omega (arith, few, more)); kept = λ h. refl })
   | inr few ↦ (
     record p { width = 0 },
     record {
       same = λ body h. ap (λ t. replicate p.spaces space ++ (replicate p.zeros zero_digit ++ (t ++ replicate p.trail space))) (idle_field p.left p.width body (omega (arith, few, h)));
       constant = refl;
       left = refl;
-      width = omega arith;
       idle = λ h. refl;
       kept = λ more. absurd (omega (arith, few, more));
-      some = λ h. absurd (omega (arith, h));
     },
   )
 ]
 
--- Right-justified up to a width of which nobody sees the side.
-pub record IsRightUpTo (p : Padding) (most : ℕ) (q : Padding) : Type 0 where
-  pub same : (body : Text) → (p.width ≤ most → IsUnseen p.width body) → with_padding p body ≡ with_padding q body
-  pub constant : constants q ≡ constants p
-  pub width : q.width ≡ p.width
-  pub wide : q.left ≡ true → (p.left ≡ true) × (most < p.width)
-  pub kept : most < p.width → q.left ≡ p.left
+pub made_right : (p : Padding) (most : ℕ) → p.width ≤ most → IsRightUpTo p most (record p { left = false })
+made_right p most few = record {
+  same = λ body h. ap (λ t. replicate p.spaces space ++ (replicate p.zeros zero_digit ++ (t ++ replicate p.trail space))) (right_field p.left p.width body (h few));
+  constant = refl;
+  width = refl;
+  wide = λ e. cc;
+  right = λ more. absurd (omega (arith, few, more));
+}
 
 pub right_up_to : (p : Padding) (most : ℕ) → (q : Padding) × IsRightUpTo p most q
 right_up_to p most = elim (cases_lt most p.width) [
-  | inl more ↦ (p, record { same = λ body h. refl; constant = refl; width = refl; wide = λ e. (e, more); kept = λ h. refl })
-  | inr few ↦ (
-    record p { left = false },
-    record {
-      same = λ body h. ap (λ t. replicate p.spaces space ++ (replicate p.zeros zero_digit ++ (t ++ replicate p.trail space))) (right_field p.left p.width body (h few));
-      constant = refl;
-      width = refl;
-      wide = λ e. cc;
-      kept = λ more. absurd (omega (arith, few, more));
-    },
-  )
+  | inl more ↦ (p, record { same = λ body h. refl; constant = refl; width = refl; wide = λ e. (e, more); right = λ h. refl })
+  | inr few ↦ (record p { left = false }, made_right p most few)
+]
+
+pub past_zeros : (p : Padding) (count : ℕ) → (p.left ≡ true) ⊎ (p.width ≡ 0) ⊎ (count ≡ 0) → IsPastZeros p count (record p { zeros = p.zeros + count; width = p.width - count })
+past_zeros p count apart = record {
+  same = λ body. past p.spaces p.zeros count p.left p.width body (replicate p.trail space) apart;
+  constant = omega arith;
+  left = refl;
+  width = refl;
+}
+
+-- what is left of a width
+pub not_wider : (p : Padding) (least : ℕ) (q : Padding) → HasNoIdleWidth p least q → (q.width ≤ p.width) × (0 < q.width → least < q.width)
+not_wider p least q h = elim (cases_lt least p.width) [
+  | inl more ↦ let e = h.kept more in (omega (arith, e), λ some. omega (arith, e, more))
+  | inr few ↦ let e = h.idle few in (omega (arith, e), λ some. absurd (omega (arith, e, some)))
 ]

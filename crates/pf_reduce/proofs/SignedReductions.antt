@@ -21,17 +21,17 @@ use Rattle.pf_values.proofs.DataModelLemmas.{kept_row}
 use Rattle.pf_reduce.specs.declared.padding.Padding.{Padding}
 use Rattle.pf_reduce.specs.declared.signs.Sign.{Sign}
 use Rattle.pf_reduce.specs.declared.signs.Sign.TheVariants as signs
-use Rattle.pf_reduce.specs.Cores.{core_of_parts, kept_precision, padded_core}
-use Rattle.pf_reduce.specs.Padded.{padding_of, with_padding}
+use Rattle.pf_reduce.specs.Cores.{core_of_parts, kept_precision}
+use Rattle.pf_reduce.specs.Padded.{HasNoIdleWidth, IsNarrowedTo, IsRightUpTo, padding_of, with_padding}
 use Rattle.pf_reduce.specs.Signs.{sign_flags, sign_length, sign_of, sign_text}
 use Rattle.pf_reduce.proofs.CarriedIntegers.{width_is}
-use Rattle.pf_reduce.proofs.Narrowing.{narrowed, right_up_to, without_idle}
+use Rattle.pf_reduce.proofs.Narrowing.{narrowed, not_wider, right_up_to, without_idle}
 use Rattle.pf_reduce.proofs.NormalCores.{kept_signed, normal_signed, some_width, width_within}
 use Rattle.pf_reduce.proofs.Precisions.{filled_right}
 use Rattle.pf_reduce.proofs.SignLemmas.{none_for, space_for}
 use Rattle.pf_reduce.proofs.SignedNumbers.{signed_filled, signed_least, signed_most, signed_reduced, signed_text, unseen_signed_side}
 use Rattle.pf_reduce.proofs.UnprefixedNumbers.{digits_text, length-digits_text}
-use Rattle.pf_reduce.proofs.UnsignedReductions.{Reduction, effective_limit, width_limit}
+use Rattle.pf_reduce.proofs.UnsignedReductions.{IsReducedAs, Reduction, effective_limit, made, width_limit}
 
 -- filled with zeros
 made_filled : (model : Model) (w : ℕ) (length : Length) → kept_length model length ≡ length → w ≤ MAX_NUMBER → 2 ≤ w → IsNormal model (specification_of (with_flag no_flags Zero) (Some w) None length D)
@@ -50,10 +50,10 @@ normal_filled : (model : Model) (s : Specification) (p : Padding) → is_signed 
 normal_filled model s p signed few right wide = rw (kept_signed s.conv signed, right) (made_filled model p.width (kept_length model s.length) (ap (λ r. r.kept) (kept_row model s.length)) few wide)
 
 -- On the right, in a field for the most digits and a sign, one of two signs is as good as the other.
-record ReplacesSign (p : Padding) (sign : Sign) (longest precision digits : ℕ) (new : Sign) : Type 0 where
-  same : (negative : Bool) (number : Text) → length number ≤ longest → with_padding p (sign_text sign negative ++ number) ≡ with_padding p (sign_text new negative ++ number)
-  space : p.left ≡ false → p.width ≡ 1 + longest → new ≡ signs.Space → digits ≤ precision
-  none : p.left ≡ false → p.width ≡ 1 + longest → new ≡ signs.None → precision < digits
+pub record ReplacesSign (p : Padding) (sign : Sign) (longest precision digits : ℕ) (new : Sign) : Type 0 where
+  pub same : (negative : Bool) (number : Text) → length number ≤ longest → with_padding p (sign_text sign negative ++ number) ≡ with_padding p (sign_text new negative ++ number)
+  pub space : p.left ≡ false → p.width ≡ 1 + longest → new ≡ signs.Space → digits ≤ precision
+  pub none : p.left ≡ false → p.width ≡ 1 + longest → new ≡ signs.None → precision < digits
 
 no_other : (sign : Sign) → sign ≢ signs.Plus → (sign ≡ signs.Space) ⊎ (sign ≡ signs.None)
 no_other signs.None h = inr refl
@@ -63,11 +63,14 @@ no_other signs.Space h = inl refl
 module _ (p : Padding) (longest precision digits : ℕ) where
   -- there is no such field
   kept_sign : (sign : Sign) → (p.left ≡ true) ⊎ (p.width ≢ 1 + longest) → (new : Sign) × ReplacesSign p sign longest precision digits new
-  kept_sign sign elsewhere = (sign, record {
-    same = λ negative number few. refl;
-    space = λ right wide is. elim elsewhere [ | inl left ↦ absurd (cc) | inr other ↦ absurd (other wide) ];
-    none = λ right wide is. elim elsewhere [ | inl left ↦ absurd (cc) | inr other ↦ absurd (other wide) ];
-  })
+  kept_sign sign elsewhere = (
+    sign,
+    record {
+      same = λ negative number few. refl;
+      space = λ right wide is. elim elsewhere [ inl left ↦ absurd (cc) | inr other ↦ absurd (other wide) ];
+      none = λ right wide is. elim elsewhere [ inl left ↦ absurd (cc) | inr other ↦ absurd (other wide) ];
+    },
+  )
 
   space_or_none : (sign : Sign) → sign ≢ signs.Plus → p.left ≡ false → longest < p.width → (new : Sign) × ReplacesSign p sign longest precision digits new
   space_or_none sign other right room = elim (cases_lt precision digits) [
@@ -92,13 +95,12 @@ record IsUnseenUpTo (sign : Sign) (precision most : ℕ) : Type 0 where
   plus : sign ≡ signs.Plus → most ≡ 0
   none : sign ≢ signs.Plus → precision ≡ 0 → most ≡ sign_length sign + 1
   some : 1 ≤ precision → most ≡ 0
-  few : most ≤ 2
 
 unseen_up_to : (sign : Sign) (precision : ℕ) → (most : ℕ) × IsUnseenUpTo sign precision most
-unseen_up_to signs.Plus precision = (0, record { plus = λ e. refl; none = λ other. absurd (other refl); some = λ h. refl; few = omega arith })
-unseen_up_to sign (suc precision) = (0, record { plus = λ e. refl; none = λ other e. cc; some = λ h. refl; few = omega arith })
-unseen_up_to signs.None zero = (1, record { plus = λ e. cc; none = λ other e. refl; some = λ h. absurd (omega (arith, h)); few = omega arith })
-unseen_up_to signs.Space zero = (2, record { plus = λ e. cc; none = λ other e. refl; some = λ h. absurd (omega (arith, h)); few = omega arith })
+unseen_up_to signs.Plus precision = (0, record { plus = λ e. refl; none = λ other. absurd (other refl); some = λ h. refl })
+unseen_up_to sign (suc precision) = (0, record { plus = λ e. refl; none = λ other e. cc; some = λ h. refl })
+unseen_up_to signs.None zero = (1, record { plus = λ e. cc; none = λ other e. refl; some = λ h. absurd (omega (arith, h)) })
+unseen_up_to signs.Space zero = (2, record { plus = λ e. cc; none = λ other e. refl; some = λ h. absurd (omega (arith, h)) })
 
 three_digits : (conv : Conv) (b : Bits) → is_signed conv ≡ true → 3 ≤ most_digits conv b
 three_digits D B8 e = omega arith
@@ -111,55 +113,72 @@ three_digits I B32 e = omega arith
 three_digits I B64 e = omega arith
 three_digits _ b e = cc
 
+at_most_two : (sign : Sign) (precision most : ℕ) → (sign ≡ signs.Plus → most ≡ 0) → (sign ≢ signs.Plus → precision ≡ 0 → most ≡ sign_length sign + 1) → (1 ≤ precision → most ≡ 0) → most ≤ 2
+at_most_two sign (suc precision) most plus none some = omega (arith, some (omega arith))
+at_most_two signs.Plus zero most plus none some = omega (arith, plus refl)
+at_most_two signs.None zero most plus none some = omega (arith, none (λ e. cc) refl)
+at_most_two signs.Space zero most plus none some = omega (arith, none (λ e. cc) refl)
+
 module _ (model : Model) (s : Specification) (defined : IsDefined s) (signed : is_signed s.conv ≡ true) where
   -- the flag `0` is kept in a field of two bytes or more, where there is no sign
-  filled_field : is_zero_filled s ≡ true → sign_length (sign_of s.flags) ≡ 0 → 2 ≤ width_of s → Reduction model s
-  filled_field all none wide =
+  pub signed_filled_by : is_zero_filled s ≡ true → sign_length (sign_of s.flags) ≡ 0 → 2 ≤ width_of s → IsReducedAs model s (padding_of s) (with_flag no_flags Zero) None
+  signed_filled_by all none wide =
       let normal = normal_filled model s (padding_of s) signed (width_limit s defined) (filled_right s all) wide in
-      (padded_core model s (padding_of s) (with_flag no_flags Zero) None, signed_filled model s signed all none (refl, normal))
+      record { normal = normal; reduced = signed_filled model s signed all none (refl, normal) }
+
+  pub signed_by : (sign new : Sign) (p d most : ℕ) (a b c q : Padding) → sign ≡ sign_of s.flags → (is_zero_filled s ≡ true → (1 ≤ sign_length sign) ⊎ (width_of s ≤ 1)) → p ≡ effective_precision s (sign_length sign) → d ≡ digits_at_most model s
+      → IsNarrowedTo (padding_of s) (1 + max p d) a → HasNoIdleWidth a (sign_length sign + p) b → ReplacesSign b sign (max p d) p d new → HasNoIdleWidth b (sign_length new + p) c
+      → (new ≡ signs.Plus → most ≡ 0) → (new ≢ signs.Plus → p ≡ 0 → most ≡ sign_length new + 1) → (1 ≤ p → most ≡ 0) → IsRightUpTo c most q → IsReducedAs model s q (sign_flags new) (kept_precision p)
+  signed_by sign new p d most a b c q sign_is idle p_is d_is narrow field replaced again plus none some right =
+      let three = three_digits s.conv (bits_under model s.length) signed in
+      let w = width_limit s defined in
+      let few = effective_limit s (sign_length sign) defined in
+      let small = at_most_two new p most plus none some in
+      let wider = (not_wider a (sign_length sign + p) b field).0 in
+      let left = not_wider b (sign_length new + p) c again in
+      let wider_again = left.0 in
+      let on_the_right : q.left ≡ false → q.width ≡ 1 + max p d → (b.left ≡ false) × (b.width ≡ 1 + max p d) =
+      λ r wide. (sym (again.left) ∙ sym (right.right (omega (arith, right.width, wide, small, three, d_is))) ∙ r, omega (arith, right.width, wider_again, wider, narrow.width, wide)) in
+      let normal : IsNormal model (core_of_parts model s q (sign_flags new) (kept_precision p)) =
+      normal_signed model s q new p signed (omega (arith, right.width, wider_again, wider, narrow.width, w), omega (arith, p_is, few))
+      (λ some. let least = left.1 (omega (arith, right.width, some)) in omega (arith, right.width, least))
+      (omega (arith, right.width, wider_again, wider, narrow.width, d_is))
+      (λ r is wide. let at = on_the_right r (omega (arith, wide, d_is)) in let enough = replaced.space at.0 at.1 is in let one = ap sign_length is in let least = left.1 (omega (arith, right.width, wide)) in omega (arith, right.width, wide, enough, one, least, d_is))
+      (λ r is enough wide. let at = on_the_right r (omega (arith, wide, d_is)) in let fewer = replaced.none at.0 at.1 is in omega (arith, enough, fewer, d_is))
+      (λ l. let wide = (right.wide l).1 in (omega (arith, right.width, wide), λ other zero. let at = none other zero in omega (arith, right.width, wide, at))) in
+      record {
+        normal = normal;
+        reduced = signed_reduced model s signed q new p (rw (← sign_is) idle) (rw (← sign_is) p_is) (refl, normal) (omega (arith, right.constant, again.constant, field.constant, narrow.constant, w)) (λ v count.
+            let number = digits_text D p (nat_abs v) in
+            let len = length-digits_text D p (nat_abs v) in
+            let before = signed_text sign p v in
+            let after = signed_text new p v in
+            ap (λ u. with_padding (padding_of s) (signed_text u p v)) (sym sign_is)
+            ∙ narrow.same before (omega (arith, signed_most sign p (digits_at_most model s) v count, d_is))
+            ∙ field.same before (signed_least sign p v)
+            ∙ replaced.same (is_negative v) number (omega (arith, len, count, d_is))
+            ∙ again.same after (signed_least new p v)
+            ∙ right.same after (unseen_signed_side new c.width most p v plus none some));
+      }
 
   unfilled_field : (is_zero_filled s ≡ true → (1 ≤ sign_length (sign_of s.flags)) ⊎ (width_of s ≤ 1)) → Reduction model s
   unfilled_field idle =
       let sign : Sign = sign_of s.flags in
       let p : ℕ = effective_precision s (sign_length sign) in
       let d : ℕ = digits_at_most model s in
-      let three = three_digits s.conv (bits_under model s.length) signed in
-      let w = width_limit s defined in
-      let few = effective_limit s (sign_length sign) defined in
       let (a, narrow) = narrowed (has s.flags Minus) (width_of s) (1 + max p d) in
       let (b, field) = without_idle a (sign_length sign + p) in
       let (new, replaced) = by_side b (max p d) p d sign b.left refl in
       let (c, again) = without_idle b (sign_length new + p) in
       let (most, unseen) = unseen_up_to new p in
       let (q, right) = right_up_to c most in
-      let small = unseen.few in
-      let on_the_right : q.left ≡ false → q.width ≡ 1 + max p d → (b.left ≡ false) × (b.width ≡ 1 + max p d) =
-      λ r wide. (sym (again.left) ∙ sym (right.kept (omega (arith, right.width, wide, small, three))) ∙ r, omega (arith, right.width, again.width, field.width, narrow.width, wide)) in
-      let normal : IsNormal model (core_of_parts model s q (sign_flags new) (kept_precision p)) =
-      normal_signed model s q new p signed (omega (arith, right.width, again.width, field.width, narrow.width, w), few)
-      (λ some. let least = again.some (omega (arith, right.width, some)) in omega (arith, right.width, least))
-      (omega (arith, right.width, again.width, field.width, narrow.width))
-      (λ r is wide. let at = on_the_right r wide in let enough = replaced.space at.0 at.1 is in let one = ap sign_length is in let least = again.some (omega (arith, right.width, wide)) in omega (arith, right.width, wide, enough, one, least))
-      (λ r is enough wide. let at = on_the_right r wide in let fewer = replaced.none at.0 at.1 is in omega (arith, enough, fewer))
-      (λ l. let wide = (right.wide l).1 in (omega (arith, right.width, wide), λ other zero. let at = unseen.none other zero in omega (arith, right.width, wide, at))) in (
-        padded_core model s q (sign_flags new) (kept_precision p),
-        signed_reduced model s signed q new p idle refl (refl, normal) (omega (arith, right.constant, again.constant, field.constant, narrow.constant, w)) (λ v count.
-        let number = digits_text D p (nat_abs v) in
-        let len = length-digits_text D p (nat_abs v) in
-        let before = signed_text sign p v in
-        let after = signed_text new p v in
-        narrow.same before (signed_most sign p d v count)
-        ∙ field.same before (signed_least sign p v)
-        ∙ replaced.same (is_negative v) number (omega (arith, len, count))
-        ∙ again.same after (signed_least new p v)
-        ∙ right.same after (unseen_signed_side new c.width most p v unseen.plus unseen.none unseen.some)),
-      )
+      made model s q (sign_flags new) (kept_precision p) (signed_by sign new p d most a b c q refl idle refl refl narrow field replaced again unseen.plus unseen.none unseen.some right)
 
   by_fill : (filled : Bool) → is_zero_filled s ≡ filled → Reduction model s
   by_fill true all = elim (cases_lt 0 (sign_length (sign_of s.flags))) [
     | inl some ↦ unfilled_field (λ e. inl some)
     | inr none ↦ elim (cases_lt 1 (width_of s)) [
-      | inl wide ↦ filled_field all (omega (arith, none)) wide
+      | inl wide ↦ made model s (padding_of s) (with_flag no_flags Zero) None (signed_filled_by all (omega (arith, none)) wide)
       | inr few ↦ unfilled_field (λ e. inr few)
     ]
   ]

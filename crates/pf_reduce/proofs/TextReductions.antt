@@ -52,8 +52,8 @@ text_reduced model s p precision k e normal few same =
         normal = (refl, normal);
         same_type = kept_type model s.conv s.length;
         prints = prints_reduced model s r (kept_type model s.conv s.length) (carried model s r k e (kept_kind s.conv ∙ e) (λ argument body h.
-        let at = same argument body h in
-        (at.0, field-padded s body ∙ at.1 ∙ padded-made model s p no_flags precision body refl)));
+            let at = same argument body h in
+            (at.0, field-padded s body ∙ at.1 ∙ padded-made model s p no_flags precision body refl)));
         silent = λ x. cc;
         few = few;
       },
@@ -163,9 +163,9 @@ module _ (model : Model) (s : Specification) (defined : IsDefined s) (is : s.con
           normal = tt;
           same_type = same_type;
           prints = prints_reduced model s r same_type (carried model s r kinds.String (ap kind_of is) refl (λ argument body h.
-          let at = printed_string model s silent argument body (sym e) h in
-          let none : body ≡ [] = at.1.1 ∙ ap (λ o. printed_front o at.1.0) e in
-          (at.0, rw none (spaces_alone (has s.flags Minus) (width_of s)))));
+              let at = printed_string model s silent argument body (sym e) h in
+              let none : body ≡ [] = at.1.1 ∙ ap (λ o. printed_front o at.1.0) e in
+              (at.0, rw none (spaces_alone (has s.flags Minus) (width_of s)))));
           silent = λ x. (is, refl, refl);
           few = omega (arith, width_limit s defined);
         },

@@ -1,9 +1,10 @@
 -- Each directive that prints a number without a sign has a reduction.
-use Rattle.std.proofs.Common.{◌≡◌, ℕ, ℤ, zero, suc, ◌+◌, ◌-◌, ◌<◌, ◌≤◌, max, Bool, true, false, Option, Some, None, replicate, refl, ap, ◌∙◌, arith, inl, inr}
+use Rattle.std.proofs.Common.{◌≡◌, ℕ, ℤ, zero, suc, ◌+◌, ◌-◌, ◌<◌, ◌≤◌, max, Bool, true, false, Option, Some, None, replicate, refl, ap, ◌∙◌, arith, inl, inr, ◌++◌, sym}
 use Rattle.std.specs.Prelude.{nat_abs, unwrap_or, not, ◌&&◌, ◌⊎◌, if◌then◌else◌}
 use Rattle.std.proofs.lemmas.Bool.{cases_lt}
 use Rattle.std.proofs.lemmas.Bool.Decides.{nat_tests}
 use Rattle.pf_values.specs.declared.flags.Flag.TheVariants.{Alt, Minus, Zero}
+use Rattle.pf_values.specs.declared.flags.FlagSet.{FlagSet}
 use Rattle.pf_values.specs.declared.limits.TheConstants.{MAX_NUMBER}
 use Rattle.pf_values.specs.declared.models.Model.{Model}
 use Rattle.pf_values.specs.declared.bases.Alternative.{Alternative}
@@ -16,19 +17,18 @@ use Rattle.pf_values.specs.meaning.Lengths.{is_long}
 use Rattle.pf_values.specs.meaning.Normal.{IsNormal, digits_at_most, precision_of}
 use Rattle.pf_values.specs.meaning.Printing.{is_zero_filled}
 use Rattle.pf_values.specs.meaning.Specification.{Specification, width_of}
-use Rattle.pf_values.specs.meaning.Text.{space}
+use Rattle.pf_values.specs.meaning.Text.{zero_digit}
 use Rattle.pf_values.specs.Directives.{effective_precision}
 use Rattle.pf_values.proofs.Printed.{count_of}
 use Rattle.pf_values.proofs.PrintsOnce.{value_text}
 use Rattle.pf_reduce.specs.declared.padding.Padding.{Padding}
 use Rattle.pf_reduce.specs.declared.results.Reduced.{Reduced}
 use Rattle.pf_reduce.specs.Cores.{core_of_parts, kept_precision, padded_core}
-use Rattle.pf_reduce.specs.Padded.{constants, padding_of, with_padding}
+use Rattle.pf_reduce.specs.Padded.{HasNoIdleWidth, IsNarrowedTo, IsPastZeros, IsRightUpTo, constants, padding_of, with_padding}
 use Rattle.pf_reduce.specs.Prefixes.{is_prefixed, puts_prefix}
 use Rattle.pf_reduce.specs.Reducing.{IsReducedTo}
-use Rattle.pf_reduce.proofs.Narrowing.{narrowed, right_up_to, without_idle}
+use Rattle.pf_reduce.proofs.Narrowing.{narrowed, not_wider, past_zeros, right_up_to, without_idle}
 use Rattle.pf_reduce.proofs.NormalForms.{normal_filled, normal_octal, normal_prefixed, normal_unprefixed}
-use Rattle.pf_reduce.proofs.Paddings.{past}
 use Rattle.pf_reduce.proofs.PrefixedNumbers.{prefixed_filled, prefixed_reduced, unseen_side}
 use Rattle.pf_reduce.proofs.Precisions.{filled_right}
 use Rattle.pf_reduce.proofs.UnprefixedNumbers.{IsOctal, beyond_most, digits_reduced, digits_text, length-digits_text, length-octal_text, octal, octal_count, octal_reduced, octal_split, octal_text, octal_value, one_or_none, split_zeros, unprefixed_value}
@@ -36,6 +36,14 @@ use Rattle.pf_reduce.proofs.UnprefixedNumbers.{IsOctal, beyond_most, digits_redu
 -- what a directive is reduced to
 abbrev pub Reduction : Model → Specification → Type 0
 Reduction model s = (r : Reduced) × IsReducedTo model s r
+
+-- these parts are those of a normal core, to which the directive is reduced
+pub record IsReducedAs (model : Model) (s : Specification) (p : Padding) (flags : FlagSet) (precision : Option ℕ) : Type 0 where
+  pub normal : IsNormal model (core_of_parts model s p flags precision)
+  pub reduced : IsReducedTo model s (padded_core model s p flags precision)
+
+pub made : (model : Model) (s : Specification) (p : Padding) (flags : FlagSet) (precision : Option ℕ) → IsReducedAs model s p flags precision → Reduction model s
+made model s p flags precision h = (padded_core model s p flags precision, h.reduced)
 
 pub none_first : {X : Type 0} (b : Bool) (x : X) (o : Option X) → (if b then Some x else o) ≡ None → (b ≡ false) × (o ≡ None)
 none_first true x o e = cc
@@ -66,111 +74,111 @@ apart left w p d a few idle = elim (cases_lt d p) [
   | inr most ↦ inr (inr (omega (arith, most)))
 ]
 
--- digits alone
-pub unprefixed : (model : Model) (s : Specification) → IsDefined s → is_text s.conv ≡ false → is_signed s.conv ≡ false → has s.flags Alt ≡ false → Reduction model s
-unprefixed model s defined text sign alt =
-    let p : ℕ = effective_precision s 0 in
-    let d : ℕ = digits_at_most model s in
-    let z : ℕ = p - d in
-    let w = width_limit s defined in
-    let few = effective_limit s 0 defined in
-    let (a, narrow) = narrowed (has s.flags Minus) (width_of s) (max p d) in
-    let (b, field) = without_idle a p in
-    let c : Padding = record b { zeros = b.zeros + z; width = b.width - z } in
-    let (q, right) = right_up_to c 1 in
-    let normal : IsNormal model (core_of_parts model s q no_flags (kept_precision (p - z))) =
-    normal_unprefixed model s q (p - z) text sign (omega (arith, right.width, field.width, narrow.width, w), omega (arith, few)) (omega arith)
-    (λ some. let least = field.some (omega (arith, right.width, some)) in omega (arith, right.width, field.width, narrow.width, least))
-    (omega (arith, right.width, field.width, narrow.width))
-    (λ l. let wide = (right.wide l).1 in omega (arith, right.width, wide)) in (
-      padded_core model s q no_flags (kept_precision (p - z)),
-      digits_reduced model s q (p - z) text sign (refl, normal) (omega (arith, right.constant, field.constant, narrow.constant, w, few)) (λ v count.
+-- digits alone, by the steps that narrow the field
+module _ (model : Model) (s : Specification) (defined : IsDefined s) (text : is_text s.conv ≡ false) (sign : is_signed s.conv ≡ false) where
+  -- the zeros that are constant are past, and the side is seen
+  pub digits_by : (p z : ℕ) (b c q : Padding) → p ≤ MAX_NUMBER → p - z ≤ digits_at_most model s → constants b + z ≤ MAX_NUMBER → b.width ≤ width_of s → b.width - z ≤ digits_at_most model s → (0 < b.width - z → p - z < b.width - z)
+      → IsPastZeros b z c → IsRightUpTo c 1 q
+      → ((v : ℤ) → count_of (base_of s.conv) (nat_abs v) ≤ digits_at_most model s → with_padding (padding_of s) (value_text s v) ≡ with_padding b (replicate z zero_digit ++ digits_text s.conv (p - z) (nat_abs v)))
+      → IsReducedAs model s q no_flags (kept_precision (p - z))
+  digits_by p z b c q few fewer constant narrow wide least past right same =
+      let w = width_limit s defined in
+      let normal : IsNormal model (core_of_parts model s q no_flags (kept_precision (p - z))) =
+      normal_unprefixed model s q (p - z) text sign (omega (arith, right.width, past.width, narrow, w), omega (arith, few)) fewer
+      (λ some. let l = least (omega (arith, right.width, past.width, some)) in omega (arith, right.width, past.width, l))
+      (omega (arith, right.width, past.width, wide))
+      (λ l. let seen = (right.wide l).1 in omega (arith, right.width, seen)) in
+      record {
+        normal = normal;
+        reduced = digits_reduced model s q (p - z) text sign (refl, normal) (omega (arith, right.constant, past.constant, constant)) (λ v count. same v count ∙ past.same _ ∙ right.same _ (one_or_none _ _));
+      }
+
+  pub unprefixed_by : has s.flags Alt ≡ false → (p d z : ℕ) (a b c q : Padding) → p ≡ effective_precision s 0 → d ≡ digits_at_most model s → z ≡ p - d
+      → IsNarrowedTo (padding_of s) (max p d) a → HasNoIdleWidth a p b → IsPastZeros b z c → IsRightUpTo c 1 q → IsReducedAs model s q no_flags (kept_precision (p - z))
+  unprefixed_by alt p d z a b c q p_is d_is z_is narrow field past right =
+      let w = width_limit s defined in
+      let few = effective_limit s 0 defined in
+      let left = not_wider a p b field in
+      let wider = left.0 in
+      digits_by p z b c q (omega (arith, p_is, few)) (omega (arith, d_is, z_is)) (omega (arith, field.constant, narrow.constant, w, few, p_is, z_is)) (omega (arith, wider, narrow.width)) (omega (arith, wider, narrow.width, d_is, z_is))
+      (λ some. let least = left.1 (omega (arith, some)) in omega (arith, wider, narrow.width, z_is, least, some)) past right (λ v count.
       let n = nat_abs v in
       let body = digits_text s.conv p n in
       let len = length-digits_text s.conv p n in
-      ap (with_padding (padding_of s)) (unprefixed_value s v sign alt)
-      ∙ narrow.same body (omega (arith, len, count))
+      ap (with_padding (padding_of s)) (unprefixed_value s v sign alt ∙ ap (λ k. digits_text s.conv k n) (sym p_is))
+      ∙ narrow.same body (omega (arith, len, count, d_is))
       ∙ field.same body (omega (arith, len))
-      ∙ ap (with_padding b) (split_zeros s.conv p z n _ (beyond_most p d (count_of (base_of s.conv) n) count))
-      ∙ past b.spaces b.zeros z b.left b.width (digits_text s.conv (p - z) n) (replicate b.trail space) (apart b.left b.width p d a.width (omega (arith, narrow.width)) field.idle)
-      ∙ right.same _ (one_or_none _ _)),
-    )
+      ∙ ap (with_padding b) (split_zeros s.conv p z n _ (rw z_is (beyond_most p d (count_of (base_of s.conv) n) (omega (arith, count, d_is))))))
+
+  unprefixed : has s.flags Alt ≡ false → Reduction model s
+  unprefixed alt =
+      let p : ℕ = effective_precision s 0 in
+      let d : ℕ = digits_at_most model s in
+      let (a, narrow) = narrowed (has s.flags Minus) (width_of s) (max p d) in
+      let (b, field) = without_idle a p in
+      let past = past_zeros b (p - d) (apart b.left b.width p d a.width (omega (arith, narrow.width)) field.idle) in
+      let (q, right) = right_up_to (record b { zeros = b.zeros + (p - d); width = b.width - (p - d) }) 1 in
+      made model s q no_flags (kept_precision (p - (p - d))) (unprefixed_by alt p d (p - d) a b _ q refl refl refl narrow field past right)
 
 -- octal digits that begin with 0
-module _ (model : Model) (s : Specification) (defined : IsDefined s) (raises : is_octal s.conv ≡ true) (alt : has s.flags Alt ≡ true) where
-  e : IsOctal s.conv
+module _ (model : Model) (s : Specification) (defined : IsDefined s) (raises : is_octal s.conv ≡ true) (alt : has s.flags Alt ≡ true) (p d : ℕ) (a b : Padding) (p_is : p ≡ max (effective_precision s 0) 1) (d_is : d ≡ digits_at_most model s)
+    (narrow : IsNarrowedTo (padding_of s) (max p (d + 1)) a) (field : HasNoIdleWidth a p b) where
+  abbrev e : IsOctal s.conv
   e = octal s.conv raises
 
-  abbrev p : ℕ
-  p = max (effective_precision s 0) 1
-
-  abbrev d : ℕ
-  d = digits_at_most model s
-
-  -- the field of the number
-  record IsField (b : Padding) : Type 0 where
-    most : b.width ≤ width_of s
-    wide : b.width ≤ max p (d + 1)
-    least : 0 < b.width → p < b.width
-    constant : constants b ≡ width_of s - max p (d + 1)
-    same : (v : ℤ) → count_of 8 (nat_abs v) ≤ d → with_padding (padding_of s) (value_text s v) ≡ with_padding b (octal_text p (nat_abs v))
+  in_field : (v : ℤ) → count_of 8 (nat_abs v) ≤ digits_at_most model s → with_padding (padding_of s) (value_text s v) ≡ with_padding b (octal_text p (nat_abs v))
+  in_field v count =
+      let n = nat_abs v in
+      let len = length-octal_text p n in
+      ap (with_padding (padding_of s)) (octal_value s v e alt ∙ ap (λ k. octal_text k n) (sym p_is))
+      ∙ narrow.same (octal_text p n) (omega (arith, len, count, d_is))
+      ∙ field.same (octal_text p n) (omega (arith, len))
 
   -- spaces come before the first 0, which the core prints
-  after_spaces : (b : Padding) → IsField b → b.left ≡ false → 0 < b.width → Reduction model s
-  after_spaces b h right some =
+  pub octal_after_spaces : b.left ≡ false → 0 < b.width → IsReducedAs model s b (with_flag no_flags Alt) (kept_precision p)
+  octal_after_spaces right some =
       let w = width_limit s defined in
       let few = effective_limit s 0 defined in
-      let least = h.least some in
+      let left = not_wider a p b field in
+      let wider = left.0 in
+      let least = left.1 some in
       let normal : IsNormal model (core_of_parts model s b (with_flag no_flags Alt) (kept_precision p)) =
-      normal_octal model s b p raises (omega (arith, h.most, w), omega (arith, few)) right (omega arith) (omega (arith, least, h.wide)) least (omega (arith, least, h.wide)) in
-      (padded_core model s b (with_flag no_flags Alt) (kept_precision p), octal_reduced model s b p e alt (refl, normal) (omega (arith, h.constant, w)) h.same)
+      normal_octal model s b p raises (omega (arith, wider, narrow.width, w), omega (arith, p_is, few)) right (omega (arith, p_is)) (omega (arith, least, wider, narrow.width, d_is)) least (omega (arith, least, wider, narrow.width, d_is)) in
+      record { normal = normal; reduced = octal_reduced model s b p e alt (refl, normal) (omega (arith, field.constant, narrow.constant, w)) in_field }
 
   -- else that is constant
-  past_zeros : (b : Padding) → IsField b → (b.left ≡ true) ⊎ (b.width ≡ 0) → Reduction model s
-  past_zeros b h no_spaces =
-      let z : ℕ = 1 + (p - 1 - d) in
+  pub octal_past_zeros : (z : ℕ) (c q : Padding) → z ≡ 1 + (p - 1 - d) → IsPastZeros b z c → IsRightUpTo c 1 q → IsReducedAs model s q no_flags (kept_precision (p - z))
+  octal_past_zeros z c q z_is past right =
       let w = width_limit s defined in
       let few = effective_limit s 0 defined in
-      let c : Padding = record b { zeros = b.zeros + z; width = b.width - z } in
-      let (q, right) = right_up_to c 1 in
-      let normal : IsNormal model (core_of_parts model s q no_flags (kept_precision (p - z))) =
-      normal_unprefixed model s q (p - z) (ap prints_text e) (ap prints_signed e) (omega (arith, right.width, h.most, w), omega (arith, few)) (omega arith)
-      (λ some. let least = h.least (omega (arith, right.width, some)) in omega (arith, right.width, h.wide, least, some))
-      (omega (arith, right.width, h.wide))
-      (λ l. let wide = (right.wide l).1 in omega (arith, right.width, wide)) in (
-        padded_core model s q no_flags (kept_precision (p - z)),
-        digits_reduced model s q (p - z) (ap prints_text e) (ap prints_signed e) (refl, normal) (omega (arith, right.constant, h.constant, w, few)) (λ v count.
-        let n = nat_abs v in
-        let fewer = octal_count model s e n count in
-        h.same v fewer
-        ∙ ap (with_padding b) (octal_split s.conv e p d z n (omega arith) refl fewer)
-        ∙ past b.spaces b.zeros z b.left b.width (digits_text s.conv (p - z) n) (replicate b.trail space) (elim no_spaces [ | inl l ↦ inl l | inr none ↦ inr (inl none) ])
-        ∙ right.same _ (one_or_none _ _)),
-      )
+      let left = not_wider a p b field in
+      let wider = left.0 in
+      digits_by model s defined (ap prints_text e) (ap prints_signed e) p z b c q (omega (arith, p_is, few)) (omega (arith, d_is, z_is, p_is)) (omega (arith, field.constant, narrow.constant, w, few, p_is, z_is)) (omega (arith, wider, narrow.width)) (omega (arith, wider, narrow.width, d_is, z_is, p_is))
+      (λ some. let least = left.1 (omega (arith, some)) in omega (arith, wider, narrow.width, z_is, least, some)) past right (λ v count.
+      let fewer = octal_count model s e (nat_abs v) count in
+      in_field v fewer ∙ ap (with_padding b) (octal_split s.conv e p d z (nat_abs v) (omega (arith, p_is)) z_is (omega (arith, fewer, d_is))))
 
-  by_side : (b : Padding) (left : Bool) → b.left ≡ left → IsField b → Reduction model s
-  by_side b true l h = past_zeros b h (inl l)
-  by_side b false l h = elim (cases_lt 0 b.width) [
-    | inl some ↦ after_spaces b h l some
-    | inr none ↦ past_zeros b h (inr (omega (arith, none)))
+  past_zeros_of : (b.left ≡ true) ⊎ (b.width ≡ 0) → Reduction model s
+  past_zeros_of no_spaces =
+      let z : ℕ = 1 + (p - 1 - d) in
+      let past = past_zeros b z (elim no_spaces [ inl l ↦ inl l | inr none ↦ inr (inl none) ]) in
+      let (q, right) = right_up_to (record b { zeros = b.zeros + z; width = b.width - z }) 1 in
+      made model s q no_flags (kept_precision (p - z)) (octal_past_zeros z _ q refl past right)
+
+  by_side : (left : Bool) → b.left ≡ left → Reduction model s
+  by_side true l = past_zeros_of (inl l)
+  by_side false l = elim (cases_lt 0 b.width) [
+    | inl some ↦ made model s b (with_flag no_flags Alt) (kept_precision p) (octal_after_spaces l some)
+    | inr none ↦ past_zeros_of (inr (omega (arith, none)))
   ]
 
-  raised : Reduction model s
-  raised =
-      let (a, narrow) = narrowed (has s.flags Minus) (width_of s) (max p (d + 1)) in
-      let (b, field) = without_idle a p in
-      by_side b b.left refl (record {
-        most = omega (arith, narrow.width, field.width);
-        wide = omega (arith, narrow.width, field.width);
-        least = field.some;
-        constant = field.constant ∙ narrow.constant;
-        same = λ v count.
-            let n = nat_abs v in
-            let len = length-octal_text p n in
-            ap (with_padding (padding_of s)) (octal_value s v e alt)
-            ∙ narrow.same (octal_text p n) (omega (arith, len, count))
-            ∙ field.same (octal_text p n) (omega (arith, len));
-      })
+raised : (model : Model) (s : Specification) → IsDefined s → is_octal s.conv ≡ true → has s.flags Alt ≡ true → Reduction model s
+raised model s defined raises alt =
+    let p : ℕ = max (effective_precision s 0) 1 in
+    let d : ℕ = digits_at_most model s in
+    let (a, narrow) = narrowed (has s.flags Minus) (width_of s) (max p (d + 1)) in
+    let (b, field) = without_idle a p in
+    by_side model s defined raises alt p d a b refl refl narrow field b.left refl
 
 -- digits after a prefix
 unseen_up_to : (precision least : ℕ) → (most : ℕ) × (precision ≡ 0 → most ≡ least) × (1 ≤ precision → most ≡ 0)
@@ -179,35 +187,42 @@ unseen_up_to (suc precision) least = (0, λ e. cc, λ some. refl)
 
 module _ (model : Model) (s : Specification) (defined : IsDefined s) (form : is_prefixed s.conv ≡ true) (alt : has s.flags Alt ≡ true) where
   -- the flag `0` is kept in a field of two bytes or more
-  filled_field : is_zero_filled s ≡ true → 2 ≤ width_of s → Reduction model s
-  filled_field all wide =
+  pub prefixed_filled_by : is_zero_filled s ≡ true → 2 ≤ width_of s → IsReducedAs model s (padding_of s) (with_flag (with_flag no_flags Alt) Zero) None
+  prefixed_filled_by all wide =
       let normal = normal_filled model s (padding_of s) form (width_limit s defined) (filled_right s all) wide in
-      (padded_core model s (padding_of s) (with_flag (with_flag no_flags Alt) Zero) None, prefixed_filled model s form alt all (refl, normal))
+      record { normal = normal; reduced = prefixed_filled model s form alt all (refl, normal) }
+
+  pub prefixed_by : (p d most : ℕ) (a b q : Padding) → (is_zero_filled s ≡ true → (1 ≤ 0) ⊎ (width_of s ≤ 1)) → p ≡ effective_precision s 0 → d ≡ digits_at_most model s → (p ≡ 0 → most ≡ 3) → (1 ≤ p → most ≡ 0)
+      → IsNarrowedTo (padding_of s) (2 + max p d) a → HasNoIdleWidth a p b → IsRightUpTo b most q → IsReducedAs model s q (with_flag no_flags Alt) (kept_precision p)
+  prefixed_by p d most a b q idle p_is d_is none some narrow field right =
+      let w = width_limit s defined in
+      let few = effective_limit s 0 defined in
+      let left = not_wider a p b field in
+      let wider = left.0 in
+      let normal : IsNormal model (core_of_parts model s q (with_flag no_flags Alt) (kept_precision p)) =
+      normal_prefixed model s q p form (omega (arith, right.width, wider, narrow.width, w), omega (arith, p_is, few))
+      (λ some. let least = left.1 (omega (arith, right.width, some)) in omega (arith, right.width, least))
+      (omega (arith, right.width, wider, narrow.width, d_is))
+      (λ l. let wide = (right.wide l).1 in (omega (arith, right.width, wide), λ zero. let three = none zero in omega (arith, right.width, wide, three))) in
+      record {
+        normal = normal;
+        reduced = prefixed_reduced model s form alt q p idle p_is (refl, normal) (omega (arith, right.constant, field.constant, narrow.constant, w)) (λ body is.
+            narrow.same body (omega (arith, is.most, d_is)) ∙ field.same body is.least ∙ right.same body (unseen_side b.width most p body none some is.some));
+      }
 
   unfilled_field : (is_zero_filled s ≡ true → (1 ≤ 0) ⊎ (width_of s ≤ 1)) → Reduction model s
   unfilled_field idle =
       let p : ℕ = effective_precision s 0 in
       let d : ℕ = digits_at_most model s in
-      let w = width_limit s defined in
-      let few = effective_limit s 0 defined in
       let (a, narrow) = narrowed (has s.flags Minus) (width_of s) (2 + max p d) in
       let (b, field) = without_idle a p in
       let (most, none, some) = unseen_up_to p 3 in
       let (q, right) = right_up_to b most in
-      let flags = with_flag no_flags Alt in
-      let normal : IsNormal model (core_of_parts model s q flags (kept_precision p)) =
-      normal_prefixed model s q p form (omega (arith, right.width, field.width, narrow.width, w), few)
-      (λ some. let least = field.some (omega (arith, right.width, some)) in omega (arith, right.width, least))
-      (omega (arith, right.width, field.width, narrow.width))
-      (λ l. let wide = (right.wide l).1 in (omega (arith, right.width, wide), λ zero. let three = none zero in omega (arith, right.width, wide, three))) in (
-        padded_core model s q flags (kept_precision p),
-        prefixed_reduced model s form alt q p idle refl (refl, normal) (omega (arith, right.constant, field.constant, narrow.constant, w)) (λ body is.
-        narrow.same body is.most ∙ field.same body is.least ∙ right.same body (unseen_side b.width most p body none some is.some)),
-      )
+      made model s q (with_flag no_flags Alt) (kept_precision p) (prefixed_by p d most a b q idle refl refl none some narrow field right)
 
   by_fill : (filled : Bool) → is_zero_filled s ≡ filled → Reduction model s
   by_fill true all = elim (cases_lt 1 (width_of s)) [
-    | inl wide ↦ filled_field all wide
+    | inl wide ↦ made model s (padding_of s) (with_flag (with_flag no_flags Alt) Zero) None (prefixed_filled_by all wide)
     | inr few ↦ unfilled_field (λ e. inr few)
   ]
   by_fill false no_fill = unfilled_field (λ e. absurd (cc))

@@ -1,5 +1,5 @@
 //! Integers.
-ghost use Rattle.std.specs.Prelude.{◌≡◌, ◌≢◌, ◌≤◌, ◌<◌, ◌+◌, max, ◌++◌, ◌⊎◌, Bool, false, true, IsTrue, length};
+ghost use Rattle.std.specs.Prelude.{◌≡◌, ◌≢◌, ◌≤◌, ◌<◌, ◌+◌, max, ◌++◌, ◌⊎◌, Bool, false, true, length};
 ghost use Rattle.pf_values.specs.declared.flags.Flag.TheVariants.{Alt};
 ghost use Rattle.pf_values.specs.declared.limits.TheConstants.{MAX_NUMBER};
 ghost use Rattle.pf_values.specs.meaning.Conversions.{
@@ -10,16 +10,15 @@ ghost use Rattle.pf_values.specs.meaning.Conversions.{
   kind_of,
 };
 ghost use Rattle.pf_reduce.specs.Prefixes.{is_prefixed};
-ghost use Rattle.pf_values.specs.meaning.Flags.{has, no_flags, with_flag};
-ghost use Rattle.pf_values.specs.meaning.Normal.{IsNormal, digits_at_most};
+ghost use Rattle.pf_values.specs.meaning.Flags.{has};
+ghost use Rattle.pf_values.specs.meaning.Normal.{IsNormal};
 ghost use Rattle.pf_values.specs.meaning.Printing.{is_zero_filled};
 ghost use Rattle.pf_values.specs.meaning.Specification.{width_of};
 ghost use Rattle.pf_values.specs.meaning.Text.{Text};
 ghost use Rattle.pf_reduce.specs.declared.signs.Sign.TheVariants as signs;
-ghost use Rattle.pf_reduce.specs.Cores.{padded_core, kept_precision};
 ghost use Rattle.pf_reduce.specs.Padded.{with_padding};
-ghost use Rattle.pf_reduce.specs.Reducing.{IsNormalCore, IsReducedTo, itself};
-ghost use Rattle.pf_reduce.specs.Signs.{sign_flags, sign_length, sign_text};
+ghost use Rattle.pf_reduce.specs.Reducing.{IsReducedTo, itself};
+ghost use Rattle.pf_reduce.specs.Signs.{sign_length, sign_text};
 
 use crate::normal_directives::{kept_precision, padded_core};
 use crate::numbers::{max_digits, width};
@@ -66,7 +65,8 @@ fn reduce_unprefixed(model: Model, directive: &Directive) -> Reduced
         .without_idle_width(precision)
         .past_zeros(zeros)
         .right_up_to(1);
-    unprefixed_core(model, padding, directive, precision - zeros)
+    let kept = kept_precision(precision - zeros);
+    padded_core(model, padding, directive, FlagSet::empty(), kept)
 }
 
 // `o` with `#`: digits that begin with 0.
@@ -88,7 +88,8 @@ fn reduce_octal(model: Model, directive: &Directive) -> Reduced
     }
     let zeros = 1 + (precision - 1).saturating_sub(digits);
     let padding = padding.past_zeros(zeros).right_up_to(1);
-    unprefixed_core(model, padding, directive, precision - zeros)
+    let kept = kept_precision(precision - zeros);
+    padded_core(model, padding, directive, FlagSet::empty(), kept)
 }
 
 // `x X b` with `#`: digits after a prefix of two letters.
@@ -107,7 +108,8 @@ fn reduce_prefixed(model: Model, directive: &Directive) -> Reduced
         .with_width_at_most(2 + precision.max(max_digits(model, directive)))
         .without_idle_width(precision)
         .right_up_to(unseen_width(precision, 3));
-    prefixed_core(model, padding, directive, precision)
+    let alt = FlagSet::empty().with(Flag::Alt);
+    padded_core(model, padding, directive, alt, kept_precision(precision))
 }
 
 /// `d i`: digits after a sign.
@@ -130,70 +132,6 @@ pub(crate) fn reduce_signed(model: Model, directive: &Directive) -> Reduced
     let padding = padding
         .without_idle_width(sign.len() + precision)
         .right_up_to(unseen_signed_width(precision, sign));
-    signed_core(model, padding, directive, sign, precision)
-}
-
-// Digits alone.
-fn unprefixed_core(model: Model, padding: Padding, directive: &Directive, precision: u16) -> Reduced
-    requires text { is_text directive.now.conv ≡ false }
-    requires sign { is_signed directive.now.conv ≡ false }
-    requires few { precision ≤ digits_at_most model directive.now }
-    requires room { 0 < padding.width
-        → (precision < padding.width) × (padding.width ≤ digits_at_most model directive.now) }
-    requires wide { IsTrue padding.left → 1 < padding.width }
-    ensures value { result
-        ≡ padded_core model directive.now padding no_flags (kept_precision precision) }
-    ensures normal { IsNormalCore model result.core }
-{
-    padded_core(
-        model,
-        padding,
-        directive,
-        FlagSet::empty(),
-        kept_precision(precision),
-    )
-}
-
-// Digits after a prefix, not filled with zeros.
-fn prefixed_core(model: Model, padding: Padding, directive: &Directive, precision: u16) -> Reduced
-    requires prefixed { is_prefixed directive.now.conv ≡ true }
-    requires limit { (padding.width ≤ MAX_NUMBER) × (precision ≤ MAX_NUMBER) }
-    requires least { 0 < padding.width → precision < padding.width }
-    requires most { padding.width ≤ 2 + max precision (digits_at_most model directive.now) }
-    requires left { padding.left ≡ true
-        → (0 < padding.width) × (precision ≡ 0 → 3 < padding.width) }
-    ensures value { result
-        ≡ padded_core model directive.now padding (with_flag no_flags Alt)
-        (kept_precision precision) }
-    ensures normal { IsNormalCore model result.core }
-{
-    let alt = FlagSet::empty().with(Flag::Alt);
-    padded_core(model, padding, directive, alt, kept_precision(precision))
-}
-
-// Digits after a sign, not filled with zeros.
-fn signed_core(
-    model: Model,
-    padding: Padding,
-    directive: &Directive,
-    sign: Sign,
-    precision: u16,
-) -> Reduced
-    requires signed { is_signed directive.now.conv ≡ true }
-    requires limit { (padding.width ≤ MAX_NUMBER) × (precision ≤ MAX_NUMBER) }
-    requires least { 0 < padding.width → sign_length sign + precision < padding.width }
-    requires most { padding.width ≤ 1 + max precision (digits_at_most model directive.now) }
-    requires space { padding.left ≡ false → sign ≡ signs.Space
-        → padding.width ≢ 1 + max precision (digits_at_most model directive.now) }
-    requires none { padding.left ≡ false → sign ≡ signs.None
-        → digits_at_most model directive.now ≤ precision
-        → padding.width ≢ 1 + max precision (digits_at_most model directive.now) }
-    requires left { padding.left ≡ true → (0 < padding.width)
-        × (sign ≢ signs.Plus → precision ≡ 0 → sign_length sign + 1 < padding.width) }
-    ensures value { result
-        ≡ padded_core model directive.now padding (sign_flags sign) (kept_precision precision) }
-    ensures normal { IsNormalCore model result.core }
-{
     padded_core(
         model,
         padding,

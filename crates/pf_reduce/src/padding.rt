@@ -1,8 +1,7 @@
 //! Padding around what is printed: a constant part, and spaces up to a width.
-ghost use Rattle.std.specs.Prelude.{IsTrue, ◌≡◌, ◌≤◌, ◌<◌, ◌+◌, ◌-◌, ◌⊎◌, min, true, false, ◌++◌, ◌^◌, length, replicate};
+ghost use Rattle.std.specs.Prelude.{◌≡◌, ◌≤◌, ◌<◌, ◌+◌, ◌⊎◌, true, false, ◌^◌};
 ghost use Rattle.pf_values.specs.declared.limits.TheConstants.{MAX_NUMBER};
 ghost use Rattle.pf_values.specs.meaning.Defined.{IsDefined};
-ghost use Rattle.pf_values.specs.meaning.Text.{Text, zero_digit};
 
 use crate::numbers::width;
 use pf_values::{Directive, Flag};
@@ -18,7 +17,7 @@ pub(crate) struct Padding {
 }
 
 impl Padding {
-    ghost use Rattle.pf_reduce.specs.Padded.{IsUnseen, constants, with_padding, padding_of};
+    ghost use Rattle.pf_reduce.specs.Padded.{HasNoIdleWidth, IsNarrowedTo, IsPastZeros, IsRightUpTo, constants, padding_of};
 
     /// As the directive says.
     #[inline(always)]
@@ -40,11 +39,7 @@ impl Padding {
     #[inline(always)]
     pub(crate) fn with_width_at_most(self, most: u16) -> Padding
         requires { (self.spaces ≡ 0) × (self.zeros ≡ 0) × (self.trail ≡ 0) }
-        ensures same { (body : Text) → length body ≤ most
-            → with_padding self body ≡ with_padding result body }
-        ensures constant { constants result ≡ self.width - most }
-        ensures left { result.left ≡ self.left }
-        ensures width { result.width ≡ min self.width most }
+        ensures { IsNarrowedTo self most result }
     {
         let beyond = self.width.saturating_sub(most);
         let width = self.width.min(most);
@@ -66,12 +61,7 @@ impl Padding {
     /// Where at least so many bytes are printed, a width of no more is none.
     #[inline(always)]
     pub(crate) fn without_idle_width(self, least: u16) -> Padding
-        ensures same { (body : Text) → least ≤ length body
-            → with_padding self body ≡ with_padding result body }
-        ensures constant { constants result ≡ constants self }
-        ensures left { result.left ≡ self.left }
-        ensures idle { self.width ≤ least → result.width ≡ 0 }
-        ensures kept { least < self.width → result.width ≡ self.width }
+        ensures { HasNoIdleWidth self least result }
     {
         if self.width > least {
             return self;
@@ -93,11 +83,7 @@ impl Padding {
     pub(crate) fn past_zeros(self, count: u16) -> Padding
         requires apart { (self.left ≡ true) ⊎ (self.width ≡ 0) ⊎ (count ≡ 0) }
         requires room { constants self + count < 2 ^ 16 }
-        ensures same { (body : Text)
-            → with_padding self (replicate count zero_digit ++ body) ≡ with_padding result body }
-        ensures constant { constants result ≡ constants self + count }
-        ensures left { result.left ≡ self.left }
-        ensures width { result.width ≡ self.width - count }
+        ensures { IsPastZeros self count result }
     {
         Padding {
             zeros: self.zeros + count,
@@ -109,12 +95,7 @@ impl Padding {
     /// Right-justified up to a width of which nobody sees the side.
     #[inline(always)]
     pub(crate) fn right_up_to(self, most: u16) -> Padding
-        ensures same { (body : Text) → (self.width ≤ most → IsUnseen self.width body)
-            → with_padding self body ≡ with_padding result body }
-        ensures constant { constants result ≡ constants self }
-        ensures width { result.width ≡ self.width }
-        ensures wide { IsTrue result.left → IsTrue self.left × (most < self.width) }
-        ensures right { most < self.width → result.left ≡ self.left }
+        ensures { IsRightUpTo self most result }
     {
         if self.width > most {
             return self;

@@ -1,63 +1,33 @@
-use Rattle.std.proofs.Common.{◌≡◌, ◌+◌, ◌-◌, ◌<◌, ◌≤◌, max, min, false, arith, ap, sym, ◌∙◌}
-use Rattle.std.specs.Prelude.{nat_abs}
-use Rattle.pf_values.specs.meaning.Conversions.{is_signed, is_text, prints_signed, prints_text}
+use Rattle.std.proofs.Common.{◌≡◌, ◌+◌, ◌<◌, ◌≤◌, max, min, false, arith, ap, ◌∙◌}
+use Rattle.pf_values.specs.meaning.Conversions.{prints_signed, prints_text}
 use Rattle.pf_values.specs.meaning.Flags.{no_flags, with_flag}
 use Rattle.pf_values.specs.declared.flags.Flag.TheVariants.{Alt}
-use Rattle.pf_values.specs.meaning.Normal.{digits_at_most, precision_of}
+use Rattle.pf_values.specs.meaning.Normal.{precision_of}
 use Rattle.pf_values.specs.meaning.Specification.{width_of}
-use Rattle.pf_values.specs.Directives.{effective_precision}
-use Rattle.pf_reduce.specs.Padded.{with_padding, padding_of}
 use Rattle.pf_reduce.proofs.OwnCores.{alt_flags, octal_form, own_field, own_number, seen_before, unfilled_precision}
-use Rattle.pf_reduce.proofs.UnprefixedNumbers.{
-  digits_reduced,
-  length-octal_text,
-  octal,
-  octal_count,
-  octal_reduced,
-  octal_split,
-  octal_text,
-  octal_value,
-  one_or_none,
-}
+use Rattle.pf_reduce.proofs.UnprefixedNumbers.{octal}
+use Rattle.pf_reduce.proofs.UnsignedReductions.{octal_after_spaces, octal_past_zeros}
 use Rattle.pf_reduce.proofs.integers.reduce_octal.Goals as goal
+
+pub padded_core-requires : goal.padded_core-requires
+padded_core-requires c =
+    let flags : c.with-alt.result ≡ with_flag no_flags Alt = c.with-alt.ensures ∙ ap (λ f. with_flag f Alt) c.empty.ensures in
+    rw (flags, c.kept_precision.ensures) (octal_after_spaces c.args.model c.args.directive.now c.of.ensures.defined c.requires.octal c.requires.alt c.max-precision.result c.max_digits-digits.result _ c.without_idle_width-padding.result (c.max-precision.ensures ∙ ap (λ k. max k 1) c.effective_precision.ensures.value) c.max_digits-digits.ensures.value
+    (rw (c.of.ensures.value, c.max.ensures) at c.with_width_at_most.ensures) c.without_idle_width-padding.ensures (c.has_spaces_before.ensures.yes c.if-has_spaces_before.true).0 (c.has_spaces_before.ensures.yes c.if-has_spaces_before.true).1).normal
 
 pub returns-then-has_spaces_before-clause-same : goal.returns-then-has_spaces_before-clause-same
 returns-then-has_spaces_before-clause-same c =
-    let s = c.args.directive.now in
-    let p = c.max-precision.result in
-    let p_is : p ≡ max (effective_precision s 0) 1 = c.max-precision.ensures ∙ ap (λ k. max k 1) c.effective_precision.ensures.value in
     let flags : c.with-alt.result ≡ with_flag no_flags Alt = c.with-alt.ensures ∙ ap (λ f. with_flag f Alt) c.empty.ensures in
-    let e = octal s.conv c.requires.octal in
-    rw (c.padded_core.ensures.value, c.kept_precision.ensures, flags) (octal_reduced c.args.model s c.without_idle_width-padding.result p e c.requires.alt (rw (c.padded_core.ensures.value, c.kept_precision.ensures, flags) at c.padded_core.ensures.normal) (omega (arith, c.of.ensures.limit, c.with_width_at_most.ensures.constant, c.without_idle_width-padding.ensures.constant)) (λ v count.
-    let body = octal_text p (nat_abs v) in
-    let len = length-octal_text p (nat_abs v) in
-    ap (with_padding (padding_of s)) (octal_value s v e c.requires.alt ∙ ap (λ k. octal_text k (nat_abs v)) (sym p_is))
-    ∙ ap (λ q. with_padding q body) (sym c.of.ensures.value)
-    ∙ c.with_width_at_most.ensures.same body (omega (arith, c.max.ensures, c.max_digits-digits.ensures.value))
-    ∙ c.without_idle_width-padding.ensures.same body (omega arith)))
+    rw (c.padded_core.ensures.value, flags, c.kept_precision.ensures) (octal_after_spaces c.args.model c.args.directive.now c.of.ensures.defined c.requires.octal c.requires.alt c.max-precision.result c.max_digits-digits.result _ c.without_idle_width-padding.result (c.max-precision.ensures ∙ ap (λ k. max k 1) c.effective_precision.ensures.value) c.max_digits-digits.ensures.value
+    (rw (c.of.ensures.value, c.max.ensures) at c.with_width_at_most.ensures) c.without_idle_width-padding.ensures (c.has_spaces_before.ensures.yes c.if-has_spaces_before.true).0 (c.has_spaces_before.ensures.yes c.if-has_spaces_before.true).1).reduced
+
+pub padded_core-requires-2 : goal.padded_core-requires-2
+padded_core-requires-2 c = rw (c.empty-2.ensures, c.kept_precision-kept.ensures) (octal_past_zeros c.args.model c.args.directive.now c.of.ensures.defined c.requires.octal c.requires.alt c.max-precision.result c.max_digits-digits.result _ c.without_idle_width-padding.result (c.max-precision.ensures ∙ ap (λ k. max k 1) c.effective_precision.ensures.value) c.max_digits-digits.ensures.value
+    (rw (c.of.ensures.value, c.max.ensures) at c.with_width_at_most.ensures) c.without_idle_width-padding.ensures (1 + c.saturating_sub-zeros.result) _ c.right_up_to-padding.result (ap (λ k. 1 + k) c.saturating_sub-zeros.ensures) c.past_zeros.ensures c.right_up_to-padding.ensures).normal
 
 pub returns-clause-same : goal.returns-clause-same
-returns-clause-same c =
-    let s = c.args.directive.now in
-    let e = octal s.conv c.requires.octal in
-    let text : is_text s.conv ≡ false = ap prints_text e in
-    let signed : is_signed s.conv ≡ false = ap prints_signed e in
-    let p = c.max-precision.result in
-    let p_is : p ≡ max (effective_precision s 0) 1 = c.max-precision.ensures ∙ ap (λ k. max k 1) c.effective_precision.ensures.value in
-    let z = 1 + c.saturating_sub-zeros.result in
-    let z_is : z ≡ 1 + (p - 1 - digits_at_most c.args.model s) = omega (arith, c.saturating_sub-zeros.ensures, c.max_digits-digits.ensures.value) in
-    rw c.unprefixed_core.ensures.value (digits_reduced c.args.model s c.right_up_to-padding.result (p - z) text signed (rw c.unprefixed_core.ensures.value at c.unprefixed_core.ensures.normal) (omega (arith, c.of.ensures.limit, c.with_width_at_most.ensures.constant, c.max.ensures, c.without_idle_width-padding.ensures.constant, c.past_zeros.ensures.constant, c.right_up_to-padding.ensures.constant, c.effective_precision.ensures.limit, c.max-precision.ensures, z_is)) (λ v count.
-    let n = nat_abs v in
-    let few = octal_count c.args.model s e n count in
-    let body = octal_text p n in
-    let len = length-octal_text p n in
-    ap (with_padding (padding_of s)) (octal_value s v e c.requires.alt ∙ ap (λ k. octal_text k n) (sym p_is))
-    ∙ ap (λ q. with_padding q body) (sym c.of.ensures.value)
-    ∙ c.with_width_at_most.ensures.same body (omega (arith, c.max.ensures, c.max_digits-digits.ensures.value))
-    ∙ c.without_idle_width-padding.ensures.same body (omega arith)
-    ∙ ap (with_padding c.without_idle_width-padding.result) (octal_split s.conv e p (digits_at_most c.args.model s) z n (omega arith) z_is few)
-    ∙ c.past_zeros.ensures.same _
-    ∙ c.right_up_to-padding.ensures.same _ (one_or_none _ _)))
+returns-clause-same c = rw (c.padded_core-2.ensures.value, c.empty-2.ensures, c.kept_precision-kept.ensures) (octal_past_zeros c.args.model c.args.directive.now c.of.ensures.defined c.requires.octal c.requires.alt c.max-precision.result c.max_digits-digits.result _ c.without_idle_width-padding.result (c.max-precision.ensures ∙ ap (λ k. max k 1) c.effective_precision.ensures.value) c.max_digits-digits.ensures.value
+    (rw (c.of.ensures.value, c.max.ensures) at c.with_width_at_most.ensures) c.without_idle_width-padding.ensures (1 + c.saturating_sub-zeros.result) _ c.right_up_to-padding.result (ap (λ k. 1 + k) c.saturating_sub-zeros.ensures) c.past_zeros.ensures c.right_up_to-padding.ensures).reduced
 
 pub returns-then-has_spaces_before-clause-kept : goal.returns-then-has_spaces_before-clause-kept
 returns-then-has_spaces_before-clause-kept c = λ h.

@@ -1,10 +1,7 @@
 use Rattle.std.proofs.Common.{◌≡◌, ◌+◌, ◌<◌, ◌≤◌, min, true, arith, ap, sym, ◌∙◌}
-use Rattle.std.specs.Prelude.{nat_abs}
 use Rattle.pf_values.specs.meaning.Flags.{no_flags, with_flag}
-use Rattle.pf_values.specs.declared.conversions.Conv.TheVariants.{D}
 use Rattle.pf_values.specs.declared.flags.Flag.TheVariants.{Zero}
-use Rattle.pf_values.specs.meaning.Printing.{is_negative}
-use Rattle.pf_values.specs.meaning.Normal.{digits_at_most, longest, precision_of, sign_len}
+use Rattle.pf_values.specs.meaning.Normal.{longest, precision_of, sign_len}
 use Rattle.pf_values.specs.meaning.Specification.{width_of}
 use Rattle.pf_values.specs.meaning.Flags.{has}
 use Rattle.pf_values.specs.declared.flags.Flag.TheVariants.{Minus}
@@ -12,43 +9,37 @@ use Rattle.pf_reduce.specs.Signs.{sign_flags}
 use Rattle.pf_reduce.specs.Cores.{with_side}
 use Rattle.pf_reduce.proofs.OwnCores.{no_plus_is, own_field, own_filled_signed, own_number, own_side, seen_sign, sign_len_is, signed_flags, signed_form, signed_number, space_is, unfilled_precision}
 use Rattle.pf_values.specs.Directives.{effective_precision}
-use Rattle.pf_reduce.specs.Padded.{with_padding, padding_of}
 use Rattle.pf_reduce.specs.Signs.{sign_length, sign_of}
-use Rattle.pf_reduce.proofs.UnprefixedNumbers.{digits_text, length-digits_text}
-use Rattle.pf_reduce.proofs.SignedNumbers.{signed_filled, signed_least, signed_most, signed_reduced, signed_text, unseen_signed_side}
+use Rattle.pf_reduce.proofs.SignedReductions.{signed_by, signed_filled_by}
 use Rattle.pf_reduce.proofs.integers.reduce_signed.Goals as goal
+
+pub padded_core-requires : goal.padded_core-requires
+padded_core-requires c =
+    let sign : c.of-sign.result ≡ sign_of c.args.directive.now.flags = c.of-sign.ensures ∙ ap sign_of c.flags.ensures.value in
+    let flags : c.with-flags.result ≡ with_flag no_flags Zero = c.with-flags.ensures ∙ ap (λ f. with_flag f Zero) c.empty.ensures in
+    let kept = c.keeps_zeros.ensures.kept c.if-keeps_zeros.true in
+    rw (c.of.ensures.value, flags) (signed_filled_by c.args.model c.args.directive.now c.of.ensures.defined c.requires kept.0 (ap sign_length (sym sign) ∙ sym c.len.ensures ∙ kept.1) kept.2).normal
 
 pub returns-then-keeps_zeros-clause-same : goal.returns-then-keeps_zeros-clause-same
 returns-then-keeps_zeros-clause-same c =
-    let s = c.args.directive.now in
-    let sign : c.of-sign.result ≡ sign_of s.flags = c.of-sign.ensures ∙ ap sign_of c.flags.ensures.value in
+    let sign : c.of-sign.result ≡ sign_of c.args.directive.now.flags = c.of-sign.ensures ∙ ap sign_of c.flags.ensures.value in
     let flags : c.with-flags.result ≡ with_flag no_flags Zero = c.with-flags.ensures ∙ ap (λ f. with_flag f Zero) c.empty.ensures in
     let kept = c.keeps_zeros.ensures.kept c.if-keeps_zeros.true in
-    rw (c.padded_core.ensures.value, c.of.ensures.value, flags) (signed_filled c.args.model s c.requires kept.0 (ap sign_length (sym sign) ∙ sym c.len.ensures ∙ kept.1) (rw (c.padded_core.ensures.value, c.of.ensures.value, flags) at c.padded_core.ensures.normal))
+    rw (c.padded_core.ensures.value, c.of.ensures.value, flags) (signed_filled_by c.args.model c.args.directive.now c.of.ensures.defined c.requires kept.0 (ap sign_length (sym sign) ∙ sym c.len.ensures ∙ kept.1) kept.2).reduced
+
+pub padded_core-requires-2 : goal.padded_core-requires-2
+padded_core-requires-2 c =
+    let sign : c.of-sign.result ≡ sign_of c.args.directive.now.flags = c.of-sign.ensures ∙ ap sign_of c.flags.ensures.value in
+    rw (c.flags-2.ensures, c.kept_precision.ensures) (signed_by c.args.model c.args.directive.now c.of-2.ensures.defined c.requires c.of-sign.result c.sign_in_field-sign.result c.effective_precision-precision.result c.max_digits-digits.result c.unseen_signed_width.result _ c.without_idle_width-padding.result _ c.right_up_to-padding.result sign (rw c.len.ensures at c.keeps_zeros.ensures.idle c.if-keeps_zeros.false) (c.effective_precision-precision.ensures.value ∙ ap (effective_precision c.args.directive.now) c.len-2.ensures) c.max_digits-digits.ensures.value
+    (rw (c.of-2.ensures.value, c.max.ensures) at c.with_width_at_most.ensures) (rw c.len-3.ensures at c.without_idle_width-padding.ensures)
+    (record { same = c.sign_in_field-sign.ensures.same; space = c.sign_in_field-sign.ensures.space; none = c.sign_in_field-sign.ensures.none }) (rw c.len-4.ensures at c.without_idle_width.ensures) c.unseen_signed_width.ensures.plus c.unseen_signed_width.ensures.none c.unseen_signed_width.ensures.some c.right_up_to-padding.ensures).normal
 
 pub returns-clause-same : goal.returns-clause-same
 returns-clause-same c =
-    let s = c.args.directive.now in
-    let p = c.effective_precision-precision.result in
-    let given = c.of-sign.result in
-    let kept = c.sign_in_field-sign.result in
-    let sign : given ≡ sign_of s.flags = c.of-sign.ensures ∙ ap sign_of c.flags.ensures.value in
-    let idle = c.keeps_zeros.ensures.idle c.if-keeps_zeros.false in
-    let p_is = c.effective_precision-precision.ensures.value ∙ ap (effective_precision s) (c.len-2.ensures ∙ ap sign_length sign) in
-    rw c.signed_core.ensures.value (signed_reduced c.args.model s c.requires c.right_up_to-padding.result kept p (rw (c.len.ensures, sign) at idle) p_is (rw c.signed_core.ensures.value at c.signed_core.ensures.normal)
-    (omega (arith, c.of-2.ensures.limit, c.with_width_at_most.ensures.constant, c.without_idle_width-padding.ensures.constant, c.without_idle_width.ensures.constant, c.right_up_to-padding.ensures.constant)) (λ v count.
-    let number = digits_text D p (nat_abs v) in
-    let len = length-digits_text D p (nat_abs v) in
-    let most = c.max_digits-digits.ensures.value in
-    let before = signed_text given p v in
-    let after = signed_text kept p v in
-    ap (λ u. with_padding (padding_of s) (signed_text u p v)) (sym sign)
-    ∙ ap (λ q. with_padding q before) (sym c.of-2.ensures.value)
-    ∙ c.with_width_at_most.ensures.same before (omega (arith, c.max.ensures, signed_most given p (digits_at_most c.args.model s) v count))
-    ∙ c.without_idle_width-padding.ensures.same before (omega (arith, c.len-3.ensures, signed_least given p v))
-    ∙ c.sign_in_field-sign.ensures.same (is_negative v) number (omega arith)
-    ∙ c.without_idle_width.ensures.same after (omega (arith, c.len-4.ensures, signed_least kept p v))
-    ∙ c.right_up_to-padding.ensures.same after (unseen_signed_side kept _ _ p v c.unseen_signed_width.ensures.plus c.unseen_signed_width.ensures.none c.unseen_signed_width.ensures.some)))
+    let sign : c.of-sign.result ≡ sign_of c.args.directive.now.flags = c.of-sign.ensures ∙ ap sign_of c.flags.ensures.value in
+    rw (c.padded_core-2.ensures.value, c.flags-2.ensures, c.kept_precision.ensures) (signed_by c.args.model c.args.directive.now c.of-2.ensures.defined c.requires c.of-sign.result c.sign_in_field-sign.result c.effective_precision-precision.result c.max_digits-digits.result c.unseen_signed_width.result _ c.without_idle_width-padding.result _ c.right_up_to-padding.result sign (rw c.len.ensures at c.keeps_zeros.ensures.idle c.if-keeps_zeros.false) (c.effective_precision-precision.ensures.value ∙ ap (effective_precision c.args.directive.now) c.len-2.ensures) c.max_digits-digits.ensures.value
+    (rw (c.of-2.ensures.value, c.max.ensures) at c.with_width_at_most.ensures) (rw c.len-3.ensures at c.without_idle_width-padding.ensures)
+    (record { same = c.sign_in_field-sign.ensures.same; space = c.sign_in_field-sign.ensures.space; none = c.sign_in_field-sign.ensures.none }) (rw c.len-4.ensures at c.without_idle_width.ensures) c.unseen_signed_width.ensures.plus c.unseen_signed_width.ensures.none c.unseen_signed_width.ensures.some c.right_up_to-padding.ensures).reduced
 
 pub returns-then-keeps_zeros-clause-kept : goal.returns-then-keeps_zeros-clause-kept
 returns-then-keeps_zeros-clause-kept c = λ h.
@@ -90,8 +81,7 @@ returns-clause-kept c = λ h.
     let l = form.left (sym side ∙ e) in
     let b = seen_sign given p w unseen.result (l.0, λ other none. let m = l.1 (no_plus_is s (λ plus. other (sign ∙ plus))) (sym p_is ∙ none) in omega (arith, m, len)) (λ is. unseen.ensures.plus (kept ∙ is)) (λ other none. unseen.ensures.none (λ is. other (sym kept ∙ is)) none ∙ ap (λ u. sign_length u + 1) kept) unseen.ensures.some in
     omega (arith, again, b) in
-    c.signed_core.ensures.value
-    ∙ own_number c.args.model s c.right_up_to-padding.result (sign_flags c.sign_in_field-sign.result) p h (signed_number s.conv c.requires) (ap (λ u. with_side (has s.flags Minus) (sign_flags u)) (kept ∙ sign) ∙ signed_flags c.args.model s h c.requires form.one_sign forms.1) p_is
+    rw (c.padded_core-2.ensures.value, c.flags-2.ensures, c.kept_precision.ensures) (own_number c.args.model s c.right_up_to-padding.result (sign_flags c.sign_in_field-sign.result) p h (signed_number s.conv c.requires) (ap (λ u. with_side (has s.flags Minus) (sign_flags u)) (kept ∙ sign) ∙ signed_flags c.args.model s h c.requires form.one_sign forms.1) p_is
     (omega (arith, c.with_width_at_most.ensures.constant, first.ensures.constant, last.ensures.constant, c.right_up_to-padding.ensures.constant, width, few))
     (c.right_up_to-padding.ensures.width ∙ again)
-    (own_side _ _ _ unseen.result c.right_up_to-padding.ensures.wide c.right_up_to-padding.ensures.right seen ∙ side)
+    (own_side _ _ _ unseen.result c.right_up_to-padding.ensures.wide c.right_up_to-padding.ensures.right seen ∙ side))

@@ -1,34 +1,20 @@
 use Rattle.std.proofs.Common.{◌≡◌, ◌-◌, ◌<◌, min, true, arith, ap, refl, sym, ◌∙◌}
-use Rattle.std.specs.Prelude.{nat_abs}
-use Rattle.pf_values.specs.meaning.Conversions.{base_of}
 use Rattle.pf_values.specs.declared.flags.Flag.TheVariants.{Minus}
 use Rattle.pf_values.specs.meaning.Flags.{has}
 use Rattle.pf_values.specs.meaning.Normal.{digits_at_most, precision_of}
 use Rattle.pf_values.specs.meaning.Specification.{width_of}
 use Rattle.pf_reduce.specs.Cores.{with_side}
-use Rattle.pf_values.proofs.Printed.{count_of}
-use Rattle.pf_reduce.specs.Padded.{with_padding, padding_of}
 use Rattle.pf_reduce.proofs.OwnCores.{bare_flags, beyond, own_field, own_number, own_side, unfilled_precision, unprefixed_form}
-use Rattle.pf_reduce.proofs.UnprefixedNumbers.{beyond_most, digits_reduced, digits_text, length-digits_text, one_or_none, unprefixed_value, split_zeros}
+use Rattle.pf_reduce.proofs.UnsignedReductions.{unprefixed_by}
 use Rattle.pf_reduce.proofs.integers.reduce_unprefixed.Goals as goal
 
+pub padded_core-requires : goal.padded_core-requires
+padded_core-requires c = rw (c.empty.ensures, c.kept_precision-kept.ensures) (unprefixed_by c.args.model c.args.directive.now c.of.ensures.defined c.requires.text c.requires.sign c.requires.alt c.effective_precision-precision.result c.max_digits-digits.result c.saturating_sub-zeros.result _ _ _ c.right_up_to-padding.result c.effective_precision-precision.ensures.value c.max_digits-digits.ensures.value c.saturating_sub-zeros.ensures
+    (rw (c.of.ensures.value, c.max.ensures) at c.with_width_at_most.ensures) c.without_idle_width.ensures c.past_zeros.ensures c.right_up_to-padding.ensures).normal
+
 pub returns-clause-same : goal.returns-clause-same
-returns-clause-same c =
-    let s = c.args.directive.now in
-    let p = c.effective_precision-precision.result in
-    let z = c.saturating_sub-zeros.result in
-    let z_is : z ≡ p - digits_at_most c.args.model s = c.saturating_sub-zeros.ensures ∙ ap (λ d. p - d) c.max_digits-digits.ensures.value in
-    rw c.unprefixed_core.ensures.value (digits_reduced c.args.model s c.right_up_to-padding.result (p - z) c.requires.text c.requires.sign (rw c.unprefixed_core.ensures.value at c.unprefixed_core.ensures.normal) (omega (arith, c.of.ensures.limit, c.with_width_at_most.ensures.constant, c.max.ensures, c.without_idle_width.ensures.constant, c.past_zeros.ensures.constant, c.right_up_to-padding.ensures.constant, c.effective_precision-precision.ensures.limit, z_is)) (λ v count.
-    let n = nat_abs v in
-    let body = digits_text s.conv p n in
-    let len = length-digits_text s.conv p n in
-    ap (with_padding (padding_of s)) (unprefixed_value s v c.requires.sign c.requires.alt ∙ ap (λ k. digits_text s.conv k n) (sym c.effective_precision-precision.ensures.value))
-    ∙ ap (λ q. with_padding q body) (sym c.of.ensures.value)
-    ∙ c.with_width_at_most.ensures.same body (omega (arith, c.max.ensures, c.max_digits-digits.ensures.value))
-    ∙ c.without_idle_width.ensures.same body (omega arith)
-    ∙ ap (with_padding c.without_idle_width.result) (split_zeros s.conv p z n _ (rw z_is (beyond_most p (digits_at_most c.args.model s) (count_of (base_of s.conv) n) count)))
-    ∙ c.past_zeros.ensures.same _
-    ∙ c.right_up_to-padding.ensures.same _ (one_or_none _ _)))
+returns-clause-same c = rw (c.padded_core.ensures.value, c.empty.ensures, c.kept_precision-kept.ensures) (unprefixed_by c.args.model c.args.directive.now c.of.ensures.defined c.requires.text c.requires.sign c.requires.alt c.effective_precision-precision.result c.max_digits-digits.result c.saturating_sub-zeros.result _ _ _ c.right_up_to-padding.result c.effective_precision-precision.ensures.value c.max_digits-digits.ensures.value c.saturating_sub-zeros.ensures
+    (rw (c.of.ensures.value, c.max.ensures) at c.with_width_at_most.ensures) c.without_idle_width.ensures c.past_zeros.ensures c.right_up_to-padding.ensures).reduced
 
 pub returns-clause-kept : goal.returns-clause-kept
 returns-clause-kept c = λ h.
@@ -49,8 +35,7 @@ returns-clause-kept c = λ h.
     let past : c.past_zeros.result.width ≡ w = omega (arith, c.past_zeros.ensures.width, none, field) in
     let left : c.past_zeros.result.left ≡ has s.flags Minus = c.past_zeros.ensures.left ∙ c.without_idle_width.ensures.left ∙ c.with_width_at_most.ensures.left ∙ ap (λ q. q.left) c.of.ensures.value in
     let seen : c.past_zeros.result.left ≡ true → 1 < c.past_zeros.result.width = λ e. let b = beyond (precision_of s) w (form.left (sym left ∙ e)) form.least in omega (arith, past, b) in
-    c.unprefixed_core.ensures.value
-    ∙ own_number c.args.model s c.right_up_to-padding.result _ (p - c.saturating_sub-zeros.result) h c.requires.text (ap (with_side (has s.flags Minus)) refl ∙ bare_flags c.args.model s h c.requires.sign c.requires.alt form.not_filled) (omega (arith, none, p_is))
+    rw (c.padded_core.ensures.value, c.empty.ensures, c.kept_precision-kept.ensures) (own_number c.args.model s c.right_up_to-padding.result _ (p - c.saturating_sub-zeros.result) h c.requires.text (ap (with_side (has s.flags Minus)) refl ∙ bare_flags c.args.model s h c.requires.sign c.requires.alt form.not_filled) (omega (arith, none, p_is))
     (omega (arith, c.of.ensures.limit, c.with_width_at_most.ensures.constant, c.without_idle_width.ensures.constant, c.past_zeros.ensures.constant, c.right_up_to-padding.ensures.constant, none, given, few, c.max.ensures, d))
     (c.right_up_to-padding.ensures.width ∙ past)
-    (own_side _ _ _ 1 c.right_up_to-padding.ensures.wide c.right_up_to-padding.ensures.right seen ∙ left)
+    (own_side _ _ _ 1 c.right_up_to-padding.ensures.wide c.right_up_to-padding.ensures.right seen ∙ left))

@@ -1,5 +1,5 @@
-use Rattle.pf_reduce.proofs.Paddings.{past}
+use Rattle.pf_reduce.proofs.Narrowing.{past_zeros}
 use Rattle.pf_reduce.proofs.padding.Padding.past_zeros.Goals as goal
 
-pub returns-clause-same : goal.returns-clause-same
-returns-clause-same c = λ body. rw c.saturating_sub.ensures (past c.args.self.spaces c.args.self.zeros c.args.count c.args.self.left c.args.self.width body _ c.requires.apart)
+pub returns : goal.returns
+returns c = rw c.saturating_sub.ensures (past_zeros c.args.self c.args.count c.requires.apart)
