@@ -7,7 +7,7 @@ ghost use Rattle.pf_values.specs.declared.models.Model.TheVariants.{Lp64};
 ghost use Rattle.pf_values.specs.declared.types.ArgType.{ArgType};
 ghost use Rattle.pf_values.specs.meaning.Arguments.{HasType};
 ghost use Rattle.pf_values.specs.meaning.DataModel.{arg_type};
-ghost use Rattle.pf_values.specs.meaning.Items.{HasItems, IsAccepted, Item, Reads, types};
+ghost use Rattle.pf_values.specs.meaning.Items.{HasItems, Item, Reads, types};
 ghost use Rattle.pf_probes.specs.Candidate as probes;
 ghost use Rattle.pf_compare.specs.Answers.{FindsProbe};
 ghost use Rattle.pf_compare.specs.Layouts.{HaveSameTypesAndBytes, HaveSameTypeLists, AreTriedBelow, ReplacementsEqual, ReplacementsDiffer, FindsUnlike, IsFirstUnlike, IsSpanIn, IsLayoutOf, replace_span, span_types};

@@ -1,8 +1,7 @@
 //! Where in a source each of its bytes comes from.
 ghost use Rattle.std.specs.Prelude.{◌≡◌, ◌<◌, length, MatchOption, slice_get};
 ghost use Rattle.pf_literals.specs.Answers.{HasNoPlace, IsPlaceOf};
-ghost use Rattle.pf_literals.specs.Readings.{HasNoFault};
-ghost use Rattle.pf_literals.specs.Walks.{IsFoundPlace, PartEndsBy, reading_left, part_places};
+ghost use Rattle.pf_literals.specs.Walks.{IsFoundPlace, PartEndsBy, part_places};
 
 use crate::cursor::{Cursor, NextPart, SourcePart};
 

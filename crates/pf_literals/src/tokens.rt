@@ -1,5 +1,5 @@
 //! The token at the front of a text, outside of a literal or in one.
-ghost use Rattle.std.specs.Prelude.{◌≡◌, ◌≤◌, ◌<◌, ◌∷◌, [], ◌+◌, length};
+ghost use Rattle.std.specs.Prelude.{◌≡◌, ◌≤◌, ◌<◌, ◌∷◌, [], ◌+◌};
 ghost use Rattle.pf_literals.specs.Elements.{ends_trigraph, is_third, simple_byte};
 ghost use Rattle.pf_literals.specs.Sources.{is_white};
 ghost use Rattle.pf_literals.specs.Tokens.{numeric_at_end, escape_by_letter, escape_token, token_inside, numeric_token, token_outside, finished_numeric, token_at};

@@ -1,5 +1,5 @@
 //! The automaton that reads items: what was read of an item, and what one more byte makes of it.
-ghost use Rattle.std.specs.Prelude.{◌≡◌, ◌<◌, ◌↔◌, ℕ, false, IsTrue, Some, None, Ok};
+ghost use Rattle.std.specs.Prelude.{◌≡◌, ◌<◌, ◌↔◌, false, IsTrue, Some, None, Ok};
 ghost use Rattle.pf_signatures.specs.declared.types.ArgumentType.TheVariants.{Int};
 ghost use Rattle.pf_signatures.specs.Letters.{is_first_digit};
 ghost use Rattle.pf_signatures.specs.Moves.{posix_step_by, numbered};

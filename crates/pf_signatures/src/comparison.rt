@@ -2,7 +2,6 @@
 ghost use Rattle.std.specs.Prelude.{◌≡◌, ◌≤◌, List, length, ◌⊎◌, MatchResult};
 ghost use Rattle.pf_signatures.specs.declared.tables.TheConstants.{ROOM as MOST};
 ghost use Rattle.pf_signatures.specs.declared.types.ArgumentType.{ArgumentType as ArgumentTypeOf};
-ghost use Rattle.pf_signatures.specs.Items.{HasArguments};
 ghost use Rattle.pf_signatures.specs.Laws.{ComparesArgumentTypes, FaultForFits, IsFirstDifference, filled};
 ghost use Rattle.pf_signatures.specs.Steps.{AreFew, DifferAt};
 
