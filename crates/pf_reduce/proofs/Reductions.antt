@@ -6,9 +6,10 @@ use Rattle.pf_values.specs.declared.models.Model.{Model}
 use Rattle.pf_values.specs.meaning.Conversions.{is_signed, is_text}
 use Rattle.pf_values.specs.meaning.Defined.{IsDefined}
 use Rattle.pf_values.specs.meaning.Specification.{Specification}
+use Rattle.pf_reduce.proofs.Carried.{Reduction}
 use Rattle.pf_reduce.proofs.SignedReductions.{signed_reduction}
 use Rattle.pf_reduce.proofs.TextReductions.{char_reduction, string_reduction}
-use Rattle.pf_reduce.proofs.UnsignedReductions.{Reduction, unsigned}
+use Rattle.pf_reduce.proofs.UnsignedReductions.{unsigned}
 
 pub reduction : (model : Model) (s : Specification) → IsDefined s → Reduction model s
 reduction model s defined = by_conv s.conv refl

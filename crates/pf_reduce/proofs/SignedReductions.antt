@@ -18,12 +18,14 @@ use Rattle.pf_values.specs.meaning.Specification.{Specification, width_of}
 use Rattle.pf_values.specs.meaning.Text.{Text}
 use Rattle.pf_values.specs.Directives.{effective_precision, specification_of}
 use Rattle.pf_values.proofs.DataModelLemmas.{kept_row}
+use Rattle.pf_values.proofs.DefinedLemmas.{effective_limit, width_limit}
 use Rattle.pf_reduce.specs.declared.padding.Padding.{Padding}
 use Rattle.pf_reduce.specs.declared.signs.Sign.{Sign}
 use Rattle.pf_reduce.specs.declared.signs.Sign.TheVariants as signs
 use Rattle.pf_reduce.specs.Cores.{core_of_parts, kept_precision}
 use Rattle.pf_reduce.specs.Padded.{HasNoIdleWidth, IsNarrowedTo, IsRightUpTo, padding_of, with_padding}
 use Rattle.pf_reduce.specs.Signs.{sign_flags, sign_length, sign_of, sign_text}
+use Rattle.pf_reduce.proofs.Carried.{IsReducedAs, Reduction, made}
 use Rattle.pf_reduce.proofs.CarriedIntegers.{width_is}
 use Rattle.pf_reduce.proofs.Narrowing.{narrowed, not_wider, right_up_to, without_idle}
 use Rattle.pf_reduce.proofs.NormalCores.{kept_signed, normal_signed, some_width, width_within}
@@ -31,7 +33,6 @@ use Rattle.pf_reduce.proofs.Precisions.{filled_right}
 use Rattle.pf_reduce.proofs.SignLemmas.{none_for, space_for}
 use Rattle.pf_reduce.proofs.SignedNumbers.{signed_filled, signed_least, signed_most, signed_reduced, signed_text, unseen_signed_side}
 use Rattle.pf_reduce.proofs.UnprefixedNumbers.{digits_text, length-digits_text}
-use Rattle.pf_reduce.proofs.UnsignedReductions.{IsReducedAs, Reduction, effective_limit, made, width_limit}
 
 -- filled with zeros
 made_filled : (model : Model) (w : ℕ) (length : Length) → kept_length model length ≡ length → w ≤ MAX_NUMBER → 2 ≤ w → IsNormal model (specification_of (with_flag no_flags Zero) (Some w) None length D)

@@ -19,19 +19,19 @@ use Rattle.pf_values.specs.meaning.Printing.{PrintsKind, field, field_of, printe
 use Rattle.pf_values.specs.meaning.Specification.{Specification, width_of}
 use Rattle.pf_values.specs.meaning.Text.{Text, space}
 use Rattle.pf_values.specs.Directives.{specification_of}
+use Rattle.pf_values.proofs.DefinedLemmas.{width_limit, within}
 use Rattle.pf_reduce.specs.declared.padding.Padding.{Padding}
 use Rattle.pf_reduce.specs.declared.results.Core.TheVariants.{Silent}
 use Rattle.pf_reduce.specs.declared.results.Reduced.{Reduced}
 use Rattle.pf_reduce.specs.Cores.{core_of_parts, padded_core, with_side}
 use Rattle.pf_reduce.specs.Padded.{constants, padding_of, with_padding}
 use Rattle.pf_reduce.specs.Reducing.{around, core_of}
-use Rattle.pf_reduce.proofs.Carried.{Carries, prints_reduced}
+use Rattle.pf_reduce.proofs.Carried.{Carries, Reduction, prints_reduced}
 use Rattle.pf_reduce.proofs.CarriedIntegers.{field-padded, kept_kind, kept_type, padded-made, width_is}
 use Rattle.pf_reduce.proofs.Narrowing.{narrowed, right_up_to, without_idle}
 use Rattle.pf_reduce.proofs.NormalCores.{some_width, width_within}
 use Rattle.pf_reduce.proofs.TextCores.{normal_string}
 use Rattle.pf_reduce.proofs.UnprefixedNumbers.{one_or_none}
-use Rattle.pf_reduce.proofs.UnsignedReductions.{Reduction, none_first, width_limit}
 
 -- what each text that the core prints is in the directive's field
 carried : (model : Model) (s : Specification) (r : Reduced) (k : Kind) → kind_of s.conv ≡ k → kind_of (core_of r.core).conv ≡ k
@@ -131,7 +131,7 @@ module _ (model : Model) (s : Specification) (defined : IsDefined s) (is : s.con
   in_narrower : (a : Padding) → s.precision ≢ Some 0 → IfSome s.precision (λ most. a.width ≤ most) → a.width ≤ width_of s → constants a ≤ MAX_NUMBER → ((bytes : Text) → with_padding (padding_of s) (printed_front s.precision bytes) ≡ with_padding a (printed_front s.precision bytes)) → Reduction model s
   in_narrower a some most few constant same =
       let w = width_limit s defined in
-      let small = (none_first (is_above_limit s.precision) _ _ (none_first (is_above_limit s.width) _ _ defined.allowed).1).0 in
+      let small = (within s defined.allowed).precision in
       let (q, right) = right_up_to a 1 in
       let normal = normal_string model s q no_flags s.precision defined.allowed is (made_string model q.left q.width s.precision (omega (arith, right.width, few, w)) small some (rw right.width most) (λ l. let wide = (right.wide l).1 in omega (arith, right.width, wide))) in
       text_reduced model s q s.precision kinds.String (ap kind_of is) normal (omega (arith, right.constant, constant)) (λ argument body h.

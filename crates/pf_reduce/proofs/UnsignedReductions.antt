@@ -1,71 +1,34 @@
 -- Each directive that prints a number without a sign has a reduction.
-use Rattle.std.proofs.Common.{◌≡◌, ℕ, ℤ, zero, suc, ◌+◌, ◌-◌, ◌<◌, ◌≤◌, max, Bool, true, false, Option, Some, None, replicate, refl, ap, ◌∙◌, arith, inl, inr, ◌++◌, sym}
-use Rattle.std.specs.Prelude.{nat_abs, unwrap_or, not, ◌&&◌, ◌⊎◌, if◌then◌else◌}
+use Rattle.std.proofs.Common.{◌≡◌, ℕ, ℤ, zero, suc, ◌+◌, ◌-◌, ◌<◌, ◌≤◌, max, Bool, true, false, None, replicate, refl, ap, ◌∙◌, arith, inl, inr, ◌++◌, sym}
+use Rattle.std.specs.Prelude.{nat_abs, not, ◌&&◌, ◌⊎◌}
 use Rattle.std.proofs.lemmas.Bool.{cases_lt}
-use Rattle.std.proofs.lemmas.Bool.Decides.{nat_tests}
 use Rattle.pf_values.specs.declared.flags.Flag.TheVariants.{Alt, Minus, Zero}
-use Rattle.pf_values.specs.declared.flags.FlagSet.{FlagSet}
 use Rattle.pf_values.specs.declared.limits.TheConstants.{MAX_NUMBER}
 use Rattle.pf_values.specs.declared.models.Model.{Model}
 use Rattle.pf_values.specs.declared.bases.Alternative.{Alternative}
 use Rattle.pf_values.specs.declared.bases.Alternative.TheVariants.{Undefined, Raised, Prefixed}
 use Rattle.pf_values.specs.meaning.Bases.{raises_precision}
 use Rattle.pf_values.specs.meaning.Conversions.{alternative_under, base_of, has_alternative_form, kind_of, is_octal, is_signed, is_text, prints_signed, prints_text}
-use Rattle.pf_values.specs.meaning.Defined.{IsDefined, is_above_limit}
+use Rattle.pf_values.specs.meaning.Defined.{IsDefined}
 use Rattle.pf_values.specs.meaning.Flags.{has, no_flags, with_flag}
-use Rattle.pf_values.specs.meaning.Lengths.{is_long}
-use Rattle.pf_values.specs.meaning.Normal.{IsNormal, digits_at_most, precision_of}
+use Rattle.pf_values.specs.meaning.Normal.{IsNormal, digits_at_most}
 use Rattle.pf_values.specs.meaning.Printing.{is_zero_filled}
 use Rattle.pf_values.specs.meaning.Specification.{Specification, width_of}
 use Rattle.pf_values.specs.meaning.Text.{zero_digit}
 use Rattle.pf_values.specs.Directives.{effective_precision}
+use Rattle.pf_values.proofs.DefinedLemmas.{effective_limit, none_broken, width_limit}
 use Rattle.pf_values.proofs.Printed.{count_of}
 use Rattle.pf_values.proofs.PrintsOnce.{value_text}
 use Rattle.pf_reduce.specs.declared.padding.Padding.{Padding}
-use Rattle.pf_reduce.specs.declared.results.Reduced.{Reduced}
-use Rattle.pf_reduce.specs.Cores.{core_of_parts, kept_precision, padded_core}
+use Rattle.pf_reduce.specs.Cores.{core_of_parts, kept_precision}
 use Rattle.pf_reduce.specs.Padded.{HasNoIdleWidth, IsNarrowedTo, IsPastZeros, IsRightUpTo, constants, padding_of, with_padding}
 use Rattle.pf_reduce.specs.Prefixes.{is_prefixed, puts_prefix}
-use Rattle.pf_reduce.specs.Reducing.{IsReducedTo}
+use Rattle.pf_reduce.proofs.Carried.{IsReducedAs, Reduction, made}
 use Rattle.pf_reduce.proofs.Narrowing.{narrowed, not_wider, past_zeros, right_up_to, without_idle}
 use Rattle.pf_reduce.proofs.NormalForms.{normal_filled, normal_octal, normal_prefixed, normal_unprefixed}
 use Rattle.pf_reduce.proofs.PrefixedNumbers.{prefixed_filled, prefixed_reduced, unseen_side}
 use Rattle.pf_reduce.proofs.Precisions.{filled_right}
 use Rattle.pf_reduce.proofs.UnprefixedNumbers.{IsOctal, beyond_most, digits_reduced, digits_text, length-digits_text, length-octal_text, octal, octal_count, octal_reduced, octal_split, octal_text, octal_value, one_or_none, split_zeros, unprefixed_value}
-
--- what a directive is reduced to
-abbrev pub Reduction : Model → Specification → Type 0
-Reduction model s = (r : Reduced) × IsReducedTo model s r
-
--- these parts are those of a normal core, to which the directive is reduced
-pub record IsReducedAs (model : Model) (s : Specification) (p : Padding) (flags : FlagSet) (precision : Option ℕ) : Type 0 where
-  pub normal : IsNormal model (core_of_parts model s p flags precision)
-  pub reduced : IsReducedTo model s (padded_core model s p flags precision)
-
-pub made : (model : Model) (s : Specification) (p : Padding) (flags : FlagSet) (precision : Option ℕ) → IsReducedAs model s p flags precision → Reduction model s
-made model s p flags precision h = (padded_core model s p flags precision, h.reduced)
-
-pub none_first : {X : Type 0} (b : Bool) (x : X) (o : Option X) → (if b then Some x else o) ≡ None → (b ≡ false) × (o ≡ None)
-none_first true x o e = cc
-none_first false x o e = (refl, e)
-
-number_limit : (number : Option ℕ) (least : ℕ) → least ≤ MAX_NUMBER → is_above_limit number ≡ false → unwrap_or number least ≤ MAX_NUMBER
-number_limit None least h e = h
-number_limit (Some n) least h e = grind (arith, nat_tests)
-
--- the numbers of a defined directive
-pub width_limit : (s : Specification) → IsDefined s → width_of s ≤ MAX_NUMBER
-width_limit s h = number_limit s.width 0 (omega arith) (none_first (is_above_limit s.width) _ _ h.allowed).0
-
-precision_limit : (s : Specification) → IsDefined s → precision_of s ≤ MAX_NUMBER
-precision_limit s h = number_limit s.precision 1 (omega arith) (none_first (is_above_limit s.precision) _ _ (none_first (is_above_limit s.width) _ _ h.allowed).1).0
-
-effective_at_most : (filled : Bool) (w p front : ℕ) → w ≤ MAX_NUMBER → p ≤ MAX_NUMBER → (if filled then max (w - front) 1 else p) ≤ MAX_NUMBER
-effective_at_most true w p front few small = omega (arith, few)
-effective_at_most false w p front few small = small
-
-pub effective_limit : (s : Specification) (front : ℕ) → IsDefined s → effective_precision s front ≤ MAX_NUMBER
-effective_limit s front h = effective_at_most (is_zero_filled s) (width_of s) (precision_of s) front (width_limit s h) (precision_limit s h)
 
 -- zeros are constant only where no width is left
 apart : (left : Bool) (w p d a : ℕ) → a ≤ max p d → (a ≤ p → w ≡ 0) → (left ≡ true) ⊎ (w ≡ 0) ⊎ (p - d ≡ 0)
@@ -233,10 +196,7 @@ module _ (model : Model) (s : Specification) (defined : IsDefined s) (form : is_
 -- `#` is not defined of each conversion
 no_alt : (s : Specification) → IsDefined s → alternative_under (kind_of s.conv) ≡ Undefined → has s.flags Alt ≡ true → ⊥
 no_alt s h e alt =
-    let width = none_first (is_above_limit s.width) _ _ h.allowed in
-    let precision = none_first (is_above_limit s.precision) _ _ width.1 in
-    let wide = none_first (is_text s.conv && is_long s.length) _ _ precision.1 in
-    let none = none_first (not (has_alternative_form s.conv) && has s.flags Alt) _ _ wide.1 in
+    let none = (none_broken s h.allowed).1.1.1.0 in
     let some : (not (has_alternative_form s.conv) && has s.flags Alt) ≡ true = rw (e, alt) refl in
     cc
 

@@ -18,7 +18,7 @@ use Rattle.pf_values.specs.meaning.Specification.{Specification}
 use Rattle.pf_values.specs.meaning.Spelling.{Spells, SpellsPrecision, SpellsWidth, precision_spelled, spelling_of, width_spelled}
 use Rattle.pf_values.proofs.Numerals.{place_sum-digits_of}
 use Rattle.pf_text.proofs.Complete.{fits_le}
-use Rattle.pf_text.proofs.Texts.{within}
+use Rattle.pf_values.proofs.DefinedLemmas.{within}
 
 -- the set with these answers
 abbrev set_of : Bool → Bool → Bool → Bool → Bool → Bool → FlagSet

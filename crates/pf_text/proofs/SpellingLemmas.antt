@@ -2,7 +2,6 @@
 use Rattle.std.proofs.Common.{◌≡◌, ℕ, ◌+◌, ◌/◌, ◌%◌, ◌^◌, ◌<◌, ◌≤◌, Bool, true, false, cond, List, [], ◌∷◌, ◌++◌, map, length, take, get_or, refl, sym, ap, ◌∙◌, arith, inl, inr}
 use Rattle.std.specs.Prelude.{decimal, filter, count_by, Option, Some, None, not, ◌&&◌, ◌⊎◌}
 use Rattle.std.specs.Int.Digits.{digits_of}
-use Rattle.std.specs.List.{AllByRecursion}
 use Rattle.std.proofs.lemmas.Fmt.{decimal-digits_of, length-decimal-le}
 use Rattle.std.proofs.lemmas.Int.Digits.{digits_of_step}
 use Rattle.std.proofs.lemmas.List.{append_assoc, length-append, length-map, length_push, map-append, map_push, take_more}
@@ -16,11 +15,9 @@ use Rattle.pf_values.specs.declared.flags.Flag.{Flag}
 use Rattle.pf_values.specs.declared.flags.FlagSet.{FlagSet}
 use Rattle.pf_values.specs.declared.lengths.Length.{Length}
 use Rattle.pf_values.specs.declared.lengths.Length.TheVariants as lengths
-use Rattle.pf_values.specs.declared.refusals.RefusalKind.{RefusalKind}
-use Rattle.pf_values.specs.declared.refusals.RefusalKind.TheVariants.{WidthTooLarge, PrecisionTooLarge}
 use Rattle.pf_values.specs.meaning.Bases.{alternative_of, is_defined, is_grouped}
 use Rattle.pf_values.specs.meaning.Conversions.{alternative_under, kind_of, prints_grouped}
-use Rattle.pf_values.specs.meaning.Defined.{IsDefined, breaks, first_broken, is_above_limit, undefined_kinds}
+use Rattle.pf_values.specs.meaning.Defined.{IsDefined, is_above_limit}
 use Rattle.pf_values.specs.meaning.Flags.{all_flags, flag_byte, has}
 use Rattle.pf_values.specs.meaning.Lengths.{length_letters}
 use Rattle.pf_values.specs.meaning.Specification.{Specification}
@@ -33,7 +30,7 @@ use Rattle.pf_values.specs.meaning.Spelling.{
 use Rattle.pf_values.specs.meaning.Text.{Text}
 use Rattle.pf_text.specs.Letters.{flags_kept}
 use Rattle.pf_text.proofs.Complete.{fits_le}
-use Rattle.pf_text.proofs.Texts.{none_first}
+use Rattle.pf_values.proofs.DefinedLemmas.{none_broken}
 
 -- what two calls appended, one after the other
 pub appended_both : (before between after one two : Text) → between ≡ before ++ one → after ≡ between ++ two → after ≡ before ++ (one ++ two)
@@ -85,11 +82,6 @@ length-flags_kept set flags = length-map (filter (has set) flags) flag_byte ∙ 
 pub flags_kept-le : (set : FlagSet) (flags : List Flag) → length (flags_kept set flags) ≤ length flags
 flags_kept-le set flags = omega (arith, length-flags_kept set flags, count_by-le-length (has set) flags)
 
--- no kind of a list refuses the specification
-not_broken : (kinds : List RefusalKind) (s : Specification) → first_broken kinds s ≡ None → AllByRecursion (λ kind. breaks s kind ≡ false) kinds
-not_broken [] s e = tt
-not_broken (kind ∷ kinds) s e = let here = none_first (breaks s kind) kind (first_broken kinds s) e in (here.0, not_broken kinds s here.1)
-
 -- no base is given both `#` and `'`
 one_missing_in : (base : Base) (alt group : Bool)
     → (not (is_defined (alternative_of base)) && alt) ≡ false
@@ -132,7 +124,7 @@ length-flags_spelled set missing =
 -- the longest spelling
 pub length-spelled : (s : Specification) → IsDefined s → length (spelling_of s) ≤ 18
 length-spelled s defined =
-    let none = not_broken (WidthTooLarge ∷ PrecisionTooLarge ∷ undefined_kinds) s defined.allowed in
+    let none = none_broken s defined.allowed in
     let flags = length-flags_spelled s.flags (one_missing (kind_of s.conv) s.flags.alt s.flags.group none.1.1.1.0 none.1.1.1.1.1.0) in
     let width = length-width_spelled s.width none.0 in
     let precision = length-precision_spelled s.precision none.1.0 in

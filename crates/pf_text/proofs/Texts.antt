@@ -1,6 +1,6 @@
 -- Whole texts: what is read is run through, and what is run through is items and the beginning of one more.
 use Rattle.std.proofs.Common.{◌≡◌, ◌≢◌, ℕ, zero, suc, Bool, true, false, List, [], ◌∷◌, ◌++◌, length, refl, sym, ap, ◌∙◌, arith, subst, Ok, Err, map}
-use Rattle.std.specs.Prelude.{Option, Some, None, ◌==◌, MatchBool, if◌then◌else◌}
+use Rattle.std.specs.Prelude.{Option, Some, None, ◌==◌, MatchBool}
 use Rattle.std.proofs.lemmas.Bool.{eqb-true}
 use Rattle.std.proofs.lemmas.Bool.Decides.{nat_tests}
 use Rattle.std.proofs.lemmas.List.{append_assoc, append-nil, same_from_push}
@@ -9,13 +9,14 @@ use Rattle.pf_values.specs.declared.flags.FlagSet.{FlagSet}
 use Rattle.pf_values.specs.declared.lengths.Length.{Length}
 use Rattle.pf_values.specs.declared.lengths.Length.TheVariants as lengths
 use Rattle.pf_values.specs.meaning.Conversions.{conv_letter}
-use Rattle.pf_values.specs.meaning.Defined.{is_above_limit, refused_as, IsDefined}
+use Rattle.pf_values.specs.meaning.Defined.{refused_as, IsDefined}
 use Rattle.pf_values.specs.meaning.Flags.{no_flags, flag_byte}
 use Rattle.pf_values.specs.meaning.Items.{Item, Byte, Directive, IsReadAs, Reads}
 use Rattle.pf_values.specs.meaning.Lengths.{length_letters}
 use Rattle.pf_values.specs.meaning.Refusals.{IsWithinLimits, IsBegun, IsSplit, IsGoodFront}
 use Rattle.pf_values.specs.meaning.Specification.{Specification}
 use Rattle.pf_values.specs.Directives.{width_given}
+use Rattle.pf_values.proofs.DefinedLemmas.{within}
 use Rattle.pf_values.specs.meaning.Spelling.{Spells}
 use Rattle.pf_values.specs.meaning.Text.{Text}
 use Rattle.pf_text.specs.declared.scanner.Step.{Step}
@@ -31,16 +32,6 @@ use Rattle.pf_text.proofs.Sound.{LeadsTo}
 
 abbrev pub start : Progress
 start = On [] Between
-
-pub none_first : {X : Type 0} (b : Bool) (x : X) (o : Option X) → (if b then Some x else o) ≡ None → (b ≡ false) × (o ≡ None)
-none_first true x o e = cc
-none_first false x o e = (refl, e)
-
-pub within : (s : Specification) → refused_as s ≡ None → IsWithinLimits s
-within s e =
-    let first = none_first (is_above_limit s.width) _ _ e in
-    let second = none_first (is_above_limit s.precision) _ _ first.1 in
-    record { width = first.0; precision = second.0 }
 
 -- a spelled text is one without its conversion, and that letter
 pub record IsEnded (t : Text) (s : Specification) : Type 0 where

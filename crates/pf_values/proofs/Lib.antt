@@ -1,4 +1,5 @@
 pub mod DataModelLemmas
+pub mod DefinedLemmas
 pub mod Numerals
 pub mod Printed
 pub mod Values
