@@ -6,7 +6,6 @@ use Rattle.clap.proofs.WalkLemmas.{first_value-rows, raw_values-rows}
 use Rattle.fmtcanon.specs.Tasks.{HasAllValues, HasValue, Names, rows_in}
 use Rattle.fmtcanon.specs.Words.{the_command}
 use Rattle.fmtcanon.proofs.command_line.WordLemmas.{IsWanted, at_asked, format_wants, value_given}
-use Rattle.fmtcanon.specs.declared.task.RecordQuestion.TheVariants as asked
 use Rattle.fmtcanon.proofs.TaskLemmas.{asks_if, lacks_if, other_than}
 use Rattle.fmtcanon.proofs.task.named_task.Goals as goal
 
