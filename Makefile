@@ -1,9 +1,9 @@
 # make                   builds the program and the C library
 # make test              the gate: everything is proved and tested from nothing, then the program
 #                        and the library are tried
-# make check-more        tries the library with tools that the gate doesn't want: clang, valgrind,
+# make check-more        tries the library with tools that the gate doesn't need: clang, valgrind,
 #                        gettext, libclang, lintian, debootstrap, and the shells of the completions
-# make wrong-bodies      tries wrong bodies, which the prover must refuse, and the script that does so
+# make mutants           tries mutants, which the prover must refuse, and the script that does so
 # make install PREFIX=   installs what `make` built: the program, the C library, the Python module
 #                        with its two commands, manual pages, completions and documents; below
 #                        DESTDIR=, where that is given. It builds nothing
@@ -41,7 +41,7 @@ CPU = x86-64
 JOBS = $(shell awk -v n="$$(nproc)" '/^MemAvailable/ { m = int($$2 / 4000000); \
     if (m > n) m = n; if (m < 1) m = 1; print m }' /proc/meminfo)
 
-.PHONY: all program library archive test gate tried trials check-more wrong-bodies tools c-tools
+.PHONY: all program library archive test gate tried trials check-more mutants tools c-tools
 .PHONY: built install uninstall dist deb wheel tables
 
 all: program library
@@ -88,15 +88,18 @@ MINUTES = out/minutes
 TIMED = bash -c 'TIMEFORMAT="$$*: %lR by the clock, %lU and %lS of a processor"; { time "$$@" 2>&3; } 3>&2 2>> $(MINUTES); \
     ended=$$?; tail -n 1 $(MINUTES); exit $$ended' timed
 
-# The trials here take the program that `gate` has just proved and built. It leaves nothing else that a check goes on
-# from, so the crates are proved once more, side by side, for the library and the wrong bodies.
+# What `rt ci` prints, which says what became of the edits in must-fail/.
+CI_LOG = out/ci.log
+
+# The trials use the program that `gate` has just proved and built. Nothing else can go on from the proofs of `rt ci`, so
+# the crates are proved once more where the mutants and the library need that: tests/kept.py remembers these proofs, and
+# the mutants that were refused, on this machine.
 test:
 	mkdir -p $(dir $(MINUTES))
 	rm -f $(MINUTES)
 	$(TIMED) $(MAKE) gate
-	$(TIMED) rt all check --jobs $(JOBS)
-	$(TIMED) $(MAKE) library
-	$(TIMED) $(MAKE) wrong-bodies
+	$(TIMED) $(MAKE) mutants REFUSED_BY_CI='--ci $(CI_LOG)'
+	$(TIMED) $(MAKE) library-over-kept
 	$(TIMED) $(MAKE) tried
 	@cat $(MINUTES)
 
@@ -104,7 +107,8 @@ tried:
 	$(TRIALS)
 
 gate: tools
-	RT_JOBS=$(JOBS) rt ci
+	mkdir -p $(dir $(CI_LOG))
+	bash -c 'set -o pipefail; RT_JOBS=$(JOBS) rt ci 2>&1 | tee $(CI_LOG)'
 
 trials: program library
 	$(MAKE) tried
@@ -127,9 +131,13 @@ check-more: program library $(C)/second.a
 	python3 tests/more.py $(PROGRAM) $(C)
 	python3 tests/rooms.py --each $(PROGRAM)
 
-wrong-bodies: tools
-	python3 tests/wrong_bodies_test.py
-	python3 tests/wrong_bodies.py --jobs $(JOBS)
+mutants: tools
+	python3 tests/mutants_test.py
+	python3 tests/mutants.py --jobs $(JOBS) $(REFUSED_BY_CI)
+
+library-over-kept: tools
+	python3 tests/proofs.py --jobs $(JOBS) fmtcanon_c
+	$(MAKE) library
 
 # A tool that is missing is named, and that fails.
 tools:

@@ -17,6 +17,7 @@ sys.path.insert(0, str(Path(__file__).resolve().parent))
 import arguments  # noqa: E402
 import definition_names  # noqa: E402
 import literals  # noqa: E402
+import mutant_files  # noqa: E402
 import reach  # noqa: E402
 import turned  # noqa: E402
 from harness import TOP, Trials, fences, model_rows, usage_texts  # noqa: E402
@@ -31,10 +32,10 @@ FOREIGN_NAMES = set("""
     cents errno memset intmax_t ptrdiff_t strerror uintmax_t I64
     xargs git msgfmt msgunfmt pipefail fix fmt imports plant PYTHONPATH PKG_CONFIG_PATH ldconfig pip pkg config cflags libs pkgconfig sudo
     AllocFailed Display WHAT logic dac8208d650f15bf ed8637e01fc3206ec782c5daf8d913b1fcd4ddf4efb850537416d13256281534 the_type write_all
-    NAME PATH TEXT allow holes lemma is_left_justified expect
+    NAME PATH TEXT allow holes lemma is_left_justified expect tidy XDG_CACHE_HOME
 """.split())
 # Folders whose files are the code that names are looked up in.
-CODE = ["crates/*/src/**/*.rt", "crates/*/specs/**/*.antt", "crates/*/proofs/**/*.antt", "bench/**/*", "include/*", "python/**/*.py", "examples/*", "crates.txt", "Makefile", "HANDLES"]
+CODE = ["tests/*.py", "crates/*/src/**/*.rt", "crates/*/specs/**/*.antt", "crates/*/proofs/**/*.antt", "bench/**/*", "include/*", "python/**/*.py", "examples/*", "crates.txt", "Makefile", "HANDLES"]
 
 
 def table_rows(path, names=None):
@@ -113,7 +114,7 @@ def tested_counts():
 HAND_RECORDS = 11
 HAND_LITERALS = 27
 HAND_WHOLE = 29
-# Numbers of docs/TESTED.md that count no rows, tests or wrong bodies.
+# Numbers of docs/TESTED.md that count no rows, tests or mutants.
 PLAIN_NUMBERS = [
     r"each of the 256 bytes after 7 beginnings", r"16 shapes", r"take 1, 2, 3 or 7 bytes a call and then fail in one of 5 ways", r"40000 arguments",
     r"the replies to 3 records", r"move 1, 2, 3, 7 or 4096 bytes a call, and fail in one of 4 ways", r"loaded before the C library\): \d+ runs",
@@ -131,7 +132,7 @@ def with_digits(text):
 
 
 def try_numbers(trials):
-    """The numbers of rows, tests and wrong bodies in the documents are those of the files."""
+    """The numbers of rows, tests and mutants in the documents are those of the files."""
     tested = with_digits((TOP / "docs/TESTED.md").read_text(encoding="utf-8"))
     proved = with_digits((TOP / "docs/PROVED.md").read_text(encoding="utf-8"))
     words = len((TOP / "README.md").read_text(encoding="utf-8").split())
@@ -154,8 +155,17 @@ def try_numbers(trials):
         found = re.search(rf"\| `{crate}` \| \d+ \| (\d+) \| (\d+) \|", contributing)
         sources = (TOP / "crates" / crate / "src").rglob("*.rt")
         tests = sum(source.read_text(encoding="utf-8").count("#[test]\n") for source in sources)
-        edits = len([it for folder in ["must-fail", "wrong-bodies"] for it in (TOP / "crates" / crate / folder).glob("*.edit")])
-        trials.expect(f"tests and wrong bodies of {crate} in CONTRIBUTING.md", found and found.groups(), (str(tests), str(edits)))
+        mutants = len(mutant_files.pairs_in(TOP / "crates" / crate))
+        trials.expect(f"tests and mutants of {crate} in CONTRIBUTING.md", found and found.groups(), (str(tests), str(mutants)))
+    try_mutant(trials, contributing)
+
+
+def try_mutant(trials, contributing):
+    """The mutant that docs/CONTRIBUTING.md shows is one of the crate that it names, and its commands name that mutant."""
+    [(crate, name)] = set(re.findall(r"^    python3 tests/mutants.py (\w+) +(\w+-[\w-]+) ", contributing, re.MULTILINE))
+    [block] = [it.group() for it in re.finditer(r"(?:^    \w+: .*\n|^\n)+", contributing, re.MULTILINE) if "    mutant: " in it.group()]
+    shown = mutant_files.read_pairs(re.sub(r"^    ", "", block, flags=re.MULTILINE))
+    trials.expect("the mutant of docs/CONTRIBUTING.md", shown, {name: mutant_files.pairs_in(TOP / "crates" / crate).get(name)})
 
 
 def documents():
@@ -233,10 +243,10 @@ def try_graph(trials):
 
 
 def try_edits(trials):
-    """Each public function is turned by an edit that the prover must refuse, but for a few."""
+    """A mutant changes each public function, except a few that are listed with a reason."""
     missing, needless = turned.all_unturned()
-    trials.expect("public functions that no edit turns", missing, [])
-    trials.expect("exceptions of tests/turned.py that are none", needless, [])
+    trials.expect("public functions that no mutant changes", missing, [])
+    trials.expect("exceptions of tests/turned.py that a mutant changes", needless, [])
 
 
 def try_definitions(trials):

@@ -48,6 +48,14 @@ def try_examples(program, trials):
         trials.expect(f"{name} has examples", found > 0, True)
 
 
+def try_first_command(trials):
+    """The first command of the README, which proves nothing, prints what the README says."""
+    readme = (TOP / "README.md").read_text(encoding="utf-8")
+    [(command, line)] = re.findall(r"^    (cd \S+ && rt try -- .*)\n\nprints `(.*)` within a minute", readme, re.MULTILINE)
+    done = subprocess.run(["bash", "-c", command], cwd=TOP, capture_output=True, encoding="utf-8", timeout=10 * TIMEOUT, check=False)
+    trials.expect(command, (done.stdout, done.stderr.rpartition(" ")[2]), (f"{line}\n", "proved=no\n"))
+
+
 def try_usage(program, trials):
     """Help and faults of the words, to the byte, on standard error alone."""
     found = 0
@@ -195,6 +203,7 @@ def main():
     trials = Trials()
     try_rows(program, trials)
     try_examples(program, trials)
+    try_first_command(trials)
     try_usage(program, trials)
     try_refusals(program, trials)
     try_whole(program, trials)

@@ -1,5 +1,5 @@
 #!/usr/bin/env python3
-"""Lists the public functions in whose bodies no edit of must-fail/ or wrong-bodies/ changes anything.
+"""Lists the public functions that no mutant changes.
 
 Usage: tests/turned.py
 
@@ -18,9 +18,10 @@ sys.dont_write_bytecode = True
 sys.path.insert(0, str(Path(__file__).resolve().parent))
 
 import rattle_functions  # noqa: E402
-from wrong_bodies import FOLDERS, TOP, places_of, read_pairs  # noqa: E402
+from mutant_files import pairs_in, places_of  # noqa: E402
+from sources import TOP  # noqa: E402
 
-# Public functions that have no edit, each with the reason.
+# Public functions that have no mutant, each with the reason.
 EXCEPTIONS = {
     "pf_values::counted::Counted::into_inner": "the type of its parameter leaves one answer",
     "pf_values::devices::cut::Cut::drop": "it lets go of what is there, and can do nothing else",
@@ -71,9 +72,9 @@ def has_body(text, function):
     return rattle_functions.blanked(text)[function.start + 1 : function.end - 1].strip() != ""
 
 
-def turned_by(text, crate, homes):
-    """The functions in whose bodies an edit of this text changes more than parentheses."""
-    for pair, functions in places_of(read_pairs(text), crate, homes):
+def turned_by(pairs, crate, homes):
+    """Yields the functions in whose bodies a mutant with these pairs changes more than parentheses."""
+    for pair, functions in places_of(pairs, crate, homes):
         if re.sub(r"[()\s]", "", pair.old) != re.sub(r"[()\s]", "", pair.new):
             yield from functions
 
@@ -88,7 +89,7 @@ def name_of(function, traits):
 
 
 def unturned(crate):
-    """The public functions of a crate that no edit turns."""
+    """Returns the public functions of a crate that no mutant changes."""
     sources = sources_of(crate)
     homes, (names, modules) = rattle_functions.homes_of(sources), exported(sources)
     traits = {
@@ -96,8 +97,7 @@ def unturned(crate):
         for path, text in sources.items()
         for name in re.findall(r"\bpub trait (\w+)", rattle_functions.blanked(text))
     }
-    edits = [it.read_text(encoding="utf-8") for folder in FOLDERS for it in sorted((crate / folder).glob("*.edit"))]
-    turned = {path for edit in edits for path in turned_by(edit, crate, homes)}
+    turned = {path for pairs in pairs_in(crate).values() for path in turned_by(pairs, crate, homes)}
     found = {}
     for path, text in sources.items():
         for function in rattle_functions.functions(text, path, homes):
@@ -108,7 +108,7 @@ def unturned(crate):
 
 
 def all_unturned():
-    """Those of all crates, without the exceptions; and exceptions that are none."""
+    """Returns those of all crates, without the exceptions; and the exceptions that a mutant changes."""
     found = [it for crate in sorted((TOP / "crates").iterdir()) for it in unturned(crate)]
     return [it for it in found if it not in EXCEPTIONS], sorted(set(EXCEPTIONS) - set(found))
 
@@ -116,9 +116,9 @@ def all_unturned():
 def main():
     missing, needless = all_unturned()
     for it in missing:
-        print(f"{it}: no edit changes its body")
+        print(f"{it}: no mutant changes its body")
     for it in needless:
-        print(f"{it}: an exception that is none")
+        print(f"{it}: is listed as an exception, and a mutant changes it")
     failed = len(missing) + len(needless)
     print(f"{1 if not failed else 0} passed, {failed} failed")
     return 1 if failed else 0

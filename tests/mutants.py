@@ -1,0 +1,263 @@
+#!/usr/bin/env python3
+"""Tries mutants: the prover must refuse each, at the very function that it changes.
+
+Usage: tests/mutants.py [--jobs N] [--anew] [--ci LOG] [CRATE ..] [NAME ..]
+
+A mutant is an edit of a crate's `mutants.txt`, or of its `must-fail/` (tests/mutant_files.py has the format). It is tried on a
+copy of the sources, over what a proof of the crate as it stands has kept. Mutants of different functions share a check. Names
+of crates or of mutants select those to try.
+
+A mutant is refused if a goal is open in a function whose body it changes: no search proves it, or the answer that a file of
+proofs/ gives to it is of another type. The crate without it is proved, so the goal is open because of the mutant. If a file of
+proofs/ only names what is gone, the mutant may be harmless: then the tests of the crate, or of the last crate above it that
+has any, are run with it, and one must fail. A mutant of a constant, of a table or of a file of specs/ is tried alone, and any
+function or lemma may refuse it.
+
+Mutants that were refused are remembered in the user's cache folder, under a checksum of everything that the verdict depends
+on: the mutant, the sources of the crate and of those below it, the kit, and the scripts that judge. They are not tried again,
+unless --anew is given. --ci LOG names what `rt ci` has just printed: a mutant of must-fail/ is not tried again if the log shows
+an open goal of a function that it changes.
+
+Its last line is 'N passed, M failed', and it exits with 1 if M isn't 0.
+"""
+
+import argparse
+import re
+import sys
+import threading
+from collections import Counter
+from contextlib import contextmanager
+from dataclasses import dataclass
+from enum import Enum
+from pathlib import Path
+
+sys.dont_write_bytecode = True
+sys.path.insert(0, str(Path(__file__).resolve().parent))
+
+from mutant_files import applied, batches, mutants_of  # noqa: E402
+from proofs import open_proofs, say  # noqa: E402
+from reports import Report, Verdict, failed_tests, refused_by_ci, verdict_of  # noqa: E402
+from schedule import Task, run_all  # noqa: E402
+
+# How many mutants share a check at least, if there are that many, and at most.
+LEAST, MOST = 30, 60
+
+
+class Source(Enum):
+    """Where a verdict is from."""
+
+    TRIED = "tried in this run"
+    REMEMBERED = "remembered from earlier runs on this machine"
+    BY_CI = "refused by rt ci in this run"
+
+
+@dataclass(frozen=True)
+class Outcome:
+    """The verdict on a mutant, the reason for it, and where it is from."""
+
+    verdict: Verdict
+    why: str
+    source: Source = Source.TRIED
+
+
+class Trial:
+    """The trial of some mutants of one crate."""
+
+    def __init__(self, name, mutants, proofs):
+        self.name, self.mutants, self.proofs = name, mutants, proofs
+        self.crate, self.outcomes = proofs.sources.crate(name), {}
+        self.lock, self.free_workspaces = threading.Lock(), []
+        # The tests that fail without a mutant: some use up a memory that can't be used up before the proof.
+        self.failing_anyway = None
+        # Whether the crate is proved without a mutant, once that is known, and the refusals to keep then.
+        self.is_proved, self.unkept = None, []
+        for mutant in mutants:
+            if mutant.is_broken():
+                self.settle(mutant, Outcome(Verdict.BROKEN, mutant.why_broken))
+
+    def settle(self, mutant, outcome):
+        """Notes what became of a mutant, prints it unless it is remembered, and keeps a refusal of this run."""
+        self.outcomes[mutant.name] = outcome
+        if outcome.source is not Source.REMEMBERED:
+            say(f"{mutant.name}: {outcome.verdict.value}: {outcome.why}")
+
+    def keep(self, *refusals):
+        """Keeps refusals, each of a mutant by an open goal or by a test of a crate, once it is known that the crate is proved without it."""
+        with self.lock:
+            self.unkept += refusals
+            if not self.is_proved:
+                return
+            refusals, self.unkept = self.unkept, []
+        sums, kept = self.proofs.sums, self.proofs.kept
+        for mutant, tests_of in refusals:
+            kept.keep_verdict(self.name, sums.of_crate(self.name), sums.of_mutant(mutant, tests_of), self.outcomes[mutant.name].why)
+
+    def tested_by(self):
+        """Returns the crate whose tests are run with a mutant: this one, or the last above it that has any; None if there is none."""
+        sources = self.proofs.sources
+        return next((it for it in [self.name, *reversed(sources.above(self.name))] if sources.has_tests(it)), None)
+
+    def recall(self):
+        """Settles the mutants that were refused before."""
+        sums, tests_of = self.proofs.sums, self.tested_by()
+        known = self.proofs.kept.verdicts(self.name, sums.of_crate(self.name))
+        for mutant in self.left():
+            for verdict, crate in [(Verdict.REFUSED, None), (Verdict.BY_A_TEST, tests_of)]:
+                why = known.get(sums.of_mutant(mutant, crate))
+                if why is not None and mutant.name not in self.outcomes:
+                    self.settle(mutant, Outcome(verdict, why, Source.REMEMBERED))
+
+    def take_from_ci(self, log):
+        """Settles the mutants that `rt ci` refused by an open goal, as its log says."""
+        for mutant in self.left():
+            why = refused_by_ci(log, mutant, self.crate)
+            if why:
+                self.settle(mutant, Outcome(Verdict.REFUSED, why, Source.BY_CI))
+
+    def left(self):
+        """Returns the mutants that are not settled."""
+        return [it for it in self.mutants if it.name not in self.outcomes]
+
+    def tasks(self, jobs):
+        """Returns the tasks that try what is left, once the crate is proved."""
+        after = frozenset([("proof", it) for it in self.proofs.lacking([self.name])])
+        # The mutants of a high crate cost the most, so they go first.
+        height = -len(self.proofs.sources.below(self.name))
+        mutants = [it for it in self.left() if it.functions]
+        most = min(max(LEAST, -(-len(mutants) // jobs)), MOST)
+        if self.left():
+            yield Task((self.name, "proved"), self.confirm, after, (1, height))
+        for number, (group, texts) in enumerate(batches(mutants, self.crate, most)):
+            call = lambda group=group, texts=texts: (True, self.judge_together(group, texts))  # noqa: E731
+            yield Task((self.name, number), call, after, (1, height, -len(group)))
+        for mutant in self.left():
+            if not mutant.functions:
+                yield self.alone(mutant, after)
+
+    def alone(self, mutant, after=frozenset()):
+        """Returns the task that tries a mutant with nothing beside it."""
+        return Task((self.name, mutant.name), lambda: (self.judge_alone(mutant), []), after, (2, -len(self.proofs.sources.below(self.name))))
+
+    @contextmanager
+    def workspace(self):
+        """Gives a copy of the sources in which nothing else is checked meanwhile."""
+        with self.lock:
+            workspace = self.free_workspaces.pop() if self.free_workspaces else None
+        workspace = workspace or self.proofs.workspace(self.name)
+        yield workspace
+        with self.lock:
+            self.free_workspaces.append(workspace)
+
+    def verdicts(self, mutants, texts):
+        """Returns the verdict on each of these mutants, whose texts are these, by one check."""
+        paths = {path for mutant in mutants for path in mutant.functions}
+        with self.workspace() as workspace, workspace.changed(texts):
+            report = Report(workspace.check(paths, "--allow-holes"), self.name)
+        return [verdict_of(report, it) for it in mutants]
+
+    def judge_together(self, mutants, texts):
+        """Tries mutants in one check, and returns the tasks that try those alone that it doesn't show refused."""
+        more = []
+        for mutant, (verdict, why) in zip(mutants, self.verdicts(mutants, texts)):
+            if verdict is Verdict.REFUSED:
+                self.settle(mutant, Outcome(verdict, why))
+                self.keep((mutant, None))
+            else:
+                more.append(self.alone(mutant))
+        return more
+
+    def judge_alone(self, mutant):
+        """Tries a mutant with nothing beside it, and runs the tests with it if only a proof file refuses it."""
+        texts, tests_of = applied(mutant.pairs, self.crate, {}), None
+        [(verdict, why)] = self.verdicts([mutant], texts)
+        if verdict is Verdict.BY_A_PROOF_FILE:
+            tests_of = self.tested_by()
+            failed = tests_of and self.failing_test(tests_of, texts)
+            if failed:
+                verdict, why = Verdict.BY_A_TEST, failed
+        self.settle(mutant, Outcome(verdict, why))
+        if verdict.is_good():
+            self.keep((mutant, tests_of))
+        return True
+
+    def failing_test(self, tests_of, texts):
+        """Returns a test of a crate that fails with these texts and not without them, or None."""
+        failed = self.failing_tests(tests_of, texts)
+        if failed and self.failing_anyway is None:
+            self.failing_anyway = set(self.failing_tests(tests_of, {}))
+        return next((it for it in failed if it not in self.failing_anyway), None)
+
+    def failing_tests(self, tests_of, texts):
+        """Returns the tests of a crate that fail with these texts."""
+        with self.workspace() as workspace, workspace.changed(texts):
+            return failed_tests(workspace.try_tests(tests_of))
+
+    def confirm(self):
+        """Checks that the functions that mutants change are proved without them, over the same kept work."""
+        paths = {path for mutant in self.mutants for path in mutant.functions}
+        with self.workspace() as workspace:
+            said = workspace.check(paths)
+        self.is_proved = bool(re.search(r"^(only=(\d+) proved=\2$|logic=proved )", said, re.MULTILINE))
+        if not self.is_proved:
+            say(said)
+        self.keep()
+        return self.is_proved, []
+
+    def report(self):
+        """Prints how many mutants were refused, and returns how many passed and how many failed."""
+        for mutant in self.left():
+            self.settle(mutant, Outcome(Verdict.NOT_JUDGED, "the crate, or one below it, is not proved without it"))
+        refused = sum(it.verdict.is_good() for it in self.outcomes.values())
+        was_tried = any(it.source is Source.TRIED for it in self.outcomes.values())
+        passed = refused if self.is_proved or not was_tried else 0
+        if passed < refused:
+            say(f"{self.name}: NOT PROVED without a mutant, so its mutants show nothing")
+        say(f"{self.name}: {refused} of {len(self.mutants)} mutants refused: {self.sources_said()}")
+        return passed, len(self.mutants) - passed
+
+    def sources_said(self):
+        """Returns how many verdicts are from where, in words."""
+        counts = Counter(it.source for it in self.outcomes.values())
+        return ", ".join(f"{counts[it]} {it.value}" for it in Source)
+
+
+def trials_of(names, wanted, proofs):
+    """Yields a trial of each crate that has mutants, or mutants with a wanted name."""
+    for name in names:
+        mutants = [it for it in mutants_of(proofs.sources.crate(name)) if not wanted or it.name.partition("/")[2] in wanted]
+        if mutants:
+            yield Trial(name, mutants, proofs)
+
+
+def try_all(trials, proofs, jobs, log=""):
+    """Tries the mutants of these trials, except those that are remembered or that `rt ci` refused; proves first what that needs."""
+    for trial in trials:
+        trial.recall()
+        trial.take_from_ci(log)
+    needed = [it.name for it in trials if it.left()]
+    tasks = [*proofs.tasks(needed), *(task for trial in trials for task in trial.tasks(jobs))]
+    run_all(tasks, jobs)
+
+
+def main():
+    parser = argparse.ArgumentParser(description="Tries mutants: the prover must refuse each.")
+    parser.add_argument("--jobs", type=int, default=1, help="how many checks run side by side")
+    parser.add_argument("--anew", action="store_true", help="try all, and use nothing that is kept")
+    parser.add_argument("--ci", metavar="LOG", help="what `rt ci` has just printed for this tree")
+    parser.add_argument("words", nargs="*", metavar="CRATE | NAME", help="the crates and the mutants to try; all if none is named")
+    options = parser.parse_args()
+    log = Path(options.ci).read_text(encoding="utf-8", errors="replace") if options.ci else ""
+    with open_proofs(options.anew) as proofs:
+        every = proofs.sources.names()
+        names = [it for it in options.words if it in every] or every
+        trials = list(trials_of(names, [it for it in options.words if it not in every], proofs))
+        try_all(trials, proofs, options.jobs, log)
+        passed, failed = (sum(it) for it in zip(*[trial.report() for trial in trials] or [(0, 0)]))
+    counts = Counter(it.source for trial in trials for it in trial.outcomes.values())
+    say(f"mutants: {', '.join(f'{counts[it]} {it.value}' for it in Source)}")
+    say(f"{passed} passed, {failed} failed")
+    return 1 if failed or not passed else 0
+
+
+if __name__ == "__main__":
+    sys.exit(main())
