@@ -31,8 +31,11 @@ def cache_folder():
 
 
 def link_or_copy(source, to):
-    """Gives a proof a second name, since a check replaces such a file and never writes into it; copies any other file."""
-    if str(source).endswith(".oantt"):
+    """Gives a file a second name, or copies it if that can't be: to another disk, or a file that a check writes into.
+
+    A check replaces a proof or a file of a library, and never writes into it.
+    """
+    if str(source).endswith(".oantt") or "/rlib/" in str(source):
         try:
             os.link(source, to)
             return

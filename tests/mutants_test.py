@@ -6,6 +6,7 @@ Usage: tests/mutants_test.py
 Its crates are those of tests/toy_crates.py, which the prover checks in seconds.
 """
 
+import contextlib
 import os
 import re
 import shutil
@@ -14,6 +15,7 @@ import sys
 import tempfile
 import threading
 import unittest
+import unittest.mock
 from pathlib import Path
 
 sys.dont_write_bytecode = True
@@ -21,8 +23,9 @@ sys.path.insert(0, str(Path(__file__).resolve().parent))
 
 import rattle_functions  # noqa: E402
 import toy_crates  # noqa: E402
-from kept import MOST_PROOFS, Checksums, Kept  # noqa: E402
+from kept import MOST_PROOFS, Checksums, Kept, cache_folder  # noqa: E402
 from mutant_files import Mutant, Pair, batches, functions_at, mutants_of, read_pairs  # noqa: E402
+from mutants import Trial  # noqa: E402
 from proofs import SCRIPTS  # noqa: E402
 from reports import Report, Verdict, failed_tests, refused_by_ci, verdict_of  # noqa: E402
 from schedule import Task, run_all  # noqa: E402
@@ -241,6 +244,55 @@ class Keeping(unittest.TestCase):
         self.assertEqual([it.name for part in ["work", "proofs"] for it in (folder / part).iterdir()], [f"{os.getpid()}-y"])
 
 
+    @in_folder
+    def test_no_cache_folder(self, folder):
+        toy_crates.write(folder, {"file": ""})
+        for home, wanted in [(folder / "file", None), (folder / "home", folder / "home/fmtcanon")]:
+            with unittest.mock.patch.dict(os.environ, {"XDG_CACHE_HOME": str(home)}):
+                self.assertEqual(cache_folder(), wanted)
+
+
+class FakeWorkspace:
+    """Stands for a workspace: its checks print what it is given, first without a mutant and then with one."""
+
+    def __init__(self, sound, mutated):
+        self.said = {(): sound, ("--allow-holes",): mutated}
+
+    def changed(self, _texts):
+        return contextlib.nullcontext()
+
+    def check(self, _paths, *flags):
+        return self.said[flags]
+
+
+class Confirming(unittest.TestCase):
+    """A refusal counts, and is kept, only if the crate is proved without the mutant."""
+
+    REFUSED = "fn low::a: no proof: `search` did not prove `returns`\nonly=1 holes=0\n"
+
+    def outcome(self, folder, sound, first):
+        """Returns how many mutants passed and failed, and the verdicts that were kept; `first` names the task that runs first."""
+        toy_crates.write(folder, {"tree/crates.txt": "low:\n", "tree/HANDLES": "", "tree/crates/low/src/lib.rt": "fn a() { 1 }\n"})
+        (folder / "copy").mkdir()
+        sums = Checksums(Sources(folder / "tree", folder / "copy"), "kit", [])
+        proofs = unittest.mock.Mock(sources=sums.sources, sums=sums, kept=Kept(folder), lacking=lambda _: [], workspace=lambda _: FakeWorkspace(sound, self.REFUSED))
+        trial = Trial("low", [Mutant("low/m", [Pair("src/lib.rt", "1", "2")], frozenset("a"))], proofs)
+        for task in sorted(trial.tasks(1), key=lambda it: it.name != ("low", first)):
+            task.call()
+        return trial.report(), list(Kept(folder).verdicts("low", sums.of_crate("low")).values())
+
+    @in_folder
+    def test_proved(self, folder):
+        for number, first in enumerate(["proved", 0]):
+            found = self.outcome(folder / str(number), "only=1 proved=1\n", first)
+            self.assertEqual(found, ((1, 0), ["the goal `returns` of low::a"]))
+
+    @in_folder
+    def test_not_proved(self, folder):
+        for number, first in enumerate(["proved", 0]):
+            self.assertEqual(self.outcome(folder / str(number), self.REFUSED, first), ((0, 1), []))
+
+
 class Checksum(unittest.TestCase):
     """What a verdict depends on: everything that can change it, and nothing else."""
 
@@ -397,6 +449,16 @@ class Whole(unittest.TestCase):
         toy_crates.write(self.folder, {"crates/low/src/lib.rt": wrong, "crates/low/mutants.txt": toy_crates.mutants_text(["no-search"])})
         verdicts, [counted, last], status = self.run_script()
         self.assertEqual((verdicts, last, status), ({"no-search": Verdict.NOT_JUDGED}, "0 passed, 1 failed", 1))
+
+    def test_proofs(self):
+        environment = {**os.environ, "XDG_CACHE_HOME": str(self.folder / "cache")}
+        command = [sys.executable, str(self.folder / "tests/proofs.py"), "middle"]
+        for made, kept in [(2, 0), (0, 2)]:
+            done = subprocess.run(command, env=environment, stdout=subprocess.PIPE, encoding="utf-8", check=False)
+            wanted = [f"proved in this run: {made}; kept from earlier runs on this machine: {kept}", "2 passed, 0 failed"]
+            self.assertEqual((done.stdout.splitlines()[-2:], done.returncode), (wanted, 0))
+            self.assertTrue((self.folder / "crates/low/out/rlib/stamp").is_file())
+            shutil.rmtree(self.folder / "crates/low/out")
 
     def test_nothing_to_try(self):
         self.assertEqual(self.run_script()[1:], (self.counts(0, 0, 0, 0), 1))
