@@ -1,5 +1,5 @@
-/* What the C library prints for integers: the tables in crates/pf_render/src/tests/grid, and the long
-   rows in tests/rows/long.txt.
+/* What the C library prints for integers: the rows of tests/rows/grid.txt, and the long ones of
+   tests/rows/long.txt.
    cc -w -o grid docs/grid.c; ./grid short di; ./grid short u; ./grid short o; ./grid short xX;
    ./grid short b; ./grid long diu; ./grid long oxXb (with a width or a precision of 4,095). It takes
    a library that has C23's `b`.

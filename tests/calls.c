@@ -1,6 +1,6 @@
 /* Notes each read and write of the standard streams, with what was asked for and what was moved: a
- * line for each goes to the file that the environment names as CALLS. It is loaded before the C
- * library, by LD_PRELOAD. */
+ * line for each goes to the file that the environment names as CALLS. A read asks for at most as many
+ * bytes as the environment has as STEP. It is loaded before the C library, by LD_PRELOAD. */
 #define _GNU_SOURCE
 #include <fcntl.h>
 #include <stdio.h>
@@ -30,8 +30,16 @@ static size_t total(const struct iovec *parts, int count)
     return sum;
 }
 
+static size_t at_most_a_step(size_t size)
+{
+    const char *text = getenv("STEP");
+    size_t step = text == NULL ? size : (size_t)atol(text);
+    return step < size ? step : size;
+}
+
 ssize_t read(int stream, void *bytes, size_t size)
 {
+    size = stream == 0 ? at_most_a_step(size) : size;
     return noted("read", stream, size, syscall(SYS_read, stream, bytes, size));
 }
 

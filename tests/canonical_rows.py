@@ -3,9 +3,8 @@
 
 Usage: tests/canonical_rows.py PROGRAM FOLDER
 
-FOLDER has libfmtcanon.so, as `make library` leaves it. Some tables are texts that tests of pf_canon have, too, for
-devices that fail and readers that are cut; the others are in tests/rows. The last line is 'N passed, M failed', and
-it exits with 1 where M isn't 0.
+FOLDER has libfmtcanon.so, as `make library` leaves it. The rows are in tests/rows. The last line is 'N passed, M failed',
+and it exits with 1 if M isn't 0.
 """
 
 import itertools
@@ -16,11 +15,9 @@ from pathlib import Path
 sys.dont_write_bytecode = True
 sys.path.insert(0, str(Path(__file__).resolve().parent))
 
-from harness import TOP, Trials, run  # noqa: E402
+from harness import Trials, run  # noqa: E402
 from library import load_module  # noqa: E402
-from rows import LENGTHS, LONGEST_WORD, answer, called, rattle_text, refusal_of, rows_of, type_of, verdict_of  # noqa: E402
-
-CANONICAL = TOP / "crates/pf_canon/src"
+from rows import LENGTHS, LONGEST_WORD, answer, called, refusal_of, rows_of, type_of, verdict_of  # noqa: E402
 
 
 def whole_of(text):
@@ -64,8 +61,8 @@ def try_canonical(program, module, trials, name, format, text):
 
 def try_canonical_texts(program, module, trials):
     """Each format has the canonical text of its row, or none and a refusal."""
-    for row in rattle_text("tests.rt", "FORMATS", CANONICAL).splitlines():
-        try_canonical(program, module, trials, "lp64", *row.split("¦"))
+    for format, text in rows_of("canonical_formats.jsonl"):
+        try_canonical(program, module, trials, "lp64", format, text)
     for model, format, text in rows_of("canonical_texts.jsonl"):
         try_canonical(program, module, trials, model, format, text)
     for format, kind, at in rows_of("no_canonical.jsonl"):
@@ -82,11 +79,10 @@ def try_canonical_texts(program, module, trials):
 
 def try_settled(program, trials):
     """`stream` writes what is settled before a refusal, and then reports it."""
-    for row in rattle_text("tests/streams.rt", "REFUSED", CANONICAL).splitlines():
-        format, settled, kind, at = row.split("¦")
+    for format, settled, kind, at in rows_of("settled.jsonl"):
         status, stdout, stderr = run(program, ["stream"], format.encode())
         found = (stdout, refusal_of((status, stdout, stderr)))
-        trials.expect(f"stream on {format}", found, (settled.encode(), [int(kind), int(at)]))
+        trials.expect(f"stream on {format}", found, (settled.encode(), [kind, at]))
 
 
 def same_or_refusal(module, first, second):
@@ -113,16 +109,14 @@ def try_steps(program, module, trials):
 
 def try_every_two_texts(module, trials):
     """Of every two accepted texts just those are the same that have one canonical text; a refusal is that of the first refused one."""
-    formats = [row.split("¦") for row in rattle_text("tests.rt", "FORMATS", CANONICAL).splitlines()]
-    refused = [row.split("¦") for row in rattle_text("tests/streams.rt", "REFUSED", CANONICAL).splitlines()]
+    formats, refused = rows_of("canonical_formats.jsonl"), rows_of("settled.jsonl")
     for (first, text), (second, other) in itertools.product(formats, repeat=2):
         trials.expect(f"{first} and {second}", same_or_refusal(module, first, second), text == other)
     for first, _, *refusal in refused:
-        kind, at = map(int, refusal)
         for second, *_ in formats + refused:
-            trials.expect(f"{first} and {second}", same_or_refusal(module, first, second), [0, kind, at])
+            trials.expect(f"{first} and {second}", same_or_refusal(module, first, second), [0, *refusal])
         for second, _ in formats:
-            trials.expect(f"{second} and {first}", same_or_refusal(module, second, first), [1, kind, at])
+            trials.expect(f"{second} and {first}", same_or_refusal(module, second, first), [1, *refusal])
 
 
 def try_differences(module, trials):

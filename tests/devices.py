@@ -71,6 +71,7 @@ NOT_ASKED = [
     (["format", "%d", "5"], 3),
     (["format", "%d"], 3),
     (["format", "%d", "n:2147483648"], 3),
+    (["format", "%d", "s:x"], 3),
     (["format"], 3),
     (["nothing"], 3),
     (["canon", "--model", "both", "%d"], 3),
@@ -85,6 +86,11 @@ SOON = 10
 BLOCK = 8192
 # Formats whose answers have so many bytes, below, at and above a block.
 SIZES = [1, 100, BLOCK - 1, BLOCK, BLOCK + 1, 3 * BLOCK, 100_000]
+
+# Records, and how many writes reply to them: the command, how many bytes are read a call, and the writes. The third
+# record has no second one.
+RECORDS = b"%5c\0%*d\0%i\0"
+REPLIES = [("canon", BLOCK, 1), ("same", BLOCK, 1), ("canon", 1, 3), ("same", 1, 1)]
 
 
 def name_of(words):
@@ -265,12 +271,12 @@ def try_terminal(program, trials):
         trials.expect(f"stream from a terminal that ends after {sent!r}", got, (0, text, b""))
 
 
-def calls_of(program, words, stdin, work):
+def calls_of(program, words, stdin, work, stdout=subprocess.PIPE, **limits):
     """The reads and the writes of the standard streams in a run: the stream, what was asked for, and what was moved."""
     notes = Path(work) / "notes"
     notes.write_text("")
-    environment = {**os.environ, "LD_PRELOAD": str(Path(work) / "calls.so"), "CALLS": str(notes)}
-    run(program, words, stdin, env=environment)
+    environment = {**os.environ, "LD_PRELOAD": str(Path(work) / "calls.so"), "CALLS": str(notes), **limits}
+    run(program, words, stdin, env=environment, stdout=stdout)
     calls = [line.split() for line in notes.read_text().splitlines()]
     return [[tuple(map(int, numbers)) for name, *numbers in calls if name == kind] for kind in ("read", "write")]
 
@@ -313,6 +319,20 @@ def try_calls(program, trials):
             moved = sum(moved for _, _, moved in reads)
             trials.expect(f"stream of {size} bytes: reads, of which one is the end", (moved, ends), (size, [0]))
             trials.expect(f"stream of {size} bytes: none is empty", all(asked for _, asked, _ in reads), True)
+
+
+def try_replies(program, trials):
+    """The replies to the records of one read are one write, made before the next read; if it fails, none follows."""
+    with tempfile.TemporaryDirectory() as work:
+        trials.expect("calls.c", library_of("calls", work)[1], True)
+        for command, step, count in REPLIES:
+            _, writes = calls_of(program, [command, "-z"], RECORDS, work, STEP=str(step))
+            streams = [stream for stream, _, _ in writes if stream == 1]
+            trials.expect(f"{command} -z, {step} bytes a read: writes", len(streams), count)
+        with open("/dev/full", "wb") as full:
+            reads, _ = calls_of(program, ["canon", "-z"], RECORDS, work, stdout=full, STEP="1")
+        whole = RECORDS.index(b"\0") + 1
+        trials.expect("canon -z: what is read before a write fails", [moved for _, _, moved in reads], [1] * whole)
 
 
 def run_from(program, stdin, closed=(), stderr=subprocess.PIPE):
@@ -496,6 +516,7 @@ def main():
     try_idle(program, trials)
     try_terminal(program, trials)
     try_calls(program, trials)
+    try_replies(program, trials)
     try_bytes(program, trials)
     try_files(program, trials)
     try_spaces(program, trials)

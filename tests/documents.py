@@ -32,18 +32,10 @@ FOREIGN_NAMES = set("""
     cents errno memset intmax_t ptrdiff_t strerror uintmax_t I64
     xargs git msgfmt msgunfmt pipefail fix fmt imports plant PYTHONPATH PKG_CONFIG_PATH ldconfig pip pkg config cflags libs pkgconfig sudo
     AllocFailed Display WHAT logic dac8208d650f15bf ed8637e01fc3206ec782c5daf8d913b1fcd4ddf4efb850537416d13256281534 the_type write_all
-    NAME PATH TEXT allow holes lemma is_left_justified expect tidy XDG_CACHE_HOME
+    NAME PATH TEXT allow holes lemma is_left_justified expect assert_eq tidy XDG_CACHE_HOME
 """.split())
 # Folders whose files are the code that names are looked up in.
 CODE = ["tests/*.py", "crates/*/src/**/*.rt", "crates/*/specs/**/*.antt", "crates/*/proofs/**/*.antt", "bench/**/*", "include/*", "python/**/*.py", "examples/*", "crates.txt", "Makefile", "HANDLES"]
-
-
-def table_rows(path, names=None):
-    """How many rows the tables of a test file have, of these names or of all: arrays, and texts with a row a line."""
-    text = (TOP / "crates" / path).read_text(encoding="utf-8")
-    tables = re.findall(r"(\w+): \[[^;=]*; (\d+)\] = \[", text)
-    tables += [(name, rows.count("\n")) for name, rows in re.findall(r'static (\w+): &str = "\\(\n(?:[^"\\]|\\.)*)";', text)]
-    return sum(int(rows) for name, rows in tables if names is None or name in names)
 
 
 def data_rows(name):
@@ -73,20 +65,19 @@ def pairs_of(count):
 
 def tested_counts():
     """What docs/TESTED.md says is tested: patterns of its numbers, each with the numbers that the files give."""
-    grids = [f"pf_render/src/tests/grid/{name}.rt" for name in ["binary", "hexadecimal", "octal", "signed", "unsigned"]]
-    texts = sum(map(table_rows, grids)) + data_count("long.txt")
+    texts = data_count("grid.txt") + data_count("long.txt")
     shapes, forms = data_count("shapes.txt"), data_count("forms_of_int.jsonl")
     sizes = grid_sizes(True) + grid_sizes(False)
     yield r"(\d+) refusals out of", [data_count("refused.jsonl")]
     yield r"(\d+) texts that the GNU C library prints .* 16 shapes and (5) values", [5 * texts, 5]
     yield r"(\d+) that it prints by `b` \((\d+) shapes with (6) values\)", [6 * shapes, shapes, 6]
-    yield r"(\d+) rows out of other programs' test suites, (\d+) worked rows", [table_rows("pf_render/src/tests/vectors.rt"), table_rows("pf_render/src/tests/rows.rt")]
+    yield r"(\d+) rows out of other programs' test suites, (\d+) worked rows", [data_count("vectors.txt"), data_count("numbers.txt")]
     yield r"(\d+) directives and what they are reduced to .* up to (\d+) numbers", [data_count("reductions.jsonl"), numbers_of_int()]
-    yield r"(\d+) worked canonical texts", [table_rows("pf_canon/src/tests.rt", ["DIRECTIVES", "FORMATS"])]
+    yield r"(\d+) worked canonical texts", [data_count("canonical_formats.jsonl")]
     commands = [row["words"][0] for row in model_rows()]
     for command in MODEL_COMMANDS:
         yield rf"(\d+)(?: rows)? of `{command}`", [commands.count(command)]
-    yield r"(\d+) rows of whole formats", [table_rows("pf_render/src/tests/formats.rt")]
+    yield r"(\d+) rows of whole formats", [data_count("formats.jsonl")]
     yield r"(\d+) normal directives of int and (\d+) of the other types.* (\d+) pairs, each", [sum(grid_sizes(True)), sum(grid_sizes(False)), sum(map(pairs_of, sizes))]
     yield r"(\d+) forms of int, (\d+) pairs", [forms, pairs_of(forms)]
     yield r"(\d+) pairs that one candidate alone", [data_count("told_by_one.jsonl")]

@@ -4,8 +4,8 @@
 Usage: tests/rooms.py [--each] PROGRAM
 
 Standard output takes some bytes and then fails: each answer of tests/rows/commands.jsonl and tests/rows/written.jsonl,
-what `stream` settles before a refusal, and replies to records go out in each room that is too small for them. Standard
-input hands out some bytes and then fails, or ends there: formats and records are cut after each byte. The streams
+each canonical text, what `stream` settles before a refusal, what formats print, and replies to records go out in each
+room that is too small for them. What the C library prints goes into one room for each text. Standard input hands out some bytes and then fails, or ends there: formats and records are cut after each byte. The streams
 are those of tests/narrow.c. How many bytes they move a call, and the error, take turns from run to run; with --each
 every run is made with each of them.
 
@@ -25,19 +25,10 @@ sys.path.insert(0, str(Path(__file__).resolve().parent))
 
 from devices import READ_FAILED, WRITE_FAILED, library_of  # noqa: E402
 from harness import Trials, run  # noqa: E402
-from rows import rows_of  # noqa: E402
+from rows import fields_of, rows_of, takes_unsigned, values  # noqa: E402
 
 STEPS = [1, 2, 3, 7, 4096]
 FAULTS = [errno.EIO, errno.EAGAIN, errno.EPIPE, errno.ENOSPC]
-# Formats that are refused, what `stream` writes of each before, and the refusal. Worked out by hand.
-UNFINISHED = [
-    (b"a%.0sb%5d%q", b"ab%.0s%5d", b"refused 3 Unexpected at byte 10\n"),
-    (b"a%.0s%y", b"a", b"refused 3 Unexpected at byte 6\n"),
-    (b"%%.0s%y", b"%%.0s", b"refused 3 Unexpected at byte 6\n"),
-    (b"100%", b"100", b"refused 2 Truncated at byte 4\n"),
-    (b"%20d%y", b"         %11d", b"refused 3 Unexpected at byte 5\n"),
-    (b"%y", b"", b"refused 3 Unexpected at byte 1\n"),
-]
 RECORDS = b"%5c\0%*d\0%i\0"
 REPLIES = b"0     %c\x002 refused 5 Star at byte 1\x000 %d\x00"
 # Where the reply to a record ends, for each number of records that are whole.
@@ -85,7 +76,7 @@ def try_rooms(narrow, words, stdin, text):
 def try_answers(narrow):
     """The answers of the commands, and what `stream` settles of a text and of a directive."""
     rows = [(row["words"], b"", row["stdout"], row["status"]) for row in rows_of("commands.jsonl") if row["status"] < 2]
-    texts = [*rows_of("written.jsonl"), *rows_of("cut_directives.jsonl")]
+    texts = [row for name in ["written", "cut_directives", "canonical_formats"] for row in rows_of(f"{name}.jsonl")]
     rows += [(["stream"], text.encode("latin-1"), canonical, 0) for text, canonical in texts]
     for words, stdin, text, status in rows:
         try_rooms(narrow, words, stdin, text.encode("latin-1"))
@@ -110,9 +101,36 @@ def try_long_answers(narrow):
 
 def try_refusals(narrow):
     """What is settled is written before a refusal, which is reported even where that can't be."""
-    for stdin, text, line in UNFINISHED:
+    for format, settled, number, place in rows_of("settled.jsonl"):
+        text = settled.encode()
         for room in range(len(text) + 1):
-            narrow.expect(["stream"], stdin, (2, text[:room], line), ROOM=room)
+            narrow.expect(["stream"], format.encode(), (2, text[:room], refusal(number, place)), ROOM=room)
+
+
+def try_two_faults(narrow):
+    """A read that fails is reported even if what was settled can't be written."""
+    status, line = READ_FAILED
+    for room in range(3):
+        narrow.expect(["stream"], b"ab%5d", (status, b"ab"[:room], line), FEED=2, ROOM=room)
+
+
+def try_formats(narrow):
+    """What formats print, in each room that is too small, and in one that isn't."""
+    rows = [(format, [f"n:{number}"], text) for name in ["numbers.txt", "vectors.txt"] for format, number, text in fields_of(name)]
+    for format, words, text in [*rows, *rows_of("formats.jsonl")]:
+        words, whole = ["format", "--", format, *words], text.encode()
+        try_rooms(narrow, words, b"", whole)
+        narrow.expect(words, b"", (0, whole, b""), ROOM=len(whole))
+
+
+def try_grid(narrow):
+    """What the C library prints, each text in one room that is too small; these take turns."""
+    rows = [(row[0], zip(values(int(row[1]), takes_unsigned(row[0])), row[2:])) for row in fields_of("grid.txt")]
+    texts = [(format, number, text.encode()) for format, pairs in rows for number, text in pairs if text]
+    status, line = WRITE_FAILED
+    for turn, (format, number, text) in enumerate(texts):
+        room = turn % len(text)
+        narrow.expect(["format", "--", format, f"n:{number}"], b"", (status, text[:room], line), ROOM=room)
 
 
 def refusal(number, place):
@@ -171,6 +189,9 @@ def main():
         try_answers(narrow)
         try_long_answers(narrow)
         try_refusals(narrow)
+        try_two_faults(narrow)
+        try_formats(narrow)
+        try_grid(narrow)
         try_fronts(narrow)
         try_records(narrow)
         narrow.end()

@@ -22,8 +22,6 @@ from library import load_module  # noqa: E402
 from harness import TOP, Trials, run  # noqa: E402
 
 ROWS = TOP / "tests/rows"
-RENDERED = TOP / "crates/pf_render/src/tests"
-ESCAPED = {"n": "\n", "t": "\t", "r": "\r", "0": "\0", "\\": "\\", '"': '"'}
 MODELS = ["lp64", "ilp32", "llp64"]
 FLAGS = "-+ #0'"
 LENGTHS = ["", "hh", "h", "l", "ll", "j", "z", "t"]
@@ -44,17 +42,6 @@ def fields_of(name):
     """The rows of a file with a row a line, in which `|` comes after each field, and `#` before a remark."""
     lines = (ROWS / name).read_text(encoding="utf-8").splitlines()
     return [line.split("|")[:-1] for line in lines if not line.startswith("#")]
-
-
-def rattle_text(path, name, folder=RENDERED):
-    """A table that tests in Rattle have, too, as those of `pf_render` that write into each room: a text in their source."""
-    source = (folder / path).read_text(encoding="utf-8")
-    literal = re.search(rf'static {name}: &str = "\\\n((?:[^"\\]|\\.)*)";', source).group(1)
-    return re.sub(r"\\(x..|.)", lambda found: ESCAPED.get(found.group(1)) or chr(int(found.group(1)[1:], 16)), literal)
-
-
-def rattle_fields(path, name):
-    return [line.split("|")[:-1] for line in rattle_text(path, name).splitlines()]
 
 
 def answer(program, command, model, *words, stdin=b""):
@@ -213,13 +200,12 @@ def whole_text(field, byte):
 
 def try_grid(program, trials):
     """Each integer conversion under each modifier prints what a C library prints, in each data model."""
-    for name in ["signed", "unsigned", "octal", "hexadecimal", "binary"]:
-        for format, bits, *texts in rattle_fields(f"grid/{name}.rt", name.upper()):
-            numbers = values(int(bits), takes_unsigned(format))
-            try_texts(program, trials, "lp64", format, numbers, texts)
-            for model, alike in ALIKE.items():
-                for length in alike.get(length_of(format), []):
-                    try_texts(program, trials, model, with_length(format, length), numbers, texts)
+    for format, bits, *texts in fields_of("grid.txt"):
+        numbers = values(int(bits), takes_unsigned(format))
+        try_texts(program, trials, "lp64", format, numbers, texts)
+        for model, alike in ALIKE.items():
+            for length in alike.get(length_of(format), []):
+                try_texts(program, trials, model, with_length(format, length), numbers, texts)
     for format, bits, byte, *fields in fields_of("long.txt"):
         numbers = values(int(bits), takes_unsigned(format))
         try_texts(program, trials, "lp64", format, numbers, [whole_text(field, byte) for field in fields])
@@ -229,18 +215,15 @@ def try_grid(program, trials):
 
 def try_numbers(program, trials):
     """Single directives print what is worked out by hand, and what others say."""
-    tables = {"rows.rt": ["ROWS"], "vectors.rt": ["SIGNED", "UNSIGNED", "OCTAL", "HEXADECIMAL"]}
-    for path, names in tables.items():
-        for format, number, text in (row for name in names for row in rattle_fields(path, name)):
+    for name in ["numbers.txt", "vectors.txt"]:
+        for format, number, text in fields_of(name):
             try_texts(program, trials, "lp64", format, [number], [text])
 
 
 def try_formats(program, trials):
     """Whole formats, strings and single bytes are printed as their rows say."""
-    for name in ["WORKED", "OF_SUITES", "OF_LIBRARIES", "STRINGS", "CHARS"]:
-        for row in rattle_text("formats.rt", name).split("¶\n"):
-            format, *words, text = row.split("¦")
-            trials.expect([format, words], printed(program, "lp64", format, words), text.encode())
+    for format, words, text in rows_of("formats.jsonl"):
+        trials.expect([format, words], printed(program, "lp64", format, words), text.encode())
     for format, words, text in rows_of("chars.jsonl"):
         trials.expect([format, words], printed(program, "lp64", format, words), text.encode("latin-1"))
 

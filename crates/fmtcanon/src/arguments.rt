@@ -12,9 +12,6 @@ use pf_text::signature;
 use pf_values::{Arg, ArgType, CBytes, Model};
 use std::alloc::Global;
 
-#[cfg(test)]
-mod tests;
-
 /// An argument that has no type yet.
 #[derive(Clone, Copy)]
 pub enum UntypedArg<'a> {

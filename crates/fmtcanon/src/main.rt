@@ -13,8 +13,6 @@ mod records;
 mod run;
 mod show_lines;
 mod task;
-#[cfg(test)]
-mod tests;
 mod type_lines;
 
 use outcome::{Outcome, report};

@@ -11,8 +11,6 @@ pub mod laws;
 pub mod limits;
 mod output;
 mod sink;
-#[cfg(test)]
-mod tests;
 mod transducer;
 mod walk;
 

@@ -8,9 +8,6 @@ use crate::cursor::{Cursor, NextPart, SourcePart};
 use crate::faults::LiteralFault;
 use std::alloc::{AllocError, Allocator, Global};
 
-#[cfg(test)]
-mod tests;
-
 /// The bytes that a source of string literals denotes (C11 6.4.5, paragraphs 4 to 6), without
 /// the zero byte behind them. Their room is taken by one growth of the source's length, and none is
 /// taken where there are no bytes.

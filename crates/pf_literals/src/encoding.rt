@@ -6,9 +6,6 @@ use crate::encoded_parts::EncodedPart;
 use crate::search::verbatim_len;
 use std::alloc::{AllocError, Allocator, Global};
 
-#[cfg(test)]
-mod tests;
-
 /// The one string literal of some bytes. A zero byte is written as `\000`, and of what has one no C
 /// string is made: `decode` refuses that literal. The room for it is taken by one growth of its
 /// length.

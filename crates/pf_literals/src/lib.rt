@@ -11,8 +11,6 @@ mod notations;
 mod places;
 mod search;
 mod spellings;
-#[cfg(test)]
-mod tests;
 mod tokens;
 
 pub use decoding::decode;

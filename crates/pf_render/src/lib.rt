@@ -11,8 +11,6 @@ mod integers;
 mod piece_cache;
 mod progress;
 mod rendered_vec;
-#[cfg(test)]
-mod tests;
 mod texts;
 mod values;
 

@@ -7,9 +7,6 @@ use crate::formats::render;
 use pf_values::{Arg, Counted, Model};
 use std::alloc::{Allocator, Global};
 
-#[cfg(test)]
-mod tests;
-
 /// What a format prints for arguments of its types in this data model (C11 7.21.6.1).
 pub fn render_vec(
     alloc: Global,

@@ -8,9 +8,6 @@ use pf_values::{ArgType, Model};
 use smallvec::SmallVec;
 use std::alloc::{Allocator, Global};
 
-#[cfg(test)]
-mod tests;
-
 /// The types of the arguments that a format takes in this data model. Memory can be refused only
 /// where there are more than eight of them.
 pub fn signature(alloc: Global, model: Model, text: &[u8]) -> Result<Signature, TextFault>

@@ -13,8 +13,6 @@ mod signatures;
 mod specification;
 mod spelling;
 mod state;
-#[cfg(test)]
-mod tests;
 
 pub use argument_types::signature;
 pub use pieces::{Piece, Pieces, check};

@@ -17,9 +17,6 @@ use pf_values::limits::MAX_TEXT_LEN;
 use pf_values::{Directive, RefusalKind};
 use thiserror::Error;
 
-#[cfg(test)]
-mod tests;
-
 /// The kind, and the byte at which the text is refused, counted from 0.
 #[derive(Clone, Copy, Debug, PartialEq, Eq, Error)]
 #[error("refused ({kind:?}) at byte {at}")]

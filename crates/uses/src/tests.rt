@@ -1,5 +1,5 @@
-//! Each use, where it says yes and where it says no; and below, the tests of three libraries, which ask public calls
-//! alone. They are here since a crate with tests is proved once more for them.
+//! Each use, with both of its answers; and the tests of the libraries, which call public functions. All tests are in this
+//! crate, since a crate with tests is proved twice.
 use crate::argument_types::{other_type_at, takes_one_int};
 use crate::canonical_texts::{copies_tidily, fits, is_tidy};
 use crate::directives::{column, spaces_in_front};
@@ -9,7 +9,12 @@ use pf_reduce::{Core, is_normal, reduce};
 use pf_render::RenderFault;
 use pf_values::{Conv, Counted, Directive, FlagSet, Length, Model, RefusalKind};
 
+mod canonical;
 mod comparisons;
+mod literals;
+mod memory;
+mod printing;
+mod reading;
 mod signatures;
 mod values;
 
