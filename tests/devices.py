@@ -271,12 +271,12 @@ def try_terminal(program, trials):
         trials.expect(f"stream from a terminal that ends after {sent!r}", got, (0, text, b""))
 
 
-def calls_of(program, words, stdin, work, **limits):
+def calls_of(program, words, stdin, work, stdout=subprocess.PIPE, **limits):
     """The reads and the writes of the standard streams in a run: the stream, what was asked for, and what was moved."""
     notes = Path(work) / "notes"
     notes.write_text("")
     environment = {**os.environ, "LD_PRELOAD": str(Path(work) / "calls.so"), "CALLS": str(notes), **limits}
-    run(program, words, stdin, env=environment)
+    run(program, words, stdin, env=environment, stdout=stdout)
     calls = [line.split() for line in notes.read_text().splitlines()]
     return [[tuple(map(int, numbers)) for name, *numbers in calls if name == kind] for kind in ("read", "write")]
 
@@ -322,13 +322,17 @@ def try_calls(program, trials):
 
 
 def try_replies(program, trials):
-    """The replies to the records of one read are one write, and each is written before the next read."""
+    """The replies to the records of one read are one write, made before the next read; if it fails, none follows."""
     with tempfile.TemporaryDirectory() as work:
         trials.expect("calls.c", library_of("calls", work)[1], True)
         for command, step, count in REPLIES:
             _, writes = calls_of(program, [command, "-z"], RECORDS, work, STEP=str(step))
             streams = [stream for stream, _, _ in writes if stream == 1]
             trials.expect(f"{command} -z, {step} bytes a read: writes", len(streams), count)
+        with open("/dev/full", "wb") as full:
+            reads, _ = calls_of(program, ["canon", "-z"], RECORDS, work, stdout=full, STEP="1")
+        whole = RECORDS.index(b"\0") + 1
+        trials.expect("canon -z: what is read before a write fails", [moved for _, _, moved in reads], [1] * whole)
 
 
 def run_from(program, stdin, closed=(), stderr=subprocess.PIPE):

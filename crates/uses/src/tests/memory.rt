@@ -69,13 +69,6 @@ fn has_each_answer(alloc: Global) -> Result<bool, AllocError> {
     Ok(is_all_refused(alloc))
 }
 
-#[test]
-fn compare_allocates_only_for_arguments(rt: HostRuntime) -> Result<(), AllocError> {
-    let is_right = has_each_answer(rt.alloc())?;
-    assert!(rt; is_right);
-    Ok(())
-}
-
 // How many types a signature has; `None` if memory is out.
 fn length_of(alloc: Global, format: &[u8]) -> Option<usize> {
     match signature(alloc, Model::Lp64, format) {
@@ -85,14 +78,12 @@ fn length_of(alloc: Global, format: &[u8]) -> Option<usize> {
     }
 }
 
-#[test]
-fn eight_types_need_no_allocation(rt: HostRuntime) -> Result<(), AllocError> {
-    let exhausted = Exhausted::new(rt.alloc())?;
-    let eight = length_of(rt.alloc(), b"%d%d%d%d%d%d%d%d");
-    let nine = length_of(rt.alloc(), b"%d%d%d%d%d%d%d%d%d");
-    drop(exhausted);
-    assert!(rt; eight == Some(8) && nine.is_none());
-    Ok(())
+// Whether eight types need no allocation, and nine do.
+fn eight_types_need_none(alloc: Global) -> Result<bool, AllocError> {
+    let _exhausted = Exhausted::new(alloc)?;
+    let eight = length_of(alloc, b"%d%d%d%d%d%d%d%d");
+    let nine = length_of(alloc, b"%d%d%d%d%d%d%d%d%d");
+    Ok(eight == Some(8) && nine.is_none())
 }
 
 // Whether `same_stream` answers that two texts mean the same.
@@ -192,13 +183,6 @@ fn all_answer(alloc: Global) -> Result<bool, AllocError> {
             && !candidates(Model::Lp64, ArgType::Int).is_empty()
             && is_all_refused(alloc),
     )
-}
-
-#[test]
-fn calls_without_an_allocator_need_none(rt: HostRuntime) -> Result<(), AllocError> {
-    let all_answer = all_answer(rt.alloc())?;
-    assert!(rt; all_answer);
-    Ok(())
 }
 
 // The most literal bytes before the `%` in `canonical_refuses`.
@@ -303,9 +287,30 @@ fn none_for_nothing(alloc: Global) -> Result<bool, AllocError> {
     )
 }
 
+// The number of parts of the test below.
+const PARTS: u8 = 6;
+
+// Whether a part of the test is right: `compare` allocates only for the arguments that it returns; eight types need no
+// allocation; nor do the calls without an allocator; nor an empty vector, nor a fault; and each allocation of a call may be
+// refused.
+fn is_right(alloc: Global, part: u8) -> Result<bool, AllocError> {
+    match part {
+        0 => has_each_answer(alloc),
+        1 => eight_types_need_none(alloc),
+        2 => all_answer(alloc),
+        3 => none_for_nothing(alloc),
+        4 => growths::render_vec_is_refused(alloc),
+        _ => growths::confirms_is_refused(alloc),
+    }
+}
+
+// This is one test, since `rt try --test` takes its whole time limit for each test that uses up memory. Those of
+// `blocks.rt` need a heap from which nothing was freed.
 #[test]
-fn nothing_needs_no_allocation(rt: HostRuntime) -> Result<(), AllocError> {
-    let is_right = none_for_nothing(rt.alloc())?;
-    assert!(rt; is_right);
+fn memory_that_is_used_up(rt: HostRuntime) -> Result<(), AllocError> {
+    for part in 0..PARTS {
+        let is_right = is_right(rt.alloc(), part)?;
+        assert!(rt; is_right, "part {part}");
+    }
     Ok(())
 }

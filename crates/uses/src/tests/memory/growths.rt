@@ -85,10 +85,12 @@ fn is_memory_until_it_answers(
     Ok(false)
 }
 
-#[test]
-fn a_refused_allocation_is_memory(rt: HostRuntime) -> Result<(), AllocError> {
-    let rendered = is_memory_until_it_answers(rt.alloc(), Call::RenderVec, 136, 100)?;
-    let confirmed = is_memory_until_it_answers(rt.alloc(), Call::Confirms, 24, 24)?;
-    assert!(rt; rendered && confirmed);
-    Ok(())
+/// Whether `render_vec` is out of memory until there is enough.
+pub(super) fn render_vec_is_refused(alloc: Global) -> Result<bool, AllocError> {
+    is_memory_until_it_answers(alloc, Call::RenderVec, 136, 100)
+}
+
+/// Whether `confirms` is out of memory until there is enough.
+pub(super) fn confirms_is_refused(alloc: Global) -> Result<bool, AllocError> {
+    is_memory_until_it_answers(alloc, Call::Confirms, 24, 24)
 }
