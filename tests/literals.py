@@ -24,8 +24,8 @@ from rows import rows_of  # noqa: E402
 
 COUNT = 2000
 SEED = 20
-# With these no compiler replaces trigraphs, and a literal is taken as it is.
-GCC = ["gcc", "-std=gnu11", "-w"]
+# With the first of these a compiler replaces no trigraphs, and with the second it does.
+STANDARDS = ["-std=gnu11", "-std=c11"]
 STRICT = ["-std=c11", "-Wall", "-Wextra", "-pedantic", "-Werror"]
 SIMPLE = b"\"\\'?abtnvfr"
 OCTAL = b"01234567"
@@ -75,7 +75,7 @@ def sources():
             yield b'"' + bytes([byte]) + b'"'
     for letter in SIMPLE:
         yield b'"\\' + bytes([letter]) + b'"'
-    yield from [b'""', b'"" ""', b' "\\x4" "1" ', b'"\\1" "1"', b'"\\3777"', b'"?" "?="', b'"\\??="', b'"?\\?="', b'"\\001"']
+    yield from [b'""', b'"" ""', b' "\\x4" "1" ', b'"\\1" "1"', b'"\\3777"', b'"?" "?="', b'"\\?\\?="', b'"?\\?="', b'"\\001"']
     rng, found = random.Random(SEED), 0
     while found < COUNT:
         literals = [b'"' + b"".join(element(rng) for _ in range(rng.randrange(12))) + b'"' for _ in range(rng.randrange(1, 4))]
@@ -120,13 +120,23 @@ def compiled(compiler, sources, work):
 
 
 def try_decoded(module, compiler, trials, work):
-    """The compiler and the library take a source for the same bytes."""
+    """The compiler and the library take a source for the same bytes, whether or not the compiler replaces trigraphs."""
     listed = list(sources())
-    found, said = compiled(compiler, listed, work)
-    trials.expect(f"{compiler}: sources are compiled", (found is not None, said), (True, ""))
-    trials.expect(f"{compiler}: sources", len(found or []), len(listed))
-    for source, bytes_found in zip(listed, found or []):
-        trials.expect(f"decode_literal of {source!r}", module.decode_literal(source), bytes_found)
+    for standard in STANDARDS:
+        found, said = compiled([*compiler, standard, "-w"], listed, work)
+        trials.expect(f"{compiler} {standard}: sources are compiled", (found is not None, said), (True, ""))
+        trials.expect(f"{compiler} {standard}: sources", len(found or []), len(listed))
+        for source, bytes_found in zip(listed, found or []):
+            trials.expect(f"decode_literal of {source!r}, {standard}", module.decode_literal(source), bytes_found)
+
+
+def try_trigraphs(module, compiler, trials, work):
+    """A source with a trigraph, also after a backslash, is refused at its first `?`: compilers read it in two ways."""
+    listed = [(b'"a' + front + b"??" + bytes([third]) + b'n"', 2 + len(front)) for front in [b"", b"\\", b"?", b"\\?"] for third in THIRDS]
+    both = [compiled([*compiler, standard, "-w"], [source for source, _ in listed], work)[0] for standard in STANDARDS]
+    for (source, place), *found in zip(listed, *both):
+        trials.expect(f"{source!r} is read in two ways", found[0] != found[1], True)
+        trials.expect(f"{source!r} is refused", decoded(module, source), [6, place])
 
 
 def try_encoded(module, compiler, trials, work):
@@ -194,7 +204,8 @@ def main():
     program, folder, trials = sys.argv[1], Path(sys.argv[2]).resolve(), Trials()
     module = load_module(program, folder)
     with tempfile.TemporaryDirectory() as name:
-        try_decoded(module, GCC, trials, Path(name))
+        try_decoded(module, ["gcc"], trials, Path(name))
+        try_trigraphs(module, ["gcc"], trials, Path(name))
         try_encoded(module, ["gcc"], trials, Path(name))
     try_places(module, trials)
     try_sources(module, trials)

@@ -20,7 +20,7 @@ sys.path.insert(0, str(Path(__file__).resolve().parent))
 
 import roots  # noqa: E402
 from library import TIMEOUT, TOP, Trials, compile_with, lines_of, load_module, python_lines, shapes, try_compiler  # noqa: E402
-from literals import try_encoded  # noqa: E402
+from literals import try_decoded, try_encoded, try_trigraphs  # noqa: E402
 from models import try_models  # noqa: E402
 from replacing import try_parsing  # noqa: E402
 from translations import try_msgfmt  # noqa: E402
@@ -66,7 +66,8 @@ def try_compilers(folder, tools, module, trials, work):
             lines = try_compiler(compiler, folder, trials, work)
         trials.expect(f"{compiler}: the answers are those of the Python module", lines == wanted, True)
     if shutil.which("clang"):
-        try_encoded(module, ["clang", "-Wno-invalid-source-encoding"], trials, work)
+        for part in [try_decoded, try_trigraphs, try_encoded]:
+            part(module, ["clang", "-Wno-invalid-source-encoding"], trials, work)
     source = work / "header.cpp"
     source.write_text('#include "fmtcanon.h"\nint main() { fmtcanon_error e; return (int)fmtcanon_is_canonical(FMTCANON_ILP32, "%ld", 3, &e) - 1; }\n')
     for compiler, package in [("g++", "g++"), ("clang++", "clang")]:

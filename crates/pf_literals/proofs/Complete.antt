@@ -12,7 +12,7 @@ use Rattle.pf_literals.specs.declared.tokens.Place.{Place}
 use Rattle.pf_literals.specs.declared.tokens.Place.TheVariants.{Before, Inside, Behind}
 use Rattle.pf_literals.specs.declared.tokens.Token.{Token}
 use Rattle.pf_literals.specs.declared.tokens.Token.TheVariants.{White, Character, Invalid}
-use Rattle.pf_literals.specs.Elements.{AreElements, Bytes, Element, Numeric, Plain, Simple, quote, may_precede, value, written}
+use Rattle.pf_literals.specs.Elements.{AreElements, Bytes, Element, Numeric, Plain, Simple, begins_no_trigraph, quote, may_precede, value, written}
 use Rattle.pf_literals.specs.Sources.{AreWhite, IsStringLiteral, IsSource, StringLiteral, literal_bytes, close_of, element_places, is_white, literal_text, places}
 use Rattle.pf_literals.specs.Faults.{AreOpen, IsFaultCause, IsFaultAt, open_text}
 use Rattle.pf_literals.specs.Tokens.{token_inside, token_outside, token_at}
@@ -68,12 +68,15 @@ read_from-elements (element ∷ elements) rest at h =
     ∙ ap (λ n. prefixed (map value (element ∷ elements)) (element_places at (element ∷ elements)) (read_from Inside 0 n rest)) long
 
 -- behind a quote nothing matters
+begins_quote : (byte : ℕ) (before rest : Bytes) → begins_no_trigraph byte (before ++ (quote ∷ [])) ≡ begins_no_trigraph byte (before ++ (quote ∷ rest))
+begins_quote byte [] [] = refl
+begins_quote byte [] (c ∷ rest) = refl
+begins_quote byte (a ∷ []) rest = refl
+begins_quote byte (a ∷ b ∷ before) rest = refl
+
 pub stands_quote : (element : Element) (before rest : Bytes) → may_precede element (before ++ (quote ∷ [])) ≡ may_precede element (before ++ (quote ∷ rest))
-stands_quote (Plain byte) [] [] = refl
-stands_quote (Plain byte) [] (c ∷ rest) = refl
-stands_quote (Plain byte) (a ∷ []) rest = refl
-stands_quote (Plain byte) (a ∷ b ∷ before) rest = refl
-stands_quote (Simple letter byte) before rest = refl
+stands_quote (Plain byte) before rest = begins_quote byte before rest
+stands_quote (Simple letter byte) before rest = begins_quote letter before rest
 stands_quote (Numeric notation digits) [] rest = refl
 stands_quote (Numeric notation digits) (a ∷ before) rest = refl
 

@@ -1,11 +1,11 @@
 -- The encoding of a text is a source of it.
-use Rattle.std.proofs.Common.{◌≡◌, ◌≢◌, ℕ, ◌+◌, ◌*◌, ◌/◌, ◌%◌, ◌<◌, ◌≤◌, Bool, true, false, [], ◌∷◌, ◌++◌, map, refl, sym, ap, ap₂, ◌∙◌, arith}
+use Rattle.std.proofs.Common.{◌≡◌, ◌≢◌, ℕ, ◌+◌, ◌*◌, ◌/◌, ◌%◌, ◌<◌, ◌≤◌, Bool, true, false, [], ◌∷◌, ◌++◌, map, refl, sym, ap, ap₂, ◌∙◌, subst, arith}
 use Rattle.std.specs.Prelude.{◌&&◌, ◌==◌, Option, Some, None, not, if◌then◌else◌}
 use Rattle.std.proofs.lemmas.Bool.{and_parts, eqb-true, not_from_false}
 use Rattle.std.proofs.lemmas.Bool.Decides.{nat_tests}
 use Rattle.std.proofs.lemmas.List.{append-nil}
 use Rattle.pf_literals.specs.declared.notations.Notation.TheVariants.{Octal}
-use Rattle.pf_literals.specs.Elements.{AreEscapeDigits, AreElements, Bytes, Element, IsElement, Numeric, Plain, Simple, digit_value, ends_trigraph, is_escape_digit, is_line_end, escape_number, simple_byte, question, quote, may_precede, value, written}
+use Rattle.pf_literals.specs.Elements.{AreEscapeDigits, AreElements, Bytes, Element, IsElement, Numeric, Plain, Simple, begins_no_trigraph, digit_value, ends_trigraph, is_escape_digit, is_line_end, escape_number, simple_byte, question, quote, may_precede, value, written}
 use Rattle.pf_literals.specs.Encoding.{element_by, element_for, elements_for, encoding, is_printed, octal_digits, simple_letter, spelled}
 use Rattle.pf_literals.specs.Laws.{AreCStringBytes}
 use Rattle.pf_literals.specs.Sources.{IsSourceOf}
@@ -104,10 +104,13 @@ full_stands : (byte : ℕ) (t : Bytes) → may_precede (Numeric Octal (octal_dig
 full_stands byte [] = refl
 full_stands byte (b ∷ t) = refl
 
+letter_stands : (byte letter : ℕ) (rest : Bytes) → simple_letter byte ≡ Some letter → begins_no_trigraph letter rest ≡ true
+letter_stands byte letter rest e = let other : (letter == question) ≡ false = grind (arith, nat_tests) in rw other refl
+
 -- each element has all its digits, and begins no trigraph
-stands_by : (byte : ℕ) (bytes : Bytes) (o : Option ℕ) → may_precede (element_by o byte) (spelled (byte == question) bytes ++ (quote ∷ [])) ≡ true
-stands_by byte bytes (Some letter) = refl
-stands_by byte bytes None = go (is_printed byte) where
+stands_by : (byte : ℕ) (bytes : Bytes) (o : Option ℕ) → simple_letter byte ≡ o → may_precede (element_by o byte) (spelled (byte == question) bytes ++ (quote ∷ [])) ≡ true
+stands_by byte bytes (Some letter) e = letter_stands byte letter (spelled (byte == question) bytes ++ (quote ∷ [])) e
+stands_by byte bytes None e = go (is_printed byte) where
   plain : (b : Bool) → not (b && ends_trigraph (spelled b bytes ++ (quote ∷ []))) ≡ true
   plain true = not_from_false _ (question_stands bytes)
   plain false = refl
@@ -117,10 +120,10 @@ stands_by byte bytes None = go (is_printed byte) where
   go false = full_stands byte _
 
 stands_for : (after : Bool) (byte : ℕ) (bytes : Bytes) → may_precede (element_for after byte) (spelled (byte == question) bytes ++ (quote ∷ [])) ≡ true
-stands_for after byte bytes = go (after && byte == question) where
-  go : (b : Bool) → may_precede (if b then Simple question question else element_by (simple_letter byte) byte) (spelled (byte == question) bytes ++ (quote ∷ [])) ≡ true
-  go true = refl
-  go false = stands_by byte bytes (simple_letter byte)
+stands_for after byte bytes = go (after && byte == question) refl where
+  go : (b : Bool) → (after && byte == question) ≡ b → may_precede (if b then Simple question question else element_by (simple_letter byte) byte) (spelled (byte == question) bytes ++ (quote ∷ [])) ≡ true
+  go true e = subst (λ b. not (ends_trigraph (spelled b bytes ++ (quote ∷ []))) ≡ true) (sym (and_parts _ _ e).1) (not_from_false _ (question_stands bytes))
+  go false e = stands_by byte bytes (simple_letter byte) refl
 
 elements_stand : (after : Bool) (bytes : Bytes) → AreCStringBytes bytes → AreElements (elements_for after bytes) (quote ∷ [])
 elements_stand after [] h = tt

@@ -73,6 +73,12 @@ zero_byte = read_faulty _ _ _ refl
 trigraph : IsFaultAt (codes "\"a???/n\"") Trigraph 3
 trigraph = read_faulty _ _ _ refl
 
+escaped_trigraph : IsFaultAt (codes "\"a\\??/n\"") Trigraph 3
+escaped_trigraph = read_faulty _ _ _ refl
+
+third_question_mark : IsFaultAt (codes "\"\\???=\"") Trigraph 3
+third_question_mark = read_faulty _ _ _ refl
+
 written_simply : encoding (7 ∷ 9 ∷ 10 ∷ 34 ∷ 92 ∷ 39 ∷ []) ≡ codes "\"\\a\\t\\n\\\"\\\\'\""
 written_simply = refl
 

@@ -9,8 +9,8 @@ use Rattle.pf_literals.specs.declared.faults.LiteralKind.{LiteralKind}
 use Rattle.pf_literals.specs.declared.faults.LiteralKind.TheVariants.{NoLiteral, Unterminated, BadEscape, EscapeTooLarge, ZeroByte, Trigraph}
 use Rattle.pf_literals.specs.declared.notations.Notation.{Notation}
 use Rattle.pf_literals.specs.declared.notations.Notation.TheVariants.{Octal, Hexadecimal}
-use Rattle.pf_literals.specs.Elements.{AreEscapeDigits, AreElements, Bytes, Element, IsElement, Numeric, Plain, Simple, base, escape, has_more_digits, is_escape_digit, is_full, is_line_end, escape_number, quote, may_precede, written}
-use Rattle.pf_literals.specs.Faults.{AreOpen, IsFaultCause, IsUnfinishedEscape, IsFaultAt, IsElementFault, open_text}
+use Rattle.pf_literals.specs.Elements.{AreEscapeDigits, AreElements, Bytes, Element, IsElement, Numeric, Plain, Simple, base, begins_no_trigraph, escape, has_more_digits, is_escape_digit, is_full, is_line_end, escape_number, quote, may_precede, written}
+use Rattle.pf_literals.specs.Faults.{AreOpen, IsFaultCause, IsUnfinishedEscape, IsFaultAt, IsElementFault, IsTrigraph, open_text}
 use Rattle.pf_literals.specs.Laws.{CanGoOn}
 use Rattle.pf_literals.specs.Sources.{AreWhite, IsStringLiteral, IsSource, StringLiteral, literal_bytes, literal_text}
 use Rattle.pf_literals.proofs.Judging.{AreDigits-push, escape-push}
@@ -23,15 +23,19 @@ record IsSure (rest : Bytes) : Type 0 where
   whole : rest ≡ byte ∷ after
   sure : ((byte == 63) ≡ false) ⊎ (after ≢ [])
 
+begins_longer : (b : ℕ) (before : Bytes) (byte : ℕ) (after more : Bytes) → ((byte == 63) ≡ false) ⊎ (after ≢ [])
+    → begins_no_trigraph b (before ++ (byte ∷ after)) ≡ begins_no_trigraph b (before ++ (byte ∷ (after ++ more)))
+begins_longer b [] byte [] [] h = refl
+begins_longer b [] byte [] (c ∷ more) (inl h) = rw h refl
+begins_longer b [] byte [] (c ∷ more) (inr h) = absurd (h refl)
+begins_longer b [] byte (a ∷ after) more h = refl
+begins_longer b (x ∷ []) byte after more h = refl
+begins_longer b (x ∷ y ∷ before) byte after more h = refl
+
 stands_longer : (element : Element) (before : Bytes) (byte : ℕ) (after more : Bytes) → ((byte == 63) ≡ false) ⊎ (after ≢ [])
     → may_precede element (before ++ (byte ∷ after)) ≡ may_precede element (before ++ (byte ∷ (after ++ more)))
-stands_longer (Plain b) [] byte [] [] h = refl
-stands_longer (Plain b) [] byte [] (c ∷ more) (inl h) = rw h refl
-stands_longer (Plain b) [] byte [] (c ∷ more) (inr h) = absurd (h refl)
-stands_longer (Plain b) [] byte (a ∷ after) more h = refl
-stands_longer (Plain b) (x ∷ []) byte after more h = refl
-stands_longer (Plain b) (x ∷ y ∷ before) byte after more h = refl
-stands_longer (Simple letter b) before byte after more h = refl
+stands_longer (Plain b) before byte after more h = begins_longer b before byte after more h
+stands_longer (Simple letter b) before byte after more h = begins_longer letter before byte after more h
 stands_longer (Numeric notation digits) [] byte after more h = refl
 stands_longer (Numeric notation digits) (x ∷ before) byte after more h = refl
 
@@ -67,7 +71,8 @@ stopped_sure rest BadEscape on ((byte, after, inr h), g) less = record { byte = 
 stopped_sure rest EscapeTooLarge on h less = sure_as rest _ h.0.5 (escape_sure h.0.0 h.0.1 h.0.2)
 stopped_sure rest ZeroByte on ((after, inl h), g) less = record { byte = 0; after = after; whole = h; sure = inl refl }
 stopped_sure rest ZeroByte on ((after, inr h), g) less = sure_as rest _ h.5 (escape_sure h.0 h.1 after)
-stopped_sure rest Trigraph on h less = record { byte = 63; after = 63 ∷ h.0 ∷ h.1; whole = h.2; sure = inr (λ e. cc) }
+stopped_sure rest Trigraph on (inl ((third, after, whole, is), g)) less = record { byte = 63; after = 63 ∷ third ∷ after; whole = whole; sure = inr (λ e. cc) }
+stopped_sure rest Trigraph on (inr (trigraph, whole, is, g)) less = record { byte = 92; after = trigraph; whole = whole; sure = inl refl }
 
 goes_longer : (notation : Notation) (count : ℕ) (rest more : Bytes) → (is_full notation count ≡ true) ⊎ (rest ≢ []) → has_more_digits notation count rest ≡ false → has_more_digits notation count (rest ++ more) ≡ false
 goes_longer notation count [] [] h none = refl
@@ -82,6 +87,9 @@ some_longer (b ∷ rest) more some e = cc
 last_longer : (P : Type 0) (rest more : Bytes) → P ⊎ (rest ≢ []) → P ⊎ (rest ++ more ≢ [])
 last_longer P rest more (inl p) = inl p
 last_longer P rest more (inr some) = inr (some_longer rest more some)
+
+trigraph_longer : (rest more : Bytes) → IsTrigraph rest → IsTrigraph (rest ++ more)
+trigraph_longer rest more (third, after, whole, is) = (third, after ++ more, ap (λ r. r ++ more) whole, is)
 
 -- it stops there whatever bytes follow
 stopped_longer : (rest more : Bytes) (kind : LiteralKind) (on : ℕ) → IsElementFault rest kind on → on < length rest → IsElementFault (rest ++ more) kind on
@@ -107,7 +115,8 @@ stopped_longer rest more ZeroByte on ((after, inr (notation, digits, some, are, 
   ),
   g,
 )
-stopped_longer rest more Trigraph on h less = (h.0, h.1 ++ more, ap (λ r. r ++ more) h.2, h.3, h.4)
+stopped_longer rest more Trigraph on (inl (t, g)) less = inl (trigraph_longer rest more t, g)
+stopped_longer rest more Trigraph on (inr (trigraph, whole, t, g)) less = inr (trigraph ++ more, ap (λ r. r ++ more) whole, trigraph_longer trigraph more t, g)
 
 open_longer : (literals : List StringLiteral) (begun : Option (List Element)) (rest more : Bytes) (kind : LiteralKind) (on : ℕ) → AreOpen begun rest → IsFaultCause literals begun rest kind on → on < length rest
     → AreOpen begun (rest ++ more) × IsFaultCause literals begun (rest ++ more) kind on
@@ -160,13 +169,16 @@ closes t front literals elements clear each are e =
       whole = e ∙ append_assoc front (flat_map literal_text literals) (literal_text l) ∙ ap (λ r. front ++ r) (sym (texts_push literals l));
     }
 
-stands_closed : (element : Element) (before : Bytes) → may_precede element (before ++ []) ≡ true → may_precede element (before ++ (quote ∷ [])) ≡ true
-stands_closed (Plain b) [] h = h
-stands_closed (Plain b) (x ∷ []) h =
+begins_closed : (b : ℕ) (before : Bytes) → begins_no_trigraph b (before ++ []) ≡ true → begins_no_trigraph b (before ++ (quote ∷ [])) ≡ true
+begins_closed b [] h = h
+begins_closed b (x ∷ []) h =
     let none : ((x == 63) && false) ≡ false = and_right (x == 63) false refl in
     not_from_false _ (and_right (b == 63) ((x == 63) && false) none)
-stands_closed (Plain b) (x ∷ y ∷ before) h = h
-stands_closed (Simple letter b) before h = refl
+begins_closed b (x ∷ y ∷ before) h = h
+
+stands_closed : (element : Element) (before : Bytes) → may_precede element (before ++ []) ≡ true → may_precede element (before ++ (quote ∷ [])) ≡ true
+stands_closed (Plain b) before h = begins_closed b before h
+stands_closed (Simple letter b) before h = begins_closed letter before h
 stands_closed (Numeric Octal digits) [] h = not_from_false _ (and_right (not (is_full Octal (length digits))) false refl)
 stands_closed (Numeric Hexadecimal digits) [] h = refl
 stands_closed (Numeric notation digits) (x ∷ before) h = h
@@ -258,7 +270,8 @@ stopped_at_end rest ZeroByte on ((after, inl h), g) e = absurd (omega (arith, so
 stopped_at_end rest ZeroByte on ((after, inr h), g) e =
     let s = sure_as rest _ h.5 (escape_sure h.0 h.1 after) in
     absurd (omega (arith, some_byte rest s.byte s.after s.whole, g, e))
-stopped_at_end rest Trigraph on h e = absurd (omega (arith, some_byte rest 63 _ h.2, h.4, e))
+stopped_at_end rest Trigraph on (inl (t, g)) e = absurd (omega (arith, some_byte rest 63 _ t.2, g, e))
+stopped_at_end rest Trigraph on (inr (trigraph, whole, t, g)) e = let long = ap length whole in absurd (omega (arith, long, some_byte trigraph 63 _ t.2, g, e))
 
 ends_begun : (t front : Bytes) (literals : List StringLiteral) (begun : Option (List Element)) (rest : Bytes) (kind : LiteralKind) (on : ℕ) → AreWhite front → AllByRecursion IsStringLiteral literals → AreOpen begun rest
     → t ≡ front ++ flat_map literal_text literals ++ open_text begun ++ rest → IsFaultCause literals begun rest kind on → on ≡ length rest → CanGoOn t

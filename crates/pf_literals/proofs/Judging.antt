@@ -9,7 +9,7 @@ use Rattle.pf_literals.specs.declared.faults.LiteralKind.TheVariants.{Unterminat
 use Rattle.pf_literals.specs.declared.notations.Notation.{Notation}
 use Rattle.pf_literals.specs.declared.notations.Notation.TheVariants.{Octal, Hexadecimal}
 use Rattle.pf_literals.specs.Elements.{AreEscapeDigits, Bytes, Element, AllowsDigitCount, IsElement, Numeric, Plain, Simple, ends_trigraph, escape, has_more_digits, is_escape_digit, is_full, is_line_end, escape_number, question, simple_byte, may_precede, written}
-use Rattle.pf_literals.specs.Faults.{IsElementFault}
+use Rattle.pf_literals.specs.Faults.{IsElementFault, IsTrigraph}
 use Rattle.pf_literals.proofs.Numbers.{Each}
 
 pub data Judgement (rest : Bytes) : Type 0 where
@@ -104,6 +104,17 @@ none_yet : (notation : Notation) → AreEscapeDigits notation []
 none_yet Octal = record { each = tt; room = omega arith }
 none_yet Hexadecimal = record { each = tt; room = tt }
 
+-- a `?` that begins a trigraph
+begun_trigraph : (byte : ℕ) (after : Bytes) → (byte == question && ends_trigraph after) ≡ true → IsTrigraph (byte ∷ after)
+begun_trigraph byte after both = go after (and_parts _ _ both).1 (eqb-true _ _ (and_parts _ _ both).0) where
+  go : (rest : Bytes) → ends_trigraph rest ≡ true → byte ≡ 63 → IsTrigraph (byte ∷ rest)
+  go [] e is = absurd (cc)
+  go (second ∷ []) e is = absurd (cc)
+  go (second ∷ third ∷ rest) e is =
+      let parts = and_parts _ _ e in
+      let other = eqb-true second 63 parts.0 in
+      (third, rest, ap (λ b. b ∷ second ∷ third ∷ rest) is ∙ ap (λ b. 63 ∷ b ∷ third ∷ rest) other, parts.1)
+
 -- `\` and a byte
 judge_escape : (byte : ℕ) (after : Bytes) → Judgement (92 ∷ byte ∷ after)
 judge_escape byte after = go (simple_byte byte) refl where
@@ -112,8 +123,12 @@ judge_escape byte after = go (simple_byte byte) refl where
   octal none other true digit =
       judge_digits Octal after (byte ∷ []) (λ e. absurd (cc)) (record { each = (digit, tt); room = omega arith }) (one_octal byte digit)
 
+  simple : (v : ℕ) → simple_byte byte ≡ Some v → (b : Bool) → (byte == question && ends_trigraph after) ≡ b → Judgement (92 ∷ byte ∷ after)
+  simple v is false none = Found (Simple byte v) after is (not_from_false _ none) refl
+  simple v is true both = Stuck Trigraph 1 (inr (byte ∷ after, refl, begun_trigraph byte after both, refl))
+
   go : (o : Option ℕ) → simple_byte byte ≡ o → Judgement (92 ∷ byte ∷ after)
-  go (Some v) is = Found (Simple byte v) after is refl refl
+  go (Some v) is = simple v is (byte == question && ends_trigraph after) refl
   go None none = elim (cases_eq byte 120) [
     | inl e ↦ judged_as _ _ (ap (λ b. 92 ∷ b ∷ after) e) (judge_digits Hexadecimal after [] (λ none rest. bare_hexadecimal rest) (none_yet Hexadecimal) (omega arith))
     | inr other ↦ octal none other (is_escape_digit Octal byte) refl
@@ -123,14 +138,7 @@ judge_escape byte after = go (simple_byte byte) refl where
 module _ (byte : ℕ) (after : Bytes) (no_quote : byte ≢ 34) (no_backslash : byte ≢ 92) where
   judge_plain : (b : Bool) → (byte == question && ends_trigraph after) ≡ b → is_line_end byte ≡ false → byte ≢ 0 → Judgement (byte ∷ after)
   judge_plain false none in_line some = Found (Plain byte) after (record { no_quote = no_quote; no_backslash = no_backslash; in_line = in_line; some = some }) (not_from_false _ none) refl
-  judge_plain true both in_line some = trigraph after (and_parts _ _ both).1 (eqb-true _ _ (and_parts _ _ both).0) where
-    trigraph : (rest : Bytes) → ends_trigraph rest ≡ true → byte ≡ 63 → Judgement (byte ∷ rest)
-    trigraph [] e is = absurd (cc)
-    trigraph (second ∷ []) e is = absurd (cc)
-    trigraph (second ∷ third ∷ rest) e is =
-        let parts = and_parts _ _ e in
-        let other = eqb-true second 63 parts.0 in
-        Stuck Trigraph 0 (third, rest, ap (λ b. b ∷ second ∷ third ∷ rest) is ∙ ap (λ b. 63 ∷ b ∷ third ∷ rest) other, parts.1, refl)
+  judge_plain true both in_line some = Stuck Trigraph 0 (inl (begun_trigraph byte after both, refl))
 
   judge_other : (b : Bool) → is_line_end byte ≡ b → Judgement (byte ∷ after)
   judge_other true e = Stuck Unterminated 0 (inl (byte, after, refl, e, refl))

@@ -46,7 +46,7 @@ token_inside-element (Plain byte) rest h stands =
     let d = ne_eqb byte 0 h.some in
     let e = not-true _ stands in
     rw (a, b, c, d, e) refl
-token_inside-element (Simple letter byte) rest h stands = rw h refl
+token_inside-element (Simple letter byte) rest h stands = let none = not-true _ stands in rw (h, none) refl
 token_inside-element (Numeric notation []) rest h stands = absurd (omega (arith, h.some))
 token_inside-element (Numeric notation (d ∷ digits)) rest h stands =
     let each = h.digits_are.each in
@@ -130,4 +130,6 @@ token_inside-stopped Unterminated rest on (inr (inr h, g)) = token_inside-begun 
 token_inside-stopped BadEscape rest on h = token_inside-no_escape rest h.0 ∙ ap (Invalid BadEscape) (sym h.1)
 token_inside-stopped EscapeTooLarge rest on h = token_inside-too_large rest h.0 ∙ ap (Invalid EscapeTooLarge) (sym h.1)
 token_inside-stopped ZeroByte rest on h = token_inside-zero rest h.0 ∙ ap (Invalid ZeroByte) (sym h.1)
-token_inside-stopped Trigraph rest on (third, after, whole, is, g) = ap token_inside whole ∙ rw is (ap (Invalid Trigraph) (sym g))
+token_inside-stopped Trigraph rest on (inl ((third, after, whole, is), g)) = ap token_inside whole ∙ rw is (ap (Invalid Trigraph) (sym g))
+token_inside-stopped Trigraph rest on (inr (trigraph, whole, (third, after, e, is), g)) =
+    ap token_inside (whole ∙ ap (λ t. 92 ∷ t) e) ∙ rw is (ap (Invalid Trigraph) (sym g))

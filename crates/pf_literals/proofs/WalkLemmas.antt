@@ -42,7 +42,7 @@ numeric_token-fits notation (byte ∷ rest) count number n h =
     (finished_numeric-fits notation count number n (omega (arith, h)))
 
 by_letter-fits : (o : Option ℕ) (byte : ℕ) (rest : Bytes) (n : ℕ) → 2 + length rest ≤ n → Fits n (escape_by_letter o byte rest)
-by_letter-fits (Some value) byte rest n h = (omega arith, omega arith)
+by_letter-fits (Some value) byte rest n h = fits-if n (byte == 63 && ends_trigraph rest) _ _ (omega (arith, h)) (omega arith, omega (arith, h))
 by_letter-fits None byte rest n h =
     fits-if n (byte == 120) _ _ (numeric_token-fits Hexadecimal rest 0 0 n (omega (arith, h))) (numeric_token-fits Octal (byte ∷ rest) 0 0 n (omega (arith, h)))
 

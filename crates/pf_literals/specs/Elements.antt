@@ -146,11 +146,16 @@ abbrev pub has_more_digits : Notation → ℕ → Bytes → Bool
 has_more_digits notation count [] = false
 has_more_digits notation count (byte ∷ rest) = not (is_full notation count) && is_escape_digit notation byte
 
+-- a byte begins no trigraph with the text after it
+abbrev pub begins_no_trigraph : ℕ → Bytes → Bool
+begins_no_trigraph byte rest = not (byte == question && ends_trigraph rest)
+
 -- An element may come before a text. A numeric one has as many digits as there are (C11 6.4.4.4
--- p7), and a `?` begins no trigraph.
+-- p7). A `?` begins no trigraph, also that of `\?`: trigraphs are replaced before escape sequences
+-- are read (C11 5.1.1.2 p1, phases 1 and 5).
 abbrev pub may_precede : Element → Bytes → Bool
-may_precede (Plain byte) rest = not (byte == question && ends_trigraph rest)
-may_precede (Simple letter byte) rest = true
+may_precede (Plain byte) rest = begins_no_trigraph byte rest
+may_precede (Simple letter byte) rest = begins_no_trigraph letter rest
 may_precede (Numeric notation digits) rest = not (has_more_digits notation (length digits) rest)
 
 -- elements one after another, and a text behind them

@@ -45,8 +45,13 @@ IsZero rest = (after : Bytes) × (
     ⊎ ((notation : Notation) × (digits : Bytes) × (digits ≢ []) × IsFinishedEscape notation digits after
     × (escape_number notation digits ≡ 0) × (rest ≡ escape notation digits ++ after)))
 
+-- a trigraph, whatever follows (C11 5.2.1.1 p1)
+abbrev pub IsTrigraph : Bytes → Type 0
+IsTrigraph rest = (third : ℕ) × (after : Bytes) × (rest ≡ question ∷ question ∷ third ∷ after) × (is_third third ≡ true)
+
 -- Why a text in a literal begins with no element, and how many bytes on that is reported: at its
--- first byte, but at the end of the text, where that ends in the literal.
+-- first byte, except that a trigraph is reported at its first `?`, which may be that of `\?`, and a
+-- text that ends in the literal at its end.
 abbrev pub IsElementFault : Bytes → LiteralKind → ℕ → Type 0
 IsElementFault rest NoLiteral on = ⊥
 IsElementFault rest Unterminated on =
@@ -55,8 +60,9 @@ IsElementFault rest Unterminated on =
 IsElementFault rest BadEscape on = IsNoEscape rest × (on ≡ 0)
 IsElementFault rest EscapeTooLarge on = IsEscapeTooLarge rest × (on ≡ 0)
 IsElementFault rest ZeroByte on = IsZero rest × (on ≡ 0)
-IsElementFault rest Trigraph on = (third : ℕ) × (after : Bytes)
-    × (rest ≡ question ∷ question ∷ third ∷ after) × (is_third third ≡ true) × (on ≡ 0)
+IsElementFault rest Trigraph on =
+    (IsTrigraph rest × (on ≡ 0))
+    ⊎ ((trigraph : Bytes) × (rest ≡ backslash ∷ trigraph) × IsTrigraph trigraph × (on ≡ 1))
 
 -- a byte outside of a literal that isn't allowed there
 abbrev pub IsStrayByte : Bytes → Type 0

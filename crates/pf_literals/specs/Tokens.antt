@@ -40,7 +40,9 @@ numeric_token notation count number (byte ∷ rest) =
 
 -- an escape sequence by its first letter, which may make a simple one
 abbrev pub escape_by_letter : Option ℕ → ℕ → Bytes → Token
-escape_by_letter (Some value) byte rest = Character value 2
+escape_by_letter (Some value) byte rest =
+    if byte == question && ends_trigraph rest then Invalid Trigraph 1 else
+    Character value 2
 escape_by_letter None byte rest =
     if byte == hexadecimal_letter then numeric_token Hexadecimal 0 0 rest else
     numeric_token Octal 0 0 (byte ∷ rest)

@@ -1,6 +1,6 @@
 //! The token at the front of a text, outside of a literal or in one.
-ghost use Rattle.std.specs.Prelude.{◌≡◌, ◌≤◌, ◌<◌, ◌∷◌, [], ◌+◌};
-ghost use Rattle.pf_literals.specs.Elements.{ends_trigraph, is_third, simple_byte};
+ghost use Rattle.std.specs.Prelude.{◌≡◌, ◌≤◌, ◌<◌, ◌∷◌, [], ◌+◌, not};
+ghost use Rattle.pf_literals.specs.Elements.{begins_no_trigraph, ends_trigraph, is_third, simple_byte};
 ghost use Rattle.pf_literals.specs.Sources.{is_white};
 ghost use Rattle.pf_literals.specs.Tokens.{numeric_at_end, escape_by_letter, escape_token, token_inside, numeric_token, token_outside, finished_numeric, token_at};
 
@@ -131,10 +131,27 @@ fn escape_token(text: &[u8]) -> Token
     match text {
         [] => Token::Invalid(LiteralKind::Unterminated, 1),
         [byte, rest @ ..] => match simple_byte(*byte) {
-            Some(value) => Token::Character(value, 2),
+            Some(value) => simple_escape(*byte, value, rest),
             None => numeric_escape(*byte, text, rest),
         },
     }
+}
+
+// A simple escape sequence, by its letter, the byte that it denotes, and what follows it.
+fn simple_escape(letter: u8, value: u8, rest: &[u8]) -> Token
+    ensures { result ≡ escape_by_letter (Some value) letter rest.now }
+{
+    if begins_trigraph(letter, rest) {
+        return Token::Invalid(LiteralKind::Trigraph, 1);
+    }
+    Token::Character(value, 2)
+}
+
+// Whether a byte begins a trigraph with the text after it.
+fn begins_trigraph(byte: u8, rest: &[u8]) -> bool
+    ensures { result ≡ not (begins_no_trigraph byte rest.now) }
+{
+    byte == b'?' && ends_trigraph(rest)
 }
 
 // The same, where the byte is no letter of a simple escape sequence.
