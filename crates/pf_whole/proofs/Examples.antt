@@ -1,0 +1,395 @@
+-- Examples of the definitions, each of which computes. docs/DEFINITIONS.md goes through them.
+use Rattle.std.proofs.Common.{◌≡◌, ℕ, zero, suc, ◌<◌, ◌≤◌, Bool, true, false, List, [], ◌∷◌, ◌++◌, codes, map, refl, sym, ap, arith}
+use Rattle.std.specs.Prelude.{Option, Some, None, decimal, flat_map}
+use Rattle.std.specs.Fmt.{digit_glyph, digits}
+use Rattle.std.specs.Int.Digits.{digits_of}
+use Rattle.std.specs.List.{AllByRecursion}
+use Rattle.pf_values.specs.declared.conversions.Conv.TheVariants as convs
+use Rattle.pf_values.specs.declared.flags.Flag.{Flag}
+use Rattle.pf_values.specs.declared.flags.Flag.TheVariants.{Minus, Plus, Space, Alt, Zero, Group}
+use Rattle.pf_values.specs.declared.lengths.Length.TheVariants as lengths
+use Rattle.pf_values.specs.declared.limits.TheConstants.{MAX_NUMBER}
+use Rattle.pf_values.specs.declared.models.Model.{Model}
+use Rattle.pf_values.specs.declared.models.Model.TheVariants.{Lp64, Ilp32, Llp64}
+use Rattle.pf_values.specs.meaning.Canonical.{AreCanonical, item_spelling}
+use Rattle.pf_values.specs.meaning.Digits.{place_sum}
+use Rattle.pf_values.specs.meaning.Flags.{flag_byte, flag_set}
+use Rattle.pf_values.specs.meaning.Items.{Byte, Reads}
+use Rattle.pf_values.specs.meaning.Text.{Text}
+use Rattle.pf_text.proofs.CanonicalRunLemmas.{byte_read}
+use Rattle.pf_text.proofs.ReadBack.{decimal_is, least_digits_are}
+use Rattle.pf_signatures.specs.declared.conversions.Conversion.{Conversion}
+use Rattle.pf_signatures.specs.declared.conversions.Conversion.TheVariants.{Profile, Float, UpperC, UpperS, Pointer, Count}
+use Rattle.pf_signatures.specs.declared.conversions.Floating.TheVariants as floats
+use Rattle.pf_signatures.specs.declared.conversions.Modifier.{Modifier}
+use Rattle.pf_signatures.specs.declared.conversions.Modifier.TheVariants.{Integer, LongDouble}
+use Rattle.pf_signatures.specs.Defined.{IsPosixDefined}
+use Rattle.pf_signatures.specs.Specifications.{Amount, Given, Fetched, PosixSpecification, conversion_letter, modifier_letters}
+use Rattle.pf_signatures.specs.Spelling.{SpellsPosixPrecision, SpellsPosixWidth}
+use Rattle.pf_whole.specs.meaning.NormalSpellings.{normal_spelling}
+use Rattle.pf_whole.specs.meaning.Opaque.{SpellsOpaque, is_opaque}
+use Rattle.pf_whole.specs.meaning.Stretches.{Stretches, Last, Before}
+use Rattle.pf_whole.specs.meaning.WholeCanonical.{IsCanonicalStretch, IsWholeCanonicalOf}
+use Rattle.pf_whole.proofs.SpecificationsOnce.{made}
+
+-- a width, and a text that spells it
+record WidthText : Type 0 where
+  amount : Option Amount
+  text : Text
+  spelled : SpellsPosixWidth text None amount
+
+abbrev no_width : WidthText
+no_width = record { amount = None; text = []; spelled = refl }
+
+abbrev star_width : WidthText
+star_width = record { amount = Some (Fetched None); text = codes "*"; spelled = record { digits = []; digits_are = refl; style = refl; whole = refl } }
+
+width_spelled : (n : ℕ) → 0 < n → n ≤ MAX_NUMBER → SpellsPosixWidth (decimal n) None (Some (Given n))
+width_spelled n some few = record { some = some; numeral = (digits_of 10 n, least_digits_are n some, decimal_is n some (omega (arith, few))); within = few }
+
+abbrev given_width : (n : ℕ) → 0 < n → n ≤ MAX_NUMBER → WidthText
+given_width n some few = record { amount = Some (Given n); text = decimal n; spelled = width_spelled n some few }
+
+-- a precision, and a text that spells it
+record PrecisionText : Type 0 where
+  amount : Option Amount
+  text : Text
+  spelled : SpellsPosixPrecision text None amount
+
+abbrev no_precision : PrecisionText
+no_precision = record { amount = None; text = []; spelled = refl }
+
+abbrev star_precision : PrecisionText
+star_precision = record { amount = Some (Fetched None); text = codes ".*"; spelled = (codes "*", star_width.spelled, refl) }
+
+-- a point and these digits
+abbrev given_precision : (ds : List ℕ) → AllByRecursion (λ d. d < 10) ds → place_sum 10 ds ≤ MAX_NUMBER → PrecisionText
+given_precision ds below few = record {
+  amount = Some (Given (place_sum 10 ds));
+  text = 46 ∷ map (digit_glyph false) ds;
+  spelled = ((ds, record { below = below; sum = refl }, refl), few);
+}
+
+-- the specification with these parts, and its text
+abbrev parts : List Flag → WidthText → PrecisionText → Modifier → Conversion → PosixSpecification
+parts flags width precision modifier conversion = made None (flag_set flags) width.amount precision.amount modifier conversion
+
+abbrev spelling : List Flag → WidthText → PrecisionText → Modifier → Conversion → Text
+spelling flags width precision modifier conversion =
+    ((37 ∷ map flag_byte flags ++ width.text) ++ precision.text) ++ modifier_letters modifier ++ conversion_letter conversion ∷ []
+
+-- an opaque directive, and its normal spelling
+record HasNormal (model : Model) (t c : Text) : Type 0 where
+  s : PosixSpecification
+  spelled : SpellsOpaque t s
+  normal : normal_spelling model s ≡ c
+
+opaque : (model : Model) (flags : List Flag) (width : WidthText) (precision : PrecisionText) (modifier : Modifier) (conversion : Conversion)
+    → IsPosixDefined (parts flags width precision modifier conversion) → is_opaque (parts flags width precision modifier conversion) ≡ true
+    → HasNormal model (spelling flags width precision modifier conversion) (normal_spelling model (parts flags width precision modifier conversion))
+opaque model flags width precision modifier conversion defined is = record {
+  s = parts flags width precision modifier conversion;
+  spelled = record {
+    spelled = record {
+      before = (37 ∷ map flag_byte flags ++ width.text) ++ precision.text;
+      before_is = record {
+        before = 37 ∷ map flag_byte flags ++ width.text;
+        text = precision.text;
+        before_is = record {
+          before = 37 ∷ map flag_byte flags;
+          text = width.text;
+          before_is = record { place = []; flags = flags; place_is = refl; set_is = refl; whole = refl };
+          width_is = width.spelled;
+          whole = refl;
+        };
+        precision_is = precision.spelled;
+        whole = refl;
+      };
+      whole = refl;
+    };
+    defined = defined;
+    unnumbered = refl;
+    opaque = is;
+  };
+  normal = refl;
+}
+
+-- a stretch of bytes is its own canonical text, where `%` is written `%%`
+abbrev written : Text → Text
+written bytes = flat_map item_spelling (map Byte bytes)
+
+abbrev no_zero : Text → Bool
+no_zero [] = true
+no_zero (zero ∷ bytes) = false
+no_zero (suc n ∷ bytes) = no_zero bytes
+
+bytes_read : (bytes : Text) → no_zero bytes ≡ true → Reads (written bytes) (map Byte bytes)
+bytes_read [] e = refl
+bytes_read (zero ∷ bytes) e = cc
+bytes_read (suc n ∷ bytes) e = (item_spelling (Byte (suc n)), written bytes, byte_read (suc n) (λ no. cc), bytes_read bytes e, refl)
+
+bytes_canonical : (model : Model) (bytes : Text) → AreCanonical model (map Byte bytes)
+bytes_canonical model [] = tt
+bytes_canonical model (byte ∷ bytes) = bytes_canonical model bytes
+
+bytes_kept : (model : Model) (bytes : Text) → no_zero bytes ≡ true → IsCanonicalStretch model (map Byte bytes) (written bytes)
+bytes_kept model bytes e = record {
+  own = map Byte bytes;
+  canonical = record { reads = bytes_read bytes e; canonical = bytes_canonical model bytes; whole = refl };
+  alike = record { same_types = refl; same_bytes = λ args out typed. (λ p. p, λ p. p) };
+}
+
+-- bytes that end a text
+ends : {model : Model} (bytes : Text) → no_zero bytes ≡ true → IsWholeCanonicalOf model (written bytes) (written bytes)
+ends {model} bytes e = record { stretches = Last (map Byte bytes); reads = bytes_read bytes e; together = bytes_kept model bytes e }
+
+-- bytes, an opaque directive, and the rest of a text
+then_on : {model : Model} {t c u d : Text} (bytes : Text) → no_zero bytes ≡ true → HasNormal model t c → IsWholeCanonicalOf model u d
+    → IsWholeCanonicalOf model ((written bytes ++ t) ++ u) ((written bytes ++ c) ++ d)
+then_on {model} {t} {c} {u} {d} bytes e directive rest = record {
+  stretches = Before (map Byte bytes) directive.s rest.stretches;
+  reads = (written bytes, t, u, bytes_read bytes e, directive.spelled, rest.reads, refl);
+  together = (written bytes, d, bytes_kept model bytes e, rest.together, ap (λ n. (written bytes ++ n) ++ d) (sym directive.normal));
+}
+
+-- `C` and `S` are `lc` and `ls`
+wide_ones : IsWholeCanonicalOf Llp64 (codes "%lc%C%ls%S") (codes "%lc%lc%ls%ls")
+unfolding digits
+wide_ones =
+    then_on [] refl (opaque Llp64 [] no_width no_precision (Integer lengths.L) (Profile convs.C) refl refl)
+    (then_on [] refl (opaque Llp64 [] no_width no_precision (Integer lengths.None) UpperC refl refl)
+    (then_on [] refl (opaque Llp64 [] no_width no_precision (Integer lengths.L) (Profile convs.S) refl refl)
+    (then_on [] refl (opaque Llp64 [] no_width no_precision (Integer lengths.None) UpperS refl refl)
+    (ends [] refl))))
+
+-- `i` becomes `d`; `0` next to a precision, `-` without a width and `+` on `u` are dropped
+stars : IsWholeCanonicalOf Lp64 (codes "%-*.3i%0*.3d%-.*u%+*u") (codes "%-*.3d%*.3d%.*u%*u")
+unfolding digits
+stars =
+    then_on [] refl
+        (opaque Lp64 (Minus ∷ []) star_width (given_precision (3 ∷ []) (omega arith, tt) (omega arith)) (Integer lengths.None) (Profile convs.I) refl refl)
+    (then_on [] refl
+        (opaque Lp64 (Zero ∷ []) star_width (given_precision (3 ∷ []) (omega arith, tt) (omega arith)) (Integer lengths.None) (Profile convs.D) refl refl)
+    (then_on [] refl (opaque Lp64 (Minus ∷ []) no_width star_precision (Integer lengths.None) (Profile convs.U) refl refl)
+    (then_on [] refl (opaque Lp64 (Plus ∷ []) star_width no_precision (Integer lengths.None) (Profile convs.U) refl refl)
+    (ends [] refl))))
+
+-- `'` is dropped
+grouped : IsWholeCanonicalOf Ilp32 (codes "%'f%'*d") (codes "%f%*d")
+unfolding digits
+grouped =
+    then_on [] refl (opaque Ilp32 (Group ∷ []) no_width no_precision (Integer lengths.None) (Float floats.F) refl refl)
+    (then_on [] refl (opaque Ilp32 (Group ∷ []) star_width no_precision (Integer lengths.None) (Profile convs.D) refl refl)
+    (ends [] refl))
+
+-- `L` is kept
+long_doubles : IsWholeCanonicalOf Llp64 (codes "%Lf%La") (codes "%Lf%La")
+unfolding digits
+long_doubles =
+    then_on [] refl (opaque Llp64 [] no_width no_precision LongDouble (Float floats.F) refl refl)
+    (then_on [] refl (opaque Llp64 [] no_width no_precision LongDouble (Float floats.A) refl refl)
+    (ends [] refl))
+
+-- the precision 0 of `g` becomes 1
+general : IsWholeCanonicalOf Lp64 (codes "a%+.g ") (codes "a%+.1g ")
+unfolding digits
+general =
+    then_on (codes "a") refl (opaque Lp64 (Plus ∷ []) no_width (given_precision [] tt (omega arith)) (Integer lengths.None) (Float floats.G) refl refl)
+    (ends (codes " ") refl)
+
+-- a precision 1 of a floating conversion is kept
+exponent : IsWholeCanonicalOf Lp64 (codes "% .1E ") (codes "% .1E ")
+unfolding digits
+exponent =
+    then_on [] refl
+        (opaque Lp64 (Space ∷ []) no_width (given_precision (1 ∷ []) (omega arith, tt) (omega arith)) (Integer lengths.None) (Float floats.UpperE) refl refl)
+    (ends (codes " ") refl)
+
+-- a point alone is the precision 0
+point_alone : IsWholeCanonicalOf Lp64 (codes " %16.Lf") (codes " %16.0Lf")
+unfolding digits
+point_alone =
+    then_on (codes " ") refl
+        (opaque Lp64 [] (given_width 16 (omega arith) (omega arith)) (given_precision [] tt (omega arith)) LongDouble (Float floats.F) refl refl)
+    (ends [] refl)
+
+-- `+` on `b` is dropped, and the precision 0 is kept
+base_two : IsWholeCanonicalOf Lp64 (codes "A%-+*.0hb!") (codes "A%-*.0hb!")
+unfolding digits
+base_two =
+    then_on (codes "A") refl
+        (opaque Lp64 (Minus ∷ Plus ∷ []) star_width (given_precision (0 ∷ []) (omega arith, tt) (omega arith)) (Integer lengths.H) (Profile convs.B) refl refl)
+    (ends (codes "!") refl)
+
+-- a precision `*` is no width
+precision_star : IsWholeCanonicalOf Ilp32 (codes "%+-.*u!") (codes "%.*u!")
+unfolding digits
+precision_star =
+    then_on [] refl (opaque Ilp32 (Plus ∷ Minus ∷ []) no_width star_precision (Integer lengths.None) (Profile convs.U) refl refl)
+    (ends (codes "!") refl)
+
+-- `-` and `0` without a width, and `l` on a floating conversion, are dropped
+no_field : IsWholeCanonicalOf Lp64 (codes "%%%-0lf") (codes "%%%f")
+unfolding digits
+no_field =
+    then_on (codes "%") refl (opaque Lp64 (Minus ∷ Zero ∷ []) no_width no_precision (Integer lengths.L) (Float floats.F) refl refl)
+    (ends [] refl)
+
+-- `a` has no default precision
+hexadecimal : IsWholeCanonicalOf Ilp32 (codes "%.6La!") (codes "%.6La!")
+unfolding digits
+hexadecimal =
+    then_on [] refl (opaque Ilp32 [] no_width (given_precision (6 ∷ []) (omega arith, tt) (omega arith)) LongDouble (Float floats.A) refl refl)
+    (ends (codes "!") refl)
+
+-- each flag is written once
+flags_once : IsWholeCanonicalOf Llp64 (codes "0%##G") (codes "0%#G")
+unfolding digits
+flags_once =
+    then_on (codes "0") refl (opaque Llp64 (Alt ∷ Alt ∷ []) no_width no_precision (Integer lengths.None) (Float floats.UpperG) refl refl)
+    (ends [] refl)
+
+-- `0` on a floating conversion stays next to a precision
+filled : IsWholeCanonicalOf Lp64 (codes "x y%.6A0%09.0g") (codes "x y%.6A0%09.1g")
+unfolding digits
+filled =
+    then_on (codes "x y") refl
+        (opaque Lp64 [] no_width (given_precision (6 ∷ []) (omega arith, tt) (omega arith)) (Integer lengths.None) (Float floats.UpperA) refl refl)
+    (then_on (codes "0") refl
+        (opaque Lp64 (Zero ∷ []) (given_width 9 (omega arith) (omega arith)) (given_precision (0 ∷ []) (omega arith, tt) (omega arith)) (Integer lengths.None) (Float floats.G) refl refl)
+    (ends [] refl))
+
+-- the largest width
+widest : IsWholeCanonicalOf Ilp32 (codes "%%%'4095gA%#lf") (codes "%%%4095gA%#f")
+unfolding digits
+widest =
+    then_on (codes "%") refl
+        (opaque Ilp32 (Group ∷ []) (given_width 4095 (omega arith) (omega arith)) no_precision (Integer lengths.None) (Float floats.G) refl refl)
+    (then_on (codes "A") refl (opaque Ilp32 (Alt ∷ []) no_width no_precision (Integer lengths.L) (Float floats.F) refl refl)
+    (ends [] refl))
+
+-- flags in the one order
+exponents : IsWholeCanonicalOf Lp64 (codes "%++*.1A!") (codes "%+*.1A!")
+unfolding digits
+exponents =
+    then_on [] refl
+        (opaque Lp64 (Plus ∷ Plus ∷ []) star_width (given_precision (1 ∷ []) (omega arith, tt) (omega arith)) (Integer lengths.None) (Float floats.UpperA) refl refl)
+    (ends (codes "!") refl)
+
+-- on an integer the precision 0 is kept
+pairs : IsWholeCanonicalOf Lp64 (codes "%*.lia") (codes "%*.0lda")
+unfolding digits
+pairs =
+    then_on [] refl (opaque Lp64 [] star_width (given_precision [] tt (omega arith)) (Integer lengths.L) (Profile convs.I) refl refl)
+    (ends (codes "a") refl)
+
+-- the precision 6 of `f` is dropped
+default_of_six : IsWholeCanonicalOf Lp64 (codes "%-08.6lf (") (codes "%-8f (")
+unfolding digits
+default_of_six =
+    then_on [] refl
+        (opaque Lp64 (Minus ∷ Zero ∷ []) (given_width 8 (omega arith) (omega arith)) (given_precision (6 ∷ []) (omega arith, tt) (omega arith)) (Integer lengths.L) (Float floats.F) refl refl)
+    (ends (codes " (") refl)
+
+-- the precision 1 of an integer is dropped
+default_of_one : IsWholeCanonicalOf Lp64 (codes "%*.1tX!") (codes "%*lX!")
+unfolding digits
+default_of_one =
+    then_on [] refl (opaque Lp64 [] star_width (given_precision (1 ∷ []) (omega arith, tt) (omega arith)) (Integer lengths.T) (Profile convs.UpperX) refl refl)
+    (ends (codes "!") refl)
+
+-- `t` in ILP32
+sizes_in_ilp32 : IsWholeCanonicalOf Ilp32 (codes "%*.1tX!") (codes "%*X!")
+unfolding digits
+sizes_in_ilp32 =
+    then_on [] refl (opaque Ilp32 [] star_width (given_precision (1 ∷ []) (omega arith, tt) (omega arith)) (Integer lengths.T) (Profile convs.UpperX) refl refl)
+    (ends (codes "!") refl)
+
+-- `n` in each data model
+counts_in_lp64 : IsWholeCanonicalOf Lp64 (codes "%zn") (codes "%ln")
+unfolding digits
+counts_in_lp64 =
+    then_on [] refl (opaque Lp64 [] no_width no_precision (Integer lengths.Z) Count refl refl)
+    (ends [] refl)
+
+counts_in_ilp32 : IsWholeCanonicalOf Ilp32 (codes "%zn") (codes "%n")
+unfolding digits
+counts_in_ilp32 =
+    then_on [] refl (opaque Ilp32 [] no_width no_precision (Integer lengths.Z) Count refl refl)
+    (ends [] refl)
+
+counts_in_llp64 : IsWholeCanonicalOf Llp64 (codes "%zn") (codes "%lln")
+unfolding digits
+counts_in_llp64 =
+    then_on [] refl (opaque Llp64 [] no_width no_precision (Integer lengths.Z) Count refl refl)
+    (ends [] refl)
+
+-- `j` in LLP64
+greatest_in_llp64 : IsWholeCanonicalOf Llp64 (codes "%*jd") (codes "%*lld")
+unfolding digits
+greatest_in_llp64 =
+    then_on [] refl (opaque Llp64 [] star_width no_precision (Integer lengths.J) (Profile convs.D) refl refl)
+    (ends [] refl)
+
+-- `0` next to a precision 1 is dropped, although the precision is, too
+star_of_j : IsWholeCanonicalOf Lp64 (codes "x%0*.1jo!") (codes "x%*lo!")
+unfolding digits
+star_of_j =
+    then_on (codes "x") refl
+        (opaque Lp64 (Zero ∷ []) star_width (given_precision (1 ∷ []) (omega arith, tt) (omega arith)) (Integer lengths.J) (Profile convs.O) refl refl)
+    (ends (codes "!") refl)
+
+-- leading zeros of a precision
+leading_zero : IsWholeCanonicalOf Lp64 (codes "%5.06E") (codes "%5E")
+unfolding digits
+leading_zero =
+    then_on [] refl
+        (opaque Lp64 [] (given_width 5 (omega arith) (omega arith)) (given_precision (0 ∷ 6 ∷ []) (omega arith, (omega arith, tt)) (omega arith)) (Integer lengths.None) (Float floats.UpperE) refl refl)
+    (ends [] refl)
+
+-- `+` stays on `p`, and a space next to it is dropped
+pointer : IsWholeCanonicalOf Lp64 (codes "%+ -5p") (codes "%-+5p")
+unfolding digits
+pointer =
+    then_on [] refl (opaque Lp64 (Plus ∷ Space ∷ Minus ∷ []) (given_width 5 (omega arith) (omega arith)) no_precision (Integer lengths.None) Pointer refl refl)
+    (ends [] refl)
+
+bare_pointer : IsWholeCanonicalOf Lp64 (codes "% p") (codes "% p")
+unfolding digits
+bare_pointer =
+    then_on [] refl (opaque Lp64 (Space ∷ []) no_width no_precision (Integer lengths.None) Pointer refl refl)
+    (ends [] refl)
+
+-- nothing else changes: `%1f` is not `%f`
+width_one : IsWholeCanonicalOf Lp64 (codes "%1f") (codes "%1f")
+unfolding digits
+width_one =
+    then_on [] refl (opaque Lp64 [] (given_width 1 (omega arith) (omega arith)) no_precision (Integer lengths.None) (Float floats.F) refl refl)
+    (ends [] refl)
+
+no_width_f : IsWholeCanonicalOf Lp64 (codes "%f") (codes "%f")
+unfolding digits
+no_width_f =
+    then_on [] refl (opaque Lp64 [] no_width no_precision (Integer lengths.None) (Float floats.F) refl refl)
+    (ends [] refl)
+
+-- nor is `%-*.0s` the same as `%*.0s`
+left_nothing : IsWholeCanonicalOf Lp64 (codes "%-*.0s") (codes "%-*.0s")
+unfolding digits
+left_nothing =
+    then_on [] refl
+        (opaque Lp64 (Minus ∷ []) star_width (given_precision (0 ∷ []) (omega arith, tt) (omega arith)) (Integer lengths.None) (Profile convs.S) refl refl)
+    (ends [] refl)
+
+nothing : IsWholeCanonicalOf Lp64 (codes "%*.0s") (codes "%*.0s")
+unfolding digits
+nothing =
+    then_on [] refl (opaque Lp64 [] star_width (given_precision (0 ∷ []) (omega arith, tt) (omega arith)) (Integer lengths.None) (Profile convs.S) refl refl)
+    (ends [] refl)
+
+-- `0` stays next to a precision `*`, which may be negative
+zero_kept : IsWholeCanonicalOf Lp64 (codes "%0*.*d") (codes "%0*.*d")
+unfolding digits
+zero_kept =
+    then_on [] refl (opaque Lp64 (Zero ∷ []) star_width star_precision (Integer lengths.None) (Profile convs.D) refl refl)
+    (ends [] refl)
