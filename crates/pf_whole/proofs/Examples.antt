@@ -1,6 +1,6 @@
 -- Examples of the definitions, each of which computes. docs/DEFINITIONS.md goes through them.
-use Rattle.std.proofs.Common.{◌≡◌, ℕ, zero, suc, ◌<◌, ◌≤◌, Bool, true, false, List, [], ◌∷◌, ◌++◌, codes, map, refl, sym, ap, arith}
-use Rattle.std.specs.Prelude.{Option, Some, None, decimal, flat_map}
+use Rattle.std.proofs.Common.{◌≡◌, ℕ, zero, suc, ◌<◌, ◌≤◌, Bool, true, false, List, [], ◌∷◌, ◌++◌, codes, length, map, refl, sym, ap, ◌∙◌, arith, inl, inr, subst}
+use Rattle.std.specs.Prelude.{Option, Some, None, ◌==◌, if◌then◌else◌, decimal, flat_map}
 use Rattle.std.specs.Fmt.{digit_glyph, digits}
 use Rattle.std.specs.Int.Digits.{digits_of}
 use Rattle.std.specs.List.{AllByRecursion}
@@ -18,6 +18,7 @@ use Rattle.pf_values.specs.meaning.Items.{Byte, Reads}
 use Rattle.pf_values.specs.meaning.Text.{Text}
 use Rattle.pf_text.proofs.CanonicalRunLemmas.{byte_read}
 use Rattle.pf_text.proofs.ReadBack.{decimal_is, least_digits_are}
+use Rattle.pf_compare.proofs.ReductionLemmas.{bytes_canonical}
 use Rattle.pf_signatures.specs.declared.conversions.Conversion.{Conversion}
 use Rattle.pf_signatures.specs.declared.conversions.Conversion.TheVariants.{Profile, Float, UpperC, UpperS, Pointer, Count}
 use Rattle.pf_signatures.specs.declared.conversions.Floating.TheVariants as floats
@@ -26,10 +27,23 @@ use Rattle.pf_signatures.specs.declared.conversions.Modifier.TheVariants.{Intege
 use Rattle.pf_signatures.specs.Defined.{IsPosixDefined}
 use Rattle.pf_signatures.specs.Specifications.{Amount, Given, Fetched, PosixSpecification, conversion_letter, modifier_letters}
 use Rattle.pf_signatures.specs.Spelling.{SpellsPosixPrecision, SpellsPosixWidth}
+use Rattle.pf_signatures.specs.declared.refusals.SignatureRefusalKind.{SignatureRefusalKind}
+use Rattle.pf_signatures.specs.declared.refusals.SignatureRefusalKind.TheVariants.{Unexpected, LengthUndefined, GroupUndefined, Mixed}
+use Rattle.pf_signatures.specs.declared.types.ArgumentType.TheVariants.{Int, Double, WideString, PointerToLong}
+use Rattle.pf_signatures.specs.Readings.{Refused, Takes, Verdict, verdict}
+use Rattle.pf_signatures.specs.Refusals.{IsPosixRefusedAt}
+use Rattle.pf_signatures.proofs.Following.{IsSaid, said}
+use Rattle.pf_signatures.proofs.Soundness.{Tells, told}
+use Rattle.pf_signatures.proofs.Unique.{one_refusal}
+use Rattle.pf_whole.specs.Answers.{IsNumberedAt, IsWholeRefusedAt}
+use Rattle.pf_whole.specs.Laws.{placed_calls}
 use Rattle.pf_whole.specs.meaning.NormalSpellings.{normal_spelling}
 use Rattle.pf_whole.specs.meaning.Opaque.{SpellsOpaque, is_opaque}
-use Rattle.pf_whole.specs.meaning.Stretches.{Stretches, Last, Before}
+use Rattle.pf_whole.specs.meaning.Stretches.{Last, Before, whole_types}
+use Rattle.pf_whole.specs.meaning.Traces.{AreWholeAlike}
 use Rattle.pf_whole.specs.meaning.WholeCanonical.{IsCanonicalStretch, IsWholeCanonicalOf}
+use Rattle.pf_whole.proofs.Completeness.{alike_have_one_canonical}
+use Rattle.pf_whole.proofs.OneCanonical.{one_canonical_is_alike}
 use Rattle.pf_whole.proofs.SpecificationsOnce.{made}
 
 -- a width, and a text that spells it
@@ -127,10 +141,6 @@ bytes_read : (bytes : Text) → no_zero bytes ≡ true → Reads (written bytes)
 bytes_read [] e = refl
 bytes_read (zero ∷ bytes) e = cc
 bytes_read (suc n ∷ bytes) e = (item_spelling (Byte (suc n)), written bytes, byte_read (suc n) (λ no. cc), bytes_read bytes e, refl)
-
-bytes_canonical : (model : Model) (bytes : Text) → AreCanonical model (map Byte bytes)
-bytes_canonical model [] = tt
-bytes_canonical model (byte ∷ bytes) = bytes_canonical model bytes
 
 bytes_kept : (model : Model) (bytes : Text) → no_zero bytes ≡ true → IsCanonicalStretch model (map Byte bytes) (written bytes)
 bytes_kept model bytes e = record {
@@ -393,3 +403,137 @@ unfolding digits
 zero_kept =
     then_on [] refl (opaque Lp64 (Zero ∷ []) star_width star_precision (Integer lengths.None) (Profile convs.D) refl refl)
     (ends [] refl)
+
+-- `%*tX!` and `%*.1tX!` are alike: they have one canonical text
+shorter : IsWholeCanonicalOf Lp64 (codes "%*tX!") (codes "%*lX!")
+unfolding digits
+shorter =
+    then_on [] refl (opaque Lp64 [] star_width no_precision (Integer lengths.T) (Profile convs.UpperX) refl refl)
+    (ends (codes "!") refl)
+
+same_default : AreWholeAlike Lp64 (codes "%*tX!") (codes "%*.1tX!")
+same_default = one_canonical_is_alike Lp64 (codes "%*tX!") (codes "%*.1tX!") (codes "%*lX!") shorter default_of_one
+
+-- `%1f` and `%f` aren't
+not_alike : AreWholeAlike Lp64 (codes "%1f") (codes "%f") → ⊥
+not_alike h =
+    let same : codes "%1f" ≡ codes "%f" = alike_have_one_canonical Lp64 (codes "%1f") (codes "%f") (codes "%1f") (codes "%f") h width_one no_width_f in
+    omega (arith, ap length same)
+
+-- the types of `%*.*f`, `%ls` and `%zn`, in order
+types_in_order : whole_types Lp64 (Before [] (parts [] star_width star_precision (Integer lengths.None) (Float floats.F))
+    (Before [] (parts [] no_width no_precision (Integer lengths.L) (Profile convs.S))
+    (Before [] (parts [] no_width no_precision (Integer lengths.Z) Count) (Last [])))) ≡ Int ∷ Int ∷ Double ∷ WideString ∷ PointerToLong ∷ []
+types_in_order = refl
+
+-- the calls of `%*f%p`: that of `%p` begins with the argument of index 2
+calls_in_order : placed_calls Lp64 0 (Before [] (parts [] star_width no_precision (Integer lengths.None) (Float floats.F))
+    (Before [] (parts [] no_width no_precision (Integer lengths.None) Pointer) (Last [])))
+    ≡ record { index = 0; spelling = codes "%*f" } ∷ record { index = 2; spelling = codes "%p" } ∷ []
+calls_in_order = refl
+
+-- how many bytes come before the first `$`
+abbrev before_dollar : Text → ℕ
+before_dollar [] = 0
+before_dollar (byte ∷ t) = if byte == 36 then 0 else suc (before_dollar t)
+
+dollar_behind : (front rest : Text) → before_dollar (front ++ 36 ∷ rest) ≤ length front
+dollar_behind [] rest = omega arith
+dollar_behind (byte ∷ front) rest = go (byte == 36) (dollar_behind front rest) where
+  go : (b : Bool) → before_dollar (front ++ 36 ∷ rest) ≤ length front → (if b then 0 else suc (before_dollar (front ++ 36 ∷ rest))) ≤ length (byte ∷ front)
+  go true h = omega arith
+  go false h = omega (arith, h)
+
+-- a text is refused as by `pf_signatures`, where no `$` comes before
+refused : (model : Model) (t : Text) (kind : SignatureRefusalKind) (at : ℕ) → verdict model t ≡ Refused kind at → at < before_dollar t → IsWholeRefusedAt model t (Some kind) at
+refused model t kind at e first = (
+  subst (Tells model t) e (told model t),
+  λ place h.
+      let behind = dollar_behind (h.whole ++ 37 ∷ h.digits) h.rest in
+      omega (arith, first, subst (λ u. before_dollar u ≤ length (h.whole ++ 37 ∷ h.digits)) (sym h.split) behind, h.place),
+)
+
+-- and at the `$`, if that comes no later than what `pf_signatures` refuses, or than the end
+abbrev refused_no_earlier : Verdict → Text → ℕ → Type 0
+refused_no_earlier (Takes fs) t at = at ≤ length t
+refused_no_earlier (Refused kind place) t at = at ≤ place
+
+numbered : (model : Model) (t : Text) (at : ℕ) → IsNumberedAt t at → refused_no_earlier (verdict model t) t at → IsWholeRefusedAt model t None at
+numbered model t at h first = (h, λ kind place refusal. go kind place refusal (verdict model t) refl first) where
+  go : (kind : SignatureRefusalKind) (place : ℕ) → IsPosixRefusedAt model t kind place → (v : Verdict) → verdict model t ≡ v → refused_no_earlier v t at → ¬ (place < at)
+  go kind place refusal (Takes fs) e few = λ less. elim (said model t kind place refusal) [
+    | inl f ↦ let no : Takes fs ≡ Refused kind place = sym e ∙ f in cc
+    | inr f ↦ omega (arith, f.1, few, less)
+  ]
+  go kind place refusal (Refused other q) e few = λ less.
+      let same = (one_refusal model t other kind q place (subst (Tells model t) e (told model t)) refusal).1 in
+      omega (arith, same, few, less)
+
+-- `l` with `C`, and after directives that are accepted
+long_wide : (model : Model) → IsWholeRefusedAt model (codes "%lC") (Some LengthUndefined) 2
+long_wide model = refused model _ LengthUndefined 2 refl (omega arith)
+
+long_wide_later : (model : Model) → IsWholeRefusedAt model (codes "%-*.3i%0*.3d%+*u%lC") (Some LengthUndefined) 18
+long_wide_later model = refused model _ LengthUndefined 18 refl (omega arith)
+
+-- a digit after `*`, a second point, `'` with `e`
+mixed : (model : Model) → IsWholeRefusedAt model (codes "%*1$d") (Some Mixed) 2
+mixed model = refused model _ Mixed 2 refl (omega arith)
+
+two_points : (model : Model) → IsWholeRefusedAt model (codes "%b%0*..4095jfx y%c%.*LG") (Some Unexpected) 6
+two_points model = refused model _ Unexpected 6 refl (omega arith)
+
+grouped_exponent : (model : Model) → IsWholeRefusedAt model (codes "*x y%'#*.6ze") (Some GroupUndefined) 11
+grouped_exponent model = refused model _ GroupUndefined 11 refl (omega arith)
+
+-- `$` after a number: in a text that `pf_signatures` accepts, in one that ends, after the largest number
+one_numbered : IsNumberedAt (codes "%1$d") 2
+unfolding digits
+one_numbered = record {
+  whole = [];
+  digits = codes "1";
+  rest = codes "d";
+  items = [];
+  n = 1;
+  reads = refl;
+  unnumbered = tt;
+  number = width_spelled 1 (omega arith) (omega arith);
+  split = refl;
+  place = refl;
+  limit = omega arith;
+}
+
+numbered_alone : (model : Model) → IsWholeRefusedAt model (codes "%1$d") None 2
+numbered_alone model = numbered model _ 2 one_numbered (omega arith)
+
+numbered_at_the_end : (model : Model) → IsWholeRefusedAt model (codes "%1$") None 2
+unfolding digits
+numbered_at_the_end model = numbered model _ 2 (record {
+  whole = [];
+  digits = codes "1";
+  rest = [];
+  items = [];
+  n = 1;
+  reads = refl;
+  unnumbered = tt;
+  number = width_spelled 1 (omega arith) (omega arith);
+  split = refl;
+  place = refl;
+  limit = omega arith;
+}) (omega arith)
+
+largest_numbered : (model : Model) → IsWholeRefusedAt model (codes "%4095$d") None 5
+unfolding digits
+largest_numbered model = numbered model _ 5 (record {
+  whole = [];
+  digits = codes "4095";
+  rest = codes "d";
+  items = [];
+  n = 4095;
+  reads = refl;
+  unnumbered = tt;
+  number = width_spelled 4095 (omega arith) (omega arith);
+  split = refl;
+  place = refl;
+  limit = omega arith;
+}) (omega arith)

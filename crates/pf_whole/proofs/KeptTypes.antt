@@ -11,6 +11,7 @@ use Rattle.pf_signatures.specs.Specifications.{Amount, Given, Fetched, PosixSpec
 use Rattle.pf_signatures.specs.Spelling.{SpellsPosixPrecision, SpellsPosixWidth}
 use Rattle.pf_signatures.specs.Types.{conversion_type, fetch, fetches, star_fetches, widened}
 use Rattle.pf_signatures.proofs.Bounds.{all_append}
+use Rattle.pf_signatures.proofs.Soundness.{fetched_append}
 use Rattle.pf_signatures.proofs.Profile.{fetched_here, item_of, none_numbered, reads_here, wanted_here}
 use Rattle.pf_whole.specs.Laws.{IsUnnumbered, TypesAreKept}
 use Rattle.pf_whole.specs.meaning.Stretches.{Stretches, Last, Before, ReadsWhole, whole_types}
@@ -38,18 +39,13 @@ pub unnumbered : (t : Text) (a : Stretches) → ReadsWhole t a → AllByRecursio
 unnumbered t (Last items) h = items_unnumbered items
 unnumbered t (Before items s rest) h = all_append IsUnnumbered (map item_of items) (Specification s ∷ flat rest) (items_unnumbered items) (h.4.unnumbered, unnumbered h.2 rest h.5)
 
-fetched-append : (model : Model) (a b : List PosixItem) → fetched model (a ++ b) ≡ fetched model a ++ fetched model b
-fetched-append model [] b = refl
-fetched-append model (PosixByte byte ∷ a) b = fetched-append model a b
-fetched-append model (Specification s ∷ a) b = ap (λ l. fetches model s ++ l) (fetched-append model a b) ∙ sym (append_assoc (fetches model s) (fetched model a) (fetched model b))
-
 wanted_items : (model : Model) (t : Text) (items : List Item) → Reads t items → map (λ f. f.wanted) (fetched model (map item_of items)) ≡ map widened (types model items)
 wanted_items model t items h = ap (map (λ f. f.wanted)) (fetched_here model t items h) ∙ sym (wanted_here widened (types model items))
 
 wanted : (model : Model) (t : Text) (a : Stretches) → ReadsWhole t a → map (λ f. f.wanted) (fetched model (flat a)) ≡ whole_types model a
 wanted model t (Last items) h = wanted_items model t items h
 wanted model t (Before items s rest) h =
-    ap (map (λ f. f.wanted)) (fetched-append model (map item_of items) (Specification s ∷ flat rest))
+    ap (map (λ f. f.wanted)) (fetched_append model (map item_of items) (Specification s ∷ flat rest))
     ∙ map-append (λ f. f.wanted) (fetched model (map item_of items)) (fetches model s ++ fetched model (flat rest))
     ∙ ap₂ (λ x y. x ++ y) (wanted_items model h.0 items h.3)
     (map-append (λ f. f.wanted) (fetches model s) (fetched model (flat rest)) ∙ ap (λ l. types_of_opaque model s ++ l) (wanted model h.2 rest h.5))
@@ -74,7 +70,7 @@ own_unnumbered model t s h =
 fetched_unnumbered : (model : Model) (t : Text) (a : Stretches) → ReadsWhole t a → AllByRecursion (λ f. f.number ≡ None) (fetched model (flat a))
 fetched_unnumbered model t (Last items) h = subst (AllByRecursion (λ f. f.number ≡ None)) (sym (fetched_here model t items h)) (none_numbered widened (types model items))
 fetched_unnumbered model t (Before items s rest) h =
-    subst (AllByRecursion (λ f. f.number ≡ None)) (sym (fetched-append model (map item_of items) (Specification s ∷ flat rest)))
+    subst (AllByRecursion (λ f. f.number ≡ None)) (sym (fetched_append model (map item_of items) (Specification s ∷ flat rest)))
     (all_append (λ f. f.number ≡ None) (fetched model (map item_of items)) (fetches model s ++ fetched model (flat rest))
     (subst (AllByRecursion (λ f. f.number ≡ None)) (sym (fetched_here model h.0 items h.3)) (none_numbered widened (types model items)))
     (all_append (λ f. f.number ≡ None) (fetches model s) (fetched model (flat rest)) (own_unnumbered model h.1 s h.4) (fetched_unnumbered model h.2 rest h.5)))
