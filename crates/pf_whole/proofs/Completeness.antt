@@ -25,7 +25,8 @@ canonical_of model t c items reads h = record {
   equivalent = record { first = items; second = h.own; reads_first = reads; reads_second = h.canonical.reads; alike = h.alike };
 }
 
-one_stretch : (model : Model) (t u c d : Text) (a b : List Item) → Reads t a → Reads u b → PrintAlike model a b → IsCanonicalStretch model a c → IsCanonicalStretch model b d → c ≡ d
+one_stretch : (model : Model) (t u c d : Text) (a b : List Item) → Reads t a → Reads u b → PrintAlike model a b → IsCanonicalStretch model a c
+    → IsCanonicalStretch model b d → c ≡ d
 one_stretch model t u c d a b h g alike x y =
     equivalent_formats_one model t u c d
     (record { first = a; second = b; reads_first = h; reads_second = g; alike = alike })
@@ -43,10 +44,12 @@ no_call model items own p more h =
       go args (Ends text) x y = y
       go args (Calls text call rest) x y = x
 
-complete : (model : Model) (t u c d : Text) (a b : Stretches) → ReadsWhole t a → ReadsWhole u b → TraceAlike model a b → IsPutTogether model a c → IsPutTogether model b d → c ≡ d
+complete : (model : Model) (t u c d : Text) (a b : Stretches) → ReadsWhole t a → ReadsWhole u b → TraceAlike model a b → IsPutTogether model a c
+    → IsPutTogether model b d → c ≡ d
 complete model t u c d (Last items) (Last own) h g alike x y = one_stretch model t u c d items own h g (alike_last model items own alike) x y
 complete model t u c d (Last items) (Before own p more) h g alike x y = absurd (no_call model items own p more alike)
-complete model t u c d (Before items s rest) (Last own) h g alike x y = absurd (no_call model own items s rest (trace_sym model (Before items s rest) (Last own) alike))
+complete model t u c d (Before items s rest) (Last own) h g alike x y = absurd
+    (no_call model own items s rest (trace_sym model (Before items s rest) (Last own) alike))
 complete model t u c d (Before items s rest) (Before own p more) h g alike x y =
     let first = one_stretch model h.0 g.0 x.0 y.0 items own h.3 g.3 (stretches_alike model h.1 g.1 items own s p rest more h.4 g.4 alike) x.2 y.2 in
     let spelling = one_spelling model h.1 g.1 items own s p rest more h.4 g.4 alike in

@@ -45,7 +45,8 @@ alike_is_corresponding model t u a b h g = (
 )
 
 -- corresponding stretches have the same calls
-calls_same : (model : Model) (index : ℕ) (t u : Text) (a b : Stretches) → ReadsWhole t a → ReadsWhole u b → Correspond model a b → placed_calls model index a ≡ placed_calls model index b
+calls_same : (model : Model) (index : ℕ) (t u : Text) (a b : Stretches) → ReadsWhole t a → ReadsWhole u b → Correspond model a b
+    → placed_calls model index a ≡ placed_calls model index b
 calls_same model index t u (Last items) (Last own) h g same = refl
 calls_same model index t u (Last items) (Before own p more) h g same = absurd same
 calls_same model index t u (Before items s rest) (Last own) h g same = absurd same
@@ -53,7 +54,8 @@ calls_same model index t u (Before items s rest) (Before own p more) h g same =
     let first = ap length same.0.same_types in
     let mine = ap length (spelling_types model h.1 g.1 s p h.4 g.4 same.1) in
     let rests = calls_same model (index + length (types model items) + length (types_of_opaque model s)) h.2 g.2 rest more h.5 g.5 same.2 in
-    let next : index + length (types model items) + length (types_of_opaque model s) ≡ index + length (types model own) + length (types_of_opaque model p) = ap₂ (λ m n. index + m + n) first mine in
+    let next : index + length (types model items) + length (types_of_opaque model s)
+    ≡ index + length (types model own) + length (types_of_opaque model p) = ap₂ (λ m n. index + m + n) first mine in
     ap₂ (λ c l. c ∷ l) (placed index _ _ _ _ first same.1) (rests ∙ ap (λ k. placed_calls model k more) next)
   where
     placed : (index m n : ℕ) (x y : Text) → m ≡ n → x ≡ y → placed_call (index + m) x ≡ placed_call (index + n) y

@@ -11,7 +11,7 @@ use Rattle.pf_values.specs.declared.lengths.Length.TheVariants as lengths
 use Rattle.pf_values.specs.declared.limits.TheConstants.{MAX_NUMBER}
 use Rattle.pf_values.specs.declared.models.Model.{Model}
 use Rattle.pf_values.specs.declared.models.Model.TheVariants.{Lp64, Ilp32, Llp64}
-use Rattle.pf_values.specs.meaning.Canonical.{AreCanonical, item_spelling}
+use Rattle.pf_values.specs.meaning.Canonical.{item_spelling}
 use Rattle.pf_values.specs.meaning.Digits.{place_sum}
 use Rattle.pf_values.specs.meaning.Flags.{flag_byte, flag_set}
 use Rattle.pf_values.specs.meaning.Items.{Byte, Reads}
@@ -32,7 +32,7 @@ use Rattle.pf_signatures.specs.declared.refusals.SignatureRefusalKind.TheVariant
 use Rattle.pf_signatures.specs.declared.types.ArgumentType.TheVariants.{Int, Double, WideString, PointerToLong}
 use Rattle.pf_signatures.specs.Readings.{Refused, Takes, Verdict, verdict}
 use Rattle.pf_signatures.specs.Refusals.{IsPosixRefusedAt}
-use Rattle.pf_signatures.proofs.Following.{IsSaid, said}
+use Rattle.pf_signatures.proofs.Following.{said}
 use Rattle.pf_signatures.proofs.Soundness.{Tells, told}
 use Rattle.pf_signatures.proofs.Unique.{one_refusal}
 use Rattle.pf_whole.specs.Answers.{IsNumberedAt, IsWholeRefusedAt}
@@ -177,9 +177,9 @@ stars : IsWholeCanonicalOf Lp64 (codes "%-*.3i%0*.3d%-.*u%+*u") (codes "%-*.3d%*
 unfolding digits
 stars =
     then_on [] refl
-        (opaque Lp64 (Minus ∷ []) star_width (given_precision (3 ∷ []) (omega arith, tt) (omega arith)) (Integer lengths.None) (Profile convs.I) refl refl)
+    (opaque Lp64 (Minus ∷ []) star_width (given_precision (3 ∷ []) (omega arith, tt) (omega arith)) (Integer lengths.None) (Profile convs.I) refl refl)
     (then_on [] refl
-        (opaque Lp64 (Zero ∷ []) star_width (given_precision (3 ∷ []) (omega arith, tt) (omega arith)) (Integer lengths.None) (Profile convs.D) refl refl)
+    (opaque Lp64 (Zero ∷ []) star_width (given_precision (3 ∷ []) (omega arith, tt) (omega arith)) (Integer lengths.None) (Profile convs.D) refl refl)
     (then_on [] refl (opaque Lp64 (Minus ∷ []) no_width star_precision (Integer lengths.None) (Profile convs.U) refl refl)
     (then_on [] refl (opaque Lp64 (Plus ∷ []) star_width no_precision (Integer lengths.None) (Profile convs.U) refl refl)
     (ends [] refl))))
@@ -212,7 +212,7 @@ exponent : IsWholeCanonicalOf Lp64 (codes "% .1E ") (codes "% .1E ")
 unfolding digits
 exponent =
     then_on [] refl
-        (opaque Lp64 (Space ∷ []) no_width (given_precision (1 ∷ []) (omega arith, tt) (omega arith)) (Integer lengths.None) (Float floats.UpperE) refl refl)
+    (opaque Lp64 (Space ∷ []) no_width (given_precision (1 ∷ []) (omega arith, tt) (omega arith)) (Integer lengths.None) (Float floats.UpperE) refl refl)
     (ends (codes " ") refl)
 
 -- a point alone is the precision 0
@@ -220,7 +220,7 @@ point_alone : IsWholeCanonicalOf Lp64 (codes " %16.Lf") (codes " %16.0Lf")
 unfolding digits
 point_alone =
     then_on (codes " ") refl
-        (opaque Lp64 [] (given_width 16 (omega arith) (omega arith)) (given_precision [] tt (omega arith)) LongDouble (Float floats.F) refl refl)
+    (opaque Lp64 [] (given_width 16 (omega arith) (omega arith)) (given_precision [] tt (omega arith)) LongDouble (Float floats.F) refl refl)
     (ends [] refl)
 
 -- `+` on `b` is dropped, and the precision 0 is kept
@@ -228,7 +228,7 @@ base_two : IsWholeCanonicalOf Lp64 (codes "A%-+*.0hb!") (codes "A%-*.0hb!")
 unfolding digits
 base_two =
     then_on (codes "A") refl
-        (opaque Lp64 (Minus ∷ Plus ∷ []) star_width (given_precision (0 ∷ []) (omega arith, tt) (omega arith)) (Integer lengths.H) (Profile convs.B) refl refl)
+    (opaque Lp64 (Minus ∷ Plus ∷ []) star_width (given_precision (0 ∷ []) (omega arith, tt) (omega arith)) (Integer lengths.H) (Profile convs.B) refl refl)
     (ends (codes "!") refl)
 
 -- a precision `*` is no width
@@ -264,9 +264,10 @@ filled : IsWholeCanonicalOf Lp64 (codes "x y%.6A0%09.0g") (codes "x y%.6A0%09.1g
 unfolding digits
 filled =
     then_on (codes "x y") refl
-        (opaque Lp64 [] no_width (given_precision (6 ∷ []) (omega arith, tt) (omega arith)) (Integer lengths.None) (Float floats.UpperA) refl refl)
+    (opaque Lp64 [] no_width (given_precision (6 ∷ []) (omega arith, tt) (omega arith)) (Integer lengths.None) (Float floats.UpperA) refl refl)
     (then_on (codes "0") refl
-        (opaque Lp64 (Zero ∷ []) (given_width 9 (omega arith) (omega arith)) (given_precision (0 ∷ []) (omega arith, tt) (omega arith)) (Integer lengths.None) (Float floats.G) refl refl)
+    (opaque Lp64 (Zero ∷ []) (given_width 9 (omega arith) (omega arith)) (given_precision (0 ∷ []) (omega arith, tt) (omega arith)) (Integer lengths.None)
+    (Float floats.G) refl refl)
     (ends [] refl))
 
 -- the largest width
@@ -274,7 +275,7 @@ widest : IsWholeCanonicalOf Ilp32 (codes "%%%'4095gA%#lf") (codes "%%%4095gA%#f"
 unfolding digits
 widest =
     then_on (codes "%") refl
-        (opaque Ilp32 (Group ∷ []) (given_width 4095 (omega arith) (omega arith)) no_precision (Integer lengths.None) (Float floats.G) refl refl)
+    (opaque Ilp32 (Group ∷ []) (given_width 4095 (omega arith) (omega arith)) no_precision (Integer lengths.None) (Float floats.G) refl refl)
     (then_on (codes "A") refl (opaque Ilp32 (Alt ∷ []) no_width no_precision (Integer lengths.L) (Float floats.F) refl refl)
     (ends [] refl))
 
@@ -283,7 +284,8 @@ exponents : IsWholeCanonicalOf Lp64 (codes "%++*.1A!") (codes "%+*.1A!")
 unfolding digits
 exponents =
     then_on [] refl
-        (opaque Lp64 (Plus ∷ Plus ∷ []) star_width (given_precision (1 ∷ []) (omega arith, tt) (omega arith)) (Integer lengths.None) (Float floats.UpperA) refl refl)
+    (opaque Lp64 (Plus ∷ Plus ∷ []) star_width (given_precision (1 ∷ []) (omega arith, tt) (omega arith)) (Integer lengths.None)
+    (Float floats.UpperA) refl refl)
     (ends (codes "!") refl)
 
 -- on an integer the precision 0 is kept
@@ -298,7 +300,8 @@ default_of_six : IsWholeCanonicalOf Lp64 (codes "%-08.6lf (") (codes "%-8f (")
 unfolding digits
 default_of_six =
     then_on [] refl
-        (opaque Lp64 (Minus ∷ Zero ∷ []) (given_width 8 (omega arith) (omega arith)) (given_precision (6 ∷ []) (omega arith, tt) (omega arith)) (Integer lengths.L) (Float floats.F) refl refl)
+    (opaque Lp64 (Minus ∷ Zero ∷ []) (given_width 8 (omega arith) (omega arith)) (given_precision (6 ∷ []) (omega arith, tt) (omega arith))
+    (Integer lengths.L) (Float floats.F) refl refl)
     (ends (codes " (") refl)
 
 -- the precision 1 of an integer is dropped
@@ -346,7 +349,7 @@ star_of_j : IsWholeCanonicalOf Lp64 (codes "x%0*.1jo!") (codes "x%*lo!")
 unfolding digits
 star_of_j =
     then_on (codes "x") refl
-        (opaque Lp64 (Zero ∷ []) star_width (given_precision (1 ∷ []) (omega arith, tt) (omega arith)) (Integer lengths.J) (Profile convs.O) refl refl)
+    (opaque Lp64 (Zero ∷ []) star_width (given_precision (1 ∷ []) (omega arith, tt) (omega arith)) (Integer lengths.J) (Profile convs.O) refl refl)
     (ends (codes "!") refl)
 
 -- leading zeros of a precision
@@ -354,7 +357,8 @@ leading_zero : IsWholeCanonicalOf Lp64 (codes "%5.06E") (codes "%5E")
 unfolding digits
 leading_zero =
     then_on [] refl
-        (opaque Lp64 [] (given_width 5 (omega arith) (omega arith)) (given_precision (0 ∷ 6 ∷ []) (omega arith, (omega arith, tt)) (omega arith)) (Integer lengths.None) (Float floats.UpperE) refl refl)
+    (opaque Lp64 [] (given_width 5 (omega arith) (omega arith)) (given_precision (0 ∷ 6 ∷ []) (omega arith, (omega arith, tt)) (omega arith))
+    (Integer lengths.None) (Float floats.UpperE) refl refl)
     (ends [] refl)
 
 -- `+` stays on `p`, and a space next to it is dropped
@@ -388,7 +392,7 @@ left_nothing : IsWholeCanonicalOf Lp64 (codes "%-*.0s") (codes "%-*.0s")
 unfolding digits
 left_nothing =
     then_on [] refl
-        (opaque Lp64 (Minus ∷ []) star_width (given_precision (0 ∷ []) (omega arith, tt) (omega arith)) (Integer lengths.None) (Profile convs.S) refl refl)
+    (opaque Lp64 (Minus ∷ []) star_width (given_precision (0 ∷ []) (omega arith, tt) (omega arith)) (Integer lengths.None) (Profile convs.S) refl refl)
     (ends [] refl)
 
 nothing : IsWholeCanonicalOf Lp64 (codes "%*.0s") (codes "%*.0s")
@@ -445,7 +449,8 @@ dollar_behind (byte ∷ front) rest = go (byte == 36) (dollar_behind front rest)
   go false h = omega (arith, h)
 
 -- a text is refused as by `pf_signatures`, where no `$` comes before
-refused : (model : Model) (t : Text) (kind : SignatureRefusalKind) (at : ℕ) → verdict model t ≡ Refused kind at → at < before_dollar t → IsWholeRefusedAt model t (Some kind) at
+refused : (model : Model) (t : Text) (kind : SignatureRefusalKind) (at : ℕ) → verdict model t ≡ Refused kind at → at < before_dollar t
+    → IsWholeRefusedAt model t (Some kind) at
 refused model t kind at e first = (
   subst (Tells model t) e (told model t),
   λ place h.
@@ -460,7 +465,8 @@ refused_no_earlier (Refused kind place) t at = at ≤ place
 
 numbered : (model : Model) (t : Text) (at : ℕ) → IsNumberedAt t at → refused_no_earlier (verdict model t) t at → IsWholeRefusedAt model t None at
 numbered model t at h first = (h, λ kind place refusal. go kind place refusal (verdict model t) refl first) where
-  go : (kind : SignatureRefusalKind) (place : ℕ) → IsPosixRefusedAt model t kind place → (v : Verdict) → verdict model t ≡ v → refused_no_earlier v t at → ¬ (place < at)
+  go : (kind : SignatureRefusalKind) (place : ℕ) → IsPosixRefusedAt model t kind place → (v : Verdict) → verdict model t ≡ v → refused_no_earlier v t at
+      → ¬ (place < at)
   go kind place refusal (Takes fs) e few = λ less. elim (said model t kind place refusal) [
     | inl f ↦ let no : Takes fs ≡ Refused kind place = sym e ∙ f in cc
     | inr f ↦ omega (arith, f.1, few, less)

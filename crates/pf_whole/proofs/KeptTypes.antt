@@ -6,7 +6,7 @@ use Rattle.std.proofs.lemmas.List.{append_assoc, map-append}
 use Rattle.pf_values.specs.declared.models.Model.{Model}
 use Rattle.pf_values.specs.meaning.Items.{Item, Byte, Directive, Reads, types}
 use Rattle.pf_values.specs.meaning.Text.{Text}
-use Rattle.pf_signatures.specs.Items.{Byte as PosixByte, PosixItem, ReadsPosix, Specification, fetched}
+use Rattle.pf_signatures.specs.Items.{PosixItem, ReadsPosix, Specification, fetched}
 use Rattle.pf_signatures.specs.Specifications.{Amount, Given, Fetched, PosixSpecification}
 use Rattle.pf_signatures.specs.Spelling.{SpellsPosixPrecision, SpellsPosixWidth}
 use Rattle.pf_signatures.specs.Types.{conversion_type, fetch, fetches, star_fetches, widened}
@@ -37,9 +37,11 @@ items_unnumbered (Directive s ∷ items) = (refl, items_unnumbered items)
 
 pub unnumbered : (t : Text) (a : Stretches) → ReadsWhole t a → AllByRecursion IsUnnumbered (flat a)
 unnumbered t (Last items) h = items_unnumbered items
-unnumbered t (Before items s rest) h = all_append IsUnnumbered (map item_of items) (Specification s ∷ flat rest) (items_unnumbered items) (h.4.unnumbered, unnumbered h.2 rest h.5)
+unnumbered t (Before items s rest) h = all_append IsUnnumbered (map item_of items) (Specification s ∷ flat rest) (items_unnumbered items)
+    (h.4.unnumbered, unnumbered h.2 rest h.5)
 
-wanted_items : (model : Model) (t : Text) (items : List Item) → Reads t items → map (λ f. f.wanted) (fetched model (map item_of items)) ≡ map widened (types model items)
+wanted_items : (model : Model) (t : Text) (items : List Item) → Reads t items
+    → map (λ f. f.wanted) (fetched model (map item_of items)) ≡ map widened (types model items)
 wanted_items model t items h = ap (map (λ f. f.wanted)) (fetched_here model t items h) ∙ sym (wanted_here widened (types model items))
 
 wanted : (model : Model) (t : Text) (a : Stretches) → ReadsWhole t a → map (λ f. f.wanted) (fetched model (flat a)) ≡ whole_types model a
@@ -55,7 +57,8 @@ stars_unnumbered t None h = tt
 stars_unnumbered t (Some (Given n)) h = tt
 stars_unnumbered t (Some (Fetched number)) h = (no_number number h.style, tt)
 
-star_unnumbered : (t : Text) (precision : Option Amount) → SpellsPosixPrecision t None precision → AllByRecursion (λ f. f.number ≡ None) (star_fetches precision)
+star_unnumbered : (t : Text) (precision : Option Amount) → SpellsPosixPrecision t None precision
+    → AllByRecursion (λ f. f.number ≡ None) (star_fetches precision)
 star_unnumbered t None h = tt
 star_unnumbered t (Some (Given n)) h = tt
 star_unnumbered t (Some (Fetched number)) h = (no_number number h.1.style, tt)
@@ -64,11 +67,13 @@ own_unnumbered : (model : Model) (t : Text) (s : PosixSpecification) → SpellsO
 own_unnumbered model t s h =
     let parts = parts_of t s h.spelled h.unnumbered in
     all_append (λ f. f.number ≡ None) (star_fetches s.width ++ star_fetches s.precision) (fetch s.position (conversion_type model s.modifier s.conversion) ∷ [])
-    (all_append (λ f. f.number ≡ None) (star_fetches s.width) (star_fetches s.precision) (stars_unnumbered parts.width s.width parts.width_is) (star_unnumbered parts.precision s.precision parts.precision_is))
+    (all_append (λ f. f.number ≡ None) (star_fetches s.width) (star_fetches s.precision) (stars_unnumbered parts.width s.width parts.width_is)
+    (star_unnumbered parts.precision s.precision parts.precision_is))
     (h.unnumbered, tt)
 
 fetched_unnumbered : (model : Model) (t : Text) (a : Stretches) → ReadsWhole t a → AllByRecursion (λ f. f.number ≡ None) (fetched model (flat a))
-fetched_unnumbered model t (Last items) h = subst (AllByRecursion (λ f. f.number ≡ None)) (sym (fetched_here model t items h)) (none_numbered widened (types model items))
+fetched_unnumbered model t (Last items) h = subst (AllByRecursion (λ f. f.number ≡ None)) (sym (fetched_here model t items h))
+    (none_numbered widened (types model items))
 fetched_unnumbered model t (Before items s rest) h =
     subst (AllByRecursion (λ f. f.number ≡ None)) (sym (fetched_append model (map item_of items) (Specification s ∷ flat rest)))
     (all_append (λ f. f.number ≡ None) (fetched model (map item_of items)) (fetches model s ++ fetched model (flat rest))

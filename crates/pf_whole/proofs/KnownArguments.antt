@@ -28,13 +28,15 @@ known_once [] (y ∷ b) e = cc
 known_once (x ∷ a) [] e = cc
 known_once (x ∷ a) (y ∷ b) e = let rest = known_once a b (cc) in cc
 
-pub known_typed : (model : Model) (args : List Argument) (types : List ArgType) → HasTypes model args types → HasWholeTypes model (map Known args) (map widened types)
+pub known_typed : (model : Model) (args : List Argument) (types : List ArgType) → HasTypes model args types
+    → HasWholeTypes model (map Known args) (map widened types)
 known_typed model [] [] h = tt
 known_typed model [] (type ∷ types) h = absurd h
 known_typed model (argument ∷ args) [] h = absurd h
 known_typed model (argument ∷ args) (type ∷ types) h = (rw (narrowed_is type) h.0, known_typed model args types h.1)
 
-pub typed_known : (model : Model) (args : List Argument) (types : List ArgType) → HasWholeTypes model (map Known args) (map widened types) → HasTypes model args types
+pub typed_known : (model : Model) (args : List Argument) (types : List ArgType) → HasWholeTypes model (map Known args) (map widened types)
+    → HasTypes model args types
 typed_known model [] [] h = tt
 typed_known model [] (type ∷ types) h = absurd h
 typed_known model (argument ∷ args) [] h = absurd h

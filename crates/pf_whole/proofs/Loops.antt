@@ -21,7 +21,9 @@ Continues model whole left out = (back : Text) → IsPutTogether model left back
 pub continues_from : (model : Model) (whole : Stretches) → Continues model whole whole []
 continues_from model whole back h = h
 
-pub continues_past : (model : Model) (whole rest : Stretches) (items : List Item) (s : PosixSpecification) (out first : Text) → Continues model whole (Before items s rest) out → IsCanonicalStretch model items first → Continues model whole rest ((out ++ first) ++ normal_spelling model s)
+pub continues_past : (model : Model) (whole rest : Stretches) (items : List Item) (s : PosixSpecification) (out first : Text)
+    → Continues model whole (Before items s rest) out → IsCanonicalStretch model items first
+    → Continues model whole rest ((out ++ first) ++ normal_spelling model s)
 continues_past model whole rest items s out first h g back k =
     let more = h ((first ++ normal_spelling model s) ++ back) (first, back, g, k, refl) in
     let same : out ++ ((first ++ normal_spelling model s) ++ back) ≡ ((out ++ first) ++ normal_spelling model s) ++ back =
@@ -46,5 +48,6 @@ stretches_equivalent model t u a b h g = (
 )
 
 -- what is to be compared still
-pub corresponds_past : (model : Model) (a b : List Item) (s p : PosixSpecification) (rest more : Stretches) → PrintAlike model a b → normal_spelling model s ≡ normal_spelling model p → (Correspond model (Before a s rest) (Before b p more) ↔ Correspond model rest more)
+pub corresponds_past : (model : Model) (a b : List Item) (s p : PosixSpecification) (rest more : Stretches) → PrintAlike model a b
+    → normal_spelling model s ≡ normal_spelling model p → (Correspond model (Before a s rest) (Before b p more) ↔ Correspond model rest more)
 corresponds_past model a b s p rest more alike spelling = (λ h. h.2, λ h. (alike, spelling, h))

@@ -58,12 +58,14 @@ absent true true l e f = refl
 absent true false true e f = cc
 absent true false false e f = cc
 
-no_width : (t : Text) (width : Option Amount) → is_star width ≡ false → SpellsPosixWidth t None width → SpellsWidth t (amount_back width) × (amount_back width ≢ Some 0) × (is_above_limit (amount_back width) ≡ false)
+no_width : (t : Text) (width : Option Amount) → is_star width ≡ false → SpellsPosixWidth t None width
+    → SpellsWidth t (amount_back width) × (amount_back width ≢ Some 0) × (is_above_limit (amount_back width) ≡ false)
 no_width t None e h = (h, λ no. cc, refl)
 no_width t (Some (Given n)) e h = ((h.some, h.numeral), λ same. let zero : n ≡ 0 = cc in omega (arith, zero, h.some), small n h.within)
 no_width t (Some (Fetched number)) e h = cc
 
-no_precision : (t : Text) (precision : Option Amount) → is_star precision ≡ false → SpellsPosixPrecision t None precision → SpellsPrecision t (amount_back precision) × (is_above_limit (amount_back precision) ≡ false) × (is_some (amount_back precision) ≡ is_some precision)
+no_precision : (t : Text) (precision : Option Amount) → is_star precision ≡ false → SpellsPosixPrecision t None precision
+    → SpellsPrecision t (amount_back precision) × (is_above_limit (amount_back precision) ≡ false) × (is_some (amount_back precision) ≡ is_some precision)
 no_precision t None e h = (h, refl, refl)
 no_precision t (Some (Given n)) e h = (h.0, small n h.1, refl)
 no_precision t (Some (Fetched number)) e h = cc
@@ -76,17 +78,23 @@ record IsOfProfile (s : PosixSpecification) : Type 0 where
   modifier_is : s.modifier ≡ Integer length
 
 of_profile : (s : PosixSpecification) → IsPosixDefined s → is_outside s.conversion s.modifier ≡ false → IsOfProfile s
-of_profile s d e = go s.conversion s.modifier refl refl e (no_reason s.flags (is_some s.width) (is_some s.precision) s.modifier s.conversion d).modifier_is where
-  go : (c : Conversion) (m : Modifier) → s.conversion ≡ c → s.modifier ≡ m → is_outside c m ≡ false → not (takes_modifier c m) ≡ false → IsOfProfile s
-  go (Profile conv) (Integer length) a b e f = record { conv = conv; length = length; conversion_is = a; modifier_is = b }
-  go (Profile conv) LongDouble a b e f = cc
-  go (Float floating) m a b e f = cc
-  go UpperC m a b e f = cc
-  go UpperS m a b e f = cc
-  go Pointer m a b e f = cc
-  go Count m a b e f = cc
+of_profile s d e = go s.conversion s.modifier refl refl e
+    (no_reason s.flags (is_some s.width) (is_some s.precision) s.modifier s.conversion d).modifier_is where
+      go : (c : Conversion) (m : Modifier) → s.conversion ≡ c → s.modifier ≡ m → is_outside c m ≡ false → not (takes_modifier c m) ≡ false → IsOfProfile s
+      go (Profile conv) (Integer length) a b e f = record { conv = conv; length = length; conversion_is = a; modifier_is = b }
+      go (Profile conv) LongDouble a b e f = cc
+      go (Float floating) m a b e f = cc
+      go UpperC m a b e f = cc
+      go UpperS m a b e f = cc
+      go Pointer m a b e f = cc
+      go Count m a b e f = cc
 
-narrowed_defined : (flags : FlagSet) (width precision : Option ℕ) (given : Bool) (length : Length) (conv : Conv) → width ≢ Some 0 → is_above_limit width ≡ false → is_above_limit precision ≡ false → is_some precision ≡ given → (is_text conv && is_long length) ≡ false → (has flags Alt && not (has_alternative_form conv)) ≡ false → (has flags Zero && not (not (is_text conv))) ≡ false → (has flags Group && not (is_decimal conv)) ≡ false → (given && not (not (is_char conv))) ≡ false → not (not (is_text conv) || is_absent length || is_long length) ≡ false → IsDefined (record { flags = flags; width = width; precision = precision; length = length; conv = conv })
+narrowed_defined : (flags : FlagSet) (width precision : Option ℕ) (given : Bool) (length : Length) (conv : Conv) → width ≢ Some 0 → is_above_limit width ≡ false
+    → is_above_limit precision ≡ false → is_some precision ≡ given → (is_text conv && is_long length) ≡ false
+    → (has flags Alt && not (has_alternative_form conv)) ≡ false → (has flags Zero && not (not (is_text conv))) ≡ false
+    → (has flags Group && not (is_decimal conv)) ≡ false → (given && not (not (is_char conv))) ≡ false
+    → not (not (is_text conv) || is_absent length || is_long length) ≡ false
+    → IsDefined (record { flags = flags; width = width; precision = precision; length = length; conv = conv })
 narrowed_defined flags width precision given length conv some w p q wide alt zero_flag group prec modifier =
     let a = turned (has_alternative_form conv) (has flags Alt) alt in
     let b = twice (is_text conv) (has flags Zero) zero_flag in
@@ -95,7 +103,8 @@ narrowed_defined flags width precision given length conv some w p q wide alt zer
     let e = absent (is_text conv) (is_absent length) (is_long length) modifier wide in
     record { width = some; allowed = rw (w, p, wide, a, b, c, d, e) refl }
 
-narrowed : (t : Text) (s : PosixSpecification) → SpellsPosix t s → IsPosixDefined s → s.position ≡ None → is_opaque s ≡ false → IsReadAs t (Directive (narrow s))
+narrowed : (t : Text) (s : PosixSpecification) → SpellsPosix t s → IsPosixDefined s → s.position ≡ None → is_opaque s ≡ false
+    → IsReadAs t (Directive (narrow s))
 narrowed t s h d u e =
     let three = either (is_star s.width) (is_star s.precision) (is_outside s.conversion s.modifier) e in
     let parts = parts_of t s h u in
@@ -109,7 +118,8 @@ narrowed t s h d u e =
     let letter : conversion_letter s.conversion ≡ conv_letter (conv_back s.conversion) = ap conversion_letter ce in
     let f = map flag_byte parts.flags in
     let fits : not (takes_modifier (Profile (conv_back s.conversion)) (Integer (integer_length s.modifier))) ≡ false =
-    subst (λ m. not (takes_modifier (Profile (conv_back s.conversion)) m) ≡ false) me (subst (λ c. not (takes_modifier c s.modifier) ≡ false) ce none.modifier_is) in (
+    subst (λ m. not (takes_modifier (Profile (conv_back s.conversion)) m) ≡ false) me
+    (subst (λ c. not (takes_modifier c s.modifier) ≡ false) ce none.modifier_is) in (
       record {
         flags = parts.flags;
         width = parts.width;
@@ -119,7 +129,8 @@ narrowed t s h d u e =
         precision_is = precision.0;
         whole = parts.whole
             ∙ ap₂ (λ l c. 37 ∷ (f ++ (parts.width ++ (parts.precision ++ (l ++ c ∷ []))))) letters letter
-            ∙ ap (λ l. 37 ∷ l) (sym (regrouped f parts.width parts.precision (length_letters (integer_length s.modifier)) (conv_letter (conv_back s.conversion) ∷ [])));
+            ∙ ap (λ l. 37 ∷ l) (sym (regrouped f parts.width parts.precision (length_letters (integer_length s.modifier))
+            (conv_letter (conv_back s.conversion) ∷ [])));
       },
       narrowed_defined s.flags (amount_back s.width) (amount_back s.precision) (is_some s.precision) (integer_length s.modifier) (conv_back s.conversion)
           width.1 width.2 precision.1 precision.2
@@ -134,8 +145,16 @@ narrowed t s h d u e =
 -- one item more in front
 pushed : (t u : Text) (item : Item) (a : Stretches) → IsReadAs t item → ReadsWhole u a → ReadsWhole (t ++ u) (push item a)
 pushed t u item (Last items) h g = (t, u, h, g, refl)
-pushed t u item (Before items s rest) h g =
-    (t ++ g.0, g.1, g.2, (t, g.0, h, g.3, refl), g.4, g.5, ap (λ l. t ++ l) (g.6 ∙ append_assoc g.0 g.1 g.2) ∙ sym (append_assoc t g.0 (g.1 ++ g.2)) ∙ sym (append_assoc (t ++ g.0) g.1 g.2))
+pushed t u item (Before items s rest) h g = (
+  t ++ g.0,
+  g.1,
+  g.2,
+  (t, g.0, h, g.3, refl),
+  g.4,
+  g.5,
+  ap (λ l. t ++ l) (g.6 ∙ append_assoc g.0 g.1 g.2) ∙ sym (append_assoc t g.0 (g.1 ++ g.2))
+      ∙ sym (append_assoc (t ++ g.0) g.1 g.2),
+)
 
 reads_whole : (t : Text) (items : List PosixItem) → ReadsPosix t items → AllByRecursion IsUnnumbered items → ReadsWhole t (stretched items)
 reads_whole t [] h u = h

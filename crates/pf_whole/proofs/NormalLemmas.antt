@@ -2,7 +2,6 @@
 -- those before are, and they take arguments of the same types.
 use Rattle.std.proofs.Common.{◌≡◌, ℕ, Bool, true, false, refl, ap, ◌∙◌}
 use Rattle.std.specs.Prelude.{Option, Some, None, is_some, not, ◌&&◌, ◌||◌, ◌==◌, if◌then◌else◌}
-use Rattle.pf_values.specs.declared.conversions.Conv.{Conv}
 use Rattle.pf_values.specs.declared.conversions.Conv.TheVariants as convs
 use Rattle.pf_values.specs.declared.conversions.Kind.{Kind}
 use Rattle.pf_values.specs.declared.conversions.Kind.TheVariants as kinds
@@ -45,9 +44,31 @@ pub record SameConversion (before after : Conversion) : Type 0 where
   pub count : is_count after ≡ is_count before
 
 pub same_conversion : (conversion : Conversion) → SameConversion conversion (kept_conversion conversion)
-same_conversion (Profile convs.D) = record { again = refl; integer = refl; sign = refl; general = refl; meant = refl; alt = refl; zero_flag = refl; precision = refl; count = refl }
-same_conversion (Profile _) = record { again = refl; integer = refl; sign = refl; general = refl; meant = refl; alt = refl; zero_flag = refl; precision = refl; count = refl }
-same_conversion _ = record { again = refl; integer = refl; sign = refl; general = refl; meant = refl; alt = refl; zero_flag = refl; precision = refl; count = refl }
+same_conversion (Profile convs.D) = record
+    { again = refl; integer = refl; sign = refl; general = refl; meant = refl; alt = refl; zero_flag = refl; precision = refl; count = refl }
+same_conversion (Profile _) = record {
+  again = refl;
+  integer = refl;
+  sign = refl;
+  general = refl;
+  meant = refl;
+  alt = refl;
+  zero_flag = refl;
+  precision = refl;
+  count = refl;
+}
+same_conversion _ = record {
+  again = refl;
+  integer = refl;
+  sign = refl;
+  general = refl;
+  meant = refl;
+  alt = refl;
+  zero_flag = refl;
+  precision = refl;
+  count =
+      refl;
+}
 
 -- modifiers
 kept_again : (model : Model) (length : Length) → kept_length model (kept_length model length) ≡ kept_length model length
@@ -57,9 +78,11 @@ integer_again : (model : Model) (modifier : Modifier) → integer_modifier model
 integer_again model (Integer length) = ap Integer (kept_again model length)
 integer_again model LongDouble = refl
 
-modifier_again : (model : Model) (conversion : Conversion) (modifier : Modifier) → kept_modifier model (kept_conversion conversion) (kept_modifier model conversion modifier) ≡ kept_modifier model conversion modifier
+modifier_again : (model : Model) (conversion : Conversion) (modifier : Modifier)
+    → kept_modifier model (kept_conversion conversion) (kept_modifier model conversion modifier) ≡ kept_modifier model conversion modifier
 modifier_again model (Profile conv) modifier = go (is_text conv) refl where
-  go : (b : Bool) → is_text conv ≡ b → (if is_text (kept_conv conv) then (if b then modifier else integer_modifier model modifier) else integer_modifier model (if b then modifier else integer_modifier model modifier)) ≡ (if b then modifier else integer_modifier model modifier)
+  go : (b : Bool) → is_text conv ≡ b → (if is_text (kept_conv conv) then (if b then modifier else integer_modifier model modifier) else integer_modifier model
+      (if b then modifier else integer_modifier model modifier)) ≡ (if b then modifier else integer_modifier model modifier)
   go true e = let same : is_text (kept_conv conv) ≡ true = ap prints_text (kept_kind conv) ∙ e in rw same refl
   go false e = let same : is_text (kept_conv conv) ≡ false = ap prints_text (kept_kind conv) ∙ e in rw same (integer_again model modifier)
 modifier_again model (Float floating) (Integer length) = refl
@@ -78,7 +101,9 @@ counted_again Ilp32 _ = refl
 counted_again Llp64 lengths.Hh = refl
 counted_again Llp64 _ = refl
 
-kind_again : (model : Model) (kind : Kind) (modifier : Modifier) → kind_type model kind (integer_length (if prints_text kind then modifier else integer_modifier model modifier)) ≡ kind_type model kind (integer_length modifier)
+kind_again : (model : Model) (kind : Kind) (modifier : Modifier)
+    → kind_type model kind (integer_length (if prints_text kind then modifier else integer_modifier model modifier))
+    ≡ kind_type model kind (integer_length modifier)
 kind_again model kinds.Signed (Integer length) = ap (λ row. widened row.signed) (kept_row model length)
 kind_again model kinds.Signed LongDouble = refl
 kind_again model (kinds.Unsigned base capitals) (Integer length) = ap (λ row. widened row.unsigned) (kept_row model length)
@@ -86,7 +111,8 @@ kind_again model (kinds.Unsigned base capitals) LongDouble = refl
 kind_again model kinds.Char modifier = refl
 kind_again model kinds.String modifier = refl
 
-type_again : (model : Model) (conversion : Conversion) (modifier : Modifier) → conversion_type model (kept_modifier model conversion modifier) (kept_conversion conversion) ≡ conversion_type model modifier conversion
+type_again : (model : Model) (conversion : Conversion) (modifier : Modifier)
+    → conversion_type model (kept_modifier model conversion modifier) (kept_conversion conversion) ≡ conversion_type model modifier conversion
 type_again model (Profile conv) modifier =
     ap (λ kind. kind_type model kind (integer_length (if prints_text (kind_of conv) then modifier else integer_modifier model modifier))) (kept_kind conv)
     ∙ kind_again model (kind_of conv) modifier
@@ -114,7 +140,8 @@ general_means _ e = cc
 
 given_same : (conversion : Conversion) (n : ℕ) → SamePrecision conversion (Some (Given n)) (given_precision conversion n)
 given_same conversion n = go (is_amount (meant_precision conversion) n) (is_general conversion && n == 0) refl refl where
-  go : (b c : Bool) → is_amount (meant_precision conversion) n ≡ b → (is_general conversion && n == 0) ≡ c → SamePrecision conversion (Some (Given n)) (if b then None else (if c then Some (Given 1) else Some (Given n)))
+  go : (b c : Bool) → is_amount (meant_precision conversion) n ≡ b → (is_general conversion && n == 0) ≡ c
+      → SamePrecision conversion (Some (Given n)) (if b then None else (if c then Some (Given 1) else Some (Given n)))
   go true c h g = record { again = refl; given = λ e. cc; star = refl; some = λ e. cc; fetched = refl }
   go false true h g = record { again = one (is_general conversion) refl g; given = λ e. cc; star = refl; some = λ e. cc; fetched = refl } where
     one : (d : Bool) → is_general conversion ≡ d → (is_general conversion && n == 0) ≡ true → given_precision conversion 1 ≡ Some (Given 1)
@@ -127,7 +154,8 @@ precision_same conversion None = record { again = refl; given = λ e. e; star = 
 precision_same conversion (Some (Given n)) = given_same conversion n
 precision_same conversion (Some (Fetched number)) = record { again = refl; given = λ e. e; star = refl; some = λ e. e; fetched = refl }
 
-precision_for : (a b : Conversion) (precision : Option Amount) → meant_precision a ≡ meant_precision b → is_general a ≡ is_general b → normal_precision a precision ≡ normal_precision b precision
+precision_for : (a b : Conversion) (precision : Option Amount) → meant_precision a ≡ meant_precision b → is_general a ≡ is_general b
+    → normal_precision a precision ≡ normal_precision b precision
 precision_for a b None h g = refl
 precision_for a b (Some (Given n)) h g = rw (h, g) refl
 precision_for a b (Some (Fetched number)) h g = refl
@@ -145,7 +173,8 @@ space_again true false true = refl
 space_again true false false = refl
 space_again false p k = refl
 
-zero_again : (z w m i g h : Bool) → (g ≡ false → h ≡ false) → ((z && w && not m && not (i && g)) && w && not (m && w) && not (i && h)) ≡ (z && w && not m && not (i && g))
+zero_again : (z w m i g h : Bool) → (g ≡ false → h ≡ false)
+    → ((z && w && not m && not (i && g)) && w && not (m && w) && not (i && h)) ≡ (z && w && not m && not (i && g))
 zero_again false w m i g h e = refl
 zero_again true false m i g h e = refl
 zero_again true true true i g h e = refl
@@ -171,8 +200,10 @@ flags_again model s =
     (ap (λ x. (has f Plus && k) && x) same.sign ∙ both_again (has f Plus) k)
     (ap (λ x. (has f Space && not (has f Plus) && k) && not (has f Plus && k) && x) same.sign ∙ space_again (has f Space) (has f Plus) k)
     refl
-    (ap (λ x. (has f Zero && w && not (has f Minus) && not (is_integer s.conversion && is_given s.precision)) && w && not (has f Minus && w) && not (x && is_given (normal_precision s.conversion s.precision))) same.integer
-    ∙ zero_again (has f Zero) w (has f Minus) (is_integer s.conversion) (is_given s.precision) (is_given (normal_precision s.conversion s.precision)) precision.given)
+    (ap (λ x. (has f Zero && w && not (has f Minus) && not (is_integer s.conversion && is_given s.precision)) && w && not (has f Minus && w) && not
+    (x && is_given (normal_precision s.conversion s.precision))) same.integer
+    ∙ zero_again (has f Zero) w (has f Minus) (is_integer s.conversion) (is_given s.precision)
+    (is_given (normal_precision s.conversion s.precision)) precision.given)
     refl
 
 pub normal_again : (model : Model) (s : PosixSpecification) → normal_parts model (normal_parts model s) ≡ normal_parts model s
@@ -192,9 +223,11 @@ types_again model s =
     rw (precision.fetched, type) refl
 
 -- opaque
-outside_again : (model : Model) (conversion : Conversion) (modifier : Modifier) → is_outside conversion modifier ≡ true → is_outside (kept_conversion conversion) (kept_modifier model conversion modifier) ≡ true
+outside_again : (model : Model) (conversion : Conversion) (modifier : Modifier) → is_outside conversion modifier ≡ true
+    → is_outside (kept_conversion conversion) (kept_modifier model conversion modifier) ≡ true
 outside_again model (Profile conv) modifier e = go (is_text conv) refl e where
-  go : (b : Bool) → is_text conv ≡ b → (b && is_long (integer_length modifier)) ≡ true → (is_text (kept_conv conv) && is_long (integer_length (if b then modifier else integer_modifier model modifier))) ≡ true
+  go : (b : Bool) → is_text conv ≡ b → (b && is_long (integer_length modifier)) ≡ true
+      → (is_text (kept_conv conv) && is_long (integer_length (if b then modifier else integer_modifier model modifier))) ≡ true
   go true h e = let same : is_text (kept_conv conv) ≡ true = ap prints_text (kept_kind conv) ∙ h in rw same e
   go false h e = cc
 outside_again model (Float floating) modifier e = refl
@@ -223,7 +256,8 @@ pub record HasNoReason (set : FlagSet) (width precision : Bool) (modifier : Modi
   pub modifier_is : not (takes_modifier conversion modifier) ≡ false
   pub count : (is_count conversion && (has_any_flag set || width || precision)) ≡ false
 
-pub no_reason : (set : FlagSet) (width precision : Bool) (modifier : Modifier) (conversion : Conversion) → undefined_as set width precision modifier conversion ≡ None → HasNoReason set width precision modifier conversion
+pub no_reason : (set : FlagSet) (width precision : Bool) (modifier : Modifier) (conversion : Conversion)
+    → undefined_as set width precision modifier conversion ≡ None → HasNoReason set width precision modifier conversion
 no_reason set width precision modifier conversion e =
     let a = none_first _ _ _ e in
     let b = none_first _ _ _ a.1 in
@@ -233,13 +267,16 @@ no_reason set width precision modifier conversion e =
     let g = none_first _ _ _ f.1 in
     record { alt = a.0; zero_flag = b.0; group = c.0; precision_is = d.0; modifier_is = f.0; count = g.0 }
 
-pub is_defined : (set : FlagSet) (width precision : Bool) (modifier : Modifier) (conversion : Conversion) → HasNoReason set width precision modifier conversion → undefined_as set width precision modifier conversion ≡ None
+pub is_defined : (set : FlagSet) (width precision : Bool) (modifier : Modifier) (conversion : Conversion) → HasNoReason set width precision modifier conversion
+    → undefined_as set width precision modifier conversion ≡ None
 is_defined set width precision modifier conversion h = rw (h.alt, h.zero_flag, h.group, h.precision_is, h.modifier_is, h.count) refl
 
-pub modifier_stands : (model : Model) (conversion : Conversion) (modifier : Modifier) → not (takes_modifier conversion modifier) ≡ false → not (takes_modifier (kept_conversion conversion) (kept_modifier model conversion modifier)) ≡ false
+pub modifier_stands : (model : Model) (conversion : Conversion) (modifier : Modifier) → not (takes_modifier conversion modifier) ≡ false
+    → not (takes_modifier (kept_conversion conversion) (kept_modifier model conversion modifier)) ≡ false
 modifier_stands model (Profile conv) LongDouble e = cc
 modifier_stands model (Profile conv) (Integer length) e = go (is_text conv) refl e where
-  go : (b : Bool) → is_text conv ≡ b → not (not b || is_absent length || is_long length) ≡ false → not (takes_modifier (Profile (kept_conv conv)) (if b then Integer length else Integer (kept_length model length))) ≡ false
+  go : (b : Bool) → is_text conv ≡ b → not (not b || is_absent length || is_long length) ≡ false
+      → not (takes_modifier (Profile (kept_conv conv)) (if b then Integer length else Integer (kept_length model length))) ≡ false
   go true h e = let same : is_text (kept_conv conv) ≡ true = ap prints_text (kept_kind conv) ∙ h in rw same e
   go false h e = let same : is_text (kept_conv conv) ≡ false = ap prints_text (kept_kind conv) ∙ h in rw same refl
 modifier_stands model (Float floating) (Integer length) e = refl
@@ -265,7 +302,8 @@ fewer_some true true t h e = e
 fewer_some true false t h e = refl
 fewer_some false q t h e = let no = h refl in rw no refl
 
-pub no_flags_left : (m p s a z g w q r : Bool) (x n y u v k : Bool) → (q ≡ false → r ≡ false) → ((m || p || s || a || z || g) || w || q) ≡ false → (((m && w) || (p && x) || (s && n && y) || a || (z && u && v && k) || false) || w || r) ≡ false
+pub no_flags_left : (m p s a z g w q r : Bool) (x n y u v k : Bool) → (q ≡ false → r ≡ false) → ((m || p || s || a || z || g) || w || q) ≡ false
+    → (((m && w) || (p && x) || (s && n && y) || a || (z && u && v && k) || false) || w || r) ≡ false
 no_flags_left false false false false false false false false r x n y u v k h e = h refl
 no_flags_left true p s a z g w q r x n y u v k h e = cc
 no_flags_left false true s a z g w q r x n y u v k h e = cc

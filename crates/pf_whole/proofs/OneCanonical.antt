@@ -39,7 +39,14 @@ read_back model t c (Before items s rest) reads h =
       own = Before h.2.own (normal_parts model s) back.own;
       reads = (h.0, normal_spelling model s, h.1, h.2.canonical.reads, opaque_normally model reads.1 s reads.4, back.reads, h.4);
       alike = before_alike model items h.2.own s (normal_parts model s) rest back.own h.2.alike spelling (sym (types_again model s)) back.alike;
-      together = (h.0, h.1, record { own = h.2.own; canonical = h.2.canonical; alike = print_refl model h.2.own }, back.together, h.4 ∙ ap (λ u. (h.0 ++ u) ++ h.1) spelling);
+      together = (
+        h.0,
+        h.1,
+        record { own = h.2.own; canonical = h.2.canonical; alike = print_refl model h.2.own },
+        back.together,
+        h.4
+            ∙ ap (λ u. (h.0 ++ u) ++ h.1) spelling,
+      );
     }
 
 pub one_canonical_is_alike : (model : Model) → OneCanonicalIsAlike model

@@ -16,7 +16,8 @@ use Rattle.pf_whole.proofs.KnownArguments.{known_once, known_typed, typed_known,
 use Rattle.pf_whole.proofs.ReadOnce.{read_once}
 
 -- items that print alike print alike for known arguments
-pub known_alike : (model : Model) (a b : List Item) (args : List WholeArgument) (out : Text) → PrintAlike model a b → HasWholeTypes model args (map widened (types model a)) → PrintsKnown model a args out → PrintsKnown model b args out
+pub known_alike : (model : Model) (a b : List Item) (args : List WholeArgument) (out : Text) → PrintAlike model a b
+    → HasWholeTypes model args (map widened (types model a)) → PrintsKnown model a args out → PrintsKnown model b args out
 known_alike model a b args out h typed g =
     let same = g.1 in
     let own : HasWholeTypes model (map Known g.0) (map widened (types model a)) = rw same at typed in
@@ -30,7 +31,8 @@ turned model a b h = record {
 
 pub last_alike : (model : Model) (a b : List Item) → PrintAlike model a b → TraceAlike model (Last a) (Last b)
 last_alike model a b h = record { same_types = ap (map widened) h.same_types; same_traces = go } where
-  go : (args : List WholeArgument) (trace : Trace) → HasWholeTypes model args (map widened (types model a)) → (HasTrace model (Last a) args trace ↔ HasTrace model (Last b) args trace)
+  go : (args : List WholeArgument) (trace : Trace) → HasWholeTypes model args (map widened (types model a))
+      → (HasTrace model (Last a) args trace ↔ HasTrace model (Last b) args trace)
   go args (Ends text) typed = (
     λ g. known_alike model a b args text h typed g,
     λ g. known_alike model b a args text (turned model a b h) (rw (← h.same_types) typed) g,
@@ -57,7 +59,14 @@ profile_coincides model t u first second =
             let x : h.first ≡ Last a = read_once t h.first (Last a) h.reads_first first.1.reads in
             let y : h.second ≡ Last b = read_once u h.second (Last b) h.reads_second second.1.reads in
             record { first = a; second = b; reads_first = first.1.reads; reads_second = second.1.reads; alike = alike_last model a b (rw (x, y) at h.alike) },
-        λ h. record { first = Last h.first; second = Last h.second; reads_first = h.reads_first; reads_second = h.reads_second; alike = last_alike model h.first h.second h.alike },
+        λ h. record {
+          first = Last h.first;
+          second = Last h.second;
+          reads_first = h.reads_first;
+          reads_second = h.reads_second;
+          alike = last_alike model h.first
+              h.second h.alike;
+        },
       );
       canonical = λ c. (
         λ h.

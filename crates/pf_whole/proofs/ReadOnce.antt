@@ -38,7 +38,8 @@ no_end byte t rest e f = go (byte == 37) (sym e ∙ f) where
   go false e = cc
 
 no_directive_end : (t first rest : Text) (s : PosixSpecification) → HasParts first s → t ≡ [] → t ≡ first ++ rest → ⊥
-no_directive_end t first rest s h e f = let parts = begins_no_percent first s h in let no : [] ≡ 37 ∷ (parts.0 ∷ (parts.1 ++ rest)) = sym e ∙ f ∙ ap (λ u. u ++ rest) parts.3 in cc
+no_directive_end t first rest s h e f = let parts = begins_no_percent first s h in let no : [] ≡ 37 ∷ (parts.0 ∷ (parts.1 ++ rest)) = sym e ∙ f
+    ∙ ap (λ u. u ++ rest) parts.3 in cc
 
 above_tests : (x y : ℕ) → (x == 37) ≡ true → (y == 37) ≡ true → x ≡ y
 above_tests x y h g = grind (arith, nat_tests)
@@ -55,7 +56,8 @@ no_byte : (x : ℕ) (first r q : Text) (s : PosixSpecification) → HasParts fir
 no_byte x first r q s h e =
     let parts = begins_no_percent first s h in
     go parts.0 parts.1 (x == 37) refl parts.2 (e ∙ ap (λ u. u ++ q) parts.3) where
-      go : (second : ℕ) (more : Text) (b : Bool) → (x == 37) ≡ b → (second == 37) ≡ false → (if b then 37 ∷ 37 ∷ [] else x ∷ []) ++ r ≡ 37 ∷ (second ∷ (more ++ q)) → ⊥
+      go : (second : ℕ) (more : Text) (b : Bool) → (x == 37) ≡ b → (second == 37) ≡ false
+          → (if b then 37 ∷ 37 ∷ [] else x ∷ []) ++ r ≡ 37 ∷ (second ∷ (more ++ q)) → ⊥
       go second more true g n e = let same : 37 ≡ second = cc in let no : true ≡ false = ap (λ k. k == 37) same ∙ n in cc
       go second more false g n e = let same : x ≡ 37 = cc in let no : false ≡ true = sym g ∙ ap (λ k. k == 37) same in cc
 
@@ -114,7 +116,14 @@ conv_back (Profile conv) = conv
 conv_back _ = D
 
 abbrev pub narrow : PosixSpecification → Specification
-narrow s = record { flags = s.flags; width = amount_back s.width; precision = amount_back s.precision; length = integer_length s.modifier; conv = conv_back s.conversion }
+narrow s = record {
+  flags = s.flags;
+  width = amount_back s.width;
+  precision = amount_back s.precision;
+  length = integer_length s.modifier;
+  conv = conv_back
+      s.conversion;
+}
 
 abbrev pub push : Item → Stretches → Stretches
 push item (Last items) = Last (item ∷ items)
@@ -166,7 +175,8 @@ push_all-before (item ∷ items) s rest = ap (push item) (push_all-before items 
 items_back : (t : Text) (items : List Item) (back : List PosixItem) → Reads t items → stretched (map item_of items ++ back) ≡ push_all items (stretched back)
 items_back t [] back h = refl
 items_back t (Byte byte ∷ items) back h = ap (push (Byte byte)) (items_back h.1 items back h.3)
-items_back t (Directive s ∷ items) back h = directive_back s (stretched (map item_of items ++ back)) h.2.1 ∙ ap (push (Directive s)) (items_back h.1 items back h.3)
+items_back t (Directive s ∷ items) back h = directive_back s (stretched (map item_of items ++ back)) h.2.1
+    ∙ ap (push (Directive s)) (items_back h.1 items back h.3)
 
 no_more : (items : List PosixItem) → items ++ [] ≡ items
 no_more [] = refl

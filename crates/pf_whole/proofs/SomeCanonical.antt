@@ -1,17 +1,11 @@
 -- Each text of the whole language has a canonical text.
-use Rattle.std.proofs.Common.{◌≡◌, ◌≢◌, ℕ, ◌+◌, List, [], ◌∷◌, ◌++◌, replicate, refl, sym, ap, ◌∙◌, subst}
-use Rattle.std.specs.Prelude.{flat_map}
+use Rattle.std.proofs.Common.{◌≡◌, ◌≢◌, ℕ, List, [], ◌∷◌, ◌++◌, refl, sym, ap, ◌∙◌, subst}
 use Rattle.std.proofs.lemmas.List.{append-nil, append_assoc}
 use Rattle.pf_values.specs.declared.models.Model.{Model}
-use Rattle.pf_values.specs.meaning.Canonical.{item_spelling}
-use Rattle.pf_values.specs.meaning.Defined.{IsDefined}
 use Rattle.pf_values.specs.meaning.Items.{Item, Byte, Directive}
 use Rattle.pf_values.specs.meaning.Normal.{silent}
-use Rattle.pf_values.specs.meaning.Specification.{Specification}
-use Rattle.pf_values.specs.meaning.Spelling.{spelling_of}
-use Rattle.pf_values.specs.meaning.Text.{Text, space, zero_digit}
-use Rattle.pf_values.proofs.Alike.{AreAlike, alike_after, alike_before, alike_refl, alike_trans, alike-printed, printed-alike}
-use Rattle.pf_text.specs.CanonicalRuns.{silents}
+use Rattle.pf_values.specs.meaning.Text.{Text}
+use Rattle.pf_values.proofs.Alike.{alike_refl, alike-printed}
 use Rattle.pf_canon.proofs.MakingLemmas.{made_settled}
 use Rattle.pf_canon.proofs.RestLemmas.{IsSettling, Settles, byte_settled, directive_settled}
 use Rattle.std.specs.Prelude.{MatchBool, ◌==◌}
@@ -35,25 +29,39 @@ some_byte t byte h = go (byte == 37) refl h where
   go false e h = h.0
 
 -- more items
-joined : (model : Model) (out first more : Text) (waiting : ℕ) (before items : List Item) (item : Item) → IsSettling model ((out ++ first) ++ more) waiting ((before ++ item ∷ []) ++ items) [] → IsSettling model (out ++ (first ++ more)) waiting (before ++ item ∷ items) []
+joined : (model : Model) (out first more : Text) (waiting : ℕ) (before items : List Item) (item : Item)
+    → IsSettling model ((out ++ first) ++ more) waiting ((before ++ item ∷ []) ++ items) []
+    → IsSettling model (out ++ (first ++ more)) waiting (before ++ item ∷ items) []
 joined model out first more waiting before items item h =
     subst (λ t. IsSettling model t waiting (before ++ item ∷ items) []) (append_assoc out first more)
     (subst (λ l. IsSettling model ((out ++ first) ++ more) waiting l []) (append_assoc before (item ∷ []) items) h)
 
-settle : (model : Model) (out : Text) (waiting : ℕ) (before items : List Item) (t : Text) → Reads t items → IsSettling model out waiting before [] → Settles model out (before ++ items)
+settle : (model : Model) (out : Text) (waiting : ℕ) (before items : List Item) (t : Text) → Reads t items → IsSettling model out waiting before []
+    → Settles model out (before ++ items)
 settle model out waiting before [] t reads h = record {
   more = [];
   waiting = waiting;
-  made = subst (λ u. IsSettling model u waiting (before ++ []) []) (sym (append-nil out)) (subst (λ l. IsSettling model out waiting l []) (sym (append-nil before)) h);
+  made = subst (λ u. IsSettling model u waiting (before ++ []) []) (sym (append-nil out))
+      (subst (λ l. IsSettling model out waiting l []) (sym (append-nil before)) h);
 }
 settle model out waiting before (Byte byte ∷ items) t reads h =
     let here = byte_settled model out waiting before byte (some_byte reads.0 byte reads.2) h in
     let rest = settle model (out ++ here.more) here.waiting (before ++ Byte byte ∷ []) items reads.1 reads.3 here.made in
-    record { more = here.more ++ rest.more; waiting = rest.waiting; made = joined model out here.more rest.more rest.waiting before items (Byte byte) rest.made }
+    record {
+      more = here.more ++ rest.more;
+      waiting = rest.waiting;
+      made = joined model out here.more rest.more rest.waiting before items
+          (Byte byte) rest.made;
+    }
 settle model out waiting before (Directive s ∷ items) t reads h =
     let here = directive_settled model out waiting before s reads.2.1 h in
     let rest = settle model (out ++ here.more) here.waiting (before ++ Directive s ∷ []) items reads.1 reads.3 here.made in
-    record { more = here.more ++ rest.more; waiting = rest.waiting; made = joined model out here.more rest.more rest.waiting before items (Directive s) rest.made }
+    record {
+      more = here.more ++ rest.more;
+      waiting = rest.waiting;
+      made = joined model out here.more rest.more rest.waiting before items
+          (Directive s) rest.made;
+    }
 
 no_silent : (before : List Item) → [] ≢ before ++ Directive silent ∷ []
 no_silent [] e = cc
@@ -63,7 +71,16 @@ nothing_made : (model : Model) → IsSettling model [] 0 [] []
 nothing_made model = record {
   others = [];
   alike = alike_refl model [];
-  making = record { done = []; reads = refl; whole = refl; canonical = tt; open_end = no_silent; alike = alike-printed model [] [] (alike_refl model []); kept = λ c. refl };
+  making = record {
+    done = [];
+    reads = refl;
+    whole = refl;
+    canonical = tt;
+    open_end = no_silent;
+    alike = alike-printed model [] []
+        (alike_refl model []);
+    kept = λ c. refl;
+  };
 }
 
 -- a stretch has one

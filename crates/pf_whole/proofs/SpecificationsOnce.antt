@@ -64,7 +64,8 @@ record FrontParts (before : Text) (position : Option ℕ) (set : FlagSet) (width
   precision_is : SpellsPosixPrecision p None precision
   whole : before ≡ 37 ∷ ((map flag_byte flags ++ w) ++ p)
 
-front_parts : (before : Text) (position : Option ℕ) (set : FlagSet) (width precision : Option Amount) → position ≡ None → SpellsUpToPrecision before position set width precision → FrontParts before position set width precision
+front_parts : (before : Text) (position : Option ℕ) (set : FlagSet) (width precision : Option Amount) → position ≡ None
+    → SpellsUpToPrecision before position set width precision → FrontParts before position set width precision
 front_parts before (Some n) set width precision e h = cc
 front_parts before None set width precision e h = record {
   flags = h.before_is.before_is.flags;
@@ -161,7 +162,8 @@ modifier_is (Integer lengths.None) = refl
 modifier_is (Integer _) = refl
 
 -- digits
-digits_inside : (p : ℕ → Bool) (ds : List ℕ) → ((d : ℕ) → d < 10 → p (digit_glyph false d) ≡ true) → AllByRecursion (λ d. d < 10) ds → AreInside p (map (digit_glyph false) ds)
+digits_inside : (p : ℕ → Bool) (ds : List ℕ) → ((d : ℕ) → d < 10 → p (digit_glyph false d) ≡ true) → AllByRecursion (λ d. d < 10) ds
+    → AreInside p (map (digit_glyph false) ds)
 digits_inside p [] h g = tt
 digits_inside p (d ∷ ds) h g = (h d g.0, digits_inside p ds h g.1)
 
@@ -229,7 +231,8 @@ same_width t None None h g = refl
 same_width t None (Some (Given n)) h g = absurd (some_digit t n g.numeral.0 g.numeral.1 g.numeral.2 h)
 same_width t None (Some (Fetched number)) h g = let no : [] ≡ 42 ∷ g.digits = sym h ∙ g.whole in cc
 same_width t (Some (Given n)) None h g = absurd (some_digit t n h.numeral.0 h.numeral.1 h.numeral.2 g)
-same_width t (Some (Given n)) (Some (Given m)) h g = ap (λ k. Some (Given k)) (same_number t n m h.numeral.0 g.numeral.0 h.numeral.1.digits g.numeral.1.digits h.numeral.2 g.numeral.2)
+same_width t (Some (Given n)) (Some (Given m)) h g = ap (λ k. Some (Given k))
+    (same_number t n m h.numeral.0 g.numeral.0 h.numeral.1.digits g.numeral.1.digits h.numeral.2 g.numeral.2)
 same_width t (Some (Given n)) (Some (Fetched number)) h g = absurd (no_star t g.digits h.numeral.0 h.numeral.1.digits.below h.numeral.2 g.whole)
 same_width t (Some (Fetched number)) None h g = let no : [] ≡ 42 ∷ h.digits = sym g ∙ h.whole in cc
 same_width t (Some (Fetched number)) (Some (Given n)) h g = absurd (no_star t h.digits g.numeral.0 g.numeral.1.digits.below g.numeral.2 h.whole)
@@ -240,7 +243,8 @@ precision_inside : (t : Text) (precision : Option Amount) → SpellsPosixPrecisi
 precision_inside t None h = rw h tt
 precision_inside t (Some (Given n)) h = rw h.0.2 (refl, digits_inside is_precision h.0.0 digit_in_precision h.0.1.below)
 precision_inside t (Some (Fetched number)) h = star_only t h.0 number h.1.digits h.1.digits_are h.1.style h.1.whole h.2 where
-  star_only : (t rest : Text) (number : Option ℕ) (digits : Text) → SpellsPosition digits number → is_some number ≡ false → rest ≡ 42 ∷ digits → t ≡ 46 ∷ rest → AreInside is_precision t
+  star_only : (t rest : Text) (number : Option ℕ) (digits : Text) → SpellsPosition digits number → is_some number ≡ false → rest ≡ 42 ∷ digits → t ≡ 46 ∷ rest
+      → AreInside is_precision t
   star_only t rest None digits h e w p = rw (p, w, h) (refl, (refl, tt))
   star_only t rest (Some n) digits h e w p = cc
 
@@ -262,7 +266,8 @@ same_precision t None None h g = refl
 same_precision t None (Some (Given n)) h g = let no : [] ≡ 46 ∷ map (digit_glyph false) g.0.0 = sym h ∙ g.0.2 in cc
 same_precision t None (Some (Fetched number)) h g = let no : [] ≡ 46 ∷ g.0 = sym h ∙ g.2 in cc
 same_precision t (Some (Given n)) None h g = let no : [] ≡ 46 ∷ map (digit_glyph false) h.0.0 = sym g ∙ h.0.2 in cc
-same_precision t (Some (Given n)) (Some (Given m)) h g = ap (λ k. Some (Given k)) (same_number (map (digit_glyph false) h.0.0) n m h.0.0 g.0.0 h.0.1 g.0.1 refl (tail_same _ _ (sym h.0.2 ∙ g.0.2)))
+same_precision t (Some (Given n)) (Some (Given m)) h g = ap (λ k. Some (Given k))
+    (same_number (map (digit_glyph false) h.0.0) n m h.0.0 g.0.0 h.0.1 g.0.1 refl (tail_same _ _ (sym h.0.2 ∙ g.0.2)))
 same_precision t (Some (Given n)) (Some (Fetched number)) h g = absurd (no_star g.0 g.1.digits h.0.0 h.0.1.below (tail_same _ _ (sym g.2 ∙ h.0.2)) g.1.whole)
 same_precision t (Some (Fetched number)) None h g = let no : [] ≡ 46 ∷ h.0 = sym g ∙ h.2 in cc
 same_precision t (Some (Fetched number)) (Some (Given n)) h g = absurd (no_star h.0 h.1.digits g.0.0 g.0.1.below (tail_same _ _ (sym h.2 ∙ g.0.2)) h.1.whole)
@@ -272,7 +277,8 @@ abbrev pub made : Option ℕ → FlagSet → Option Amount → Option Amount →
 made position flags width precision modifier conversion =
     record { position = position; flags = flags; width = width; precision = precision; modifier = modifier; conversion = conversion }
 
-pub same_fields : (a b : PosixSpecification) → a.position ≡ b.position → a.flags ≡ b.flags → a.width ≡ b.width → a.precision ≡ b.precision → a.modifier ≡ b.modifier → a.conversion ≡ b.conversion → a ≡ b
+pub same_fields : (a b : PosixSpecification) → a.position ≡ b.position → a.flags ≡ b.flags → a.width ≡ b.width → a.precision ≡ b.precision
+    → a.modifier ≡ b.modifier → a.conversion ≡ b.conversion → a ≡ b
 same_fields a b p f w q m c =
     ap (λ x. made x a.flags a.width a.precision a.modifier a.conversion) p
     ∙ ap (λ x. made b.position x a.width a.precision a.modifier a.conversion) f
@@ -307,14 +313,21 @@ one_specification t u x y a b h g e =
     let ca = letter_tests a.conversion in
     let cb = letter_tests b.conversion in
     let flags = spans is_flag f _ k _ (flags_inside h.flags) (flags_inside g.flags)
-    (begins is_flag h.width _ (width_outside h.width a.width h.width_is) (begins is_flag h.precision _ (precision_outside_flags h.precision a.precision h.precision_is) (begins is_flag m _ (modifier_outside_flags a.modifier) ca.flag)))
-    (begins is_flag g.width _ (width_outside g.width b.width g.width_is) (begins is_flag g.precision _ (precision_outside_flags g.precision b.precision g.precision_is) (begins is_flag n _ (modifier_outside_flags b.modifier) cb.flag)))
+    (begins is_flag h.width _ (width_outside h.width a.width h.width_is)
+    (begins is_flag h.precision _ (precision_outside_flags h.precision a.precision h.precision_is)
+    (begins is_flag m _ (modifier_outside_flags a.modifier) ca.flag)))
+    (begins is_flag g.width _ (width_outside g.width b.width g.width_is)
+    (begins is_flag g.precision _ (precision_outside_flags g.precision b.precision g.precision_is)
+    (begins is_flag n _ (modifier_outside_flags b.modifier) cb.flag)))
     both in
     let widths = spans is_width h.width _ g.width _ (width_inside h.width a.width h.width_is) (width_inside g.width b.width g.width_is)
-    (begins is_width h.precision _ (precision_outside_width h.precision a.precision h.precision_is) (begins is_width m _ (modifier_outside_width a.modifier) ca.width))
-    (begins is_width g.precision _ (precision_outside_width g.precision b.precision g.precision_is) (begins is_width n _ (modifier_outside_width b.modifier) cb.width))
+    (begins is_width h.precision _ (precision_outside_width h.precision a.precision h.precision_is)
+    (begins is_width m _ (modifier_outside_width a.modifier) ca.width))
+    (begins is_width g.precision _ (precision_outside_width g.precision b.precision g.precision_is)
+    (begins is_width n _ (modifier_outside_width b.modifier) cb.width))
     flags.1 in
-    let precisions = spans is_precision h.precision _ g.precision _ (precision_inside h.precision a.precision h.precision_is) (precision_inside g.precision b.precision g.precision_is)
+    let precisions = spans is_precision h.precision _ g.precision _ (precision_inside h.precision a.precision h.precision_is)
+    (precision_inside g.precision b.precision g.precision_is)
     (begins is_precision m _ (modifier_outside_precision a.modifier) ca.precision)
     (begins is_precision n _ (modifier_outside_precision b.modifier) cb.precision)
     widths.1 in
@@ -322,7 +335,8 @@ one_specification t u x y a b h g e =
     let letters = modifiers.1 in
     let letter : c ≡ d = cc in
     let rest : x ≡ y = cc in
-    let conversion : Some a.conversion ≡ Some b.conversion = sym (read_letter a.conversion).conversion_is ∙ ap conversion_of letter ∙ (read_letter b.conversion).conversion_is in
+    let conversion : Some a.conversion ≡ Some b.conversion = sym (read_letter a.conversion).conversion_is ∙ ap conversion_of letter
+    ∙ (read_letter b.conversion).conversion_is in
     let conversions : a.conversion ≡ b.conversion = cc in
     let modifier = sym (modifier_is a.modifier) ∙ ap modifier_back modifiers.0 ∙ modifier_is b.modifier in
     let width = same_width g.width a.width b.width (rw (← widths.0) h.width_is) g.width_is in
@@ -330,7 +344,8 @@ one_specification t u x y a b h g e =
     let set = h.set_is ∙ ap flag_set (same_flags h.flags g.flags flags.0) ∙ sym g.set_is in
     (same_fields a b (h.unnumbered ∙ sym g.unnumbered) set width precision modifier conversions, rest)
 
-begins_more : (p : ℕ → Bool) (t : Text) (byte : ℕ) (more : Text) → BeginsOutside p t → p byte ≡ false → (first : ℕ) × (rest : Text) × (p first ≡ false) × (t ++ byte ∷ more ≡ first ∷ rest)
+begins_more : (p : ℕ → Bool) (t : Text) (byte : ℕ) (more : Text) → BeginsOutside p t → p byte ≡ false
+    → (first : ℕ) × (rest : Text) × (p first ≡ false) × (t ++ byte ∷ more ≡ first ∷ rest)
 begins_more p [] byte more h g = (byte, more, g, refl)
 begins_more p (x ∷ t) byte more h g = (x, t ++ byte ∷ more, h, refl)
 
@@ -375,14 +390,18 @@ letter_no_percent (Float _) = refl
 letter_no_percent _ = refl
 
 -- such a text begins with `%`, and goes on with another byte
-pub begins_no_percent : (t : Text) (s : PosixSpecification) → HasParts t s → (second : ℕ) × (more : Text) × ((second == 37) ≡ false) × (t ≡ 37 ∷ (second ∷ more))
+pub begins_no_percent : (t : Text) (s : PosixSpecification) → HasParts t s
+    → (second : ℕ) × (more : Text) × ((second == 37) ≡ false) × (t ≡ 37 ∷ (second ∷ more))
 begins_no_percent t s h =
     let f = map flag_byte h.flags in
     let m = modifier_letters s.modifier in
     let c = conversion_letter s.conversion in
     let back = f ++ (h.width ++ (h.precision ++ m)) in
-    let outside = begins is_percent f _ (flags_no_percent h.flags) (begins is_percent h.width _ (width_no_percent h.width s.width h.width_is) (begins is_percent h.precision m (precision_no_percent h.precision s.precision h.precision_is) (modifier_no_percent s.modifier))) in
+    let outside = begins is_percent f _ (flags_no_percent h.flags)
+    (begins is_percent h.width _ (width_no_percent h.width s.width h.width_is)
+    (begins is_percent h.precision m (precision_no_percent h.precision s.precision h.precision_is) (modifier_no_percent s.modifier))) in
     let more = begins_more is_percent back c [] outside (letter_no_percent s.conversion) in
     let same : back ++ c ∷ [] ≡ f ++ (h.width ++ (h.precision ++ (m ++ c ∷ []))) =
-    append_assoc f (h.width ++ (h.precision ++ m)) (c ∷ []) ∙ ap (λ u. f ++ u) (append_assoc h.width (h.precision ++ m) (c ∷ []) ∙ ap (λ u. h.width ++ u) (append_assoc h.precision m (c ∷ []))) in
+    append_assoc f (h.width ++ (h.precision ++ m)) (c ∷ [])
+    ∙ ap (λ u. f ++ u) (append_assoc h.width (h.precision ++ m) (c ∷ []) ∙ ap (λ u. h.width ++ u) (append_assoc h.precision m (c ∷ []))) in
     (more.0, more.1, more.2, h.whole ∙ ap (λ u. 37 ∷ u) (sym same ∙ more.3))

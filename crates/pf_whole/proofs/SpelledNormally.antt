@@ -54,7 +54,8 @@ few_kept conversion (Some (Fetched number)) h = h
 precision_here : (precision : Option Amount) → IsFew precision → SpellsPosixPrecision (posix_precision_spelled precision) None precision
 precision_here None h = refl
 precision_here (Some (Given n)) h = (precision_read (Some n) (small n h), h)
-precision_here (Some (Fetched number)) h = (42 ∷ [], record { digits = []; digits_are = none_placed number (no_number number h); style = h; whole = refl }, refl)
+precision_here (Some (Fetched number)) h =
+    (42 ∷ [], record { digits = []; digits_are = none_placed number (no_number number h); style = h; whole = refl }, refl)
 
 spelled_normally : (model : Model) (t : Text) (s : PosixSpecification) → HasParts t s → SpellsPosix (normal_spelling model s) (normal_parts model s)
 spelled_normally model t s h =
@@ -80,11 +81,15 @@ spelled_normally model t s h =
       whole = refl;
     }
 
-counted : (model : Model) (s : PosixSpecification) → (is_count s.conversion && (has_any_flag s.flags || is_some s.width || is_some s.precision)) ≡ false → (is_count s.conversion && (has_any_flag (kept_flags s) || is_some s.width || is_some (normal_precision s.conversion s.precision))) ≡ false
+counted : (model : Model) (s : PosixSpecification) → (is_count s.conversion && (has_any_flag s.flags || is_some s.width || is_some s.precision)) ≡ false
+    → (is_count s.conversion && (has_any_flag (kept_flags s) || is_some s.width || is_some (normal_precision s.conversion s.precision))) ≡ false
 counted model s e = go (is_count s.conversion) e where
-  go : (b : Bool) → (b && (has_any_flag s.flags || is_some s.width || is_some s.precision)) ≡ false → (b && (has_any_flag (kept_flags s) || is_some s.width || is_some (normal_precision s.conversion s.precision))) ≡ false
-  go true e = no_flags_left (has s.flags Minus) (has s.flags Plus) (has s.flags Space) (has s.flags Alt) (has s.flags Zero) (has s.flags Group) (is_some s.width) (is_some s.precision) (is_some (normal_precision s.conversion s.precision))
-      (keeps_sign s.conversion) (not (has s.flags Plus)) (keeps_sign s.conversion) (is_some s.width) (not (has s.flags Minus)) (not (is_integer s.conversion && is_given s.precision))
+  go : (b : Bool) → (b && (has_any_flag s.flags || is_some s.width || is_some s.precision)) ≡ false
+      → (b && (has_any_flag (kept_flags s) || is_some s.width || is_some (normal_precision s.conversion s.precision))) ≡ false
+  go true e = no_flags_left (has s.flags Minus) (has s.flags Plus) (has s.flags Space) (has s.flags Alt) (has s.flags Zero) (has s.flags Group)
+      (is_some s.width) (is_some s.precision) (is_some (normal_precision s.conversion s.precision))
+      (keeps_sign s.conversion) (not (has s.flags Plus)) (keeps_sign s.conversion) (is_some s.width) (not (has s.flags Minus))
+      (not (is_integer s.conversion && is_given s.precision))
       (precision_same s.conversion s.precision).some e
   go false e = refl
 
@@ -93,13 +98,17 @@ defined_normally model s h =
     let none = no_reason s.flags (is_some s.width) (is_some s.precision) s.modifier s.conversion h in
     let same = same_conversion s.conversion in
     let precision = precision_same s.conversion s.precision in
-    is_defined (kept_flags s) (is_some s.width) (is_some (normal_precision s.conversion s.precision)) (kept_modifier model s.conversion s.modifier) (kept_conversion s.conversion) (record {
+    is_defined (kept_flags s) (is_some s.width) (is_some (normal_precision s.conversion s.precision)) (kept_modifier model s.conversion s.modifier)
+    (kept_conversion s.conversion) (record {
       alt = ap (λ b. has s.flags Alt && not b) same.alt ∙ none.alt;
-      zero_flag = less (has s.flags Zero) (is_some s.width) (not (has s.flags Minus)) (not (is_integer s.conversion && is_given s.precision)) (takes_zero (kept_conversion s.conversion)) (ap (λ b. has s.flags Zero && not b) same.zero_flag ∙ none.zero_flag);
+      zero_flag = less (has s.flags Zero) (is_some s.width) (not (has s.flags Minus)) (not (is_integer s.conversion && is_given s.precision))
+          (takes_zero (kept_conversion s.conversion)) (ap (λ b. has s.flags Zero && not b) same.zero_flag ∙ none.zero_flag);
       group = refl;
-      precision_is = fewer_some (is_some s.precision) (is_some (normal_precision s.conversion s.precision)) (takes_precision (kept_conversion s.conversion)) precision.some (ap (λ b. is_some s.precision && not b) same.precision ∙ none.precision_is);
+      precision_is = fewer_some (is_some s.precision) (is_some (normal_precision s.conversion s.precision))
+          (takes_precision (kept_conversion s.conversion)) precision.some (ap (λ b. is_some s.precision && not b) same.precision ∙ none.precision_is);
       modifier_is = modifier_stands model s.conversion s.modifier none.modifier_is;
-      count = ap (λ b. b && (has_any_flag (kept_flags s) || is_some s.width || is_some (normal_precision s.conversion s.precision))) same.count ∙ counted model s none.count;
+      count = ap (λ b. b && (has_any_flag (kept_flags s) || is_some s.width || is_some (normal_precision s.conversion s.precision))) same.count
+          ∙ counted model s none.count;
     })
 
 pub opaque_normally : (model : Model) (t : Text) (s : PosixSpecification) → SpellsOpaque t s → SpellsOpaque (normal_spelling model s) (normal_parts model s)

@@ -20,7 +20,8 @@ use Rattle.pf_whole.proofs.Apart.{same_parts, spelling_types}
 use Rattle.pf_whole.proofs.KnownArguments.{known_once, widened_once}
 use Rattle.pf_whole.proofs.TraceLemmas.{known_count, length_map, typed_parts}
 
-shape : (model : Model) (index : ℕ) (t u : Text) (a b : Stretches) → ReadsWhole t a → ReadsWhole u b → whole_types model a ≡ whole_types model b → placed_calls model index a ≡ placed_calls model index b → HaveOneShape model a b
+shape : (model : Model) (index : ℕ) (t u : Text) (a b : Stretches) → ReadsWhole t a → ReadsWhole u b → whole_types model a ≡ whole_types model b
+    → placed_calls model index a ≡ placed_calls model index b → HaveOneShape model a b
 shape model index t u (Last items) (Last own) h g e c = widened_once (types model items) (types model own) e
 shape model index t u (Last items) (Before own p more) h g e c = cc
 shape model index t u (Before items s rest) (Last own) h g e c = cc
@@ -33,13 +34,17 @@ shape model index t u (Before items s rest) (Before own p more) h g e c =
     let mine = spelling_types model h.1 g.1 s p h.4 g.4 spelling in
     let many : length (map widened (types model items)) ≡ length (map widened (types model own)) =
     length_map widened (types model items) ∙ omega (arith, place) ∙ sym (length_map widened (types model own)) in
-    let outer = same_parts (map widened (types model items)) (types_of_opaque model s ++ whole_types model rest) (map widened (types model own)) (types_of_opaque model p ++ whole_types model more) many e in
+    let outer = same_parts (map widened (types model items)) (types_of_opaque model s ++ whole_types model rest) (map widened (types model own))
+    (types_of_opaque model p ++ whole_types model more) many e in
     let inner = same_parts (types_of_opaque model s) (whole_types model rest) (types_of_opaque model p) (whole_types model more) (ap length mine) outer.1 in
-    let back : placed_calls model (index + length (types model items) + length (types_of_opaque model s)) rest ≡ placed_calls model (index + length (types model own) + length (types_of_opaque model p)) more = cc in
-    let next : index + length (types model items) + length (types_of_opaque model s) ≡ index + length (types model own) + length (types_of_opaque model p) = ap₂ (λ m n. m + n) place (ap length mine) in (
+    let back : placed_calls model (index + length (types model items) + length (types_of_opaque model s)) rest
+    ≡ placed_calls model (index + length (types model own) + length (types_of_opaque model p)) more = cc in
+    let next : index + length (types model items) + length (types_of_opaque model s)
+    ≡ index + length (types model own) + length (types_of_opaque model p) = ap₂ (λ m n. m + n) place (ap length mine) in (
       widened_once (types model items) (types model own) outer.0,
       spelling,
-      shape model (index + length (types model items) + length (types_of_opaque model s)) h.2 g.2 rest more h.5 g.5 inner.1 (back ∙ ap (λ k. placed_calls model k more) (sym next)),
+      shape model (index + length (types model items) + length (types_of_opaque model s)) h.2 g.2 rest more h.5 g.5 inner.1
+          (back ∙ ap (λ k. placed_calls model k more) (sym next)),
     )
 
 pub calls_give_shape : (model : Model) → CallsGiveShape model
@@ -53,19 +58,22 @@ agreed (k ∷ known) [] h = absurd h
 agreed (k ∷ known) (Known x ∷ args) h = ap₂ (λ y l. Known y ∷ l) h.0 (agreed known args h.1)
 agreed (k ∷ known) (Other x ∷ args) h = absurd h.0
 
-pub agree_parts : (xs ys : List (Option Argument)) (a b : List WholeArgument) → length xs ≡ length a → AllZip Agrees (xs ++ ys) (a ++ b) → AllZip Agrees xs a × AllZip Agrees ys b
+pub agree_parts : (xs ys : List (Option Argument)) (a b : List WholeArgument) → length xs ≡ length a → AllZip Agrees (xs ++ ys) (a ++ b)
+    → AllZip Agrees xs a × AllZip Agrees ys b
 agree_parts [] ys [] b e h = (tt, h)
 agree_parts [] ys (x ∷ a) b e h = absurd (omega (arith, e))
 agree_parts (x ∷ xs) ys [] b e h = absurd (omega (arith, e))
 agree_parts (x ∷ xs) ys (y ∷ a) b e h = let rest = agree_parts xs ys a b (omega (arith, e)) h.1 in ((h.0, rest.0), rest.1)
 
 -- what is printed for known arguments
-pub printed_for : (model : Model) (items : List Item) (known : List Argument) (args : List WholeArgument) (text : Text) → args ≡ map Known known → HasTypes model known (types model items) → PrintsKnown model items args text → text ≡ all_printed model items known
+pub printed_for : (model : Model) (items : List Item) (known : List Argument) (args : List WholeArgument) (text : Text) → args ≡ map Known known
+    → HasTypes model known (types model items) → PrintsKnown model items args text → text ≡ all_printed model items known
 printed_for model items known args text e typed h =
     let same : h.0 ≡ known = known_once h.0 known (sym h.1 ∙ e) in
     PrintsAll-unique model items known text typed (subst (λ l. PrintsAll model items l text) same h.2)
 
-stretch_apart : (model : Model) (a b : List Item) (shown : List (Option Argument)) (args : List WholeArgument) (x y : Text) → types model a ≡ types model b → TellStretches model a b shown → AllZip Agrees shown args → PrintsKnown model a args x → PrintsKnown model b args y → x ≢ y
+stretch_apart : (model : Model) (a b : List Item) (shown : List (Option Argument)) (args : List WholeArgument) (x y : Text) → types model a ≡ types model b
+    → TellStretches model a b shown → AllZip Agrees shown args → PrintsKnown model a args x → PrintsKnown model b args y → x ≢ y
 stretch_apart model a b shown args x y e h agree p q same =
     let is : args ≡ map Known h.known = agreed h.known args (subst (λ l. AllZip Agrees l args) h.shown_is agree) in
     let also : HasTypes model h.known (types model b) = rw (← e) h.typed in
@@ -73,7 +81,9 @@ stretch_apart model a b shown args x y e h agree p q same =
     let second : h.unlike.1 ≡ y = PrintsAll-unique model b h.known h.unlike.1 also h.unlike.3 ∙ sym (printed_for model b h.known args y is also q) in
     h.unlike.4 (first ∙ same ∙ sym second)
 
-apart : (model : Model) (t u : Text) (a b : Stretches) (shown : List (Option Argument)) → ReadsWhole t a → ReadsWhole u b → HaveOneShape model a b → TellSomewhere model a b shown → (args : List WholeArgument) (x y : Trace) → HasWholeTypes model args (whole_types model a) → AllZip Agrees shown args → HasTrace model a args x → HasTrace model b args y → x ≢ y
+apart : (model : Model) (t u : Text) (a b : Stretches) (shown : List (Option Argument)) → ReadsWhole t a → ReadsWhole u b → HaveOneShape model a b
+    → TellSomewhere model a b shown → (args : List WholeArgument) (x y : Trace) → HasWholeTypes model args (whole_types model a) → AllZip Agrees shown args
+    → HasTrace model a args x → HasTrace model b args y → x ≢ y
 apart model t u (Last a) (Last b) shown h g one tell args (Ends x) (Ends y) typed agree p q e = stretch_apart model a b shown args x y one tell agree p q (cc)
 apart model t u (Last a) (Last b) shown h g one tell args (Ends x) (Calls y d z) typed agree p q e = q
 apart model t u (Last a) (Last b) shown h g one tell args (Calls x c w) y typed agree p q e = p
@@ -91,12 +101,16 @@ apart model t u (Before a s rest) (Before b k more) shown h g one tell args (Cal
     let front_too : length p.0 ≡ length q.0 = front ∙ ap (λ ts. length (map widened ts)) one.0 ∙ sym (known_count model b q.0 y q.4) in
     let split = same_parts p.0 (p.1 ++ p.2) q.0 (q.1 ++ q.2) front_too (sym here ∙ there) in
     let behind = same_parts p.1 p.2 q.1 q.2 (p.5.as_many ∙ ap length mine ∙ sym q.5.as_many) split.1 in
-    let types_here = typed_parts model p.0 (p.1 ++ p.2) (map widened (types model a)) (types_of_opaque model s ++ whole_types model rest) front (rw here at typed) in
+    let types_here = typed_parts model p.0 (p.1 ++ p.2) (map widened (types model a)) (types_of_opaque model s ++ whole_types model rest) front
+    (rw here at typed) in
     let types_behind = typed_parts model p.1 p.2 (types_of_opaque model s) (whole_types model rest) p.5.as_many types_here.1 in
-    let agree_all : AllZip Agrees (tell.0 ++ (tell.1 ++ tell.2)) (p.0 ++ (p.1 ++ p.2)) = subst (λ l. AllZip Agrees l (p.0 ++ (p.1 ++ p.2))) tell.3 (subst (λ l. AllZip Agrees shown l) here agree) in
+    let agree_all : AllZip Agrees (tell.0 ++ (tell.1 ++ tell.2)) (p.0 ++ (p.1 ++ p.2)) = subst (λ l. AllZip Agrees l (p.0 ++ (p.1 ++ p.2))) tell.3
+    (subst (λ l. AllZip Agrees shown l) here agree) in
     let agree_here = agree_parts tell.0 (tell.1 ++ tell.2) p.0 (p.1 ++ p.2) (tell.4 ∙ sym (length_map widened (types model a)) ∙ sym front) agree_all in
     let agree_behind = agree_parts tell.1 tell.2 p.1 p.2 (tell.5 ∙ sym p.5.as_many) agree_here.1 in
-    let later : TellSomewhere model rest more tell.2 → ⊥ = λ somewhere. apart model h.2 g.2 rest more tell.2 h.5 g.5 one.2 somewhere p.2 w z types_behind.1 agree_behind.1 p.6 (subst (λ l. HasTrace model more l z) (sym behind.1) q.6) trace in
+    let later : TellSomewhere model rest more tell.2
+    → ⊥ = λ somewhere. apart model h.2 g.2 rest more tell.2 h.5 g.5 one.2 somewhere p.2 w z types_behind.1 agree_behind.1 p.6
+    (subst (λ l. HasTrace model more l z) (sym behind.1) q.6) trace in
     elim tell.6 [
       | inl first ↦ stretch_apart model a b tell.0 p.0 x y one.0 first agree_here.0 p.4 (subst (λ l. PrintsKnown model b l y) (sym split.0) q.4) text
       | inr somewhere ↦ later somewhere

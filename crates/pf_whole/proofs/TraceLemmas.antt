@@ -34,7 +34,8 @@ trace_trans model a b c h g = record {
 }
 
 -- items print for as many arguments as they take
-pub printed_count : (model : Model) (items : List Item) (args : List Argument) (out : Text) → PrintsAll model items args out → length args ≡ length (types model items)
+pub printed_count : (model : Model) (items : List Item) (args : List Argument) (out : Text) → PrintsAll model items args out
+    → length args ≡ length (types model items)
 printed_count model [] [] out h = refl
 printed_count model [] (argument ∷ args) out h = absurd h
 printed_count model (Byte byte ∷ items) [] out h = printed_count model items [] h.0 h.1
@@ -46,21 +47,28 @@ pub length_map : {A B : Type 0} (f : A → B) (xs : List A) → length (map f xs
 length_map f [] = refl
 length_map f (x ∷ xs) = omega (arith, length_map f xs)
 
-pub typed_parts : (model : Model) (xs ys : List WholeArgument) (a b : List ArgumentType) → length xs ≡ length a → HasWholeTypes model (xs ++ ys) (a ++ b) → HasWholeTypes model xs a × HasWholeTypes model ys b
+pub typed_parts : (model : Model) (xs ys : List WholeArgument) (a b : List ArgumentType) → length xs ≡ length a → HasWholeTypes model (xs ++ ys) (a ++ b)
+    → HasWholeTypes model xs a × HasWholeTypes model ys b
 typed_parts model [] ys [] b e h = (tt, h)
 typed_parts model [] ys (type ∷ a) b e h = absurd (omega (arith, e))
 typed_parts model (x ∷ xs) ys [] b e h = absurd (omega (arith, e))
 typed_parts model (x ∷ xs) ys (type ∷ a) b e h = let rest = typed_parts model xs ys a b (omega (arith, e)) h.1 in ((h.0, rest.0), rest.1)
 
-pub known_count : (model : Model) (items : List Item) (args : List WholeArgument) (text : Text) → PrintsKnown model items args text → length args ≡ length (map widened (types model items))
-known_count model items args text h = ap length h.1 ∙ length_map Known h.0 ∙ printed_count model items h.0 text h.2 ∙ sym (length_map widened (types model items))
+pub known_count : (model : Model) (items : List Item) (args : List WholeArgument) (text : Text) → PrintsKnown model items args text
+    → length args ≡ length (map widened (types model items))
+known_count model items args text h = ap length h.1 ∙ length_map Known h.0 ∙ printed_count model items h.0 text h.2
+    ∙ sym (length_map widened (types model items))
 
 -- one stretch and one call, before stretches that have the same traces
-before_goes : (model : Model) (items own : List Item) (s p : PosixSpecification) (rest more : Stretches) → PrintAlike model items own → normal_spelling model s ≡ normal_spelling model p → types_of_opaque model s ≡ types_of_opaque model p → TraceAlike model rest more → (args : List WholeArgument) (trace : Trace) → HasWholeTypes model args (whole_types model (Before items s rest)) → HasTrace model (Before items s rest) args trace → HasTrace model (Before own p more) args trace
+before_goes : (model : Model) (items own : List Item) (s p : PosixSpecification) (rest more : Stretches) → PrintAlike model items own
+    → normal_spelling model s ≡ normal_spelling model p → types_of_opaque model s ≡ types_of_opaque model p → TraceAlike model rest more
+    → (args : List WholeArgument) (trace : Trace) → HasWholeTypes model args (whole_types model (Before items s rest))
+    → HasTrace model (Before items s rest) args trace → HasTrace model (Before own p more) args trace
 before_goes model items own s p rest more print spelling same_types rests args (Ends text) typed h = h
 before_goes model items own s p rest more print spelling same_types rests args (Calls text call trace) typed h =
     let whole = h.3 ∙ append_assoc h.0 h.1 h.2 in
-    let first = typed_parts model h.0 (h.1 ++ h.2) (map widened (types model items)) (types_of_opaque model s ++ whole_types model rest) (known_count model items h.0 text h.4) (rw whole at typed) in
+    let first = typed_parts model h.0 (h.1 ++ h.2) (map widened (types model items)) (types_of_opaque model s ++ whole_types model rest)
+    (known_count model items h.0 text h.4) (rw whole at typed) in
     let second = typed_parts model h.1 h.2 (types_of_opaque model s) (whole_types model rest) h.5.as_many first.1 in (
       h.0,
       h.1,
@@ -71,7 +79,9 @@ before_goes model items own s p rest more print spelling same_types rests args (
       (rests.same_traces h.2 trace second.1).0 h.6,
     )
 
-pub before_alike : (model : Model) (items own : List Item) (s p : PosixSpecification) (rest more : Stretches) → PrintAlike model items own → normal_spelling model s ≡ normal_spelling model p → types_of_opaque model s ≡ types_of_opaque model p → TraceAlike model rest more → TraceAlike model (Before items s rest) (Before own p more)
+pub before_alike : (model : Model) (items own : List Item) (s p : PosixSpecification) (rest more : Stretches) → PrintAlike model items own
+    → normal_spelling model s ≡ normal_spelling model p → types_of_opaque model s ≡ types_of_opaque model p → TraceAlike model rest more
+    → TraceAlike model (Before items s rest) (Before own p more)
 before_alike model items own s p rest more print spelling same_types rests =
     let whole : whole_types model (Before items s rest) ≡ whole_types model (Before own p more) =
     ap₂ (λ a b. a ++ b) (ap (map widened) print.same_types) (ap₂ (λ a b. a ++ b) same_types rests.same_types) in
@@ -79,6 +89,7 @@ before_alike model items own s p rest more print spelling same_types rests =
       same_types = whole;
       same_traces = λ args trace typed. (
         λ g. before_goes model items own s p rest more print spelling same_types rests args trace typed g,
-        λ g. before_goes model own items p s more rest (turned model items own print) (sym spelling) (sym same_types) (trace_sym model rest more rests) args trace (rw (← whole) typed) g,
+        λ g. before_goes model own items p s more rest (turned model items own print) (sym spelling) (sym same_types)
+            (trace_sym model rest more rests) args trace (rw (← whole) typed) g,
       );
     }

@@ -120,7 +120,8 @@ nth_another (suc k) [] type e = cc
 nth_another zero (t ∷ types) type e = let same : t ≡ type = cc in ap (λ t. Some (whole_another t)) same
 nth_another (suc k) (t ∷ types) type e = nth_another k types type e
 
-pub nth_neutral : (k m : ℕ) (types : List ArgumentType) (type : ArgumentType) → k ≢ m → nth types m ≡ Some type → nth (one_other k types) m ≡ Some (whole_neutral type)
+pub nth_neutral : (k m : ℕ) (types : List ArgumentType) (type : ArgumentType) → k ≢ m → nth types m ≡ Some type
+    → nth (one_other k types) m ≡ Some (whole_neutral type)
 nth_neutral k m [] type other e = cc
 nth_neutral zero zero (t ∷ types) type other e = absurd (other refl)
 nth_neutral zero (suc m) (t ∷ types) type other e = nth_neutrals types m type e
