@@ -12,12 +12,16 @@ use Rattle.pf_values.specs.declared.limits.TheConstants.{MAX_NUMBER}
 use Rattle.pf_values.specs.declared.models.Model.{Model}
 use Rattle.pf_values.specs.declared.models.Model.TheVariants.{Lp64, Ilp32, Llp64}
 use Rattle.pf_values.specs.meaning.Canonical.{item_spelling}
+use Rattle.pf_values.specs.meaning.Defined.{IsDefined}
 use Rattle.pf_values.specs.meaning.Digits.{place_sum}
-use Rattle.pf_values.specs.meaning.Flags.{flag_byte, flag_set}
-use Rattle.pf_values.specs.meaning.Items.{Byte, Reads}
+use Rattle.pf_values.specs.meaning.Flags.{flag_byte, flag_set, no_flags}
+use Rattle.pf_values.specs.meaning.Items.{Byte, Directive, IsReadAs, Item, Reads}
+use Rattle.pf_values.specs.meaning.Normal.{IsNormal, silent}
+use Rattle.pf_values.specs.meaning.Specification.{Specification}
+use Rattle.pf_values.specs.meaning.Spelling.{spelling_of}
 use Rattle.pf_values.specs.meaning.Text.{Text}
 use Rattle.pf_text.proofs.CanonicalRunLemmas.{byte_read}
-use Rattle.pf_text.proofs.ReadBack.{decimal_is, least_digits_are}
+use Rattle.pf_text.proofs.ReadBack.{decimal_is, least_digits_are, spelled_read}
 use Rattle.pf_compare.proofs.ReductionLemmas.{bytes_canonical}
 use Rattle.pf_signatures.specs.declared.conversions.Conversion.{Conversion}
 use Rattle.pf_signatures.specs.declared.conversions.Conversion.TheVariants.{Profile, Float, UpperC, UpperS, Pointer, Count}
@@ -407,6 +411,75 @@ unfolding digits
 zero_kept =
     then_on [] refl (opaque Lp64 (Zero ∷ []) star_width star_precision (Integer lengths.None) (Profile convs.D) refl refl)
     (ends [] refl)
+
+-- no `%.0s` passes an opaque directive
+abbrev five : Specification
+five = record { flags = no_flags; width = Some 5; precision = None; length = lengths.None; conv = convs.D }
+
+five_normal : IsNormal Lp64 five
+five_normal = record {
+  defined = record { width = λ e. let width : ℕ = 5 in let same : width ≡ 0 = cc in omega (arith, same); allowed = refl };
+  no_group = refl;
+  length = refl;
+  conv = refl;
+  no_plus = λ e. absurd (cc);
+  no_space = λ e. absurd (cc);
+  precision = λ e. absurd (cc);
+  form = record {
+    one_sign = λ e. absurd (cc);
+    least = λ some. omega arith;
+    most = omega arith;
+    right_space = λ right e. absurd (cc);
+    right_bare = λ right none few. absurd (omega (arith, few));
+    left = λ e. absurd (cc);
+  };
+}
+
+silent_read : IsReadAs (spelling_of silent) (Directive silent)
+silent_read = let defined : IsDefined silent = record { width = λ e. cc; allowed = refl } in (spelled_read silent defined, defined)
+
+abbrev three_items : List Item
+three_items = Directive silent ∷ Directive five ∷ Directive silent ∷ []
+
+three_kept : IsCanonicalStretch Lp64 three_items (spelling_of silent ++ (spelling_of five ++ (spelling_of silent ++ [])))
+three_kept = record {
+  own = three_items;
+  canonical = record {
+    reads = (
+      spelling_of silent,
+      spelling_of five ++ (spelling_of silent ++ []),
+      silent_read,
+      (
+        spelling_of five,
+        spelling_of silent ++ [],
+        (spelled_read five five_normal.defined, five_normal.defined),
+        (spelling_of silent, [], silent_read, refl, refl),
+        refl,
+      ),
+      refl,
+    );
+    canonical = (inr (refl, tt), (inl five_normal, (inr (refl, tt), tt)));
+    whole = refl;
+  };
+  alike = record { same_types = refl; same_bytes = λ args out typed. (λ p. p, λ p. p) };
+}
+
+one_kept : IsCanonicalStretch Lp64 (Directive silent ∷ []) (spelling_of silent ++ [])
+one_kept = record {
+  own = Directive silent ∷ [];
+  canonical = record { reads = (spelling_of silent, [], silent_read, refl, refl); canonical = (inr (refl, tt), tt); whole = refl };
+  alike = record { same_types = refl; same_bytes = λ args out typed. (λ p. p, λ p. p) };
+}
+
+silent_stays : IsWholeCanonicalOf Lp64 (codes "%.0s%5d%.0s%p%.0s") (codes "%.0s%5d%.0s%p%.0s")
+unfolding digits opaque one_kept three_kept
+silent_stays =
+    let pointer = opaque Lp64 [] no_width no_precision (Integer lengths.None) Pointer refl refl in
+    record {
+      stretches = Before three_items (parts [] no_width no_precision (Integer lengths.None) Pointer) (Last (Directive silent ∷ []));
+      reads = (codes "%.0s%5d%.0s", codes "%p", codes "%.0s", three_kept.canonical.reads, pointer.spelled, one_kept.canonical.reads, refl);
+      together = (codes "%.0s%5d%.0s", codes "%.0s", three_kept, one_kept, refl);
+    }
 
 -- `%*tX!` and `%*.1tX!` are alike: they have one canonical text
 shorter : IsWholeCanonicalOf Lp64 (codes "%*tX!") (codes "%*lX!")
