@@ -1,5 +1,5 @@
--- Stretches that are alike call at the same places: so their first stretches are alike, and so is
--- what comes after the first call.
+-- Alike lists of stretches make their first call at the same argument. So their first stretches print
+-- alike, and what comes after the first call is alike, too.
 use Rattle.std.proofs.Common.{◌≡◌, ◌≢◌, ℕ, zero, List, [], ◌∷◌, ◌++◌, map, length, refl, sym, ap, ap₂, ◌∙◌, arith, subst, inl, inr}
 use Rattle.std.specs.Prelude.{Some}
 use Rattle.std.proofs.lemmas.List.{append_assoc}
@@ -25,7 +25,7 @@ use Rattle.pf_whole.proofs.SpelledNormally.{opaque_normally}
 use Rattle.pf_whole.proofs.TraceLemmas.{known_count, trace_sym}
 use Rattle.pf_whole.proofs.TwoValues.{count, count_is, whole_neutrals_typed, nth, nth_another, nth_behind, nth_neutral, one_other, one_other_typed, two_values, whole_another, whole_neutral, whole_neutrals}
 
--- one normal spelling, the same types
+-- directives with the same normal spelling take the same types
 pub spelling_types : (model : Model) (t u : Text) (s p : PosixSpecification) → SpellsOpaque t s → SpellsOpaque u p
     → normal_spelling model s ≡ normal_spelling model p → types_of_opaque model s ≡ types_of_opaque model p
 spelling_types model t u s p h g e =
@@ -48,7 +48,7 @@ same_parts (x ∷ a) b (y ∷ c) d n e =
     let head : x ≡ y = cc in
     (ap₂ (λ z l. z ∷ l) head first, rest.1)
 
--- an opaque directive takes some argument
+-- an opaque directive takes at least one argument
 some_type : (model : Model) (s : PosixSpecification) → (type : ArgumentType) × (more : List ArgumentType) × (types_of_opaque model s ≡ type ∷ more)
 some_type model s = go (star_fetches s.width ++ star_fetches s.precision) where
   go : (front : List _) → (type : ArgumentType) × (more : List ArgumentType)
@@ -56,13 +56,13 @@ some_type model s = go (star_fetches s.width ++ star_fetches s.precision) where
   go [] = (_, _, refl)
   go (f ∷ front) = (_, _, refl)
 
--- the first of some arguments, where there are as many as types
+-- the first arguments, one for each of the first types
 first_of : (args : List WholeArgument) (type : ArgumentType) (more ts : List ArgumentType) → ts ≡ type ∷ more → length args ≡ length ts
     → (x : WholeArgument) × (rest : List WholeArgument) × (args ≡ x ∷ rest)
 first_of [] type more ts e n = absurd (omega (arith, n, ap length e))
 first_of (x ∷ args) type more ts e n = (x, args, refl)
 
--- where a call begins
+-- the argument after those of the first stretch is the first one of the call
 behind : (args first own back : List WholeArgument) (x : WholeArgument) (rest : List WholeArgument) (n : ℕ) → args ≡ (first ++ own) ++ back → own ≡ x ∷ rest
     → length first ≡ n → nth args (count first) ≡ Some x
 behind args first own back x rest n e o l =
@@ -71,7 +71,7 @@ behind args first own back x rest n e o l =
 same_count : {A B : Type 0} (xs : List A) (ys : List B) → length xs ≡ length ys → count xs ≡ count ys
 same_count xs ys e = omega (arith, count_is xs, count_is ys, e)
 
--- what two traces say of the first call
+-- equal traces have the same first call
 record AreCalledAlike (model : Model) (items own : List Item) (s p : PosixSpecification) (args : List WholeArgument) : Type 0 where
   spelling : normal_spelling model s ≡ normal_spelling model p
   argument : nth args (count (map widened (types model items))) ≡ nth args (count (map widened (types model own)))
@@ -146,7 +146,7 @@ module _ (model : Model) (t u : Text) (items own : List Item) (s p : PosixSpecif
   pub rest_types : whole_types model rest ≡ whole_types model more
   rest_types = (same_parts (types_of_opaque model s) (whole_types model rest) (types_of_opaque model p) (whole_types model more) (ap length same_own) outer.1).1
 
-  -- arguments of the stretch, of the directive and of the rest
+  -- the arguments of the stretch, of the directive, and of the rest
   whole_typed : (first mine back : List WholeArgument) → HasWholeTypes model first (map widened (types model items))
       → HasWholeTypes model mine (types_of_opaque model s) → HasWholeTypes model back (whole_types model rest)
       → HasWholeTypes model ((first ++ mine) ++ back) (whole_types model (Before items s rest))

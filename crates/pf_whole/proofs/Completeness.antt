@@ -1,4 +1,4 @@
--- Texts that are alike have one canonical text.
+-- Canonical texts of alike texts are equal.
 use Rattle.std.proofs.Common.{◌≡◌, List, ◌++◌, sym, ap₂, ◌∙◌}
 use Rattle.pf_values.specs.declared.models.Model.{Model}
 use Rattle.pf_values.specs.meaning.Canonical.{IsCanonicalOf}
@@ -32,7 +32,7 @@ one_stretch model t u c d a b h g alike x y =
     (record { first = a; second = b; reads_first = h; reads_second = g; alike = alike })
     (canonical_of model t c a h x) (canonical_of model u d b g y)
 
--- one of two has a call, and the other hasn't
+-- of alike lists of stretches, both make a call or neither does
 pub no_call : (model : Model) (items own : List Item) (p : PosixSpecification) (more : Stretches) → TraceAlike model (Last items) (Before own p more) → ⊥
 no_call model items own p more h =
     let ts = whole_types model (Last items) in

@@ -1,4 +1,4 @@
--- Texts are alike exactly if what they are read as corresponds.
+-- Two texts are alike exactly if their stretches correspond.
 use Rattle.std.proofs.Common.{◌≡◌, ℕ, ◌+◌, ◌∷◌, length, refl, ap, ap₂, ◌∙◌}
 use Rattle.pf_values.specs.declared.models.Model.{Model}
 use Rattle.pf_values.specs.meaning.Items.{types}

@@ -1,4 +1,4 @@
--- What is accepted here is accepted by `pf_signatures`, with the same types.
+-- A text that is accepted here is accepted by `pf_signatures`, too, with the same types.
 use Rattle.std.proofs.Common.{◌≡◌, List, [], ◌∷◌, ◌++◌, map, refl, sym, ap, ap₂, ◌∙◌, inl, subst}
 use Rattle.std.specs.Prelude.{Option, Some, None}
 use Rattle.std.specs.List.{AllByRecursion}

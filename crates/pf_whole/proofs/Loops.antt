@@ -1,4 +1,5 @@
--- What the loops over stretches keep: what came, in front of what is left. For the calls to come.
+-- What a loop over stretches keeps: what is done, before what is left. No law uses these lemmas; they
+-- are for functions that are still to be written.
 use Rattle.std.proofs.Common.{◌≡◌, List, [], ◌++◌, refl, sym, ap, ◌∙◌, subst}
 use Rattle.std.specs.Prelude.{◌↔◌}
 use Rattle.std.proofs.lemmas.List.{append_assoc}
@@ -14,7 +15,7 @@ use Rattle.pf_whole.specs.meaning.NormalSpellings.{normal_spelling}
 use Rattle.pf_whole.specs.meaning.Stretches.{Stretches, Before}
 use Rattle.pf_whole.specs.meaning.WholeCanonical.{IsCanonicalStretch, IsPutTogether}
 
--- `out` and the canonical text of what is left are that of the whole
+-- `out`, followed by the canonical text of what is left, is the canonical text of the whole
 abbrev pub Continues : Model → Stretches → Stretches → Text → Type 0
 Continues model whole left out = (back : Text) → IsPutTogether model left back → IsPutTogether model whole (out ++ back)
 
@@ -30,7 +31,7 @@ continues_past model whole rest items s out first h g back k =
     sym (append_assoc out (first ++ normal_spelling model s) back) ∙ ap (λ l. l ++ back) (sym (append_assoc out first (normal_spelling model s))) in
     subst (IsPutTogether model whole) same more
 
--- a stretch's own canonical text, as `pf_canon` gives it
+-- the canonical text that `pf_canon` gives for a stretch is that of the stretch
 pub stretch_of : (model : Model) (t c : Text) (items : List Item) → Reads t items → IsCanonicalOf model t c → IsCanonicalStretch model items c
 stretch_of model t c items reads h =
     let first : h.equivalent.first ≡ items = Reads-unique t h.equivalent.first items h.equivalent.reads_first reads in
@@ -47,7 +48,7 @@ stretches_equivalent model t u a b h g = (
   λ alike. record { first = a; second = b; reads_first = h; reads_second = g; alike = alike },
 )
 
--- what is to be compared still
+-- after two stretches and directives that correspond, the rest has to
 pub corresponds_past : (model : Model) (a b : List Item) (s p : PosixSpecification) (rest more : Stretches) → PrintAlike model a b
     → normal_spelling model s ≡ normal_spelling model p → (Correspond model (Before a s rest) (Before b p more) ↔ Correspond model rest more)
 corresponds_past model a b s p rest more alike spelling = (λ h. h.2, λ h. (alike, spelling, h))

@@ -1,4 +1,4 @@
--- A specification that isn't opaque is one of the profile.
+-- An unnumbered specification that isn't opaque is one of the profile.
 use Rattle.std.proofs.Common.{◌≡◌, ◌≢◌, ℕ, Bool, true, false, List, [], ◌∷◌, ◌++◌, map, refl, sym, ap, ap₂, ◌∙◌, arith, subst}
 use Rattle.std.specs.Prelude.{Option, Some, None, is_some, not, ◌&&◌, ◌||◌}
 use Rattle.std.specs.List.{AllByRecursion}
@@ -70,7 +70,7 @@ no_precision t None e h = (h, refl, refl)
 no_precision t (Some (Given n)) e h = (h.0, small n h.1, refl)
 no_precision t (Some (Fetched number)) e h = cc
 
--- its parts are those of a specification of the profile
+-- its conversion and modifier are of the profile
 record IsOfProfile (s : PosixSpecification) : Type 0 where
   conv : Conv
   length : Length
@@ -142,7 +142,7 @@ narrowed t s h d u e =
           fits,
     )
 
--- one item more in front
+-- one item more at the front
 pushed : (t u : Text) (item : Item) (a : Stretches) → IsReadAs t item → ReadsWhole u a → ReadsWhole (t ++ u) (push item a)
 pushed t u item (Last items) h g = (t, u, h, g, refl)
 pushed t u item (Before items s rest) h g = (

@@ -1,5 +1,5 @@
--- The parts of a normal spelling: they are their own normal parts, they are defined and opaque where
--- those before are, and they take arguments of the same types.
+-- The parts of a normal spelling are their own normal parts. If a directive is defined and opaque, so
+-- are its normal parts, and they take arguments of the same types.
 use Rattle.std.proofs.Common.{◌≡◌, ℕ, Bool, true, false, refl, ap, ◌∙◌}
 use Rattle.std.specs.Prelude.{Option, Some, None, is_some, not, ◌&&◌, ◌||◌, ◌==◌, if◌then◌else◌}
 use Rattle.pf_values.specs.declared.conversions.Conv.TheVariants as convs

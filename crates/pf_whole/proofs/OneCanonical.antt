@@ -1,4 +1,4 @@
--- A canonical text of the whole language is alike to what it is one of, and its own canonical text.
+-- A canonical text of a text is alike to it, and is its own canonical text.
 use Rattle.std.proofs.Common.{◌≡◌, List, ◌++◌, refl, sym, ap, ◌∙◌}
 use Rattle.pf_values.specs.declared.models.Model.{Model}
 use Rattle.pf_values.specs.meaning.Items.{Item}
@@ -15,7 +15,7 @@ use Rattle.pf_whole.proofs.ReadOnce.{read_once}
 use Rattle.pf_whole.proofs.SpelledNormally.{opaque_normally}
 use Rattle.pf_whole.proofs.TraceLemmas.{before_alike, trace_sym, trace_trans}
 
--- what a canonical text is read as
+-- the stretches that a canonical text is read as
 pub record IsReadBack (model : Model) (a : Stretches) (c : Text) : Type 0 where
   pub own : Stretches
   pub reads : ReadsWhole c own

@@ -1,4 +1,4 @@
--- Texts that are alike print the same, whatever calls print.
+-- Alike texts print the same, whatever the calls print.
 use Rattle.std.proofs.Common.{◌≡◌}
 use Rattle.pf_values.specs.declared.models.Model.{Model}
 use Rattle.pf_whole.specs.Laws.{AlikePrintAlike}

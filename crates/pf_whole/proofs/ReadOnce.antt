@@ -1,4 +1,4 @@
--- A text of the whole language is read in one way.
+-- A text of the whole language is read in one way at most.
 use Rattle.std.proofs.Common.{◌≡◌, ◌≢◌, ℕ, Bool, true, false, List, [], ◌∷◌, ◌++◌, map, refl, sym, ap, ap₂, ◌∙◌, arith}
 use Rattle.std.specs.Prelude.{Option, Some, None, ◌==◌, ◌&&◌, if◌then◌else◌, MatchBool}
 use Rattle.std.proofs.lemmas.Bool.Decides.{nat_tests}
@@ -78,7 +78,7 @@ flat_once t (PosixDirective s ∷ a) (PosixDirective p ∷ b) h g =
     let rest = flat_once g.1 a b (rw (← same.1) h.3) g.3 in
     ap₂ (λ s items. PosixDirective s ∷ items) same.0 rest
 
--- the items of stretches, one after another
+-- the items and directives of stretches, in one list
 abbrev pub flat : Stretches → List PosixItem
 flat (Last items) = map item_of items
 flat (Before items s rest) = map item_of items ++ PosixDirective s ∷ flat rest
@@ -105,7 +105,7 @@ stretches_flat t (Before items s rest) h =
     rw (h.6, append_assoc h.0 h.1 h.2) (flat_append h.0 (h.1 ++ h.2) (map item_of items) (PosixDirective s ∷ flat rest) (items_flat h.0 items h.3)
     (h.1, h.2, parts_of h.1 s h.4.spelled h.4.unnumbered, stretches_flat h.2 rest h.5, refl))
 
--- and back
+-- and from such a list to stretches
 abbrev pub amount_back : Option Amount → Option ℕ
 amount_back None = None
 amount_back (Some (Given n)) = Some n
@@ -149,7 +149,7 @@ no_star : (o : Option ℕ) → is_star (given o) ≡ false
 no_star None = refl
 no_star (Some n) = refl
 
--- what the profile has is not opaque
+-- a directive of the profile is not opaque
 pub not_opaque : (s : Specification) → IsDefined s → is_opaque (whole_of s) ≡ false
 not_opaque s h =
     let width = no_star s.width in

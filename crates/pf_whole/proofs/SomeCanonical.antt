@@ -28,7 +28,7 @@ some_byte t byte h = go (byte == 37) refl h where
   go true e h = λ zero. let no : false ≡ true = sym (ap (λ k. k == 37) zero) ∙ e in cc
   go false e h = h.0
 
--- more items
+-- the items that follow
 joined : (model : Model) (out first more : Text) (waiting : ℕ) (before items : List Item) (item : Item)
     → IsSettling model ((out ++ first) ++ more) waiting ((before ++ item ∷ []) ++ items) []
     → IsSettling model (out ++ (first ++ more)) waiting (before ++ item ∷ items) []
@@ -83,7 +83,7 @@ nothing_made model = record {
   };
 }
 
--- a stretch has one
+-- a stretch has a canonical text
 some_stretch : (model : Model) (t : Text) (items : List Item) → Reads t items → (c : Text) × IsCanonicalStretch model items c
 some_stretch model t items reads =
     let all = settle model [] 0 [] items t reads (nothing_made model) in

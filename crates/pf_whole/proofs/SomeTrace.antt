@@ -1,4 +1,4 @@
--- For arguments of its types each list of stretches has a trace.
+-- Each list of stretches has a trace for arguments of its types.
 use Rattle.std.proofs.Common.{◌≡◌, List, [], ◌∷◌, ◌++◌, map, length, refl, sym, ap, ◌∙◌, arith, subst}
 use Rattle.std.proofs.lemmas.List.{append_assoc}
 use Rattle.pf_values.specs.declared.models.Model.{Model}
@@ -80,7 +80,7 @@ known_printed model items args h =
 abbrev pub call_of : Model → PosixSpecification → List WholeArgument → Call
 call_of model s args = record { spelling = normal_spelling model s; args = args }
 
--- the trace of the rest, behind a stretch and a call
+-- the trace of the rest, after a stretch and a call
 pub trace_before : (model : Model) (items : List Item) (s : PosixSpecification) (rest : Stretches) (first own back : List WholeArgument) (text : Text)
     (trace : Trace) → PrintsKnown model items first text → HasWholeTypes model own (types_of_opaque model s) → HasTrace model rest back trace
     → HasTrace model (Before items s rest) ((first ++ own) ++ back) (Calls text (call_of model s own) trace)

@@ -1,4 +1,4 @@
--- The text of a specification that isn't numbered tells its parts, and where it ends.
+-- The text of an unnumbered specification determines its parts, and where it ends.
 use Rattle.std.proofs.Common.{◌≡◌, ℕ, ◌-◌, ◌<◌, Bool, true, false, List, [], ◌∷◌, ◌++◌, map, refl, sym, ap, ◌∙◌, arith}
 use Rattle.std.specs.Prelude.{Option, Some, None, ◌||◌, ◌==◌, is_some, unwrap_or, if◌then◌else◌}
 use Rattle.std.specs.Fmt.{digit_glyph}
@@ -28,7 +28,7 @@ use Rattle.pf_signatures.proofs.Digits.{first_above_zero}
 use Rattle.pf_signatures.proofs.Reaching.{letter_tests as read_letter}
 use Rattle.pf_whole.proofs.Spans.{AreInside, BeginsOutside, begins, spans}
 
--- what stands in each part of a specification
+-- the bytes of each part of a specification
 abbrev is_flag : ℕ → Bool
 is_flag byte = byte == 45 || byte == 43 || byte == 32 || byte == 35 || byte == 48 || byte == 39
 
@@ -41,7 +41,7 @@ is_precision byte = is_digit byte || byte == 42 || byte == 46
 abbrev is_modifier : ℕ → Bool
 is_modifier byte = byte == 104 || byte == 108 || byte == 106 || byte == 122 || byte == 116 || byte == 76
 
--- the parts of such a text
+-- the parts of the text of an unnumbered specification
 pub record HasParts (t : Text) (s : PosixSpecification) : Type 0 where
   pub flags : List Flag
   pub width : Text
@@ -195,7 +195,7 @@ pub no_number : (number : Option ℕ) → is_some number ≡ false → number �
 no_number None e = refl
 no_number (Some n) e = cc
 
--- a text of digits is no star
+-- a text of digits is not `*`
 no_star : (t rest : Text) (ds : List ℕ) → AllByRecursion (λ d. d < 10) ds → t ≡ map (digit_glyph false) ds → t ≡ 42 ∷ rest → ⊥
 no_star t rest [] h e f = let no : [] ≡ 42 ∷ rest = sym e ∙ f in cc
 no_star t rest (d ∷ ds) h e f =
@@ -297,7 +297,7 @@ longer f w p m c r =
 inner : (a b : Text) → 37 ∷ a ≡ 37 ∷ b → a ≡ b
 inner a b e = cc
 
--- two of them, with something after each
+-- two specifications that begin the same text have the same parts, and end at the same byte
 pub one_specification : (t u x y : Text) (a b : PosixSpecification) → HasParts t a → HasParts u b → t ++ x ≡ u ++ y → (a ≡ b) × (x ≡ y)
 one_specification t u x y a b h g e =
     let c = conversion_letter a.conversion in
@@ -389,7 +389,7 @@ letter_no_percent (Float floats.F) = refl
 letter_no_percent (Float _) = refl
 letter_no_percent _ = refl
 
--- such a text begins with `%`, and goes on with another byte
+-- the text of a specification begins with `%`, and its second byte is another one
 pub begins_no_percent : (t : Text) (s : PosixSpecification) → HasParts t s
     → (second : ℕ) × (more : Text) × ((second == 37) ≡ false) × (t ≡ 37 ∷ (second ∷ more))
 begins_no_percent t s h =

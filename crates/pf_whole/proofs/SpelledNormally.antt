@@ -1,4 +1,4 @@
--- A normal spelling is read as its parts.
+-- A normal spelling spells the normal parts.
 use Rattle.std.proofs.Common.{◌≡◌, ℕ, ◌≤◌, Bool, true, false, [], ◌∷◌, ◌++◌, map, refl, sym, ap, ◌∙◌, arith, subst}
 use Rattle.std.specs.Prelude.{Option, Some, None, is_some, not, ◌&&◌, ◌||◌, ◌==◌, filter, if◌then◌else◌, ⊤}
 use Rattle.std.specs.Int.Digits.{digits_of}
@@ -31,7 +31,7 @@ width_here t (Some (Given n)) h = record {
 }
 width_here t (Some (Fetched number)) h = record { digits = []; digits_are = none_placed number (no_number number h.style); style = h.style; whole = refl }
 
--- what a precision is to be
+-- the precision is one that can be spelled
 abbrev IsFew : Option Amount → Type 0
 IsFew None = ⊤
 IsFew (Some (Given n)) = n ≤ MAX_NUMBER

@@ -1,4 +1,4 @@
--- Arguments of one stretch tell whole texts apart.
+-- Arguments for which one stretch prints other bytes tell the traces of whole texts apart.
 use Rattle.std.proofs.Common.{◌≡◌, ◌≢◌, ℕ, ◌+◌, List, [], ◌∷◌, ◌++◌, map, length, refl, sym, ap, ap₂, ◌∙◌, arith, subst, inl, inr}
 use Rattle.std.specs.Prelude.{Option, Some}
 use Rattle.std.specs.List.{AllZip}
@@ -50,7 +50,7 @@ shape model index t u (Before items s rest) (Before own p more) h g e c =
 pub calls_give_shape : (model : Model) → CallsGiveShape model
 calls_give_shape model t u a b h g e c = shape model 0 t u a b h g e c
 
--- arguments that agree with known ones are those
+-- arguments that agree with known ones are the known ones
 pub agreed : (known : List Argument) (args : List WholeArgument) → AllZip Agrees (map Some known) args → args ≡ map Known known
 agreed [] [] h = refl
 agreed [] (x ∷ args) h = absurd h

@@ -1,4 +1,4 @@
--- Where each stretch prints the same for the arguments that are shown, so does the whole.
+-- If each stretch prints the same bytes for the arguments shown, the traces of the whole are equal.
 use Rattle.std.proofs.Common.{◌≡◌, List, [], ◌∷◌, ◌++◌, map, length, refl, sym, ap, ◌∙◌, arith, subst}
 use Rattle.std.specs.Prelude.{Option, Some}
 use Rattle.std.specs.List.{AllZip}

@@ -1,4 +1,4 @@
--- Stretches that take the same types and have the same traces.
+-- Lists of stretches with the same types and traces.
 use Rattle.std.proofs.Common.{◌≡◌, List, [], ◌∷◌, ◌++◌, map, length, refl, sym, ap, ap₂, ◌∙◌, arith}
 use Rattle.std.proofs.lemmas.List.{append_assoc}
 use Rattle.pf_values.specs.declared.models.Model.{Model}
@@ -33,7 +33,7 @@ trace_trans model a b c h g = record {
       (λ k. second.0 (first.0 k), λ k. first.1 (second.1 k));
 }
 
--- items print for as many arguments as they take
+-- if items print for some arguments, there is one argument for each type
 pub printed_count : (model : Model) (items : List Item) (args : List Argument) (out : Text) → PrintsAll model items args out
     → length args ≡ length (types model items)
 printed_count model [] [] out h = refl

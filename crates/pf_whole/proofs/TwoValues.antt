@@ -1,4 +1,4 @@
--- Each type has two arguments, and lists of arguments that differ at one place.
+-- Two arguments of each type, and lists of arguments that differ at one index.
 use Rattle.std.proofs.Common.{◌≡◌, ◌≢◌, ℕ, zero, suc, List, [], ◌∷◌, ◌++◌, map, length, refl, ap, arith}
 use Rattle.std.specs.Prelude.{Option, Some, None, pos, negsuc, Contains}
 use Rattle.pf_values.specs.declared.models.Model.{Model}
@@ -11,7 +11,7 @@ use Rattle.pf_probes.proofs.Telling.{candidate_typed}
 use Rattle.pf_signatures.specs.declared.types.ArgumentType.{ArgumentType}
 use Rattle.pf_whole.specs.meaning.WholeArguments.{WholeArgument, Known, Other, HasNarrowedType, HasWholeTypes, narrowed}
 
--- another argument than the neutral one
+-- an argument that is not the neutral one
 abbrev another : ArgType → Argument
 another Str = String (65 ∷ [])
 another _ = Number (pos 1)
@@ -72,7 +72,7 @@ two_at o e = omega (arith, another_size o, neutral_size o, ap size e)
 pub two_values : (type : ArgumentType) → whole_another type ≡ whole_neutral type → ⊥
 two_values type e = two_at (narrowed type) e
 
--- neutral arguments, but for the one at a place
+-- neutral arguments, except the one at an index
 abbrev pub whole_neutrals : List ArgumentType → List WholeArgument
 whole_neutrals types = map whole_neutral types
 
@@ -91,7 +91,7 @@ one_other_typed model (suc k) [] = tt
 one_other_typed model zero (type ∷ types) = (another_typed_at model (narrowed type), whole_neutrals_typed model types)
 one_other_typed model (suc k) (type ∷ types) = (neutral_typed_at model (narrowed type), one_other_typed model k types)
 
--- what stands behind so many
+-- the element after the first `n`
 abbrev pub nth : {A : Type 0} → List A → ℕ → Option A
 nth [] n = None
 nth (x ∷ xs) zero = Some x

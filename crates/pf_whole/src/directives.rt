@@ -160,6 +160,7 @@ fn zero_precision(conversion: Conversion) -> Option<OpaqueAmount>
     }
 }
 
+// Whether a precision is the default one of the conversion.
 fn is_meant(conversion: Conversion, n: u16) -> bool
     ensures { result ≡ is_amount (meant_precision conversion) n }
 {
@@ -171,6 +172,7 @@ fn is_meant(conversion: Conversion, n: u16) -> bool
     }
 }
 
+// Adds the flag if it is wanted.
 fn with_if(flags: FlagSet, flag: Flag, wanted: bool) -> FlagSet
     ensures { result ≡ (if wanted then with_flag flags flag else flags) }
 {
@@ -209,6 +211,7 @@ fn kept_flags(directive: OpaqueDirective) -> FlagSet
     set_of(minus, plus, space, flags.has(Flag::Alt), zero)
 }
 
+// The set of these flags, without `'`.
 fn set_of(minus: bool, plus: bool, space: bool, alt: bool, zero: bool) -> FlagSet
     ensures { result ≡ made_set minus plus space alt zero }
 {
@@ -220,6 +223,7 @@ fn set_of(minus: bool, plus: bool, space: bool, alt: bool, zero: bool) -> FlagSe
     with_if(four, Flag::Zero, zero)
 }
 
+// `a && b`, as a call: its result is one step in a proof.
 fn both(a: bool, b: bool) -> bool
     ensures { result ≡ (a && b) }
 {
