@@ -1,9 +1,10 @@
 -- Examples of the definitions, each of which computes. docs/DEFINITIONS.md goes through them.
 use Rattle.std.proofs.Common.{◌≡◌, ℕ, zero, suc, ◌<◌, ◌≤◌, Bool, true, false, List, [], ◌∷◌, ◌++◌, codes, length, map, refl, sym, ap, ◌∙◌, arith, inl, inr, subst}
-use Rattle.std.specs.Prelude.{Option, Some, None, ◌==◌, if◌then◌else◌, decimal, flat_map}
+use Rattle.std.specs.Prelude.{Option, Some, None, ◌==◌, if◌then◌else◌, decimal, flat_map, Contains, slice_index}
 use Rattle.std.specs.Fmt.{digit_glyph, digits}
 use Rattle.std.specs.Int.Digits.{digits_of}
 use Rattle.std.specs.List.{AllByRecursion}
+use Rattle.pf_values.specs.declared.conversions.Conv.{Conv}
 use Rattle.pf_values.specs.declared.conversions.Conv.TheVariants as convs
 use Rattle.pf_values.specs.declared.flags.Flag.{Flag}
 use Rattle.pf_values.specs.declared.flags.Flag.TheVariants.{Minus, Plus, Space, Alt, Zero, Group}
@@ -11,6 +12,7 @@ use Rattle.pf_values.specs.declared.lengths.Length.TheVariants as lengths
 use Rattle.pf_values.specs.declared.limits.TheConstants.{MAX_NUMBER}
 use Rattle.pf_values.specs.declared.models.Model.{Model}
 use Rattle.pf_values.specs.declared.models.Model.TheVariants.{Lp64, Ilp32, Llp64}
+use Rattle.pf_values.specs.meaning.Arguments.{String}
 use Rattle.pf_values.specs.meaning.Canonical.{item_spelling}
 use Rattle.pf_values.specs.meaning.Defined.{IsDefined}
 use Rattle.pf_values.specs.meaning.Digits.{place_sum}
@@ -25,6 +27,7 @@ use Rattle.pf_text.proofs.ReadBack.{decimal_is, least_digits_are, spelled_read}
 use Rattle.pf_compare.proofs.ReductionLemmas.{bytes_canonical}
 use Rattle.pf_signatures.specs.declared.conversions.Conversion.{Conversion}
 use Rattle.pf_signatures.specs.declared.conversions.Conversion.TheVariants.{Profile, Float, UpperC, UpperS, Pointer, Count}
+use Rattle.pf_signatures.specs.declared.conversions.Floating.{Floating}
 use Rattle.pf_signatures.specs.declared.conversions.Floating.TheVariants as floats
 use Rattle.pf_signatures.specs.declared.conversions.Modifier.{Modifier}
 use Rattle.pf_signatures.specs.declared.conversions.Modifier.TheVariants.{Integer, LongDouble}
@@ -39,16 +42,17 @@ use Rattle.pf_signatures.specs.Refusals.{IsPosixRefusedAt}
 use Rattle.pf_signatures.proofs.Following.{said}
 use Rattle.pf_signatures.proofs.Soundness.{Tells, told}
 use Rattle.pf_signatures.proofs.Unique.{one_refusal}
-use Rattle.pf_whole.specs.Answers.{IsNumberedAt, IsWholeRefusedAt}
-use Rattle.pf_whole.specs.Laws.{placed_calls}
+use Rattle.pf_whole.specs.Answers.{Different, DirectivesDiffer, IsNumberedAt, IsWholeRefusedAt, IsWholeVerdict, TellStretches, TypesDiffer}
+use Rattle.pf_whole.specs.Laws.{PlacedCall, placed_calls}
 use Rattle.pf_whole.specs.meaning.NormalSpellings.{normal_spelling}
 use Rattle.pf_whole.specs.meaning.Opaque.{SpellsOpaque, is_opaque}
-use Rattle.pf_whole.specs.meaning.Stretches.{Last, Before, whole_types}
+use Rattle.pf_whole.specs.meaning.Stretches.{Stretches, Last, Before, ReadsWhole, whole_types}
 use Rattle.pf_whole.specs.meaning.Traces.{AreWholeAlike}
 use Rattle.pf_whole.specs.meaning.WholeCanonical.{IsCanonicalStretch, IsWholeCanonicalOf}
 use Rattle.pf_whole.proofs.Completeness.{alike_have_one_canonical}
 use Rattle.pf_whole.proofs.OneCanonical.{one_canonical_is_alike}
 use Rattle.pf_whole.proofs.SpecificationsOnce.{made}
+use Rattle.pf_whole.proofs.Telling.{telling_is_apart}
 
 -- a width, and a text that spells it
 record WidthText : Type 0 where
@@ -616,3 +620,107 @@ largest_numbered model = numbered model _ 5 (record {
   place = refl;
   limit = omega arith;
 }) (omega arith)
+
+-- Verdicts. `%*d` and `%d%d` have the same types, and one of them makes a call.
+abbrev bare : Conv → Specification
+bare conv = record { flags = no_flags; width = None; precision = None; length = lengths.None; conv = conv }
+
+abbrev floating : Floating → PosixSpecification
+floating f = parts [] no_width no_precision (Integer lengths.None) (Float f)
+
+star_and_two : IsWholeVerdict Lp64 (Before [] (parts [] star_width no_precision (Integer lengths.None) (Profile convs.D)) (Last []))
+    (Last (Directive (bare convs.D) ∷ Directive (bare convs.D) ∷ [])) (DirectivesDiffer 0)
+star_and_two = (
+  refl,
+  record {
+    from_low = omega arith;
+    holds = (record { index = 0; spelling = codes "%*d" }, refl, inl ((0, omega arith, refl), λ h. omega (arith, h.1)));
+    least = λ m low p. omega arith;
+  },
+)
+
+-- `%d%f` and `%d%e` differ in the call with the argument of index 1
+only_one : (x call : PlacedCall) → Contains (x ∷ []) call → x ≡ call
+only_one x call (zero, few, e) = e
+only_one x call (suc k, few, e) = absurd (omega (arith, few))
+
+letters_apart : (x y : PlacedCall) → slice_index x.spelling 1 < slice_index y.spelling 1 → x ≡ y → ⊥
+letters_apart x y less e = omega (arith, less, ap (λ c. slice_index c.spelling 1) e)
+
+f_and_e : IsWholeVerdict Lp64 (Before (Directive (bare convs.D) ∷ []) (floating floats.F) (Last []))
+    (Before (Directive (bare convs.D) ∷ []) (floating floats.E) (Last [])) (DirectivesDiffer 1)
+f_and_e =
+    let f : PlacedCall = record { index = 1; spelling = codes "%f" } in
+    let e : PlacedCall = record { index = 1; spelling = codes "%e" } in (
+      refl,
+      record {
+        from_low = omega arith;
+        holds = (f, refl, inl ((0, omega arith, refl), λ h. letters_apart e f (omega arith) (only_one e f h)));
+        least = λ m low p. elim p.2 [
+          | inl one ↦ omega (arith, ap (λ c. c.index) (only_one f p.0 one.0), p.1)
+          | inr one ↦ omega (arith, ap (λ c. c.index) (only_one e p.0 one.0), p.1)
+        ];
+      },
+    )
+
+-- `%d` and `%f` take other types
+int_and_double : IsWholeVerdict Lp64 (Last (Directive (bare convs.D) ∷ [])) (Before [] (floating floats.F) (Last [])) (TypesDiffer 0)
+int_and_double = (λ e. cc, λ k less. absurd (omega (arith, less)))
+
+-- `%5.0s%f` and `%.0s%f` differ for the empty string and any double
+abbrev wide_silent : Specification
+wide_silent = record { flags = no_flags; width = Some 5; precision = Some 0; length = lengths.None; conv = convs.S }
+
+wide_silent_read : IsReadAs (spelling_of wide_silent) (Directive wide_silent)
+wide_silent_read =
+    let defined : IsDefined wide_silent = record { width = λ e. let width : ℕ = 5 in let same : width ≡ 0 = cc in omega (arith, same); allowed = refl } in
+    (spelled_read wide_silent defined, defined)
+
+five_spaces : TellStretches Lp64 (Directive wide_silent ∷ []) (Directive silent ∷ []) (Some (String []) ∷ [])
+five_spaces = record {
+  known = String [] ∷ [];
+  shown_is = refl;
+  typed = (tt, tt);
+  unlike = (codes "     ", [], (codes "     ", [], ([], refl, refl), refl, refl), ([], [], ([], refl, refl), refl, refl), λ e. cc);
+}
+
+abbrev wide_first : Stretches
+wide_first = Before (Directive wide_silent ∷ []) (floating floats.F) (Last [])
+
+abbrev bare_first : Stretches
+bare_first = Before (Directive silent ∷ []) (floating floats.F) (Last [])
+
+wide_first_read : ReadsWhole (codes "%5.0s%f") wide_first
+unfolding digits opaque
+wide_first_read = (
+  codes "%5.0s",
+  codes "%f",
+  [],
+  (codes "%5.0s", [], wide_silent_read, refl, refl),
+  (opaque Lp64 [] no_width no_precision (Integer lengths.None) (Float floats.F) refl refl).spelled,
+  refl,
+  refl,
+)
+
+bare_first_read : ReadsWhole (codes "%.0s%f") bare_first
+unfolding digits opaque
+bare_first_read = (
+  codes "%.0s",
+  codes "%f",
+  [],
+  (codes "%.0s", [], silent_read, refl, refl),
+  (opaque Lp64 [] no_width no_precision (Integer lengths.None) (Float floats.F) refl refl).spelled,
+  refl,
+  refl,
+)
+
+spaces_and_none : IsWholeVerdict Lp64 wide_first bare_first (Different (Some (String []) ∷ None ∷ []))
+spaces_and_none = (
+  refl,
+  refl,
+  inl (record {
+    shown_is = refl;
+    apart = telling_is_apart Lp64 (codes "%5.0s%f") (codes "%.0s%f") wide_first bare_first (Some (String []) ∷ None ∷ []) wide_first_read bare_first_read
+        (refl, refl, refl) (Some (String []) ∷ [], None ∷ [], [], refl, refl, refl, inl five_spaces);
+  }),
+)

@@ -176,7 +176,7 @@ pub record TellStretches (model : Model) (a b : List Item) (shown : List (Option
   pub typed : HasTypes model known (types model a)
   pub unlike : PrintUnlike model a b known
 
--- for the shown arguments some stretch prints other bytes than the one beside it
+-- for the shown arguments some stretch prints other bytes than the corresponding one
 abbrev pub TellSomewhere : Model → Stretches → Stretches → List (Option Argument) → Type 0
 TellSomewhere model (Last a) (Last b) shown = TellStretches model a b shown
 TellSomewhere model (Last a) (Before b p more) shown = ⊥
@@ -199,7 +199,7 @@ pub record StretchesAgree (model : Model) (a b : List Item) (shown : List (Optio
   pub typed : HasTypes model known (types model a)
   pub same : PrintTheSame model a b known
 
--- for the shown arguments each stretch prints the same bytes as the one beside it
+-- for the shown arguments each stretch prints the same bytes as the corresponding one
 abbrev pub AgreeEverywhere : Model → Stretches → Stretches → List (Option Argument) → Type 0
 AgreeEverywhere model (Last a) (Last b) shown = StretchesAgree model a b shown
 AgreeEverywhere model (Last a) (Before b p more) shown = ⊥

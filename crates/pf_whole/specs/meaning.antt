@@ -1,4 +1,4 @@
--- What the headline of the whole language depends on, beside definitions of `pf_values` and
+-- What the headline of the whole language depends on, in addition to definitions of `pf_values` and
 -- `pf_signatures`.
 pub mod Opaque
 pub mod NormalSpellings
