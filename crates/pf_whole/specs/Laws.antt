@@ -18,6 +18,17 @@ use Rattle.pf_whole.specs.meaning.WholeCanonical.{IsWholeCanonicalOf}
 abbrev pub IsReadOnce : Text → Type 0
 IsReadOnce t = (a b : Stretches) → ReadsWhole t a → ReadsWhole t b → a ≡ b
 
+-- stretches have exactly one trace for these arguments
+pub record HasOneTrace (model : Model) (a : Stretches) (args : List WholeArgument) : Type 0 where
+  pub trace : Trace
+  pub has : HasTrace model a args trace
+  pub only : (other : Trace) → HasTrace model a args other → other ≡ trace
+
+-- this holds of all stretches, for all arguments of their types
+abbrev pub TracesOnce : Model → Type 0
+TracesOnce model = (a : Stretches) (args : List WholeArgument)
+    → HasWholeTypes model args (whole_types model a) → HasOneTrace model a args
+
 -- What is printed in the end, if each call prints what `respond` gives for the bytes printed so far and
 -- the call. Each C library in which the output of an opaque directive depends on these alone is such a
 -- function.

@@ -3,7 +3,7 @@ ghost use Rattle.pf_values.specs.declared.models.Model.{Model as ModelOf};
 ghost use Rattle.pf_values.specs.meaning.Text.{Text};
 ghost use Rattle.pf_whole.specs.Answers.{AgreeingIsTogether, CallsGiveShape, TellingIsApart};
 ghost use Rattle.pf_whole.specs.meaning.WholeHeadline.{WholeHeadline};
-ghost use Rattle.pf_whole.specs.Laws.{AcceptsUnnumbered, TypesAreKept, AlikeCallTheSame, AlikeIsCorresponding, CanonicalIsAlike, AlikeHaveOneCanonical, OneCanonicalIsAlike, ProfileCoincides, AlikePrintAlike, IsReadOnce};
+ghost use Rattle.pf_whole.specs.Laws.{AcceptsUnnumbered, TypesAreKept, AlikeCallTheSame, AlikeIsCorresponding, CanonicalIsAlike, AlikeHaveOneCanonical, OneCanonicalIsAlike, ProfileCoincides, AlikePrintAlike, IsReadOnce, TracesOnce};
 
 /// A text is read as one list of stretches and opaque directives at most.
 pub fn read_once()
@@ -19,6 +19,11 @@ pub fn accepts_unnumbered()
 /// What is accepted here has arguments of the same types by the definitions of `pf_signatures`.
 pub fn types_are_kept()
     ensures { (model : ModelOf) → TypesAreKept model }
+{}
+
+/// Stretches and opaque directives have exactly one trace for each list of arguments of their types.
+pub fn traces_once()
+    ensures { (model : ModelOf) → TracesOnce model }
 {}
 
 /// Alike texts print the same under every function that gives a text for what was printed before and
