@@ -1,6 +1,6 @@
 -- Examples of the definitions, each of which computes. docs/DEFINITIONS.md goes through them.
 use Rattle.std.proofs.Common.{◌≡◌, ℕ, zero, suc, ◌<◌, ◌≤◌, Bool, true, false, List, [], ◌∷◌, ◌++◌, codes, length, map, refl, sym, ap, ◌∙◌, arith, inl, inr, subst}
-use Rattle.std.specs.Prelude.{Option, Some, None, ◌==◌, if◌then◌else◌, decimal, flat_map, Contains, slice_index}
+use Rattle.std.specs.Prelude.{Option, Some, None, ◌==◌, if◌then◌else◌, decimal, flat_map, Contains, slice_index, slice_get, pos, negsuc}
 use Rattle.std.specs.Fmt.{digit_glyph, digits}
 use Rattle.std.specs.Int.Digits.{digits_of}
 use Rattle.std.specs.List.{AllByRecursion}
@@ -12,7 +12,7 @@ use Rattle.pf_values.specs.declared.lengths.Length.TheVariants as lengths
 use Rattle.pf_values.specs.declared.limits.TheConstants.{MAX_NUMBER}
 use Rattle.pf_values.specs.declared.models.Model.{Model}
 use Rattle.pf_values.specs.declared.models.Model.TheVariants.{Lp64, Ilp32, Llp64}
-use Rattle.pf_values.specs.meaning.Arguments.{String}
+use Rattle.pf_values.specs.meaning.Arguments.{Argument, HasType, Number, String}
 use Rattle.pf_values.specs.meaning.Canonical.{item_spelling}
 use Rattle.pf_values.specs.meaning.Defined.{IsDefined}
 use Rattle.pf_values.specs.meaning.Digits.{place_sum}
@@ -22,8 +22,13 @@ use Rattle.pf_values.specs.meaning.Normal.{IsNormal, silent}
 use Rattle.pf_values.specs.meaning.Specification.{Specification}
 use Rattle.pf_values.specs.meaning.Spelling.{spelling_of}
 use Rattle.pf_values.specs.meaning.Text.{Text}
+use Rattle.pf_values.specs.Candidates.{candidates}
+use Rattle.pf_values.specs.declared.types.ArgType.TheVariants as profile
+use Rattle.pf_values.proofs.Alike.{PrintsAll-unique, all_printed, all_printed-is}
 use Rattle.pf_text.proofs.CanonicalRunLemmas.{byte_read}
 use Rattle.pf_text.proofs.ReadBack.{decimal_is, least_digits_are, spelled_read}
+use Rattle.pf_probes.proofs.Telling.{candidate_typed}
+use Rattle.pf_compare.specs.Answers.{IsEarlier}
 use Rattle.pf_compare.proofs.ReductionLemmas.{bytes_canonical}
 use Rattle.pf_signatures.specs.declared.conversions.Conversion.{Conversion}
 use Rattle.pf_signatures.specs.declared.conversions.Conversion.TheVariants.{Profile, Float, UpperC, UpperS, Pointer, Count}
@@ -42,17 +47,19 @@ use Rattle.pf_signatures.specs.Refusals.{IsPosixRefusedAt}
 use Rattle.pf_signatures.proofs.Following.{said}
 use Rattle.pf_signatures.proofs.Soundness.{Tells, told}
 use Rattle.pf_signatures.proofs.Unique.{one_refusal}
-use Rattle.pf_whole.specs.Answers.{Different, DirectivesDiffer, IsNumberedAt, IsWholeRefusedAt, IsWholeVerdict, TellStretches, TypesDiffer}
+use Rattle.pf_whole.specs.Answers.{Different, DirectivesDiffer, IsNumberedAt, IsWholeProbe, IsWholeRefusedAt, IsWholeVerdict, StretchesAgree, TellStretches, TracesTogether, TypesDiffer}
 use Rattle.pf_whole.specs.Laws.{PlacedCall, placed_calls}
 use Rattle.pf_whole.specs.meaning.NormalSpellings.{normal_spelling}
 use Rattle.pf_whole.specs.meaning.Opaque.{SpellsOpaque, is_opaque}
 use Rattle.pf_whole.specs.meaning.Stretches.{Stretches, Last, Before, ReadsWhole, whole_types}
 use Rattle.pf_whole.specs.meaning.Traces.{AreWholeAlike}
+use Rattle.pf_whole.specs.meaning.WholeArguments.{narrowed}
 use Rattle.pf_whole.specs.meaning.WholeCanonical.{IsCanonicalStretch, IsWholeCanonicalOf}
 use Rattle.pf_whole.proofs.Completeness.{alike_have_one_canonical}
 use Rattle.pf_whole.proofs.OneCanonical.{one_canonical_is_alike}
 use Rattle.pf_whole.proofs.SpecificationsOnce.{made}
 use Rattle.pf_whole.proofs.Telling.{telling_is_apart}
+use Rattle.pf_whole.proofs.Together.{agreeing_is_together}
 
 -- a width, and a text that spells it
 record WidthText : Type 0 where
@@ -722,5 +729,179 @@ spaces_and_none = (
     shown_is = refl;
     apart = telling_is_apart Lp64 (codes "%5.0s%f") (codes "%.0s%f") wide_first bare_first (Some (String []) ∷ None ∷ []) wide_first_read bare_first_read
         (refl, refl, refl) (Some (String []) ∷ [], None ∷ [], [], refl, refl, refl, inl five_spaces);
+  }),
+)
+
+-- `%f%05d%p` and `%f%.5d%p` differ for -1, whatever the double and the pointer are, and for no candidate before it
+abbrev filled_five : Specification
+filled_five = record { flags = flag_set (Zero ∷ []); width = Some 5; precision = None; length = lengths.None; conv = convs.D }
+
+abbrev five_digits : Specification
+five_digits = record { flags = no_flags; width = None; precision = Some 5; length = lengths.None; conv = convs.D }
+
+abbrev between : Specification → Stretches
+between s = Before [] (floating floats.F) (Before (Directive s ∷ []) (parts [] no_width no_precision (Integer lengths.None) Pointer) (Last []))
+
+abbrev shown_between : Argument → List (Option Argument)
+shown_between argument = None ∷ Some argument ∷ None ∷ []
+
+filled_five_defined : IsDefined filled_five
+filled_five_defined = record { width = λ e. let width : ℕ = 5 in let same : width ≡ 0 = cc in omega (arith, same); allowed = refl }
+
+five_digits_defined : IsDefined five_digits
+five_digits_defined = record { width = λ e. cc; allowed = refl }
+
+filled_five_between : ReadsWhole (codes "%f%05d%p") (between filled_five)
+unfolding digits opaque
+filled_five_between = (
+  [],
+  codes "%f",
+  codes "%05d%p",
+  refl,
+  (opaque Lp64 [] no_width no_precision (Integer lengths.None) (Float floats.F) refl refl).spelled,
+  (
+    codes "%05d",
+    codes "%p",
+    [],
+    (codes "%05d", [], (spelled_read filled_five filled_five_defined, filled_five_defined), refl, refl),
+    (opaque Lp64 [] no_width no_precision (Integer lengths.None) Pointer refl refl).spelled,
+    refl,
+    refl,
+  ),
+  refl,
+)
+
+five_digits_between : ReadsWhole (codes "%f%.5d%p") (between five_digits)
+unfolding digits opaque
+five_digits_between = (
+  [],
+  codes "%f",
+  codes "%.5d%p",
+  refl,
+  (opaque Lp64 [] no_width no_precision (Integer lengths.None) (Float floats.F) refl refl).spelled,
+  (
+    codes "%.5d",
+    codes "%p",
+    [],
+    (codes "%.5d", [], (spelled_read five_digits five_digits_defined, five_digits_defined), refl, refl),
+    (opaque Lp64 [] no_width no_precision (Integer lengths.None) Pointer refl refl).spelled,
+    refl,
+    refl,
+  ),
+  refl,
+)
+
+nothing_agrees : StretchesAgree Lp64 [] [] []
+nothing_agrees = record { known = []; shown_is = refl; typed = tt; same = λ x y h g. h ∙ sym g }
+
+together_for : (argument : Argument) → HasType Lp64 argument profile.Int
+    → all_printed Lp64 (Directive filled_five ∷ []) (argument ∷ []) ≡ all_printed Lp64 (Directive five_digits ∷ []) (argument ∷ [])
+    → TracesTogether Lp64 (between filled_five) (between five_digits) (shown_between argument)
+together_for argument typed same = agreeing_is_together Lp64 (codes "%f%05d%p") (codes "%f%.5d%p") (between filled_five) (between five_digits)
+    (shown_between argument) filled_five_between five_digits_between (refl, refl, (refl, refl, refl)) (
+      [],
+      None ∷ [],
+      Some argument ∷ None ∷ [],
+      refl,
+      refl,
+      nothing_agrees,
+      (
+        Some argument ∷ [],
+        None ∷ [],
+        [],
+        refl,
+        refl,
+        record {
+          known = argument ∷ [];
+          shown_is = refl;
+          typed = (typed, tt);
+          same = λ x y h g. PrintsAll-unique Lp64 (Directive filled_five ∷ []) (argument ∷ []) x (typed, tt) h ∙ same
+              ∙ sym (PrintsAll-unique Lp64 (Directive five_digits ∷ []) (argument ∷ []) y (typed, tt) g);
+        },
+        nothing_agrees,
+      ),
+    )
+
+no_candidate_before : (k : ℕ) (argument : Argument) → k < 6 → slice_get (candidates Lp64 profile.Int) k ≡ Some argument
+    → TracesTogether Lp64 (between filled_five) (between five_digits) (shown_between argument)
+no_candidate_before k argument less e = go k less e where
+  of : (x : Argument) → x ≡ argument → TracesTogether Lp64 (between filled_five) (between five_digits) (shown_between x)
+      → TracesTogether Lp64 (between filled_five) (between five_digits) (shown_between argument)
+  of x same h = subst (λ x. TracesTogether Lp64 (between filled_five) (between five_digits) (shown_between x)) same h
+
+  go : (k : ℕ) → k < 6 → slice_get (candidates Lp64 profile.Int) k ≡ Some argument
+      → TracesTogether Lp64 (between filled_five) (between five_digits) (shown_between argument)
+  go zero less e = of (Number (pos 0)) (cc) (together_for _ (candidate_typed Lp64 profile.Int _ (0, omega arith, refl)) refl)
+  go (suc zero) less e = of (Number (pos 1)) (cc) (together_for _ (candidate_typed Lp64 profile.Int _ (1, omega arith, refl)) refl)
+  go (suc (suc zero)) less e = of (Number (pos 2)) (cc) (together_for _ (candidate_typed Lp64 profile.Int _ (2, omega arith, refl)) refl)
+  go (suc (suc (suc zero))) less e = of (Number (pos 257)) (cc) (together_for _ (candidate_typed Lp64 profile.Int _ (3, omega arith, refl)) refl)
+  go (suc (suc (suc (suc zero)))) less e = of (Number (pos 129)) (cc) (together_for _ (candidate_typed Lp64 profile.Int _ (4, omega arith, refl)) refl)
+  go (suc (suc (suc (suc (suc zero))))) less e = of (Number (pos 32769)) (cc) (together_for _ (candidate_typed Lp64 profile.Int _ (5, omega arith, refl)) refl)
+  go (suc (suc (suc (suc (suc (suc k)))))) less e = absurd (omega (arith, less))
+
+no_probe_before : (i k : ℕ) (before : List (Option Argument)) → IsWholeProbe Lp64 (between filled_five) i k before → IsEarlier i k 1 6
+    → TracesTogether Lp64 (between filled_five) (between five_digits) before
+no_probe_before zero k before p e = let no = p.in_stretch in cc
+no_probe_before (suc zero) k before p (inl less) = absurd (omega (arith, less))
+no_probe_before (suc zero) k before p (inr (same, less)) =
+    let wide : p.wide ≡ Int = let is = p.wide_is in cc in
+    let type : profile.Int ≡ p.type = let is : narrowed Int ≡ Some p.type = subst (λ w. narrowed w ≡ Some p.type) wide p.type_is in cc in
+    let found : slice_get (candidates Lp64 profile.Int) k
+    ≡ Some p.argument = subst (λ t. slice_get (candidates Lp64 t) k ≡ Some p.argument) (sym type) p.candidate in
+    subst (TracesTogether Lp64 (between filled_five) (between five_digits)) (sym p.shown_is) (no_candidate_before k p.argument less found)
+no_probe_before (suc (suc i)) k before p (inl less) = absurd (omega (arith, less))
+no_probe_before (suc (suc i)) k before p (inr (same, less)) = absurd (omega (arith, same))
+
+filled_and_digits : IsWholeVerdict Lp64 (between filled_five) (between five_digits) (Different (shown_between (Number (negsuc 0))))
+filled_and_digits = (
+  refl,
+  refl,
+  inr (record {
+    neutral_same = together_for (Number (pos 0)) (candidate_typed Lp64 profile.Int _ (0, omega arith, refl)) refl;
+    index = 1;
+    place = 6;
+    probe = record {
+      type = profile.Int;
+      wide = Int;
+      argument = Number
+          (negsuc 0);
+      in_stretch = refl;
+      wide_is = refl;
+      type_is = refl;
+      candidate = refl;
+      shown_is = refl;
+    };
+    apart = telling_is_apart Lp64 (codes "%f%05d%p") (codes "%f%.5d%p") (between filled_five) (between five_digits) (shown_between (Number (negsuc 0)))
+        filled_five_between five_digits_between (refl, refl, (refl, refl, refl)) (
+          [],
+          None ∷ [],
+          Some (Number (negsuc 0)) ∷ None ∷ [],
+          refl,
+          refl,
+          refl,
+          inr (
+            Some (Number (negsuc 0)) ∷ [],
+            None ∷ [],
+            [],
+            refl,
+            refl,
+            refl,
+            inl (record {
+              known = Number (negsuc 0) ∷ [];
+              shown_is = refl;
+              typed = (candidate_typed Lp64 profile.Int _ (6, omega arith, refl), tt);
+              unlike = (
+                codes "-0001",
+                codes "-00001",
+                all_printed-is Lp64 (Directive filled_five ∷ []) (Number (negsuc 0) ∷ [])
+                    (candidate_typed Lp64 profile.Int _ (6, omega arith, refl), tt),
+                all_printed-is Lp64 (Directive five_digits ∷ []) (Number (negsuc 0) ∷ [])
+                    (candidate_typed Lp64 profile.Int _ (6, omega arith, refl), tt),
+                λ e. omega (arith, ap length e),
+              );
+            }),
+          ),
+        );
+    earlier = no_probe_before;
   }),
 )
