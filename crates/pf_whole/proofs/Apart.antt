@@ -23,7 +23,8 @@ use Rattle.pf_whole.proofs.SomeTrace.{call_of, known_printed, some_trace, trace_
 use Rattle.pf_whole.proofs.SpecificationsOnce.{one_specification, parts_of}
 use Rattle.pf_whole.proofs.SpelledNormally.{opaque_normally}
 use Rattle.pf_whole.proofs.TraceLemmas.{known_count, trace_sym}
-use Rattle.pf_whole.proofs.TwoValues.{count, count_is, whole_neutrals_typed, nth, nth_another, nth_behind, nth_neutral, one_other, one_other_typed, two_values, whole_another, whole_neutral, whole_neutrals}
+use Rattle.pf_whole.proofs.TwoValues.{count, count_is, whole_neutrals_typed, nth, nth_another, nth_behind, nth_neutral, one_other, one_other_typed, two_values}
+use Rattle.pf_whole.proofs.TwoValues.{whole_another, whole_neutral, whole_neutrals}
 
 -- directives with the same normal spelling take the same types
 pub spelling_types : (model : Model) (t u : Text) (s p : PosixSpecification) → SpellsOpaque t s → SpellsOpaque u p

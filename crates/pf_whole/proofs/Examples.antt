@@ -1,5 +1,6 @@
 -- Examples of the definitions, each of which computes. docs/DEFINITIONS.md goes through them.
-use Rattle.std.proofs.Common.{◌≡◌, ℕ, zero, suc, ◌<◌, ◌≤◌, Bool, true, false, List, [], ◌∷◌, ◌++◌, codes, length, map, refl, sym, ap, ◌∙◌, arith, inl, inr, subst}
+use Rattle.std.proofs.Common.{◌≡◌, ℕ, zero, suc, ◌<◌, ◌≤◌, Bool, true, false, List, [], ◌∷◌, ◌++◌, codes, length, map, refl, sym, ap, ◌∙◌, arith, inl, inr}
+use Rattle.std.proofs.Common.{subst}
 use Rattle.std.specs.Prelude.{Option, Some, None, ◌==◌, if◌then◌else◌, decimal, flat_map, Contains, slice_index, slice_get, pos, negsuc}
 use Rattle.std.specs.Fmt.{digit_glyph, digits}
 use Rattle.std.specs.Int.Digits.{digits_of}
@@ -47,7 +48,8 @@ use Rattle.pf_signatures.specs.Refusals.{IsPosixRefusedAt}
 use Rattle.pf_signatures.proofs.Following.{said}
 use Rattle.pf_signatures.proofs.Soundness.{Tells, told}
 use Rattle.pf_signatures.proofs.Unique.{one_refusal}
-use Rattle.pf_whole.specs.Answers.{Different, DirectivesDiffer, IsNumberedAt, IsWholeProbe, IsWholeRefusedAt, IsWholeVerdict, StretchesAgree, TellStretches, TracesTogether, TypesDiffer}
+use Rattle.pf_whole.specs.Answers.{Different, DirectivesDiffer, IsNumberedAt, IsWholeProbe, IsWholeRefusedAt, IsWholeVerdict, StretchesAgree, TellStretches}
+use Rattle.pf_whole.specs.Answers.{TracesTogether, TypesDiffer}
 use Rattle.pf_whole.specs.Laws.{PlacedCall, placed_calls}
 use Rattle.pf_whole.specs.meaning.NormalSpellings.{normal_spelling}
 use Rattle.pf_whole.specs.meaning.Opaque.{SpellsOpaque, is_opaque}

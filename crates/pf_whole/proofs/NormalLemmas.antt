@@ -26,7 +26,8 @@ use Rattle.pf_signatures.specs.declared.conversions.Modifier.TheVariants.{Intege
 use Rattle.pf_signatures.specs.Defined.{has_any_flag, is_count, takes_alt, takes_group, takes_modifier, takes_precision, takes_zero, undefined_as}
 use Rattle.pf_signatures.specs.Specifications.{Amount, Given, Fetched, PosixSpecification}
 use Rattle.pf_signatures.specs.Types.{conversion_type, counted_type, integer_length, kind_type, star_fetches, widened}
-use Rattle.pf_whole.specs.meaning.NormalSpellings.{given_precision, integer_modifier, is_amount, is_general, is_given, is_integer, keeps_sign, kept_conversion, kept_flags, kept_modifier, normal_precision, meant_precision, normal_parts}
+use Rattle.pf_whole.specs.meaning.NormalSpellings.{given_precision, integer_modifier, is_amount, is_general, is_given, is_integer, keeps_sign, kept_conversion}
+use Rattle.pf_whole.specs.meaning.NormalSpellings.{kept_flags, kept_modifier, normal_precision, meant_precision, normal_parts}
 use Rattle.pf_whole.specs.meaning.Opaque.{is_opaque, is_outside, is_star}
 use Rattle.pf_whole.specs.meaning.Stretches.{types_of_opaque}
 use Rattle.pf_whole.proofs.SpecificationsOnce.{same_fields}

@@ -25,7 +25,8 @@ known_text model items args x y typed h g =
     let fits : HasTypes model h.0 (types model items) = typed_known model h.0 (types model items) own in
     PrintsAll-unique model items h.0 x fits h.2 ∙ sym (PrintsAll-unique model items h.0 y fits (rw same at g.2))
 
-same_call : (model : Model) (s : PosixSpecification) (args own : List WholeArgument) (c d : Call) → args ≡ own → IsCallOf model s args c → IsCallOf model s own d
+same_call : (model : Model) (s : PosixSpecification) (args own : List WholeArgument) (c d : Call) → args ≡ own → IsCallOf model s args c
+    → IsCallOf model s own d
     → c ≡ d
 same_call model s args own c d e h g =
     ap₂ (λ spelling args. record { spelling = spelling; args = args }) (h.spelling ∙ sym g.spelling) (h.args_are ∙ e ∙ sym g.args_are)
