@@ -1,11 +1,14 @@
 #!/usr/bin/env python3
-"""Holds what has to be believed to one folder: it has the definitions that the headline rests on, and no others.
+"""Checks that the definitions that a headline depends on are in one folder, and that the folder has no others.
 
 Usage: tests/reach.py
 
-It begins with the names in the contracts of STARTS, and goes from each definition to those that it names. What is reached has
-to lie in FOLDER, and what lies there has to be reached. docs/DEFINITIONS.md says how many lines that is, and which types and
-constants of the code and words of the library the definitions use; it is held to that.
+It begins with the names in the contracts of STARTS, and goes from each definition to those that it names. What it reaches has
+to be in FOLDER, and what is there has to be reached. It checks docs/DEFINITIONS.md against that: how many lines the folder has,
+and which types and constants of the code and words of the library the definitions use.
+
+It does the same for the headline of the whole language, with WHOLE_STARTS and WHOLE_FOLDER. That headline also depends on
+definitions of FOLDER, and on those of other crates that docs/DEFINITIONS.md lists.
 
 Its last line is 'N passed, M failed', and it exits with 1 where M isn't 0.
 """
@@ -24,6 +27,10 @@ from harness import TOP, Trials  # noqa: E402
 FOLDER = "Rattle.pf_values.specs.meaning"
 # The functions whose contracts are the headline, and what a refusal says.
 STARTS = [("pf_compare/src/laws.rt", "headline"), ("pf_text/src/pieces.rt", "check")]
+# The same for the headline of the whole language, and the crate of which it uses definitions that lie in no such folder.
+WHOLE_FOLDER = "Rattle.pf_whole.specs.meaning"
+WHOLE_STARTS = [("pf_whole/src/laws.rt", "headline")]
+LOWER = "Rattle.pf_signatures.specs"
 NAME = r"[^\W\d]\w*"
 # An import: of names of a module, or of a module by another name.
 IMPORT = re.compile(rf"^ *(?:ghost )?(pub )?use (Rattle[\w.]+?)(?:\.\{{([^{{}}]*)\}}| as ({NAME}));?$", re.MULTILINE)
@@ -118,10 +125,10 @@ def contract(file, function):
     return list(module.named(clauses))
 
 
-def reached():
-    """The definitions that are reached, and the names that are none: each a module and a name in it."""
+def reached(starts):
+    """The definitions that are reached from some contracts, and the other names: each a module and a name in it."""
     found, others = set(), set()
-    left = [name for file, function in STARTS for name in contract(file, function)]
+    left = [name for file, function in starts for name in contract(file, function)]
     while left:
         path, name = left.pop()
         there = definition(path, name)
@@ -136,16 +143,16 @@ def reached():
     return found, others
 
 
-def all_there():
-    """The definitions of the folder."""
-    top = file_of(FOLDER).with_suffix("")
-    paths = [f"{FOLDER}.{file.relative_to(top).with_suffix('')}".replace("/", ".") for file in sorted(top.rglob("*.antt"))]
+def all_there(folder):
+    """The definitions of a folder."""
+    top = file_of(folder).with_suffix("")
+    paths = [f"{folder}.{file.relative_to(top).with_suffix('')}".replace("/", ".") for file in sorted(top.rglob("*.antt"))]
     return {(path, name) for path in paths for name in module_of(path).texts}
 
 
-def lines_there():
-    """How many lines the folder has, and how many without comments, imports and empty lines."""
-    texts = [file.read_text(encoding="utf-8") for file in file_of(FOLDER).with_suffix("").rglob("*.antt")]
+def lines_there(folder):
+    """How many lines a folder has, and how many without comments, imports and empty lines."""
+    texts = [file.read_text(encoding="utf-8") for file in file_of(folder).with_suffix("").rglob("*.antt")]
     plain = [line for text in texts for line in imports_of(without_comments(text), Module()).splitlines() if line.strip()]
     return [sum(text.count("\n") for text in texts), len(plain)]
 
@@ -169,20 +176,46 @@ def listed(text, words):
     return set(re.findall(r"`([^`]+)`", sentence[1])) if sentence else None
 
 
+def of_library(others):
+    """The words of the library among these names, without operators."""
+    return {name for path, name in others if path.startswith("Rattle.std.") and re.fullmatch(r"[a-zA-Z_]\w+", name)}
+
+
+def counted(text, words):
+    """The two numbers of lines after these words of a document."""
+    found = re.search(rf"{re.escape(words)}[^\n]*?([\d,]+) lines, ([\d,]+) of them without comments", text)
+    return found and [int(it.replace(",", "")) for it in found.groups()]
+
+
 def try_reach(trials):
     """The folder has what is reached and no more, and docs/DEFINITIONS.md says what that is."""
-    found, others = reached()
-    there = all_there()
+    found, others = reached(STARTS)
+    there = all_there(FOLDER)
     trials.expect(f"definitions of {FOLDER} that the headline doesn't rest on", in_words(there - found), [])
     trials.expect(f"definitions that the headline rests on, outside of {FOLDER}", in_words(found - there), [])
     text = (TOP / "docs/DEFINITIONS.md").read_text(encoding="utf-8")
     types, constants = of_code(others)
-    library = {name for path, name in others if path.startswith("Rattle.std.") and re.fullmatch(r"[a-zA-Z_]\w+", name)}
     trials.expect("types of the code in docs/DEFINITIONS.md", listed(text, "Of the code they use the types "), types)
     trials.expect("constants of the code in docs/DEFINITIONS.md", listed(text, "They use the constants "), constants)
-    trials.expect("words of the library in docs/DEFINITIONS.md", listed(text, "Of the library they use "), library)
-    counts = re.search(r"([\d,]+) lines, ([\d,]+) of them without comments", text)
-    trials.expect("lines in docs/DEFINITIONS.md", counts and [int(it.replace(",", "")) for it in counts.groups()], lines_there())
+    trials.expect("words of the library in docs/DEFINITIONS.md", listed(text, "Of the library they use "), of_library(others))
+    trials.expect("lines in docs/DEFINITIONS.md", counted(text, "All that the headline and a refusal rest on"), lines_there(FOLDER))
+    try_whole(trials, text, others)
+
+
+def try_whole(trials, text, known):
+    """The same for the headline of the whole language; `known` are the names that the first headline uses, too."""
+    found, others = reached(WHOLE_STARTS)
+    there, below = all_there(WHOLE_FOLDER), all_there(FOLDER)
+    lower = {(path, name) for path, name in found if path.startswith(LOWER + ".")}
+    trials.expect(f"definitions of {WHOLE_FOLDER} that the headline of the whole language doesn't depend on", in_words(there - found), [])
+    trials.expect(f"definitions that it depends on, outside of {WHOLE_FOLDER}, {FOLDER} and {LOWER}", in_words(found - there - below - lower), [])
+    names = {name for _, name in lower}
+    trials.expect(f"definitions of {LOWER} that it depends on, in docs/DEFINITIONS.md", listed(text, "Of `pf_signatures` they use the definitions "), names)
+    types, constants = of_code(others - known)
+    trials.expect("more types of the code in docs/DEFINITIONS.md", listed(text, "They also use the types "), types)
+    trials.expect("constants of the code that the first headline doesn't use", constants, set())
+    trials.expect("words of the library that the first headline doesn't use", of_library(others - known), set())
+    trials.expect("lines of the whole language in docs/DEFINITIONS.md", counted(text, "What the headline of the whole language depends on"), lines_there(WHOLE_FOLDER))
 
 
 def main():

@@ -39,16 +39,16 @@ use Rattle.pf_canon.proofs.MakingLemmas.{made_byte, made_more, made_settled}
 use Rattle.pf_canon.proofs.Printing.{reduced_alike, reduced_items}
 
 -- Items are made that print as these do.
-record IsSettling (model : Model) (out : Text) (waiting : ℕ) (items rest : List Item) : Type 0 where
-  others : List Item
-  alike : AreAlike model items others
-  making : IsMaking model out waiting others rest
+pub record IsSettling (model : Model) (out : Text) (waiting : ℕ) (items rest : List Item) : Type 0 where
+  pub others : List Item
+  pub alike : AreAlike model items others
+  pub making : IsMaking model out waiting others rest
 
 -- a text that begins so, as far as it isn't refused
-record Settles (model : Model) (out : Text) (items : List Item) : Type 0 where
-  more : Text
-  waiting : ℕ
-  made : IsSettling model (out ++ more) waiting items []
+pub record Settles (model : Model) (out : Text) (items : List Item) : Type 0 where
+  pub more : Text
+  pub waiting : ℕ
+  pub made : IsSettling model (out ++ more) waiting items []
 
 module _ (model : Model) (out : Text) (waiting : ℕ) where
   with_more : (items more : List Item) → IsSettling model out waiting items [] → IsSettling model out waiting (items ++ more) more
@@ -59,7 +59,7 @@ module _ (model : Model) (out : Text) (waiting : ℕ) where
   }
 
   -- a byte
-  byte_settled : (items : List Item) (byte : ℕ) → byte ≢ 0 → IsSettling model out waiting items [] → Settles model out (items ++ Byte byte ∷ [])
+  pub byte_settled : (items : List Item) (byte : ℕ) → byte ≢ 0 → IsSettling model out waiting items [] → Settles model out (items ++ Byte byte ∷ [])
   byte_settled items byte some h =
       let with = with_more items (Byte byte ∷ []) h in
       record {
@@ -96,7 +96,7 @@ module _ (model : Model) (out : Text) (waiting : ℕ) where
       let more = flat_map item_spelling (silents waiting) ++ spelling_of n.specification in
       (zeroed ++ more, 0, more, (refl, refl), refl)
 
-  directive_settled : (items : List Item) (s : Specification) → IsDefined s → IsSettling model out waiting items [] → Settles model out (items ++ Directive s ∷ [])
+  pub directive_settled : (items : List Item) (s : Specification) → IsDefined s → IsSettling model out waiting items [] → Settles model out (items ++ Directive s ∷ [])
   directive_settled items s defined h = one_more (reduction model s defined)
     where
       one_more : (r : Reduced) × IsReducedTo model s r → Settles model out (items ++ Directive s ∷ [])

@@ -66,7 +66,7 @@ items_of_same_parts r q h =
     ∙ ap (λ n. items_of_parts q.spaces q.zeros (core_of q.core) n) h.trail
 
 -- they are canonical
-bytes_canonical : (model : Model) (bytes : Text) → AreCanonical model (map Byte bytes)
+pub bytes_canonical : (model : Model) (bytes : Text) → AreCanonical model (map Byte bytes)
 bytes_canonical model [] = tt
 bytes_canonical model (byte ∷ bytes) = bytes_canonical model bytes
 

@@ -4,7 +4,7 @@ mod Narrowing
 mod Paddings
 mod SignLemmas
 mod Carried
-mod CarriedIntegers
+pub mod CarriedIntegers
 mod Precisions
 mod UnprefixedNumbers
 mod PrefixedNumbers

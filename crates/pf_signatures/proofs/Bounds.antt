@@ -28,7 +28,7 @@ use Rattle.pf_signatures.proofs.Agreeing.{all_back, all_push}
 use Rattle.pf_signatures.proofs.Judging.{Arrives, Brings, Judges, judge}
 use Rattle.pf_signatures.proofs.Within.{IsBounded, IsWithin}
 
-all_append : {X : Type 0} (P : X → Type 0) (xs ys : List X) → AllByRecursion P xs → AllByRecursion P ys → AllByRecursion P (xs ++ ys)
+pub all_append : {X : Type 0} (P : X → Type 0) (xs ys : List X) → AllByRecursion P xs → AllByRecursion P ys → AllByRecursion P (xs ++ ys)
 all_append P [] ys h g = g
 all_append P (x ∷ xs) ys h g = (h.0, all_append P xs ys h.1 g)
 

@@ -34,7 +34,7 @@ use Rattle.pf_signatures.specs.Specifications.{Amount, Given, PosixSpecification
 use Rattle.pf_signatures.specs.Spelling.{SpellsPosixPrecision, SpellsPosix, SpellsPosixWidth}
 use Rattle.pf_signatures.specs.Types.{fetch, fetches, kind_type, star_fetches, widened}
 
-abbrev given : Option ℕ → Option Amount
+abbrev pub given : Option ℕ → Option Amount
 given None = None
 given (Some n) = Some (Given n)
 
@@ -42,7 +42,7 @@ given (Some n) = Some (Given n)
 abbrev pub whole_of : ProfileSpecification → PosixSpecification
 whole_of s = record { position = None; flags = s.flags; width = given s.width; precision = given s.precision; modifier = Integer s.length; conversion = Profile s.conv }
 
-abbrev item_of : Item → PosixItem
+abbrev pub item_of : Item → PosixItem
 item_of (ProfileByte byte) = Byte byte
 item_of (Directive s) = Specification (whole_of s)
 
@@ -103,7 +103,7 @@ precision_spelled : (t : Text) (precision : Option ℕ) → SpellsPrecision t pr
 precision_spelled t None h e = h
 precision_spelled t (Some n) h e = (h, few n e)
 
-spelled_here : (t : Text) (s : ProfileSpecification) → Spells t s → IsProfileDefined s → SpellsPosix t (whole_of s)
+pub spelled_here : (t : Text) (s : ProfileSpecification) → Spells t s → IsProfileDefined s → SpellsPosix t (whole_of s)
 spelled_here t s h d =
     let flags = 37 ∷ map flag_byte h.flags in
     let limits = all s d in
@@ -129,7 +129,7 @@ read_here : (t : Text) (item : Item) → IsProfileReadAs t item → SpellsPosixI
 read_here t (ProfileByte byte) h = h
 read_here t (Directive s) h = (spelled_here t s h.0 h.1, defined_here s h.1)
 
-reads_here : (t : Text) (items : List Item) → ProfileReads t items → ReadsPosix t (map item_of items)
+pub reads_here : (t : Text) (items : List Item) → ProfileReads t items → ReadsPosix t (map item_of items)
 reads_here t [] h = h
 reads_here t (item ∷ items) h = (h.0, h.1, read_here h.0 item h.2, reads_here h.1 items h.3, h.4)
 
@@ -148,16 +148,16 @@ fetches_here model s d =
     let limits = all s d in
     ap₂ (λ a b. a ++ b ++ fetch None (kind_type model (kind_of s.conv) s.length) ∷ []) (no_stars s.width) (no_stars s.precision) ∙ ap (λ w. fetch None w ∷ []) (type_here model (kind_of s.conv) s.length limits.1.1.0)
 
-fetched_here : (model : Model) (t : Text) (items : List Item) → ProfileReads t items → fetched model (map item_of items) ≡ map (λ w. fetch None (widened w)) (types model items)
+pub fetched_here : (model : Model) (t : Text) (items : List Item) → ProfileReads t items → fetched model (map item_of items) ≡ map (λ w. fetch None (widened w)) (types model items)
 fetched_here model t [] h = refl
 fetched_here model t (ProfileByte byte ∷ items) h = fetched_here model h.1 items h.3
 fetched_here model t (Directive s ∷ items) h = ap₂ (λ a b. a ++ b) (fetches_here model s h.2.1) (fetched_here model h.1 items h.3)
 
-none_numbered : {X : Type 0} (f : X → ArgumentType) (xs : List X) → AllByRecursion (λ g. g.number ≡ None) (map (λ x. fetch None (f x)) xs)
+pub none_numbered : {X : Type 0} (f : X → ArgumentType) (xs : List X) → AllByRecursion (λ g. g.number ≡ None) (map (λ x. fetch None (f x)) xs)
 none_numbered f [] = tt
 none_numbered f (x ∷ xs) = (refl, none_numbered f xs)
 
-wanted_here : {X : Type 0} (f : X → ArgumentType) (xs : List X) → map f xs ≡ map (λ g. g.wanted) (map (λ x. fetch None (f x)) xs)
+pub wanted_here : {X : Type 0} (f : X → ArgumentType) (xs : List X) → map f xs ≡ map (λ g. g.wanted) (map (λ x. fetch None (f x)) xs)
 wanted_here f [] = refl
 wanted_here f (x ∷ xs) = ap (λ l. f x ∷ l) (wanted_here f xs)
 

@@ -29,14 +29,14 @@ use Rattle.pf_signatures.specs.States.{after_modifier_letter, after_numbers, con
 use Rattle.pf_signatures.specs.Types.{fetch, fetches, star_fetches, conversion_type}
 use Rattle.pf_signatures.proofs.Running.{Finished, Ready, Reached, both_parts, digits_run, first_run, flags_run, not_opened, numbers_finished, ready_point, ready_width, run, run-append, stand, star_begun, star_numbered, star_open, star_placed, went, width_reached}
 
-record LetterTests (conversion : Conversion) : Type 0 where
-  modifier : length_modifier_of (conversion_letter conversion) ≡ None
-  no_h : (conversion_letter conversion == 104) ≡ false
-  no_l : (conversion_letter conversion == 108) ≡ false
-  high : 57 < conversion_letter conversion
-  conversion_is : conversion_of (conversion_letter conversion) ≡ Some conversion
+pub record LetterTests (conversion : Conversion) : Type 0 where
+  pub modifier : length_modifier_of (conversion_letter conversion) ≡ None
+  pub no_h : (conversion_letter conversion == 104) ≡ false
+  pub no_l : (conversion_letter conversion == 108) ≡ false
+  pub high : 57 < conversion_letter conversion
+  pub conversion_is : conversion_of (conversion_letter conversion) ≡ Some conversion
 
-letter_tests : (conversion : Conversion) → LetterTests conversion
+pub letter_tests : (conversion : Conversion) → LetterTests conversion
 letter_tests (Profile D) = record { modifier = refl; no_h = refl; no_l = refl; high = omega arith; conversion_is = refl }
 letter_tests (Profile _) = record { modifier = refl; no_h = refl; no_l = refl; high = omega arith; conversion_is = refl }
 letter_tests (Float floats.F) = record { modifier = refl; no_h = refl; no_l = refl; high = omega arith; conversion_is = refl }

@@ -3,7 +3,7 @@ use pf_values::{Conv, Length};
 
 /// A floating conversion (C11 7.21.6.1, paragraph 8).
 #[derive(Clone, Copy, Debug, PartialEq, Eq)]
-pub(crate) enum Floating {
+pub enum Floating {
     /// `f`
     F,
     /// `F`
@@ -24,7 +24,7 @@ pub(crate) enum Floating {
 
 /// A conversion (C11 7.21.6.1, paragraph 8; `C` and `S` are of POSIX).
 #[derive(Clone, Copy, Debug, PartialEq, Eq)]
-pub(crate) enum Conversion {
+pub enum Conversion {
     /// One that the profile has.
     Profile(Conv),
     /// A floating one.
@@ -41,7 +41,7 @@ pub(crate) enum Conversion {
 
 /// A length modifier (C11 7.21.6.1, paragraph 7).
 #[derive(Clone, Copy, Debug, PartialEq, Eq)]
-pub(crate) enum Modifier {
+pub enum Modifier {
     /// None, or one of integers.
     Integer(Length),
     /// `L`

@@ -19,5 +19,6 @@ mod undefined_combinations;
 
 pub use argument_types::{arguments, arguments_vec};
 pub use comparison::{FitsRefusal, fits};
+pub use conversions::{Conversion, Floating, Modifier};
 pub use refusals::{SignatureFault, SignatureRefusal, SignatureRefusalKind};
 pub use types::ArgumentType;

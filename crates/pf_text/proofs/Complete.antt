@@ -31,7 +31,7 @@ use Rattle.pf_text.specs.States.{next, is_digit, after_flags, after_number, insi
 use Rattle.pf_text.specs.Fronts.{IsFront, IsAt}
 use Rattle.pf_text.proofs.Runs.{Progress, moved, run, run-append}
 
-flag_of_byte : (flag : Flag) → flag_of (flag_byte flag) ≡ Some flag
+pub flag_of_byte : (flag : Flag) → flag_of (flag_byte flag) ≡ Some flag
 flag_of_byte Minus = refl
 flag_of_byte Plus = refl
 flag_of_byte Space = refl

@@ -49,7 +49,7 @@ fold_group a b c d e true flags = refl
 fold_group a b c d e false flags = refl
 
 -- each flag is put in its place: a set is that of the flags that are in it
-set_kept : (set : FlagSet) → flag_set (filter (has set) all_flags) ≡ set
+pub set_kept : (set : FlagSet) → flag_set (filter (has set) all_flags) ≡ set
 set_kept set =
     fold_minus set.minus _
     ∙ fold_plus set.minus set.plus _
@@ -68,23 +68,23 @@ glyphs_are (d ∷ ds) h = let first = glyph_is d h.0 in let rest = glyphs_are ds
 digits_are : (n : ℕ) → AreDigits 10 n (digits_of 10 n)
 digits_are n = record { below = all_below_base_digits_of 10 n (omega arith); sum = place_sum-digits_of 10 n (omega arith) }
 
-decimal_is : (n : ℕ) → 0 < n → n < 2 ^ 64 → decimal n ≡ map (digit_glyph false) (digits_of 10 n)
+pub decimal_is : (n : ℕ) → 0 < n → n < 2 ^ 64 → decimal n ≡ map (digit_glyph false) (digits_of 10 n)
 decimal_is n some small = decimal-digits_of n some small ∙ glyphs_are (digits_of 10 n) (digits_are n).below
 
 some_digits : (n : ℕ) → 0 < n → 1 ≤ length (digits_of 10 n)
 some_digits n some = omega (arith, ap length (digits_of_step 10 n (omega arith) some), length_push (digits_of 10 (n / 10)) (n % 10))
 
-least_digits_are : (n : ℕ) → 0 < n → AreLeastDigits 10 1 n (digits_of 10 n)
+pub least_digits_are : (n : ℕ) → 0 < n → AreLeastDigits 10 1 n (digits_of 10 n)
 least_digits_are n some = record { digits = digits_are n; enough = some_digits n some; no_more = λ _. first_digits_of 10 n (omega arith) some }
 
-width_read : (width : Option ℕ) → width ≢ Some 0 → is_above_limit width ≡ false → SpellsWidth (width_spelled width) width
+pub width_read : (width : Option ℕ) → width ≢ Some 0 → is_above_limit width ≡ false → SpellsWidth (width_spelled width) width
 width_read None h few = refl
 width_read (Some zero) h few = absurd (h refl)
 width_read (Some (suc n)) h few =
     let some : 0 < suc n = omega arith in
     (some, (digits_of 10 (suc n), least_digits_are (suc n) some, decimal_is (suc n) some (omega (arith, fits_le (suc n) few))))
 
-precision_read : (precision : Option ℕ) → is_above_limit precision ≡ false → SpellsPrecision (precision_spelled precision) precision
+pub precision_read : (precision : Option ℕ) → is_above_limit precision ≡ false → SpellsPrecision (precision_spelled precision) precision
 precision_read None few = refl
 precision_read (Some zero) few = (0 ∷ [], record { below = (omega arith, tt); sum = refl }, ap (λ t. 46 ∷ t) (decimal_digit 0 (omega arith)))
 precision_read (Some (suc n)) few =

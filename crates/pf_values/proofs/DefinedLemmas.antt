@@ -13,7 +13,7 @@ use Rattle.pf_values.specs.meaning.Refusals.{IsWithinLimits}
 use Rattle.pf_values.specs.meaning.Specification.{Specification, width_of}
 use Rattle.pf_values.specs.Directives.{effective_precision}
 
-none_first : {X : Type 0} (b : Bool) (x : X) (o : Option X) → (if b then Some x else o) ≡ None → (b ≡ false) × (o ≡ None)
+pub none_first : {X : Type 0} (b : Bool) (x : X) (o : Option X) → (if b then Some x else o) ≡ None → (b ≡ false) × (o ≡ None)
 none_first true x o e = cc
 none_first false x o e = (refl, e)
 

@@ -1,0 +1,316 @@
+-- The parts of a normal spelling are their own normal parts. If a directive is defined and opaque, so
+-- are its normal parts, and they take arguments of the same types.
+use Rattle.std.proofs.Common.{◌≡◌, ℕ, Bool, true, false, refl, ap, ◌∙◌}
+use Rattle.std.specs.Prelude.{Option, Some, None, is_some, not, ◌&&◌, ◌||◌, ◌==◌, if◌then◌else◌}
+use Rattle.pf_values.specs.declared.conversions.Conv.TheVariants as convs
+use Rattle.pf_values.specs.declared.conversions.Kind.{Kind}
+use Rattle.pf_values.specs.declared.conversions.Kind.TheVariants as kinds
+use Rattle.pf_values.specs.declared.flags.FlagSet.{FlagSet}
+use Rattle.pf_values.specs.declared.flags.Flag.TheVariants.{Minus, Plus, Space, Alt, Zero, Group}
+use Rattle.pf_values.specs.declared.lengths.Length.{Length}
+use Rattle.pf_values.specs.declared.lengths.Length.TheVariants as lengths
+use Rattle.pf_values.specs.declared.models.Model.{Model}
+use Rattle.pf_values.specs.declared.models.Model.TheVariants.{Lp64, Ilp32, Llp64}
+use Rattle.pf_values.specs.meaning.Conversions.{is_text, kept_conv, kind_of, prints_text}
+use Rattle.pf_values.specs.meaning.DataModel.{kept_length}
+use Rattle.pf_values.specs.meaning.Flags.{has}
+use Rattle.pf_values.specs.meaning.Lengths.{is_absent, is_long}
+use Rattle.pf_values.proofs.DataModelLemmas.{kept_row}
+use Rattle.pf_values.proofs.DefinedLemmas.{none_first}
+use Rattle.pf_reduce.proofs.CarriedIntegers.{kept_kind}
+use Rattle.pf_signatures.specs.declared.conversions.Conversion.{Conversion}
+use Rattle.pf_signatures.specs.declared.conversions.Conversion.TheVariants.{Profile, Float, UpperC, UpperS, Pointer, Count}
+use Rattle.pf_signatures.specs.declared.conversions.Floating.TheVariants as floats
+use Rattle.pf_signatures.specs.declared.conversions.Modifier.{Modifier}
+use Rattle.pf_signatures.specs.declared.conversions.Modifier.TheVariants.{Integer, LongDouble}
+use Rattle.pf_signatures.specs.Defined.{has_any_flag, is_count, takes_alt, takes_group, takes_modifier, takes_precision, takes_zero, undefined_as}
+use Rattle.pf_signatures.specs.Specifications.{Amount, Given, Fetched, PosixSpecification}
+use Rattle.pf_signatures.specs.Types.{conversion_type, counted_type, integer_length, kind_type, star_fetches, widened}
+use Rattle.pf_whole.specs.meaning.NormalSpellings.{given_precision, integer_modifier, is_amount, is_general, is_given, is_integer, keeps_sign, kept_conversion}
+use Rattle.pf_whole.specs.meaning.NormalSpellings.{kept_flags, kept_modifier, normal_precision, meant_precision, normal_parts}
+use Rattle.pf_whole.specs.meaning.Opaque.{is_opaque, is_outside, is_star}
+use Rattle.pf_whole.specs.meaning.Stretches.{types_of_opaque}
+use Rattle.pf_whole.proofs.SpecificationsOnce.{same_fields}
+
+-- conversions
+pub record SameConversion (before after : Conversion) : Type 0 where
+  pub again : kept_conversion after ≡ after
+  pub integer : is_integer after ≡ is_integer before
+  pub sign : keeps_sign after ≡ keeps_sign before
+  pub general : is_general after ≡ is_general before
+  pub meant : meant_precision after ≡ meant_precision before
+  pub alt : takes_alt after ≡ takes_alt before
+  pub zero_flag : takes_zero after ≡ takes_zero before
+  pub precision : takes_precision after ≡ takes_precision before
+  pub count : is_count after ≡ is_count before
+
+pub same_conversion : (conversion : Conversion) → SameConversion conversion (kept_conversion conversion)
+same_conversion (Profile convs.D) = record
+    { again = refl; integer = refl; sign = refl; general = refl; meant = refl; alt = refl; zero_flag = refl; precision = refl; count = refl }
+same_conversion (Profile _) = record {
+  again = refl;
+  integer = refl;
+  sign = refl;
+  general = refl;
+  meant = refl;
+  alt = refl;
+  zero_flag = refl;
+  precision = refl;
+  count = refl;
+}
+same_conversion _ = record {
+  again = refl;
+  integer = refl;
+  sign = refl;
+  general = refl;
+  meant = refl;
+  alt = refl;
+  zero_flag = refl;
+  precision = refl;
+  count =
+      refl;
+}
+
+-- modifiers
+kept_again : (model : Model) (length : Length) → kept_length model (kept_length model length) ≡ kept_length model length
+kept_again model length = ap (λ row. row.kept) (kept_row model length)
+
+integer_again : (model : Model) (modifier : Modifier) → integer_modifier model (integer_modifier model modifier) ≡ integer_modifier model modifier
+integer_again model (Integer length) = ap Integer (kept_again model length)
+integer_again model LongDouble = refl
+
+modifier_again : (model : Model) (conversion : Conversion) (modifier : Modifier)
+    → kept_modifier model (kept_conversion conversion) (kept_modifier model conversion modifier) ≡ kept_modifier model conversion modifier
+modifier_again model (Profile conv) modifier = go (is_text conv) refl where
+  go : (b : Bool) → is_text conv ≡ b → (if is_text (kept_conv conv) then (if b then modifier else integer_modifier model modifier) else integer_modifier model
+      (if b then modifier else integer_modifier model modifier)) ≡ (if b then modifier else integer_modifier model modifier)
+  go true e = let same : is_text (kept_conv conv) ≡ true = ap prints_text (kept_kind conv) ∙ e in rw same refl
+  go false e = let same : is_text (kept_conv conv) ≡ false = ap prints_text (kept_kind conv) ∙ e in rw same (integer_again model modifier)
+modifier_again model (Float floating) (Integer length) = refl
+modifier_again model (Float floating) LongDouble = refl
+modifier_again model UpperC modifier = refl
+modifier_again model UpperS modifier = refl
+modifier_again model Pointer modifier = refl
+modifier_again model Count modifier = integer_again model modifier
+
+-- types
+counted_again : (model : Model) (length : Length) → counted_type model (kept_length model length) ≡ counted_type model length
+counted_again Lp64 lengths.Hh = refl
+counted_again Lp64 _ = refl
+counted_again Ilp32 lengths.Hh = refl
+counted_again Ilp32 _ = refl
+counted_again Llp64 lengths.Hh = refl
+counted_again Llp64 _ = refl
+
+kind_again : (model : Model) (kind : Kind) (modifier : Modifier)
+    → kind_type model kind (integer_length (if prints_text kind then modifier else integer_modifier model modifier))
+    ≡ kind_type model kind (integer_length modifier)
+kind_again model kinds.Signed (Integer length) = ap (λ row. widened row.signed) (kept_row model length)
+kind_again model kinds.Signed LongDouble = refl
+kind_again model (kinds.Unsigned base capitals) (Integer length) = ap (λ row. widened row.unsigned) (kept_row model length)
+kind_again model (kinds.Unsigned base capitals) LongDouble = refl
+kind_again model kinds.Char modifier = refl
+kind_again model kinds.String modifier = refl
+
+type_again : (model : Model) (conversion : Conversion) (modifier : Modifier)
+    → conversion_type model (kept_modifier model conversion modifier) (kept_conversion conversion) ≡ conversion_type model modifier conversion
+type_again model (Profile conv) modifier =
+    ap (λ kind. kind_type model kind (integer_length (if prints_text (kind_of conv) then modifier else integer_modifier model modifier))) (kept_kind conv)
+    ∙ kind_again model (kind_of conv) modifier
+type_again model (Float floating) (Integer length) = refl
+type_again model (Float floating) LongDouble = refl
+type_again model UpperC modifier = refl
+type_again model UpperS modifier = refl
+type_again model Pointer modifier = refl
+type_again model Count (Integer length) = counted_again model length
+type_again model Count LongDouble = refl
+
+-- precisions
+pub record SamePrecision (conversion : Conversion) (before after : Option Amount) : Type 0 where
+  pub again : normal_precision conversion after ≡ after
+  pub given : is_given before ≡ false → is_given after ≡ false
+  pub star : is_star after ≡ is_star before
+  pub some : is_some before ≡ false → is_some after ≡ false
+  pub fetched : star_fetches after ≡ star_fetches before
+
+general_means : (conversion : Conversion) → is_general conversion ≡ true → meant_precision conversion ≡ Some 6
+general_means (Float floats.G) e = refl
+general_means (Float floats.UpperG) e = refl
+general_means (Float _) e = cc
+general_means _ e = cc
+
+given_same : (conversion : Conversion) (n : ℕ) → SamePrecision conversion (Some (Given n)) (given_precision conversion n)
+given_same conversion n = go (is_amount (meant_precision conversion) n) (is_general conversion && n == 0) refl refl where
+  go : (b c : Bool) → is_amount (meant_precision conversion) n ≡ b → (is_general conversion && n == 0) ≡ c
+      → SamePrecision conversion (Some (Given n)) (if b then None else (if c then Some (Given 1) else Some (Given n)))
+  go true c h g = record { again = refl; given = λ e. cc; star = refl; some = λ e. cc; fetched = refl }
+  go false true h g = record { again = one (is_general conversion) refl g; given = λ e. cc; star = refl; some = λ e. cc; fetched = refl } where
+    one : (d : Bool) → is_general conversion ≡ d → (is_general conversion && n == 0) ≡ true → given_precision conversion 1 ≡ Some (Given 1)
+    one true e g = let meant = general_means conversion e in rw (meant, e) refl
+    one false e g = let no : (false && n == 0) ≡ true = rw e at g in cc
+  go false false h g = record { again = rw (h, g) refl; given = λ e. e; star = refl; some = λ e. e; fetched = refl }
+
+pub precision_same : (conversion : Conversion) (precision : Option Amount) → SamePrecision conversion precision (normal_precision conversion precision)
+precision_same conversion None = record { again = refl; given = λ e. e; star = refl; some = λ e. e; fetched = refl }
+precision_same conversion (Some (Given n)) = given_same conversion n
+precision_same conversion (Some (Fetched number)) = record { again = refl; given = λ e. e; star = refl; some = λ e. e; fetched = refl }
+
+precision_for : (a b : Conversion) (precision : Option Amount) → meant_precision a ≡ meant_precision b → is_general a ≡ is_general b
+    → normal_precision a precision ≡ normal_precision b precision
+precision_for a b None h g = refl
+precision_for a b (Some (Given n)) h g = rw (h, g) refl
+precision_for a b (Some (Fetched number)) h g = refl
+
+-- flags
+both_again : (a b : Bool) → ((a && b) && b) ≡ (a && b)
+both_again true true = refl
+both_again true false = refl
+both_again false b = refl
+
+space_again : (s p k : Bool) → ((s && not p && k) && not (p && k) && k) ≡ (s && not p && k)
+space_again true true true = refl
+space_again true true false = refl
+space_again true false true = refl
+space_again true false false = refl
+space_again false p k = refl
+
+zero_again : (z w m i g h : Bool) → (g ≡ false → h ≡ false)
+    → ((z && w && not m && not (i && g)) && w && not (m && w) && not (i && h)) ≡ (z && w && not m && not (i && g))
+zero_again false w m i g h e = refl
+zero_again true false m i g h e = refl
+zero_again true true true i g h e = refl
+zero_again true true false false g h e = refl
+zero_again true true false true true h e = refl
+zero_again true true false true false h e = let same = e refl in rw same refl
+
+abbrev set_of : Bool → Bool → Bool → Bool → Bool → Bool → FlagSet
+set_of a b c d e f = record { minus = a; plus = b; space = c; alt = d; zero = e; group = f }
+
+same_set : (a b c d e f g h i j k l : Bool) → a ≡ g → b ≡ h → c ≡ i → d ≡ j → e ≡ k → f ≡ l → set_of a b c d e f ≡ set_of g h i j k l
+same_set a b c d e f g h i j k l p q r s t u = rw (p, q, r, s, t, u) refl
+
+flags_again : (model : Model) (s : PosixSpecification) → kept_flags (normal_parts model s) ≡ kept_flags s
+flags_again model s =
+    let same = same_conversion s.conversion in
+    let precision = precision_same s.conversion s.precision in
+    let f = s.flags in
+    let w = is_some s.width in
+    let k = keeps_sign s.conversion in
+    same_set _ _ _ _ _ _ _ _ _ _ _ _
+    (both_again (has f Minus) w)
+    (ap (λ x. (has f Plus && k) && x) same.sign ∙ both_again (has f Plus) k)
+    (ap (λ x. (has f Space && not (has f Plus) && k) && not (has f Plus && k) && x) same.sign ∙ space_again (has f Space) (has f Plus) k)
+    refl
+    (ap (λ x. (has f Zero && w && not (has f Minus) && not (is_integer s.conversion && is_given s.precision)) && w && not (has f Minus && w) && not
+    (x && is_given (normal_precision s.conversion s.precision))) same.integer
+    ∙ zero_again (has f Zero) w (has f Minus) (is_integer s.conversion) (is_given s.precision)
+    (is_given (normal_precision s.conversion s.precision)) precision.given)
+    refl
+
+pub normal_again : (model : Model) (s : PosixSpecification) → normal_parts model (normal_parts model s) ≡ normal_parts model s
+normal_again model s =
+    let same = same_conversion s.conversion in
+    let precision = precision_same s.conversion s.precision in
+    same_fields (normal_parts model (normal_parts model s)) (normal_parts model s) refl (flags_again model s) refl
+    (precision_for (kept_conversion s.conversion) s.conversion (normal_precision s.conversion s.precision) same.meant same.general ∙ precision.again)
+    (modifier_again model s.conversion s.modifier)
+    same.again
+
+-- the same types
+pub types_again : (model : Model) (s : PosixSpecification) → types_of_opaque model (normal_parts model s) ≡ types_of_opaque model s
+types_again model s =
+    let precision = precision_same s.conversion s.precision in
+    let type = type_again model s.conversion s.modifier in
+    rw (precision.fetched, type) refl
+
+-- opaque
+outside_again : (model : Model) (conversion : Conversion) (modifier : Modifier) → is_outside conversion modifier ≡ true
+    → is_outside (kept_conversion conversion) (kept_modifier model conversion modifier) ≡ true
+outside_again model (Profile conv) modifier e = go (is_text conv) refl e where
+  go : (b : Bool) → is_text conv ≡ b → (b && is_long (integer_length modifier)) ≡ true
+      → (is_text (kept_conv conv) && is_long (integer_length (if b then modifier else integer_modifier model modifier))) ≡ true
+  go true h e = let same : is_text (kept_conv conv) ≡ true = ap prints_text (kept_kind conv) ∙ h in rw same e
+  go false h e = cc
+outside_again model (Float floating) modifier e = refl
+outside_again model UpperC modifier e = refl
+outside_again model UpperS modifier e = refl
+outside_again model Pointer modifier e = refl
+outside_again model Count modifier e = refl
+
+one_of : (a b c d : Bool) → (a || b || c) ≡ true → (c ≡ true → d ≡ true) → (a || b || d) ≡ true
+one_of true b c d e h = refl
+one_of false true c d e h = refl
+one_of false false c d e h = h e
+
+pub opaque_again : (model : Model) (s : PosixSpecification) → is_opaque s ≡ true → is_opaque (normal_parts model s) ≡ true
+opaque_again model s e =
+    let precision = precision_same s.conversion s.precision in
+    ap (λ b. is_star s.width || b || is_outside (kept_conversion s.conversion) (kept_modifier model s.conversion s.modifier)) precision.star
+    ∙ one_of (is_star s.width) (is_star s.precision) (is_outside s.conversion s.modifier) _ e (outside_again model s.conversion s.modifier)
+
+-- defined
+pub record HasNoReason (set : FlagSet) (width precision : Bool) (modifier : Modifier) (conversion : Conversion) : Type 0 where
+  pub alt : (has set Alt && not (takes_alt conversion)) ≡ false
+  pub zero_flag : (has set Zero && not (takes_zero conversion)) ≡ false
+  pub group : (has set Group && not (takes_group conversion)) ≡ false
+  pub precision_is : (precision && not (takes_precision conversion)) ≡ false
+  pub modifier_is : not (takes_modifier conversion modifier) ≡ false
+  pub count : (is_count conversion && (has_any_flag set || width || precision)) ≡ false
+
+pub no_reason : (set : FlagSet) (width precision : Bool) (modifier : Modifier) (conversion : Conversion)
+    → undefined_as set width precision modifier conversion ≡ None → HasNoReason set width precision modifier conversion
+no_reason set width precision modifier conversion e =
+    let a = none_first _ _ _ e in
+    let b = none_first _ _ _ a.1 in
+    let c = none_first _ _ _ b.1 in
+    let d = none_first _ _ _ c.1 in
+    let f = none_first _ _ _ d.1 in
+    let g = none_first _ _ _ f.1 in
+    record { alt = a.0; zero_flag = b.0; group = c.0; precision_is = d.0; modifier_is = f.0; count = g.0 }
+
+pub is_defined : (set : FlagSet) (width precision : Bool) (modifier : Modifier) (conversion : Conversion) → HasNoReason set width precision modifier conversion
+    → undefined_as set width precision modifier conversion ≡ None
+is_defined set width precision modifier conversion h = rw (h.alt, h.zero_flag, h.group, h.precision_is, h.modifier_is, h.count) refl
+
+pub modifier_stands : (model : Model) (conversion : Conversion) (modifier : Modifier) → not (takes_modifier conversion modifier) ≡ false
+    → not (takes_modifier (kept_conversion conversion) (kept_modifier model conversion modifier)) ≡ false
+modifier_stands model (Profile conv) LongDouble e = cc
+modifier_stands model (Profile conv) (Integer length) e = go (is_text conv) refl e where
+  go : (b : Bool) → is_text conv ≡ b → not (not b || is_absent length || is_long length) ≡ false
+      → not (takes_modifier (Profile (kept_conv conv)) (if b then Integer length else Integer (kept_length model length))) ≡ false
+  go true h e = let same : is_text (kept_conv conv) ≡ true = ap prints_text (kept_kind conv) ∙ h in rw same e
+  go false h e = let same : is_text (kept_conv conv) ≡ false = ap prints_text (kept_kind conv) ∙ h in rw same refl
+modifier_stands model (Float floating) (Integer length) e = refl
+modifier_stands model (Float floating) LongDouble e = refl
+modifier_stands model UpperC modifier e = refl
+modifier_stands model UpperS modifier e = refl
+modifier_stands model Pointer modifier e = e
+modifier_stands model Count (Integer length) e = refl
+modifier_stands model Count LongDouble e = cc
+
+pub less : (z w m i t : Bool) → (z && not t) ≡ false → ((z && w && m && i) && not t) ≡ false
+less false w m i t e = refl
+less true w m i true e = go w m i where
+  go : (w m i : Bool) → ((w && m && i) && false) ≡ false
+  go true true true = refl
+  go true true false = refl
+  go true false i = refl
+  go false m i = refl
+less true w m i false e = cc
+
+pub fewer_some : (p q t : Bool) → (p ≡ false → q ≡ false) → (p && not t) ≡ false → (q && not t) ≡ false
+fewer_some true true t h e = e
+fewer_some true false t h e = refl
+fewer_some false q t h e = let no = h refl in rw no refl
+
+pub no_flags_left : (m p s a z g w q r : Bool) (x n y u v k : Bool) → (q ≡ false → r ≡ false) → ((m || p || s || a || z || g) || w || q) ≡ false
+    → (((m && w) || (p && x) || (s && n && y) || a || (z && u && v && k) || false) || w || r) ≡ false
+no_flags_left false false false false false false false false r x n y u v k h e = h refl
+no_flags_left true p s a z g w q r x n y u v k h e = cc
+no_flags_left false true s a z g w q r x n y u v k h e = cc
+no_flags_left false false true a z g w q r x n y u v k h e = cc
+no_flags_left false false false true z g w q r x n y u v k h e = cc
+no_flags_left false false false false true g w q r x n y u v k h e = cc
+no_flags_left false false false false false true w q r x n y u v k h e = cc
+no_flags_left false false false false false false true q r x n y u v k h e = cc
+no_flags_left false false false false false false false true r x n y u v k h e = cc

@@ -1,0 +1,104 @@
+-- Each list of stretches has a trace for arguments of its types.
+use Rattle.std.proofs.Common.{◌≡◌, List, [], ◌∷◌, ◌++◌, map, length, refl, sym, ap, ◌∙◌, arith, subst}
+use Rattle.std.proofs.lemmas.List.{append_assoc}
+use Rattle.pf_values.specs.declared.models.Model.{Model}
+use Rattle.pf_values.specs.declared.types.ArgType.{ArgType}
+use Rattle.pf_values.specs.meaning.Arguments.{Argument, HasTypes}
+use Rattle.pf_values.specs.meaning.Items.{Item, types}
+use Rattle.pf_values.specs.meaning.Text.{Text}
+use Rattle.pf_values.proofs.Alike.{all_printed, all_printed-is}
+use Rattle.pf_signatures.specs.declared.types.ArgumentType.{ArgumentType}
+use Rattle.pf_signatures.specs.Specifications.{PosixSpecification}
+use Rattle.pf_signatures.specs.Types.{widened}
+use Rattle.pf_whole.specs.meaning.NormalSpellings.{normal_spelling}
+use Rattle.pf_whole.specs.meaning.Stretches.{Stretches, Last, Before, types_of_opaque, whole_types}
+use Rattle.pf_whole.specs.meaning.Traces.{Ends, Calls, HasTrace, PrintsKnown, Trace, Call}
+use Rattle.pf_whole.specs.meaning.WholeArguments.{WholeArgument, Known, Other, HasNarrowedType, HasWholeTypes, narrowed}
+use Rattle.pf_whole.proofs.KnownArguments.{narrowed_is}
+
+-- arguments of types of the profile are known
+pub record AreKnown (model : Model) (args : List WholeArgument) (ts : List ArgType) : Type 0 where
+  pub known : List Argument
+  pub same : args ≡ map Known known
+  pub typed : HasTypes model known ts
+
+pub are_known : (model : Model) (args : List WholeArgument) (ts : List ArgType) → HasWholeTypes model args (map widened ts) → AreKnown model args ts
+are_known model [] [] h = record { known = []; same = refl; typed = tt }
+are_known model [] (t ∷ ts) h = absurd h
+are_known model (x ∷ args) [] h = absurd h
+are_known model (Known x ∷ args) (t ∷ ts) h =
+    let rest = are_known model args ts h.1 in
+    let wide = narrowed_is t in
+    let first : HasNarrowedType model (Known x) (narrowed (widened t)) = h.0 in
+    record { known = x ∷ rest.known; same = ap (λ l. Known x ∷ l) rest.same; typed = (rw wide at first, rest.typed) }
+are_known model (Other x ∷ args) (t ∷ ts) h =
+    let wide = narrowed_is t in
+    let first : HasNarrowedType model (Other x) (narrowed (widened t)) = h.0 in
+    absurd (rw wide at first)
+
+-- arguments of two lists of types, one after another
+pub record AreSplit (model : Model) (args : List WholeArgument) (a b : List ArgumentType) : Type 0 where
+  pub first : List WholeArgument
+  pub second : List WholeArgument
+  pub whole : args ≡ first ++ second
+  pub typed_first : HasWholeTypes model first a
+  pub typed_second : HasWholeTypes model second b
+
+pub are_split : (model : Model) (args : List WholeArgument) (a b : List ArgumentType) → HasWholeTypes model args (a ++ b) → AreSplit model args a b
+are_split model args [] b h = record { first = []; second = args; whole = refl; typed_first = tt; typed_second = h }
+are_split model [] (t ∷ a) b h = absurd h
+are_split model (x ∷ args) (t ∷ a) b h =
+    let rest = are_split model args a b h.1 in
+    record {
+      first = x ∷ rest.first;
+      second = rest.second;
+      whole = ap (λ l. x ∷ l) rest.whole;
+      typed_first =
+          (h.0, rest.typed_first);
+      typed_second = rest.typed_second;
+    }
+
+pub typed_both : (model : Model) (x y : List WholeArgument) (a b : List ArgumentType) → HasWholeTypes model x a → HasWholeTypes model y b
+    → HasWholeTypes model (x ++ y) (a ++ b)
+typed_both model [] y [] b h g = g
+typed_both model [] y (t ∷ a) b h g = absurd h
+typed_both model (x ∷ xs) y [] b h g = absurd h
+typed_both model (x ∷ xs) y (t ∷ a) b h g = (h.0, typed_both model xs y a b h.1 g)
+
+pub typed_count : (model : Model) (x : List WholeArgument) (a : List ArgumentType) → HasWholeTypes model x a → length x ≡ length a
+typed_count model [] [] h = refl
+typed_count model [] (t ∷ a) h = absurd h
+typed_count model (x ∷ xs) [] h = absurd h
+typed_count model (x ∷ xs) (t ∷ a) h = omega (arith, typed_count model xs a h.1)
+
+pub known_printed : (model : Model) (items : List Item) (args : List WholeArgument) → HasWholeTypes model args (map widened (types model items))
+    → (text : Text) × PrintsKnown model items args text
+known_printed model items args h =
+    let known = are_known model args (types model items) h in
+    (all_printed model items known.known, (known.known, known.same, all_printed-is model items known.known known.typed))
+
+abbrev pub call_of : Model → PosixSpecification → List WholeArgument → Call
+call_of model s args = record { spelling = normal_spelling model s; args = args }
+
+-- the trace of the rest, after a stretch and a call
+pub trace_before : (model : Model) (items : List Item) (s : PosixSpecification) (rest : Stretches) (first own back : List WholeArgument) (text : Text)
+    (trace : Trace) → PrintsKnown model items first text → HasWholeTypes model own (types_of_opaque model s) → HasTrace model rest back trace
+    → HasTrace model (Before items s rest) ((first ++ own) ++ back) (Calls text (call_of model s own) trace)
+trace_before model items s rest first own back text trace printed typed h =
+    (first, own, back, refl, printed, record { spelling = refl; args_are = refl; as_many = typed_count model own (types_of_opaque model s) typed }, h)
+
+pub some_trace : (model : Model) (a : Stretches) (args : List WholeArgument) → HasWholeTypes model args (whole_types model a)
+    → (trace : Trace) × HasTrace model a args trace
+some_trace model (Last items) args h = let printed = known_printed model items args h in (Ends printed.0, printed.1)
+some_trace model (Before items s rest) args h =
+    let outer = are_split model args (map widened (types model items)) (types_of_opaque model s ++ whole_types model rest) h in
+    let inner = are_split model outer.second (types_of_opaque model s) (whole_types model rest) outer.typed_second in
+    let printed = known_printed model items outer.first outer.typed_first in
+    let back = some_trace model rest inner.second inner.typed_second in
+    let whole : args ≡ (outer.first ++ inner.first) ++ inner.second = outer.whole ∙ ap (λ l. outer.first ++ l) inner.whole
+    ∙ sym (append_assoc outer.first inner.first inner.second) in
+    let same = trace_before model items s rest outer.first inner.first inner.second printed.0 back.0 printed.1 inner.typed_first back.1 in (
+      Calls printed.0 (call_of model s inner.first) back.0,
+      subst
+          (λ l. HasTrace model (Before items s rest) l (Calls printed.0 (call_of model s inner.first) back.0)) (sym whole) same,
+    )

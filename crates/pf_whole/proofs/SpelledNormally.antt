@@ -1,0 +1,122 @@
+-- A normal spelling spells the normal parts.
+use Rattle.std.proofs.Common.{◌≡◌, ℕ, ◌≤◌, Bool, true, false, [], ◌∷◌, ◌++◌, map, refl, sym, ap, ◌∙◌, arith, subst}
+use Rattle.std.specs.Prelude.{Option, Some, None, is_some, not, ◌&&◌, ◌||◌, ◌==◌, filter, if◌then◌else◌, ⊤}
+use Rattle.std.specs.Int.Digits.{digits_of}
+use Rattle.pf_values.specs.declared.flags.Flag.TheVariants.{Minus, Plus, Space, Alt, Zero, Group}
+use Rattle.pf_values.specs.declared.limits.TheConstants.{MAX_NUMBER}
+use Rattle.pf_values.specs.declared.models.Model.{Model}
+use Rattle.pf_values.specs.meaning.Flags.{all_flags, flag_byte, has}
+use Rattle.pf_values.specs.meaning.Text.{Text}
+use Rattle.pf_text.proofs.Complete.{small}
+use Rattle.pf_text.proofs.ReadBack.{decimal_is, least_digits_are, precision_read, set_kept}
+use Rattle.pf_signatures.specs.declared.conversions.Conversion.{Conversion}
+use Rattle.pf_signatures.specs.Defined.{IsPosixDefined, has_any_flag, is_count, takes_precision, takes_zero}
+use Rattle.pf_signatures.specs.Specifications.{Amount, Given, Fetched, PosixSpecification}
+use Rattle.pf_signatures.specs.Spelling.{SpellsPosition, SpellsPosix, SpellsPosixPrecision, SpellsPosixWidth, SpellsUpToPrecision}
+use Rattle.pf_whole.specs.meaning.NormalSpellings.{is_amount, is_general, is_given, is_integer, keeps_sign, kept_conversion, kept_flags, kept_modifier}
+use Rattle.pf_whole.specs.meaning.NormalSpellings.{normal_precision, meant_precision, normal_parts, normal_spelling, posix_precision_spelled}
+use Rattle.pf_whole.specs.meaning.NormalSpellings.{posix_width_spelled}
+use Rattle.pf_whole.specs.meaning.Opaque.{SpellsOpaque}
+use Rattle.pf_whole.proofs.NormalLemmas.{fewer_some, is_defined, less, modifier_stands, no_flags_left, no_reason, opaque_again, precision_same, same_conversion}
+use Rattle.pf_whole.proofs.SpecificationsOnce.{HasParts, no_number, parts_of}
+
+none_placed : (number : Option ℕ) → number ≡ None → SpellsPosition [] number
+none_placed None e = refl
+none_placed (Some n) e = cc
+
+width_here : (t : Text) (width : Option Amount) → SpellsPosixWidth t None width → SpellsPosixWidth (posix_width_spelled width) None width
+width_here t None h = refl
+width_here t (Some (Given n)) h = record {
+  some = h.some;
+  numeral = (digits_of 10 n, least_digits_are n h.some, decimal_is n h.some (omega (arith, h.within)));
+  within = h.within;
+}
+width_here t (Some (Fetched number)) h = record { digits = []; digits_are = none_placed number (no_number number h.style); style = h.style; whole = refl }
+
+-- the precision is one that can be spelled
+abbrev IsFew : Option Amount → Type 0
+IsFew None = ⊤
+IsFew (Some (Given n)) = n ≤ MAX_NUMBER
+IsFew (Some (Fetched number)) = is_some number ≡ false
+
+few_of : (t : Text) (precision : Option Amount) → SpellsPosixPrecision t None precision → IsFew precision
+few_of t None h = tt
+few_of t (Some (Given n)) h = h.1
+few_of t (Some (Fetched number)) h = h.1.style
+
+few_kept : (conversion : Conversion) (precision : Option Amount) → IsFew precision → IsFew (normal_precision conversion precision)
+few_kept conversion None h = tt
+few_kept conversion (Some (Given n)) h = go (is_amount (meant_precision conversion) n) (is_general conversion && n == 0) where
+  go : (b c : Bool) → IsFew (if b then None else (if c then Some (Given 1) else Some (Given n)))
+  go true c = tt
+  go false true = omega arith
+  go false false = h
+few_kept conversion (Some (Fetched number)) h = h
+
+precision_here : (precision : Option Amount) → IsFew precision → SpellsPosixPrecision (posix_precision_spelled precision) None precision
+precision_here None h = refl
+precision_here (Some (Given n)) h = (precision_read (Some n) (small n h), h)
+precision_here (Some (Fetched number)) h =
+    (42 ∷ [], record { digits = []; digits_are = none_placed number (no_number number h); style = h; whole = refl }, refl)
+
+spelled_normally : (model : Model) (t : Text) (s : PosixSpecification) → HasParts t s → SpellsPosix (normal_spelling model s) (normal_parts model s)
+spelled_normally model t s h =
+    let set = kept_flags s in
+    let flags = filter (has set) all_flags in
+    let precision = normal_precision s.conversion s.precision in
+    let before = (37 ∷ map flag_byte flags ++ posix_width_spelled s.width) ++ posix_precision_spelled precision in
+    record {
+      before = before;
+      before_is = subst (λ p. SpellsUpToPrecision before p set s.width precision) (sym h.unnumbered) (record {
+        before = 37 ∷ map flag_byte flags ++ posix_width_spelled s.width;
+        text = posix_precision_spelled precision;
+        before_is = record {
+          before = 37 ∷ map flag_byte flags;
+          text = posix_width_spelled s.width;
+          before_is = record { place = []; flags = flags; place_is = refl; set_is = sym (set_kept set); whole = refl };
+          width_is = width_here h.width s.width h.width_is;
+          whole = refl;
+        };
+        precision_is = precision_here precision (few_kept s.conversion s.precision (few_of h.precision s.precision h.precision_is));
+        whole = refl;
+      });
+      whole = refl;
+    }
+
+counted : (model : Model) (s : PosixSpecification) → (is_count s.conversion && (has_any_flag s.flags || is_some s.width || is_some s.precision)) ≡ false
+    → (is_count s.conversion && (has_any_flag (kept_flags s) || is_some s.width || is_some (normal_precision s.conversion s.precision))) ≡ false
+counted model s e = go (is_count s.conversion) e where
+  go : (b : Bool) → (b && (has_any_flag s.flags || is_some s.width || is_some s.precision)) ≡ false
+      → (b && (has_any_flag (kept_flags s) || is_some s.width || is_some (normal_precision s.conversion s.precision))) ≡ false
+  go true e = no_flags_left (has s.flags Minus) (has s.flags Plus) (has s.flags Space) (has s.flags Alt) (has s.flags Zero) (has s.flags Group)
+      (is_some s.width) (is_some s.precision) (is_some (normal_precision s.conversion s.precision))
+      (keeps_sign s.conversion) (not (has s.flags Plus)) (keeps_sign s.conversion) (is_some s.width) (not (has s.flags Minus))
+      (not (is_integer s.conversion && is_given s.precision))
+      (precision_same s.conversion s.precision).some e
+  go false e = refl
+
+defined_normally : (model : Model) (s : PosixSpecification) → IsPosixDefined s → IsPosixDefined (normal_parts model s)
+defined_normally model s h =
+    let none = no_reason s.flags (is_some s.width) (is_some s.precision) s.modifier s.conversion h in
+    let same = same_conversion s.conversion in
+    let precision = precision_same s.conversion s.precision in
+    is_defined (kept_flags s) (is_some s.width) (is_some (normal_precision s.conversion s.precision)) (kept_modifier model s.conversion s.modifier)
+    (kept_conversion s.conversion) (record {
+      alt = ap (λ b. has s.flags Alt && not b) same.alt ∙ none.alt;
+      zero_flag = less (has s.flags Zero) (is_some s.width) (not (has s.flags Minus)) (not (is_integer s.conversion && is_given s.precision))
+          (takes_zero (kept_conversion s.conversion)) (ap (λ b. has s.flags Zero && not b) same.zero_flag ∙ none.zero_flag);
+      group = refl;
+      precision_is = fewer_some (is_some s.precision) (is_some (normal_precision s.conversion s.precision))
+          (takes_precision (kept_conversion s.conversion)) precision.some (ap (λ b. is_some s.precision && not b) same.precision ∙ none.precision_is);
+      modifier_is = modifier_stands model s.conversion s.modifier none.modifier_is;
+      count = ap (λ b. b && (has_any_flag (kept_flags s) || is_some s.width || is_some (normal_precision s.conversion s.precision))) same.count
+          ∙ counted model s none.count;
+    })
+
+pub opaque_normally : (model : Model) (t : Text) (s : PosixSpecification) → SpellsOpaque t s → SpellsOpaque (normal_spelling model s) (normal_parts model s)
+opaque_normally model t s h = record {
+  spelled = spelled_normally model t s (parts_of t s h.spelled h.unnumbered);
+  defined = defined_normally model s h.defined;
+  unnumbered = h.unnumbered;
+  opaque = opaque_again model s h.opaque;
+}

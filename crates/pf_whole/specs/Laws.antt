@@ -1,0 +1,139 @@
+-- What the laws say.
+use Rattle.std.specs.Prelude.{◌≡◌, ℕ, ◌+◌, ◌≤◌, List, [], ◌∷◌, ◌++◌, length, None, ◌↔◌, ⊤}
+use Rattle.std.specs.List.{AllByRecursion}
+use Rattle.pf_values.specs.declared.limits.TheConstants.{MAX_TEXT_LEN}
+use Rattle.pf_values.specs.declared.models.Model.{Model}
+use Rattle.pf_values.specs.meaning.Canonical.{IsCanonicalOf}
+use Rattle.pf_values.specs.meaning.Items.{IsAccepted, types}
+use Rattle.pf_values.specs.meaning.Printing.{AreEquivalent, PrintAlike}
+use Rattle.pf_values.specs.meaning.Text.{Text}
+use Rattle.pf_signatures.specs.Items.{HasArguments, Byte, PosixItem, ReadsPosix, Specification}
+use Rattle.pf_whole.specs.meaning.NormalSpellings.{normal_spelling}
+use Rattle.pf_whole.specs.meaning.Stretches.{Stretches, Last, Before, ReadsWhole, types_of_opaque, whole_types, IsWholeAccepted}
+use Rattle.pf_whole.specs.meaning.Traces.{AreWholeAlike, Call, Calls, Ends, HasTrace, Trace}
+use Rattle.pf_whole.specs.meaning.WholeArguments.{WholeArgument, HasWholeTypes}
+use Rattle.pf_whole.specs.meaning.WholeCanonical.{IsWholeCanonicalOf}
+
+-- a text is read as one list of stretches at most
+abbrev pub IsReadOnce : Text → Type 0
+IsReadOnce t = (a b : Stretches) → ReadsWhole t a → ReadsWhole t b → a ≡ b
+
+-- stretches have exactly one trace for these arguments
+pub record HasOneTrace (model : Model) (a : Stretches) (args : List WholeArgument) : Type 0 where
+  pub trace : Trace
+  pub has : HasTrace model a args trace
+  pub only : (other : Trace) → HasTrace model a args other → other ≡ trace
+
+-- this holds of all stretches, for all arguments of their types
+abbrev pub TracesOnce : Model → Type 0
+TracesOnce model = (a : Stretches) (args : List WholeArgument)
+    → HasWholeTypes model args (whole_types model a) → HasOneTrace model a args
+
+-- What is printed in the end, if each call prints what `respond` gives for the bytes printed so far and
+-- the call. Each C library in which the output of an opaque directive depends on these alone is such a
+-- function.
+abbrev pub printed_by : (Text → Call → Text) → Text → Trace → Text
+printed_by respond before (Ends text) = before ++ text
+printed_by respond before (Calls text call rest) =
+    printed_by respond ((before ++ text) ++ respond (before ++ text) call) rest
+
+-- stretches print these bytes under such a function
+abbrev pub PrintsBy : Model → (Text → Call → Text) → Stretches → List WholeArgument → Text → Type 0
+PrintsBy model respond stretches args out =
+    (trace : Trace) × HasTrace model stretches args trace × (out ≡ printed_by respond [] trace)
+
+-- a text prints these bytes under such a function
+abbrev pub TextPrintsBy : Model → (Text → Call → Text) → Text → List WholeArgument → Text → Type 0
+TextPrintsBy model respond t args out =
+    (stretches : Stretches) × ReadsWhole t stretches × PrintsBy model respond stretches args out
+
+-- for all arguments of their types two texts print the same under such a function
+abbrev pub PrintAlikeBy : Model → (Text → Call → Text) → Text → Text → Type 0
+PrintAlikeBy model respond t u = (a : Stretches) (args : List WholeArgument) (out : Text)
+    → ReadsWhole t a → HasWholeTypes model args (whole_types model a)
+    → (TextPrintsBy model respond t args out ↔ TextPrintsBy model respond u args out)
+
+-- alike texts print the same under every such function
+abbrev pub AlikePrintAlike : Model → Type 0
+AlikePrintAlike model = (t u : Text) → AreWholeAlike model t u → (respond : Text → Call → Text)
+    → PrintAlikeBy model respond t u
+
+-- Two texts are alike exactly if they are equivalent in the profile. A text is the canonical text of the
+-- first exactly if it is so in the profile.
+pub record CoincidesWithProfile (model : Model) (t u : Text) : Type 0 where
+  pub alike : AreWholeAlike model t u ↔ AreEquivalent model t u
+  pub canonical : (c : Text) → (IsWholeCanonicalOf model t c ↔ IsCanonicalOf model t c)
+
+-- this holds of every two texts that the profile accepts
+abbrev pub ProfileCoincides : Model → Type 0
+ProfileCoincides model = (t u : Text) → IsAccepted t → IsAccepted u → CoincidesWithProfile model t u
+
+-- canonical texts of alike texts are equal
+abbrev pub AlikeHaveOneCanonical : Model → Type 0
+AlikeHaveOneCanonical model = (t u c d : Text) → AreWholeAlike model t u
+    → IsWholeCanonicalOf model t c → IsWholeCanonicalOf model u d → c ≡ d
+
+-- a canonical text of a text is alike to it, and is its own canonical text
+abbrev pub CanonicalIsAlike : Model → Type 0
+CanonicalIsAlike model = (t c : Text) → IsWholeCanonicalOf model t c
+    → AreWholeAlike model t c × IsWholeCanonicalOf model c c
+
+-- texts with the same canonical text are alike
+abbrev pub OneCanonicalIsAlike : Model → Type 0
+OneCanonicalIsAlike model = (t u c : Text) → IsWholeCanonicalOf model t c
+    → IsWholeCanonicalOf model u c → AreWholeAlike model t u
+
+-- Two lists of stretches correspond: side by side, the stretches print alike, and the opaque directives
+-- have the same normal spelling.
+abbrev pub Correspond : Model → Stretches → Stretches → Type 0
+Correspond model (Last a) (Last b) = PrintAlike model a b
+Correspond model (Last a) (Before b p more) = ⊥
+Correspond model (Before a s rest) (Last b) = ⊥
+Correspond model (Before a s rest) (Before b p more) =
+    PrintAlike model a b × (normal_spelling model s ≡ normal_spelling model p)
+    × Correspond model rest more
+
+-- two texts are alike exactly if their stretches correspond
+abbrev pub AlikeIsCorresponding : Model → Type 0
+AlikeIsCorresponding model = (t u : Text) (a b : Stretches) → ReadsWhole t a → ReadsWhole u b
+    → (AreWholeAlike model t u ↔ Correspond model a b)
+
+-- the normal spelling of a call, with the index of the call's first argument
+pub record PlacedCall : Type 0 where
+  pub index : ℕ
+  pub spelling : Text
+
+-- the calls of stretches, in order; the index is that of the first argument of the stretches
+abbrev pub placed_calls : Model → ℕ → Stretches → List PlacedCall
+placed_calls model index (Last items) = []
+placed_calls model index (Before items s rest) =
+    record { index = index + length (types model items); spelling = normal_spelling model s }
+    ∷ placed_calls model (index + length (types model items) + length (types_of_opaque model s)) rest
+
+-- alike texts have the same calls, each with the same first argument
+abbrev pub AlikeCallTheSame : Model → Type 0
+AlikeCallTheSame model = (t u : Text) (a b : Stretches) → ReadsWhole t a → ReadsWhole u b
+    → AreWholeAlike model t u → placed_calls model 0 a ≡ placed_calls model 0 b
+
+-- a text that is read as stretches, and is within the limit, has arguments of their types by the
+-- definitions of `pf_signatures`, too
+abbrev pub TypesAreKept : Model → Type 0
+TypesAreKept model = (t : Text) (a : Stretches) → ReadsWhole t a → length t ≤ MAX_TEXT_LEN
+    → HasArguments model t (whole_types model a)
+
+-- the item is not a numbered specification (POSIX fprintf on `%n$`)
+abbrev pub IsUnnumbered : PosixItem → Type 0
+IsUnnumbered (Byte byte) = ⊤
+IsUnnumbered (Specification s) = s.position ≡ None
+
+-- a text is read by the definitions of `pf_signatures`, with no numbered specification, and is within
+-- the limit
+pub record IsAcceptedUnnumbered (t : Text) : Type 0 where
+  pub items : List PosixItem
+  pub reads : ReadsPosix t items
+  pub unnumbered : AllByRecursion IsUnnumbered items
+  pub limit : length t ≤ MAX_TEXT_LEN
+
+-- a text is accepted exactly if this holds
+abbrev pub AcceptsUnnumbered : Text → Type 0
+AcceptsUnnumbered t = IsWholeAccepted t ↔ IsAcceptedUnnumbered t

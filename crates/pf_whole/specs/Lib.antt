@@ -1,0 +1,4 @@
+pub mod meaning
+pub mod Laws
+pub mod Answers
+pub mod Parts

@@ -1,0 +1,167 @@
+-- The normal spelling of an opaque directive. It drops or replaces what has no effect, by the standards
+-- or by this project's choice where a comment says so, and keeps everything else.
+use Rattle.std.specs.Prelude.{ℕ, Bool, true, false, not, ◌&&◌, [], ◌∷◌, ◌++◌, Option, Some, None, is_some, ◌==◌, if◌then◌else◌, decimal}
+use Rattle.pf_values.specs.declared.conversions.Conv.TheVariants as convs
+use Rattle.pf_values.specs.declared.flags.Flag.TheVariants.{Minus, Plus, Space, Alt, Zero}
+use Rattle.pf_values.specs.declared.flags.FlagSet.{FlagSet}
+use Rattle.pf_values.specs.declared.lengths.Length.TheVariants as lengths
+use Rattle.pf_values.specs.declared.models.Model.{Model}
+use Rattle.pf_values.specs.meaning.Conversions.{is_signed, is_text, kept_conv}
+use Rattle.pf_values.specs.meaning.DataModel.{kept_length}
+use Rattle.pf_values.specs.meaning.Flags.{has}
+use Rattle.pf_values.specs.meaning.Spelling.{flags_spelled}
+use Rattle.pf_values.specs.meaning.Text.{Text, percent, point, star}
+use Rattle.pf_signatures.specs.declared.conversions.Conversion.{Conversion}
+use Rattle.pf_signatures.specs.declared.conversions.Conversion.TheVariants.{Profile, Float, UpperC, UpperS, Pointer, Count}
+use Rattle.pf_signatures.specs.declared.conversions.Floating.{Floating}
+use Rattle.pf_signatures.specs.declared.conversions.Floating.TheVariants as floats
+use Rattle.pf_signatures.specs.declared.conversions.Modifier.{Modifier}
+use Rattle.pf_signatures.specs.declared.conversions.Modifier.TheVariants.{Integer, LongDouble}
+use Rattle.pf_signatures.specs.Specifications.{Amount, Given, Fetched, PosixSpecification, conversion_letter, modifier_letters}
+
+-- whether the conversion prints an integer: `d i u o x X b` (C11 7.21.6.1 p8; C23 7.23.6.1 p8)
+abbrev pub is_integer : Conversion → Bool
+is_integer (Profile conv) = not (is_text conv)
+is_integer _ = false
+
+-- Whether the flags `+` and space are kept. They concern signed conversions, which are `d` and the
+-- floating ones (C11 7.21.6.1 p6). On `p` they stay, since the implementation defines what it prints
+-- (p8). On all others they are dropped, as in the profile, which is this project's choice.
+abbrev pub keeps_sign : Conversion → Bool
+keeps_sign (Profile conv) = is_signed conv
+keeps_sign (Float floating) = true
+keeps_sign Pointer = true
+keeps_sign _ = false
+
+-- whether a precision is a number (C11 7.21.6.1 p4)
+abbrev pub is_given : Option Amount → Bool
+is_given None = false
+is_given (Some (Given n)) = true
+is_given (Some (Fetched number)) = false
+
+-- Whether the flag `0` is kept. It pads to the width, so it needs one. `-` overrides it, and so does a
+-- precision of an integer (C11 7.21.6.1 p6), unless that is `*`: the argument may be negative, which
+-- counts as no precision (p5).
+abbrev pub keeps_zero : PosixSpecification → Bool
+keeps_zero s = has s.flags Zero && is_some s.width && not (has s.flags Minus)
+    && not (is_integer s.conversion && is_given s.precision)
+
+-- The flags that are kept, each once. `-` justifies within a field, so it needs a width; a space next
+-- to `+` is ignored (C11 7.21.6.1 p6); `'` groups nothing in the POSIX locale (POSIX fprintf).
+abbrev pub kept_flags : PosixSpecification → FlagSet
+kept_flags s = record {
+  minus = has s.flags Minus && is_some s.width;
+  plus = has s.flags Plus && keeps_sign s.conversion;
+  space = has s.flags Space && not (has s.flags Plus) && keeps_sign s.conversion;
+  alt = has s.flags Alt;
+  zero = keeps_zero s;
+  group = false;
+}
+
+-- the default precision of a floating conversion: 6 of `f F e E g G`, and no number of `a A`, which
+-- print as many digits as the value needs (C11 7.21.6.1 p8)
+abbrev pub floating_precision : Floating → Option ℕ
+floating_precision floats.A = None
+floating_precision floats.UpperA = None
+floating_precision _ = Some 6
+
+-- the default precision of a conversion: 1 of an integer, that of a floating one, and no number of the
+-- others (C11 7.21.6.1 p8)
+abbrev pub meant_precision : Conversion → Option ℕ
+meant_precision (Profile conv) = if is_text conv then None else Some 1
+meant_precision (Float floating) = floating_precision floating
+meant_precision _ = None
+
+-- whether the conversion is `g` or `G`, which take a precision of 0 as 1 (C11 7.21.6.1 p8)
+abbrev pub is_general : Conversion → Bool
+is_general (Float floats.G) = true
+is_general (Float floats.UpperG) = true
+is_general _ = false
+
+-- whether there is a number, and it is this one
+abbrev pub is_amount : Option ℕ → ℕ → Bool
+is_amount None n = false
+is_amount (Some m) n = m == n
+
+-- a precision that is a number: the default is dropped, and 0 of `g` and `G` becomes 1
+-- (C11 7.21.6.1 p8)
+abbrev pub given_precision : Conversion → ℕ → Option Amount
+given_precision conversion n =
+    if is_amount (meant_precision conversion) n then None else
+    if is_general conversion && n == 0 then Some (Given 1) else
+    Some (Given n)
+
+-- the precision that is kept; `*` stays (C11 7.21.6.1 p5, p8)
+abbrev pub normal_precision : Conversion → Option Amount → Option Amount
+normal_precision conversion None = None
+normal_precision conversion (Some (Given n)) = given_precision conversion n
+normal_precision conversion (Some (Fetched number)) = Some (Fetched number)
+
+-- the conversion that is kept: `d` for `i` (C11 7.21.6.1 p8), `c` for `C` and `s` for `S`, which are
+-- `lc` and `ls` (POSIX fprintf)
+abbrev pub kept_conversion : Conversion → Conversion
+kept_conversion (Profile conv) = Profile (kept_conv conv)
+kept_conversion (Float floating) = Float floating
+kept_conversion UpperC = Profile convs.C
+kept_conversion UpperS = Profile convs.S
+kept_conversion Pointer = Pointer
+kept_conversion Count = Count
+
+-- the modifier of a floating conversion: `l` has no effect (C11 7.21.6.1 p7)
+abbrev pub floating_modifier : Modifier → Modifier
+floating_modifier (Integer length) = Integer lengths.None
+floating_modifier LongDouble = LongDouble
+
+-- the modifier of an integer or of `n`: of `j z t` the one that names the same type in the data model,
+-- as in the profile (C11 7.21.6.1 p7)
+abbrev pub integer_modifier : Model → Modifier → Modifier
+integer_modifier model (Integer length) = Integer (kept_length model length)
+integer_modifier model LongDouble = LongDouble
+
+-- the modifier that is kept (C11 7.21.6.1 p7; POSIX fprintf on `C` and `S`)
+abbrev pub kept_modifier : Model → Conversion → Modifier → Modifier
+kept_modifier model (Profile conv) modifier =
+    if is_text conv then modifier else integer_modifier model modifier
+kept_modifier model (Float floating) modifier = floating_modifier modifier
+kept_modifier model UpperC modifier = Integer lengths.L
+kept_modifier model UpperS modifier = Integer lengths.L
+kept_modifier model Pointer modifier = modifier
+kept_modifier model Count modifier = integer_modifier model modifier
+
+-- the parts of the normal spelling; the width is kept as it is (C11 7.21.6.1 p4)
+abbrev pub normal_parts : Model → PosixSpecification → PosixSpecification
+normal_parts model s = record {
+  position = s.position;
+  flags = kept_flags s;
+  width = s.width;
+  precision = normal_precision s.conversion s.precision;
+  modifier = kept_modifier model s.conversion s.modifier;
+  conversion = kept_conversion s.conversion;
+}
+
+-- A number in base ten without leading zeros, or `*`. How parts are spelled is this project's choice.
+abbrev pub amount_spelled : Amount → Text
+amount_spelled (Given n) = decimal n
+amount_spelled (Fetched number) = star ∷ []
+
+-- the spelling of a width, if there is one
+abbrev pub posix_width_spelled : Option Amount → Text
+posix_width_spelled None = []
+posix_width_spelled (Some amount) = amount_spelled amount
+
+-- the spelling of a precision, if there is one
+abbrev pub posix_precision_spelled : Option Amount → Text
+posix_precision_spelled None = []
+posix_precision_spelled (Some amount) = point ∷ amount_spelled amount
+
+-- the one spelling of the parts of a specification that isn't numbered: the flags in the order `-`,
+-- `+`, space, `#`, `0`, then the rest in the order of C11 7.21.6.1 p4
+abbrev pub posix_spelling_of : PosixSpecification → Text
+posix_spelling_of s =
+    percent ∷ flags_spelled s.flags ++ posix_width_spelled s.width
+    ++ posix_precision_spelled s.precision ++ modifier_letters s.modifier
+    ++ conversion_letter s.conversion ∷ []
+
+-- the normal spelling of a specification
+abbrev pub normal_spelling : Model → PosixSpecification → Text
+normal_spelling model s = posix_spelling_of (normal_parts model s)

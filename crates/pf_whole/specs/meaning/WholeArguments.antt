@@ -1,0 +1,43 @@
+-- Arguments of the whole language.
+use Rattle.std.specs.Prelude.{Option, Some, None, List, ⊤}
+use Rattle.std.specs.List.{AllZip}
+use Rattle.pf_values.specs.declared.models.Model.{Model}
+use Rattle.pf_values.specs.declared.types.ArgType.{ArgType}
+use Rattle.pf_values.specs.declared.types.ArgType.TheVariants as profile
+use Rattle.pf_values.specs.meaning.Arguments.{Argument, HasType}
+use Rattle.pf_values.specs.meaning.Text.{Text}
+use Rattle.pf_signatures.specs.declared.types.ArgumentType.{ArgumentType}
+use Rattle.pf_signatures.specs.declared.types.ArgumentType.TheVariants.{Int, UInt, Long, ULong, LongLong, ULongLong, Str}
+
+-- An argument of a type of the profile is known. Any other is represented by bytes (C11 6.2.6.1 p4),
+-- and no definition depends on which bytes represent which value.
+pub data WholeArgument : Type 0 where
+  Known : (argument : Argument) → WholeArgument
+  Other : (representation : Text) → WholeArgument
+
+-- the same type in the profile, if the profile has it
+abbrev pub narrowed : ArgumentType → Option ArgType
+narrowed Int = Some profile.Int
+narrowed UInt = Some profile.UInt
+narrowed Long = Some profile.Long
+narrowed ULong = Some profile.ULong
+narrowed LongLong = Some profile.LongLong
+narrowed ULongLong = Some profile.ULongLong
+narrowed Str = Some profile.Str
+narrowed _ = None
+
+-- a known argument has the type of the profile; any bytes are an argument of another type
+abbrev pub HasNarrowedType : Model → WholeArgument → Option ArgType → Type 0
+HasNarrowedType model (Known argument) (Some type) = HasType model argument type
+HasNarrowedType model (Known argument) None = ⊥
+HasNarrowedType model (Other representation) (Some type) = ⊥
+HasNarrowedType model (Other representation) None = ⊤
+
+-- an argument is of the type that a directive needs; any other is undefined (C11 7.21.6.1 p9)
+abbrev pub HasWholeType : Model → WholeArgument → ArgumentType → Type 0
+HasWholeType model argument type = HasNarrowedType model argument (narrowed type)
+
+-- one argument for each type, in order: too few are undefined (C11 7.21.6.1 p2), and too many are
+-- wrong in this project alone
+abbrev pub HasWholeTypes : Model → List WholeArgument → List ArgumentType → Type 0
+HasWholeTypes model args types = AllZip (HasWholeType model) args types

@@ -1,0 +1,234 @@
+//! Opaque directives, and the parts of their normal spellings.
+ghost use Rattle.std.specs.Prelude.{◌≡◌, ◌&&◌, if◌then◌else◌, Some};
+ghost use Rattle.pf_signatures.specs.Specifications.{Given};
+ghost use Rattle.pf_values.specs.meaning.Conversions.{is_text, is_signed};
+ghost use Rattle.pf_values.specs.meaning.Flags.{with_flag};
+ghost use Rattle.pf_whole.specs.meaning.NormalSpellings.{floating_modifier, floating_precision, given_precision, integer_modifier, is_amount, is_general, is_given, is_integer, keeps_sign, keeps_zero, kept_conversion, kept_flags, kept_modifier, normal_precision, meant_precision, normal_parts};
+ghost use Rattle.pf_whole.specs.Parts.{amount_of, made_set, parts_of_opaque};
+
+use pf_signatures::{Conversion, Floating, Modifier};
+use pf_values::{Conv, Flag, FlagSet, Length, Model};
+
+/// A width or a precision that is given.
+#[derive(Clone, Copy, Debug, PartialEq, Eq)]
+pub enum OpaqueAmount {
+    /// A number.
+    Number(u16),
+    /// `*`: an argument supplies it.
+    Star,
+}
+
+/// The parts of a directive that the profile lacks.
+#[derive(Clone, Copy, Debug, PartialEq, Eq)]
+pub struct OpaqueDirective {
+    /// Its flags.
+    pub flags: FlagSet,
+    /// Its width.
+    pub width: Option<OpaqueAmount>,
+    /// Its precision.
+    pub precision: Option<OpaqueAmount>,
+    /// Its length modifier.
+    pub modifier: Modifier,
+    /// Its conversion.
+    pub conversion: Conversion,
+}
+
+impl OpaqueDirective {
+    /// Returns the directive with the parts of its normal spelling.
+    pub fn normal(self, model: Model) -> OpaqueDirective
+        ensures { parts_of_opaque result ≡ normal_parts model (parts_of_opaque self) }
+    {
+        OpaqueDirective {
+            flags: kept_flags(self),
+            width: self.width,
+            precision: normal_precision(self.conversion, self.precision),
+            modifier: kept_modifier(model, self.conversion, self.modifier),
+            conversion: kept_conversion(self.conversion),
+        }
+    }
+}
+
+fn kept_conversion(conversion: Conversion) -> Conversion
+    ensures { result ≡ kept_conversion conversion }
+{
+    match conversion {
+        Conversion::Profile(conv) => Conversion::Profile(conv.representative()),
+        Conversion::Float(floating) => Conversion::Float(floating),
+        Conversion::UpperC => Conversion::Profile(Conv::C),
+        Conversion::UpperS => Conversion::Profile(Conv::S),
+        Conversion::Pointer => Conversion::Pointer,
+        Conversion::Count => Conversion::Count,
+    }
+}
+
+fn is_text(conv: Conv) -> bool
+    ensures { result ≡ is_text conv }
+{
+    match conv {
+        Conv::C | Conv::S => true,
+        _ => false,
+    }
+}
+
+fn is_integer(conversion: Conversion) -> bool
+    ensures { result ≡ is_integer conversion }
+{
+    match conversion {
+        Conversion::Profile(conv) => !is_text(conv),
+        _ => false,
+    }
+}
+
+fn keeps_sign(conversion: Conversion) -> bool
+    ensures { result ≡ keeps_sign conversion }
+{
+    match conversion {
+        Conversion::Profile(Conv::D | Conv::I) => true,
+        Conversion::Profile(_) => false,
+        Conversion::Float(_) | Conversion::Pointer => true,
+        Conversion::UpperC | Conversion::UpperS | Conversion::Count => false,
+    }
+}
+
+fn kept_modifier(model: Model, conversion: Conversion, modifier: Modifier) -> Modifier
+    ensures { result ≡ kept_modifier model conversion modifier }
+{
+    match conversion {
+        Conversion::Profile(conv) => profile_modifier(model, is_text(conv), modifier),
+        Conversion::Float(_) => floating_modifier(modifier),
+        Conversion::UpperC | Conversion::UpperS => Modifier::Integer(Length::L),
+        Conversion::Pointer => modifier,
+        Conversion::Count => integer_modifier(model, modifier),
+    }
+}
+
+fn profile_modifier(model: Model, text: bool, modifier: Modifier) -> Modifier
+    ensures { result ≡ (if text then modifier else integer_modifier model modifier) }
+{
+    if text {
+        return modifier;
+    }
+    integer_modifier(model, modifier)
+}
+
+fn integer_modifier(model: Model, modifier: Modifier) -> Modifier
+    ensures { result ≡ integer_modifier model modifier }
+{
+    match modifier {
+        Modifier::Integer(length) => Modifier::Integer(length.representative(model)),
+        Modifier::LongDouble => Modifier::LongDouble,
+    }
+}
+
+fn floating_modifier(modifier: Modifier) -> Modifier
+    ensures { result ≡ floating_modifier modifier }
+{
+    match modifier {
+        Modifier::Integer(_) => Modifier::Integer(Length::None),
+        Modifier::LongDouble => Modifier::LongDouble,
+    }
+}
+
+fn normal_precision(conversion: Conversion, precision: Option<OpaqueAmount>) -> Option<OpaqueAmount>
+    ensures { amount_of result ≡ normal_precision conversion (amount_of precision) }
+{
+    match precision {
+        None => None,
+        Some(OpaqueAmount::Star) => Some(OpaqueAmount::Star),
+        Some(OpaqueAmount::Number(n)) => given_precision(conversion, n),
+    }
+}
+
+fn given_precision(conversion: Conversion, n: u16) -> Option<OpaqueAmount>
+    ensures { amount_of result ≡ given_precision conversion n }
+{
+    if is_meant(conversion, n) {
+        return None;
+    }
+    if n == 0 {
+        return zero_precision(conversion);
+    }
+    Some(OpaqueAmount::Number(n))
+}
+
+fn zero_precision(conversion: Conversion) -> Option<OpaqueAmount>
+    ensures { amount_of result ≡ (if is_general conversion then Some (Given 1) else Some (Given 0)) }
+{
+    match conversion {
+        Conversion::Float(Floating::G | Floating::UpperG) => Some(OpaqueAmount::Number(1)),
+        _ => Some(OpaqueAmount::Number(0)),
+    }
+}
+
+// Whether a precision is the default one of the conversion.
+fn is_meant(conversion: Conversion, n: u16) -> bool
+    ensures { result ≡ is_amount (meant_precision conversion) n }
+{
+    match conversion {
+        Conversion::Profile(conv) => !is_text(conv) && n == 1,
+        Conversion::Float(Floating::A | Floating::UpperA) => false,
+        Conversion::Float(_) => n == 6,
+        _ => false,
+    }
+}
+
+// Adds the flag if it is wanted.
+fn with_if(flags: FlagSet, flag: Flag, wanted: bool) -> FlagSet
+    ensures { result ≡ (if wanted then with_flag flags flag else flags) }
+{
+    if wanted {
+        return flags.with(flag);
+    }
+    flags
+}
+
+fn is_given(precision: Option<OpaqueAmount>) -> bool
+    ensures { result ≡ is_given (amount_of precision) }
+{
+    match precision {
+        Some(OpaqueAmount::Number(_)) => true,
+        _ => false,
+    }
+}
+
+fn kept_flags(directive: OpaqueDirective) -> FlagSet
+    ensures { result ≡ kept_flags (parts_of_opaque directive) }
+{
+    let flags = directive.flags;
+    let field = directive.width.is_some();
+    let sign = keeps_sign(directive.conversion);
+    let minus = both(flags.has(Flag::Minus), field);
+    let plus = both(flags.has(Flag::Plus), sign);
+    let space = both(both(flags.has(Flag::Space), !flags.has(Flag::Plus)), sign);
+    let fixed = both(
+        is_integer(directive.conversion),
+        is_given(directive.precision),
+    );
+    let zero = both(
+        both(both(flags.has(Flag::Zero), field), !flags.has(Flag::Minus)),
+        !fixed,
+    );
+    set_of(minus, plus, space, flags.has(Flag::Alt), zero)
+}
+
+// The set of these flags, without `'`.
+fn set_of(minus: bool, plus: bool, space: bool, alt: bool, zero: bool) -> FlagSet
+    ensures { result ≡ made_set minus plus space alt zero }
+{
+    let none = FlagSet::empty();
+    let one = with_if(none, Flag::Minus, minus);
+    let two = with_if(one, Flag::Plus, plus);
+    let three = with_if(two, Flag::Space, space);
+    let four = with_if(three, Flag::Alt, alt);
+    with_if(four, Flag::Zero, zero)
+}
+
+// `a && b`, as a call: its result is one step in a proof.
+fn both(a: bool, b: bool) -> bool
+    ensures { result ≡ (a && b) }
+{
+    if a {
+        return b;
+    }
+    false
+}
