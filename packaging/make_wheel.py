@@ -57,7 +57,7 @@ def files_of(library, program, information, tag, texts, lists):
             yield str(path.relative_to(TOP / "python")), path.read_bytes()
     yield f"fmtcanon/{SONAME}", library.read_bytes()
     yield PROGRAM, program.read_bytes()
-    commands = [f"fmtcanon-{name} = fmtcanon.{name}.command:main" for name in ("po", "replace")]
+    commands = [f"{name} = {call}" for name, call in texts.items() if name.startswith("fmtcanon")]
     yield f"{information}/METADATA", metadata(texts, lists).encode()
     yield f"{information}/WHEEL", f"Wheel-Version: 1.0\nGenerator: make_wheel\nRoot-Is-Purelib: false\nTag: {tag}\n".encode()
     yield f"{information}/entry_points.txt", "\n".join(["[console_scripts]", *commands, ""]).encode()

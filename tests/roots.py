@@ -130,6 +130,8 @@ def try_wheel(trials):
         trials.expect("fmtcanon-po of the wheel", output, (0, "2 messages judged, 0 not judged\n"))
         output = shell([folder / "fmtcanon-replace", "--model", "lp64", "%zu", "%lu", "size.c"], env=environment, cwd=work)
         trials.expect("fmtcanon-replace of the wheel", output, (0, "size.c:2: replaced\n"))
+        for command in [[folder / "fmtcanon"], [folder / "python", "-m", "fmtcanon"]]:
+            trials.expect(f"{command} of the wheel", shell([*command, "canon", "%i"], env=environment, cwd=work), (0, "%d\n"))
         status, output = shell([folder / "pip", "check"], env=environment, cwd=work)
         trials.expect(f"pip check: {output}", status, 0)
 
