@@ -19,6 +19,7 @@ sys.dont_write_bytecode = True
 sys.path.insert(0, str(Path(__file__).resolve().parent))
 
 import roots  # noqa: E402
+from catalog_edges import try_msgfmt_edges  # noqa: E402
 from library import TIMEOUT, TOP, Trials, compile_with, lines_of, load_module, python_lines, shapes, try_compiler  # noqa: E402
 from literals import try_encoded  # noqa: E402
 from models import try_models  # noqa: E402
@@ -107,6 +108,7 @@ def try_gettext(folder, tools, trials):
     """What fmtcanon-po prints, beside msgfmt."""
     if tools.has("msgfmt", "gettext"):
         try_msgfmt(folder, trials)
+        try_msgfmt_edges(trials)
 
 
 def python_with(module):

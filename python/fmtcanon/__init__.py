@@ -357,17 +357,21 @@ def types(format: Format, *, model: DataModel = Model.LP64) -> List[Type]:
     return [Type(code) for code in codes]
 
 
-def arguments(format: Format, *, model: DataModel = Model.LP64) -> List[Type]:
-    """The types of the arguments of a format of the whole language, in order.
-
-    That is POSIX `fprintf` with the `b` of C23: numbered arguments, `*`, floating and wide conversions,
-    `p` and `n`, too.
-    """
+def _argument_codes(format: Format, model: DataModel) -> bytes:
+    """Returns the types of the arguments of a format of the whole language, one byte each."""
     text = _bytes(format)
     # A specification takes three arguments at most.
     room = 3 * text.count(b"%") + 1
-    codes = _filled(_library().fmtcanon_arguments, room, model_of(model), text, len(text))
-    return [Type(code) for code in codes]
+    return _filled(_library().fmtcanon_arguments, room, model_of(model), text, len(text))
+
+
+def arguments(format: Format, *, model: DataModel = Model.LP64) -> List[Type]:
+    """Returns the types of the arguments of a format of the whole language, in order.
+
+    The whole language is POSIX `fprintf` with the `b` of C23. It has numbered arguments, `*`, floating and wide
+    conversions, `p` and `n`.
+    """
+    return [Type(code) for code in _argument_codes(format, model)]
 
 
 def fits(first: Format, second: Format, *, model: DataModel = Model.LP64) -> bool:
