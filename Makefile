@@ -214,4 +214,5 @@ wheel: built
 
 tables:
 	FMTCANON_LIBRARY=$(C)/$(SONAME) python3 tests/field/catalogs.py
+	FMTCANON_LIBRARY=$(C)/$(SONAME) python3 tests/field/mutations.py
 	FMTCANON_LIBRARY=$(C)/$(SONAME) python3 tests/field/sources.py

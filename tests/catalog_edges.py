@@ -69,8 +69,10 @@ STRICTER = [
 CHANGED = [
     ("%d", "%c", "argument 1 otherwise: as a number, and as a character"),
     ("%d", "%hd", "argument 1 otherwise: as a number, and as a number of type short"),
-    ("%hhd", "%d", "argument 1 otherwise: as a number of type char, and as a number"),
-    ("%s %d", "%s %hhd", "argument 2 otherwise: as a number, and as a number of type char"),
+    ("%hhd", "%d", "argument 1 otherwise: as a number of type signed char, and as a number"),
+    ("%s %d", "%s %hhd", "argument 2 otherwise: as a number, and as a number of type signed char"),
+    ("%hhd", "%hhx", "argument 1 otherwise: as a number of type signed char, and as a number of type unsigned char"),
+    ("%hu", "%hi", "argument 1 otherwise: as a number of type unsigned short, and as a number of type short"),
     ("%1$d", "%1$d %1$hd", "argument 1 otherwise: as a number, and as a number and a number of type short"),
     ("%*d", "%d %d", "argument 1 otherwise: as a width or precision, and as a number"),
 ]
@@ -237,9 +239,9 @@ def try_sizes(folder, work, trials):
     """Long and many-sided files take time and memory in proportion to their size."""
     file = work / "a.po"
     runs = [
-        ("zeros after a percent sign", "%" + "0" * 100_000, "%" + "0" * 100_000, 2),
-        ("digits after a percent sign", "%" + "1" * 100_000, "%.", 2),
-        ("stars and digits", "%*" + "1" * 50_000 + ".*" + "1" * 50_000, "%", 2),
+        ("zeros after a percent sign", "%" + "0" * 100_000 + "<", "%" + "0" * 100_000 + "<", 2),
+        ("digits after a percent sign", "%" + "1" * 100_000 + "<", "%.<", 2),
+        ("stars and digits", "%*" + "1" * 50_000 + ".*" + "1" * 50_000 + "<", "%<", 2),
         ("angle brackets", "%<" * 50_000, "%<" + "x" * 100_000, 2),
         ("3,000 macros", "%<PRIu64> " * 3000, "%<PRIu64> " * 3000, 1),
         ("3,000 macros by number", "%<PRIu64> " * 3000, "".join(f"%{at}$<PRIu64>" for at in range(3000, 0, -1)), 1),

@@ -17,8 +17,16 @@ NAMED = re.compile(rb"<PRI([dioxXu])(\w+)>")
 WITH_OTHER_DIGITS = b"diu"
 
 # How an argument of the types int and unsigned int is used, as bits.
-KINDS = {1: "a number", 2: "a character", 4: "a number of type short", 8: "a number of type char", 16: "a width or precision"}
-NUMBER, CHARACTER, SHORT, CHAR, WIDTH = KINDS
+KINDS = {
+    1: "a number",
+    2: "a character",
+    4: "a number of type short",
+    8: "a number of type signed char",
+    16: "a width or precision",
+    32: "a number of type unsigned short",
+    64: "a number of type unsigned char",
+}
+NUMBER, CHARACTER, SHORT, SIGNED_CHAR, WIDTH, UNSIGNED_SHORT, UNSIGNED_CHAR = KINDS
 
 
 class Use(NamedTuple):
@@ -139,7 +147,12 @@ def macro_type(last: bytes) -> Optional[bytes]:
 def kind_of(match: "re.Match[bytes]", last: bytes) -> int:
     if last == b"c":
         return CHARACTER
-    return {b"h": SHORT, b"hh": CHAR}.get(match.group("length"), NUMBER)
+    is_signed = last in (b"d", b"i")
+    if match.group("length") == b"h":
+        return SHORT if is_signed else UNSIGNED_SHORT
+    if match.group("length") == b"hh":
+        return SIGNED_CHAR if is_signed else UNSIGNED_CHAR
+    return NUMBER
 
 
 def shown_type(code: int, macro: Optional[bytes]) -> str:
