@@ -10,6 +10,7 @@ which version of the GNU C library it wants: the latest that the library or the 
 import base64
 import hashlib
 import re
+import shutil
 import subprocess
 import sys
 import zipfile
@@ -25,7 +26,9 @@ TIME = (1980, 1, 1, 0, 0, 0)
 
 
 def wanted_glibc(*files):
-    """The version of the C library that these files want."""
+    """The version of the C library that these files need."""
+    if shutil.which("objdump") is None:
+        sys.exit("objdump is missing: the package binutils has it")
     words = ["objdump", "-T", *files]
     table = subprocess.run(words, check=True, stdout=subprocess.PIPE).stdout.decode()
     found = (tuple(map(int, version.split("."))) for version in re.findall(r"GLIBC_([0-9.]+)", table))

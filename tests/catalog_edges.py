@@ -44,6 +44,11 @@ PAIRS = [
     ("#, c-format", "%s", "%*m", True),
     ("#, c-format", "%s %d", "%1$s %2$*2$m", False),
     ("#, c-format", "%m: %s", "%m: %s%", True),
+    # The flag I of the GNU C library.
+    ("#, c-format", "%d KB", "%Id KB", False),
+    ("#, c-format", "%.1f KB", "%I.1f KB", False),
+    ("#, c-format", "%5.1f", "%-I5.1s", True),
+    ("#, c-format", "%<PRIu64>", "%I<PRIu64>", False),
     # A translation is rejected, and its message isn't.
     ("#, c-format", "%d", "%y", True),
     ("#, c-format", "%d", "%w32d", True),
@@ -52,14 +57,24 @@ PAIRS = [
     ("#, c-format", "%lu", "%Zu", True),
     ("#, c-format", "%d", "%1$d%d", True),
     ("#, c-format", "%d", r"%d\000%s", True),
+    # Macros have types of their own, and names that C knows.
+    ("#, c-format", "%<PRIu32>", "%1$<PRIu64> %1$<PRIu32>", True),
+    ("#, c-format", "%<PRIu64>", "%1$<PRIu64> %1$u", True),
+    ("#, c-format", "%<PRIu64>", "%1$u %1$<PRIu64>", True),
+    ("#, c-format", "%<PRIu64>", "%1$<PRIx64> %1$<PRIu64>", False),
+    ("#, c-format", "%<PRIu64>", "%<PRIu6>", True),
+    ("#, c-format", "%d", "%<NAME>", True),
+    ("#, c-format", "%<PRIuLEAST8> %<PRIdFAST16> %<PRIiPTR> %<PRIXMAX>", "%<PRIoLEAST8> %<PRIiFAST16> %<PRIdPTR> %<PRIuMAX>", False),
     # What isn't accepted as a message isn't judged.
+    ("#, c-format", "%<NAME>", "%s", False),
     ("#, c-format", "%y", "%s", False),
 ]
 # Faults for fmtcanon-po, and not for msgfmt, with the reason.
 STRICTER = [
     ("%d", "%5000d", "a width above 4,095 need not work"),
     ("%s", "%.5000s", "a precision above 4,095 need not work"),
-    ("%x", "%Ix", "the flag I is for d, i and u"),
+    ("%x", "%Ix", "the flag I is for decimal numbers"),
+    ("%s", "%Is", "the flag I is for decimal numbers"),
     ("%lld", "%qd", "q is a modifier of BSD"),
     ("%s", "%0s", "undefined in C"),
     ("%d", "%#d", "undefined in C"),

@@ -3,7 +3,8 @@
 
 Usage: tests/field/mutations.py [--list] [COUNT]
 
-COUNT messages, 40,000 by default, are formats of bench/shapes.nul, a fifth of them after one edit. Each translation is
+COUNT messages, 40,000 by default, are formats of bench/shapes.nul and a list of the whole language, a fifth of them
+after one edit. Each translation is
 its message after one to three edits of its specifications, made by a generator with a fixed seed. Both tools read the same catalog. --list prints each
 message on which the two disagree, with its class, to standard error. It needs gettext, and the module fmtcanon with
 its library.
@@ -28,10 +29,17 @@ from fmtcanon.po.checking import Checker  # noqa: E402
 COUNT = 40_000
 SEED = 56
 HEADER = 'msgid ""\nmsgstr ""\n"Content-Type: text/plain; charset=UTF-8\\n"\n\n'
-SPECIFICATION = re.compile(r"%(?:[0-9]+\$)?[-+ #0'I]*(?:\*|[0-9]+)?(?:\.(?:\*|[0-9]*))?(?:hh|h|ll|l|[jztLqZ])?[a-zA-Z%]")
+SPECIFICATION = re.compile(
+    r"%(?:[0-9]+\$)?[-+ #0'I]*(?:\*(?:[0-9]+\$)?|[0-9]+)?(?:\.(?:\*(?:[0-9]+\$)?|[0-9]*))?(?:hh|h|ll|l|[jztLqZ])?(?:[a-zA-Z%]|<\w+>)"
+)
 CONVERSIONS = list("diouxXbcsfFeEgGaApnCSmyk%")
 LENGTHS = ["", "", "hh", "h", "l", "ll", "j", "z", "t", "L", "q", "Z"]
 FLAGS = list("-+ #0'I")
+# Formats with what bench/shapes.nul lacks.
+WHOLE = [
+    "%.2f of %s", "%5.1f%%", "%e or %G", "%Lf", "%a", "%*d", "%-*s|", "%.*s: %d", "%*.*f", "%p", "%p at %s", "%lc", "%ls", "%C%S", "%n", "%hhn",
+    "%2$s of %1$d", "%1$*2$d", "%3$s %1$s %2$lu", "%1$.2f %2$s %1$.1f", "%<PRIu64> bytes", "%s: %<PRId64> of %<PRIuMAX>", "%m", "%s: %m", "%'d", "%'.2f",
+]
 MACROS = ["<PRId64>", "<PRIi64>", "<PRIu64>", "<PRIx64>", "<PRIdMAX>", "<PRIxPTR>"]
 
 
@@ -45,7 +53,7 @@ def replaced(random, text, new):
 
 
 def conversion(random, text):
-    return replaced(random, text, lambda one: one[:-1] + random.choice(CONVERSIONS))
+    return replaced(random, text, lambda one: re.sub(r"(.|<\w+>)$", random.choice(CONVERSIONS), one))
 
 
 def length(random, text):
@@ -113,7 +121,7 @@ def pairs(count):
     """The messages with their translations. The same count gives the same ones."""
     generator, known = random.Random(SEED), sorted(set(formats()))
     for number in range(count):
-        original = generator.choice(known)
+        original = generator.choice(WHOLE if generator.random() < 0.25 else known)
         if generator.random() < 0.2:
             original = generator.choice(MUTATIONS)(generator, original)
         translation = original

@@ -151,18 +151,18 @@ class Checker:
     def check_pair(self, file: str, message: Message, first: Text, second: Text, may_be_fewer: bool) -> bool:
         """Checks the second text against the first, and says whether the first is accepted."""
         wanted, found = Format(first.text), Format(second.text, second.name != "msgid")
-        refusal = refusal_of(wanted, self.models)
-        if refusal is not None:
-            self.leave(file, message, f"'{second.name}' isn't checked, since '{first.name}' is {refusal}")
+        rejection = rejection_of(wanted, self.models)
+        if rejection is not None:
+            self.leave(file, message, f"'{second.name}' isn't checked, since '{first.name}' is {rejection.reason}")
             return False
-        refusal = refusal_of(found, self.models)
-        if refusal is None:
+        rejection = rejection_of(found, self.models)
+        if rejection is None:
             self.check_types(file, message, (first.name, second.name), (wanted, found), may_be_fewer)
-        elif second.name == "msgid" and refusal.kind is fmtcanon.Kind.MISSING_ARGUMENT:
+        elif second.name == "msgid" and rejection.kind is fmtcanon.Kind.MISSING_ARGUMENT:
             # The message for one may leave out arguments that no list of arguments may.
-            self.leave(file, message, f"'msgid' isn't checked: {refusal}")
+            self.leave(file, message, f"'msgid' isn't checked: {rejection.reason}")
         else:
-            reason = f"'{second.name}' is not a valid C format string, unlike '{first.name}'. Reason: {refusal}"
+            reason = f"'{second.name}' is not a valid C format string, unlike '{first.name}'. Reason: {rejection.reason}"
             self.report_of(file, message, reason)
         return True
 
@@ -182,11 +182,19 @@ class Checker:
             self.warn_of(file, message, change.format(*names))
 
 
-def refusal_of(format: Format, models: Sequence[fmtcanon.Model]) -> Optional[fmtcanon.Refused]:
+class Rejection(NamedTuple):
+    """Why a text is not a format: in words, and as a kind if the library says so."""
+
+    reason: str
+    kind: Optional[fmtcanon.Kind] = None
+
+
+def rejection_of(format: Format, models: Sequence[fmtcanon.Model]) -> Optional[Rejection]:
     """Returns why a format is rejected in one of the data models, or None."""
     for model in models:
         try:
             format.codes(model)
         except fmtcanon.Refused as refusal:
-            return refusal
-    return None
+            return Rejection(str(refusal), refusal.kind)
+    reason = format.two_types()
+    return Rejection(reason) if reason else None

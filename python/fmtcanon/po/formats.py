@@ -5,16 +5,17 @@ from typing import Dict, Iterator, List, NamedTuple, Optional, Tuple
 
 import fmtcanon
 
+# A macro of <inttypes.h> comes in angle brackets, as xgettext writes it. Its name has its conversion (C11 7.8.1). d and
+# i take one type, and so do o, u, x and X.
+MACRO = rb"<PRI[dioxXu](?:(?:LEAST|FAST)?(?:8|16|32|64)|MAX|PTR)>"
 # What may be a conversion specification. Each part begins with bytes that the part before can't end in, so that
-# matching is linear. A macro of <inttypes.h> comes in angle brackets, as xgettext writes it.
+# matching is linear.
 SPECIFICATION = re.compile(
     rb"%(?P<number>[1-9][0-9]*\$)?(?P<flags>[-+ #0'I]*)(?P<width>\*(?:[1-9][0-9]*\$)?|[1-9][0-9]*)?"
-    rb"(?:\.(?P<precision>\*(?:[1-9][0-9]*\$)?|[0-9]*))?(?P<length>hh?|ll?|[jztL])?(?P<last>[A-Za-z%]|<\w+>)?"
+    rb"(?:\.(?P<precision>\*(?:[1-9][0-9]*\$)?|[0-9]*))?(?P<length>hh?|ll?|[jztL])?(?P<last>[A-Za-z%]|" + MACRO + rb")?"
 )
-# The name of a macro has its conversion (C11 7.8.1, paragraph 3). d and i take one type, and so do o, u, x and X.
-NAMED = re.compile(rb"<PRI([dioxXu])(\w+)>")
-# The flag I of the GNU C library, other digits, is for translations and changes no type.
-WITH_OTHER_DIGITS = b"diu"
+# The conversions for which the GNU C library has the flag I, other digits. It is for translations, and changes no type.
+WITH_OTHER_DIGITS = b"diufFeEgG"
 
 # How an argument of the types int and unsigned int is used, as bits.
 KINDS = {
@@ -90,6 +91,16 @@ class Format:
         except fmtcanon.Refused as refusal:
             raise fmtcanon.Refused(refusal.kind, refusal.name, self.place_of(refusal.byte)) from None
 
+    def two_types(self) -> Optional[str]:
+        """Says which argument two macros, or a macro and a conversion, give different types. The library sees no macros."""
+        found: Dict[int, Optional[bytes]] = {}
+        for use in self.uses() if b"<" in self.text else ():
+            other = found.setdefault(use.argument, use.macro)
+            if other != use.macro:
+                names = " and ".join(sorted(macro.decode() for macro in (other, use.macro) if macro))
+                return f"argument {use.argument + 1} has another type than that of {names}"
+        return None
+
     def kinds_and_macros(self, count: int) -> Tuple[bytearray, Dict[int, bytes]]:
         """Returns how each of the arguments is used, and the type of each that a macro prints."""
         kinds = bytearray(count)
@@ -110,10 +121,10 @@ def replacement(match: "re.Match[bytes]", is_translation: bool) -> Optional[byte
     last, length = match.group("last") or b"", match.group("length")
     new: bytes = match.group()
     if last[:1] == b"<" and length is None:
-        new = new[: -len(last)] + conversion_of(match, last)
+        new = new[: -len(last)] + last[4:5]
     elif last == b"m" and length is None:
         return only_stars(match)
-    if is_translation and b"I" in match.group("flags") and new[-1:] in (b"d", b"i", b"u"):
+    if is_translation and b"I" in match.group("flags") and new[-1] in WITH_OTHER_DIGITS:
         start = match.start("flags") - match.start()
         end = match.end("flags") - match.start()
         new = new[:start] + new[start:end].replace(b"I", b"-") + new[end:]
@@ -126,22 +137,11 @@ def only_stars(match: "re.Match[bytes]") -> bytes:
     return b"".join(b"%" + star[1:] + b"d" for star in stars) or b"%%"
 
 
-def conversion_of(match: "re.Match[bytes]", last: bytes) -> bytes:
-    """Returns a conversion that takes the flags of a macro: by its name, otherwise by the flags that are there."""
-    named = NAMED.fullmatch(last)
-    if named:
-        return named.group(1)
-    return b"x" if b"#" in match.group("flags") else b"d"
-
-
 def macro_type(last: bytes) -> Optional[bytes]:
     """Returns what names the type of a macro's argument, or None if it is not a macro."""
     if last[:1] != b"<":
         return None
-    named = NAMED.fullmatch(last)
-    if named is None:
-        return last
-    return b"<PRI" + (b"d" if named.group(1) in b"di" else b"u") + named.group(2) + b">"
+    return last[:4] + (b"d" if last[4:5] in b"di" else b"u") + last[5:]
 
 
 def kind_of(match: "re.Match[bytes]", last: bytes) -> int:
