@@ -2,7 +2,7 @@
 # make test              the gate: everything is proved and tested from nothing, then the program
 #                        and the library are tried
 # make check-more        tries the library with tools that the gate doesn't want: clang, valgrind,
-#                        gettext, libclang, lintian, debootstrap, and the shells of the completions
+#                        gettext, libclang, mypy, lintian, debootstrap, and the shells of the completions
 # make wrong-bodies      tries wrong bodies, which the prover must refuse, and the script that does so
 # make install PREFIX=   installs what `make` built: the program, the C library, the Python module
 #                        with its two commands, manual pages, completions and documents; below

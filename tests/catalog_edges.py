@@ -112,7 +112,7 @@ FORMS = [
     ("n>=5", ", range: 0.." + "9" * 5000, True),
     ("n==5000 || n>=5000 && n<=6000", ", range: 5000..5001", False),
 ]
-NO_RULES = ["n +", "(n", "n)", "n ? 1", "n : 1", "1 n", "!", "n !", "", "n = 1", "m", "1/0", "n ? 1 : 2 : 3", "n ? 1 ? 2 : 3", "()", "n ? : 1"]
+NO_RULES = ["n" + "+n" * 10_000, "n +", "(n", "n)", "n ? 1", "n : 1", "1 n", "!", "n !", "", "n = 1", "m", "1/0", "n ? 1 : 2 : 3", "n ? 1 ? 2 : 3", "()", "n ? : 1"]
 # A charset, and letters in it that are not ASCII.
 CHARSETS = [
     ("VISCII", b"\xe5i"),
@@ -210,10 +210,12 @@ def try_judged(folder, work, trials):
         file.write_text(forms_text(plural, flags))
         status, report, *_ = checked(folder, ["a.po"], work)
         trials.expect(f"the form of {plural[-20:]} with {flags[:20]}", (status, report.count("does not match"), "judged" in report), (is_fault, is_fault, True))
+    file.write_text((HEADER % ("UTF-8", "n != 1")) + '#, c-format\nmsgid "%d"\nmsgid_plural "%d %c"\nmsgstr[0] "%d"\nmsgstr[1] "%d %c"\n')
+    trials.expect("an argument that is left out is not changed", checked(folder, ["--strict", "a.po"], work)[:2], (0, "1 messages judged, 0 not judged\n"))
     for plural in NO_RULES:
         file.write_text(forms_text(plural, ""))
         status, report, *_ = checked(folder, ["a.po"], work)
-        trials.expect(f"no expression: {plural}", (status, report.startswith("a.po:0: it can't be read: ")), (1, True))
+        trials.expect(f"no expression: {plural[:20]}", (status, report.startswith("a.po:0: it can't be read: ")), (1, True))
 
 
 def try_charsets(folder, work, trials):

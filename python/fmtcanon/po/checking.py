@@ -36,10 +36,9 @@ def difference(wanted: Format, found: Format, may_be_fewer: bool, model: fmtcano
     if len(second) != len(first) and not (may_be_fewer and len(second) < len(first)):
         counts = f"{len(first)} and {len(second)}"
         return f"number of format specifications in '{{}}' and '{{}}' does not match: {counts}"
-    has_macros = b"<" in wanted.text or b"<" in found.text
-    if not has_macros and first.startswith(second):
+    macros, others = wanted.macros(), found.macros()
+    if not macros and not others and first.startswith(second):
         return None
-    macros, others = (one.kinds_and_macros(len(codes))[1] for one, codes in ((wanted, first), (found, second)))
     for at, (one, other) in enumerate(zip(first, second)):
         if macros.get(at) != others.get(at) or (at not in macros and one != other):
             names = f"{shown_type(one, macros.get(at))} and {shown_type(other, others.get(at))}"
@@ -49,11 +48,10 @@ def difference(wanted: Format, found: Format, may_be_fewer: bool, model: fmtcano
 
 def changed_kind(wanted: Format, found: Format) -> Optional[str]:
     """Says which int is printed as something else by the second format, whose types are those of the first."""
-    codes = wanted.codes(fmtcanon.Model.LP64)
-    kinds, others = (one.kinds_and_macros(len(codes))[0] for one in (wanted, found))
-    for at, (code, one, other) in enumerate(zip(codes, kinds, others)):
-        # The second format may leave arguments out.
-        if one != other and other and code in INTEGERS:
+    codes = [one.codes(fmtcanon.Model.LP64) for one in (wanted, found)]
+    # The second format may leave arguments out.
+    for at, (code, one, other) in enumerate(zip(codes[0], wanted.kinds(len(codes[0])), found.kinds(len(codes[1])))):
+        if one != other and code in INTEGERS:
             return f"'{{}}' and '{{}}' use argument {at + 1} otherwise: as {shown_kinds(one)}, and as {shown_kinds(other)}"
     return None
 

@@ -31,6 +31,8 @@ The exit status is 0 if there is no fault, 1 if there is one or a file can't be 
 error.
 """
 
+import errno
+import os
 import sys
 from typing import Dict, List, Optional, Sequence
 
@@ -70,6 +72,8 @@ class Options:
 
 def read_bytes(file: str) -> bytes:
     if file == "-":
+        if sys.stdin is None:
+            raise OSError(errno.EBADF, os.strerror(errno.EBADF))
         return sys.stdin.buffer.read()
     with open(file, "rb") as stream:
         return stream.read()

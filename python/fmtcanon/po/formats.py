@@ -28,6 +28,8 @@ KINDS = {
     64: "a number of type unsigned char",
 }
 NUMBER, CHARACTER, SHORT, SIGNED_CHAR, WIDTH, UNSIGNED_SHORT, UNSIGNED_CHAR = KINDS
+# Without one of these bytes an int is only used as a number.
+OTHER_KINDS = re.compile(rb"[ch*]")
 
 
 class Use(NamedTuple):
@@ -101,15 +103,20 @@ class Format:
                 return f"argument {use.argument + 1} has another type than that of {names}"
         return None
 
-    def kinds_and_macros(self, count: int) -> Tuple[bytearray, Dict[int, bytes]]:
-        """Returns how each of the arguments is used, and the type of each that a macro prints."""
+    def macros(self) -> Dict[int, bytes]:
+        """Returns the type of each argument that a macro prints."""
+        if b"<" not in self.text:
+            return {}
+        return {use.argument: use.macro for use in self.uses() if use.macro is not None}
+
+    def kinds(self, count: int) -> bytearray:
+        """Returns how each of the arguments is used."""
+        if OTHER_KINDS.search(self.text) is None:
+            return bytearray([NUMBER]) * count
         kinds = bytearray(count)
-        macros: Dict[int, bytes] = {}
         for use in self.uses():
             kinds[use.argument] |= use.kind
-            if use.macro is not None:
-                macros[use.argument] = use.macro
-        return kinds, macros
+        return kinds
 
 
 def specifications(text: bytes) -> Iterator["re.Match[bytes]"]:

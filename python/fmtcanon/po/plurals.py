@@ -9,6 +9,8 @@ NUMBERS = range(1001)
 # Numbers are of the type unsigned long.
 SIZE = 1 << 64
 INT_MAX = (1 << 31) - 1
+# The form is computed for a thousand numbers, so this bounds the time. Brackets are not steps.
+MOST_STEPS = 1000
 MOST_LENGTH = 100_000
 SPACE = " \t"
 TOKEN = re.compile(r"[ \t]*([0-9]+|n|\|\||&&|[=!<>]=|[-+*/%<>?:()!])")
@@ -79,6 +81,8 @@ def postfix(text: str) -> List[str]:
     if is_operand:
         raise Unruly
     pop_until(None, stack, out)
+    if len(out) > MOST_STEPS:
+        raise Unruly
     return out
 
 
@@ -168,7 +172,10 @@ class PluralRule:
             return False
         # As in msgfmt, which doesn't look at more than a thousand numbers.
         numbers = range(span.first, min(span.last, span.first + 1000) + 1)
-        return sum(self.form(number) == form for number in numbers) <= 1
+        return sum(self.known_form(number) == form for number in numbers) <= 1
+
+    def known_form(self, number: int) -> int:
+        return self.form_of[number] if number < len(self.form_of) else self.form(number)
 
 
 class Span(NamedTuple):
