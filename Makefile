@@ -2,7 +2,7 @@
 # make test              the gate: everything is proved and tested from nothing, then the program
 #                        and the library are tried
 # make check-more        tries the library with tools that the gate doesn't need: clang, valgrind,
-#                        gettext, libclang, lintian, debootstrap, and the shells of the completions
+#                        gettext, libclang, mypy, lintian, debootstrap, and the shells of the completions
 # make mutants           tries mutants, which the prover must refuse, and the script that does so
 # make install PREFIX=   installs what `make` built: the program, the C library, the Python module
 #                        with its two commands, manual pages, completions and documents; below
@@ -24,7 +24,7 @@ BASHDIR ?= $(DATADIR)/bash-completion/completions
 ZSHDIR ?= $(DATADIR)/zsh/site-functions
 FISHDIR ?= $(DATADIR)/fish/vendor_completions.d
 # A folder below PREFIX in which this Python looks for modules, if there is one.
-PYTHONDIR ?= $(shell python3 packaging/python_folder.py $(PREFIX))
+PYTHONDIR ?= $(shell python3 packaging/python_folder.py '$(subst ','\'',$(PREFIX))')
 PYTHON ?= /usr/bin/env python3
 PROGRAM = crates/fmtcanon/out/fmtcanon
 
@@ -42,7 +42,7 @@ JOBS = $(shell awk -v n="$$(nproc)" '/^MemAvailable/ { m = int($$2 / 4000000); \
     if (m > n) m = n; if (m < 1) m = 1; print m }' /proc/meminfo)
 
 .PHONY: all program library archive test gate tried trials check-more mutants tools c-tools
-.PHONY: built install uninstall dist deb wheel tables
+.PHONY: built places install uninstall dist deb wheel tables
 
 all: program library
 
@@ -155,17 +155,30 @@ built:
 	@for file in $(PROGRAM) $(C)/libfmtcanon.a $(SHARED); do test -f $$file || \
 	    { echo "$$file is missing: make builds it" >&2; exit 1; }; done
 
+# Recipes pass these folders through a shell. They are checked before anything is installed or removed.
+FOLDERS = PREFIX BINDIR LIBDIR INCLUDEDIR DATADIR MANDIR DOCDIR BASHDIR ZSHDIR FISHDIR PYTHONDIR
+places:
+	@env $(foreach name,DESTDIR $(FOLDERS),$(name)='$(subst ','\'',$($(name)))') \
+	    python3 packaging/folders.py check DESTDIR $(FOLDERS)
+
+# Which folders an installation made, so that `make uninstall` can remove them.
+MADE = $(DOCDIR)/folders
+
 PKGCONFIG = 'prefix=$(PREFIX)' 'libdir=$(LIBDIR)' 'includedir=$(INCLUDEDIR)' '' \
     'Name: fmtcanon' 'Description: Canonical texts of printf formats' 'Version: $(VERSION)' \
     'Libs: -L$${libdir} -lfmtcanon' 'Cflags: -I$${includedir}'
 # The commands that are written in Python, with the folder of the module.
-COMMAND = '\#!$(PYTHON)' 'import sys' '' 'sys.path.insert(0, "$(PYTHONDIR)")' '' \
-    "from fmtcanon.$$name.command import main" '' 'sys.exit(main())'
+COMMAND = '\#!$(PYTHON)' 'import sys' '' \
+    '\# Python puts the folder of this file before the standard library, unless it is told not to.' \
+    'if not (sys.flags.isolated or getattr(sys.flags, "safe_path", False)):' '    del sys.path[0]' \
+    'sys.path.append("$(PYTHONDIR)")' '' "from fmtcanon.$$name.command import main" '' 'sys.exit(main())'
 CALLS = sed -n 's/^[a-z0-9_]* \(fmtcanon_[a-z_]*\)(.*/\1/p' include/fmtcanon.h
 MODULES = fmtcanon fmtcanon/po fmtcanon/replace
 
-install: built
-	install -d $(DESTDIR)$(BINDIR) $(DESTDIR)$(INCLUDEDIR) $(DESTDIR)$(LIBDIR)/pkgconfig
+install: places built
+	python3 packaging/folders.py make "$(DESTDIR)" $(MADE) $(BINDIR) $(INCLUDEDIR) $(LIBDIR)/pkgconfig $(PYTHONDIR) \
+	    $(addprefix $(PYTHONDIR)/,$(MODULES)) $(MANDIR)/man1 $(MANDIR)/man3 $(BASHDIR) $(ZSHDIR) $(FISHDIR) \
+	    $(DOCDIR)/docs $(DOCDIR)/examples
 	install -m 755 $(PROGRAM) $(DESTDIR)$(BINDIR)/fmtcanon
 	install -m 644 include/fmtcanon.h $(DESTDIR)$(INCLUDEDIR)
 	install -m 644 $(C)/libfmtcanon.a $(DESTDIR)$(LIBDIR)
@@ -174,45 +187,42 @@ install: built
 	ln -sf $(SONAME) $(DESTDIR)$(LIBDIR)/libfmtcanon.so
 	printf '%s\n' $(PKGCONFIG) > $(DESTDIR)$(LIBDIR)/pkgconfig/fmtcanon.pc
 	chmod 644 $(DESTDIR)$(LIBDIR)/pkgconfig/fmtcanon.pc
-	for part in $(MODULES); do install -d $(DESTDIR)$(PYTHONDIR)/$$part && \
-	    install -m 644 python/$$part/*.py $(DESTDIR)$(PYTHONDIR)/$$part || exit 1; done
+	for part in $(MODULES); do install -m 644 python/$$part/*.py $(DESTDIR)$(PYTHONDIR)/$$part || exit 1; done
 	install -m 644 python/fmtcanon/py.typed $(DESTDIR)$(PYTHONDIR)/fmtcanon
 	ln -sfr $(DESTDIR)$(LIBDIR)/$(SONAME) $(DESTDIR)$(PYTHONDIR)/fmtcanon/$(SONAME)
 	ln -sfr $(DESTDIR)$(BINDIR)/fmtcanon $(DESTDIR)$(PYTHONDIR)/fmtcanon/program
 	for name in po replace; do printf '%s\n' $(COMMAND) > $(DESTDIR)$(BINDIR)/fmtcanon-$$name && \
 	    chmod 755 $(DESTDIR)$(BINDIR)/fmtcanon-$$name || exit 1; done
-	install -d $(DESTDIR)$(MANDIR)/man1 $(DESTDIR)$(MANDIR)/man3
 	install -m 644 man/*.1 $(DESTDIR)$(MANDIR)/man1
 	install -m 644 man/*.3 $(DESTDIR)$(MANDIR)/man3
 	for call in $$($(CALLS)); do echo '.so man3/fmtcanon.3' > $(DESTDIR)$(MANDIR)/man3/$$call.3 && \
 	    chmod 644 $(DESTDIR)$(MANDIR)/man3/$$call.3 || exit 1; done
-	install -d $(DESTDIR)$(BASHDIR) $(DESTDIR)$(ZSHDIR) $(DESTDIR)$(FISHDIR)
 	install -m 644 completions/fmtcanon.bash $(DESTDIR)$(BASHDIR)/fmtcanon
 	install -m 644 completions/_fmtcanon $(DESTDIR)$(ZSHDIR)
 	install -m 644 completions/fmtcanon.fish $(DESTDIR)$(FISHDIR)
-	install -d $(DESTDIR)$(DOCDIR)/docs $(DESTDIR)$(DOCDIR)/examples
 	install -m 644 LICENSE README.md CHANGELOG.md $(DESTDIR)$(DOCDIR)
 	install -m 644 docs/*.md $(DESTDIR)$(DOCDIR)/docs
 	install -m 644 examples/canon.c $(DESTDIR)$(DOCDIR)/examples
 
-# The files that an installation would make are taken away, and then the folders of its own.
-uninstall: built
+# Removes the files that an installation would make, and then the folders that it made, if they are empty. An
+# installation of an older version has no list of them: then the folders with its name are removed.
+uninstall: places built
 	stage=$$(mktemp -d) && trap 'rm -rf "$$stage"' EXIT && \
-	$(MAKE) -s install DESTDIR="$$stage" > /dev/null && cd "$$stage" && \
+	$(MAKE) -s install DESTDIR="$$stage/root" > /dev/null && \
+	{ cp $(DESTDIR)$(MADE) "$$stage/made" 2> /dev/null || true; } && cd "$$stage/root" && \
 	find . ! -type d | while read -r file; do rm -f "$(DESTDIR)/$$file"; done && \
 	for part in $(MODULES); do rm -rf "$(DESTDIR)$(PYTHONDIR)/$$part/__pycache__"; done && \
 	find . -depth -type d -path '*/fmtcanon*' | while read -r folder; do \
-	    rmdir "$(DESTDIR)/$$folder" 2> /dev/null || true; done
+	    rmdir "$(DESTDIR)/$$folder" 2> /dev/null || true; done && \
+	python3 "$(CURDIR)/packaging/folders.py" remove "$(DESTDIR)" "$$stage/made"
 
 ARCHIVE = fmtcanon-$(VERSION)-linux-x86_64
 PACKED = LICENSE README.md CHANGELOG.md Makefile include python/fmtcanon python/pyproject.toml \
     python/README.md man completions docs examples packaging $(PROGRAM) $(C)/libfmtcanon.a $(SHARED)
 
-# Owner, order and time don't hang on the machine.
+# The archive depends only on the names and bytes of the files.
 dist: built
-	tar -czf out/$(ARCHIVE).tar.gz --transform 's,^,$(ARCHIVE)/,' --owner=0 --group=0 --sort=name \
-	    --mtime=@0 --exclude=__pycache__ $(PACKED)
-	@echo out/$(ARCHIVE).tar.gz
+	python3 packaging/make_dist.py out/$(ARCHIVE).tar.gz $(ARCHIVE) $(PROGRAM) $(PACKED)
 
 deb: built
 	packaging/make_deb.sh $(VERSION) out
@@ -222,4 +232,5 @@ wheel: built
 
 tables:
 	FMTCANON_LIBRARY=$(C)/$(SONAME) python3 tests/field/catalogs.py
+	FMTCANON_LIBRARY=$(C)/$(SONAME) python3 tests/field/mutations.py
 	FMTCANON_LIBRARY=$(C)/$(SONAME) python3 tests/field/sources.py

@@ -6,11 +6,13 @@ set -eu
 cd "$(dirname "$0")/.."
 version=$1-1
 package=$(realpath "$2")/fmtcanon_${version}_amd64.deb
-maintainer=${MAINTAINER:-$(git log -1 --format='%an <%ae>' 2> /dev/null || true)}
-maintainer=${maintainer:-fmtcanon maintainers <maintainers@fmtcanon.example>}
+maintainer=${MAINTAINER:-fmtcanon maintainers <maintainers@fmtcanon.example>}
+# The time of every file in the package. The files of the tree have the time of their checkout.
+SOURCE_DATE_EPOCH=${SOURCE_DATE_EPOCH:-1767225600}
+export SOURCE_DATE_EPOCH
 
-for tool in dpkg-deb strip gzip make; do
-    command -v $tool > /dev/null || { echo "$tool is missing" >&2; exit 1; }
+for tool in dpkg-deb:dpkg strip:binutils gzip:gzip make:make python3:python3; do
+    command -v "${tool%:*}" > /dev/null || { echo "${tool%:*} is missing: the package ${tool#*:} has it" >&2; exit 1; }
 done
 umask 022
 stage=$(mktemp -d)
@@ -32,10 +34,10 @@ gzip -9n "$stage"/usr/share/man/man*/*
     printf '%s\n' 'Files: *' "Copyright: $(sed -n 's/^Copyright (c) //p' LICENSE)" 'License: MIT'
     sed '1,/^Copyright/d; s/^$/./; s/^/ /' LICENSE | sed '1d'
 } > "$documents/copyright"
-rm "$documents/LICENSE"
+rm "$documents/LICENSE" "$documents/folders"
 mv "$documents/CHANGELOG.md" "$documents/changelog"
 printf '%s\n' "fmtcanon ($version) unstable; urgency=low" '' '  * The file changelog lists the changes.' '' \
-    " -- $maintainer  $(date -R -u -d @"${SOURCE_DATE_EPOCH:-$(stat -c %Y CHANGELOG.md)}")" \
+    " -- $maintainer  $(LC_ALL=C date -R -u -d "@$SOURCE_DATE_EPOCH")" \
     > "$documents/changelog.Debian"
 gzip -9n "$documents/changelog" "$documents/changelog.Debian"
 
@@ -45,7 +47,7 @@ Package: fmtcanon
 Version: $version
 Architecture: amd64
 Maintainer: $maintainer
-Installed-Size: $(du -sk "$stage/usr" | cut -f 1)
+Installed-Size: $(find "$stage/usr" -printf '%y %s\n' | awk '{ k += $1 == "f" ? int(($2 + 1023) / 1024) : 1 } END { print k }')
 Depends: libc6 (>= 2.34), python3 (>= 3.8)
 Suggests: python3-clang
 Section: devel
@@ -71,6 +73,7 @@ if command -v py3clean > /dev/null; then py3clean -p fmtcanon; fi
 SCRIPT
 chmod 755 "$stage/DEBIAN/postinst" "$stage/DEBIAN/prerm"
 echo 'activate-noawait ldconfig' > "$stage/DEBIAN/triggers"
-(cd "$stage" && find usr -type f -exec md5sum {} +) > "$stage/DEBIAN/md5sums"
+(cd "$stage" && find usr -type f | LC_ALL=C sort | xargs md5sum) > "$stage/DEBIAN/md5sums"
+find "$stage" -exec touch --no-dereference --date="@$SOURCE_DATE_EPOCH" {} +
 dpkg-deb --build --root-owner-group "$stage" "$package" > /dev/null
 echo "$package"

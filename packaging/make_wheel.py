@@ -10,6 +10,7 @@ which version of the GNU C library it wants: the latest that the library or the 
 import base64
 import hashlib
 import re
+import shutil
 import subprocess
 import sys
 import zipfile
@@ -25,7 +26,9 @@ TIME = (1980, 1, 1, 0, 0, 0)
 
 
 def wanted_glibc(*files):
-    """The version of the C library that these files want."""
+    """The version of the C library that these files need."""
+    if shutil.which("objdump") is None:
+        sys.exit("objdump is missing: the package binutils has it")
     words = ["objdump", "-T", *files]
     table = subprocess.run(words, check=True, stdout=subprocess.PIPE).stdout.decode()
     found = (tuple(map(int, version.split("."))) for version in re.findall(r"GLIBC_([0-9.]+)", table))
@@ -57,7 +60,7 @@ def files_of(library, program, information, tag, texts, lists):
             yield str(path.relative_to(TOP / "python")), path.read_bytes()
     yield f"fmtcanon/{SONAME}", library.read_bytes()
     yield PROGRAM, program.read_bytes()
-    commands = [f"fmtcanon-{name} = fmtcanon.{name}.command:main" for name in ("po", "replace")]
+    commands = [f"{name} = {call}" for name, call in texts.items() if name.startswith("fmtcanon")]
     yield f"{information}/METADATA", metadata(texts, lists).encode()
     yield f"{information}/WHEEL", f"Wheel-Version: 1.0\nGenerator: make_wheel\nRoot-Is-Purelib: false\nTag: {tag}\n".encode()
     yield f"{information}/entry_points.txt", "\n".join(["[console_scripts]", *commands, ""]).encode()

@@ -30,7 +30,7 @@ MODEL_COMMANDS = ["canon", "same", "format", "show", "stream", "types"]
 # placeholders.
 FOREIGN_NAMES = set("""
     cents errno memset intmax_t ptrdiff_t strerror uintmax_t I64
-    xargs git msgfmt msgunfmt pipefail fix fmt imports plant PYTHONPATH PKG_CONFIG_PATH ldconfig pip pkg config cflags libs pkgconfig sudo
+    xargs git sort msgfmt msgunfmt pipefail SOURCE_DATE_EPOCH fix fmt imports plant PYTHONPATH PKG_CONFIG_PATH ldconfig pip pkg config cflags libs pkgconfig sudo
     AllocFailed Display WHAT logic dac8208d650f15bf ed8637e01fc3206ec782c5daf8d913b1fcd4ddf4efb850537416d13256281534 the_type write_all
     NAME PATH TEXT allow holes lemma is_left_justified expect assert_eq tidy XDG_CACHE_HOME
 """.split())

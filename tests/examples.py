@@ -1,5 +1,5 @@
 #!/usr/bin/env python3
-"""Tries fmtcanon-replace (replacing.py), fmtcanon-po (translations.py), and the manual page and the completions against the program's help.
+"""Tries fmtcanon-replace (replacing.py), fmtcanon-po (translations.py, catalog_edges.py), and the manual page and the completions against the program's help.
 
 Usage: tests/examples.py PROGRAM FOLDER
 
@@ -16,6 +16,7 @@ from pathlib import Path
 sys.dont_write_bytecode = True
 sys.path.insert(0, str(Path(__file__).resolve().parent))
 
+from catalog_edges import try_edges  # noqa: E402
 from harness import TIMEOUT, TOP, Trials, run  # noqa: E402
 from replacing import try_replacing  # noqa: E402
 from translations import try_catalogs  # noqa: E402
@@ -137,6 +138,7 @@ def main():
     trials = Trials()
     try_replacing(folder, trials)
     try_catalogs(folder, trials)
+    try_edges(folder, trials)
     try_page(program, trials)
     try_completions(program, trials)
     return trials.end()

@@ -33,6 +33,7 @@ INSTALLED = {
     "share/doc/fmtcanon/CHANGELOG.md",
     "share/doc/fmtcanon/LICENSE",
     "share/doc/fmtcanon/README.md",
+    "share/doc/fmtcanon/folders",
     "share/doc/fmtcanon/examples/canon.c",
     "share/fish/vendor_completions.d/fmtcanon.fish",
     "share/man/man1/fmtcanon.1",
@@ -42,6 +43,14 @@ INSTALLED = {
     "share/zsh/site-functions/_fmtcanon",
 }
 PLACES = ["PREFIX=/usr", "PYTHONDIR=/usr/lib/python3/dist-packages"]
+# Folders that can't be passed through a shell, or that would be below the current one.
+REFUSED = [
+    "PREFIX=/opt/my tools", "PREFIX=opt", "PREFIX=", "PREFIX=/it's", "PREFIX=/$$(touch hacked)", "PREFIX=/a;b", "PREFIX=/opt/../etc",
+    "DESTDIR=stage", "DESTDIR=/tmp/my stage", "BINDIR=bin", "PYTHONDIR=/my modules", "DOCDIR=/a&b",
+]
+# What an archive is made of.
+TREE = ["include", "man", "packaging", "completions", "examples", "docs", "python", "LICENSE", "README.md", "CHANGELOG.md", "Makefile"]
+BUILT = ["crates/fmtcanon/out/fmtcanon", "out/c/libfmtcanon.a", "out/c/libfmtcanon.so.0.2.0"]
 
 
 def prototypes(text):
@@ -110,15 +119,97 @@ def try_install(work, trials):
 
 
 def try_uninstall(work, path, trials):
+    """What was there stays, and every folder that the installation made goes, also after a second one."""
     stage = work / "second"
     (stage / "usr/bin").mkdir(parents=True)
+    (stage / "usr/include").mkdir()
     (stage / "usr/bin/another").write_text("")
-    make(["install", f"DESTDIR={stage}", *PLACES], path=path)
+    (stage / "made").write_text("")
+    for _ in range(2):
+        make(["install", f"DESTDIR={stage}", *PLACES], path=path)
     (stage / "usr" / MODULE / "__pycache__").mkdir()
     (stage / "usr" / MODULE / "__pycache__/a.pyc").write_text("")
     trials.expect("make uninstall", make(["uninstall", f"DESTDIR={stage}", *PLACES], path=path), (0, ""))
-    trials.expect("what is left", files_below(stage), {"usr/bin/another"})
-    trials.expect("its folders", [str(one) for one in stage.rglob("*fmtcanon*")], [])
+    left = sorted(str(one.relative_to(stage)) for one in stage.rglob("*"))
+    trials.expect("what is left", left, ["made", "usr", "usr/bin", "usr/bin/another", "usr/include"])
+
+
+def try_places(work, trials):
+    """Folders that can't be used are refused, with a line that names the first, and nothing is made or removed."""
+    tree = work / "places"
+    copy_tree(tree)
+    before = sorted(tree.rglob("*"))
+    for target in ["install", "uninstall"]:
+        for word in REFUSED:
+            status, output = make([target, *([] if word.startswith("DESTDIR") else [f"DESTDIR={work}/fifth"]), word], folder=tree)
+            name = word[: word.index("=")]
+            trials.expect(f"make {target} {word}", (status != 0, output.startswith(f"{name}={word[len(name) + 1:].replace('$$', '$')}: the folder must")), (True, True))
+    trials.expect("nothing is made", (sorted(tree.rglob("*")) == before, (work / "fifth").exists()), (True, False))
+
+
+def copy_tree(tree):
+    """Copies what an archive is made of, with what was built."""
+    tree.mkdir()
+    for part in TREE:
+        skip = shutil.ignore_patterns("__pycache__", ".mypy_cache")
+        (shutil.copytree if (TOP / part).is_dir() else shutil.copy)(TOP / part, tree / part, **({"ignore": skip} if (TOP / part).is_dir() else {}))
+    for part in BUILT:
+        (tree / part).parent.mkdir(parents=True, exist_ok=True)
+        shutil.copy(TOP / part, tree / part)
+
+
+def spoil_tree(tree):
+    """Changes the time and the rights of each file."""
+    for number, file in enumerate(sorted(tree.rglob("*"))):
+        os.utime(file, (10**9 + number, 10**9 + number))
+        file.chmod((0o700 if file.is_dir() or os.access(file, os.X_OK) else 0o600) | (0o070 if number % 2 else 0))
+
+
+def packages_of(work, target, pattern):
+    """The bytes of the package that is made of the tree, and of a copy with other times and rights."""
+    for name in ["tree", "spoiled"]:
+        tree = work / f"{name} for {target}".replace(" ", "-")
+        copy_tree(tree)
+        if name == "spoiled":
+            spoil_tree(tree)
+        status, output = make([target], folder=tree)
+        files = list((tree / "out").glob(pattern))
+        yield files[0].read_bytes() if status == 0 and len(files) == 1 else output
+
+
+def try_same_archives(work, trials):
+    for target, pattern in [("dist", "*.tar.gz"), ("wheel", "*.whl")]:
+        first, second = packages_of(work, target, pattern)
+        trials.expect(f"make {target} of files with other times and rights", (isinstance(first, bytes), first == second), (True, True))
+
+
+def try_shadows(work, trials):
+    """No file next to a command or next to the module takes the place of the standard library's."""
+    home = work / "home"
+    trials.expect("make install below a folder", make(["install", f"PREFIX={home}"]), (0, ""))
+    modules = next(home.rglob("fmtcanon/__init__.py")).parent.parent
+    for folder in [home / "bin", modules]:
+        for name in ["os", "json", "re", "struct", "typing", "enum", "ctypes", "codecs"]:
+            (folder / f"{name}.py").write_text("raise SystemExit('another module')\n")
+    environment = {name: value for name, value in os.environ.items() if name not in ("FMTCANON_LIBRARY", "FMTCANON_PROGRAM", "PYTHONPATH")}
+    for name in ["po", "replace"]:
+        done = subprocess.run(
+            [home / "bin" / f"fmtcanon-{name}", "--help"], env={**environment, "PYTHONDONTWRITEBYTECODE": "1"}, check=False,
+            timeout=TIMEOUT, stdout=subprocess.PIPE, stderr=subprocess.PIPE,
+        )
+        trials.expect(f"fmtcanon-{name} with files of other names beside it", (done.returncode, done.stderr), (0, b""))
+
+
+def try_no_binutils(work, trials):
+    """`make wheel` without binutils says what is missing."""
+    tools = work / "few-tools"
+    tools.mkdir()
+    for name in ["make", "sh", "test", "echo", "env"]:
+        (tools / name).symlink_to(shutil.which(name))
+    (tools / "python3").symlink_to(sys.executable)
+    status, output = make(["wheel"], path=str(tools))
+    wanted = "objdump is missing: the package binutils has it\n"
+    trials.expect("make wheel without objdump", (status != 0, output.startswith(wanted), "Traceback" in output), (True, True, False))
 
 
 def try_missing(work, trials):
@@ -190,6 +281,10 @@ def try_all(work, trials):
     """The folder into which it is installed, for other trials."""
     prefix = try_install(work, trials)
     try_missing(work, trials)
+    try_places(work, trials)
+    try_shadows(work, trials)
+    try_no_binutils(work, trials)
+    try_same_archives(work, trials)
     try_archive(work, trials)
     try_page(trials)
     try_command_pages(trials)

@@ -19,11 +19,13 @@ sys.dont_write_bytecode = True
 sys.path.insert(0, str(Path(__file__).resolve().parent))
 
 import roots  # noqa: E402
+from catalog_edges import try_msgfmt_edges  # noqa: E402
 from library import TIMEOUT, TOP, Trials, compile_with, lines_of, load_module, python_lines, shapes, try_compiler  # noqa: E402
 from literals import try_decoded, try_encoded, try_trigraphs  # noqa: E402
 from models import try_models  # noqa: E402
 from replacing import try_parsing  # noqa: E402
 from translations import try_msgfmt  # noqa: E402
+from typing_of_module import try_annotations  # noqa: E402
 
 # A Python that Debian makes its modules for.
 SYSTEM_PYTHON = "/usr/bin/python3"
@@ -108,6 +110,21 @@ def try_gettext(folder, tools, trials):
     """What fmtcanon-po prints, beside msgfmt."""
     if tools.has("msgfmt", "gettext"):
         try_msgfmt(folder, trials)
+        try_msgfmt_edges(trials)
+
+
+def try_locale(program, folder, trials):
+    """In a locale whose encoding is ISO-8859-1, the module passes the same bytes."""
+    with tempfile.TemporaryDirectory() as work:
+        status = lines_of(["localedef", "-i", "de_DE", "-f", "ISO-8859-1", f"{work}/de_DE.ISO-8859-1"])[0] if shutil.which("localedef") else 1
+        trials.expect("localedef makes a locale: the package locales has what it needs", status, 0)
+        environment = {
+            **os.environ, "LOCPATH": work, "LC_ALL": "de_DE.ISO-8859-1", "PYTHONPATH": str(TOP / "python"), "PYTHONUTF8": "0",
+            "FMTCANON_PROGRAM": program, "FMTCANON_LIBRARY": str(folder / "libfmtcanon.so.0"),
+        }
+        script = "import sys, fmtcanon; print(sys.getfilesystemencoding(), fmtcanon.format('\\xe9%s', '\\xe9'), fmtcanon.show('\\xe9'))"
+        wanted = "iso8859-1 b'\\xc3\\xa9\\xc3\\xa9' [Text(length=2)]\n"
+        trials.expect("format and show in ISO-8859-1", lines_of([sys.executable, "-c", script], env=environment, cwd=work), (0, wanted))
 
 
 def python_with(module):
@@ -155,6 +172,8 @@ def main():
         try_random(folder, trials, Path(work))
         try_models(os.path.abspath(sys.argv[1]), tools, trials, Path(work))
     try_gettext(folder, tools, trials)
+    try_annotations(tools, trials)
+    try_locale(os.path.abspath(sys.argv[1]), folder, trials)
     try_libclang(folder, trials)
     try_shells(tools, trials)
     roots.try_all(os.path.abspath(sys.argv[1]), tools, trials)

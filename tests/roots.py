@@ -12,6 +12,7 @@ import tempfile
 import venv
 from pathlib import Path
 
+import installing
 from harness import TOP, run
 
 VERSION = "0.2.0"
@@ -107,6 +108,14 @@ def try_root(tools, trials):
         trials.expect(f"lintian: {output[1] if output[0] else ''}", output[0], 0)
 
 
+def try_same_packages(tools, trials):
+    """The Debian package doesn't depend on times and rights of files."""
+    if tools.has("dpkg-deb", "dpkg"):
+        with tempfile.TemporaryDirectory() as work:
+            first, second = installing.packages_of(Path(work), "deb", "*.deb")
+        trials.expect("make deb of files with other times and rights", (isinstance(first, bytes), first == second), (True, True))
+
+
 def try_wheel(trials):
     """pip installs the wheel with no compiler and no network, and the module finds the library inside."""
     made("wheel", trials)
@@ -130,6 +139,8 @@ def try_wheel(trials):
         trials.expect("fmtcanon-po of the wheel", output, (0, "2 messages judged, 0 not judged\n"))
         output = shell([folder / "fmtcanon-replace", "--model", "lp64", "%zu", "%lu", "size.c"], env=environment, cwd=work)
         trials.expect("fmtcanon-replace of the wheel", output, (0, "size.c:2: replaced\n"))
+        for command in [[folder / "fmtcanon"], [folder / "python", "-m", "fmtcanon"]]:
+            trials.expect(f"{command} of the wheel", shell([*command, "canon", "%i"], env=environment, cwd=work), (0, "%d\n"))
         status, output = shell([folder / "pip", "check"], env=environment, cwd=work)
         trials.expect(f"pip check: {output}", status, 0)
 
@@ -137,6 +148,7 @@ def try_wheel(trials):
 def try_all(program, tools, trials):
     """All of it; and that the program in the package is the one that was built."""
     try_wheel(trials)
+    try_same_packages(tools, trials)
     try_root(tools, trials)
     status, output, _ = run(program, ["canon", "%i"])
     trials.expect("the program", (status, output), (0, b"%d\n"))

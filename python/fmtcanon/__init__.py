@@ -1,27 +1,27 @@
-"""Canonical texts of printf formats, and whether one may stand for another.
+"""Brings printf formats to a canonical text, and says whether two are interchangeable.
 
-A binding of the C library `libfmtcanon` by ctypes, with no code of its own but the conversions.
-`format` and `show` run the program instead, once for each call: the library has no such calls. A
-`Session` keeps one process of the program and asks it about many formats; it needs no library.
+This is a binding of the C library `libfmtcanon` by ctypes. `format` and `show` run the program instead, once
+for each call, because the library has no such calls. A `Session` asks one process of the program about many
+formats, and needs no library.
 
-A format is a `str` or bytes. A `str` is handed over in UTF-8, and all places are counted in bytes.
-Give bytes where a format isn't UTF-8. Each call raises `Refused` for a format that the library
-doesn't accept, `MemoryError` where memory is out, and `TypeError` for what is no format.
+A format is a `str` or bytes. A `str` is passed in UTF-8, and offsets count bytes. Pass bytes if a format isn't
+UTF-8. Each call raises `Refused` if the format is rejected, `MemoryError` if it is out of memory, and
+`TypeError` if the argument is not a format.
 
-What a format means hangs on the data model of the machine on which it is used: `model` says which,
-a `Model` or its name, "lp64", "ilp32" or "llp64", and is LP64 where it isn't given. `ValueError` is raised for
-what is no data model.
+The meaning of a format depends on the data model of the machine on which it is used. `model` is a `Model` or
+its name, "lp64", "ilp32" or "llp64", in upper or lower case. The default is LP64. An invalid model raises
+`ValueError`.
 
-C source has a format in string literals: `decode_literal` returns the bytes that they stand for,
-`encode_literal` the one literal of some bytes, and `source_offset` the place in the literals of a
-byte. What is no string literal raises `BadLiteral`.
+In C source, a format is written as string literals. `decode_literal` returns their bytes, `encode_literal`
+builds one literal of bytes, and `source_offset` returns the offset in the source of a byte. A text that is not
+string literals raises `BadLiteral`.
 
-A `str` with a lone surrogate, as the names of files may have it, has no UTF-8: each call raises
-`UnicodeEncodeError` for it. Hand over bytes there, as `os.fsencode` makes them.
+A `str` with a lone surrogate, as file names may have it, has no UTF-8, and raises `UnicodeEncodeError`. Pass
+the bytes that `os.fsencode` returns instead.
 
-The library is loaded at the first call that needs it, which raises `ImportError` where it isn't
-there. It is the one that the environment's FMTCANON_LIBRARY names; else the one that lies beside
-this module, where an installation put it; else `libfmtcanon.so.0`, where the system looks.
+The library is loaded by the first call that needs it, which raises `ImportError` if there is none. It is the
+one that the environment variable FMTCANON_LIBRARY names, otherwise the one next to this module, where an
+installation puts it, otherwise `libfmtcanon.so.0`, where the system looks for libraries.
 
     >>> import fmtcanon
     >>> fmtcanon.canonical("Total: %i of %u%%")
@@ -51,11 +51,13 @@ from __future__ import annotations
 import ctypes
 import enum
 import functools
+import operator
 import os
 import re
 from pathlib import Path
 from typing import Any, Callable, List, NamedTuple, NoReturn, Optional, Tuple, TypeVar, Union
 
+from .models import DataModel, Model, model_of
 from .printing import REFUSED, UNFIT, Directive, Failed, Percent, Shown, Text, printed, shown
 from .sessions import Reply, Session
 
@@ -141,23 +143,6 @@ class LiteralKind(enum.IntEnum):
     ESCAPE_TOO_LARGE = 204
     ZERO_BYTE = 205
     TRIGRAPH = 206
-
-
-class Model(enum.IntEnum):
-    """A data model: how many bits integers have, and which types the length modifiers name.
-
-    In LP64 `long` has 64 bits, and `z`, `t` and `j` are `l`. In ILP32 it has 32 bits, `%zu` means
-    `%u`, `%td` means `%d`, and `j` is `ll`. In LLP64, that of Windows on 64 bits, it has 32 bits,
-    and `z`, `t` and `j` are `ll`.
-    """
-
-    LP64 = 0
-    ILP32 = 1
-    LLP64 = 2
-
-
-# How a data model is given to a call.
-DataModel = Union[Model, str]
 
 
 class Type(enum.IntEnum):
@@ -312,16 +297,6 @@ def _bytes(format: Format) -> bytes:
     raise TypeError(f"a format is a str or bytes, not {type(format).__name__}")
 
 
-def _number(model: DataModel) -> Model:
-    """The data model that an argument names."""
-    if not isinstance(model, str):
-        return Model(model)
-    for one in Model:
-        if one.name.lower() == model:
-            return one
-    raise ValueError(f"{model!r} is no data model: there are lp64, ilp32 and llp64")
-
-
 def _name(kind: int) -> str:
     out = ctypes.create_string_buffer(_LONGEST_NAME + 1)
     _library().fmtcanon_kind_name(kind, out, len(out))
@@ -357,7 +332,7 @@ def check(format: Format) -> None:
 def is_canonical(format: Format, *, model: DataModel = Model.LP64) -> bool:
     """Whether the format is its own canonical text."""
     text, error = _bytes(format), _Error()
-    return _answer(_library().fmtcanon_is_canonical(_number(model), text, len(text), error), error) == 1
+    return _answer(_library().fmtcanon_is_canonical(model_of(model), text, len(text), error), error) == 1
 
 
 def canonical(format: _Text, *, model: DataModel = Model.LP64) -> _Text:
@@ -366,7 +341,7 @@ def canonical(format: _Text, *, model: DataModel = Model.LP64) -> _Text:
     Two formats have one canonical text exactly if they take arguments of the same types and print
     the same bytes for all of them.
     """
-    text, error, number = _bytes(format), _Error(), _number(model)
+    text, error, number = _bytes(format), _Error(), model_of(model)
     size = _answer(_library().fmtcanon_canonical_length(number, text, len(text), error), error)
     out = ctypes.create_string_buffer(size + 1)
     _answer(_library().fmtcanon_canonical(number, text, len(text), out, len(out), error), error)
@@ -378,21 +353,25 @@ def types(format: Format, *, model: DataModel = Model.LP64) -> List[Type]:
     """The types of the arguments, in order."""
     text = _bytes(format)
     room = text.count(b"%") + 1
-    codes = _filled(_library().fmtcanon_types, room, _number(model), text, len(text))
+    codes = _filled(_library().fmtcanon_types, room, model_of(model), text, len(text))
     return [Type(code) for code in codes]
 
 
-def arguments(format: Format, *, model: DataModel = Model.LP64) -> List[Type]:
-    """The types of the arguments of a format of the whole language, in order.
-
-    That is POSIX `fprintf` with the `b` of C23: numbered arguments, `*`, floating and wide conversions,
-    `p` and `n`, too.
-    """
+def _argument_codes(format: Format, model: DataModel) -> bytes:
+    """Returns the types of the arguments of a format of the whole language, one byte each."""
     text = _bytes(format)
     # A specification takes three arguments at most.
     room = 3 * text.count(b"%") + 1
-    codes = _filled(_library().fmtcanon_arguments, room, _number(model), text, len(text))
-    return [Type(code) for code in codes]
+    return _filled(_library().fmtcanon_arguments, room, model_of(model), text, len(text))
+
+
+def arguments(format: Format, *, model: DataModel = Model.LP64) -> List[Type]:
+    """Returns the types of the arguments of a format of the whole language, in order.
+
+    The whole language is POSIX `fprintf` with the `b` of C23. It has numbered arguments, `*`, floating and wide
+    conversions, `p` and `n`.
+    """
+    return [Type(code) for code in _argument_codes(format, model)]
 
 
 def fits(first: Format, second: Format, *, model: DataModel = Model.LP64) -> bool:
@@ -401,14 +380,14 @@ def fits(first: Format, second: Format, *, model: DataModel = Model.LP64) -> boo
     Both may be of the whole language. It is the question to ask of a translation.
     """
     f, g, error = _bytes(first), _bytes(second), _Error()
-    result = _library().fmtcanon_fits(_number(model), f, len(f), g, len(g), error)
+    result = _library().fmtcanon_fits(model_of(model), f, len(f), g, len(g), error)
     return _answer(result, error) == 1
 
 
 def same(first: Format, second: Format, *, model: DataModel = Model.LP64) -> bool:
     """Whether two formats take the same types and print the same bytes for all arguments."""
     f, g, error = _bytes(first), _bytes(second), _Error()
-    result = _library().fmtcanon_same(_number(model), f, len(f), g, len(g), error)
+    result = _library().fmtcanon_same(model_of(model), f, len(f), g, len(g), error)
     return _answer(result, error) == 1
 
 
@@ -429,9 +408,10 @@ def compare(first: Format, second: Format, *, model: DataModel = Model.LP64) -> 
 
     def call(*arguments: Any) -> int:
         *texts, out, room, error = arguments
-        return _library().fmtcanon_compare(*texts, out, room, answer, error)
+        size: int = _library().fmtcanon_compare(*texts, out, room, answer, error)
+        return size
 
-    words = _filled(call, 4096, _number(model), f, len(f), g, len(g))
+    words = _filled(call, 4096, model_of(model), f, len(f), g, len(g))
     verdict = Verdict(answer.verdict)
     if verdict is Verdict.TYPES:
         return Comparison(verdict, types_differ_at=answer.number)
@@ -465,13 +445,16 @@ def encode_literal(format: _Text) -> _Text:
 
 
 def source_offset(source: Format, index: int) -> Optional[int]:
-    """The place in string literals where the element begins that gives the byte of this index.
+    """Returns the offset in string literals of the character or escape that gives the byte of this index.
 
-    At the count of their bytes it is the last closing quote. None where there is no such byte, and
-    where the text is no string literals.
+    If the index is the number of bytes, it is the offset of the last closing quote. Returns None if there
+    is no such byte, and if the text is not string literals. Raises `TypeError` if the index is not an integer.
     """
-    text = _bytes(source)
-    place = _library().fmtcanon_source_offset(text, len(text), index)
+    text, at = _bytes(source), operator.index(index)
+    # ctypes would cut a number that has more bits than the parameter.
+    if not 0 <= at <= len(text):
+        return None
+    place: int = _library().fmtcanon_source_offset(text, len(text), at)
     return None if place == _NO_PLACE else place
 
 
@@ -486,14 +469,14 @@ def _raise(fault: Failed) -> NoReturn:
 
 
 def format(format: Format, *arguments: Union[int, str, bytes], model: DataModel = Model.LP64) -> bytes:
-    """The bytes that `printf` prints for the format and these arguments, in the POSIX locale.
+    """Returns the bytes that `printf` prints for the format and these arguments, in the POSIX locale.
 
-    A number stands for an argument of each integer type, and a `str` or bytes for a string. Raises
-    `ValueError` where the arguments don't fit the format: their count, a type, or a number that its
-    type doesn't have. It runs the program, which takes text: bytes that aren't UTF-8 raise
-    `UnicodeDecodeError`. `OSError` is raised where the program can't be run or is handed too much.
+    Pass an `int` for each integer argument, and a `str` or bytes for a string. Raises `ValueError` if the
+    arguments don't fit the format: by their count, by a type, or by a number that its type can't hold. The
+    program accepts only UTF-8 as its arguments, so other bytes raise `UnicodeDecodeError`. Raises `OSError`
+    if the program can't be run, or if the arguments are longer than the system allows.
     """
-    number = _number(model)
+    number = model_of(model)
     check(format)
     try:
         return printed(number.name.lower(), _bytes(format), arguments)
@@ -502,11 +485,11 @@ def format(format: Format, *arguments: Union[int, str, bytes], model: DataModel 
 
 
 def show(format: Format, *, model: DataModel = Model.LP64) -> List[Shown]:
-    """The pieces of the format, in order: a `Text`, a `Percent` or a `Directive` each.
+    """Returns the pieces of the format in order. Each is a `Text`, a `Percent` or a `Directive`.
 
-    It runs the program, as `format` does.
+    It runs the program, and accepts any bytes and any length.
     """
-    number = _number(model)
+    number = model_of(model)
     check(format)
     try:
         return shown(number.name.lower(), _bytes(format))

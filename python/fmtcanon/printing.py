@@ -1,8 +1,8 @@
-"""What the commands `format` and `show` of the program answer, from Python.
+"""Runs the commands `format` and `show` of the program.
 
-The C library has no calls for them, so each call runs the program once: the one that the environment's
-FMTCANON_PROGRAM names; else the file `program` beside this module, where an installation put it; else
-`fmtcanon` on the search path.
+The C library has no calls for them, so each call runs the program once. It is the one that the environment
+variable FMTCANON_PROGRAM names, otherwise the file `program` next to this module, where an installation puts
+it, otherwise `fmtcanon` on the search path.
 """
 
 from __future__ import annotations
@@ -13,13 +13,13 @@ import subprocess
 from pathlib import Path
 from typing import Any, List, NamedTuple, Tuple, Union
 
-# The exit status of the program for a refused format, and for arguments that don't fit.
+# The exit status of the program for a rejected format, and for arguments that don't fit.
 REFUSED, UNFIT = 2, 3
-_OUT_OF_MEMORY = "out of memory"
+OUT_OF_MEMORY = "out of memory"
 
 
 class Text(NamedTuple):
-    """Literal bytes, so many."""
+    """A run of `length` literal bytes."""
 
     length: int
 
@@ -31,11 +31,10 @@ class Percent(NamedTuple):
 
 
 class Directive(NamedTuple):
-    """A directive, and what prints the same.
+    """A directive, and parts that print the same.
 
-    `spelling` is its spelling, with the flags in one order, and `type` is the name of its argument's
-    type in C, or "string". So many `spaces` and `zeros`, the directive `core`, and `trail` spaces
-    print the same.
+    `spelling` has the flags in one order, and `type` is the C name of its argument's type, or "string".
+    The directive prints the same as `spaces` spaces, `zeros` zeros, the directive `core` and `trail` spaces.
     """
 
     spelling: str
@@ -47,11 +46,12 @@ class Directive(NamedTuple):
 
 
 Shown = Union[Text, Percent, Directive]
+_REPLY = re.compile(rb"([0-2]) ([^\0]*)\0")
 _DIRECTIVE = re.compile(r"directive (%.*): ([a-z ]+): (\d+) (\d+) (%\S.*|% .*) (\d+)")
 
 
 class Failed(Exception):
-    """The program didn't answer: its exit status, and the line that it wrote on standard error."""
+    """The program gave no answer: its exit status, and its line on standard error."""
 
     def __init__(self, status: int, line: str) -> None:
         super().__init__(status, line)
@@ -60,49 +60,61 @@ class Failed(Exception):
 
 
 def program() -> str:
-    """The program: where FMTCANON_PROGRAM names it, beside this module, or on the search path."""
+    """Returns the program: the one of FMTCANON_PROGRAM, the one next to this module, or a name to search for."""
     beside = Path(__file__).parent / "program"
     return os.environ.get("FMTCANON_PROGRAM") or (str(beside) if beside.exists() else "fmtcanon")
 
 
-def _text(word: Union[str, bytes]) -> str:
-    """A word of the program's command line, which is text without a zero byte."""
-    if isinstance(word, bytes):
-        word = word.decode()
-    word.encode()
-    if "\0" in word:
-        raise ValueError("a string argument of a C program has no zero byte")
+def _word(text: Union[str, bytes, bytearray, memoryview]) -> bytes:
+    """Returns an argument of the program's command line: UTF-8 without a NUL.
+
+    The bytes are passed as they are. Text would be encoded for the locale, which need not use UTF-8.
+    """
+    word = text.encode() if isinstance(text, str) else bytes(text)
+    word.decode()
+    if b"\0" in word:
+        raise ValueError("a string argument of a C program has no NUL byte")
     return word
 
 
-def _argument(argument: Any) -> str:
+def _argument(argument: Any) -> bytes:
     if isinstance(argument, int):
-        return f"n:{int(argument)}"
-    if isinstance(argument, (str, bytes)):
-        return f"s:{_text(argument)}"
+        return b"n:%d" % argument
+    if isinstance(argument, (str, bytes, bytearray, memoryview)):
+        return b"s:" + _word(argument)
     raise TypeError(f"an argument is an int, a str or bytes, not {type(argument).__name__}")
 
 
-def _answer(words: List[str]) -> bytes:
-    done = subprocess.run(
-        [program(), *words], stdin=subprocess.DEVNULL, stdout=subprocess.PIPE, stderr=subprocess.PIPE, check=False
+def _run(words: List[bytes], records: bytes = b"") -> "subprocess.CompletedProcess[bytes]":
+    return subprocess.run(
+        [os.fsencode(program()), *words], input=records, stdout=subprocess.PIPE, stderr=subprocess.PIPE, check=False
     )
-    if done.returncode == 0:
-        return done.stdout
+
+
+def _failed(done: "subprocess.CompletedProcess[bytes]") -> Exception:
+    """Returns the exception for a run that gave no answer."""
     line = done.stderr.decode(errors="replace").strip()
-    if line == _OUT_OF_MEMORY:
-        raise MemoryError(line)
-    raise Failed(done.returncode, line)
+    return MemoryError(line) if line == OUT_OF_MEMORY else Failed(done.returncode, line)
 
 
-def printed(model: str, format: Union[str, bytes], arguments: Tuple[Any, ...]) -> bytes:
-    """The bytes that the format prints for the arguments."""
-    return _answer(["format", "--model", model, "--", _text(format), *map(_argument, arguments)])
+def printed(model: str, format: bytes, arguments: Tuple[Any, ...]) -> bytes:
+    """Returns the bytes that the format prints for the arguments."""
+    done = _run([b"format", b"--model", model.encode(), b"--", _word(format), *map(_argument, arguments)])
+    if done.returncode != 0:
+        raise _failed(done)
+    return done.stdout
 
 
-def shown(model: str, format: Union[str, bytes]) -> List[Shown]:
-    """The pieces of the format."""
-    return [_piece(line) for line in _answer(["show", "--model", model, "--", _text(format)]).decode().splitlines()]
+def shown(model: str, format: bytes) -> List[Shown]:
+    """Returns the pieces of the format. It is sent as a record, so it may have any length and any bytes."""
+    done = _run([b"show", b"--model", model.encode(), b"--null"], format + b"\0")
+    reply = _REPLY.fullmatch(done.stdout)
+    if reply is None or done.returncode != int(reply.group(1)):
+        raise _failed(done)
+    text = reply.group(2).decode()
+    if done.returncode != 0:
+        raise Failed(done.returncode, text)
+    return [_piece(line) for line in text.splitlines()]
 
 
 def _piece(line: str) -> Shown:

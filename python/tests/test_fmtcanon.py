@@ -111,7 +111,7 @@ class Calls(unittest.TestCase):
         self.assertEqual(fmtcanon.same_in("%d", "%u"), [])
 
     def test_no_model(self):
-        for wrong in [3, -1, 64, 1 << 32, "LP64", "both", "", None]:
+        for wrong in [3, -1, 64, 1 << 32, "LP65", "both", "", None]:
             for call in [fmtcanon.canonical, fmtcanon.is_canonical, fmtcanon.types]:
                 with self.assertRaises(ValueError):
                     call("%d", model=wrong)
@@ -134,6 +134,7 @@ class Calls(unittest.TestCase):
     def test_examples(self):
         self.assertEqual(doctest.testmod(fmtcanon).failed, 0)
         self.assertEqual(doctest.testmod(fmtcanon.sessions).failed, 0)
+        self.assertGreater(doctest.testmod(fmtcanon.sessions).attempted, 0)
 
 
 class Refusals(unittest.TestCase):
@@ -217,50 +218,6 @@ class Running(unittest.TestCase):
                     fmtcanon.show("%d")
         finally:
             os.environ["FMTCANON_PROGRAM"] = before
-
-
-class Sessions(unittest.TestCase):
-    def test_each_command(self):
-        rows = [
-            ("canon", ["%i"], (0, b"%d")),
-            ("canon", [b"\xff%5c"], (0, b"\xff    %c")),
-            ("canon", ["%*d"], (2, b"refused 5 Star at byte 1")),
-            ("types", ["%d%s"], (0, b"int\nstring")),
-            ("types", [""], (0, b"")),
-            ("show", ["x%%"], (0, b"text 1\npercent")),
-            ("same", ["%zd", "%ld"], (0, b"same")),
-            ("same", ["%d", "%y"], (2, b"second: refused 3 Unexpected at byte 1")),
-        ]
-        for command, formats, wanted in rows:
-            with fmtcanon.Session(command) as session:
-                self.assertEqual([session.ask(*formats) for _ in range(3)], [wanted] * 3)
-
-    def test_many_and_long(self):
-        with fmtcanon.Session("canon", model="ilp32") as session:
-            for count in range(300):
-                self.assertEqual(session.ask("%zu" * count), (0, b"%u" * count))
-            self.assertEqual(session.ask("%4095d" * 3000)[0], 0)
-            self.assertEqual(session.ask("%y")[0], 2)
-            self.assertEqual(session.close(), 2)
-
-    def test_no_library(self):
-        environment = {**os.environ, "FMTCANON_LIBRARY": "/nothing/libfmtcanon.so.0"}
-        text = "import fmtcanon; print(fmtcanon.Session('canon').ask('%i').text.decode())"
-        done = subprocess.run([sys.executable, "-c", text], env=environment, stdout=subprocess.PIPE, check=False)
-        self.assertEqual(done.stdout, b"%d\n")
-
-    def test_wrong_calls(self):
-        with self.assertRaises(ValueError):
-            fmtcanon.Session("stream")
-        with fmtcanon.Session("canon") as session:
-            for formats in [[], ["a", "b"], ["a\0"]]:
-                with self.assertRaises(ValueError):
-                    session.ask(*formats)
-            self.assertEqual(session.ask("%i"), (0, b"%d"))
-        with self.assertRaises(ValueError):
-            session.ask("%i")
-        with fmtcanon.Session("canon", model="both") as session, self.assertRaises(OSError):
-            session.ask("%i")
 
 
 class Threads(unittest.TestCase):

@@ -1,41 +1,46 @@
-"""Checks the C formats of message catalogs: a translation takes the arguments of its message.
+"""Checks the C formats of message catalogs: a translation must take the arguments of its message.
 
 Usage: fmtcanon-po [OPTION].. FILE..
 
-  --model MODEL  in which data models the types have to be the same: lp64, ilp32, llp64, both for the
-                 first two, or all; all where it isn't given, so that a catalog serves on any
-                 machine: %zu is no translation of %lu
-  --c-format     takes each message for a C format that has a %, but for those with no-c-format
-  --strict       the exit status is 1, too, where something couldn't be judged
-  --help         prints this text
+  --model MODEL  the data models in which the types must be the same: lp64, ilp32, llp64, both (the
+                 first two) or all; all by default, so that a catalog works on every machine: %zu is
+                 not a translation of %lu
+  --c-format     check every message that has a %, except those with the flag no-c-format
+  --strict       exit with status 1 also if something could not be judged
+  --help         print this text
 
-FILE is a .po or a .mo file, or - for standard input. Each message with the flag c-format that has a
-translation is checked, but for fuzzy and obsolete ones. The translation must take arguments of the
-same types, in the same order. A plural form has to take those of msgid_plural, and so has msgid; it
-may leave the last ones out where it is for a few numbers only, as in 'one file'. Each message,
-whatever its flags, has to begin and end with a newline where its translation does.
+FILE is a .po or .mo file, or - for standard input. Each translated message with the flag c-format or
+possible-c-format is checked, except fuzzy and obsolete ones. The translation must take arguments of
+the same types, in the same order. A plural form and msgid must take those of msgid_plural. They may
+leave the last arguments out if they are for at most four numbers, as in 'one file'. Every message
+must begin and end with a newline if its translation does, and only then.
 
-A .mo file doesn't say which messages are C formats. So each one with a % is checked, and what would
-be a fault of a C format is a warning there, unless --c-format is given. Its messages have numbers,
-and no lines.
+A .mo file doesn't say which messages are C formats. Each one with a % is checked, and a fault that
+only a C format has is a warning unless --c-format is given. Messages of a .mo file have numbers
+instead of lines.
 
-Formats are those of POSIX fprintf, with numbered arguments, *, floating conversions, %p and %n. A
-macro of <inttypes.h>, as %<PRIu64>, is of a type of its own.
+Formats are those of POSIX fprintf, with numbered arguments, *, floating conversions, %p and %n. %m
+takes no argument. The argument of a macro of <inttypes.h>, such as %<PRIu64>, has its own type.
 
-A fault is printed as by `msgfmt -c`: the file, the line, the message and the reason. What can't be
-judged, as it is no C format (%m and others of the GNU C library), is a warning. The last lines say
-how many messages with formats were judged, how many were not, and how many faults there are.
+A fault is reported as by `msgfmt -c`: the file, the line, the reason and the message. If only the
+message is not a C format, its translation can't be judged, which is a warning. It is a warning, too,
+if a translation prints an int as something else, as %c for %d. The last lines give the numbers of
+messages with formats that were judged and that were not, and of faults.
 
-The exit status is 1 where there is a fault, or where a file can't be read, 2 for wrong words, else 0.
+The exit status is 0 if there is no fault, 1 if there is one or a file can't be read, and 2 for a usage
+error.
 """
 
+import errno
+import os
 import sys
+from typing import Dict, List, Optional, Sequence
 
 import fmtcanon
 
 from .checking import Checker
 
-MODELS = {
+MODELS: Dict[str, List[fmtcanon.Model]] = {
     "lp64": [fmtcanon.Model.LP64],
     "ilp32": [fmtcanon.Model.ILP32],
     "llp64": [fmtcanon.Model.LLP64],
@@ -45,15 +50,15 @@ MODELS = {
 
 
 class Options:
-    """What the words of the command ask for."""
+    """The options of the command."""
 
-    def __init__(self):
+    def __init__(self) -> None:
         self.models = MODELS["all"]
         self.is_all = False
         self.is_strict = False
 
-    def take(self, option, words):
-        """Takes one option with its word, and answers whether it is one."""
+    def take(self, option: str, words: List[str]) -> bool:
+        """Takes one option with its value from the arguments, and says whether it is valid."""
         if option == "--model" and words and words[0] in MODELS:
             self.models = MODELS[words.pop(0)]
         elif option == "--c-format":
@@ -65,14 +70,16 @@ class Options:
         return True
 
 
-def read_bytes(file):
+def read_bytes(file: str) -> bytes:
     if file == "-":
+        if sys.stdin is None:
+            raise OSError(errno.EBADF, os.strerror(errno.EBADF))
         return sys.stdin.buffer.read()
     with open(file, "rb") as stream:
         return stream.read()
 
 
-def check_files(checker, files):
+def check_files(checker: Checker, files: Sequence[str]) -> None:
     for file in files:
         try:
             data = read_bytes(file)
@@ -82,20 +89,20 @@ def check_files(checker, files):
             checker.check_data(file, data)
 
 
-def main(words=None):
-    words, options = list(sys.argv[1:] if words is None else words), Options()
-    if "--help" in words[: words.index("--") if "--" in words else len(words)]:
+def main(words: Optional[Sequence[str]] = None) -> int:
+    left, options = list(sys.argv[1:] if words is None else words), Options()
+    if "--help" in left[: left.index("--") if "--" in left else len(left)]:
         print(__doc__, end="")
         return 0
-    while words and words[0].startswith("--") and words[0] != "--":
-        if not options.take(words.pop(0), words):
-            words = []
-    words = words[1:] if words[:1] == ["--"] else words
-    if not words:
+    while left and left[0].startswith("--") and left[0] != "--":
+        if not options.take(left.pop(0), left):
+            left = []
+    left = left[1:] if left[:1] == ["--"] else left
+    if not left:
         print(__doc__, end="", file=sys.stderr)
         return 2
     checker = Checker(sys.stderr, options.models, options.is_all)
-    check_files(checker, words)
+    check_files(checker, left)
     print(f"{checker.judged} messages judged, {checker.unjudged} not judged", file=sys.stderr)
     if checker.faults:
         word = "error" if checker.faults == 1 else "errors"

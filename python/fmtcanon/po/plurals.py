@@ -1,109 +1,207 @@
-"""The expression of Plural-Forms: which form is for a number."""
+"""Evaluates the expression of Plural-Forms, which says which form is for a number."""
 
 import re
+from typing import Dict, Iterable, List, NamedTuple, Optional
 
-# A form that is for no more numbers than these, of the first thousand, may leave arguments out.
-FEW_NUMBERS = 5
+# As in msgfmt: a form for at most 4 of the numbers up to 1000 is for few numbers, and may leave arguments out.
+FEW_NUMBERS = 4
 NUMBERS = range(1001)
 # Numbers are of the type unsigned long.
 SIZE = 1 << 64
-TOKEN = re.compile(r"\s*(\d+|n|\|\||&&|[=!<>]=|[-+*/%<>?:()!])")
+INT_MAX = (1 << 31) - 1
+# The form is computed for a thousand numbers, so this bounds the time. Brackets are not steps.
+MOST_STEPS = 1000
+MOST_LENGTH = 100_000
+SPACE = " \t"
+TOKEN = re.compile(r"[ \t]*([0-9]+|n|\|\||&&|[=!<>]=|[-+*/%<>?:()!])")
+RANGE = re.compile(r"range:[\s,]+([0-9]+)\.\.([0-9]+)")
+# The operators of C by precedence. `?` and `:` come below all others.
 LEVELS = [["||"], ["&&"], ["==", "!="], ["<", ">", "<=", ">="], ["+", "-"], ["*", "/", "%"]]
-OPERATIONS = {
-    "==": lambda a, b: int(a == b),
-    "!=": lambda a, b: int(a != b),
-    "<": lambda a, b: int(a < b),
-    ">": lambda a, b: int(a > b),
-    "<=": lambda a, b: int(a <= b),
-    ">=": lambda a, b: int(a >= b),
-    "+": lambda a, b: (a + b) % SIZE,
-    "-": lambda a, b: (a - b) % SIZE,
-    "*": lambda a, b: a * b % SIZE,
-    "/": lambda a, b: a // b,
-    "%": lambda a, b: a % b,
-    "||": lambda a, b: int(bool(a or b)),
-    "&&": lambda a, b: int(bool(a and b)),
-}
+LEVEL_OF: Dict[str, int] = {name: level for level, names in enumerate(LEVELS) for name in names}
+UNARY_LEVEL = len(LEVELS)
+
+# The value of a part that divides by zero. It is a fault only if the value is needed, as it isn't in `n && 1 / n`.
+Value = Optional[int]
+
+
+def applied(name: str, left: Value, right: Value) -> Value:
+    """Returns the value of a binary operator."""
+    if name in ("||", "&&"):
+        if left is None:
+            return None
+        if bool(left) == (name == "||"):
+            return int(name == "||")
+        return None if right is None else int(bool(right))
+    if left is None or right is None or (name in "/%" and right == 0):
+        return None
+    return arithmetic(name, left, right)
+
+
+def arithmetic(name: str, left: int, right: int) -> int:
+    """Returns the value of an arithmetic operator or a comparison, in unsigned long."""
+    if name in ("==", "!="):
+        return int((left == right) == (name == "=="))
+    if name in ("<", ">="):
+        return int((left < right) == (name == "<"))
+    if name in (">", "<="):
+        return int((left > right) == (name == ">"))
+    if name == "/":
+        return left // right
+    if name == "%":
+        return left % right
+    return {"+": left + right, "-": left - right, "*": left * right}[name] % SIZE
+
+
+class Unruly(ValueError):
+    """The expression is not one of C, or it divides by zero."""
+
+    def __init__(self) -> None:
+        super().__init__("the expression of Plural-Forms can't be read")
+
+
+def postfix(text: str) -> List[str]:
+    """Returns the expression in postfix order. It needs no recursion, so brackets may nest to any depth."""
+    out: List[str] = []
+    stack: List[str] = []
+    is_operand = True
+    for token in tokens(text):
+        if is_operand:
+            if token in ("!", "("):
+                stack.append(token)
+            elif token == "n" or token[0].isdigit():
+                out.append(token)
+                is_operand = False
+            else:
+                raise Unruly
+        elif token == ")":
+            pop_until("(", stack, out)
+        else:
+            push_operator(token, stack, out)
+            is_operand = True
+    if is_operand:
+        raise Unruly
+    pop_until(None, stack, out)
+    if len(out) > MOST_STEPS:
+        raise Unruly
+    return out
+
+
+def tokens(text: str) -> Iterable[str]:
+    at = 0
+    text = text.rstrip(SPACE)
+    if len(text) > MOST_LENGTH:
+        raise Unruly
+    while at < len(text):
+        match = TOKEN.match(text, at)
+        if match is None:
+            raise Unruly
+        yield match.group(1)
+        at = match.end()
+
+
+def number_of(digits: str) -> int:
+    """Returns a number as unsigned long, in which msgfmt computes it digit by digit."""
+    value = 0
+    for at in range(0, len(digits), 18):
+        part = digits[at : at + 18]
+        value = (value * 10 ** len(part) + int(part)) % SIZE
+    return value
+
+
+def push_operator(token: str, stack: List[str], out: List[str]) -> None:
+    if token == ":":
+        # The `?` of this `:` is on the stack, below what is between them.
+        pop_until("?", stack, out)
+        stack.append("?:")
+        return
+    if token != "?" and token not in LEVEL_OF:
+        raise Unruly
+    level = LEVEL_OF.get(token, -1)
+    while stack and stack[-1] not in ("(", "?", "?:") and (LEVEL_OF.get(stack[-1], UNARY_LEVEL) >= level):
+        out.append(stack.pop())
+    stack.append(token)
+
+
+def pop_until(opening: Optional[str], stack: List[str], out: List[str]) -> None:
+    """Moves operators to the output, up to the opening one, which it drops; to the end if there is none."""
+    while stack:
+        top = stack.pop()
+        if top == opening:
+            return
+        if top in ("(", "?"):
+            raise Unruly
+        out.append(top)
+    if opening is not None:
+        raise Unruly
 
 
 class PluralRule:
-    """An expression, and which form is for each number."""
+    """An expression, and the form that it gives for each number."""
 
-    def __init__(self, text):
-        if len(text) > 1000 or TOKEN.sub("", text).strip():
-            raise ValueError("the expression of Plural-Forms can't be read")
-        self.tokens = TOKEN.findall(text) + [""]
-        self.at = 0
-        self.tree = self.choice()
-        if self.tokens[self.at]:
-            raise ValueError("the expression of Plural-Forms can't be read")
-        self.form_of = [self.form(n) for n in NUMBERS]
+    def __init__(self, text: str) -> None:
+        self.steps = postfix(text)
+        self.form_of = [self.form(number) for number in NUMBERS]
 
-    def is_few(self, form, flags):
-        """Whether a form is for a few numbers, or of the range of its message for one at most."""
+    def form(self, number: int) -> int:
+        """Returns the form for a number."""
+        values: List[Value] = []
+        for step in self.steps:
+            if step == "n":
+                values.append(number)
+            elif step[0].isdigit():
+                values.append(number_of(step))
+            elif step == "!":
+                top = values.pop()
+                values.append(None if top is None else int(not top))
+            elif step == "?:":
+                no, yes, test = values.pop(), values.pop(), values.pop()
+                values.append(None if test is None else (yes if test else no))
+            else:
+                right, left = values.pop(), values.pop()
+                values.append(applied(step, left, right))
+        if values[0] is None:
+            raise Unruly
+        return values[0]
+
+    def is_few(self, form: int, flags: Iterable[str]) -> bool:
+        """Says whether a form is for few numbers, or for at most one of the range of its message."""
         if self.form_of.count(form) <= FEW_NUMBERS:
             return True
-        listed = next((flag for flag in flags if flag.startswith("range:")), "")
-        span = re.fullmatch(r"range:\s*(\d+)\s*\.\.\s*(\d+)", listed)
-        return span is not None and self.form_of[int(span.group(1)) : int(span.group(2)) + 1].count(form) <= 1
+        span = range_of(flags)
+        if span is None:
+            return False
+        # As in msgfmt, which doesn't look at more than a thousand numbers.
+        numbers = range(span.first, min(span.last, span.first + 1000) + 1)
+        return sum(self.known_form(number) == form for number in numbers) <= 1
 
-    def take(self, *wanted):
-        token = self.tokens[self.at]
-        if token not in wanted:
-            return None
-        self.at += 1
-        return token
-
-    def choice(self):
-        test = self.level(0)
-        if not self.take("?"):
-            return test
-        yes = self.choice()
-        if not self.take(":"):
-            raise ValueError("the expression of Plural-Forms can't be read")
-        return ("?", test, yes, self.choice())
-
-    def level(self, which):
-        if which == len(LEVELS):
-            return self.unary()
-        left = self.level(which + 1)
-        while True:
-            operator = self.take(*LEVELS[which])
-            if operator is None:
-                return left
-            left = (operator, left, self.level(which + 1))
-
-    def unary(self):
-        if self.take("!"):
-            return ("!", self.unary())
-        if self.take("("):
-            inner = self.choice()
-            if self.take(")"):
-                return inner
-        token = self.tokens[self.at]
-        if token == "n" or token.isdigit():
-            self.at += 1
-            return token
-        raise ValueError("the expression of Plural-Forms can't be read")
-
-    def form(self, n, tree=None):
-        tree = self.tree if tree is None else tree
-        if isinstance(tree, str):
-            return n if tree == "n" else int(tree)
-        if tree[0] == "?":
-            return self.form(n, tree[2] if self.form(n, tree[1]) else tree[3])
-        if tree[0] == "!":
-            return int(not self.form(n, tree[1]))
-        left = self.form(n, tree[1])
-        # Of these two the right side may not count, as in `n && 1 / n`.
-        if tree[0] == "||" and left:
-            return 1
-        if tree[0] == "&&" and not left:
-            return 0
-        return OPERATIONS[tree[0]](left, self.form(n, tree[2]))
+    def known_form(self, number: int) -> int:
+        return self.form_of[number] if number < len(self.form_of) else self.form(number)
 
 
-def rule_of(header):
-    """The rule that a header has, or None."""
-    expression = re.search(r"plural\s*=\s*([^;\n]*)", header)
-    return PluralRule(expression.group(1)) if expression else None
+class Span(NamedTuple):
+    """The flag `range:` of a message."""
+
+    first: int
+    last: int
+
+
+def range_of(flags: Iterable[str]) -> Optional[Span]:
+    """Returns the range that the flags give, or None. A number has no bound, and counts as the largest int."""
+    span = None
+    for flag in flags:
+        match = RANGE.fullmatch(flag)
+        if match:
+            first, last = (bounded(number) for number in match.groups())
+            span = Span(first, last) if first <= last else span
+    return span
+
+
+def bounded(digits: str) -> int:
+    digits = digits.lstrip("0") or "0"
+    return INT_MAX if len(digits) > 10 else min(int(digits), INT_MAX)
+
+
+def rule_of(header: str) -> Optional[PluralRule]:
+    """Returns the rule of a header, or None if it has none."""
+    _, name, expression = header.partition("plural=")
+    return PluralRule(re.split("[;\n]", expression, maxsplit=1)[0]) if name else None

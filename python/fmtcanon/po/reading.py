@@ -2,214 +2,217 @@
 
 import re
 import struct
+from typing import Dict, Iterator, List, Optional, Tuple
 
-# A token of a .po file. A comment goes to the end of its line.
-TOKEN = re.compile(
-    r"(?P<space>\s+)"
-    r"|(?P<comment>#[^\n]*)"
-    r'|(?P<string>"(?:[^"\\\n]|\\[^\n])*")'
-    r"|(?P<keyword>domain|msgctxt|msgid_plural|msgid|msgstr)\b"
-    r"|(?P<form>\[\s*[0-9]+\s*\])"
-)
-ESCAPE = re.compile(r"\\(?:([0-7]{1,3})|x([0-9A-Fa-f]+)|(.))", re.DOTALL)
-SIMPLE = dict(zip('abfnrtv\\"', '\a\b\f\n\r\t\v\\"'))
-CHARSET = re.compile(rb"charset=([\w.:+-]+)")
+from .charsets import Charset, Unknown, charset_named, checked
+from .tokens import Token, Unreadable, tokens_of, unquoted
+
 MAGIC = {b"\xde\x12\x04\x95": "<", b"\x95\x04\x12\xde": ">"}
-# Stands for a byte, while a text is decoded: these code points are no characters.
-BYTES = 0x10FF00
 # Such a file has strings that depend on the machine, with the number of them here.
 MACHINE_REVISION, MACHINE_STRINGS = 1, 36
-
-
-class Unreadable(Exception):
-    """A catalog can't be read: the line, where it is known, and the reason."""
-
-    def __init__(self, line, reason):
-        super().__init__(reason)
-        self.line = line
+# Flags are separated by commas and white space. A range is one flag.
+FLAG = re.compile(r"range:[\s,]+[^\s,]*|[^\s,]+")
+FORM_DIGITS = 6
 
 
 class Message:
-    """A message with its translations.
+    """A message with its translations, all in UTF-8.
 
     Its line is that of the first msgstr, as msgfmt prints it; in a .mo file it is the message's number.
     """
 
-    def __init__(self, line, flags):
+    def __init__(self, line: int, flags: List[str], has_context: bool = False) -> None:
         self.line = line
+        # In the order of the file: of `c-format` and `no-c-format` the last one counts.
         self.flags = flags
-        self.msgid = ""
-        self.plural = None
-        self.forms = {}
+        self.has_context = has_context
+        self.is_fuzzy = False
+        self.msgid = b""
+        self.plural: Optional[bytes] = None
+        self.forms: Dict[int, bytes] = {}
 
     @property
-    def is_translated(self):
+    def is_header(self) -> bool:
+        return not self.msgid and not self.has_context
+
+    @property
+    def is_translated(self) -> bool:
         return bool(self.forms.get(0))
+
+    @property
+    def is_c_format(self) -> Optional[bool]:
+        """Whether the flags say that it is a C format, or None if they don't."""
+        said = {"c-format": True, "possible-c-format": True, "no-c-format": False, "impossible-c-format": False}
+        return next((said[flag] for flag in reversed(self.flags) if flag in said), None)
 
 
 class Catalog:
-    """The messages of a file, the text of its header, and what it doesn't say."""
+    """The messages of a file, and the text of its header."""
 
-    def __init__(self, messages, has_flags=True, hidden=0):
-        self.messages = [one for one in messages if one.msgid]
-        self.header = next((one.forms.get(0, "") for one in messages if not one.msgid), "")
+    def __init__(self, messages: List[Message], has_flags: bool = True, hidden: int = 0) -> None:
+        self.messages = [one for one in messages if not one.is_header]
+        header = next((one.forms.get(0, b"") for one in messages if one.is_header), b"")
+        self.header = header.decode(errors="replace")
         # Whether it says which messages are C formats.
         self.has_flags = has_flags
         # Messages with a part that depends on the machine, which aren't read.
         self.hidden = hidden
 
 
-def charset_of(data):
-    """The charset that the header names, or UTF-8."""
-    found = CHARSET.search(data)
-    name = found.group(1).decode() if found else "CHARSET"
-    return "utf-8" if name == "CHARSET" else name
-
-
-def text_of(data, charset):
-    try:
-        return data.decode(charset)
-    except UnicodeDecodeError as error:
-        raise Unreadable(data.count(b"\n", 0, error.start) + 1, str(error)) from error
-    except LookupError as error:
-        raise Unreadable(0, str(error)) from error
-
-
-def encoded(letter, charset):
-    return bytes([ord(letter) - BYTES]) if ord(letter) >= BYTES else letter.encode(charset)
-
-
-def unquoted(token, charset, line):
-    """The text that a string stands for. An escape by number is a byte in the charset of the file."""
-
-    def part(match):
-        octal, hexadecimal, simple = match.groups()
-        if simple is None:
-            number = int(octal, 8) if octal else int(hexadecimal, 16)
-            if number > 255:
-                raise Unreadable(line, "an escape by number is no byte")
-            return chr(BYTES + number) if number > 127 else chr(number)
-        if simple not in SIMPLE:
-            raise Unreadable(line, f"the escape \\{simple} isn't known")
-        return SIMPLE[simple]
-
-    text = token[1:-1]
-    if "\\" not in text:
-        return text
-    text = ESCAPE.sub(part, text)
-    if all(ord(letter) < BYTES for letter in text):
-        return text
-    try:
-        return b"".join(encoded(letter, charset) for letter in text).decode(charset)
-    except UnicodeDecodeError as error:
-        raise Unreadable(line, str(error)) from error
-
-
-def po_tokens(text):
-    """Each keyword, form, string and comment with its line."""
-    at, line = 0, 1
-    while at < len(text):
-        match = TOKEN.match(text, at)
-        if match is None:
-            raise Unreadable(line, "it is no keyword, string or comment")
-        token = match.group()
-        if match.lastgroup != "space":
-            yield match.lastgroup, token, line
-        line += token.count("\n")
-        at = match.end()
-
-
 class PoReader:
-    """Puts the tokens of a .po file together to messages."""
+    """Builds messages from the tokens of a .po file."""
 
-    def __init__(self, charset):
+    def __init__(self, charset: Optional[Charset]) -> None:
         self.charset = charset
-        self.messages = []
-        self.flags = set()
-        # The keyword that was last, with its form and the strings after it.
-        self.keyword, self.form, self.strings = None, None, []
-        self.message = None
+        self.messages: List[Message] = []
+        self.flags: List[str] = []
+        self.is_fuzzy = False
+        # The last keyword, with its form and the strings after it.
+        self.keyword: Optional[bytes] = None
+        self.form: Optional[int] = None
+        self.strings: List[bytes] = []
+        self.has_context = False
+        self.message: Optional[Message] = None
         self.line = 0
 
-    def read(self, text):
-        for kind, token, line in po_tokens(text):
-            if kind == "comment":
-                self.comment(token)
-            elif kind == "string":
+    def read(self, text: bytes) -> Iterator[Message]:
+        """Yields each message as soon as the next one begins."""
+        for token in tokens_of(text):
+            if token.kind == "comment":
+                self.comment(token.text)
+            elif token.kind == "string":
                 if self.keyword is None:
-                    raise Unreadable(line, "a string comes after no keyword")
-                self.strings.append(unquoted(token, self.charset, line))
-            elif kind == "form":
-                if self.keyword != "msgstr" or self.form is not None or self.strings:
-                    raise Unreadable(line, "a number in brackets comes after msgstr alone")
-                self.form = int(token[1:-1])
+                    raise Unreadable(token.line, "a string comes after no keyword")
+                self.strings.append(unquoted(token.text, self.charset, token.line))
+            elif token.kind == "form":
+                self.begin_form(token)
             else:
                 self.finish_keyword()
-                self.begin_keyword(token, line)
+                yield from self.begin_keyword(token.text, token.line)
         self.finish_keyword()
-        self.finish_message()
-        return self.messages
+        yield from self.finish_message()
 
-    def comment(self, token):
+    def comment(self, text: bytes) -> None:
         # A message that is commented out takes its flags with it.
-        if token.startswith("#~"):
+        if text.startswith(b"#~"):
             self.finish_keyword()
-            self.flags = set()
-        elif token.startswith(("#,", "#=")):
+            self.flags, self.is_fuzzy = [], False
+        elif text.startswith((b"#,", b"#=", b"#!")):
             self.finish_keyword()
-            self.flags |= {flag.strip() for flag in token[2:].split(",")}
+            found = FLAG.findall(text[2:].decode("latin-1"))
+            # To msgfmt a second comment of flags replaces the first. So a message is fuzzy only by the last one.
+            self.is_fuzzy = "fuzzy" in found
+            self.flags += found
 
-    def begin_keyword(self, keyword, line):
+    def begin_form(self, token: Token) -> None:
+        if self.keyword != b"msgstr" or self.form is not None or self.strings:
+            raise Unreadable(token.line, "a number in brackets may only come after msgstr")
+        digits = token.text[1:-1].strip().lstrip(b"0")
+        if len(digits) > FORM_DIGITS:
+            raise Unreadable(token.line, "the number of a form is too large")
+        self.form = int(digits or b"0")
+
+    def begin_keyword(self, keyword: bytes, line: int) -> Iterator[Message]:
         self.keyword, self.form, self.strings, self.line = keyword, None, [], line
-        if keyword in ("domain", "msgctxt", "msgid"):
-            self.finish_message()
+        if keyword in (b"domain", b"msgctxt", b"msgid"):
+            yield from self.finish_message()
         elif self.message is None:
-            raise Unreadable(line, f"{keyword} comes before msgid")
-        if keyword == "msgid":
-            self.message, self.flags = Message(line, self.flags), set()
+            raise Unreadable(line, f"{keyword.decode()} comes before msgid")
+        if keyword == b"msgid":
+            self.message = Message(line, self.flags, self.has_context)
+            self.message.is_fuzzy = self.is_fuzzy
+            self.flags, self.is_fuzzy = [], False
+        self.has_context = keyword == b"msgctxt"
 
-    def finish_keyword(self):
+    def finish_keyword(self) -> None:
         keyword, self.keyword = self.keyword, None
         if keyword is None:
             return
         if not self.strings:
-            raise Unreadable(self.line, f"{keyword} has no string")
-        text = "".join(self.strings)
-        if keyword == "msgid":
-            self.message.msgid = text
-        elif keyword == "msgid_plural":
-            self.message.plural = text
-        elif keyword == "msgstr":
-            if (self.form is None) != (self.message.plural is None) or (self.form or 0) in self.message.forms:
-                raise Unreadable(self.line, "msgstr has a number exactly where there is a msgid_plural, each another")
-            if not self.message.forms:
-                self.message.line = self.line
-            self.message.forms[self.form or 0] = text
+            raise Unreadable(self.line, f"{keyword.decode()} has no string")
+        text = b"".join(self.strings)
+        self.strings = []
+        if self.charset is not None:
+            try:
+                checked(text)
+            except UnicodeDecodeError as error:
+                raise Unreadable(self.line, str(error)) from error
+        if self.message is not None and keyword not in (b"domain", b"msgctxt"):
+            self.put(self.message, keyword, text)
 
-    def finish_message(self):
+    def put(self, message: Message, keyword: bytes, text: bytes) -> None:
+        if keyword == b"msgid":
+            message.msgid = text
+        elif keyword == b"msgid_plural":
+            message.plural = text
+        else:
+            if (self.form is None) != (message.plural is None) or (self.form or 0) in message.forms:
+                raise Unreadable(self.line, "msgstr has a number exactly if there is a msgid_plural, each another")
+            if not message.forms:
+                message.line = self.line
+            message.forms[self.form or 0] = text
+
+    def finish_message(self) -> Iterator[Message]:
         message, self.message = self.message, None
         if message is not None:
             if not message.forms:
                 raise Unreadable(message.line, "the message has no msgstr")
-            self.messages.append(message)
+            yield message
 
 
-def read_po(data):
-    charset = charset_of(data)
-    text = text_of(data, charset)
-    return Catalog(PoReader(charset).read(text.lstrip("\ufeff")))
+def charset_of(header: bytes) -> Charset:
+    """Returns the charset that a header names, or UTF-8. Raises `Unreadable` if it isn't read."""
+    _, name, rest = header.partition(b"charset=")
+    text = re.split(rb"[ \t\n]", rest, maxsplit=1)[0].decode("latin-1")
+    try:
+        return charset_named("UTF-8" if not name or text == "CHARSET" else text)
+    except Unknown as error:
+        raise Unreadable(0, str(error)) from error
 
 
-def mo_strings(data, order, count, table):
-    """The strings of a table of a .mo file."""
+def header_of(text: bytes) -> bytes:
+    """Returns the text of the header entry, with its bytes as they are, or nothing."""
+    try:
+        for message in PoReader(None).read(text):
+            if message.is_header:
+                return message.forms[0]
+    except (Unreadable, KeyError):
+        # What is wrong is found again, and reported, when the catalog is read in its charset.
+        pass
+    return b""
+
+
+def in_utf_8(data: bytes, charset: Charset) -> bytes:
+    try:
+        return charset.decode(data)
+    except UnicodeDecodeError as error:
+        line = data.count(b"\n", 0, error.start) + 1 if error.object == data else 0
+        raise Unreadable(line, str(error)) from error
+    except UnicodeError as error:
+        raise Unreadable(0, str(error)) from error
+
+
+def read_po(data: bytes) -> Catalog:
+    if data.startswith(b"\xef\xbb\xbf"):
+        data = data[3:]
+    charset = charset_of(header_of(data))
+    return Catalog(list(PoReader(charset).read(in_utf_8(data, charset))))
+
+
+def mo_strings(data: bytes, order: str, count: int, table: int) -> Iterator[bytes]:
+    """Yields the strings of a table of a .mo file. Together they are no longer than the file."""
+    room = len(data)
     for at in range(table, table + 8 * count, 8):
         length, start = struct.unpack_from(order + "II", data, at)
         if start + length > len(data):
-            raise Unreadable(0, "a string lies behind the end")
+            raise Unreadable(0, "a string lies after the end")
+        room -= length
+        if room < 0:
+            raise Unreadable(0, "its strings overlap")
         yield data[start : start + length]
 
 
-def read_mo(data, order):
+def read_mo(data: bytes, order: str) -> Catalog:
     try:
         revision, count, ids, texts = struct.unpack_from(order + "IIII", data, 4)
         hidden = 0
@@ -218,20 +221,21 @@ def read_mo(data, order):
         pairs = list(zip(mo_strings(data, order, count, ids), mo_strings(data, order, count, texts)))
     except struct.error as error:
         raise Unreadable(0, f"it ends too early: {error}") from error
-    charset = charset_of(pairs[0][1] if pairs and not pairs[0][0] else b"")
+    charset = charset_of(next((text for original, text in pairs if not original), b""))
     return Catalog([mo_message(number, pair, charset) for number, pair in enumerate(pairs)], False, hidden)
 
 
-def mo_message(number, pair, charset):
-    original, translation = (text_of(one, charset) for one in pair)
-    message = Message(number, set())
-    message.msgid, *plural = original.partition("\4")[2].split("\0") if "\4" in original else original.split("\0")
+def mo_message(number: int, pair: Tuple[bytes, bytes], charset: Charset) -> Message:
+    original, translation = (in_utf_8(one, charset) for one in pair)
+    context, separator, rest = original.partition(b"\4")
+    message = Message(number, [], bool(separator))
+    message.msgid, *plural = (rest if separator else context).split(b"\0")
     message.plural = plural[0] if plural else None
-    message.forms = dict(enumerate(translation.split("\0")))
+    message.forms = dict(enumerate(translation.split(b"\0")))
     return message
 
 
-def read_catalog(data):
-    """The catalog of a file's bytes, of either form."""
+def read_catalog(data: bytes) -> Catalog:
+    """Returns the catalog of a file's bytes, of either form."""
     order = MAGIC.get(data[:4])
     return read_mo(data, order) if order else read_po(data)

@@ -33,12 +33,13 @@ import os
 import re
 import sys
 import tempfile
+from typing import Dict, List, Optional, Sequence, Set, Union
 
 import fmtcanon
 
 from .parsed import Parsed, Unparsed
 from .pattern import Pattern
-from .places import Reading
+from .places import Place, Reading
 from .tokens import Unclear, decoded, doubt_in
 
 # The place of the format among the arguments of a call, counted from 0.
@@ -48,7 +49,7 @@ FUNCTIONS = {
     b"asprintf": 1, b"vasprintf": 1, b"syslog": 1, b"vsyslog": 1, b"err": 1, b"errx": 1,
     b"snprintf": 2, b"vsnprintf": 2, b"error": 2,
 }
-MODELS = {
+MODELS: Dict[str, List[fmtcanon.Model]] = {
     "lp64": [fmtcanon.Model.LP64],
     "ilp32": [fmtcanon.Model.ILP32],
     "llp64": [fmtcanon.Model.LLP64],
@@ -63,20 +64,20 @@ FLAGS = re.compile(rb"%([-+ #0']*)[0-9.]*[a-zA-Z%]")
 class Options:
     """What the words of the command ask for."""
 
-    def __init__(self):
+    def __init__(self) -> None:
         self.functions = dict(FUNCTIONS)
-        self.chosen = set()
+        self.chosen: Set[bytes] = set()
         self.is_dry = False
         self.is_posix = False
         self.models = MODELS["all"]
-        self.reader = None
-        self.flags = []
+        self.reader: Optional[str] = None
+        self.flags: List[str] = []
 
-    def choose(self, name, index):
+    def choose(self, name: str, index: str) -> None:
         self.functions[name.encode()] = int(index)
         self.chosen.add(name.encode())
 
-    def take(self, option, words):
+    def take(self, option: str, words: List[str]) -> bool:
         """Takes one option with its word, and answers whether it is one."""
         if option == "--dry-run":
             self.is_dry = True
@@ -95,7 +96,7 @@ class Options:
         return True
 
 
-def why_no_format(place, functions):
+def why_no_format(place: Place, functions: Dict[bytes, int]) -> Optional[str]:
     """Why a place is no format of a call of a known function, or None."""
     if place.unclear:
         return place.unclear
@@ -113,7 +114,7 @@ def why_no_format(place, functions):
     return None
 
 
-def difference(old, new, model):
+def difference(old: bytes, new: bytes, model: fmtcanon.Model) -> Optional[str]:
     """In what two formats differ in a data model, or None."""
     found = fmtcanon.compare(old, new, model=model)
     if found.verdict is fmtcanon.Verdict.SAME:
@@ -123,7 +124,7 @@ def difference(old, new, model):
     return f"the two print different bytes for {found.arguments}"
 
 
-def difference_in(old, new, models):
+def difference_in(old: bytes, new: bytes, models: Sequence[fmtcanon.Model]) -> Optional[str]:
     """In what two formats differ in data models, which are named where it isn't so in each; or None."""
     found = [difference(old, new, model) for model in models]
     if len(set(found)) == 1:
@@ -131,11 +132,11 @@ def difference_in(old, new, models):
     return "; ".join(f"in {model.name} {one}" for model, one in zip(models, found) if one)
 
 
-def has_grouping(text):
+def has_grouping(text: bytes) -> bool:
     return any(b"'" in flags for flags in FLAGS.findall(text))
 
 
-def reader_of(file, reading, options):
+def reader_of(file: str, reading: Reading, options: Options) -> Union[Parsed, Pattern]:
     """What finds out whether a place is surely the format of a call."""
     if options.reader != "pattern":
         try:
@@ -149,19 +150,19 @@ def reader_of(file, reading, options):
 class Replacer:
     """Replaces one format by another in one file after another."""
 
-    def __init__(self, old, new, options):
+    def __init__(self, old: bytes, new: bytes, options: Options) -> None:
         self.old, self.new, self.options = old, new, options
         self.left = 0
-        self.known = {}
+        self.known: Dict[bytes, bool] = {}
         self.verdict = difference_in(old, new, options.models)
         if self.verdict is None and not options.is_posix and (has_grouping(old) or has_grouping(new)):
             self.verdict = "the flag ' groups digits, but in the POSIX locale: --posix-locale says that it prints there"
 
-    def leave(self, file, line, why):
+    def leave(self, file: str, line: int, why: str) -> None:
         self.left += 1
         print(f"{file}:{line}: left: {why}")
 
-    def means_the_same(self, text):
+    def means_the_same(self, text: bytes) -> bool:
         """Whether a text means the same as the old format, in the data models that are asked for."""
         if text not in self.known:
             try:
@@ -172,10 +173,12 @@ class Replacer:
                 self.known[text] = False
         return self.known[text]
 
-    def replaced(self, file, source):
+    def replaced(self, file: str, source: bytes) -> bytes:
         """The source with what is to be replaced."""
         reading = Reading(source, self.options.functions)
-        reader, parts, done = None, [], 0
+        reader: Union[Parsed, Pattern, None] = None
+        parts: List[bytes] = []
+        done = 0
         for place in reading.places:
             text = place.text
             if text != self.old:
@@ -194,7 +197,7 @@ class Replacer:
             done = place.end
         return b"".join([*parts, source[done:]])
 
-    def replace_file(self, file):
+    def replace_file(self, file: str) -> None:
         with open(file, "rb") as stream:
             source = stream.read()
         doubt = doubt_in(source)
@@ -210,7 +213,7 @@ class Replacer:
             write_whole(file, text)
 
 
-def write_whole(file, text):
+def write_whole(file: str, text: bytes) -> None:
     """Writes all of a file or nothing, with the rights that it has; not a link to it."""
     file = os.path.realpath(file)
     handle, name = tempfile.mkstemp(dir=os.path.dirname(file))
@@ -224,7 +227,7 @@ def write_whole(file, text):
         raise
 
 
-def format_of(word):
+def format_of(word: str) -> bytes:
     """The format that a word gives."""
     inside = os.fsencode(word)
     if re.search(rb'(?<!\\)(?:\\\\)*"|(?<!\\)(?:\\\\)*\\$', inside):
@@ -232,8 +235,8 @@ def format_of(word):
     return decoded(b'"' + inside + b'"')
 
 
-def main(words=None):
-    words, options = list(sys.argv[1:] if words is None else words), Options()
+def main(arguments: Optional[Sequence[str]] = None) -> int:
+    words, options = list(sys.argv[1:] if arguments is None else arguments), Options()
     if "--help" in words[: words.index("--") if "--" in words else len(words)]:
         print(__doc__, end="")
         return 0

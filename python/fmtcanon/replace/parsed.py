@@ -2,9 +2,12 @@
 
 import ctypes
 import os
+from typing import Any, Dict, List, Optional, Set, Tuple
+
+from .places import Place
 
 try:
-    from clang import cindex
+    from clang import cindex  # type: ignore[import]
 except ImportError:
     cindex = None
 
@@ -13,18 +16,18 @@ class Unparsed(Exception):
     """libclang isn't there, or can't parse the file."""
 
 
-def is_in_system_header(location):
+def is_in_system_header(location: Any) -> bool:
     return bool(cindex.conf.lib.clang_Location_isInSystemHeader(location))
 
 
-def file_and_offset(location):
+def file_and_offset(location: Any) -> Tuple[Optional[str], int]:
     """The file and the byte of a place. Its line and column aren't asked for: these take the length of the line."""
     file, offset = cindex.c_object_p(), ctypes.c_uint()
     cindex.conf.lib.clang_getInstantiationLocation(location, ctypes.byref(file), None, None, ctypes.byref(offset))
     return (cindex.File(file).name if file else None), offset.value
 
 
-def parsed(file, flags):
+def parsed(file: str, flags: List[str]) -> Any:
     """The translation unit of a file that has no error."""
     if cindex is None:
         raise Unparsed("libclang isn't there: the package python3-clang has it")
@@ -42,7 +45,7 @@ def parsed(file, flags):
     return unit
 
 
-def plain_literal(cursor):
+def plain_literal(cursor: Any) -> Any:
     """The string literal that an argument is, or None."""
     while cursor is not None and cursor.kind == cindex.CursorKind.UNEXPOSED_EXPR:
         inside = list(cursor.get_children())
@@ -54,15 +57,15 @@ def plain_literal(cursor):
 class Parsed:
     """The calls that libclang finds in one file, by the place of their format."""
 
-    def __init__(self, file, functions, chosen, flags):
+    def __init__(self, file: str, functions: Dict[bytes, int], chosen: Set[bytes], flags: List[str]) -> None:
         self.functions = functions
         self.chosen = chosen
         self.file = file
-        self.formats = {}
-        self.declared = {}
+        self.formats: Dict[int, bytes] = {}
+        self.declared: Dict[bytes, str] = {}
         self.walk(parsed(file, flags))
 
-    def walk(self, unit):
+    def walk(self, unit: Any) -> None:
         waiting = []
         for cursor in unit.cursor.get_children():
             self.note_declaration(cursor)
@@ -75,12 +78,12 @@ class Parsed:
                 self.note_call(cursor)
             waiting.extend(cursor.get_children())
 
-    def note_declaration(self, cursor):
+    def note_declaration(self, cursor: Any) -> None:
         is_known = cursor.kind == cindex.CursorKind.FUNCTION_DECL and cursor.spelling.encode() in self.functions
         if is_known and not is_in_system_header(cursor.location):
             self.declared.setdefault(cursor.spelling.encode(), f"{cursor.location.file}:{cursor.location.line}")
 
-    def note_call(self, call):
+    def note_call(self, call: Any) -> None:
         function = call.referenced
         if function is None or function.kind != cindex.CursorKind.FUNCTION_DECL:
             return
@@ -95,7 +98,7 @@ class Parsed:
         if file == self.file:
             self.formats[offset] = name
 
-    def why_left(self, place):
+    def why_left(self, place: Place) -> Optional[str]:
         """Why it isn't sure that a place is the format of a call, or None."""
         name = place.call.function
         if name not in self.chosen and name in self.declared:

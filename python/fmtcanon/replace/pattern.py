@@ -4,6 +4,10 @@ It is where the file includes headers of the C library alone and defines no macr
 so no macro takes the call for its argument, and none makes another function of the name.
 """
 
+from typing import List, Optional, Set
+
+from .places import Directive, Named, Place, Reading
+
 RESERVED = {
     b"printf", b"vprintf", b"fprintf", b"vfprintf", b"sprintf", b"vsprintf", b"snprintf", b"vsnprintf"
 }
@@ -28,7 +32,7 @@ HARMLESS = {b"if", b"ifdef", b"ifndef", b"elif", b"else", b"endif", b"line", b"e
 VALUE_OPERATORS = set(b"+-*/%<>!&|^~?:")
 
 
-def is_value(body):
+def is_value(body: List[Named]) -> bool:
     """Whether the body of a macro is a plain value or nothing: literals, operators and whole brackets."""
     depth = 0
     for kind, text in body:
@@ -41,14 +45,14 @@ def is_value(body):
     return depth == 0
 
 
-def included(directive):
+def included(directive: Directive) -> Optional[bytes]:
     """The header of the C library that is included, or None."""
     text = directive.text
     is_known = text[:1] == b"<" and text[-1:] == b">" and text[1:-1] in KNOWN_HEADERS
     return text[1:-1] if is_known else None
 
 
-def why_unsure_of(directive):
+def why_unsure_of(directive: Directive) -> Optional[str]:
     """Why nothing is sure behind a directive, or None."""
     at = f"in line {directive.line}"
     if directive.name == b"include":
@@ -64,15 +68,16 @@ def why_unsure_of(directive):
 class Pattern:
     """What a pattern is sure of in one file."""
 
-    def __init__(self, reading, chosen):
+    def __init__(self, reading: Reading, chosen: Set[bytes]) -> None:
         self.reading = reading
         self.chosen = chosen
         reasons = [reading.unclear, *map(why_unsure_of, reading.directives)]
         self.unclear = next(filter(None, reasons), None)
-        headers = {included(one) for one in reading.directives if one.name == b"include"} & set(HEADERS)
+        found = {included(one) for one in reading.directives if one.name == b"include"}
+        headers = {header for header in HEADERS if header in found}
         self.names = RESERVED.union(*(HEADERS[header] for header in headers))
 
-    def why_left(self, place):
+    def why_left(self, place: Place) -> Optional[str]:
         """Why it isn't sure that a place is the format of a call, or None."""
         if self.unclear:
             return f"without libclang it isn't sure: {self.unclear}"

@@ -1,6 +1,7 @@
 """The tokens of C source, and what string literals mean."""
 
 import re
+from typing import Iterator, Optional, Tuple
 
 import fmtcanon
 
@@ -45,16 +46,16 @@ class Unclear(Exception):
     """What a text means isn't known."""
 
 
-def without_splices(text):
+def without_splices(text: bytes) -> bytes:
     return re.sub(SPLICE, b"", text) if b"\\" in text else text
 
 
-def doubt_in(source):
+def doubt_in(source: bytes) -> Optional[str]:
     """What compilers read in two ways in a source, or None."""
     return next((name for pattern, name in DOUBTS if pattern.search(source)), None)
 
 
-def decoded(literal):
+def decoded(literal: bytes) -> bytes:
     """The bytes that a string literal stands for."""
     try:
         return fmtcanon.decode_literal(literal)
@@ -62,7 +63,7 @@ def decoded(literal):
         raise Unclear(REASONS[fault.kind]) from fault
 
 
-def tokens(source):
+def tokens(source: bytes) -> Iterator[Tuple[str, bytes, int, int]]:
     """Each token with its kind, its place and its line, and spaces and comments. A digraph is given as what it stands for."""
     at = len(BYTE_ORDER_MARK) if source.startswith(BYTE_ORDER_MARK) else 0
     line, before = 1, "space"
@@ -70,7 +71,7 @@ def tokens(source):
         match = TOKEN.match(source, at)
         if match is None or (match.lastgroup == "other" and source[at : at + 2] == b"/*"):
             raise Unclear(f"line {line} can't be read as C")
-        kind, text, end = match.lastgroup, match.group(), match.end()
+        kind, text, end = str(match.lastgroup), match.group(), match.end()
         if kind == "string" and b'R"' in text[: text.index(b'"') + 1]:
             raise Unclear(f"line {line} has a raw string of C++")
         is_prefix = before == "name" and source[end : end + 1] in (b'"', b"'")

@@ -1,0 +1,103 @@
+"""The tokens of a .po file in UTF-8, and the bytes of its strings."""
+
+import re
+from typing import Dict, Iterator, NamedTuple, Optional
+
+from .charsets import Charset
+
+# A comment goes to the end of its line. A string is found by the pattern for its parts.
+TOKEN = re.compile(
+    rb"(?P<space>\s+)"
+    rb"|(?P<comment>#[^\n]*)"
+    rb'|(?P<string>")'
+    rb"|(?P<keyword>domain|msgctxt|msgid_plural|msgid|msgstr)\b"
+    rb"|(?P<form>\[\s*[0-9]+\s*\])"
+)
+# Some parts of a string. With no bound on how many, the pattern would take memory for each.
+PARTS = re.compile(rb'(?:[^"\\\n]+|\\[^\n]){1,1000}')
+ESCAPE = re.compile(rb"\\(?:([0-7]{1,3})|x([0-9A-Fa-f]+)|(.))", re.DOTALL)
+SIMPLE: Dict[bytes, bytes] = {bytes([name]): bytes([value]) for name, value in zip(b'abfnrtv\\"', b'\a\b\f\n\r\t\v\\"')}
+BYTE = [bytes([number]) for number in range(256)]
+
+
+class Unreadable(Exception):
+    """A catalog can't be read: the line if it is known, and the reason."""
+
+    def __init__(self, line: int, reason: str) -> None:
+        super().__init__(reason)
+        self.line = line
+
+
+class Token(NamedTuple):
+    """A keyword, a form, a string without its quotes, or a comment."""
+
+    kind: str
+    text: bytes
+    line: int
+
+
+def tokens_of(text: bytes) -> Iterator[Token]:
+    """Yields the tokens of a file without its white space."""
+    at, line = 0, 1
+    while at < len(text):
+        match = TOKEN.match(text, at)
+        kind = match.lastgroup if match else None
+        if match is None or kind is None:
+            raise Unreadable(line, "it is not a keyword, string or comment")
+        at = match.end()
+        if kind == "string":
+            end = end_of_string(text, at, line)
+            yield Token(kind, text[at:end], line)
+            at = end + 1
+            continue
+        if kind != "space":
+            yield Token(kind, match.group(), line)
+        line += match.group().count(b"\n")
+
+
+def end_of_string(text: bytes, at: int, line: int) -> int:
+    """Returns the offset of the quote that closes a string."""
+    while True:
+        match = PARTS.match(text, at)
+        if match is None:
+            break
+        at = match.end()
+    if text[at : at + 1] != b'"':
+        raise Unreadable(line, "a string is not closed in its line")
+    return at
+
+
+def unquoted(string: bytes, charset: Optional[Charset], line: int) -> bytes:
+    """Returns the bytes that a string stands for, in UTF-8. An escape by number is a byte in the charset of the file."""
+    if b"\\" not in string:
+        return string
+
+    def part(match: "re.Match[bytes]") -> bytes:
+        return value_of(match, line)
+
+    if charset is None or charset.is_utf_8:
+        return ESCAPE.sub(part, string)
+    if not any(value_of(match, line) > b"\x7f" for match in ESCAPE.finditer(string)):
+        return ESCAPE.sub(part, string)
+    mixed, done = bytearray(), 0
+    try:
+        for match in ESCAPE.finditer(string):
+            mixed += charset.encode(string[done : match.start()]) + value_of(match, line)
+            done = match.end()
+        mixed += charset.encode(string[done:])
+        return charset.decode(bytes(mixed))
+    except UnicodeError as error:
+        raise Unreadable(line, str(error)) from error
+
+
+def value_of(match: "re.Match[bytes]", line: int) -> bytes:
+    """Returns the byte of an escape."""
+    octal, hexadecimal, simple = match.groups()
+    if simple is not None:
+        if simple not in SIMPLE:
+            raise Unreadable(line, f"the escape \\{simple.decode('latin-1')} isn't known")
+        return SIMPLE[simple]
+    number = int(octal, 8) if octal else int(hexadecimal[-3:] if not hexadecimal[:-3].strip(b"0") else b"fff", 16)
+    if number > 255:
+        raise Unreadable(line, "an escape by number is not a byte")
+    return BYTE[number]

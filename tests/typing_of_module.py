@@ -1,0 +1,68 @@
+"""Tries the annotations of the Python module: mypy in strict mode over the package, and over a program that uses it.
+
+`tests/more.py` runs it.
+"""
+
+import os
+import subprocess
+import sys
+import tempfile
+from pathlib import Path
+
+from harness import TOP
+
+# A program that uses public names, with the types that mypy must see, and then with a fault.
+PROGRAM = """
+from typing import List, Optional, Tuple, Union
+import fmtcanon
+
+text: str = fmtcanon.canonical("%i")
+data: bytes = fmtcanon.canonical(b"%i", model="ilp32")
+kinds: List[fmtcanon.Type] = fmtcanon.types("%d")
+more: List[fmtcanon.Type] = fmtcanon.arguments("%f", model=fmtcanon.Model.LLP64)
+answer: bool = fmtcanon.same("%d", b"%i") and fmtcanon.fits("%d", "%i") and fmtcanon.is_canonical("%d")
+where: List[fmtcanon.Model] = fmtcanon.same_in("%d", "%i")
+found: fmtcanon.Comparison = fmtcanon.compare("%d", "%u")
+shown: Optional[Tuple[Union[int, bytes], ...]] = found.arguments
+printed: bytes = fmtcanon.format("%d%s", 1, "a")
+pieces = fmtcanon.show("%d")
+offset: Optional[int] = fmtcanon.source_offset('"%d"', 1)
+literal: str = fmtcanon.encode_literal("a")
+inside: bytes = fmtcanon.decode_literal('"a"')
+number: Tuple[int, int, int] = fmtcanon.version()
+with fmtcanon.Session("same", model=fmtcanon.Model.ILP32, literal=True, timeout=1.5) as session:
+    reply: fmtcanon.Reply = session.ask("%d", "%i")
+    status: int = reply.status
+try:
+    fmtcanon.check("%")
+except fmtcanon.Refused as refusal:
+    kind: fmtcanon.Kind = refusal.kind
+"""
+FAULTS = [
+    'fmtcanon.canonical(5)', 'fmtcanon.Session("canon", model=1.5)', 'x: int = fmtcanon.canonical("%d")', 'fmtcanon.format("%f", 1.5)',
+    'y: str = fmtcanon.decode_literal("a")', 'fmtcanon.source_offset("a", "b")',
+]
+
+
+def mypy(python, words, work):
+    environment = {**os.environ, "MYPYPATH": str(TOP / "python"), "MYPY_CACHE_DIR": str(work / "cache")}
+    done = subprocess.run([*python, "--strict", *words], cwd=work, env=environment, check=False, stdout=subprocess.PIPE, stderr=subprocess.STDOUT)
+    return done.returncode, done.stdout.decode()
+
+
+def try_annotations(tools, trials):
+    if not tools.has("mypy", "mypy"):
+        return
+    with tempfile.TemporaryDirectory() as folder:
+        work = Path(folder)
+        status, output = mypy(["mypy"], ["-p", "fmtcanon"], work)
+        trials.expect(f"mypy --strict -p fmtcanon: {output[-300:] if status else ''}", status, 0)
+        for fault in ["", *FAULTS]:
+            (work / "program.py").write_text(PROGRAM + fault + "\n")
+            status, output = mypy(["mypy"], ["program.py"], work)
+            trials.expect(f"mypy of a program with {fault!r}: {output if bool(fault) != bool(status) else ''}", status, 1 if fault else 0)
+    public = subprocess.run(
+        [sys.executable, "-c", "import fmtcanon; print(*(name for name in dir(fmtcanon) if name[0] != '_'))"],
+        env={**os.environ, "PYTHONPATH": str(TOP / "python")}, check=False, stdout=subprocess.PIPE,
+    )
+    trials.expect("the module can be imported", public.returncode, 0)
