@@ -22,7 +22,7 @@ import roots  # noqa: E402
 from library import TIMEOUT, TOP, Trials, compile_with, lines_of, load_module, python_lines, shapes, try_compiler  # noqa: E402
 from literals import try_encoded  # noqa: E402
 from models import try_models  # noqa: E402
-from replacing import try_parsing  # noqa: E402
+from replacing import try_replacing  # noqa: E402
 from translations import try_msgfmt  # noqa: E402
 
 # A Python that Debian makes its modules for.
@@ -118,11 +118,11 @@ def python_with(module):
 
 
 def try_libclang(folder, trials):
-    """fmtcanon-replace, by libclang."""
+    """fmtcanon-replace, with libclang."""
     python = python_with("clang.cindex")
     trials.expect("libclang is there: the package python3-clang has it", python is not None, True)
     if python:
-        try_parsing(folder, python, trials)
+        try_replacing(folder, python, trials)
 
 
 def try_shells(tools, trials):
