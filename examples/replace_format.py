@@ -1,5 +1,5 @@
 #!/usr/bin/env python3
-"""The command fmtcanon-replace, out of the source tree: it wants the module fmtcanon."""
+"""The command fmtcanon-replace, out of the source tree: it needs the module fmtcanon."""
 
 import sys
 

@@ -18,7 +18,7 @@ sys.path.insert(0, str(Path(__file__).resolve().parent))
 
 from catalog_edges import try_edges  # noqa: E402
 from harness import TIMEOUT, TOP, Trials, run  # noqa: E402
-from replacing import try_replacing  # noqa: E402
+from replacing import try_without_libclang  # noqa: E402
 from translations import try_catalogs  # noqa: E402
 
 def help_of(program, words):
@@ -136,7 +136,7 @@ def main():
         sys.exit(__doc__)
     program, folder = os.path.abspath(sys.argv[1]), Path(sys.argv[2]).resolve()
     trials = Trials()
-    try_replacing(folder, trials)
+    try_without_libclang(folder, trials)
     try_catalogs(folder, trials)
     try_edges(folder, trials)
     try_page(program, trials)

@@ -23,7 +23,7 @@ from catalog_edges import try_msgfmt_edges  # noqa: E402
 from library import TIMEOUT, TOP, Trials, compile_with, lines_of, load_module, python_lines, shapes, try_compiler  # noqa: E402
 from literals import try_decoded, try_encoded, try_trigraphs  # noqa: E402
 from models import try_models  # noqa: E402
-from replacing import try_parsing  # noqa: E402
+from replacing import try_replacing  # noqa: E402
 from translations import try_msgfmt  # noqa: E402
 from typing_of_module import try_annotations  # noqa: E402
 
@@ -136,11 +136,11 @@ def python_with(module):
 
 
 def try_libclang(folder, trials):
-    """fmtcanon-replace, by libclang."""
+    """fmtcanon-replace, with libclang."""
     python = python_with("clang.cindex")
     trials.expect("libclang is there: the package python3-clang has it", python is not None, True)
     if python:
-        try_parsing(folder, python, trials)
+        try_replacing(folder, python, trials)
 
 
 def try_shells(tools, trials):

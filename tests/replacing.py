@@ -1,310 +1,367 @@
-"""Tries fmtcanon-replace: rows of sources, and programs that are compiled and run before and after.
+"""Tries fmtcanon-replace: programs that are compiled and run before and after, and files that it must leave.
 
-`tests/examples.py` runs it with the pattern, which wants gcc alone, and `tests/more.py` with libclang.
+It needs libclang, so `tests/more.py` runs it with a Python that has that. `tests/examples.py` tries what the command says
+without it; the parts that need no compiler are in python/tests/test_replace.py.
 """
 
+import json
 import os
 import resource
+import signal
 import subprocess
 import sys
 import tempfile
+import time
 from pathlib import Path
 
-from harness import TIMEOUT, TOP
+from harness import TIMEOUT, TOP, examples
 
-PLACES = TOP / "tests/library/places.c"
-OLD, NEW = "%i items\\n", "%d items\\n"
-REPORTS = {
-    "pattern": """\
-places.c:2: left: a name beside it may be a macro that is part of the string
-places.c:3: left: without libclang it isn't sure: the macro in line 3 may change what a call is
-places.c:10: left: without libclang it isn't sure: the macro in line 3 may change what a call is
-places.c:11: left: a comment or a line break between its literals would be lost
-places.c:13: left: without libclang it isn't sure: the macro in line 3 may change what a call is
-places.c:14: left: it isn't the format of fprintf
-places.c:15: left: it is an argument of puts, which isn't known
-places.c:16: left: it is no argument of a call
-places.c:17: left: it means the same, and is spelled otherwise
-places.c:18: left: it is only a part of the argument
-places.c:19: left: a name beside it may be a macro that is part of the string
-places.c:20: left: it is only a part of the argument
-""",
-    "libclang": """\
-places.c:2: left: a name beside it may be a macro that is part of the string
-places.c:3: left: libclang finds no call of printf of the C library here: it may be a macro's argument, left out by #if, or another function
-places.c:10: replaced
-places.c:11: left: a comment or a line break between its literals would be lost
-places.c:13: replaced
-places.c:14: left: it isn't the format of fprintf
-places.c:15: left: it is an argument of puts, which isn't known
-places.c:16: left: it is no argument of a call
-places.c:17: left: it means the same, and is spelled otherwise
-places.c:18: left: it is only a part of the argument
-places.c:19: left: a name beside it may be a macro that is part of the string
-places.c:20: left: it is only a part of the argument
-""",
-}
-# The lines of places.c that have the new format then.
-CHANGED = {"pattern": [17], "libclang": [10, 13, 17]}
-UNSURE = "a.c:1: left: without libclang it isn't sure: "
-# Words, a source, what is printed, and the source after it where it is another.
-SOURCES = [
-    # The digit after an escape stays a digit.
-    (["\\0010%i", "\\0010%d"], 'printf("\\1" "0%i", n);', "a.c:1: replaced\n", 'printf("\\0010%d", n);'),
-    (["a%i", "a%d"], 'printf("\\x61" "%i", n);', "a.c:1: replaced\n", 'printf("a%d", n);'),
-    (['\\"%i\\\\', '\\"%d\\\\'], 'printf("\\"%i\\\\", n);', "a.c:1: replaced\n", 'printf("\\"%d\\\\", n);'),
-    (["%i??\\?", "%d??\\?"], 'printf("%i?\\??", n);', "a.c:1: replaced\n", 'printf("%d?\\?\\?", n);'),
-    (["\\303\\251%i", "\\303\\251%d"], 'printf("\u00e9%i", n);', "a.c:1: replaced\n", 'printf("\u00e9%d", n);'),
-    (["%5c", "    %c"], 'printf ("%5c", n);', "a.c:1: replaced\n", 'printf ("    %c", n);'),
-    (["--function", "tell:1", "%i", "%d"], 'tell(f(a, b), "%i");', "a.c:1: replaced\n", 'tell(f(a, b), "%d");'),
-    # The two don't mean the same.
-    (["%05d", "%.5d"], 'printf("%05d", n);', "a.c:1: left: the two print different bytes for (-1,)\n", None),
-    (["%d", "%ld"], 'printf("%d", n);', "a.c:1: left: the types differ at argument 0\n", None),
-    # They do in one data model alone.
-    (["%zu", "%lu"], 'printf("%zu", n);', "a.c:1: left: in ILP32 the types differ at argument 0; in LLP64 the types differ at argument 0\n", None),
-    (["--model", "both", "%zd", "%d"], 'printf("%zd", n);', "a.c:1: left: in LP64 the types differ at argument 0\n", None),
-    (["--model", "lp64", "%zu", "%lu"], 'printf("%zu", n);', "a.c:1: replaced\n", 'printf("%lu", n);'),
-    (["--model", "ilp32", "%zd", "%d"], 'printf("%zd", n);', "a.c:1: replaced\n", 'printf("%d", n);'),
-    (["--model", "ilp32", "%zu", "%lu"], 'printf("%zu", n);', "a.c:1: left: the types differ at argument 0\n", None),
-    (["--model", "ilp32", "%zx", "%u"], 'printf("%zx", n);', "a.c:1: left: the two print different bytes for (4294967295,)\n", None),
-    (["%hx", "%zd"], 'printf("%hx", n);', "a.c:1: left: in LP64 the types differ at argument 0; in ILP32 the two print different bytes for (257,); in LLP64 the types differ at argument 0\n", None),
-    (["%jd", "%td"], 'printf("%ld", n);', "", None),
-    (["--model", "lp64", "%jd", "%td"], 'printf("%ld", n);', "a.c:1: left: it means the same, and is spelled otherwise\n", None),
-    # They do in the POSIX locale alone.
-    (["%'i", "%d"], 'printf("%\'i", n);', "a.c:1: left: the flag ' groups digits, but in the POSIX locale: --posix-locale says that it prints there\n", None),
-    (["%i", "%'d"], 'printf("%i", n);', "a.c:1: left: the flag ' groups digits, but in the POSIX locale: --posix-locale says that it prints there\n", None),
-    (["%%'%i", "%%'%d"], 'printf("%%\'%i", n);', "a.c:1: replaced\n", 'printf("%%\'%d", n);'),
-    (["--posix-locale", "%'i", "%d"], 'printf("%\'i", n);', "a.c:1: replaced\n", 'printf("%d", n);'),
-    (["%d", "%i"], 'printf("%\'d", n);', "", None),
-    (["--posix-locale", "%d", "%i"], 'printf("%\'d", n);', "a.c:1: left: it means the same, and is spelled otherwise\n", None),
-    # What isn't the format of a known call.
-    (["%i", "%d"], 'out.printf("%i"); out->printf("%i");', "a.c:1: left: it is no argument of a call\n" * 2, None),
-    (["%i", "%d"], 'out-\\\n>printf("%i");', "a.c:1: left: the file as a whole: line 1 breaks a token in two\n", None),
-    (["%i", "%d"], 'x\\\nprintf("%i");', "a.c:2: left: it is an argument of xprintf, which isn't known\n", None),
-    (["%i", "%d"], '#define A printf("%i"\n"x", n)', "a.c:1: left: it is only a part of the argument\n", None),
-    (["%i", "%d"], 'printf("%i"\n#ifdef A\n"x"\n#endif\n, n);', "a.c:1: left: it is only a part of the argument\n", None),
-    (["%i", "%d"], 'printf(L"%i", n);', "a.c:1: left: it has a prefix\n", None),
-    (["%i", "%d"], 'printf("%i" PRIu64, n);', "a.c:1: left: a name beside it may be a macro that is part of the string\n", None),
-    # A comment between two literals is no part of what is replaced, and a line of its own neither.
-    (["%i%i", "%d%d"], 'printf("%i" /* of */ "%i", n, m);', "a.c:1: left: a comment or a line break between its literals would be lost\n", None),
-    (["%i%i", "%d%d"], 'printf("%i"\n"%i", n, m);', "a.c:1: left: a comment or a line break between its literals would be lost\n", None),
-    (["%i%i", "%d%d"], 'printf(/* of */ "%i" \t "%i" /* two */, n, m);', "a.c:1: replaced\n", 'printf(/* of */ "%d%d" /* two */, n, m);'),
-    # What is no string, or isn't known to be one.
-    (["%i", "%d"], "char c = '\"'; /* printf(\"%i\") */ // printf(\"%i\")\\\nprintf(\"%i\")\n", "", None),
-    (["%i", "%d"], 'printf("\\q%i");', "", None),
-    (["%i", "%d"], 'printf("%i', "a.c:1: left: the file as a whole: line 1 can't be read as C\n", None),
-    (["%i", "%d"], '\n/* printf("%i");', "a.c:1: left: the file as a whole: line 2 can't be read as C\n", None),
-    (["%i", "%d"], 'R"(printf("%i"))"', "a.c:1: left: the file as a whole: line 1 has a raw string of C++\n", None),
-    (["%i", "%d"], 'R\\\n"(printf("%i"))"', "a.c:1: left: the file as a whole: line 1 breaks a token in two\n", None),
-    (["%i", "%d"], 'printf("%i??/" "n");', "a.c:1: left: the file has a trigraph, which compilers read in two ways\n", None),
-    (["%i", "%d"], 'printf("%i");\rputs("")', "a.c:1: left: the file has a carriage return within a line, which compilers read in two ways\n", None),
-    (["%i", "%d"], '/\\\n* printf("%i") *\\\n/', "a.c:1: left: the file as a whole: line 1 breaks a token in two\n", None),
-    (["%i", "%d"], "", "", None),
+FOLDER = TOP / "tests/rewrites"
+OLD, NEW = "%i\\n", "%d\\n"
+# Programs in tests/rewrites/ that print something else if the place is replaced, and what is said of them. A second row of
+# a file has other words.
+LEFT = [
+    ("asm-label.c", [], "left: an asm names printf"),
+    ("chosen-shadow.c", ["--function", "log:0"], "4: left: it is an argument of log, which is no function"),
+    ("comment-end.c", [], "7: left: a macro makes other text of it"),
+    ("comment-even.c", [], "7: left: a macro makes other text of it"),
+    ("escapes-charset.c", ["--flag=-fexec-charset=latin1"], "left: its compile command has -fexec-charset=latin1"),
+    ("escapes-charset.c", ["--flag=-finput-charset=latin1"], "left: its compile command has -finput-charset=latin1"),
+    ("format-parameter.c", [], "5: left: it is an argument of printf, which is no function"),
+    ("gcc-branch.c", [], "6: left: a macro makes other text of it"),
+    ("gcc-label.c", [], "7: left: printf is declared in gcc-label.c, too"),
+    ("gcc-parameter.c", [], "8: left: it is an argument of printf, which is no function"),
+    ("file-asm.c", [], "left: it has an asm at file scope"),
+    ("has-include.c", [], "7: left: a macro makes other text of it"),
+    ("kr-depth.c", [], "12: left: printf is declared in kr-depth.c, and not in the C library's header"),
+    ("line-marker.c", [], "left: line-marker.c has #line or a line marker"),
+    ("redefine-extname.c", [], "left: a pragma names printf"),
+    ("reference.cpp", [], "6: left: it is an argument of printf, which is no function"),
+    ("register-specifier.c", [], "left: it names register_printf_specifier"),
+    ("system-header.c", [], "4: left: warn is declared in system-header.h, and not in the C library's header"),
+    ("twice.c", [], "left: it includes itself"),
+    ("weak.c", [], "left: a pragma names printf"),
+    ("fmt-library.cpp", [], "4: left: sprintf is declared in printf.h, and not in the C library's header"),
+    ("spdlog.cpp", [], "3: left: warn is declared in spdlog.h, and not in the C library's header"),
 ]
-# The same, where libclang would find errors, so that it is the pattern that judges.
-PATTERN_SOURCES = [
-    (["%i", "%d"], ")" * 1000 + 'printf("%i")', UNSURE + "the brackets of line 1 don't match\n", None),
-    (["%i", "%d"], '#define printf log\nprintf("%i");', "a.c:2: left: without libclang it isn't sure: the macro in line 1 may change what a call is\n", None),
-    (["%i", "%d"], '#include <stdio.h>\n#define N 5\nprintf("%i", N);', "a.c:3: replaced\n", '#include <stdio.h>\n#define N 5\nprintf("%d", N);'),
-    (["%i", "%d"], '#undef printf\nprintf("%i", n);', "a.c:2: left: the file declares printf in line 1, or uses the name there for something else\n", None),
-    (["%i", "%d"], 'int (warn(const char *s)); warn("%i");', "a.c:1: left: the file declares warn in line 1, or uses the name there for something else\n", None),
-    (["%i", "%d"], 'warn("%i");', "a.c:1: left: no header that is included declares warn\n", None),
-    (["%i", "%d"], '#include <err.h>\nvoid f(char *s) { warn(s); if (s) warn("%i", 1); }', "a.c:2: replaced\n", '#include <err.h>\nvoid f(char *s) { warn(s); if (s) warn("%d", 1); }'),
-    (["%i", "%d"], 'void f(char *) __attribute__((format(printf, 1, 2))); void g() { printf("%i", 1); }', "a.c:1: replaced\n",
-     'void f(char *) __attribute__((format(printf, 1, 2))); void g() { printf("%d", 1); }'),
-    (["%i", "%d"], 'f(printf("%i", 1));', "a.c:1: left: the call is within the brackets of a name, which may be a macro\n", None),
-    (["%i", "%d"], '#include "a.h"\nprintf("%i", 1);', 'a.c:2: left: without libclang it isn\'t sure: "a.h" in line 1 may define macros\n', None),
-    (["%i", "%d"], 'int n = 4 //* 2\n; printf("%i", n);', UNSURE[:4] + "2: left: without libclang it isn't sure: in line 1 the first standard of C has a division and a comment\n", None),
-    (["%i", "%d"], 'f(\n#if A\n)\n#endif\nprintf("%i", 1);', "a.c:5: left: without libclang it isn't sure: line 2 is a directive within brackets\n", None),
-]
-# Programs that print something else where the call in them is taken for one of the C library.
-PROGRAMS = {
-    "a function that the file defines": 'static void warn(const char *s) { puts(s); }\nint main(void) { warn("%i"); return 0; }',
-    "one in the old form": 'int warn(s) char *s; { return puts(s); }\nint main(void) { return warn("%i") < 0; }',
-    "one without a type": 'warn(s) char *s; { return puts(s); }\nint main(void) { return warn("%i") < 0; }',
-    "one that it only declares": 'void warnx(const char *);\nint main(void) { warnx("%i"); return 0; }\nvoid warnx(const char *s) { puts(s); }',
-    "one that it declares in a list": 'int main(void) { int n = 0, warnx(const char *); warnx("%i"); return n; }\nint warnx(const char *s) { return puts(s); }',
-    "one with brackets round it": 'int (warn(const char *s)) { return puts(s); }\nint main(void) { return warn("%i") < 0; }',
-    "one by a pointer": 'static int *warn(const char *s) { puts(s); return 0; }\nint main(void) { return warn("%i") != 0; }',
-    "one that is defined by typeof": 'typeof(int) warn(const char *s) { return puts(s); }\nint main(void) { return warn("%i") < 0; }',
-    "a parameter": 'static void tell(int (*printf)(const char *)) { printf("%i"); }\nint main(void) { tell(puts); return 0; }',
-    "a parameter of the type of a function": 'static void tell(int printf(const char *)) { printf("%i"); }\nint main(void) { tell(puts); return 0; }',
-    "a variable": 'int main(void) { int (*warn)(const char *) = puts; warn("%i"); return 0; }',
-    "an argument of a macro": '#define TELL(call) puts(#call)\nint main(void) { TELL(printf("%i", 1)); return 0; }',
-    "an argument of assert": '#include <assert.h>\nint main(void) { assert(printf("%i", 1) < 0); return 0; }',
-    "an argument in braces": '#define TELL(...) puts(#__VA_ARGS__)\nint main(void) { TELL({ if (1) { printf("%i", 1); } }); return 0; }',
-    "the macro by another name": '#define TELL(call) puts(#call)\n#define SAY TELL\nint main(void) { SAY (printf("%i", 1)); return 0; }',
-    "a macro that is left open": '#define TELL(call) puts(#call)\n#define BEGIN TELL(\nint main(void) { BEGIN printf("%i", 1)); return 0; }',
-    "a macro by define": '#define printf(f, n) puts(f)\nint main(void) { printf("%i", 1); return 0; }',
-    "a macro by a digraph": '%:define printf(f, n) puts(f)\nint main(void) { printf("%i", 1); return 0; }',
-    "a macro by a trigraph": '??=define printf(f, n) puts(f)\nint main(void) { printf("%i", 1); return 0; }',
-    "a macro by a define in two lines": '#def\\\nine printf(f, n) puts(f)\nint main(void) { printf("%i", 1); return 0; }',
-    "a macro by a define after a comment": '/* \n */ # /* */ define printf(f, n) puts(f)\nint main(void) { printf("%i", 1); return 0; }',
-    "a macro of a header": '#include "tell.h"\nint main(void) { printf("%i", 1); return 0; }',
-    "a function of a header": '#include "tell.h"\nint main(void) { warn("%i"); return 0; }',
-    "a macro after a byte order mark": '\ufeff#define printf(f, n) puts(f)\nint main(void) { printf("%i", 1); return 0; }',
-    "a macro that a comment seems to hide": '// \\ \n /*\n#define printf(f, n) puts(f)\n// */\nint main(void) { printf("%i", 1); return 0; }',
-    "a file that is read twice": '#ifndef AGAIN\n#define AGAIN\n#define NAME first\n#include "a.c"\n#undef NAME\n#define NAME second\n#define printf(f, n) puts(f)\n'
-    '#include "a.c"\nint main(void) { first(); second(); return 0; }\n#else\nvoid NAME(void) { printf("%i", 1); }\n#endif',
-    "a member by a broken arrow": 'struct out { int (*printf)(const char *); };\nint main(void) { struct out one = {puts}, *all = &one; return all-\\\n>printf("%i") < 0; }',
-    "a line that is counted": 'int main(void) { printf("%i"\n"", 1); printf("%d\\n", __LINE__); return 0; }',
-    "a file of macros of its own": '#define CALL(f) f\n#ifndef AGAIN\n#define AGAIN\n#define printf(f, n) puts(f)\n#include "a.c"\n#else\nint main(void) { printf("%i", 1); return 0; }\n#endif',
-}
-TELL_H = "#define printf(f, n) puts(f)\nstatic inline void warn(const char *s) { puts(s); }\n"
-# It is a call of the C library in these.
+# Programs in which the place is replaced although another text is printed then: nothing in the file shows it.
+NOT_SEEN = [("function-key.c", ["--function", "once:0"]), ("other-file.c", []), ("wrap.c", [])]
+# What a compiler needs to build a program.
+LINKED = {"fmt-library.cpp": ["-lfmt"], "spdlog.cpp": ["-DSPDLOG_COMPILED_LIB", "-DSPDLOG_FMT_EXTERNAL", "-lspdlog", "-lfmt"]}
+# Bodies of main, or whole programs, in which the place is the format of a call of the C library; each with flags of the
+# compiler and what is said, where that isn't that one place is replaced.
 CALLS = {
-    "plain": 'int main(void) { printf("%i\\n", 5); return 0; }',
-    "in a condition": 'int main(void) { if (printf("%i\\n", 5) < 0) return 1; else printf("%i\\n", 6); return 0; }',
-    "by its value": 'int main(void) { int n = printf("%i\\n", 5); (void)printf("%i\\n", n); return n ? printf("%i\\n", 1) - 2 : 1; }',
-    "with values for macros": '#define N 5\n#define M (3 + 4)\n#define GUARD\nint main(void) { printf("%i\\n", N * M); return 0; }',
-    "to a string": 'int main(void) { char out[9]; snprintf(out, sizeof out, "%i\\n", 5); return fputs(out, stdout) < 0; }',
+    "plain": ('printf("%i\\n", 5);', [], None),
+    "in a condition": ('if (printf("%i\\n", 5) < 0) return 1;', [], None),
+    "of a fortified header": ('char out[9]; snprintf(out, sizeof out, "%i\\n", 5); fputs(out, stdout); printf("%i\\n", 6);', ["-O2", "-D_FORTIFY_SOURCE=2"], None),
+    "of fprintf": ('fprintf(stdout, ("%i\\n"), 5);', [], None),
+    "as an argument of a macro": ("#define TWICE(x) x; x\n", 'TWICE(printf("%i\\n", 5));', [], None),
 }
-WRONG = [
-    ([], "Usage"),
-    (["%i", "%d"], "Usage"),
-    (["--what", "%i", "%d", "a.c"], "Usage"),
-    (["--model", "LP64", "%i", "%d", "a.c"], "Usage"),
-    (["--model", "both", "%i", "%d"], "Usage"),
-    (["--by", "ear", "%i", "%d", "a.c"], "Usage"),
-    (["%y", "%d", "a.c"], "OLD is refused 3 Unexpected at byte 1"),
-    (["%d", "%f", "a.c"], "NEW is refused 9 Float at byte 1"),
+SHOW = "#define SHOW(...) printf(__VA_ARGS__)\n"
+# Sources of functions: what stands before the function, its body, the flags of the command, and the report of line 3.
+SOURCES = [
+    ("", 'printf("%i\\n", 1);', [], "replaced"),
+    ("", 'printf("%i" "\\n", 1);', [], "replaced"),
+    ("", 'printf("\\x25i\\12", 1);', [], "replaced"),
+    ("", 'puts("%i\\n");', [], "left: it is an argument of puts, which isn't known"),
+    ("", 'fprintf(stderr, "%s", "%i\\n");', [], "left: it isn't the format of fprintf"),
+    ("", 'const char *p = "%i\\n"; (void)p;', [], "left: it isn't the whole argument of a call"),
+    ("", 'printf(stdout ? "%i\\n" : "", 1);', [], "left: it isn't the whole argument of a call"),
+    ("", 'printf("%i\\n" + 0, 1);', [], "left: it isn't the whole argument of a call"),
+    ("", '/* printf("%i\\n", 1); */', [], ""),
+    ("#define X \"x\"", 'printf(X "%i\\n", 1);', [], "left: it isn't the whole argument of a call"),
+    ("#define STR(x) #x", 'puts(STR("%i\\n"));', [], "left: a macro makes other text of it"),
+    ("#define TWO(f) printf(f, 1); puts(f)", 'TWO("%i\\n");', [], "left: it is an argument of puts, which isn't known"),
+    ("#define TWO(f) printf(f, 1); printf(f, 2)", 'TWO("%i\\n");', [], "replaced"),
+    ("#define TWO(f) printf(f, 1); (void)f[0]", 'TWO("%i\\n");', [], "left: a macro uses it for something else, too"),
+    ("#define CHECK(f) _Static_assert(sizeof f > 1, f); printf(f, 1)", 'CHECK("%i\\n");', [], "replaced"),
+    ("char *gettext(const char *); ", 'printf(gettext("%i\\n"), 1);', [], "left: it is a key for translators, an argument of gettext"),
+    ("char *gettext(const char *);\n#define _(x) gettext(x)", 'printf(_("%i\\n"), 1);', [], "left: it is a key for translators, an argument of gettext"),
+    ("void say(const char *, ...) __attribute__((format(printf, 1, 2)));", 'say("%i\\n", 1);', [], "left: it is an argument of say, which isn't known"),
+    ("void say(const char *, ...) __attribute__((format(printf, 1, 2)));", 'say("%i\\n", 1);', ["--attribute"], "replaced"),
+    ("void say(int, const char *, ...) __attribute__((__format__(__printf__, 2, 3)));", 'say(1, "%i\\n", 1);', ["--attribute"], "replaced"),
+    ("void say(const char *, ...) __attribute__((format(scanf, 1, 2)));", 'say("%i\\n", 1);', ["--attribute"], "left: it is an argument of say, which isn't known"),
+    ("void say(int, const char *, ...);", 'say(1, "%i\\n", 1);', ["--function", "say:1"], "replaced"),
+    ("", 'say("%i\\n", 1);', [], "left: it is an argument of say, which isn't known"),
+    ("int printf(const char *, ...);", 'printf("%i\\n", 1);', [], "left: printf is declared in a.c, too"),
+    ("static int f(void) { extern int printf(const char *, ...); return printf != 0; }", 'printf("%i\\n", 1);', [], "left: printf is declared in a.c, too"),
+    ("#ifdef ON", 'printf("%i\\n", 1);\n}\nvoid h(void) {\n#endif', [], None),
+    ("#ifdef ON", 'printf("%i\\n", 1);\n}\nvoid h(void) {\n#endif', ["--flag=-DON"], "replaced"),
+    ("#line 7", 'printf("%i\\n", 1);', [], None),
+    ("", 'printf("%d\\n", 1);', [], ""),
+    ("", 'printf("%-i\\n", 1);', [], "left: it means the same, and is spelled otherwise"),
+]
+# Options with the formats, and what is said of a place that is OLD.
+DIFFERENCES = [
+    (["%05d", "%.5d"], "left: the two print different bytes for (-1,)"),
+    (["%d", "%ld"], "left: the types differ at argument 0"),
+    (["%zu", "%lu"], "left: in ILP32 the types differ at argument 0; in LLP64 the types differ at argument 0"),
+    (["--model", "both", "%zd", "%d"], "left: in LP64 the types differ at argument 0"),
+    (["--model", "ilp32", "%zx", "%u"], "left: the two print different bytes for (4294967295,)"),
+    (["--model", "lp64", "%zu", "%lu"], "replaced"),
+    (["--model", "ilp32", "%zd", "%d"], "replaced"),
+    (["%'i", "%d"], "left: the flag ' groups digits, except in the POSIX locale: --posix-locale says that it prints there"),
+    (["%i", "%'d"], "left: the flag ' groups digits, except in the POSIX locale: --posix-locale says that it prints there"),
+    (["%%'%i", "%%'%d"], "replaced"),
+    (["--posix-locale", "%'i", "%d"], "replaced"),
+]
+USAGE = [
+    ([], "usage: fmtcanon-replace"),
+    (["%i"], "the following arguments are required"),
+    (["--what", "%i", "%d", "a.c"], "unrecognized arguments"),
+    (["--model", "LP64", "%i", "%d", "a.c"], "invalid choice"),
+    (["--by", "pattern", "%i", "%d", "a.c"], "unrecognized arguments"),
+    (["--function", "tell", "%i", "%d", "a.c"], "isn't NAME:INDEX"),
     (['%d"', "%d", "a.c"], "between the quotes"),
     (["%d\\", "%d", "a.c"], "between the quotes"),
-    (["%d", "%d", "nothing.c"], "No such file"),
+    (["%d\\q", "%d", "a.c"], "between the quotes"),
 ]
-# A line of so many bytes, and the seconds of the processor that it may take: the time is linear, and a square took 8.8 seconds.
-LONG_LINE, SECONDS = 400_000, 6
+WRONG = [
+    (["%y", "%d", "a.c"], "OLD is refused 3 Unexpected at byte 1"),
+    (["%d", "%f", "a.c"], "NEW is refused 9 Float at byte 1"),
+    (["%i", "%d"], "give the files, or the folder of a compile_commands.json"),
+    (["-p", "nowhere", "%i", "%d"], "nowhere"),
+]
+# The seconds of the processor that a line of 400,000 bytes may take, and one literal of ten million.
+LONG_LINE, SECONDS = 400_000, 20
+WITHOUT_LIBCLANG = "fmtcanon-replace: libclang is missing: the package python3-clang has it\n"
 
 
 class Tool:
-    """The command, over one reader of calls, in a folder."""
+    """The command in a folder."""
 
-    def __init__(self, folder, work, reader, python=sys.executable):
+    def __init__(self, folder, work, python=sys.executable, modules=""):
         self.work = Path(work)
-        self.reader = reader
-        self.words = [python, TOP / "examples/replace_format.py", "--by", reader]
+        self.words = [python, TOP / "examples/replace_format.py"]
+        paths = os.pathsep.join([*([modules] if modules else []), str(TOP / "python")])
         self.environment = {
-            **os.environ, "FMTCANON_LIBRARY": str(folder / "libfmtcanon.so.0"), "PYTHONPATH": str(TOP / "python"),
+            **os.environ, "FMTCANON_LIBRARY": str(folder / "libfmtcanon.so.0"), "PYTHONPATH": paths,
             "PYTHONDONTWRITEBYTECODE": "1", "LC_ALL": "C.UTF-8",
         }
 
     def run(self, words):
-        done = subprocess.run(
-            [*self.words, *words], cwd=self.work, env=self.environment, timeout=TIMEOUT, check=False,
-            stdout=subprocess.PIPE, stderr=subprocess.PIPE,
-        )
-        return done.returncode, done.stdout.decode(), done.stderr.decode()
+        done = subprocess.run([*self.words, *words], cwd=self.work, env=self.environment, timeout=10 * TIMEOUT, check=False, capture_output=True)
+        return done.returncode, done.stdout.decode(errors="surrogateescape"), done.stderr.decode(errors="surrogateescape")
 
-    def printed(self, source):
-        """What a program of this source prints, and its status."""
-        (self.work / "a.c").write_text(source, encoding="utf-8")
-        words = ["gcc", "-std=gnu99", "-trigraphs", "-w", "-o", "a", "a.c"]
-        built = subprocess.run(words, cwd=self.work, check=False, timeout=TIMEOUT, stderr=subprocess.PIPE)
+    def put(self, name, text):
+        """Writes a file, and returns its path."""
+        file = self.work / name
+        file.parent.mkdir(parents=True, exist_ok=True)
+        file.write_bytes(text.encode() if isinstance(text, str) else text)
+        return file
+
+    def printed(self, name, words=()):
+        """Returns what a program prints, and its status."""
+        compiler = "g++" if name.endswith(".cpp") else "gcc"
+        built = subprocess.run([compiler, "-w", "-o", "program", name, *words], cwd=self.work, check=False, timeout=TIMEOUT, capture_output=True)
         if built.returncode:
             return "not compiled", built.stderr.decode()
-        done = subprocess.run(["./a"], cwd=self.work, check=False, timeout=TIMEOUT, stdout=subprocess.PIPE, stderr=subprocess.PIPE)
+        done = subprocess.run(["./program"], cwd=self.work, check=False, timeout=TIMEOUT, capture_output=True)
         return done.returncode, done.stdout, done.stderr
 
 
-def try_places(tool, trials):
-    file, source = tool.work / "places.c", PLACES.read_bytes()
-    file.write_bytes(source)
-    trials.expect("replace --dry-run", tool.run(["--dry-run", OLD, NEW, "places.c"]), (1, REPORTS[tool.reader], ""))
-    trials.expect("a dry run changes nothing", file.read_bytes() == source, True)
-    trials.expect("replace", tool.run([OLD, NEW, "places.c"]), (1, REPORTS[tool.reader], ""))
-    lines = file.read_text().splitlines()
-    changed = [number for number, line in enumerate(lines, 1) if "%d items\\n" in line]
-    trials.expect("lines with the new format", changed, CHANGED[tool.reader])
-    words = ["gcc", "-std=c99", "-w", "-fsyntax-only", "places.c"]
-    trials.expect("the source still compiles", subprocess.run(words, cwd=tool.work, check=False).returncode, 0)
+def try_left(tool, trials):
+    """Each program prints the same before and after, since the place is left."""
+    for file in FOLDER.iterdir():
+        tool.put(file.name, file.read_bytes())
+    for name, words, said in LEFT:
+        before = tool.printed(name, LINKED.get(name, []))
+        trials.expect(f"{name} is compiled", before[0] != "not compiled" or before, True)
+        old, new = [f"\\303\\251{it}" if name.startswith("escapes") else it for it in (OLD, NEW)]
+        wanted = f"{name}:{said}\n" if said[0].isdigit() else f"{name}: {said}\n"
+        found = tool.run([*words, old, new, name])
+        trials.expect(f"{name} {words}", (found[0], found[1].replace(f"{tool.work}/", ""), found[2]), (1, wanted, ""))
+        trials.expect(f"{name} stays", (tool.work / name).read_bytes(), (FOLDER / name).read_bytes())
+        trials.expect(f"{name}: what it prints", tool.printed(name, LINKED.get(name, [])), before)
+    for name, words in NOT_SEEN:
+        status, report, fault = tool.run(["--dry-run", *words, OLD, NEW, name])
+        trials.expect(f"{name} isn't seen", ("replaced" in report, fault), (True, ""))
+    tool.put("part.inc", 'printf("%i\\n", 1);\n')
+    found = tool.run([OLD, NEW, "part.inc", "fragment.c"])
+    trials.expect("a part of a file", found, (1, "part.inc: left: a header, or a part of a file, isn't compiled by itself\n", ""))
 
 
-def try_sources(tool, rows, trials):
-    file = tool.work / "a.c"
-    for words, source, report, wanted in rows:
-        file.write_text(source, encoding="utf-8")
-        status = 1 if "left" in report else 0
-        trials.expect(f"replace {words} in {source[:60]!r}", tool.run([*words, "a.c"]), (status, report, ""))
-        trials.expect(f"the source after {words}", file.read_bytes().decode(), source if wanted is None else wanted)
+def try_calls(tool, trials):
+    """Each program prints the same before and after, though its places are replaced."""
+    rows = {name: (row if len(row) == 4 else ("", *row)) for name, row in CALLS.items()}
+    for name, (front, body, flags, _) in rows.items():
+        source = f"#include <stdio.h>\n{front}int main(void) {{ {body} return 0; }}\n"
+        for compiler in ["gcc", "clang"]:
+            tool.put("a.c", source)
+            before = tool.printed("a.c", flags)
+            database = [{"directory": str(tool.work), "file": "a.c", "arguments": [compiler, *flags, "-c", "a.c", "-o", "a.o"]}]
+            tool.put("compile_commands.json", json.dumps(database))
+            found = tool.run(["-p", ".", OLD, NEW, "a.c"])
+            trials.expect(f"a call {name}, {compiler}", found, (0, "".join(f"a.c:{2 + front.count(chr(10))}: replaced\n" for _ in range(body.count("%i"))), ""))
+            trials.expect(f"a call {name}: the source", (tool.work / "a.c").read_text(), source.replace("%i", "%d"))
+            trials.expect(f"a call {name}: what it prints", tool.printed("a.c", flags), before)
+    (tool.work / "compile_commands.json").unlink()
 
 
-def try_programs(tool, trials):
-    """A program prints the same before and after; where the call isn't the C library's, it is left as it is."""
-    (tool.work / "tell.h").write_text(TELL_H, encoding="utf-8")
-    for name, source in PROGRAMS.items():
-        # The mark has to be first.
-        source = f"{source}\n" if source.startswith("\ufeff") else f"#include <stdio.h>\n{source}\n"
-        before = tool.printed(source)
-        trials.expect(f"{name}: it compiles", before[0] != "not compiled", True)
-        status, report, fault = tool.run(["%i", "%d", "a.c"])
-        trials.expect(f"{name}: {report}", (status, "left: " in report, "replaced" in report, fault), (1, True, False, ""))
-        trials.expect(f"{name}: what it prints", tool.printed((tool.work / "a.c").read_text(encoding="utf-8")), before)
-    for name, source in CALLS.items():
-        source = f"#include <stdio.h>\n{source}\n"
-        before = tool.printed(source)
-        status, report, fault = tool.run(["%i\\n", "%d\\n", "a.c"])
-        trials.expect(f"a call {name}", (status, set(report.split(" ")[1:]) & {"left:"}, fault), (0, set(), ""))
-        after = (tool.work / "a.c").read_text(encoding="utf-8")
-        trials.expect(f"a call {name}: the source", after, source.replace("%i", "%d"))
-        trials.expect(f"a call {name}: what it prints", tool.printed(after), before)
+def try_sources(tool, trials):
+    """What is said of one place, by what is around it; and a second run says nothing of what was replaced."""
+    for front, body, words, said in SOURCES:
+        lines = f"#include <stdio.h>\n{front}\nvoid g(void) {{ {body} }}\n"
+        if "#ifdef" in front:
+            lines = f"#include <stdio.h>\nvoid g(void) {{\n{front}\n{body}\n}}\n"
+        tool.put("a.c", lines)
+        status, report, fault = tool.run([*words, OLD, NEW, "a.c"])
+        after = (tool.work / "a.c").read_text()
+        if said == "replaced":
+            trials.expect(f"{body} {words}", (status, set(report.split(" ", 1)[1:]), fault), (0, {"replaced\n"}, ""))
+            trials.expect(f"{body}: the source", after != lines, True)
+            trials.expect(f"{body}: a second run", tool.run([*words, OLD, NEW, "a.c"]), (0, "", ""))
+            continue
+        trials.expect(f"{body}: the source", after, lines)
+        trials.expect(f"{body} {words}", (status, fault), (0 if said == "" else 1, ""))
+        trials.expect(f"{body} {words}: {report}", said is None and "left: " in report or said == "" == report or bool(said) and report.endswith(f" {said}\n"), True)
 
 
-def try_words(tool, trials):
-    file = tool.work / "a.c"
-    for words, line in WRONG:
+def try_differences(tool, trials):
+    for words, said in DIFFERENCES:
+        source = '#include <stdio.h>\nvoid g(void) { printf("' + words[-2] + '", 1); }\n'
+        tool.put("a.c", source)
+        trials.expect(f"replace {words}", tool.run([*words, "a.c"]), (0 if said == "replaced" else 1, f"a.c:2: {said}\n", ""))
+
+
+def try_commands(tool, trials):
+    """Compile commands: relative names, several for one file, none, what is written, and a file that is given by a link."""
+    tool.put("src/inc/x.h", "#include <stdio.h>\n")
+    tool.put("src/a.c", '#include "x.h"\n#ifdef A\nvoid f(void) { printf("%i\\n", 1); }\n#else\n#define printf(...) puts(#__VA_ARGS__)\nvoid f(void) { printf("%i\\n", 1); }\n#endif\n')
+    tool.put("src/b.c", '#include "x.h"\n#ifdef A\n#undef A\n#define A(x) x\n#else\n#define A(x) puts(#x)\n#endif\nvoid f(void) { A(printf("%i\\n", 1)); }\n')
+    tool.put("src/none.c", 'int x = 1; // printf("%i\\n", 1);\nvoid f(void) { printf("%i\\n", 1); }\n')
+    commands = []
+    for name in ["a.c", "b.c"]:
+        for flags in [["-DA"], []]:
+            commands.append({"directory": str(tool.work / "src"), "file": name, "arguments": ["ccache", "cc", *flags, "-Iinc", "-MD", "-MF", "x.d", "-save-temps", "-c", "-o", "x.o", name]})
+    tool.put("compile_commands.json", json.dumps(commands))
+    report = "src/a.c:3: replaced\nsrc/a.c:6: left: a macro makes other text of it\nsrc/b.c:8: left: a macro makes other text of it\nsrc/none.c: left: compile_commands.json has no command for it\n"
+    trials.expect("several commands", tool.run(["-p", ".", OLD, NEW, "src/a.c", "src/b.c", "src/none.c"]), (1, report, ""))
+    trials.expect("nothing else is written", sorted(os.listdir(tool.work / "src")), ["a.c", "b.c", "inc", "none.c"])
+    status, report, fault = tool.run(["-p", ".", OLD, NEW])
+    trials.expect("all files of the database", (status, report.replace(f"{tool.work}/", ""), fault), (1, "src/a.c:6: left: a macro makes other text of it\nsrc/b.c:8: left: a macro makes other text of it\n", ""))
+    tool.put("compile_commands.json", json.dumps([{**commands[0], "arguments": ["cc", "-Wl,--wrap=printf", "-c", "a.c"]}]))
+    tool.put("src/a.c", '#include <stdio.h>\nvoid f(void) { printf("%i\\n", 1); }\n')
+    trials.expect("a command that wraps", tool.run(["-p", ".", OLD, NEW, "src/a.c"]), (1, "src/a.c: left: its compile command has -Wl,--wrap=printf\n", ""))
+    (tool.work / "compile_commands.json").unlink()
+
+
+PLAIN = '#include <stdio.h>\nint main(void) { return printf("%i\\n", 1) < 0; }\n'
+
+
+def try_files(tool, trials):
+    """Rights, links, names, and errors after which the command goes on."""
+    file = tool.put("plain.c", PLAIN)
+    (tool.work / "link.c").symlink_to("plain.c")
+    trials.expect("a link", tool.run([OLD, NEW, "link.c"]), (0, "link.c:2: replaced\n", ""))
+    trials.expect("what it links to", ('"%d' in file.read_text(), (tool.work / "link.c").is_symlink()), (True, True))
+    os.link(tool.put("hard.c", PLAIN), tool.work / "other.c")
+    trials.expect("a hard link", tool.run([OLD, NEW, "hard.c"]), (1, "hard.c: left: it has hard links, which would be torn apart\n", ""))
+    tool.put("locked.c", PLAIN).chmod(0o444)
+    trials.expect("a file that is read-only", tool.run([OLD, NEW, "locked.c"]), (1, "locked.c: left: it is read-only\n", ""))
+    tool.put("mode.c", PLAIN).chmod(0o640)
+    os.chown(tool.work / "mode.c", os.getuid(), os.getgid())
+    trials.expect("rights", (tool.run([OLD, NEW, "mode.c"])[0], (tool.work / "mode.c").stat().st_mode & 0o7777), (0, 0o640))
+    tool.put("again.c", PLAIN)
+    found = tool.run([OLD, NEW, "nothing.c", "again.c"])
+    trials.expect("after an error", found, (2, "again.c:2: replaced\n", "nothing.c: No such file or directory\n"))
+    name = b"caf\xe9.c"
+    with open(os.path.join(os.fsencode(tool.work), name), "w", encoding="ascii") as stream:
+        stream.write(PLAIN)
+    found = tool.run([OLD, NEW, os.fsdecode(name)])
+    trials.expect("a name that isn't UTF-8", found, (0, os.fsdecode(name) + ":2: replaced\n", ""))
+    tool.put("wrong.c", f"{PLAIN}int x = ;\n")
+    status, report, _ = tool.run([OLD, NEW, "wrong.c"])
+    trials.expect("a file with an error", (status, report.startswith("wrong.c: left: libclang can't parse it: wrong.c:3: ")), (1, True))
+    tool.put("lost.c", f'#include "nowhere.h"\n{PLAIN}')
+    status, report, _ = tool.run([OLD, NEW, "lost.c"])
+    trials.expect("a header that isn't there", (status, "left: its compiler can't preprocess it: " in report), (1, True))
+    tool.put("time.c", f"{PLAIN}const char *t = __TIMESTAMP__;\n")
+    status, report, _ = tool.run([OLD, NEW, "time.c"])
+    trials.expect("a file that has its own time", (status, report), (1, "time.c: left: its compiler reads it otherwise once literals are replaced\n"))
+    for source in ["const char *t = __DATE__ __TIME__, *f = __FILE__; int n = __LINE__ + __COUNTER__;\n", "#include <assert.h>\nvoid a(int x) { assert(x); }\n"]:
+        tool.put("line.c", source + PLAIN)
+        trials.expect(f"a file with {source[:30]}", tool.run([OLD, NEW, "line.c"])[0], 0)
+
+
+# A compiler that tells when it runs and then takes long.
+SLOW = """#!/bin/sh
+case "$*" in *.fmtcanon-*) touch "{work}/running"; sleep 20;; esac
+exec cc "$@"
+"""
+
+
+def try_signals(tool, trials):
+    """No stand-in is left when the command is ended, and no file is changed."""
+    tool.put("slow", SLOW.format(work=tool.work)).chmod(0o755)
+    for number in [signal.SIGINT, signal.SIGTERM, signal.SIGHUP]:
+        file = tool.put("slow.c", PLAIN)
+        tool.put("compile_commands.json", json.dumps([{"directory": str(tool.work), "file": "slow.c", "arguments": ["./slow", "-c", "slow.c"]}]))
+        (tool.work / "running").unlink(missing_ok=True)
+        running = subprocess.Popen([*tool.words, "-p", ".", OLD, NEW, "slow.c"], cwd=tool.work, env=tool.environment, stdout=subprocess.DEVNULL, stderr=subprocess.DEVNULL, start_new_session=True)
+        for _ in range(100 * TIMEOUT):
+            if (tool.work / "running").exists() or running.poll() is not None:
+                break
+            time.sleep(0.01)
+        os.killpg(running.pid, number)
+        status = running.wait(timeout=TIMEOUT)
+        left = [it for it in os.listdir(tool.work) if it.startswith(".fmtcanon-")]
+        trials.expect(f"signal {number}", (status, left, file.read_text()), (128 + number, [], PLAIN))
+    (tool.work / "compile_commands.json").unlink()
+
+
+def try_sizes(tool, trials):
+    """The time and the memory are linear in the length of a line and of a literal."""
+    call = ' printf("%i" "\\n", 1 / 2) ;'
+    for name, source, count in [
+        ("a long line", f"#include <stdio.h>\nint main(void) {{ {call * (LONG_LINE // len(call))} }}\n", LONG_LINE // len(call)),
+        ("a long literal", PLAIN + 'const char *x = "' + "x" * 10_000_000 + '";\n', 1),
+    ]:
+        tool.put("a.c", source)
+        before = resource.getrusage(resource.RUSAGE_CHILDREN)
+        status, report, fault = tool.run([OLD, NEW, "a.c"])
+        after = resource.getrusage(resource.RUSAGE_CHILDREN)
+        trials.expect(name, (status, report.count("replaced"), fault), (0, count, ""))
+        trials.expect(f"{name} in {SECONDS} seconds of the processor", after.ru_utime - before.ru_utime < SECONDS, True)
+
+
+def try_usage(tool, trials):
+    for words, line in USAGE:
         status, report, fault = tool.run(words)
-        trials.expect(f"replace {words}", (status, report, line in fault), (2, "", True))
+        trials.expect(f"replace {words}", (status, report, line in fault or fault), (2, "", True))
     status, report, fault = tool.run(["--help"])
-    trials.expect("replace --help", (status, "Usage: fmtcanon-replace" in report, fault), (0, True, ""))
-    file.write_text('#include <stdio.h>\nint main(void) { return printf("%i", 1); }', encoding="utf-8")
-    (tool.work / "link.c").symlink_to("a.c")
-    trials.expect("replace on a link", tool.run(["%i", "%d", "link.c"]), (0, "link.c:2: replaced\n", ""))
-    trials.expect("what it links to", ('"%d"' in file.read_text(encoding="utf-8"), (tool.work / "link.c").is_symlink()), (True, True))
+    trials.expect("replace --help", (status, "usage: fmtcanon-replace" in report, fault), (0, True, ""))
 
 
-def try_long_line(tool, trials):
-    """The time is linear in the length of a line."""
-    call = ' printf("%i" "%i", 1 / 2, n) ;'
-    source = "int main(void) { int n = 1;" + call * (LONG_LINE // len(call)) + " }"
-    (tool.work / "a.c").write_text("#include <stdio.h>\n" + source, encoding="utf-8")
-    start = resource.getrusage(resource.RUSAGE_CHILDREN).ru_utime
-    status, report, _ = tool.run(["%i%i", "%d%d", "a.c"])
-    took = resource.getrusage(resource.RUSAGE_CHILDREN).ru_utime - start
-    trials.expect("a long line", (status, report.count("replaced")), (0, LONG_LINE // len(call)))
-    trials.expect(f"a long line in {SECONDS} seconds of the processor", took < SECONDS, True)
+def try_document(tool, trials):
+    """Each command of docs/REPLACE.md prints what is shown below it."""
+    script = f"fmtcanon-replace() {{ '{tool.words[0]}' '{tool.words[1]}' \"$@\"; }}\n"
+    for command, output in examples(TOP / "docs/REPLACE.md"):
+        done = subprocess.run(["bash", "-c", script + command], cwd=tool.work, env=tool.environment, check=False, stdout=subprocess.PIPE, stderr=subprocess.STDOUT, timeout=TIMEOUT)
+        trials.expect(f"docs/REPLACE.md: {command}", done.stdout.decode(), "".join(f"{line}\n" for line in output))
 
 
-def try_replacing(folder, trials):
-    """All of it, by the pattern, without libclang."""
+def try_without_libclang(folder, trials):
+    """What the command says without libclang: usage errors, and that it is missing; no file is changed."""
     with tempfile.TemporaryDirectory() as work:
-        tool = Tool(folder, work, "pattern")
-        try_places(tool, trials)
-        try_sources(tool, SOURCES + PATTERN_SOURCES, trials)
-        try_programs(tool, trials)
-        try_words(tool, trials)
-        try_long_line(tool, trials)
-        left = sorted(name for name in os.listdir(work) if name not in ("a", "tell.h"))
-        trials.expect("other files", left, ["a.c", "link.c", "places.c"])
+        tool = Tool(folder, work, modules=f"{work}/modules")
+        tool.put("modules/clang/__init__.py", "raise ImportError\n")
+        try_usage(tool, trials)
+        file = tool.put("a.c", PLAIN)
+        trials.expect("without libclang", tool.run([OLD, NEW, "a.c"]), (2, "", WITHOUT_LIBCLANG))
+        trials.expect("the file then", file.read_text(), PLAIN)
 
 
-def try_parsing(folder, python, trials):
-    """The same by libclang, with a Python that has it; fragments of source aren't for it."""
+def try_replacing(folder, python, trials):
+    """All of it, with a Python that has libclang."""
+    for part in [try_left, try_calls, try_sources, try_differences, try_commands, try_files, try_signals, try_sizes, try_document]:
+        with tempfile.TemporaryDirectory() as work:
+            tool = Tool(folder, os.path.realpath(work), python)
+            part(tool, trials)
+            trials.expect(f"{part.__name__}: stand-ins that are left", [it.name for it in tool.work.rglob(".fmtcanon-*")], [])
     with tempfile.TemporaryDirectory() as work:
-        tool = Tool(folder, work, "libclang", python)
-        try_places(tool, trials)
-        try_programs(tool, trials)
-        try_long_line(tool, trials)
-        source = '#include "b/tell.h"\nvoid f(void) { printf("%i", 1); }'
-        (tool.work / "a.c").write_text(source, encoding="utf-8")
-        report = "a.c:1: left: the file as a whole: libclang: line 1: 'b/tell.h' file not found\n"
-        trials.expect("a header that isn't there", tool.run(["%i", "%d", "a.c"]), (1, report, ""))
-        (tool.work / "inc/b").mkdir(parents=True)
-        (tool.work / "inc/b/tell.h").write_text("#include <stdio.h>\n#define MORE(x) #x\n", encoding="utf-8")
-        trials.expect("a header that a flag finds", tool.run(["--flag", "-Iinc", "%i", "%d", "a.c"]), (0, "a.c:2: replaced\n", ""))
-        source = '#include <stdio.h>\n#ifdef A\nvoid f(void) { printf("%i", 1); }\n#endif\n'
-        (tool.work / "a.c").write_text(source, encoding="utf-8")
-        trials.expect("a call that is left out", tool.run(["%i", "%d", "a.c"])[0], 1)
-        trials.expect("the same with its flag", tool.run(["--flag", "-DA", "%i", "%d", "a.c"]), (0, "a.c:3: replaced\n", ""))
-        source = '#include <stdio.h>\n#define TELL(x) x; puts(#x)\nvoid f(void) { f(); (void)sizeof printf("%i", 1); }\n'
-        (tool.work / "a.c").write_text(source, encoding="utf-8")
-        trials.expect("a file with macros of its own", tool.run(["%i", "%d", "a.c"]), (0, "a.c:3: replaced\n", ""))
+        tool = Tool(folder, work, python)
+        tool.put("a.c", PLAIN)
+        for words, line in WRONG:
+            status, report, fault = tool.run(words)
+            trials.expect(f"replace {words}", (status, report, line in fault or fault), (2, "", True))

@@ -1,46 +1,39 @@
 #!/usr/bin/env python3
-"""What fmtcanon-replace says of C source that Debian packages carry: a table in Markdown.
+"""Prints what fmtcanon-replace says of a source tree: a table in Markdown.
 
-Usage: tests/field/sources.py [FOLDER]..
+Usage: tests/field/sources.py DIR..
 
-Each .c file below the folders is read, and each one in a .tar.xz file there, as Debian's source
-packages have it; the folder is /usr/share/doc where none is given. A place is one or
-more string literals side by side with a %. It is asked of each that the library accepts whether it
-would be replaced by a format that means the same. No file is changed. It needs the module fmtcanon
-with its library, and takes libclang where it is there.
+Each DIR has a `compile_commands.json`. A place is one or more string literals side by side with a `%`. Of each that the
+library accepts it is asked whether it would be replaced by itself, with --attribute. No file is changed. It needs the module
+fmtcanon with its library, and libclang.
 """
 
+import os
 import re
 import sys
-import tarfile
 from collections import Counter
 from concurrent.futures import ProcessPoolExecutor
 from pathlib import Path
-from tempfile import TemporaryDirectory
 
 TOP = Path(__file__).resolve().parent.parent.parent
 sys.path.insert(0, str(TOP / "python"))
 
 import fmtcanon  # noqa: E402
-from fmtcanon.replace.command import Options, Replacer, reader_of, why_no_format  # noqa: E402
-from fmtcanon.replace.parsed import Parsed  # noqa: E402
-from fmtcanon.replace.places import Reading  # noqa: E402
-from fmtcanon.replace.tokens import Unclear, doubt_in  # noqa: E402
+from fmtcanon.replace.calls import Functions  # noqa: E402
+from fmtcanon.replace.compile_commands import SOURCES, commands_in  # noqa: E402
+from fmtcanon.replace.files import Change, File  # noqa: E402
+from fmtcanon.replace.left import Left  # noqa: E402
+from fmtcanon.replace.places import places_in  # noqa: E402
 
-FOLDERS = ["/usr/share/doc"]
-# What a reason has for one file alone.
+TRANSLATORS = "it is a key for translators"
+# What a reason has for one place alone.
 DETAILS = [
-    (r"sure: .* may define macros", "sure: a header that isn't the C library's may define macros"),
-    (r"argument of \S+, which", "argument of a function or macro, which"),
+    (r"(key for translators), an argument of \S+", r"\1"),
+    (r"argument of \S+, which", "argument of a function, which"),
     (r"format of \w+", "format of the call"),
-    (r"call of \w+ of", "call of a function of"),
-    (r"\b\w+ is declared in .*?, outside", "its function is declared outside"),
-    (r"declares \w+ in line \d+", "declares its function"),
-    (r"declares \w+$", "declares its function"),
-    (r"(the file as a whole: )?line \d+ ", r"\1a line "),
-    (r"in line \d+ ", ""),
-    (r"the brackets of line \d+", "brackets"),
-    (r"the escape \\.*", "an escape isn't known"),
+    (r"^\w+ is declared in \S+", "the function is declared in another header"),
+    (r"libclang can't parse it: .*", "libclang can't parse it"),
+    (r"(it names|names|has) \S+$", r"\1 something"),
 ]
 
 
@@ -58,57 +51,38 @@ def is_accepted(text):
     return True
 
 
-def surveyed(file):
-    """What it says of each place of a file, as counts."""
-    counts, options = Counter(files=1), Options()
-    with open(file, "rb") as stream:
+def surveyed(path, commands):
+    """Returns what it says of each place of a file, as counts."""
+    with open(path, "rb") as stream:
         source = stream.read()
+    places = [it for it in places_in(source) if b"%" in it.text]
+    accepted = [it for it in places if is_accepted(it.text)]
+    counts = Counter(files=1, places=len(places), accepted=len(accepted))
+    changes = [Change(it, it.source) for it in accepted]
     try:
-        doubt = doubt_in(source)
-        if doubt:
-            raise Unclear(f"the file has {doubt}")
-        reading = Reading(source, options.functions)
-    except Unclear as fault:
-        return counts + Counter({"unread": 1, plain(f"file: {fault}"): 0})
-    reader = reader_of(str(file), reading, options)
-    counts["parsed"] += isinstance(reader, Parsed)
-    for place in reading.places:
-        text = place.text
-        if b"%" not in text:
-            continue
-        counts["places"] += 1
-        if place.unclear or not is_accepted(text):
-            counts["refused"] += 1
-            continue
-        counts["accepted"] += 1
-        why = why_no_format(place, options.functions) or reader.why_left(place) or Replacer(text, text, options).verdict
-        counts[("left", plain(why)) if why else "replaced"] += 1
-    return counts
+        if changes:
+            File(path, source, changes, Functions({}, True)).replace(commands, True)
+    except Left as left:
+        counts["files left"] += 1
+        return counts + Counter({("left", f"the file: {plain(str(left))}"): len(accepted)})
+    return counts + Counter(("left", plain(it.why_left)) if it.why_left else "replaced" for it in changes)
 
 
-def files_below(folder, work):
-    """The C files below a folder, and those in its archives, which are unpacked."""
-    yield from (path for path in sorted(folder.rglob("*.c")) if path.is_file())
-    for archive in sorted(folder.rglob("*.tar.xz")):
-        with tarfile.open(archive) as packed:
-            members = [one for one in packed if one.isfile() and one.name.endswith((".c", ".h")) and ".." not in one.name]
-            packed.extractall(work, members)
-        yield from sorted(Path(work).rglob("*.c"))
-
-
-def main(words):
+def main(folders):
+    if not folders:
+        sys.exit(__doc__)
     total = Counter()
-    with TemporaryDirectory() as work, ProcessPoolExecutor(2) as pool:
-        files = [file for folder in words or FOLDERS for file in files_below(Path(folder), work)]
-        for counts in pool.map(surveyed, files, chunksize=20):
-            total.update(counts)
-    print("| Of C source in Debian packages | |\n|---|---|")
-    for key, text in [
-        ("files", "Files"), ("unread", "Files that are left as a whole"), ("parsed", "Files that libclang parses"),
-        ("places", "Places with a `%`"), ("refused", "Places that are no accepted format"), ("accepted", "Places that are accepted"),
-        ("replaced", "Of these replaced"),
-    ]:
+    for folder in folders:
+        database = {path: commands for path, commands in commands_in(folder).items() if SOURCES.fullmatch(path) and os.path.exists(path)}
+        with ProcessPoolExecutor() as pool:
+            for counts in pool.map(surveyed, database.keys(), database.values()):
+                total.update(counts)
+    keys = sum(count for key, count in total.items() if isinstance(key, tuple) and key[1] == TRANSLATORS)
+    print("| Of the source | |\n|---|---|")
+    rows = [("files", "Files"), ("files left", "Files that are left as a whole"), ("places", "Places with a `%`"), ("accepted", "Places that are accepted"), ("replaced", "Of these replaced")]
+    for key, text in rows:
         print(f"| {text} | {total[key]:,} |")
+    print(f"| Of those that are no keys for translators, % | {100 * total['replaced'] // max(total['accepted'] - keys, 1)} |")
     for (_, why), count in sorted(((key, n) for key, n in total.items() if isinstance(key, tuple)), key=lambda one: -one[1]):
         print(f"| Left: {why} | {count:,} |")
 

@@ -1,54 +1,23 @@
-"""Replaces one printf format by another in C source, where the two mean the same.
+"""Replaces one printf format by another in C source, where the two mean the same."""
 
-Usage: fmtcanon-replace [OPTION].. OLD NEW FILE.c..
-
-  --dry-run              says what would be done, and changes no file
-  --model MODEL          in which data models the two have to mean the same: lp64, ilp32, llp64,
-                         both for the first two, or all; all where it isn't given, so that the
-                         source means the same wherever it is compiled
-  --posix-locale         the program prints in the POSIX locale alone; without it a format with the
-                         flag ' is left, since that groups digits in other locales
-  --function NAME:INDEX  NAME takes a format as the argument INDEX, counted from 0
-  --by READER            how calls are found: libclang or pattern
-  --flag FLAG            a word for libclang, as -Iinclude or -DNAME
-  --help                 prints this text
-
-OLD and NEW are formats as C has them between the quotes, so that '%i\\n' ends in a newline.
-Nothing is replaced unless both take the same arguments and print the same bytes for all of them.
-
-A place is one or more string literals side by side that make up OLD. It is replaced where it is
-surely the format of a call of the printf family, or of NAME. libclang finds the calls, where it is
-there (python3-clang) and finds no error in the file. Else a pattern does, and is sure only in a file
-that includes headers of the C library alone and defines no macro but plain values. Either takes the
-file as it is compiled with the flags given, and with no other macro from a command line.
-
-A line is written for each place: that it is replaced, or that it is left, and why. So is one for
-each place that means the same as OLD and is spelled otherwise. A file that isn't plain C, one with
-a trigraph, a raw string of C++, or an end within a comment, is left as a whole.
-
-The exit status is 0 where no place was left, 1 where one was, 2 for wrong words or formats.
-"""
-
+import argparse
 import os
 import re
+import signal
 import sys
-import tempfile
-from typing import Dict, List, Optional, Sequence, Set, Union
+from concurrent.futures import ThreadPoolExecutor
+from contextlib import contextmanager
+from typing import Any, Dict, Iterator, List, NamedTuple, Optional, Sequence
 
 import fmtcanon
 
-from .parsed import Parsed, Unparsed
-from .pattern import Pattern
-from .places import Place, Reading
-from .tokens import Unclear, decoded, doubt_in
+from .calls import Functions
+from .compile_commands import SOURCES, CompileCommand, commands_in, default_command
+from .files import STOPPING, Change, File
+from .left import Left
+from .libclang import cindex
+from .places import Place, decoded, places_in, respelled
 
-# The place of the format among the arguments of a call, counted from 0.
-FUNCTIONS = {
-    b"printf": 0, b"vprintf": 0, b"warn": 0, b"warnx": 0, b"vwarn": 0, b"vwarnx": 0,
-    b"fprintf": 1, b"vfprintf": 1, b"dprintf": 1, b"vdprintf": 1, b"sprintf": 1, b"vsprintf": 1,
-    b"asprintf": 1, b"vasprintf": 1, b"syslog": 1, b"vsyslog": 1, b"err": 1, b"errx": 1,
-    b"snprintf": 2, b"vsnprintf": 2, b"error": 2,
-}
 MODELS: Dict[str, List[fmtcanon.Model]] = {
     "lp64": [fmtcanon.Model.LP64],
     "ilp32": [fmtcanon.Model.ILP32],
@@ -56,66 +25,64 @@ MODELS: Dict[str, List[fmtcanon.Model]] = {
     "both": [fmtcanon.Model.LP64, fmtcanon.Model.ILP32],
     "all": list(fmtcanon.Model),
 }
-READERS = ["libclang", "pattern"]
 # The flags of each conversion specification of a format that is accepted.
 FLAGS = re.compile(rb"%([-+ #0']*)[0-9.]*[a-zA-Z%]")
+DESCRIPTION = """\
+Replaces one printf format by another in C source. Nothing is replaced unless both take the same
+arguments and print the same bytes for all of them.
+
+OLD and NEW are formats as C has them between the quotes, so '%i\\n' ends in a newline. A place is one
+or more string literals side by side that make up OLD. It is replaced if it is the format of a call
+of the C library's printf family, of a function given by --function, or, with --attribute, of one
+that is declared with the attribute format(printf, ..). The file's own compiler preprocesses it, and
+libclang (the package python3-clang) finds the calls in that text. The result is preprocessed again:
+only the replaced literals may differ. Parts that OLD and NEW share keep their spelling."""
+EPILOG = """\
+Each place is reported: that it is replaced, or that it is left, and why. So is each place that means
+the same as OLD and is spelled otherwise; one that is NEW already is not.
+
+The exit status is 0 if no place was left, 1 if one was, 2 for a usage error, a format that is
+rejected, or a file that can't be read or written."""
 
 
-class Options:
-    """What the words of the command ask for."""
-
-    def __init__(self) -> None:
-        self.functions = dict(FUNCTIONS)
-        self.chosen: Set[bytes] = set()
-        self.is_dry = False
-        self.is_posix = False
-        self.models = MODELS["all"]
-        self.reader: Optional[str] = None
-        self.flags: List[str] = []
-
-    def choose(self, name: str, index: str) -> None:
-        self.functions[name.encode()] = int(index)
-        self.chosen.add(name.encode())
-
-    def take(self, option: str, words: List[str]) -> bool:
-        """Takes one option with its word, and answers whether it is one."""
-        if option == "--dry-run":
-            self.is_dry = True
-        elif option == "--posix-locale":
-            self.is_posix = True
-        elif option == "--model" and words and words[0] in MODELS:
-            self.models = MODELS[words.pop(0)]
-        elif option == "--by" and words and words[0] in READERS:
-            self.reader = words.pop(0)
-        elif option == "--flag" and words:
-            self.flags.append(words.pop(0))
-        elif option == "--function" and words and re.fullmatch(r"\w+:\d+", words[0]):
-            self.choose(*words.pop(0).split(":"))
-        else:
-            return False
-        return True
+def parser() -> argparse.ArgumentParser:
+    """Returns the definition of the command line."""
+    made = argparse.ArgumentParser(
+        prog="fmtcanon-replace", usage="%(prog)s [OPTION].. OLD NEW [FILE..]", description=DESCRIPTION, epilog=EPILOG, formatter_class=argparse.RawDescriptionHelpFormatter
+    )
+    made.add_argument("-p", metavar="DIR", dest="database", help="the folder of compile_commands.json; without FILE all its files are read")
+    made.add_argument("--flag", action="append", default=[], metavar="FLAG", help="without -p, a flag of the compile command, which is cc: --flag=-Iinclude")
+    made.add_argument("--attribute", action="store_true", help="functions with the attribute format(printf, ..) are known")
+    made.add_argument("--function", action="append", default=[], type=function_of, metavar="NAME:INDEX", help="NAME prints its argument INDEX, counted from 0, as printf does")
+    made.add_argument("--model", choices=sorted(MODELS), default="all", help="the data models in which OLD and NEW must mean the same (default: all)")
+    made.add_argument("--posix-locale", action="store_true", help="the program prints in the POSIX locale alone; otherwise a format with the flag ' is left")
+    made.add_argument("--dry-run", action="store_true", help="report what would be done, and change no file")
+    made.add_argument("--jobs", type=int, default=os.cpu_count() or 1, metavar="N", help="how many files are read at a time")
+    made.add_argument("old", metavar="OLD", type=format_of)
+    made.add_argument("new", metavar="NEW", type=format_of)
+    made.add_argument("files", metavar="FILE", nargs="*")
+    return made
 
 
-def why_no_format(place: Place, functions: Dict[bytes, int]) -> Optional[str]:
-    """Why a place is no format of a call of a known function, or None."""
-    if place.unclear:
-        return place.unclear
-    if "name" in (place.before[0], place.after[0]):
-        return "a name beside it may be a macro that is part of the string"
-    index = functions.get(place.call.function)
-    if place.call.bracket != b"(" or index is None:
-        name = place.call.function.decode("latin-1")
-        known = f"it is an argument of {name}, which isn't known"
-        return known if name else "it is no argument of a call"
-    if place.argument != index:
-        return f"it isn't the format of {place.call.function.decode()}"
-    if place.before[1] not in (b"(", b",") or place.after[1] not in (b")", b","):
-        return "it is only a part of the argument"
-    return None
+def function_of(word: str) -> "tuple[str, int]":
+    """Returns the name and the index that `NAME:INDEX` gives."""
+    found = re.fullmatch(r"([A-Za-z_]\w*):(\d+)", word)
+    if not found:
+        raise argparse.ArgumentTypeError(f"{word!r} isn't NAME:INDEX")
+    return found[1], int(found[2])
+
+
+def format_of(word: str) -> bytes:
+    """Returns the format that a word spells as C does between the quotes."""
+    inside = os.fsencode(word)
+    text = None if re.search(rb'(?<!\\)(?:\\\\)*"|(?<!\\)(?:\\\\)*\\$', inside) else decoded(b'"' + inside + b'"')
+    if text is None:
+        raise argparse.ArgumentTypeError(f"{word!r} isn't a format as C has it between the quotes")
+    return text
 
 
 def difference(old: bytes, new: bytes, model: fmtcanon.Model) -> Optional[str]:
-    """In what two formats differ in a data model, or None."""
+    """Returns how two formats differ in a data model, or None."""
     found = fmtcanon.compare(old, new, model=model)
     if found.verdict is fmtcanon.Verdict.SAME:
         return None
@@ -125,7 +92,7 @@ def difference(old: bytes, new: bytes, model: fmtcanon.Model) -> Optional[str]:
 
 
 def difference_in(old: bytes, new: bytes, models: Sequence[fmtcanon.Model]) -> Optional[str]:
-    """In what two formats differ in data models, which are named where it isn't so in each; or None."""
+    """Returns how two formats differ in data models, which are named unless it is the same in each; or None."""
     found = [difference(old, new, model) for model in models]
     if len(set(found)) == 1:
         return found[0]
@@ -136,125 +103,134 @@ def has_grouping(text: bytes) -> bool:
     return any(b"'" in flags for flags in FLAGS.findall(text))
 
 
-def reader_of(file: str, reading: Reading, options: Options) -> Union[Parsed, Pattern]:
-    """What finds out whether a place is surely the format of a call."""
-    if options.reader != "pattern":
-        try:
-            return Parsed(file, options.functions, options.chosen, options.flags)
-        except Unparsed as fault:
-            if options.reader == "libclang":
-                raise Unclear(f"libclang: {fault}") from fault
-    return Pattern(reading, options.chosen)
+class Report(NamedTuple):
+    """What is printed of a file, whether something was left, and whether there was an error."""
+
+    lines: List[str]
+    is_left: bool = False
+    error: str = ""
 
 
 class Replacer:
     """Replaces one format by another in one file after another."""
 
-    def __init__(self, old: bytes, new: bytes, options: Options) -> None:
-        self.old, self.new, self.options = old, new, options
-        self.left = 0
+    def __init__(self, options: argparse.Namespace) -> None:
+        self.old, self.new, self.options = options.old, options.new, options
+        self.models = MODELS[options.model]
+        self.functions = Functions(dict(options.function), options.attribute)
+        self.database = commands_in(options.database) if options.database else {}
         self.known: Dict[bytes, bool] = {}
-        self.verdict = difference_in(old, new, options.models)
-        if self.verdict is None and not options.is_posix and (has_grouping(old) or has_grouping(new)):
-            self.verdict = "the flag ' groups digits, but in the POSIX locale: --posix-locale says that it prints there"
+        self.verdict = difference_in(self.old, self.new, self.models) or ""
+        if not self.verdict and not options.posix_locale and (has_grouping(self.old) or has_grouping(self.new)):
+            self.verdict = "the flag ' groups digits, except in the POSIX locale: --posix-locale says that it prints there"
 
-    def leave(self, file: str, line: int, why: str) -> None:
-        self.left += 1
-        print(f"{file}:{line}: left: {why}")
+    def files(self) -> List[str]:
+        """Returns the files to read: those that are given, or all of the database."""
+        return self.options.files or sorted(it for it in self.database if SOURCES.fullmatch(it))
 
     def means_the_same(self, text: bytes) -> bool:
-        """Whether a text means the same as the old format, in the data models that are asked for."""
+        """Returns whether a text means the same as OLD in the data models that are asked for."""
         if text not in self.known:
             try:
-                found = set(self.options.models) <= set(fmtcanon.same_in(self.old, text))
-                is_hidden = not self.options.is_posix and has_grouping(text) != has_grouping(self.old)
+                found = set(self.models) <= set(fmtcanon.same_in(self.old, text))
+                is_hidden = not self.options.posix_locale and has_grouping(text) != has_grouping(self.old)
                 self.known[text] = found and not is_hidden
             except fmtcanon.Refused:
                 self.known[text] = False
         return self.known[text]
 
-    def replaced(self, file: str, source: bytes) -> bytes:
-        """The source with what is to be replaced."""
-        reading = Reading(source, self.options.functions)
-        reader: Union[Parsed, Pattern, None] = None
-        parts: List[bytes] = []
-        done = 0
-        for place in reading.places:
-            text = place.text
-            if text != self.old:
-                if not place.unclear and self.means_the_same(text):
-                    self.leave(file, place.line, "it means the same, and is spelled otherwise")
-                continue
-            why = why_no_format(place, self.options.functions)
-            if why is None:
-                reader = reader or reader_of(file, reading, self.options)
-                why = reader.why_left(place) or self.verdict
-            if why:
-                self.leave(file, place.line, why)
-                continue
-            print(f"{file}:{place.line}: replaced")
-            parts += [source[done : place.start], fmtcanon.encode_literal(self.new)]
-            done = place.end
-        return b"".join([*parts, source[done:]])
+    def commands(self, path: str) -> List[CompileCommand]:
+        """Returns the compile commands of a file."""
+        if not SOURCES.fullmatch(path):
+            raise Left("a header, or a part of a file, isn't compiled by itself")
+        if not self.options.database:
+            return [default_command(path, self.options.flag)]
+        if path not in self.database:
+            raise Left("compile_commands.json has no command for it")
+        return self.database[path]
 
-    def replace_file(self, file: str) -> None:
-        with open(file, "rb") as stream:
-            source = stream.read()
-        doubt = doubt_in(source)
-        if doubt:
-            self.leave(file, 1, f"the file has {doubt}, which compilers read in two ways")
-            return
+    def change_of(self, place: Place) -> Optional[Change]:
+        """Returns what is to be done with a place, or None if nothing is to be said of it."""
+        if place.text != self.old:
+            is_other = place.text != self.new and self.means_the_same(place.text)
+            return Change(place, place.source, "it means the same, and is spelled otherwise") if is_other else None
+        if self.verdict:
+            return Change(place, place.source, self.verdict)
+        source = respelled(place, self.new)
+        if source is None:
+            return Change(place, place.source, "a line break within its literals would be lost")
+        return Change(place, source)
+
+    def replace_file(self, file: str) -> Report:
+        """Replaces the places of a file, and returns what is to be printed of it."""
+        changes: List[Change] = []
         try:
-            text = self.replaced(file, source)
-        except Unclear as unclear:
-            self.leave(file, 1, f"the file as a whole: {unclear}")
-            return
-        if text != source and not self.options.is_dry:
-            write_whole(file, text)
+            if STOPPING.is_set():
+                return Report([])
+            path = os.path.realpath(file)
+            with open(path, "rb") as stream:
+                source = stream.read()
+            changes = [it for it in map(self.change_of, places_in(source)) if it]
+            if any(not it.why_left for it in changes):
+                File(path, source, changes, self.functions).replace(self.commands(path), self.options.dry_run)
+        except Left as left:
+            return Report([f"{file}: left: {left}"], is_left=True)
+        except OSError as error:
+            return Report([], error=f"{file}: {error.strerror or error}")
+        lines = [f"{file}:{it.place.line}: " + (f"left: {it.why_left}" if it.why_left else "replaced") for it in changes]
+        return Report(lines, is_left=any(it.why_left for it in changes))
 
 
-def write_whole(file: str, text: bytes) -> None:
-    """Writes all of a file or nothing, with the rights that it has; not a link to it."""
-    file = os.path.realpath(file)
-    handle, name = tempfile.mkstemp(dir=os.path.dirname(file))
+@contextmanager
+def stopped_by_signals() -> Iterator[None]:
+    """Has a signal that would end the command stop it once the files that are being read are done with, so that no stand-in is left."""
+
+    def stop(number: int, _frame: Any) -> None:
+        STOPPING.set()
+        raise SystemExit(128 + number)
+
+    numbers = [signal.SIGINT, signal.SIGTERM, signal.SIGHUP]
+    before = [signal.signal(number, stop) for number in numbers]
     try:
-        with os.fdopen(handle, "wb") as stream:
-            stream.write(text)
-        os.chmod(name, os.stat(file).st_mode & 0o7777)
-        os.replace(name, file)
-    except OSError:
-        os.unlink(name)
-        raise
+        yield
+    finally:
+        for number, handler in zip(numbers, before):
+            signal.signal(number, handler)
 
 
-def format_of(word: str) -> bytes:
-    """The format that a word gives."""
-    inside = os.fsencode(word)
-    if re.search(rb'(?<!\\)(?:\\\\)*"|(?<!\\)(?:\\\\)*\\$', inside):
-        raise Unclear("a format is given as C has it between the quotes")
-    return decoded(b'"' + inside + b'"')
+def put(stream: Any, line: str) -> None:
+    """Writes a line, in which names of files may be any bytes."""
+    stream.buffer.write(os.fsencode(line) + b"\n")
+    stream.flush()
 
 
-def main(arguments: Optional[Sequence[str]] = None) -> int:
-    words, options = list(sys.argv[1:] if arguments is None else arguments), Options()
-    if "--help" in words[: words.index("--") if "--" in words else len(words)]:
-        print(__doc__, end="")
-        return 0
-    while words and words[0].startswith("--") and words[0] != "--":
-        if not options.take(words.pop(0), words):
-            words = []
-    words = words[1:] if words[:1] == ["--"] else words
-    if len(words) < 3:
-        print(__doc__, end="", file=sys.stderr)
+def run(replacer: Replacer) -> int:
+    """Goes through the files, several at a time, and reports each in its order. Returns the exit status."""
+    status = 0
+    with stopped_by_signals(), ThreadPoolExecutor(max(replacer.options.jobs, 1)) as pool:
+        for report in pool.map(replacer.replace_file, replacer.files()):
+            for line in report.lines:
+                put(sys.stdout, line)
+            if report.error:
+                put(sys.stderr, report.error)
+            status = max(status, 2 if report.error else int(report.is_left))
+    return status
+
+
+def main(words: Optional[Sequence[str]] = None) -> int:
+    options = parser().parse_args(words)
+    if cindex is None:
+        print("fmtcanon-replace: libclang is missing: the package python3-clang has it", file=sys.stderr)
         return 2
     try:
-        replacer = Replacer(format_of(words[0]), format_of(words[1]), options)
-        for file in words[2:]:
-            replacer.replace_file(file)
+        replacer = Replacer(options)
     except fmtcanon.Refused as refusal:
-        print(f"{['OLD', 'NEW'][refusal.side]} is {refusal}", file=sys.stderr)
+        print(f"fmtcanon-replace: {['OLD', 'NEW'][refusal.side or 0]} is {refusal}", file=sys.stderr)
         return 2
-    except (OSError, Unclear) as error:
-        print(error, file=sys.stderr)
+    except OSError as error:
+        print(f"fmtcanon-replace: {error}", file=sys.stderr)
         return 2
-    return 1 if replacer.left else 0
+    if not replacer.files():
+        print("fmtcanon-replace: give the files, or the folder of a compile_commands.json", file=sys.stderr)
+        return 2
+    return run(replacer)

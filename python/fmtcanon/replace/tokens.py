@@ -1,82 +1,117 @@
-"""The tokens of C source, and what string literals mean."""
+"""The tokens of C: of a source, to find its string literals, and of what a preprocessor makes of it, to compare."""
 
 import re
-from typing import Iterator, Optional, Tuple
+from typing import List, Sequence, Tuple
 
-import fmtcanon
-
-SPLICE = rb"(?:\\\r?\n)"
-# Compilers read these in two ways, by their options or each by itself.
-TRIGRAPH = re.compile(rb"\?\?[=/'()!<>-]")
-DOUBTS = [
-    (TRIGRAPH, "a trigraph"),
-    (re.compile(rb"\\[ \t\f\v]+\r?\n"), "a space between a backslash and the end of its line"),
-    (re.compile(rb"\r(?!\n)"), "a carriage return within a line"),
-]
-BYTE_ORDER_MARK = b"\xef\xbb\xbf"
-TOKEN = re.compile(
-    rb"(?P<space>(?:[ \t\r\n\f\v]|" + SPLICE + rb")+)"
-    rb"|(?P<comment>/\*.*?\*/|//(?:[^\\\n]|\\.)*)"
-    rb"|(?P<string>(?:u8|[LuU])?R?\"(?:[^\"\\\n]|\\.)*\")"
-    rb"|(?P<char>(?:u8|[LuU])?'(?:[^'\\\n]|\\.)*')"
-    rb"|(?P<name>[A-Za-z_$\x80-\xff](?:" + SPLICE + rb"*[\w$\x80-\xff])*)"
-    rb"|(?P<number>\.?[0-9](?:[eEpP][-+]|[\w.'])*)"
-    rb"|(?P<arrow>->)"
-    rb"|(?P<digraph>%:|<%|%>|<:|:>)"
-    rb"|(?P<other>[^\"'\\])",
-    re.DOTALL,
+# A string literal without a prefix, in which lines may be spliced.
+STRING = rb'"[^"\\\n]*(?:\\(?:\r\n|[\s\S])[^"\\\n]*)*"'
+RAW = rb"(?:u8|[uUL])?R\"(?P<raw>[^()\\\s\"]{0,16})\([\s\S]*?\)(?P=raw)\""
+MAY_BE_RAW = re.compile(rb'(?<!\w)(?:u8|[uUL])?R"')
+CHARACTER = rb"(?:u8|[uUL])?'(?:[^'\\\n]|\\[\s\S])*'"
+NUMBER = rb"\.?[0-9](?:[eEpP][-+]|'?[\w.])*"
+NAME = rb"[A-Za-z_$\x80-\xff][\w$\x80-\xff]*"
+COMMENT = rb"/\*[\s\S]*?\*/|//(?:[^\\\n]|\\[\s\S])*"
+GAP = rb"(?:[ \t\n\v\f\r]|\\\r?\n|" + COMMENT + rb")*"
+# Literals side by side are one. A raw string or one with a prefix is none of them. Nothing depends on this reader: what
+# it takes for a literal is confirmed by the compiler's own preprocessor.
+SOURCE = re.compile(
+    COMMENT + rb"|" + RAW + rb"|(?:u8|[uUL])" + STRING + rb"|(?P<literals>" + STRING + rb"(?:" + GAP + STRING + rb")*)|" + CHARACTER + rb"|" + NUMBER + rb"|" + NAME + rb"|[\s\S]"
 )
-DIGRAPHS = {b"%:": b"#", b"<%": b"{", b"%>": b"}", b"<:": b"[", b":>": b"]"}
-# What may go on in the next line, where a line is spliced just after it.
-BROKEN = re.compile(rb"(?<=[-/%<:.])" + SPLICE)
+SPLICE = re.compile(rb"\\\r?\n")
+LINE_MARKER = rb"^# \d+ \"[^\n]*"
+PREPROCESSED = re.compile(
+    rb"(?P<marker>" + LINE_MARKER + rb")|(?P<string>" + RAW + rb"|(?:u8|[uUL])?" + STRING + rb")|" + CHARACTER + rb"|" + NUMBER + rb"|" + NAME + rb"|[^\s]",
+    re.MULTILINE,
+)
+# The same in one line, without raw strings.
+IN_LINE = re.compile(rb"(?:u8|[uUL])?" + STRING + rb"|" + CHARACTER + rb"|" + NUMBER + rb"|" + NAME + rb"|[^\s]")
+STATIC_ASSERTION = (b"_Static_assert", b"static_assert")
 
 
-# Why a literal isn't taken.
-REASONS = {
-    fmtcanon.LiteralKind.NO_LITERAL: "it is no string literal",
-    fmtcanon.LiteralKind.UNTERMINATED: "a literal doesn't end in its line",
-    fmtcanon.LiteralKind.BAD_ESCAPE: "an escape in it isn't known, or a line goes on inside it",
-    fmtcanon.LiteralKind.ESCAPE_TOO_LARGE: "an escape in it is no byte",
-    fmtcanon.LiteralKind.ZERO_BYTE: "there is a zero byte in it",
-    fmtcanon.LiteralKind.TRIGRAPH: "there is a trigraph in it",
-}
+def common_front(first: bytes, second: bytes) -> int:
+    """Returns how long the front is that two preprocessed texts share, up to a line marker, so that no token is cut.
+
+    Most of a text is its headers, which come first. A raw string may have what looks like a marker, so then it is 0.
+    """
+    if MAY_BE_RAW.search(first):
+        return 0
+    low, high = 0, min(len(first), len(second))
+    while low < high:
+        middle = (low + high + 1) // 2
+        low, high = (middle, high) if first[low:middle] == second[low:middle] else (low, middle - 1)
+    return max(first.rfind(b"\n# ", 0, low), 0)
 
 
-class Unclear(Exception):
-    """What a text means isn't known."""
+class Tokens:
+    """The tokens of preprocessed text, with the line of the text that each is in.
+
+    Line markers are no tokens, and static assertions are left out: they have no effect but at compile time, and may have the
+    text of a literal in them.
+    """
+
+    def __init__(self, text: bytes) -> None:
+        self.words: List[bytes] = []
+        self.lines: List[int] = []
+        if MAY_BE_RAW.search(text):
+            self.read(text)
+        else:
+            self.read_by_lines(text)
+        if any(it in text for it in STATIC_ASSERTION):
+            self.leave_assertions()
+
+    def read(self, text: bytes) -> None:
+        """Reads a text whose tokens may go over several lines: raw strings do."""
+        line, last = 1, 0
+        for found in PREPROCESSED.finditer(text):
+            line += text.count(b"\n", last, found.start())
+            last = found.start()
+            if not found["marker"]:
+                self.words.append(found.group())
+                self.lines.append(line)
+
+    def read_by_lines(self, text: bytes) -> None:
+        """Reads a text in which each token is in one line, several times as fast."""
+        for number, line in enumerate(text.split(b"\n"), 1):
+            if not re.match(LINE_MARKER, line):
+                found = IN_LINE.findall(line)
+                self.words += found
+                self.lines += [number] * len(found)
+
+    def leave_assertions(self) -> None:
+        """Takes static assertions out."""
+        words, lines, self.words, self.lines = self.words, self.lines, [], []
+        depth = -1
+        for word, line in zip(words, lines):
+            if depth == -1 and word in STATIC_ASSERTION:
+                depth = 0
+            elif depth >= 0:
+                depth += (word == b"(") - (word == b")")
+                depth = -1 if depth == 0 and word == b")" else depth
+            else:
+                self.words.append(word)
+                self.lines.append(line)
 
 
 def without_splices(text: bytes) -> bytes:
-    return re.sub(SPLICE, b"", text) if b"\\" in text else text
+    return SPLICE.sub(b"", text)
 
 
-def doubt_in(source: bytes) -> Optional[str]:
-    """What compilers read in two ways in a source, or None."""
-    return next((name for pattern, name in DOUBTS if pattern.search(source)), None)
+def plain_literals(source: bytes) -> Tuple[bytes, Sequence[int]]:
+    """Returns string literals with one space for what is between them and without spliced lines, and the offset in the source of each byte.
 
-
-def decoded(literal: bytes) -> bytes:
-    """The bytes that a string literal stands for."""
-    try:
-        return fmtcanon.decode_literal(literal)
-    except fmtcanon.BadLiteral as fault:
-        raise Unclear(REASONS[fault.kind]) from fault
-
-
-def tokens(source: bytes) -> Iterator[Tuple[str, bytes, int, int]]:
-    """Each token with its kind, its place and its line, and spaces and comments. A digraph is given as what it stands for."""
-    at = len(BYTE_ORDER_MARK) if source.startswith(BYTE_ORDER_MARK) else 0
-    line, before = 1, "space"
-    while at < len(source):
-        match = TOKEN.match(source, at)
-        if match is None or (match.lastgroup == "other" and source[at : at + 2] == b"/*"):
-            raise Unclear(f"line {line} can't be read as C")
-        kind, text, end = str(match.lastgroup), match.group(), match.end()
-        if kind == "string" and b'R"' in text[: text.index(b'"') + 1]:
-            raise Unclear(f"line {line} has a raw string of C++")
-        is_prefix = before == "name" and source[end : end + 1] in (b'"', b"'")
-        if kind == "other" and BROKEN.match(source, end) or kind == "space" and is_prefix and text[:1] == b"\\":
-            raise Unclear(f"line {line} breaks a token in two")
-        yield ("other", DIGRAPHS[text], at, line) if kind == "digraph" else (kind, text, at, line)
-        line += text.count(b"\n")
-        at, before = end, kind
+    The last offset is that of the end.
+    """
+    if re.fullmatch(STRING, source) and not SPLICE.search(source):
+        return source, range(len(source) + 1)
+    plain, offsets = bytearray(), []
+    for found in re.finditer(rb"(?P<string>" + STRING + rb")|" + rb"(?:[ \t\n\v\f\r]|\\\r?\n|" + COMMENT + rb")+", source):
+        if found["string"] is None:
+            plain += b" "
+            offsets.append(found.start())
+            continue
+        for piece in re.finditer(rb"(?P<splice>\\\r?\n)|\\[\s\S]|[^\\]+", found["string"]):
+            if piece["splice"] is None:
+                plain += piece.group()
+                start = found.start() + piece.start()
+                offsets += range(start, start + len(piece.group()))
+    return bytes(plain), [*offsets, len(source)]

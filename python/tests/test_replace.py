@@ -1,0 +1,173 @@
+"""Tests of the parts of fmtcanon-replace that need no compiler: python3 -m unittest, in the folder above."""
+
+import os
+import tempfile
+import unittest
+
+from fmtcanon.replace import doubts
+from fmtcanon.replace.calls import as_utf8
+from fmtcanon.replace.compile_commands import SOURCES, CompileCommand
+from fmtcanon.replace.files import with_sources
+from fmtcanon.replace.known import GETTEXT, KNOWN
+from fmtcanon.replace.left import Left
+from fmtcanon.replace.places import literals_of, places_in, respelled
+from fmtcanon.replace.tokens import Tokens, common_front
+
+# A source, and the bytes of the literals in it.
+FOUND = [
+    (b'f("%i", "a" "b")', [b"%i", b"ab"]),
+    (b'f("%i"\n  /* two */ "\\n" // three\n "x")', [b"%i\nx"]),
+    (b'f("a\\\nb" \\\n "c")', [b"abc"]),
+    (b'f("a\\\r\nb")', [b"ab"]),
+    (b"'\"' f(\"%i\") '\\\"'", [b"%i"]),
+    (b'/* "a" */ // "b" \\\n "c"\n "d"', [b"d"]),
+    (b'L"a" u8"b" u"c" U"d" R"x("e")x" "f"', [b"f"]),
+    (b'R"("a")" u8R"--("b"))--" "c"', [b"c"]),
+    (b"1'000 \"a\" 0x1p+3", [b"a"]),
+    (b'"\\q" "a', []),
+    (b'"a\\0b"', []),
+    (b'"??=" "a\\??="', []),
+    (b'"http://x" "y"', [b"http://xy"]),
+]
+# A source, the new text, and the source that spells it.
+SPELLED = [
+    (b'"%i\\n"', b"%d\n", b'"%d\\n"'),
+    (b'"\\303\\251%i"', b"\xc3\xa9%d", b'"\\303\\251%d"'),
+    (b'"\xc3\xa9%i"', b"\xc3\xa9%d", b'"\xc3\xa9%d"'),
+    (b'"\\x41 \\45i\\x2e"', b"A %d.", b'"\\x41 \\45d\\x2e"'),
+    # The digit or letter would become part of the escape before it.
+    (b'"\\x25i"', b"%d", b'"%d"'),
+    (b'"\\1" "i"', b"\x012", b'"\\1" "2"'),
+    (b'"%i" " of " "%i"', b"%d of %d", b'"%d" " of " "%d"'),
+    (b'"%i"\n  /* x */ "%i"', b"%d%d", b'"%d"\n  /* x */ "%d"'),
+    (b'"%5c"', b"    %c", b'"    %c"'),
+    (b'"%i"', b"", b'""'),
+    (b'""', b"%d", b'"%d"'),
+    (b'"a" ""', b"ab", b'"ab" ""'),
+    # No trigraph comes into being.
+    (b'"?i="', b"??=", b'"?\\?="'),
+    (b'"%\\\ni"', b"%d", b'"%\\\nd"'),
+]
+
+
+class Literals(unittest.TestCase):
+    def test_found(self):
+        for source, wanted in FOUND:
+            self.assertEqual([it.text for it in places_in(source)], wanted, source)
+
+    def test_lines(self):
+        self.assertEqual([it.line for it in places_in(b'"a"; /*\n\n*/ "b"\n"c"; "d"')], [1, 3, 4])
+
+    def test_spelled(self):
+        for source, new, wanted in SPELLED:
+            [place] = places_in(source)
+            self.assertEqual(respelled(place, new), wanted, source)
+
+    def test_spliced(self):
+        [place] = places_in(b'"a\\\n%i"')
+        self.assertEqual(respelled(place, b"a%d"), b'"a\\\n%d"')
+        self.assertEqual(respelled(place, b"b%i"), b'"b\\\n%i"')
+        [place] = places_in(b'"%\\\ni"')
+        self.assertIsNone(respelled(place, b"x"))
+
+    def test_parts(self):
+        self.assertEqual(literals_of(b'"a\\\nb" /* c */ "d"'), [b'"ab"', b'"d"'])
+
+    def test_a_file(self):
+        source = b'f("a"); g("b");'
+        self.assertEqual(with_sources(source, list(places_in(source)), [b'"c"', b'"d" "e"']), b'f("c"); g("d" "e");')
+
+
+class Preprocessed(unittest.TestCase):
+    def test_tokens(self):
+        text = b'# 1 "a.c"\nint x;\n\nf("a" L"b", 1.5e-3, \'"\');\n# 9 "b.h" 1\ny'
+        wanted = [b"int", b"x", b";", b"f", b"(", b'"a"', b'L"b"', b",", b"1.5e-3", b",", b"'\"'", b")", b";", b"y"]
+        found = Tokens(text)
+        self.assertEqual(found.words, wanted)
+        self.assertEqual(found.lines, [2] * 3 + [4] * 10 + [6])
+
+    def test_both_ways(self):
+        text = b'# 1 "a.c"\nint f(void) { return g(L"a\\"b", \'\\n\', 0x1p-3) + 1; }\n\n#pragma x\n static_assert(1, "x"); y\n'
+        slow = Tokens(text + b'R"(z)"')
+        self.assertEqual((slow.words[:-1], slow.lines[:-1]), (Tokens(text).words, Tokens(text).lines))
+        self.assertEqual(Tokens(b'R"x(a\nb)x"\nc').words, [b'R"x(a\nb)x"', b"c"])
+        self.assertEqual(Tokens(b'R"x(a\nb)x"\nc').lines, [1, 3])
+
+    def test_static_assertions(self):
+        self.assertEqual(Tokens(b'a _Static_assert((1), "x(") ; static_assert(f(2)); b').words, [b"a", b";", b";", b"b"])
+
+    def test_common_front(self):
+        first = b'# 1 "a.h"\nint x;\n# 2 "a.c"\nf("a");\n'
+        self.assertEqual(first[common_front(first, first.replace(b'"a")', b'"b")')) :], b'\n# 2 "a.c"\nf("a");\n')
+        self.assertEqual(common_front(first, b"int"), 0)
+        self.assertEqual(common_front(first + b'R"x()x"', first), 0)
+        self.assertEqual(common_front(first, first), len(b'# 1 "a.h"\nint x;'))
+
+    def test_utf8(self):
+        self.assertEqual(as_utf8("é".encode()), "é".encode())
+        self.assertEqual(as_utf8(b"\xe9a"), b"_a")
+
+
+class Doubts(unittest.TestCase):
+    """Words that leave a file, whatever libclang says."""
+
+    LEFT = [
+        b'int mine(const char *, ...) __asm__("printf");',
+        b'void f(void) { asm volatile("call " "printf"); }',
+        b'void f(void) { __asm__("\\160rintf"); }',
+        b'int x; asm("");',
+        b"void f(void) {} asm (\"\");",
+        b"int main() { register_printf_specifier(1, 0, 0); }",
+    ]
+    FINE = [b'void f(void) { asm volatile("nop" : : "r"(1)); }', b"void xprintf(const char *);", b'void f(void) { g("asm(printf)"); }']
+
+    def test_words(self):
+        for text in self.LEFT:
+            with self.assertRaises(Left, msg=text):
+                doubts.check_words(text)
+        for text in self.FINE:
+            doubts.check_words(text)
+
+    def test_line_directives(self):
+        for number, (text, wanted) in enumerate([("#line 1\n", True), ("  # 1 \"x\" 3\n", True), ("/* x */ %: line 4\n", True), ("#de\\\nfine line\n", False), ("#li\\\nne 4\n", True), ("x # 1\n", False)]):
+            with tempfile.NamedTemporaryFile("w", suffix=".c") as file:
+                file.write(text)
+                file.flush()
+                self.assertEqual(doubts.has_line_directive(file.name, number), wanted, text)
+
+
+class Commands(unittest.TestCase):
+    def command(self, *words):
+        return CompileCommand("/", os.path.realpath("/a/b.c"), words)
+
+    def test_kept(self):
+        words, at = self.command("gcc", "-O2", "-DX", "-c", "-o", "b.o", "a/b.c", "-MD", "-MF", "b.d", "-Wp,-MD,x", "-save-temps=obj", "-dD").preprocessing()
+        self.assertEqual((words, at), (["gcc", "-O2", "-DX", "a/b.c", "-E", "-w"], 3))
+
+    def test_unclear(self):
+        for word in ["-Wl,--wrap=printf", "-fexec-charset=latin1", "-finput-charset=LATIN1", "@more", "-traditional-cpp", "-fplugin=x.so", "-specs=x", "--specs=x", "-B/x", "-wrapper"]:
+            with self.assertRaises(Left, msg=word):
+                self.command("gcc", word, "-c", "a/b.c").preprocessing()
+        self.command("gcc", "-fexec-charset=UTF-8", "-c", "a/b.c").preprocessing()
+
+    def test_another_file(self):
+        with self.assertRaises(Left):
+            self.command("gcc", "-c", "a/c.c").preprocessing()
+
+    def test_sources(self):
+        for name, wanted in [("a.c", True), ("a.cc", True), ("a.C", True), ("a.h", False), ("a.inc", False), ("a.c.in", False), ("c", False)]:
+            self.assertEqual(bool(SOURCES.fullmatch(name)), wanted, name)
+
+
+class Functions(unittest.TestCase):
+    def test_known(self):
+        self.assertEqual((KNOWN["snprintf"].index, KNOWN["snprintf"].parameters), (2, 3))
+        self.assertEqual((KNOWN["__snprintf_chk"].index, KNOWN["__snprintf_chk"].parameters), (4, 5))
+        self.assertEqual((KNOWN["__printf_chk"].index, KNOWN["__vprintf_chk"].is_variadic), (1, False))
+        self.assertTrue(KNOWN["syslog"].header.fullmatch("sys/syslog.h"))
+        self.assertFalse(KNOWN["printf"].header.fullmatch("err.h"))
+
+    def test_translators(self):
+        for name in ["_", "N_", "gettext", "dcgettext", "ngettext", "dcngettext", "libintl_dgettext", "rpl_gettext"]:
+            self.assertTrue(GETTEXT.fullmatch(name), name)
+        self.assertFalse(GETTEXT.fullmatch("printf"))

@@ -1,0 +1,95 @@
+#!/usr/bin/env python3
+"""Respells the formats of a source tree by fmtcanon-replace, and compares the assembler of each unit before and after.
+
+Usage: tests/field/rewrites.py DIR
+
+DIR has a `compile_commands.json`; its files are changed. Each place that the library accepts and that has another spelling, as
+%i for %d and %-s for %s, is replaced if fmtcanon-replace judges so, with --attribute. The assembler of each changed unit may
+differ in the bytes of strings alone. It needs the module fmtcanon with its library, and libclang.
+"""
+
+import os
+import re
+import subprocess
+import sys
+from collections import Counter
+from concurrent.futures import ProcessPoolExecutor
+from pathlib import Path
+
+TOP = Path(__file__).resolve().parent.parent.parent
+sys.path[:0] = [str(TOP / "python"), str(TOP / "tests/field")]
+
+import fmtcanon  # noqa: E402
+from fmtcanon.replace.calls import Functions  # noqa: E402
+from fmtcanon.replace.compile_commands import SOURCES, commands_in  # noqa: E402
+from fmtcanon.replace.files import Change, File  # noqa: E402
+from fmtcanon.replace.left import Left  # noqa: E402
+from fmtcanon.replace.places import places_in, respelled  # noqa: E402
+from sources import is_accepted  # noqa: E402
+
+# What a format may be instead: each pattern is tried in turn, once.
+SPELLINGS = [
+    (rb"(?<!%)%((?:%%)*[-+ #0']*\d*(?:\.\d*)?[hljzt]*)d", rb"%\1i"),
+    (rb"(?<!%)%((?:%%)*)([hljzt]*[uxXoc]|s)", rb"%\1-\2"),
+    (rb"%i", b"%d"),
+]
+
+
+def other_spelling(text):
+    """Returns another format that means the same in all data models, or None."""
+    for pattern, by in SPELLINGS:
+        new = re.sub(pattern, by, text, count=1)
+        if new != text and is_accepted(text) and len(fmtcanon.same_in(text, new)) == len(fmtcanon.Model):
+            return new
+    return None
+
+
+def assembler(command):
+    """Returns the assembler of a unit, without the bytes of strings."""
+    words, _ = command.preprocessing()
+    done = subprocess.run([*words[:-2], "-S", "-o", "-"], cwd=command.folder, capture_output=True, check=True, env={**os.environ, "SOURCE_DATE_EPOCH": "0"})
+    return re.sub(rb'\t\.(?:string|ascii)\t.*', b"", done.stdout)
+
+
+def rewritten(path, commands):
+    """Respells what it may of a file, and returns counts, and the units whose assembler differs in more than strings."""
+    with open(path, "rb") as stream:
+        source = stream.read()
+    changes = []
+    for place in places_in(source):
+        new = other_spelling(place.text)
+        text = new and respelled(place, new)
+        if text:
+            changes.append(Change(place, text))
+    counts = Counter(places=len(changes))
+    if not changes:
+        return counts, []
+    before = [assembler(command) for command in commands]
+    try:
+        File(path, source, changes, Functions({}, True)).replace(commands, False)
+    except Left as left:
+        return counts + Counter({f"left: {left}": len(changes)}), []
+    done = sum(not it.why_left for it in changes)
+    if not done:
+        return counts, []
+    after = [assembler(command) for command in commands]
+    return counts + Counter(replaced=done, units=len(commands)), [path for one, other in zip(before, after) if one != other]
+
+
+def main(words):
+    if len(words) != 1:
+        sys.exit(__doc__)
+    database = {path: commands for path, commands in commands_in(words[0]).items() if SOURCES.fullmatch(path) and os.path.exists(path)}
+    total, different = Counter(), []
+    with ProcessPoolExecutor() as pool:
+        for counts, paths in pool.map(rewritten, database.keys(), database.values()):
+            total.update(counts)
+            different += paths
+    for key, count in total.most_common():
+        print(f"{count:6} {key}")
+    print(f"{len(different):6} units whose assembler differs in more than strings: {' '.join(different)}")
+    return 1 if different else 0
+
+
+if __name__ == "__main__":
+    sys.exit(main(sys.argv[1:]))
