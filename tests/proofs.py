@@ -29,6 +29,8 @@ from sources import TOP, Sources, kit_folder, kit_sum  # noqa: E402
 # The files whose code makes what is kept.
 SCRIPTS = [TOP / "tests" / f"{it}.py" for it in "kept mutant_files mutants proofs rattle_functions reports schedule sources".split()]
 PRINTING = threading.Lock()
+# How long a test may take with a mutant. One that takes longer says nothing: some use up a memory that is too large here.
+SECONDS = 10
 
 
 def say(text):
@@ -135,7 +137,7 @@ class Workspace:
 
     def try_tests(self, name):
         """Returns what the tests of a crate print, which are run and not proved."""
-        return run_rt(self.folder / "crates" / name, "try", "--test")[0]
+        return run_rt(self.folder / "crates" / name, "try", "--test", "--seconds", str(SECONDS))[0]
 
 
 @contextmanager
