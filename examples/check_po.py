@@ -1,5 +1,5 @@
 #!/usr/bin/env python3
-"""The command fmtcanon-po, out of the source tree: it wants the module fmtcanon."""
+"""Runs fmtcanon-po from the source tree. It needs the module fmtcanon."""
 
 import sys
 

@@ -268,12 +268,13 @@ def try_sizes(folder, work, trials):
         file.write_text(catalog([message("#, c-format", msgid, msgstr)])[0])
         status, report, seconds, _ = checked(folder, ["a.po"], work)
         trials.expect(f"{name}: {seconds:.1f} seconds, at most {most}", (seconds <= most, "1 messages judged" in report or "1 not judged" in report), (True, True))
-    for letters in ["x", "\u0436", "x\U0001f600" + "y" * 100]:
-        size = len(letters.encode())
-        text = letters * (20_000_000 // size)
+    # Letters of which a message is made, its megabytes, and the memory that it may take.
+    texts = [("x", 20, 400), ("\u0436", 20, 400), ("x\U0001f600" + "y" * 100, 20, 400), ("\\n", 2, 60), ('a"\n"', 2, 60)]
+    for letters, size, most in texts:
+        text = letters * (size * 1_000_000 // len(letters.encode()))
         file.write_text(catalog([message("#, c-format", "%d" + text, "%s" + text)])[0], encoding="utf-8")
         status, report, _, memory = checked(folder, ["a.po"], work)
-        trials.expect(f"20 MB of {letters[:2]}: {memory} KiB", (status, memory < 400_000, "int and string" in report), (1, True, True))
+        trials.expect(f"{size} MB of {letters[:2]!r}: {memory} KiB", (status, memory < most * 1000, "int and string" in report), (1, True, True))
     (work / "a.mo").write_bytes(overlapping(60_000, 1_000_000))
     status, report, seconds, memory = checked(folder, ["a.mo"], work)
     found = (status, report.startswith("a.mo:0: it can't be read: its strings overlap"), seconds < 5, memory < 200_000)

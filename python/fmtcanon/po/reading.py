@@ -67,10 +67,10 @@ class PoReader:
         self.messages: List[Message] = []
         self.flags: List[str] = []
         self.is_fuzzy = False
-        # The last keyword, with its form and the strings after it.
+        # The last keyword, with its form and the text of the strings after it, if there are any.
         self.keyword: Optional[bytes] = None
         self.form: Optional[int] = None
-        self.strings: List[bytes] = []
+        self.text: Optional[bytearray] = None
         self.has_context = False
         self.message: Optional[Message] = None
         self.line = 0
@@ -83,7 +83,8 @@ class PoReader:
             elif token.kind == "string":
                 if self.keyword is None:
                     raise Unreadable(token.line, "a string comes after no keyword")
-                self.strings.append(unquoted(token.text, self.charset, token.line))
+                self.text = bytearray() if self.text is None else self.text
+                self.text += unquoted(token.text, self.charset, token.line)
             elif token.kind == "form":
                 self.begin_form(token)
             else:
@@ -105,7 +106,7 @@ class PoReader:
             self.flags += found
 
     def begin_form(self, token: Token) -> None:
-        if self.keyword != b"msgstr" or self.form is not None or self.strings:
+        if self.keyword != b"msgstr" or self.form is not None or self.text is not None:
             raise Unreadable(token.line, "a number in brackets may only come after msgstr")
         digits = token.text[1:-1].strip().lstrip(b"0")
         if len(digits) > FORM_DIGITS:
@@ -113,7 +114,7 @@ class PoReader:
         self.form = int(digits or b"0")
 
     def begin_keyword(self, keyword: bytes, line: int) -> Iterator[Message]:
-        self.keyword, self.form, self.strings, self.line = keyword, None, [], line
+        self.keyword, self.form, self.text, self.line = keyword, None, None, line
         if keyword in (b"domain", b"msgctxt", b"msgid"):
             yield from self.finish_message()
         elif self.message is None:
@@ -128,10 +129,9 @@ class PoReader:
         keyword, self.keyword = self.keyword, None
         if keyword is None:
             return
-        if not self.strings:
+        if self.text is None:
             raise Unreadable(self.line, f"{keyword.decode()} has no string")
-        text = b"".join(self.strings)
-        self.strings = []
+        text, self.text = bytes(self.text), None
         if self.charset is not None:
             try:
                 checked(text)

@@ -16,6 +16,8 @@ TOKEN = re.compile(
 # Some parts of a string. With no bound on how many, the pattern would take memory for each.
 PARTS = re.compile(rb'(?:[^"\\\n]+|\\[^\n]){1,1000}')
 ESCAPE = re.compile(rb"\\(?:([0-7]{1,3})|x([0-9A-Fa-f]+)|(.))", re.DOTALL)
+# An escape that may be of a number above 127.
+HIGH = re.compile(rb"\\(?:[2-7][0-7][0-7]|x)")
 SIMPLE: Dict[bytes, bytes] = {bytes([name]): bytes([value]) for name, value in zip(b'abfnrtv\\"', b'\a\b\f\n\r\t\v\\"')}
 BYTE = [bytes([number]) for number in range(256)]
 
@@ -71,21 +73,18 @@ def unquoted(string: bytes, charset: Optional[Charset], line: int) -> bytes:
     """Returns the bytes that a string stands for, in UTF-8. An escape by number is a byte in the charset of the file."""
     if b"\\" not in string:
         return string
-
-    def part(match: "re.Match[bytes]") -> bytes:
-        return value_of(match, line)
-
-    if charset is None or charset.is_utf_8:
-        return ESCAPE.sub(part, string)
-    if not any(value_of(match, line) > b"\x7f" for match in ESCAPE.finditer(string)):
-        return ESCAPE.sub(part, string)
-    mixed, done = bytearray(), 0
+    # Bytes by their number are bytes of a charset, not of UTF-8, so what is round them is converted to it and back.
+    is_mixed = charset is not None and not charset.is_utf_8 and HIGH.search(string) is not None
+    encode = charset.encode if charset is not None and is_mixed else bytes
+    out, done = bytearray(), 0
     try:
+        # Joining a list takes some eighty bytes for each escape.
         for match in ESCAPE.finditer(string):
-            mixed += charset.encode(string[done : match.start()]) + value_of(match, line)
+            out += encode(string[done : match.start()])
+            out += value_of(match, line)
             done = match.end()
-        mixed += charset.encode(string[done:])
-        return charset.decode(bytes(mixed))
+        out += encode(string[done:])
+        return charset.decode(bytes(out)) if charset is not None and is_mixed else bytes(out)
     except UnicodeError as error:
         raise Unreadable(line, str(error)) from error
 
