@@ -19,6 +19,7 @@ import definition_names  # noqa: E402
 import literals  # noqa: E402
 import mutant_files  # noqa: E402
 import reach  # noqa: E402
+import replacing  # noqa: E402
 import turned  # noqa: E402
 from harness import TOP, Trials, fences, model_rows, usage_texts  # noqa: E402
 
@@ -98,6 +99,8 @@ def tested_counts():
     records = data_rows("records.jsonl")
     yield r"(\d+) rows of `tests/rows/records.jsonl`, (\d+) of them", [len(records), len(records) - HAND_RECORDS]
     yield r"(\d+) refused formats and (\d+) directives end after each byte, or a read fails there, and (\d+) formats in which", [data_count(name) for name in ["cut_refusals.jsonl", "cut_directives.jsonl", "fronts.jsonl"]]
+    left = {name for name, _, _ in replacing.LEFT}
+    yield r"(\d+) programs that would print something else .* (\d+) of which it is known that it can't see", [len(left) + len(replacing.NOT_SEEN), len(replacing.NOT_SEEN)]
     yield r"(\d+) runs worked out by hand, (\d+) worked reductions and (\d+) calls", [data_count(name) for name in ["commands.jsonl", "reduced.txt", "calls.jsonl"]]
 
 

@@ -20,6 +20,7 @@ sys.path.insert(0, str(Path(__file__).resolve().parent))
 
 import roots  # noqa: E402
 from catalog_edges import try_msgfmt_edges  # noqa: E402
+from catalog_plurals import try_plurals  # noqa: E402
 from library import TIMEOUT, TOP, Trials, compile_with, lines_of, load_module, python_lines, shapes, try_compiler  # noqa: E402
 from literals import try_decoded, try_encoded, try_trigraphs  # noqa: E402
 from models import try_models  # noqa: E402
@@ -106,11 +107,12 @@ def try_random(folder, trials, work):
     trials.expect("random texts", status, 0)
 
 
-def try_gettext(folder, tools, trials):
-    """What fmtcanon-po prints, beside msgfmt."""
+def try_gettext(folder, tools, module, trials):
+    """What fmtcanon-po prints, compared with msgfmt."""
     if tools.has("msgfmt", "gettext"):
         try_msgfmt(folder, trials)
         try_msgfmt_edges(trials)
+        try_plurals(module, trials)
 
 
 def try_locale(program, folder, trials):
@@ -171,7 +173,7 @@ def main():
         try_second(folder, module, trials, Path(work))
         try_random(folder, trials, Path(work))
         try_models(os.path.abspath(sys.argv[1]), tools, trials, Path(work))
-    try_gettext(folder, tools, trials)
+    try_gettext(folder, tools, module, trials)
     try_annotations(tools, trials)
     try_locale(os.path.abspath(sys.argv[1]), folder, trials)
     try_libclang(folder, trials)

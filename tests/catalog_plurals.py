@@ -1,0 +1,56 @@
+"""Compares fmtcanon-po with msgfmt on messages with plural forms, under many rules and ranges.
+
+`tests/more.py` runs it. The messages are made by a generator with a fixed seed.
+"""
+
+import io
+import random
+import tempfile
+from pathlib import Path
+
+from catalog_edges import fault_lines, msgfmt_lines
+
+SEED = 7
+MESSAGES = 700
+# The number of forms, and the expression.
+RULES = [
+    (2, "n != 1"), (2, "n>1"), (2, "n<4?0:1"), (2, "n<5?0:1"), (2, "n>=996 && n<=1000"), (2, "n>=997&&n<=1000"), (2, "!(n-3)"), (5, "n*n%5"),
+    (3, "n/400"), (2, "n<=2-3"), (3, "n==1 ? 0 : n==0 || (n%100>0 && n%100<20) ? 1 : 2"),
+    (3, "n%10==1 && n%100!=11 ? 0 : n%10>=2 && n%10<=4 && (n%100<10 || n%100>=20) ? 1 : 2"),
+    (4, "n%100==1 ? 0 : n%100==2 ? 1 : n%100==3 || n%100==4 ? 2 : 3"),
+    (6, "n==0 ? 0 : n==1 ? 1 : n==2 ? 2 : n%100>=3 && n%100<=10 ? 3 : n%100>=11 ? 4 : 5"),
+]
+HEADER = 'msgid ""\nmsgstr ""\n"Content-Type: text/plain; charset=UTF-8\\n"\n"Plural-Forms: nplurals=%d; plural=%s;\\n"\n\n'
+TEXTS = ["%d", "x", "%d %s", "%s %d", "%2$s %1$d", "%1$d", "%s", "%m %d", "%d%%"]
+
+
+def span(generator):
+    """A flag `range:`, or nothing for half of the messages."""
+    first, count = generator.choice([(generator.randrange(12), 12), (generator.randrange(3000), 2000)])
+    return generator.choice(["", f" range: {first}..{first + generator.randrange(count)}"])
+
+
+def catalog(generator, count, rule):
+    parts = [HEADER % (count, rule)]
+    for number in range(MESSAGES):
+        text = generator.choice(TEXTS)
+        forms = [generator.choice([text, text, generator.choice(TEXTS)]) for _ in range(count)]
+        parts.append(f'#, c-format,{span(generator)}\nmsgid "{number} {text}"\nmsgid_plural "{number} {text}"\n')
+        parts += [f'msgstr[{form}] "{one}"\n' for form, one in enumerate(forms)] + ["\n"]
+    return "".join(parts)
+
+
+def try_plurals(module, trials):
+    """Both find faults in the same messages."""
+    from fmtcanon.po.checking import Checker
+
+    generator = random.Random(SEED)
+    for count, rule in RULES:
+        text, report = catalog(generator, count, rule), io.StringIO()
+        Checker(report, list(module.Model)).check_data("a.po", text.encode())
+        with tempfile.TemporaryDirectory() as work:
+            file = Path(work) / "a.po"
+            file.write_text(text)
+            theirs = msgfmt_lines(file)
+        trials.expect(f"messages with faults under {rule}", fault_lines(report.getvalue()), theirs)
+        trials.expect(f"some messages under {rule} have faults, and some have none", 50 < len(theirs) < MESSAGES, True)
