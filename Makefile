@@ -1,6 +1,6 @@
 # make                   builds the program and the C library
-# make test              the gate: everything is proved and tested from nothing, then the program
-#                        and the library are tried
+# make test              the gate: everything is proved and tested, except what was verified on this
+#                        machine before, then the program and the library are tried
 # make check-more        tries the library with tools that the gate doesn't need: clang, valgrind,
 #                        gettext, libclang, mypy, lintian, debootstrap, and the shells of the completions
 # make mutants           tries mutants, which the prover must refuse, and the script that does so
