@@ -10,7 +10,8 @@ MAY_BE_RAW = re.compile(rb'(?<!\w)(?:u8|[uUL])?R"')
 CHARACTER = rb"(?:u8|[uUL])?'(?:[^'\\\n]|\\[\s\S])*'"
 NUMBER = rb"\.?[0-9](?:[eEpP][-+]|'?[\w.])*"
 NAME = rb"[A-Za-z_$\x80-\xff][\w$\x80-\xff]*"
-COMMENT = rb"/\*[\s\S]*?\*/|//(?:[^\\\n]|\\[\s\S])*"
+# Each comment matches in one way only, so that a search that fails takes linear time.
+COMMENT = rb"/\*[^*]*\*+(?:[^/*][^*]*\*+)*/|//(?:[^\\\n]|\\[\s\S])*(?=\n|\Z)"
 GAP = rb"(?:[ \t\n\v\f\r]|\\\r?\n|" + COMMENT + rb")*"
 # Literals side by side are one. A raw string or one with a prefix is none of them. Nothing depends on this reader: what
 # it takes for a literal is confirmed by the compiler's own preprocessor.
