@@ -75,6 +75,7 @@ SOURCES = [
     ("#define TWO(f) printf(f, 1); printf(f, 2)", 'TWO("%i\\n");', [], "replaced"),
     ("#define TWO(f) printf(f, 1); (void)f[0]", 'TWO("%i\\n");', [], "left: a macro uses it for something else, too"),
     ("#define CHECK(f) _Static_assert(sizeof f > 1, f); printf(f, 1)", 'CHECK("%i\\n");', [], "replaced"),
+    ("#include <stdlib.h>\n#define DIE(s, f) ((void)sizeof(struct { _Static_assert(s + 1, #f); int x; }), printf(f, s))", 'DIE(EXIT_FAILURE, "%i\\n");', [], "replaced"),
     ("char *gettext(const char *); ", 'printf(gettext("%i\\n"), 1);', [], "left: it is a key for translators, an argument of gettext"),
     ("char *gettext(const char *);\n#define _(x) gettext(x)", 'printf(_("%i\\n"), 1);', [], "left: it is a key for translators, an argument of gettext"),
     ("void say(const char *, ...) __attribute__((format(printf, 1, 2)));", 'say("%i\\n", 1);', [], "left: it is an argument of say, which isn't known"),

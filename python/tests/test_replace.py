@@ -111,6 +111,9 @@ class Preprocessed(unittest.TestCase):
         self.assertEqual(common_front(first, b"int"), 0)
         self.assertEqual(common_front(first + b'R"x()x"', first), 0)
         self.assertEqual(common_front(first, first), len(b'# 1 "a.h"\nint x;'))
+        # A marker within a declaration is no place to cut.
+        second = first + b'# 3 "a.c"\n_Static_assert (\n# 3 "b.h" 3 4\n1,\n# 3 "a.c"\n"x");'
+        self.assertEqual(second[common_front(second, second + b" ") :][:12], b'\n# 3 "a.c"\n_')
 
     def test_utf8(self):
         self.assertEqual(as_utf8("é".encode()), "é".encode())
