@@ -277,7 +277,7 @@ def try_files(tool, trials):
     tool.put("lost.c", f'#include "nowhere.h"\n{PLAIN}')
     status, report, _ = tool.run([OLD, NEW, "lost.c"])
     trials.expect("a header that isn't there", (status, "left: its compiler can't preprocess it: " in report), (1, True))
-    tool.put("time.c", f"{PLAIN}const char *t = __TIMESTAMP__;\n")
+    os.utime(tool.put("time.c", f"{PLAIN}const char *t = __TIMESTAMP__;\n"), (0, 0))
     status, report, _ = tool.run([OLD, NEW, "time.c"])
     trials.expect("a file that has its own time", (status, report), (1, "time.c: left: its compiler reads it otherwise once literals are replaced\n"))
     for source in ["const char *t = __DATE__ __TIME__, *f = __FILE__; int n = __LINE__ + __COUNTER__;\n", "#include <assert.h>\nvoid a(int x) { assert(x); }\n"]:
