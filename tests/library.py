@@ -355,7 +355,7 @@ def main():
     try_header(trials)
     try_exports(folder, trials)
     module = load_module(program, folder)
-    enums = [(module.Kind, "kind"), (module.Model, "model"), (module.Type, "type"), (module.Verdict, "verdict")]
+    enums = [(module.Kind, "kind"), (module.Model, "model"), (module.Type, "type"), (module.Verdict, "verdict"), (module.LiteralKind, "literal_kind")]
     for enum, kind in enums:
         kind = f"fmtcanon_{kind}"
         trials.expect(f"{kind} of the Python module", {one.name: int(one) for one in enum}, header_numbers(kind))
