@@ -323,7 +323,7 @@ def blocks(size):
 
 
 def try_calls(program, trials):
-    """An answer goes out in as few writes as it has blocks, none of them empty; nothing but `stream` reads."""
+    """An answer is one write, and of `stream` as few as it has blocks, none of them empty; nothing but `stream` reads."""
     with tempfile.TemporaryDirectory() as work:
         trials.expect("calls.c", library_of("calls", work)[1], True)
         for words, stdin, _, text in ANSWERED:
@@ -332,7 +332,8 @@ def try_calls(program, trials):
             trials.expect(f"{name_of(words)}: what is written", sum(moved for _, moved in out), len(text))
             is_whole = all(asked == moved > 0 for asked, moved in out)
             trials.expect(f"{name_of(words)}: no write is empty or cut", is_whole, True)
-            trials.expect(f"{name_of(words)}: {len(out)} writes", 1 <= len(out) <= blocks(len(text)), True)
+            most = blocks(len(text)) if words == ["stream"] else 1
+            trials.expect(f"{name_of(words)}: {len(out)} writes", 1 <= len(out) <= most, True)
             trials.expect(f"{name_of(words)}: nothing on standard error", [one for one in writes if one[0] == 2], [])
             if words != ["stream"]:
                 trials.expect(f"{name_of(words)}: no read", reads, [])

@@ -172,18 +172,18 @@ static void try_one(struct given g)
 
 int main(void)
 {
-    size_t text, model, room, calls = 0;
+    size_t text, model, room;
     int call;
     signal(SIGSEGV, written);
     lock_pages();
     for (call = 0; call < CALLS; call++)
         for (text = 0; text < COUNT(TEXTS); text++)
             for (model = 0; model < COUNT(MODELS); model++)
-                for (room = 0; room < COUNT(ROOMS); room++, calls++) {
+                for (room = 0; room < COUNT(ROOMS); room++) {
                     struct given g = {call, MODELS[model], TEXTS[text].first, TEXTS[text].second, NULL, ROOMS[room], NULL, NULL};
                     sprintf(now, "%s of texts %d, model %d, room %d", NAMES[call], (int)text, (int)model, (int)ROOMS[room]);
                     try_one(g);
                 }
-    printf("%lu outcomes are as the header says\n", (unsigned long)calls);
+    printf("calls %d, pairs of texts %d, data models %d, rooms %d\n", CALLS, (int)COUNT(TEXTS), (int)COUNT(MODELS), (int)COUNT(ROOMS));
     return 0;
 }
