@@ -1,7 +1,7 @@
 """Each command that replies to records, with what is sent in turn and the reply to it, worked out by hand.
 
-What is sent is a record, or two of `same` and `fits`, each with a zero byte after it, and so is the reply. The status of
-a run over them all comes last, and is the highest of theirs.
+What is sent is a record, or two for `same` and `fits`, each terminated by NUL, and so is the reply. The status of a run
+over all of them comes last, and is the highest of theirs.
 """
 
 NO_ESCAPE = b"2 literal 3 BadEscape at byte 1\0"

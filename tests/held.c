@@ -1,9 +1,9 @@
-/* Runs a program, and writes the most memory that it held, in KiB, to a file:
+/* Runs a program, and writes the most memory that it held, in KiB, to FILE:
  *
  *   held FILE PROGRAM WORD ..
  *
- * It ends as the program does. The system counts for a program what its parent held when it started, so the parent has to
- * be as small as this one. */
+ * It ends as the program does. The system counts what the parent of a program held when it started the program, so
+ * the parent has to be small. */
 #include <stdio.h>
 #include <sys/resource.h>
 #include <sys/wait.h>

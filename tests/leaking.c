@@ -1,5 +1,5 @@
-/* Replies to records as the program does to empty ones, and holds 64 bytes more for each, or for none where it has a word
- * `none`: a trial that finds memory that isn't given back has to find it here. */
+/* Replies to records as the program replies to empty ones, and leaks 64 bytes for each, unless its last argument is `none`.
+ * A trial that finds leaks has to find this one. */
 #include <stdio.h>
 #include <stdlib.h>
 #include <string.h>

@@ -29,7 +29,7 @@ def records(*texts):
 
 
 def runs(count):
-    """Runs that read, print, reduce, compare and decode so many units: a name, the words, standard input, and the status."""
+    """Runs that read, print, reduce, compare and decode `count` units: a name, the arguments, standard input, and the status."""
     respelled, normal = b"%i" * count, b"%d" * count
     literals = [b'"' + unit * count + b'"' for unit in (b"\\t", b"\\11")]
     yield "stream", ["stream"], respelled, 0

@@ -5,8 +5,8 @@ Usage: tests/memory.py PROGRAM
 
 Address spaces: each command in spaces that grow by a page at a time, until it answers. Allocations: each allocation of
 each command refused, one a run, and each of a run over records. What is held: over few records and over many of each
-command, and in a conversation with a gigabyte of replies. A program that holds 64 bytes more for each record is measured,
-too, and has to be found out.
+command, and in a conversation with a gigabyte of replies. A program that leaks 64 bytes a record is measured the same way,
+and has to be found.
 
 A space may be too small for the system to start the program, which it then kills, or its loader ends it: the sizes
 are printed. It needs a Linux system with gcc. Its last line is 'N passed, M failed', and it exits with 1 where M isn't 0.
@@ -29,19 +29,19 @@ from devices import ANSWERED, NOT_ASKED, REFUSED, library_of, name_of  # noqa: E
 from harness import TIMEOUT, TOP, Trials, run  # noqa: E402
 
 OUT_OF_MEMORY = (4, b"out of memory\n")
-# How many records there are at least in a run, and in one that is to hold no more than it, and how many KiB more it may.
+# The records or pairs of two runs, and how many KiB more than the first the second may hold.
 FEW, MANY = 1_000, 41_000
 SLACK = 256
-# The replies of a long conversation: so many of so many canonical texts of 4,088 bytes, more than 2^30 bytes in all.
+# The replies of a long conversation, and how many canonical texts of 4,088 bytes each has: more than 2^30 bytes in all.
 REPLIES, TEXTS = 1_030, 256
 # The most that it may hold, in KiB.
 MOST_HELD = 16_384
-# A record of so many bytes is gathered by allocations that grow, so that they are few.
+# The bytes of a long record, and how many allocations more than a short one it may take: buffers grow in large steps.
 LONG_RECORD, FEW_ALLOCATIONS = 1_000_000, 40
 
 
 def run_within(program, words, stdin, size):
-    """The status and the streams of a run in an address space of so many bytes."""
+    """The status and the streams of a run in an address space of `size` bytes."""
     return run(program, words, stdin, preexec_fn=lambda: resource.setrlimit(resource.RLIMIT_AS, (size, size)))
 
 

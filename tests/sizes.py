@@ -3,8 +3,8 @@
 
 Usage: tests/sizes.py PROGRAM FOLDER
 
-FOLDER has libfmtcanon.a, as `make library` leaves it. Each run may take fifty times what it took when its row was written,
-so that it fails where the time grows with the square of a length, and not on a slow machine. All answers are worked out
+FOLDER has libfmtcanon.a, as `make library` leaves it. Each run may take fifty times what it took when its row was written:
+a run whose time grows with the square of the length takes more, and one on a slow machine takes less. All answers are worked out
 from the lengths. It needs a Linux system with gcc. Its last line is 'N passed, M failed', and it exits with 1 where M
 isn't 0.
 """
@@ -24,16 +24,16 @@ sys.path.insert(0, str(Path(__file__).resolve().parent))
 from harness import TIMEOUT, TOP, Trials, run  # noqa: E402
 from library import WRAPPED, compile_with  # noqa: E402
 
-# How many times as long as it took a run may take, in seconds of a processor.
+# A run may take this many times the seconds of a processor that its row has.
 TIMES = 50
 DIRECTIVES, ARGUMENTS, ESCAPES, FIRST_EQUAL = 300_000, 500_000, 1_000_000, 40_000
-# Units of two bytes or more.
+# Texts of two bytes a unit, or more.
 LARGE = 20_000_000
 LONG_RECORD = 400_000_000
 PIECE = 1 << 20
 # The most directives that a word has room for, whose greatest length Linux has as MAX_ARG_STRLEN.
 WORD = ((1 << 17) - 1) // 2
-# Rows of tests/library/sizes.c: how many units, and how many seconds it took.
+# Rows of tests/library/sizes.c: the number of units, and the seconds that it took.
 CALLS = [
     ("check", DIRECTIVES, 0.01), ("refused", DIRECTIVES, 0.03), ("is_canonical", DIRECTIVES, 0.01), ("canonical_length", DIRECTIVES, 0.03),
     ("canonical", DIRECTIVES, 0.05), ("types", ARGUMENTS, 0.02), ("same", DIRECTIVES, 0.4), ("compare", DIRECTIVES, 0.1),
@@ -54,7 +54,7 @@ def literal(unit, end=b""):
 
 
 def of_directives():
-    """Rows of many directives: the words, standard input, how it ends, and how many seconds it took."""
+    """Rows of many directives: the words, standard input, how it ends, and the seconds that it took."""
     respelled, normal = b"%i" * DIRECTIVES, b"%d" * DIRECTIVES
     many = b"%d" * ARGUMENTS
     yield ["stream"], respelled, (0, normal), 0.03
@@ -100,7 +100,7 @@ def of_escapes():
 
 
 def seconds_of(program, words, stdin, most):
-    """How a run ends that is killed after so many seconds of a processor, and how many it took."""
+    """How a run ends that is killed after `most` seconds of a processor, and the seconds that it took."""
     before = resource.getrusage(resource.RUSAGE_CHILDREN)
     limit = lambda: resource.setrlimit(resource.RLIMIT_CPU, (most, most))  # noqa: E731
     status, stdout, _ = run(program, words, stdin, preexec_fn=limit)
@@ -130,11 +130,21 @@ def try_calls(folder, trials):
 
 
 def try_words(program, trials):
-    """As many words as the system allows: each is counted."""
-    # A word takes its bytes, a zero byte and an address. The system keeps some room for itself.
+    """As many arguments as the system allows: each is counted."""
+    # An argument takes its bytes, a NUL byte and an address. The system keeps some room for itself.
     count = (os.sysconf("SC_ARG_MAX") - (1 << 14)) // (len("n:1") + 1 + 8)
     line = b"argument count: wanted 1, given %d\n" % count
     trials.expect(f"{count} words", run(program, ["format", "%d", *["n:1"] * count], env={}), (3, b"", line))
+
+
+def send(pipe, parts):
+    """Writes these parts, unless the program ends before."""
+    try:
+        for part in parts:
+            pipe.write(part)
+        pipe.close()
+    except BrokenPipeError:
+        pass
 
 
 def try_record(program, trials):
@@ -143,13 +153,7 @@ def try_record(program, trials):
         piece = b"y" * PIECE
         count, rest = divmod(LONG_RECORD, PIECE)
 
-        def send():
-            for _ in range(count):
-                process.stdin.write(piece)
-            process.stdin.write(b"y" * rest + b"\0")
-            process.stdin.close()
-
-        sender = threading.Thread(target=send)
+        sender = threading.Thread(target=send, args=(process.stdin, [piece] * count + [b"y" * rest + b"\0"]))
         sender.start()
         front, found, last = process.stdout.read(2), 0, b""
         while part := process.stdout.read(PIECE):

@@ -119,7 +119,7 @@ static int64_t made(const struct given *g)
     }
 }
 
-/* Whether an answer of so many bytes has room: a text has a zero byte after it. */
+/* Whether an answer of `result` bytes has room: a text has a NUL byte after it. */
 static int has_room(const struct given *g, int64_t result)
 {
     int is_text = g->call == CANONICAL || g->call == DECODE || g->call == ENCODE || g->call == KIND_NAME;

@@ -1,6 +1,6 @@
 /* Each call over long texts: what it answers, how many allocations it makes, and that none is held after it.
  *
- *   sizes SECONDS UNITS NAME      the row of this name over so many units, within so many seconds of the processor
+ *   sizes SECONDS UNITS NAME      the row of this name over UNITS units, within SECONDS seconds of the processor
  *   sizes                         the names of the rows
  *
  * The answers are worked out from the number of units. It is linked with malloc, realloc and free wrapped. */
@@ -63,7 +63,7 @@ static void too_slow(int signal)
     _exit(2);
 }
 
-/* A text of a front, of so many units, and of an end. */
+/* A text of a front, `count` units and an end. */
 static size_t fill(char *text, const char *front, const char *unit, size_t count, const char *end)
 {
     size_t step = strlen(unit), at = strlen(front), k;
