@@ -88,6 +88,8 @@ REFUSED = [
 ]
 # What `stream` settles before it is refused, and the report of that, which comes even where nothing can be written.
 STREAM_REFUSED = (b"a%.0sb%5d%q", b"ab%.0s%5d", b"refused 3 Unexpected at byte 10\n")
+# The length of a wrong word.
+WRONG = 100_000
 # Words that are a fault of their own or ask for help, with the status.
 NOT_ASKED = [
     (["format", "%d", "5"], 3),
@@ -101,6 +103,11 @@ NOT_ASKED = [
     (["fits", "--whole", "%d", "%d"], 3),
     (["types", "--whole"], 3),
     (["canon", "--literal"], 3),
+    (["show", "--model", "llp64"], 3),
+    (["show", "-z", "--model", "llp64", "%d"], 3),
+    (["x" * WRONG], 3),
+    (["canon", "--model", "x" * WRONG, "%d"], 3),
+    (["format", "%d", "x" * WRONG], 3),
     ([], 3),
     (["--help"], 3),
     (["same", "--help"], 3),

@@ -118,6 +118,7 @@ def limits():
     yield r"gcc accepts (\d+) pairs silently", [len(arguments.SILENT)]
     yield r"no more over (\d+) records than over (\d+)", [memory.MANY, memory.FEW]
     yield r"at most (\d+) MiB in a conversation", [memory.MOST_HELD // 1024]
+    yield r"at most (\d+) MiB more than", [memory.MOST_PAGES // 256]
     yield r"each within (\d+) times", [sizes.TIMES]
     units = [sizes.DIRECTIVES, sizes.ARGUMENTS, sizes.FIRST_EQUAL]
     yield r"(\d+) directives, (\d+) arguments, a million escapes of string literals, and (\d+) arguments", units

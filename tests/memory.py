@@ -25,7 +25,7 @@ sys.dont_write_bytecode = True
 sys.path.insert(0, str(Path(__file__).resolve().parent))
 
 from conversations import CONVERSATIONS, fronts_of, name_of as name_of_all, sent_of  # noqa: E402
-from devices import ANSWERED, NOT_ASKED, REFUSED, library_of, name_of  # noqa: E402
+from devices import ANSWERED, NOT_ASKED, REFUSED, WRONG, library_of, name_of  # noqa: E402
 from harness import TIMEOUT, TOP, Trials, run  # noqa: E402
 
 OUT_OF_MEMORY = (4, b"out of memory\n")
@@ -36,6 +36,8 @@ SLACK = 256
 REPLIES, TEXTS = 1_030, 256
 # The most that it may hold, in KiB.
 MOST_HELD = 16_384
+# In this many pages more than the program needs to start each answer is made.
+MOST_PAGES = 1_024
 # The bytes of a long record, and how many allocations more than a short one it may take: buffers grow in large steps.
 LONG_RECORD, FEW_ALLOCATIONS = 1_000_000, 40
 
@@ -81,7 +83,7 @@ def try_spaces(program, trials):
     rows += [(words, b"", (2, b"", line)) for words, line in REFUSED]
     for words, stdin, answer in rows:
         refused, got = 0, None
-        for pages in range(start, start + (1 << 14)):
+        for pages in range(start, start + MOST_PAGES):
             got = run_within(program, words, stdin, pages << 12)
             # Long words take room before the program starts.
             if got == (4, b"", b"out of memory\n"):
@@ -110,7 +112,7 @@ def try_growths(program, trials):
     """
     rows = [(words, stdin, (status, text, b"")) for words, stdin, status, text in ANSWERED]
     rows += [(words, b"", (2, b"", line)) for words, line in REFUSED]
-    rows += [(words, b"", run(program, words)) for words, _ in NOT_ASKED]
+    rows += [(words, b"", run(program, words)) for words, _ in NOT_ASKED if WRONG not in map(len, words)]
     with tempfile.TemporaryDirectory() as work:
         library, is_made = library_of("growths", work)
         trials.expect("growths.c", is_made, True)

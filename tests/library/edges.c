@@ -285,7 +285,7 @@ static char *at_end(size_t len)
 static void literal_pages(void)
 {
     static const char *const sources[] = {
-        "\"\"", "\"abc\\n%d and a run that is longer than sixteen bytes\"", "\"\\", "\"\\x", "\"?" "?", "\"", " ", "\"\\101\" \"\\7",
+        "\"\"", "\"abc\\n%d and a run that is longer than sixteen bytes\"", "\"\\", "\"\\x", "\"?\?", "\"", " ", "\"\\101\" \"\\7",
     };
     fmtcanon_error e;
     size_t i, cap;
