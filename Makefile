@@ -11,7 +11,8 @@
 # make dist              an archive of what `make` built, which installs without the kit
 # make deb               a Debian package of it
 # make wheel             a wheel of the Python module with the library and the program inside
-# make tables            what the two commands say of a machine's own catalogs and C sources
+# make tables SOURCES=   what the two commands say of a machine's own catalogs, and of source trees with a
+#                        compile_commands.json in these folders
 
 PREFIX ?= /usr/local
 BINDIR ?= $(PREFIX)/bin
@@ -235,4 +236,4 @@ wheel: built
 tables:
 	FMTCANON_LIBRARY=$(C)/$(SONAME) python3 tests/field/catalogs.py
 	FMTCANON_LIBRARY=$(C)/$(SONAME) python3 tests/field/mutations.py
-	FMTCANON_LIBRARY=$(C)/$(SONAME) python3 tests/field/sources.py
+	$(if $(SOURCES),FMTCANON_LIBRARY=$(C)/$(SONAME) python3 tests/field/sources.py $(SOURCES))

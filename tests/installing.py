@@ -243,7 +243,7 @@ def try_archive(work, trials):
     for name in ["po", "replace"]:
         words = [stage / "usr/bin" / f"fmtcanon-{name}", "--help"]
         done = subprocess.run(words, env=environment, check=False, timeout=TIMEOUT, stdout=subprocess.PIPE)
-        trials.expect(f"fmtcanon-{name} --help", (done.returncode, f"Usage: fmtcanon-{name}".encode() in done.stdout), (0, True))
+        trials.expect(f"fmtcanon-{name} --help", (done.returncode, f"usage: fmtcanon-{name}".encode() in done.stdout.lower()), (0, True))
 
 
 def try_page(trials):
@@ -262,19 +262,20 @@ def try_page(trials):
         trials.expect(f"the version of {page.name}", version, "fmtcanon 0.2.0")
 
 
-def options_of(text):
-    """The options that a help text lists, each with its words up to the first that goes on."""
-    return re.findall(r"^  (--[\w-]+(?: [A-Z:]+)?)  +", text, flags=re.MULTILINE)
+def options_of(name):
+    """Returns the options that the help of a command lists, each with its argument."""
+    environment = {**os.environ, "PYTHONPATH": str(TOP / "python"), "PYTHONDONTWRITEBYTECODE": "1"}
+    done = subprocess.run([sys.executable, "-m", f"fmtcanon.{name}", "--help"], env=environment, check=False, timeout=TIMEOUT, capture_output=True, encoding="utf-8")
+    return re.findall(r"^  (?:-h, )?(--?[\w-]+(?: [A-Z:]+)?)(?:  +|$)", done.stdout, flags=re.MULTILINE)
 
 
 def try_command_pages(trials):
     """The pages of the two commands have the options of their help."""
     for name in ["po", "replace"]:
-        text = (TOP / f"python/fmtcanon/{name}/command.py").read_text(encoding="utf-8")
         page = (TOP / f"man/fmtcanon-{name}.1").read_text(encoding="utf-8").replace("\\-", "-")
         section = page[page.index(".SH OPTIONS") : page.index(".SH EXIT STATUS")]
         tags = [" ".join(tag.replace('"', "").split()) for tag in re.findall(r"^\.TP\n\.BI? (.*)$", section, flags=re.MULTILINE)]
-        trials.expect(f"options of fmtcanon-{name}.1", tags, options_of(text))
+        trials.expect(f"options of fmtcanon-{name}.1", sorted(tags), sorted(options_of(name)))
 
 
 def try_all(work, trials):

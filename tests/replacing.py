@@ -75,6 +75,7 @@ SOURCES = [
     ("#define TWO(f) printf(f, 1); printf(f, 2)", 'TWO("%i\\n");', [], "replaced"),
     ("#define TWO(f) printf(f, 1); (void)f[0]", 'TWO("%i\\n");', [], "left: a macro uses it for something else, too"),
     ("#define CHECK(f) _Static_assert(sizeof f > 1, f); printf(f, 1)", 'CHECK("%i\\n");', [], "replaced"),
+    ("#include <stdlib.h>\n#define DIE(s, f) ((void)sizeof(struct { _Static_assert(s + 1, #f); int x; }), printf(f, s))", 'DIE(EXIT_FAILURE, "%i\\n");', [], "replaced"),
     ("char *gettext(const char *); ", 'printf(gettext("%i\\n"), 1);', [], "left: it is a key for translators, an argument of gettext"),
     ("char *gettext(const char *);\n#define _(x) gettext(x)", 'printf(_("%i\\n"), 1);', [], "left: it is a key for translators, an argument of gettext"),
     ("void say(const char *, ...) __attribute__((format(printf, 1, 2)));", 'say("%i\\n", 1);', [], "left: it is an argument of say, which isn't known"),
@@ -276,7 +277,7 @@ def try_files(tool, trials):
     tool.put("lost.c", f'#include "nowhere.h"\n{PLAIN}')
     status, report, _ = tool.run([OLD, NEW, "lost.c"])
     trials.expect("a header that isn't there", (status, "left: its compiler can't preprocess it: " in report), (1, True))
-    tool.put("time.c", f"{PLAIN}const char *t = __TIMESTAMP__;\n")
+    os.utime(tool.put("time.c", f"{PLAIN}const char *t = __TIMESTAMP__;\n"), (0, 0))
     status, report, _ = tool.run([OLD, NEW, "time.c"])
     trials.expect("a file that has its own time", (status, report), (1, "time.c: left: its compiler reads it otherwise once literals are replaced\n"))
     for source in ["const char *t = __DATE__ __TIME__, *f = __FILE__; int n = __LINE__ + __COUNTER__;\n", "#include <assert.h>\nvoid a(int x) { assert(x); }\n"]:

@@ -2,6 +2,7 @@
 
 import os
 import tempfile
+import time
 import unittest
 
 from fmtcanon.replace import doubts
@@ -55,6 +56,14 @@ class Literals(unittest.TestCase):
         for source, wanted in FOUND:
             self.assertEqual([it.text for it in places_in(source)], wanted, source)
 
+    def test_time(self):
+        """What comes after a literal is read once, however it could be cut into comments."""
+        for between in [b"// x " * 2_000 + b"\n", b"/* x */ " * 2_000, b"/***/ // /* \n" * 2_000, b" \\\n" * 2_000]:
+            began = time.process_time()
+            source = b'"a" ' + between + b"; " + b'"b" ' + between + b'"c"'
+            self.assertEqual([it.text for it in places_in(source)], [b"a", b"bc"])
+            self.assertLess(time.process_time() - began, 5)
+
     def test_lines(self):
         self.assertEqual([it.line for it in places_in(b'"a"; /*\n\n*/ "b"\n"c"; "d"')], [1, 3, 4])
 
@@ -102,6 +111,9 @@ class Preprocessed(unittest.TestCase):
         self.assertEqual(common_front(first, b"int"), 0)
         self.assertEqual(common_front(first + b'R"x()x"', first), 0)
         self.assertEqual(common_front(first, first), len(b'# 1 "a.h"\nint x;'))
+        # A marker within a declaration is no place to cut.
+        second = first + b'# 3 "a.c"\n_Static_assert (\n# 3 "b.h" 3 4\n1,\n# 3 "a.c"\n"x");'
+        self.assertEqual(second[common_front(second, second + b" ") :][:12], b'\n# 3 "a.c"\n_')
 
     def test_utf8(self):
         self.assertEqual(as_utf8("é".encode()), "é".encode())
@@ -127,6 +139,11 @@ class Doubts(unittest.TestCase):
                 doubts.check_words(text)
         for text in self.FINE:
             doubts.check_words(text)
+
+    def test_time(self):
+        began = time.process_time()
+        self.assertIsNone(doubts.LINE_DIRECTIVE.search(b"/* x */ " * 2_000 + b"y\n" + b" " * 100_000 + b"z"))
+        self.assertLess(time.process_time() - began, 5)
 
     def test_line_directives(self):
         for number, (text, wanted) in enumerate([("#line 1\n", True), ("  # 1 \"x\" 3\n", True), ("/* x */ %: line 4\n", True), ("#de\\\nfine line\n", False), ("#li\\\nne 4\n", True), ("x # 1\n", False)]):

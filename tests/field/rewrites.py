@@ -4,10 +4,11 @@
 Usage: tests/field/rewrites.py DIR
 
 DIR has a `compile_commands.json`; its files are changed. Each place that the library accepts and that has another spelling, as
-%i for %d and %-s for %s, is replaced if fmtcanon-replace judges so, with --attribute. The assembler of each changed unit may
-differ in the bytes of strings alone. It needs the module fmtcanon with its library, and libclang.
+%i for %d and %-s for %s, is replaced if fmtcanon-replace judges so, with --attribute. The assembler of each changed unit must
+stay the same, with each string by its canonical text. It needs the module fmtcanon with its library, and libclang.
 """
 
+import codecs
 import os
 import re
 import subprocess
@@ -44,15 +45,31 @@ def other_spelling(text):
     return None
 
 
+STRING_DATA = re.compile(rb'^(\.LC\d+):\n((?:\t\.(?:string|ascii)\t.*\n)+)', re.MULTILINE)
+# Where strings lie depends on their length.
+STRING_SECTIONS = re.compile(rb'^\t\.(?:align \d+|section\t\.rodata.*|text|previous)\n', re.MULTILINE)
+
+
+def meant(text):
+    """Returns the canonical text of a string, or the string if it is no accepted format."""
+    return fmtcanon.canonical(text) if is_accepted(text) else text
+
+
 def assembler(command):
-    """Returns the assembler of a unit, without the bytes of strings."""
+    """Returns the assembler of a unit, in which each string is named by what it means."""
     words, _ = command.preprocessing()
-    done = subprocess.run([*words[:-2], "-S", "-o", "-"], cwd=command.folder, capture_output=True, check=True, env={**os.environ, "SOURCE_DATE_EPOCH": "0"})
-    return re.sub(rb'\t\.(?:string|ascii)\t.*', b"", done.stdout)
+    environment = {**os.environ, "SOURCE_DATE_EPOCH": "0"}
+    done = subprocess.run([*words[:-2], "-g0", "-S", "-o", "-"], cwd=command.folder, capture_output=True, check=True, env=environment)
+    strings = {}
+    for label, lines in STRING_DATA.findall(done.stdout):
+        text = b"".join(codecs.escape_decode(it[1:-1])[0] for it in re.findall(rb'"(?:[^"\\]|\\.)*"', lines))
+        strings[label] = b"string " + meant(text.rstrip(b"\0")).hex().encode()
+    code = STRING_SECTIONS.sub(b"", STRING_DATA.sub(b"", done.stdout))
+    return re.sub(rb"\.LC\d+", lambda found: strings.get(found.group(), found.group()), code)
 
 
 def rewritten(path, commands):
-    """Respells what it may of a file, and returns counts, and the units whose assembler differs in more than strings."""
+    """Respells what it may of a file, and returns counts, and the units whose assembler differs."""
     with open(path, "rb") as stream:
         source = stream.read()
     changes = []
@@ -87,7 +104,7 @@ def main(words):
             different += paths
     for key, count in total.most_common():
         print(f"{count:6} {key}")
-    print(f"{len(different):6} units whose assembler differs in more than strings: {' '.join(different)}")
+    print(f"{len(different):6} units whose assembler differs: {' '.join(different)}")
     return 1 if different else 0
 
 

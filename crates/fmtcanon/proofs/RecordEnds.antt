@@ -2,11 +2,11 @@
 use Rattle.std.proofs.Common.{◌≡◌, ◌++◌, [], List, refl}
 use Rattle.std.specs.Prelude.{true}
 use Rattle.std.specs.Io.KnownBytes.{Consumes, IsAtEnd}
-use Rattle.std.proofs.KnownBytes.{Appends-nil}
+use Rattle.std.proofs.KnownBytes.{Appends-nil, Consumes-nil}
 use Rattle.pf_values.specs.declared.counted.Counted.{Counted}
 use Rattle.pf_values.specs.Counting.{Known, device_of, failures_of, is_flushed}
 use Rattle.pf_values.specs.meaning.Text.{Text}
-use Rattle.fmtcanon.specs.Conversations.{HasCome, HasReplies, HasRepliedTo, HasRepliedToText, RecordsFinish, RecordsEndEarly, waiting_text}
+use Rattle.fmtcanon.specs.Conversations.{HasAnswered, HasCome, HasReplies, HasRepliedTo, RecordsFinish, RecordsEndEarly, waiting_text}
 use Rattle.fmtcanon.specs.Records.{IsRecords, RecordsEnd, ReadFails, last_record}
 use Rattle.fmtcanon.specs.declared.outcome.Outcome.{Outcome}
 use Rattle.fmtcanon.specs.declared.outcome.Outcome.TheVariants as outcomes
@@ -58,16 +58,21 @@ module _ (kind : RecordQuestion) {R W : Type 0} (remaining : R → Known) (conte
       (whole, rest, h.first, c.replies.greatest, (taken, cut, took), fails, h.come.few, out_all kind contents old new whole h.replies h.first h.are c.replies c.replies.greatest h.said none flushed refl)
 
 -- nothing has been taken, and nothing has come
-pub at_start : (kind : RecordQuestion) {W : Type 0} (contents : W → Known) (start : Counted W) (c : Conversation) → HasCome c.coming kind [] [] → HasReplies c.replies [] [] → HasRepliedToText kind contents c start start []
-at_start kind contents start c come none = (
-  [],
-  [],
-  cut_none,
-  record {
-    first = [];
-    replies = [];
-    are = record { each = tt; to = refl };
-    come = come;
-    said = record { sent = []; writes = record { appended = Appends-nil _; none_failed = refl }; has = none };
-  },
-)
+pub at_start : (kind : RecordQuestion) {R W : Type 0} (remaining : R → Known) (contents : W → Known) (begin : Counted R) (start : Counted W) (c : Conversation) → HasCome c.coming kind [] [] → HasReplies c.replies [] [] → HasAnswered kind remaining contents c begin begin start start
+at_start kind remaining contents begin start c come none = record {
+  taken = [];
+  took = Consumes-nil _;
+  well = refl;
+  replied = (
+    [],
+    [],
+    cut_none,
+    record {
+      first = [];
+      replies = [];
+      are = record { each = tt; to = refl };
+      come = come;
+      said = record { sent = []; writes = record { appended = Appends-nil _; none_failed = refl }; has = none };
+    },
+  );
+}

@@ -1,13 +1,13 @@
 -- What a copy that met a refusal has left, where the writer was flushed after it.
-use Rattle.std.proofs.Common.{◌≡◌, ℕ, Err, inl, inr, subst}
+use Rattle.std.proofs.Common.{◌≡◌, ◌∙◌, ℕ, Bool, Err, ap, inl, inr, subst}
 use Rattle.std.specs.Io.KnownBytes.{Keeps}
 use Rattle.std.proofs.KnownBytes.{Appends-kept}
 use Rattle.pf_values.specs.declared.counted.Counted.{Counted}
 use Rattle.pf_values.specs.declared.models.Model.{Model}
-use Rattle.pf_values.specs.Counting.{Known, failures_of}
+use Rattle.pf_values.specs.Counting.{Known, failures_after, failures_of}
 use Rattle.pf_values.specs.meaning.Text.{Text}
 use Rattle.pf_text.specs.declared.scanner.Refusal.{Refusal}
-use Rattle.pf_canon.specs.Copy.{CopyStops, ReadCounts, SettledOut}
+use Rattle.pf_canon.specs.Copy.{CopyStops, ReadCounts, SettledOut, WriteCounts}
 use Rattle.pf_canon.specs.declared.faults.CopyFault.{CopyFault}
 use Rattle.pf_canon.specs.declared.faults.CopyFault.TheVariants as faults
 
@@ -36,3 +36,7 @@ stop_kept model start left w x y fault refusal e kept h = refused_kept model sta
 
 pub read_well : {R : Type 0} (old new : Counted R) (fault : CopyFault) (refusal : Refusal) → fault ≡ faults.Refused refusal → ReadCounts {E = ℕ} old new (Err fault) → failures_of new ≡ failures_of old
 read_well old new fault refusal e h = subst (λ f. ReadCounts {E = ℕ} old new (Err f)) e h
+
+-- the flush after a refusal is the one call of the writer that may have failed
+pub one_flush : {W : Type 0} (old mid new : Counted W) (fault : CopyFault) (refusal : Refusal) (failed : Bool) → fault ≡ faults.Refused refusal → WriteCounts {E = ℕ} old mid (Err fault) → failures_of new ≡ failures_after (failures_of mid) failed → (b : Bool) × (failures_of new ≡ failures_after (failures_of old) b)
+one_flush old mid new fault refusal failed e h flush = (failed, flush ∙ ap (λ n. failures_after n failed) (subst (λ f. WriteCounts {E = ℕ} old mid (Err f)) e h))

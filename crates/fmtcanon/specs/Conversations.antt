@@ -1,8 +1,9 @@
 -- What a run over records holds in memory, for private functions. This project's own.
 use Rattle.std.specs.Prelude.{◌≡◌, ℕ, ◌-◌, ◌^◌, ◌<◌, Bool, true, false, List, [], ◌∷◌, ◌++◌, length, min, Result, Ok, Err}
+use Rattle.std.specs.Io.KnownBytes.{Consumes}
 use Rattle.std.specs.declared.alloc.AllocError.{AllocError}
 use Rattle.pf_values.specs.declared.counted.Counted.{Counted}
-use Rattle.pf_values.specs.Counting.{Known, WritesAll, WritesFirst}
+use Rattle.pf_values.specs.Counting.{Known, WritesAll, WritesFirst, device_of, failures_of}
 use Rattle.pf_values.specs.meaning.Text.{Text}
 use Rattle.fmtcanon.specs.Questions.{formats_wanted}
 use Rattle.fmtcanon.specs.Records.{AreReplies, IsRecords, IsReply, RepliesAll, RepliesFirst, Reply, replies_text, greatest_of, last_record}
@@ -83,6 +84,16 @@ module _ (kind : RecordQuestion) {W : Type 0} (contents : W → Known) where
   HasStoppedAt c start now taken stop =
       (whole : List Text) × (rest : Text) × IsRecords taken whole rest
       × HasStopped c start now (whole ++ last_record rest) stop
+
+module _ (kind : RecordQuestion) {R W : Type 0} (remaining : R → Known) (contents : W → Known) where
+  -- The conversation has taken all that the reader has handed out since `begin`, and made the
+  -- replies to the records that are whole in it. No read failed.
+  pub record HasAnswered (c : Conversation) (begin left : Counted R) (start now : Counted W)
+      : Type 0 where
+    pub taken : Text
+    pub took : Consumes (remaining (device_of begin)) (remaining (device_of left)) taken
+    pub well : failures_of left ≡ failures_of begin
+    pub replied : HasRepliedToText kind contents c start now taken
 
 -- whether the reply to these formats was added: all was, they are too few, or memory was refused
 abbrev pub AddsReply : RecordQuestion → List Text → Text → List Reply → Replies → Replies

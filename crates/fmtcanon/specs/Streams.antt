@@ -1,8 +1,8 @@
 -- What a run leaves that copies the canonical text of its reader. This project's own.
-use Rattle.std.specs.Prelude.{◌≡◌, ℕ, None, true, ◌⊎◌}
+use Rattle.std.specs.Prelude.{◌≡◌, ℕ, Bool, None, true, ◌⊎◌}
 use Rattle.pf_values.specs.declared.counted.Counted.{Counted}
 use Rattle.pf_values.specs.declared.models.Model.{Model}
-use Rattle.pf_values.specs.Counting.{HasFailed, Known, device_of, failures_of, is_flushed}
+use Rattle.pf_values.specs.Counting.{HasFailed, Known, device_of, failures_after, failures_of, is_flushed}
 use Rattle.pf_canon.specs.Copy.{CopiesAll, CopyStops}
 use Rattle.pf_canon.specs.declared.faults.CopyFault.{CopyFault}
 use Rattle.pf_canon.specs.declared.faults.CopyFault.TheVariants as faults
@@ -27,16 +27,22 @@ module _ (model : Model) {R W : Type 0} (remaining : R → Known) (contents : W 
   abbrev pub ReadWell : Type 0
   ReadWell = failures_of left ≡ failures_of reader
 
-  -- At Write the bytes are fewer than all, but where the flush failed after all went out. At
-  -- Refused and Read the flush may have failed, too.
+  -- The writer's last call was a flush, and at most one of its calls failed. A body that goes on
+  -- after a failed write can't promise that, since this flush may fail, too.
+  abbrev pub FlushedAtLast : Type 0
+  FlushedAtLast =
+      ((failed : Bool) × (failures_of new ≡ failures_after (failures_of old) failed))
+      × (is_flushed new ≡ true)
+
+  -- At Write the bytes are fewer than all, except where the flush failed after all went out.
   abbrev pub CopyEnds : Outcome → Type 0
   CopyEnds Done =
       ((count : ℕ) × AllCopied count) × ReadWell × (failures_of new ≡ failures_of old)
       × (is_flushed new ≡ true)
   CopyEnds (Refused None refusal) =
-      CopyStopped (faults.Refused refusal) × ReadWell × (is_flushed new ≡ true)
+      CopyStopped (faults.Refused refusal) × ReadWell × FlushedAtLast
   CopyEnds Read =
-      CopyStopped faults.Read × HasFailed reader left × (is_flushed new ≡ true)
+      CopyStopped faults.Read × HasFailed reader left × FlushedAtLast
   CopyEnds (Write count) =
       (CopyStopped (faults.Write count) ⊎ AllCopied count) × ReadWell × HasFailed old new
   CopyEnds _ = ⊥

@@ -1,10 +1,8 @@
 //! Formats that come as records, each with a zero byte after it, and the replies to them.
-ghost use Rattle.std.specs.Prelude.{◌≡◌, ◌≢◌, ◌≤◌, ◌<◌, ◌++◌, ◌∷◌, [], List, MatchBool, MatchOption, MatchResult, OnErr, OnOk, is_err, length, max, take, true};
-ghost use Rattle.std.specs.Io.{ReadsAtMost};
-ghost use Rattle.std.specs.Io.KnownBytes.{ReadConsumes};
-ghost use Rattle.pf_values.specs.Counting.{calls_after, calls_of, device_of, failures_after, failures_of, is_flushed};
+ghost use Rattle.std.specs.Prelude.{◌≡◌, ◌≢◌, ◌≤◌, ◌<◌, ◌++◌, ◌∷◌, [], List, MatchBool, MatchOption, MatchResult, OnErr, OnOk, length, max, take, true};
+ghost use Rattle.pf_values.specs.Counting.{calls_after, calls_of, is_flushed};
 ghost use Rattle.pf_values.specs.meaning.Text.{Text};
-ghost use Rattle.fmtcanon.specs.Conversations.{AddsReply, HasCome, HasRepliedTo, HasRepliedToText, HasReplies, HasSaid, HasSaidFirst, HasStopped, HasStoppedAt, RecordsFinish, RecordsEndEarly, WritesReplies, waiting_text};
+ghost use Rattle.fmtcanon.specs.Conversations.{AddsReply, HasAnswered, HasCome, HasRepliedTo, HasRepliedToText, HasReplies, HasSaid, HasSaidFirst, HasStopped, HasStoppedAt, RecordsFinish, RecordsEndEarly, WritesReplies, waiting_text};
 ghost use Rattle.fmtcanon.specs.Outcomes.{status_of};
 ghost use Rattle.fmtcanon.specs.Questions.{IsAbout, formats_wanted};
 ghost use Rattle.fmtcanon.specs.Records.{IsReply, RecordsEnd, RepliesFirst, Reply, last_record, reply_bytes};
@@ -16,7 +14,7 @@ use memchr::memchr;
 use pf_values::{Counted, write_bytes};
 use std::alloc::{AllocError, Global};
 use std::io::{Read, Write};
-use std::{io, mem};
+use std::mem;
 
 // How many bytes are read at a time. They lie on the stack, which can't grow where memory is used up.
 const READ_BLOCK: usize = 8_192;
@@ -68,39 +66,14 @@ pub fn answer_records<R: Read, W: Write>(
         if let Err(count) = conversation.flush(writer) {
             return Outcome::Write(count);
         }
-        match read_block(reader, writer, &conversation, &mut block) {
-            Ok(0) => return conversation.end(alloc, writer),
-            Ok(len) => {
-                if let Err(fault) = conversation.take(alloc, &block[..len], writer) {
-                    return conversation.break_off(fault, writer);
-                }
-            }
-            Err(_) => return Outcome::Read,
+        if let Some(outcome) = conversation.read_block(alloc, reader, writer, &mut block) {
+            return outcome;
         }
     }
     match conversation.flush(writer) {
         Ok(()) => Outcome::Read,
         Err(count) => Outcome::Write(count),
     }
-}
-
-// Reads a block. No reply waits then, and the writer's last call was a flush.
-fn read_block<R: Read, W: Write>(
-    reader: &mut Counted<R>,
-    _writer: &Counted<W>,
-    _conversation: &Conversation,
-    block: &mut [u8],
-) -> io::Result<usize>
-    requires none { waiting_text _conversation.now.replies ≡ [] }
-    requires flushed { is_flushed _writer.now ≡ true }
-    ensures bound { ReadsAtMost result block.new }
-    ensures bytes { ReadConsumes (R.remaining (device_of reader.old))
-        (R.remaining (device_of reader.new)) result block.new }
-    ensures calls { calls_of reader.new ≡ calls_after (calls_of reader.old) }
-    ensures failures { failures_of reader.new
-        ≡ failures_after (failures_of reader.old) (is_err result) }
-{
-    reader.read(block)
 }
 
 impl Conversation {
@@ -126,6 +99,35 @@ impl Conversation {
         ensures flushed { OnOk result (is_flushed writer.new ≡ true) }
     {
         self.replies.flush(writer)
+    }
+
+    // Reads a block and takes it, or ends the run. Requires that all replies to what was read before
+    // have been written and flushed.
+    fn read_block<R: Read, W: Write>(
+        &mut self,
+        alloc: Global,
+        reader: &mut Counted<R>,
+        writer: &mut Counted<W>,
+        block: &mut [u8],
+    ) -> Option<Outcome>
+        requires none { waiting_text self.old.replies ≡ [] }
+        requires flushed { is_flushed writer.old ≡ true }
+        requires room { 0 < length block.old }
+        ensures answered { (kind : RecordQuestion) (begin : Counted R) (start : Counted W)
+            → HasAnswered kind R.remaining W.contents self.old begin reader.old start writer.old
+            → MatchOption result
+            (HasAnswered kind R.remaining W.contents self.new begin reader.new start writer.new)
+            (RecordsEnd kind R.remaining W.contents begin reader.new start writer.new) }
+        ensures calls { calls_of reader.new ≡ calls_after (calls_of reader.old) }
+    {
+        match reader.read(block) {
+            Ok(0) => Some(self.end(alloc, writer)),
+            Ok(len) => match self.take(alloc, &block[..len], writer) {
+                Ok(()) => None,
+                Err(fault) => Some(self.break_off(fault, writer)),
+            },
+            Err(_) => Some(Outcome::Read),
+        }
     }
 
     // A block of bytes that were read.

@@ -54,7 +54,9 @@ def parser() -> argparse.ArgumentParser:
     made.add_argument("--flag", action="append", default=[], metavar="FLAG", help="without -p, a flag of the compile command, which is cc: --flag=-Iinclude")
     made.add_argument("--attribute", action="store_true", help="functions with the attribute format(printf, ..) are known")
     made.add_argument("--function", action="append", default=[], type=function_of, metavar="NAME:INDEX", help="NAME prints its argument INDEX, counted from 0, as printf does")
-    made.add_argument("--model", choices=sorted(MODELS), default="all", help="the data models in which OLD and NEW must mean the same (default: all)")
+    made.add_argument(
+        "--model", choices=MODELS, default="all", metavar="MODEL", help="the data models in which OLD and NEW must mean the same: lp64, ilp32, llp64, both for the first two, or all, the default"
+    )
     made.add_argument("--posix-locale", action="store_true", help="the program prints in the POSIX locale alone; otherwise a format with the flag ' is left")
     made.add_argument("--dry-run", action="store_true", help="report what would be done, and change no file")
     made.add_argument("--jobs", type=int, default=os.cpu_count() or 1, metavar="N", help="how many files are read at a time")

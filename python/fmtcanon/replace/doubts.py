@@ -13,7 +13,8 @@ from .tokens import PREPROCESSED, without_splices
 
 NAMES = re.compile(rb"(?<![\w$])_*(?:" + b"|".join(sorted(it.encode() for it in KNOWN)) + rb")(?![\w$])")
 MARKER = re.compile(rb'# \d+ "((?:[^"\\]|\\.)*)"(.*)')
-SPACE = rb"(?:[ \t\f\v]|/\*.*?\*/)*"
+# A comment matches in one way only, so that a search that fails takes linear time.
+SPACE = rb"(?:[ \t\f\v]|/\*(?:[^*\n]|\*(?!/))*\*/)*"
 LINE_DIRECTIVE = re.compile(rb"^" + SPACE + rb"(?:#|%:|\?\?=)" + SPACE + rb"(?:line\b|[0-9])", re.MULTILINE)
 ASM = (b"asm", b"__asm", b"__asm__")
 

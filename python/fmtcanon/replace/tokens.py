@@ -10,7 +10,8 @@ MAY_BE_RAW = re.compile(rb'(?<!\w)(?:u8|[uUL])?R"')
 CHARACTER = rb"(?:u8|[uUL])?'(?:[^'\\\n]|\\[\s\S])*'"
 NUMBER = rb"\.?[0-9](?:[eEpP][-+]|'?[\w.])*"
 NAME = rb"[A-Za-z_$\x80-\xff][\w$\x80-\xff]*"
-COMMENT = rb"/\*[\s\S]*?\*/|//(?:[^\\\n]|\\[\s\S])*"
+# Each comment matches in one way only, so that a search that fails takes linear time.
+COMMENT = rb"/\*[^*]*\*+(?:[^/*][^*]*\*+)*/|//(?:[^\\\n]|\\[\s\S])*(?=\n|\Z)"
 GAP = rb"(?:[ \t\n\v\f\r]|\\\r?\n|" + COMMENT + rb")*"
 # Literals side by side are one. A raw string or one with a prefix is none of them. Nothing depends on this reader: what
 # it takes for a literal is confirmed by the compiler's own preprocessor.
@@ -29,9 +30,10 @@ STATIC_ASSERTION = (b"_Static_assert", b"static_assert")
 
 
 def common_front(first: bytes, second: bytes) -> int:
-    """Returns how long the front is that two preprocessed texts share, up to a line marker, so that no token is cut.
+    """Returns how long the front is that two preprocessed texts share, up to a line marker after a statement or a declaration.
 
-    Most of a text is its headers, which come first. A raw string may have what looks like a marker, so then it is 0.
+    So neither a token nor a static assertion is cut. Most of a text is its headers, which come first. A raw string may have
+    what looks like a marker, so then it is 0.
     """
     if MAY_BE_RAW.search(first):
         return 0
@@ -39,7 +41,10 @@ def common_front(first: bytes, second: bytes) -> int:
     while low < high:
         middle = (low + high + 1) // 2
         low, high = (middle, high) if first[low:middle] == second[low:middle] else (low, middle - 1)
-    return max(first.rfind(b"\n# ", 0, low), 0)
+    at = first.rfind(b"\n# ", 0, low)
+    while at > 0 and not first[max(at - 200, 0) : at].rstrip().endswith((b";", b"}")):
+        at = first.rfind(b"\n# ", 0, at)
+    return max(at, 0)
 
 
 class Tokens:

@@ -1,4 +1,4 @@
-use Rattle.fmtcanon.proofs.StreamLemmas.{read_well, stop_kept}
+use Rattle.fmtcanon.proofs.StreamLemmas.{one_flush, read_well, stop_kept}
 use Rattle.fmtcanon.proofs.run.copy.Goals as goal
 
 pub returns-in-Err-Refused : goal.returns-in-Err-Refused
@@ -6,5 +6,8 @@ returns-in-Err-Refused g c =
     let stop = c.in-Err-Refused in (
       stop_kept c.args.model _ _ _ _ _ stop.field-0 stop.refusal stop.field-0-is c.flush-in-Err-Refused.ensures.bytes stop.ensures.copied,
       read_well c.args.reader.now c.copy_canonical.new.r stop.field-0 stop.refusal stop.field-0-is stop.ensures.reads,
-      c.flush-in-Err-Refused.ensures.flushed,
+      (
+        one_flush c.args.writer.now c.copy_canonical.new.w c.flush-in-Err-Refused.new.self stop.field-0 stop.refusal _ stop.field-0-is stop.ensures.writes c.flush-in-Err-Refused.ensures.failures,
+        c.flush-in-Err-Refused.ensures.flushed,
+      ),
     )
