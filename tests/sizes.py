@@ -33,6 +33,8 @@ LONG_RECORD = 400_000_000
 PIECE = 1 << 20
 # The most directives that a word has room for, whose greatest length Linux has as MAX_ARG_STRLEN.
 WORD = ((1 << 17) - 1) // 2
+# Linux gives arguments no more room than this, whatever the limit of the stack.
+MOST_ROOM = 6 << 20
 # Rows of tests/library/sizes.c: the number of units, and the seconds that it took.
 CALLS = [
     ("check", DIRECTIVES, 0.01), ("refused", DIRECTIVES, 0.03), ("is_canonical", DIRECTIVES, 0.01), ("canonical_length", DIRECTIVES, 0.03),
@@ -132,7 +134,7 @@ def try_calls(folder, trials):
 def try_words(program, trials):
     """As many arguments as the system allows: each is counted."""
     # An argument takes its bytes, a NUL byte and an address. The system keeps some room for itself.
-    count = (os.sysconf("SC_ARG_MAX") - (1 << 14)) // (len("n:1") + 1 + 8)
+    count = (min(os.sysconf("SC_ARG_MAX"), MOST_ROOM) - (1 << 14)) // (len("n:1") + 1 + 8)
     line = b"argument count: wanted 1, given %d\n" % count
     trials.expect(f"{count} words", run(program, ["format", "%d", *["n:1"] * count], env={}), (3, b"", line))
 
