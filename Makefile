@@ -122,6 +122,8 @@ define TRIALS
 	python3 tests/devices.py $(PROGRAM)
 	python3 tests/rooms.py $(PROGRAM)
 	python3 tests/records.py $(PROGRAM)
+	python3 tests/memory.py $(PROGRAM)
+	python3 tests/sizes.py $(PROGRAM) $(C)
 	python3 tests/library.py $(PROGRAM) $(C)
 	python3 tests/literals.py $(PROGRAM) $(C)
 	python3 tests/arguments.py $(PROGRAM) $(C)

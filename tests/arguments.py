@@ -76,8 +76,12 @@ NAMED = {
     "POINTER_TO_LONG_LONG": "long long *",
 }
 WARNINGS = ["-Wformat", "-Wformat-signedness"]
-# Types that gcc takes for one another in silence: the same ones by other names, and what it warns of only when it is pedantic.
-ALIKE = [{"UINT", "WIDE_CHAR"}, {"WIDE_STRING", "POINTER_TO_INT"}, {"STRING", "POINTER_TO_SCHAR"}]
+# With these two options gcc warns of pointers of another type for `p`, and knows `wchar_t *` from `int *`.
+PEDANTIC, SHORT = ["-Wpedantic"], ["-fshort-wchar"]
+# The type of a specification, and another type of which gcc doesn't warn there: one type of C by two names, and pointers
+# to characters for one another. `parse_printf_format` tells these apart, except `unsigned int` for `%lc`.
+SILENT = {("UINT", "WIDE_CHAR"), ("WIDE_CHAR", "UINT"), ("STRING", "POINTER_TO_SCHAR")}
+SILENT |= {("POINTER_TO_VOID", "STRING"), ("POINTER_TO_VOID", "POINTER_TO_SCHAR")}
 POINTERS = {name for name, named in NAMED.items() if named.endswith("*")}
 MOST = 64
 # The greatest number of an argument here.
@@ -141,12 +145,12 @@ def call_of(format, types):
     return f'printf("{format}"{"".join(values)});'
 
 
-def warned(calls, work):
-    """Which of these calls gcc warns of."""
+def warned(calls, work, more=()):
+    """Which of these calls gcc warns of, with some more options."""
     source = work / "formats.c"
     head = "#include <stdio.h>\n#include <wchar.h>\nvoid all(char *place) {"
     source.write_text("\n".join([head, *calls, "}", ""]))
-    words = ["gcc", "-std=gnu2x", *WARNINGS, "-fsyntax-only", source]
+    words = ["gcc", "-std=gnu2x", *WARNINGS, *more, "-fsyntax-only", source]
     done = subprocess.run(words, stdout=subprocess.PIPE, stderr=subprocess.STDOUT, timeout=TIMEOUT, check=True)
     return {calls[int(line) - 4] for line in re.findall(r"formats\.c:(\d+):\d+: warning", done.stdout.decode())}
 
@@ -157,15 +161,30 @@ def try_compiled(module, trials, work):
     found = warned(calls, work)
     for call in calls:
         trials.expect(f"gcc warns of {call}", call in found, False)
-    others = []
+    for more in [(), PEDANTIC, SHORT]:
+        others = [call for option, call in other_calls(module) if option == more]
+        found = warned(others, work, more)
+        for call in others:
+            trials.expect(f"gcc {more} warns of {call}", call in found, True)
+
+
+def option_for(wanted, given):
+    """With which more options gcc warns of an argument of another type, or None."""
+    if (wanted, given) in SILENT:
+        return None
+    if wanted == "POINTER_TO_VOID" and given in POINTERS:
+        return PEDANTIC
+    return SHORT if {wanted, given} == {"WIDE_STRING", "POINTER_TO_INT"} else ()
+
+
+def other_calls(module):
+    """Each specification with an argument of each other type, and the options with which gcc warns of it."""
     for length, conversion in specifications():
         format = f"%{length}{conversion}"
         name = module.arguments(format)[0].name
-        alike = {name}.union(*[both for both in ALIKE if name in both], POINTERS if conversion == "p" else ())
-        others += [call_of(format, [other]) for other in NAMED if other not in alike]
-    found = warned(others, work)
-    for call in others:
-        trials.expect(f"gcc warns of {call}", call in found, True)
+        for other in NAMED:
+            if other != name:
+                yield option_for(name, other), call_of(format, [other])
 
 
 def try_hostile(module, trials):

@@ -7,19 +7,15 @@ Standard output: closed; the device that is always full; a pipe whose reader has
 bytes; a pipe that is full and doesn't wait; a directory; standard error closed or full beside it. Standard input, for
 `stream`: closed; a directory; opened for writing; a pipe that doesn't wait and has nothing; one byte at a time; a
 pipe that stays open; a terminal; a file. For the other commands: a pipe that stays open, which they don't read. How many reads
-and writes there are. Address spaces: each command in spaces that grow by a page at a time, until it answers. Memory:
-each growth of each command refused, one a run.
+and writes there are.
 
 No run is ended by a signal, none exits with 0 or 1 with bytes missing, and nothing is written for a refused format.
-A space may be too small for the system to start the program, which it then kills, or its loader ends it: the sizes
-are printed.
 
 It needs a Linux system with gcc. Its last line is 'N passed, M failed', and it exits with 1 where M isn't 0.
 """
 
 import os
 import pty
-import resource
 import subprocess
 import sys
 import tempfile
@@ -48,13 +44,27 @@ ANSWERED = [
     (["same", "%05d", "%.5d"], b"", 1, b"different\nn:-1\n"),
     (["same", "%05d%05d", "%.5d%.5d"], b"", 1, b"different\nn:-1\nn:0\n"),
     (["same", "%s", "%.4095s"], b"", 1, b"different\ns:" + b"A" * 4096 + b"\n"),
+    (["same", "--model", "all", "%zu", "%lu"], b"", 1, b"lp64\nsame\nilp32\ntypes differ at argument 0\nllp64\ntypes differ at argument 0\n"),
+    (["same", "--literal", '"%d"', '"\\x25" "i"'], b"", 0, b"same\n"),
+    (["fits", "%s of %d", "%2$d/%1$s"], b"", 0, b"fits\n"),
+    (["fits", "%d%s", "%d%.2f"], b"", 1, b"types differ at argument 1\n"),
+    (["fits", "--literal", '"%d"', '"\\x25" "i"'], b"", 0, b"fits\n"),
+    (["types", "--whole", "%2$s of %1$*3$.2f"], b"", 0, b"double\nstring\nint\n"),
+    (["types", "--whole", "%d" * LONG * 10], b"", 0, b"int\n" * LONG * 10),
+    (["types", "--whole", "--literal", '"%Lf" "%ls"'], b"", 0, b"long double\nwide string\n"),
+    (["types", "--literal", '"\\x25" "d%s"'], b"", 0, b"int\nstring\n"),
+    (["canon", "--literal", '"\\x25" "i\\t%%"'], b"", 0, b'"%d\\t%%"\n'),
+    (["show", "--literal", '"x" "%%"'], b"", 0, b"text 1\npercent\n"),
+    (["format", "--literal", '"%5d" "|%s"', "n:42", "s:abc"], b"", 0, b"   42|abc"),
     (["stream"], b"a%.0sb%5d", 0, b"ab%.0s%5d"),
     (["canon", LONG_FORMAT], b"", 0, LONG_TEXT + b"\n"),
     (["stream"], LONG_FORMAT.encode(), 0, LONG_TEXT),
 ]
 # They write nothing, so that no device is asked for anything.
 EMPTY = [["types", "%%"], ["show", ""], ["format", "%.0s", "s:abc"], ["stream"]]
+EMPTY += [["types", "--whole", "%%"], ["types", "--literal", '"" "%%"'], ["show", "--literal", '""'], ["format", "--literal", '"%.0s"', "s:abc"]]
 UNEXPECTED = b"refused 3 Unexpected at byte 1\n"
+NO_ESCAPE = b"literal 3 BadEscape at byte 1\n"
 REFUSED = [
     (["types", "%y"], UNEXPECTED),
     (["canon", "%y"], UNEXPECTED),
@@ -62,10 +72,24 @@ REFUSED = [
     (["format", "%y"], UNEXPECTED),
     (["same", "%y", "%d"], b"first: " + UNEXPECTED),
     (["same", "%d", "%y"], b"second: " + UNEXPECTED),
+    (["same", "--model", "all", "%d", "%y"], b"second: " + UNEXPECTED),
+    (["same", "--literal", '"%d"', '"\\q"'], b"second: " + NO_ESCAPE),
+    (["fits", "%y", "%d"], b"first: " + UNEXPECTED),
+    (["fits", "%d", "%y"], b"second: " + UNEXPECTED),
+    (["fits", "--literal", '"\\q"', '"%d"'], b"first: " + NO_ESCAPE),
+    (["types", "--whole", "%5n"], b"refused 19 CountUndefined at byte 2\n"),
+    (["types", "--whole", "--literal", '"\\q"'], NO_ESCAPE),
+    (["types", "--literal", '"\\q"'], NO_ESCAPE),
+    (["canon", "--literal", '"\\q"'], NO_ESCAPE),
+    (["canon", "--literal", '"\\x25" "y"'], b"refused 3 Unexpected at byte 8\n"),
+    (["show", "--literal", '"%y"'], b"refused 3 Unexpected at byte 2\n"),
+    (["format", "--literal", '"%y"'], b"refused 3 Unexpected at byte 2\n"),
     (["canon", LONG_FORMAT + "%"], b"refused 2 Truncated at byte 1201\n"),
 ]
 # What `stream` settles before it is refused, and the report of that, which comes even where nothing can be written.
 STREAM_REFUSED = (b"a%.0sb%5d%q", b"ab%.0s%5d", b"refused 3 Unexpected at byte 10\n")
+# The length of a wrong word.
+WRONG = 100_000
 # Words that are a fault of their own or ask for help, with the status.
 NOT_ASKED = [
     (["format", "%d", "5"], 3),
@@ -75,6 +99,15 @@ NOT_ASKED = [
     (["format"], 3),
     (["nothing"], 3),
     (["canon", "--model", "both", "%d"], 3),
+    (["fits", "%d"], 3),
+    (["fits", "--whole", "%d", "%d"], 3),
+    (["types", "--whole"], 3),
+    (["canon", "--literal"], 3),
+    (["show", "--model", "llp64"], 3),
+    (["show", "-z", "--model", "llp64", "%d"], 3),
+    (["x" * WRONG], 3),
+    (["canon", "--model", "x" * WRONG, "%d"], 3),
+    (["format", "%d", "x" * WRONG], 3),
     ([], 3),
     (["--help"], 3),
     (["same", "--help"], 3),
@@ -85,7 +118,7 @@ SOON = 10
 # The program reads and writes so many bytes at once, or fewer.
 BLOCK = 8192
 # Formats whose answers have so many bytes, below, at and above a block.
-SIZES = [1, 100, BLOCK - 1, BLOCK, BLOCK + 1, 3 * BLOCK, 100_000]
+SIZES = [1, 100, BLOCK - 1, BLOCK, BLOCK + 1, 3 * BLOCK, 100_000, 1_000_000]
 
 # Records, and how many writes reply to them: the command, how many bytes are read a call, and the writes. The third
 # record has no second one.
@@ -271,12 +304,16 @@ def try_terminal(program, trials):
         trials.expect(f"stream from a terminal that ends after {sent!r}", got, (0, text, b""))
 
 
-def calls_of(program, words, stdin, work, stdout=subprocess.PIPE, **limits):
-    """The reads and the writes of the standard streams in a run: the stream, what was asked for, and what was moved."""
+def calls_of(program, words, text, work, stdin=None, stdout=subprocess.PIPE, **limits):
+    """The reads and the writes of the standard streams in a run: the stream, what was asked for, and what was moved.
+
+    Standard input is a pipe with the text, or a file.
+    """
     notes = Path(work) / "notes"
     notes.write_text("")
     environment = {**os.environ, "LD_PRELOAD": str(Path(work) / "calls.so"), "CALLS": str(notes), **limits}
-    run(program, words, stdin, env=environment, stdout=stdout)
+    source = {"input": text} if stdin is None else {"stdin": stdin}
+    subprocess.run([program, *words], env=environment, stdout=stdout, stderr=subprocess.PIPE, timeout=TIMEOUT, check=False, **source)
     calls = [line.split() for line in notes.read_text().splitlines()]
     return [[tuple(map(int, numbers)) for name, *numbers in calls if name == kind] for kind in ("read", "write")]
 
@@ -293,7 +330,7 @@ def blocks(size):
 
 
 def try_calls(program, trials):
-    """An answer goes out in as few writes as it has blocks, none of them empty; nothing but `stream` reads."""
+    """An answer is one write, and of `stream` as few as it has blocks, none of them empty; nothing but `stream` reads."""
     with tempfile.TemporaryDirectory() as work:
         trials.expect("calls.c", library_of("calls", work)[1], True)
         for words, stdin, _, text in ANSWERED:
@@ -302,7 +339,8 @@ def try_calls(program, trials):
             trials.expect(f"{name_of(words)}: what is written", sum(moved for _, moved in out), len(text))
             is_whole = all(asked == moved > 0 for asked, moved in out)
             trials.expect(f"{name_of(words)}: no write is empty or cut", is_whole, True)
-            trials.expect(f"{name_of(words)}: {len(out)} writes", 1 <= len(out) <= blocks(len(text)), True)
+            most = blocks(len(text)) if words == ["stream"] else 1
+            trials.expect(f"{name_of(words)}: {len(out)} writes", 1 <= len(out) <= most, True)
             trials.expect(f"{name_of(words)}: nothing on standard error", [one for one in writes if one[0] == 2], [])
             if words != ["stream"]:
                 trials.expect(f"{name_of(words)}: no read", reads, [])
@@ -319,6 +357,18 @@ def try_calls(program, trials):
             moved = sum(moved for _, _, moved in reads)
             trials.expect(f"stream of {size} bytes: reads, of which one is the end", (moved, ends), (size, [0]))
             trials.expect(f"stream of {size} bytes: none is empty", all(asked for _, asked, _ in reads), True)
+            trials.expect(f"stream of {size} bytes: {len(reads)} reads", len(reads) <= 2 * blocks(size) + 2, True)
+        try_failed_calls(program, work, trials)
+
+
+def try_failed_calls(program, work, trials):
+    """After a write that fails there is one more at most, that of what waits, then the report; and no read."""
+    for words, stdin in [(["stream"], LONG_FORMAT.encode()), (["canon", LONG_FORMAT], b""), (["canon", "-z"], b"%4095d\0" * LONG)]:
+        with open("/dev/full", "wb") as full:
+            reads, writes = calls_of(program, words, stdin, work, stdout=full)
+        streams = [stream for stream, _, _ in writes]
+        fit = streams in ([1, 2], [1, 1, 2]) and len(reads) <= 1
+        trials.expect(f"{name_of(words)} into a full device: writes to {streams}, and {len(reads)} reads", fit, True)
 
 
 def try_replies(program, trials):
@@ -419,90 +469,6 @@ def try_files(program, trials):
         trials.expect(f"it stops reading where a write fails: {end}", end < len(rest), True)
 
 
-def run_within(program, words, stdin, size):
-    """The status and the streams of a run in an address space of so many bytes."""
-    return run(program, words, stdin, preexec_fn=lambda: resource.setrlimit(resource.RLIMIT_AS, (size, size)))
-
-
-def is_killed(got):
-    """Whether the system killed a program that it couldn't start."""
-    status, stdout, stderr = got
-    return status < 0 and stdout == b"" and stderr == b""
-
-
-def is_not_started(got):
-    """Whether the system couldn't start the program: it was killed, or the loader had no room for the libraries."""
-    status, stdout, stderr = got
-    has_no_room = status == 127 and stdout == b"" and (b"shared libraries" in stderr or b"TLS" in stderr)
-    return has_no_room or is_killed(got)
-
-
-def least_space(program, fails):
-    """The least address space, in pages, in which a run doesn't fail so."""
-    low, high = 1, 1 << 16
-    while low < high:
-        middle = (low + high) // 2
-        if fails(run_within(program, ["types", "%y"], b"", middle << 12)):
-            low = middle + 1
-        else:
-            high = middle
-    return low
-
-
-def try_spaces(program, trials):
-    """In each space in which the program starts it answers, or says that memory is out and has written nothing."""
-    loader, start = least_space(program, is_killed), least_space(program, is_not_started)
-    print(f"the system kills the program in less than {loader * 4} KiB, and its loader fails in less than {start * 4}")
-    few = range(1, start, 8)
-    ended = [is_not_started(run_within(program, ["canon", "%d"], b"", pages << 12)) for pages in few]
-    trials.expect("in no smaller space the program starts", all(ended), True)
-    rows = [(words, stdin, (status, text, b"")) for words, stdin, status, text in ANSWERED]
-    rows += [(words, b"", (2, b"", line)) for words, line in REFUSED]
-    for words, stdin, answer in rows:
-        refused, got = 0, None
-        for pages in range(start, start + (1 << 14)):
-            got = run_within(program, words, stdin, pages << 12)
-            if got != (4, b"", b"out of memory\n"):
-                break
-            refused += 1
-        trials.expect(f"{name_of(words)} in {start + refused} pages", got, answer)
-        trials.expect(f"{name_of(words)} is out of memory in less", refused > 0, True)
-
-
-def growth_ends(program, words, stdin, library, answer, count):
-    """How each run ends in which one growth is refused, or all from it on: as ever, out of memory or otherwise."""
-    names = {answer: "as ever", (4, b"", b"out of memory\n"): "out of memory"}
-    for flags in [{}, {"ALL": "1"}]:
-        environment = {**os.environ, "LD_PRELOAD": library, **flags}
-        runs = (run(program, words, stdin, env={**environment, "GROWTH": str(number)}) for number in range(count + 1))
-        yield [names.get(got, "otherwise") for got in runs]
-
-
-def try_growths(program, trials):
-    """Where growths are refused from one on, whichever it is, memory is out, and nothing was written.
-
-    Where it is one alone, too, but for the room of the list of the words, which std asks for ahead, and then again as
-    the words come; and where `clap` finds a fault, for what it takes to look for a tip. Then the end is as ever.
-    """
-    rows = [(words, stdin, (status, text, b"")) for words, stdin, status, text in ANSWERED]
-    rows += [(words, b"", (2, b"", line)) for words, line in REFUSED]
-    rows += [(words, b"", run(program, words)) for words, _ in NOT_ASKED]
-    with tempfile.TemporaryDirectory() as work:
-        library, is_made = library_of("growths", work)
-        trials.expect("growths.c", is_made, True)
-        for words, stdin, answer in rows:
-            notes = Path(work) / "notes"
-            notes.write_text("")
-            got = run(program, words, stdin, env={**os.environ, "LD_PRELOAD": library, "GROWTHS": str(notes)})
-            trials.expect(f"{name_of(words)}, no growth refused", got == answer, True)
-            count = len(notes.read_text())
-            one, all_after = growth_ends(program, words, stdin, library, answer, count)
-            trials.expect(f"{name_of(words)}: each of {count} growths and all after it", all_after, ["out of memory"] * count + ["as ever"])
-            trials.expect(f"{name_of(words)}: another end of one refused", {"otherwise"} & set(one), set())
-            if (words, answer[0]) not in NOT_ASKED:
-                trials.expect(f"{name_of(words)}: refused and not reported", one[:-1].count("as ever"), 1)
-
-
 def main():
     if len(sys.argv) != 2:
         sys.exit(__doc__)
@@ -519,8 +485,6 @@ def main():
     try_replies(program, trials)
     try_bytes(program, trials)
     try_files(program, trials)
-    try_spaces(program, trials)
-    try_growths(program, trials)
     return trials.end()
 
 

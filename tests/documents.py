@@ -7,6 +7,7 @@ Its last line is 'N passed, M failed', and it exits with 1 where M isn't 0.
 """
 
 import json
+import math
 import re
 import sys
 from pathlib import Path
@@ -16,10 +17,16 @@ sys.path.insert(0, str(Path(__file__).resolve().parent))
 
 import arguments  # noqa: E402
 import definition_names  # noqa: E402
+import library  # noqa: E402
+import linear  # noqa: E402
 import literals  # noqa: E402
+import memory  # noqa: E402
 import mutant_files  # noqa: E402
 import reach  # noqa: E402
+import records  # noqa: E402
 import replacing  # noqa: E402
+import rooms  # noqa: E402
+import sizes  # noqa: E402
 import turned  # noqa: E402
 from harness import TOP, Trials, fences, model_rows, usage_texts  # noqa: E402
 
@@ -94,6 +101,7 @@ def tested_counts():
     yield r"(\d+) texts with all bytes", [sum(1 for _ in literals.texts())]
     yield r"(\d+) formats of `tests/arguments.py`", [sum(1 for _ in arguments.formats())]
     yield r"(\d+) arguments in reverse, and texts of (\d+) million bytes", [arguments.GREATEST, arguments.MANY // 1_000_000]
+    yield from limits()
     whole = data_rows("whole.jsonl")
     yield r"(\d+) rows of `tests/rows/whole.jsonl`, (\d+) of them", [len(whole), len(whole) - HAND_WHOLE]
     records = data_rows("records.jsonl")
@@ -104,6 +112,26 @@ def tested_counts():
     yield r"(\d+) runs worked out by hand, (\d+) worked reductions and (\d+) calls", [data_count(name) for name in ["commands.jsonl", "reduced.txt", "calls.jsonl"]]
 
 
+def limits():
+    """The same of sizes, times and memory, which the scripts have."""
+    yield r"Over (\d+) records of each command", [records.COUNTED]
+    yield r"gcc accepts (\d+) pairs silently", [len(arguments.SILENT)]
+    yield r"no more over (\d+) records than over (\d+)", [memory.MANY, memory.FEW]
+    yield r"at most (\d+) MiB in a conversation", [memory.MOST_HELD // 1024]
+    yield r"at most (\d+) MiB more than", [memory.MOST_PAGES // 256]
+    yield r"each within (\d+) times", [sizes.TIMES]
+    units = [sizes.DIRECTIVES, sizes.ARGUMENTS, sizes.FIRST_EQUAL]
+    yield r"(\d+) directives, (\d+) arguments, a million escapes of string literals, and (\d+) arguments", units
+    large = sum(count == sizes.LARGE for _, count, _ in sizes.CALLS)
+    yield r"texts of (\d+) million bytes through (\d+) C calls; one record of (\d+) million", [2 * sizes.LARGE // 1_000_000, large, sizes.LONG_RECORD // 1_000_000]
+    yield r"these (\d+) ways take turns", [len(rooms.STEPS) * len(rooms.FAULTS)]
+    calls = {name for name, _, _ in sizes.CALLS}
+    yield r"of (\d+) runs of C calls and of (\d+) runs of the program over (\d+) and over (\d+)", [len(calls), len(list(linear.runs(1))), *linear.SIZES]
+    yield r"grow at most (\d+)\.(\d+) times", [linear.SIZES[1] // linear.SIZES[0], linear.PERCENT // 10]
+    _, pairs, _, sizes_of_room = library.OUTCOMES
+    yield r"makes (\d+) calls: each C call with (\d+) pairs of texts.*?(\d+) sizes of room", [math.prod(library.OUTCOMES), pairs, sizes_of_room]
+
+
 # The rows that were worked out by hand, which come first.
 HAND_RECORDS = 11
 HAND_LITERALS = 27
@@ -112,7 +140,7 @@ HAND_WHOLE = 29
 PLAIN_NUMBERS = [
     r"each of the 256 bytes after 7 beginnings", r"16 shapes", r"take 1, 2, 3 or 7 bytes a call and then fail in one of 5 ways", r"40000 arguments",
     r"the replies to 3 records", r"move 1, 2, 3, 7 or 4096 bytes a call, and fail in one of 4 ways", r"loaded before the C library\): \d+ runs",
-    r"conversations of 1000 records and 1000 pairs", r"one record of 100 million bytes",
+    r"leaks 64 bytes a record", r"conversations of 1000 records and 1000 pairs", r"one record of 100 million bytes",
     r"UTF-8", r"\d+ runs and comparisons", r"no 2 normal directives", r"every 2 of", r"what the 2 say",
 ]
 NUMBER_WORDS = dict(zip("two three four five six seven eight nine ten eleven twelve".split(), range(2, 13)))

@@ -41,6 +41,8 @@ PARAMETERS = {
 NUMBERS = {"i64": "int64_t", "u64": "uint64_t", "u32": "uint32_t"}
 # The types as the program writes them, and the numbers of the library.
 TYPES = ["int", "unsigned int", "long", "unsigned long", "long long", "unsigned long long", "string"]
+# What outcomes.c has: calls, pairs of texts, data models with an invalid one, and sizes of room.
+OUTCOMES = (14, 21, 4, 5)
 # Of so many formats, one is given to the program, too.
 STEP = 16
 
@@ -156,13 +158,15 @@ def compile_with(compiler, source, program, *more):
 def try_compiler(compiler, folder, trials, work, tools=()):
     """The programs of tests/library compile without a warning, against the archive, and find nothing wrong."""
     name = " ".join(compiler)
-    edges, answers = work / "edges", work / "answers"
+    edges, answers, outcomes = work / "edges", work / "answers", work / "outcomes"
     archive = folder / "libfmtcanon.a"
     source = TOP / "tests/library"
     trials.expect(f"{name}: edges.c", compile_with(compiler, source / "edges.c", edges, archive, *WRAPPED), (0, ""))
     trials.expect(f"{name}: answers.c", compile_with(compiler, source / "answers.c", answers, archive), (0, ""))
+    trials.expect(f"{name}: outcomes.c", compile_with(compiler, source / "outcomes.c", outcomes, archive, *WRAPPED), (0, ""))
     if not tools:
         trials.expect(f"{name}: the edges", lines_of([edges]), (0, "the edges are as the header says\n"))
+        trials.expect(f"{name}: the outcomes", lines_of([outcomes]), (0, "calls {}, pairs of texts {}, data models {}, rooms {}\n".format(*OUTCOMES)))
     status, lines = lines_of([*tools, answers, SHAPES])
     trials.expect(f"{name}: answers", status, 0)
     return lines.splitlines()
@@ -355,7 +359,7 @@ def main():
     try_header(trials)
     try_exports(folder, trials)
     module = load_module(program, folder)
-    enums = [(module.Kind, "kind"), (module.Model, "model"), (module.Type, "type"), (module.Verdict, "verdict")]
+    enums = [(module.Kind, "kind"), (module.Model, "model"), (module.Type, "type"), (module.Verdict, "verdict"), (module.LiteralKind, "literal_kind")]
     for enum, kind in enums:
         kind = f"fmtcanon_{kind}"
         trials.expect(f"{kind} of the Python module", {one.name: int(one) for one in enum}, header_numbers(kind))

@@ -22,6 +22,7 @@ import roots  # noqa: E402
 from catalog_edges import try_msgfmt_edges  # noqa: E402
 from catalog_plurals import try_plurals  # noqa: E402
 from library import TIMEOUT, TOP, Trials, compile_with, lines_of, load_module, python_lines, shapes, try_compiler  # noqa: E402
+from linear import try_linear  # noqa: E402
 from literals import try_decoded, try_encoded, try_trigraphs  # noqa: E402
 from models import try_models  # noqa: E402
 from replacing import try_replacing  # noqa: E402
@@ -172,6 +173,7 @@ def main():
         try_valgrind(folder, tools, module, trials, Path(work))
         try_second(folder, module, trials, Path(work))
         try_random(folder, trials, Path(work))
+        try_linear(os.path.abspath(sys.argv[1]), folder, tools, trials, Path(work))
         try_models(os.path.abspath(sys.argv[1]), tools, trials, Path(work))
     try_gettext(folder, tools, module, trials)
     try_annotations(tools, trials)

@@ -1,5 +1,5 @@
 #!/usr/bin/env python3
-"""Tries the built program over records: a conversation, many of them, long ones, devices and memory that fail.
+"""Tries the built program over records: conversations, many of them, long ones, records without an end, and devices that fail.
 
 Usage: tests/records.py PROGRAM
 
@@ -16,7 +16,8 @@ from pathlib import Path
 sys.dont_write_bytecode = True
 sys.path.insert(0, str(Path(__file__).resolve().parent))
 
-from devices import READ_FAILED, SOON, WRITE_FAILED, calls_of, library_of  # noqa: E402
+from conversations import CONVERSATIONS, fronts_of, name_of, sent_of  # noqa: E402
+from devices import READ_FAILED, SOON, WRITE_FAILED, blocks, calls_of, library_of  # noqa: E402
 from harness import TIMEOUT, Trials, run  # noqa: E402
 
 TIMES = 1_000
@@ -25,7 +26,9 @@ LONG = 100_000_000
 RECORDS = b"%5c\0%*d\0%i\0"
 REPLIES = [b"0     %c\0", b"2 refused 5 Star at byte 1\0", b"0 %d\0"]
 WHOLE = b"".join(REPLIES)
-OUT_OF_MEMORY = (4, b"out of memory\n")
+# A run over so many records, and a record of so many bytes, whose reads and writes are counted.
+COUNTED = 1_000
+COUNTED_BYTES = 1_000_000
 
 
 def reply_to(process, sent):
@@ -45,7 +48,7 @@ def try_conversation(program, trials):
     for words, turns, wanted in [
         (["canon", "-z"], [(b"%%i %d\0" % at, b"0 %%d %d\0" % at) for at in range(1, TIMES + 1)], 0),
         (["same", "-z"], [(b"%%%dd\0%%%dd\0" % (at, at), b"0 same\0") for at in range(1, TIMES + 1)], 0),
-        (["types", "-z"], [(b"%*d\0", b"2 refused 5 Star at byte 1\0"), (b"%s\0", b"0 string\0"), (b"\0", b"0 \0")], 2),
+        *CONVERSATIONS,
     ]:
         with subprocess.Popen([program, *words], stdin=subprocess.PIPE, stdout=subprocess.PIPE, bufsize=0) as process:
             watch = threading.Timer(SOON, process.kill)
@@ -67,31 +70,65 @@ def try_many(program, trials):
         trials.expect(f"a record of {LONG} bytes, and then {after!r}", run(program, ["canon", "-z"], long + after) == wanted, True)
 
 
-def memory_over(program, text):
-    """The most memory that a run over these records held, in KiB."""
-    with tempfile.TemporaryFile() as source:
-        source.write(text)
-        source.seek(0)
-        process = subprocess.Popen([program, "canon", "-z"], stdin=source, stdout=subprocess.DEVNULL)
-        _, status, used = os.wait4(process.pid, 0)
-        process.returncode = status
-    return used.ru_maxrss
-
-
-def try_memory(program, trials):
-    """What a run holds doesn't grow with the number of records."""
-    records = b"%-20s: %5d of %i\0" * 50_000
-    few, many = memory_over(program, records), memory_over(program, records * 40)
-    trials.expect(f"memory over {len(records)} bytes and over 40 times as many: {few} and {many} KiB", many <= few + 256, True)
-
-
 def try_calls(program, trials):
-    """Records of a block are read at once, and their replies written at once."""
+    """What comes in one read is read at once, and its replies go out in one write, whatever the command."""
     with tempfile.TemporaryDirectory() as work:
         trials.expect("calls.c", library_of("calls", work)[1], True)
         reads, writes = calls_of(program, ["canon", "-z"], RECORDS, work)
         trials.expect("reads of three records, the last at the end", [moved for _, _, moved in reads], [len(RECORDS), 0])
         trials.expect("writes of their replies", [(stream, moved) for stream, _, moved in writes], [(1, len(WHOLE))])
+        for words, turns, _ in CONVERSATIONS:
+            times = COUNTED // len(turns) + 1
+            text, replies = sent_of(turns) * times, fronts_of(turns)[-1] * times
+            try_counted(program, words, text, len(replies), work, trials)
+        long = b"y" * COUNTED_BYTES + b"\0"
+        try_counted(program, ["canon", "-z"], long, len(long) + 2, work, trials, 1)
+        count = COUNTED_BYTES // len("string\n")
+        try_counted(program, ["types", "-z"], b"%s" * count + b"\0", count * len("string\n") + 2, work, trials, 1)
+
+
+def try_counted(program, words, text, replied, work, trials, most=None):
+    """No more reads than blocks and the end, and no more writes than reads, or than are given, none of them empty or cut."""
+    with tempfile.TemporaryFile() as source:
+        source.write(text)
+        source.seek(0)
+        reads, writes = calls_of(program, words, None, work, stdin=source)
+    name = f"{name_of(words)}, {len(text)} bytes"
+    moved = [moved for _, _, moved in reads]
+    trials.expect(f"{name}: reads", (sum(moved), moved.count(0), len(reads) <= blocks(len(text)) + 2), (len(text), 1, True))
+    out = [(asked, moved) for stream, asked, moved in writes if stream == 1]
+    is_whole = all(asked == moved > 0 for asked, moved in out)
+    is_few = len(out) <= (most or min(len(reads), blocks(replied)))
+    trials.expect(f"{name}: {len(out)} writes", (sum(moved for _, moved in out), is_whole, is_few), (replied, True, True))
+
+
+def try_ends(program, trials):
+    """Records without an end: a run ends where its replies can't be written, and reads no file to its end then."""
+    for words, turns, _ in CONVERSATIONS:
+        with open("/dev/zero", "rb") as endless, open("/dev/full", "wb") as full:
+            trials.expect(f"{name_of(words)} of records without an end, into a full device", ended(program, words, endless, full), WRITE_FAILED)
+            reader, writer = os.pipe()
+            left = threading.Thread(target=lambda end=reader: (os.read(end, 1), os.close(end)))
+            left.start()
+            trials.expect(f"{name_of(words)} of records without an end, into a pipe that is left", ended(program, words, endless, writer), WRITE_FAILED)
+            os.close(writer)
+            left.join()
+        with tempfile.TemporaryFile() as source, open("/dev/full", "wb") as full:
+            text = sent_of(turns) * 10_000
+            source.write(text)
+            source.seek(0)
+            trials.expect(f"{name_of(words)} of a file into a full device", ended(program, words, source, full), WRITE_FAILED)
+            end = os.lseek(source.fileno(), 0, os.SEEK_CUR)
+            trials.expect(f"{name_of(words)} stops reading where a write fails: {end} of {len(text)}", end < len(text), True)
+
+
+def ended(program, words, stdin, stdout):
+    """The status and standard error of a run that has to end soon."""
+    try:
+        done = subprocess.run([program, *words], stdin=stdin, stdout=stdout, stderr=subprocess.PIPE, timeout=SOON, check=False)
+        return done.returncode, done.stderr
+    except subprocess.TimeoutExpired:
+        return "it goes on"
 
 
 def try_devices(program, trials):
@@ -117,24 +154,6 @@ def try_devices(program, trials):
         trials.expect(f"canon -z of {step} bytes at a time", got, (WHOLE, 2))
 
 
-def try_growths(program, trials):
-    """Where a growth is refused, the replies to the records before it are out, and no part of another one."""
-    fronts = [b"".join(REPLIES[:count]) for count in range(len(REPLIES) + 1)]
-    with tempfile.TemporaryDirectory() as work:
-        library, is_made = library_of("growths", work)
-        trials.expect("growths.c", is_made, True)
-        notes = Path(work) / "notes"
-        notes.write_text("")
-        run(program, ["canon", "-z"], RECORDS, env={**os.environ, "LD_PRELOAD": library, "GROWTHS": str(notes)})
-        seen = set()
-        for number in range(len(notes.read_text())):
-            environment = {**os.environ, "LD_PRELOAD": library, "GROWTH": str(number), "ALL": "1"}
-            status, stdout, stderr = run(program, ["canon", "-z"], RECORDS, env=environment)
-            trials.expect(f"growth {number} and all after it refused", ((status, stderr), stdout in fronts), (OUT_OF_MEMORY, True))
-            seen.add(stdout)
-        trials.expect("memory is refused before some record and after another", len(seen) > 1, True)
-
-
 def main():
     if len(sys.argv) != 2:
         sys.exit(__doc__)
@@ -142,12 +161,10 @@ def main():
     trials = Trials()
     try_conversation(program, trials)
     try_many(program, trials)
-    try_memory(program, trials)
     try_calls(program, trials)
+    try_ends(program, trials)
     try_devices(program, trials)
-    try_growths(program, trials)
-    print(f"{trials.passed} passed, {trials.failed} failed")
-    return 1 if trials.failed else 0
+    return trials.end()
 
 
 if __name__ == "__main__":

@@ -3,8 +3,8 @@
 
 Usage: tests/rooms.py [--each] PROGRAM
 
-Standard output takes some bytes and then fails: each answer of tests/rows/commands.jsonl and tests/rows/written.jsonl,
-each canonical text, what `stream` settles before a refusal, what formats print, and replies to records go out in each
+Standard output takes some bytes and then fails: each answer of commands.jsonl, whole.jsonl, literals.jsonl and
+written.jsonl in tests/rows/, each canonical text, what `stream` settles before a refusal, what formats print, and replies to records go out in each
 room that is too small for them. What the C library prints goes into one room for each text. Standard input hands out some bytes and then fails, or ends there: formats and records are cut after each byte. The streams
 are those of tests/narrow.c. How many bytes they move a call, and the error, take turns from run to run; with --each
 every run is made with each of them.
@@ -23,16 +23,13 @@ from pathlib import Path
 sys.dont_write_bytecode = True
 sys.path.insert(0, str(Path(__file__).resolve().parent))
 
+from conversations import CONVERSATIONS, fronts_of, sent_of  # noqa: E402
 from devices import READ_FAILED, WRITE_FAILED, library_of  # noqa: E402
 from harness import Trials, run  # noqa: E402
 from rows import fields_of, rows_of, takes_unsigned, values  # noqa: E402
 
 STEPS = [1, 2, 3, 7, 4096]
 FAULTS = [errno.EIO, errno.EAGAIN, errno.EPIPE, errno.ENOSPC]
-RECORDS = b"%5c\0%*d\0%i\0"
-REPLIES = b"0     %c\x002 refused 5 Star at byte 1\x000 %d\x00"
-# Where the reply to a record ends, for each number of records that are whole.
-ENDS = [0, 9, 36, 41]
 NAMES = {1: "NulByte", 2: "Truncated", 3: "Unexpected", 4: "BadPercent", 5: "Star", 6: "Numbered", 7: "WidthTooLarge"}
 NAMES |= {8: "PrecisionTooLarge", 9: "Float", 10: "Pointer", 11: "Count", 12: "Wide", 13: "AltUndefined"}
 NAMES |= {15: "GroupUndefined", 16: "PrecisionUndefined", 17: "LengthUndefined"}
@@ -75,7 +72,8 @@ def try_rooms(narrow, words, stdin, text):
 
 def try_answers(narrow):
     """The answers of the commands, and what `stream` settles of a text and of a directive."""
-    rows = [(row["words"], b"", row["stdout"], row["status"]) for row in rows_of("commands.jsonl") if row["status"] < 2]
+    given = [row for name in ["commands", "whole", "literals"] for row in rows_of(f"{name}.jsonl")]
+    rows = [(row["words"], row.get("stdin", "").encode("latin-1"), row["stdout"], row["status"]) for row in given if row["status"] < 2]
     texts = [row for name in ["written", "cut_directives", "canonical_formats"] for row in rows_of(f"{name}.jsonl")]
     rows += [(["stream"], text.encode("latin-1"), canonical, 0) for text, canonical in texts]
     for words, stdin, text, status in rows:
@@ -167,13 +165,18 @@ def try_fronts(narrow):
 
 
 def try_records(narrow):
-    """Replies to records: in each room, and to those that are whole where a read fails."""
-    for _ in range(narrow.rounds):
-        for room in range(len(REPLIES)):
-            narrow.expect(["canon", "-z"], RECORDS, (WRITE_FAILED[0], REPLIES[:room], WRITE_FAILED[1]), ROOM=room)
-        for length in range(len(RECORDS) + 1):
-            whole = REPLIES[: ENDS[RECORDS[:length].count(0)]]
-            narrow.expect(["canon", "-z"], RECORDS, (READ_FAILED[0], whole, READ_FAILED[1]), FEED=length)
+    """Replies to records of each command: in each room, and to those that are whole where a read fails."""
+    for words, turns, status in CONVERSATIONS:
+        text, fronts = sent_of(turns), fronts_of(turns)
+        replies = fronts[-1]
+        ends = list(itertools.accumulate(len(sent) for sent, _ in turns))
+        for _ in range(narrow.rounds if words == ["canon", "-z"] else 1):
+            for room in range(len(replies)):
+                narrow.expect(words, text, (WRITE_FAILED[0], replies[:room], WRITE_FAILED[1]), ROOM=room)
+            narrow.expect(words, text, (status, replies, b""), ROOM=len(replies))
+            for length in range(len(text) + 1):
+                whole = fronts[sum(end <= length for end in ends)]
+                narrow.expect(words, text, (READ_FAILED[0], whole, READ_FAILED[1]), FEED=length)
 
 
 def main():

@@ -9,7 +9,8 @@
 #include <string.h>
 #include <sys/mman.h>
 
-#define WANT(holds) ((holds) ? (void)0 : failed(#holds, __LINE__))
+/* Whatever was called, nothing is held of memory. */
+#define WANT(holds) ((holds) && held == 0 ? (void)0 : failed(#holds, __LINE__))
 #define COUNT(rows) (sizeof(rows) / sizeof *(rows))
 
 enum { LP64 = FMTCANON_LP64, ILP32 = FMTCANON_ILP32, LLP64 = FMTCANON_LLP64 };
@@ -55,6 +56,7 @@ static void layout(void)
     WANT(offsetof(fmtcanon_comparison, number) == 0);
     WANT(offsetof(fmtcanon_comparison, verdict) == 8);
     WANT(offsetof(fmtcanon_comparison, renderings) == 12);
+    WANT(FMTCANON_ERROR_NOMEMORY == -100 && FMTCANON_ERROR_MODEL == -101 && FMTCANON_ERROR_NOPLACE == -102);
 }
 
 /* Each kind but the last with a text that is refused for it. */
@@ -283,7 +285,7 @@ static char *at_end(size_t len)
 static void literal_pages(void)
 {
     static const char *const sources[] = {
-        "\"\"", "\"abc\\n%d and a run that is longer than sixteen bytes\"", "\"\\", "\"\\x", "\"?" "?", "\"", " ", "\"\\101\" \"\\7",
+        "\"\"", "\"abc\\n%d and a run that is longer than sixteen bytes\"", "\"\\", "\"\\x", "\"?\?", "\"", " ", "\"\\101\" \"\\7",
     };
     fmtcanon_error e;
     size_t i, cap;
@@ -375,7 +377,7 @@ static void refusals_of_memory(void)
             fmtcanon_comparison found = {77, 78, 79};
             int64_t result;
             out[0] = 'Z';
-            growths = held = 0;
+            growths = 0;
             fails_at = n;
             result = growing(call, out, sizeof out, &found, &e);
             fails_at = -1;
@@ -404,11 +406,11 @@ static void memory_given_back(void)
     int call;
     for (i = 0; i < COUNT(rooms); i++) {
         for (call = 0; call < 6; call++) {
-            growths = held = 0;
+            growths = 0;
             WANT(growing(call, out, rooms[i], &found, &e) > 0);
             WANT(growths > 0 && held == 0 && (call == 1 || call == 5 || growths == 1));
         }
-        growths = held = 0;
+        growths = 0;
         WANT(fmtcanon_canonical(LP64, "%d%y", 4, out, rooms[i], &e) == -FMTCANON_UNEXPECTED);
         WANT(fmtcanon_types(LP64, "%d%d%d%d%d%d%d%d%d%y", 20, NULL, 0, &e) == -FMTCANON_UNEXPECTED);
         WANT(fmtcanon_compare(LP64, "%d", 2, "%d%y", 4, out, rooms[i], &found, &e) < 0);
