@@ -49,7 +49,7 @@ Architecture: amd64
 Maintainer: $maintainer
 Installed-Size: $(find "$stage/usr" -printf '%y %s\n' | awk '{ k += $1 == "f" ? int(($2 + 1023) / 1024) : 1 } END { print k }')
 Depends: libc6 (>= 2.34), python3 (>= 3.8)
-Suggests: python3-clang
+Recommends: python3-clang
 Section: devel
 Priority: optional
 Description: canonical texts of printf formats
