@@ -4,6 +4,9 @@ use std::alloc::{AllocError, Global};
 // The most blocks that are taken. The largest is no larger than the address space, 2^47 bytes.
 const BLOCKS: usize = 524_288;
 
+// The bytes of stack that calls may need: the stack can't grow once memory is used up.
+const STACK: usize = 262_144;
+
 // Above this size the C library keeps no freed block for requests of the same size only.
 const LARGEST_KEPT: usize = 1_040;
 
@@ -17,6 +20,9 @@ impl Exhausted {
     /// Takes all memory, the largest blocks first.
     pub(super) fn new(alloc: Global) -> Result<Exhausted, AllocError> {
         let mut taken = Vec::with_capacity(alloc, BLOCKS)?;
+        if !is_stack_grown(taken.capacity()) {
+            return Err(AllocError);
+        }
         for power in 0..33u32 {
             take_all(alloc, &mut taken, (1usize << 36) >> power);
         }
@@ -30,6 +36,15 @@ impl Exhausted {
     pub(super) fn take(&mut self, alloc: Global, size: usize) {
         take_all(alloc, &mut self.taken, size);
     }
+}
+
+// Has the stack grow. An index that isn't known before the run keeps the block from being optimized away.
+#[inline(never)]
+fn is_stack_grown(seed: usize) -> bool {
+    let mut block = [0u8; STACK];
+    let at = seed % STACK;
+    block[at] = 1;
+    block[STACK - 1 - at] < 2
 }
 
 // Takes blocks of this size until one is refused.
