@@ -7,11 +7,12 @@ A mutant is an edit of a crate's `mutants.txt`, or of its `must-fail/` (tests/mu
 copy of the sources, over what a proof of the crate as it stands has kept. Mutants of different functions share a check. Names
 of crates or of mutants select those to try.
 
-A mutant is refused if a goal is open in a function whose body it changes: no search proves it, or the answer that a file of
-proofs/ gives to it is of another type. The crate without it is proved, so the goal is open because of the mutant. If a file of
-proofs/ only names what is gone, the mutant may be harmless: then the tests of the crate, or of the last crate above it that
-has any, are run with it, and one must fail. A mutant of a constant, of a table or of a file of specs/ is tried alone, and any
-function or lemma may refuse it.
+A mutant is refused if a goal is open in a function whose body it changes: no search proves it, and there is no answer to it.
+The crate without it is proved, so the goal is open because of the mutant. If an answer of a file of proofs/ doesn't fit the
+goal, it is tried again without that answer, since another wording of the same body would not fit it either. If a file of
+proofs/ only names what is gone, or no goal is open without the answer, the mutant may be harmless: then the tests of the crate,
+or of the last crate above it that has any, are run with it, and one must fail. A mutant of a constant, of a table or of a file
+of specs/ is tried alone, and any function or lemma may refuse it.
 
 Mutants that were refused are remembered in the user's cache folder, under a checksum of everything that the verdict depends
 on: the mutant, the sources of the crate and of those below it, the kit, and the scripts that judge. They are not tried again,
@@ -34,9 +35,9 @@ from pathlib import Path
 sys.dont_write_bytecode = True
 sys.path.insert(0, str(Path(__file__).resolve().parent))
 
-from mutant_files import applied, batches, mutants_of  # noqa: E402
+from mutant_files import applied, batches, mutants_of, text_in  # noqa: E402
 from proofs import open_proofs, say  # noqa: E402
-from reports import Report, Verdict, failed_tests, refused_by_ci, verdict_of  # noqa: E402
+from reports import Report, Verdict, failed_tests, refused_by_ci, verdict_of, without_answers  # noqa: E402
 from schedule import Task, run_all  # noqa: E402
 
 # How many mutants share a check at least, if there are that many, and at most.
@@ -121,22 +122,24 @@ class Trial:
     def tasks(self, jobs):
         """Returns the tasks that try what is left, once the crate is proved."""
         after = frozenset([("proof", it) for it in self.proofs.lacking([self.name])])
-        # The mutants of a high crate cost the most, so they go first.
-        height = -len(self.proofs.sources.below(self.name))
         mutants = [it for it in self.left() if it.functions]
         most = min(max(LEAST, -(-len(mutants) // jobs)), MOST)
         if self.left():
-            yield Task((self.name, "proved"), self.confirm, after, (1, height))
-        for number, (group, texts) in enumerate(batches(mutants, self.crate, most)):
-            call = lambda group=group, texts=texts: (True, self.judge_together(group, texts))  # noqa: E731
-            yield Task((self.name, number), call, after, (1, height, -len(group)))
+            yield Task((self.name, "proved"), self.confirm, after, self.rank(0))
         for mutant in self.left():
             if not mutant.functions:
                 yield self.alone(mutant, after)
+        for number, (group, texts) in enumerate(batches(mutants, self.crate, most)):
+            call = lambda group=group, texts=texts: (True, self.judge_together(group, texts))  # noqa: E731
+            yield Task((self.name, number), call, after, self.rank(2, -len(group)))
+
+    def rank(self, *order):
+        """Returns the rank of a task. What takes longest goes first: the mutants of a high crate, and those tried alone."""
+        return (1, -len(self.proofs.sources.below(self.name)), *order)
 
     def alone(self, mutant, after=frozenset()):
         """Returns the task that tries a mutant with nothing beside it."""
-        return Task((self.name, mutant.name), lambda: (self.judge_alone(mutant), []), after, (2, -len(self.proofs.sources.below(self.name))))
+        return Task((self.name, mutant.name), lambda: (self.judge_alone(mutant), []), after, self.rank(1))
 
     @contextmanager
     def workspace(self):
@@ -149,11 +152,32 @@ class Trial:
             self.free_workspaces.append(workspace)
 
     def verdicts(self, mutants, texts):
-        """Returns the verdict on each of these mutants, whose texts are these, by one check."""
+        """Returns the verdict on each of these mutants, whose texts are these: by one check, and by more without answers that don't fit."""
+        report = self.checked(mutants, texts)
+        found = {it.name: verdict_of(report, it) for it in mutants}
+        unsure = [it for it in mutants if found[it.name][0] is Verdict.BY_AN_ANSWER]
+        while unsure:
+            less = self.unanswered(unsure, texts, report)
+            if less == texts:
+                break
+            texts, report = less, self.checked(unsure, less)
+            again = {it.name: verdict_of(report, it) for it in unsure}
+            found.update({name: (verdict, f"{why}, without the answer to it") for name, (verdict, why) in again.items() if verdict is Verdict.REFUSED})
+            unsure = [it for it in unsure if again[it.name][0] is Verdict.BY_AN_ANSWER]
+        return [found[it.name] for it in mutants]
+
+    def checked(self, mutants, texts):
+        """Returns the report of a check of the functions that these mutants change, or of all if they change none."""
         paths = {path for mutant in mutants for path in mutant.functions}
         with self.workspace() as workspace, workspace.changed(texts):
-            report = Report(workspace.check(paths, "--allow-holes"), self.name)
-        return [verdict_of(report, it) for it in mutants]
+            return Report(workspace.check(paths, "--allow-holes"), self.name)
+
+    def unanswered(self, mutants, texts, report):
+        """Returns these texts, and those of proof files without the answers that don't fit the functions that these mutants change."""
+        unfit = {}
+        for file, name in {it for mutant in mutants for path in mutant.functions for it in report.unfit_answers(path)}:
+            unfit.setdefault(f"proofs/{file}", set()).add(name)
+        return {**texts, **{file: without_answers(text_in(self.crate, texts, file), names) for file, names in unfit.items()}}
 
     def judge_together(self, mutants, texts):
         """Tries mutants in one check, and returns the tasks that try those alone that it doesn't show refused."""
@@ -167,10 +191,10 @@ class Trial:
         return more
 
     def judge_alone(self, mutant):
-        """Tries a mutant with nothing beside it, and runs the tests with it if only a proof file refuses it."""
+        """Tries a mutant with nothing beside it, and runs the tests with it if no open goal refuses it, but a proof file does."""
         texts, tests_of = applied(mutant.pairs, self.crate, {}), None
         [(verdict, why)] = self.verdicts([mutant], texts)
-        if verdict is Verdict.BY_A_PROOF_FILE:
+        if verdict in (Verdict.BY_AN_ANSWER, Verdict.BY_A_PROOF_FILE):
             tests_of = self.tested_by()
             failed = tests_of and self.failing_test(tests_of, texts)
             if failed:
@@ -215,6 +239,12 @@ class Trial:
         say(f"{self.name}: {refused} of {len(self.mutants)} mutants refused: {self.sources_said()}")
         return passed, len(self.mutants) - passed
 
+    def name_what_is_not_refused(self):
+        """Prints once more, for the end of a long log, which mutants were not refused."""
+        for name, outcome in self.outcomes.items():
+            if not outcome.verdict.is_good():
+                say(f"not refused: {name}: {outcome.verdict.value}: {outcome.why}")
+
     def sources_said(self):
         """Returns how many verdicts are from where, in words."""
         counts = Counter(it.source for it in self.outcomes.values())
@@ -253,6 +283,8 @@ def main():
         trials = list(trials_of(names, [it for it in options.words if it not in every], proofs))
         try_all(trials, proofs, options.jobs, log)
         passed, failed = (sum(it) for it in zip(*[trial.report() for trial in trials] or [(0, 0)]))
+    for trial in trials:
+        trial.name_what_is_not_refused()
     counts = Counter(it.source for trial in trials for it in trial.outcomes.values())
     say(f"mutants: {', '.join(f'{counts[it]} {it.value}' for it in Source)}")
     say(f"{passed} passed, {failed} failed")

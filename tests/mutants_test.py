@@ -1,9 +1,10 @@
 #!/usr/bin/env python3
 """Tries tests/mutants.py: each kind of mutant gets its verdict, and what is remembered is forgotten when it should be.
 
-Usage: tests/mutants_test.py
+Usage: tests/mutants_test.py [--anew]
 
-Its crates are those of tests/toy_crates.py, which the prover checks in seconds.
+Its crates are those of tests/toy_crates.py, which the prover checks in seconds. If all tests passed before on this machine,
+with the same kit and the same scripts, they are not run again, unless --anew is given.
 """
 
 import contextlib
@@ -27,9 +28,9 @@ from kept import MOST_PROOFS, Checksums, Kept, cache_folder  # noqa: E402
 from mutant_files import Mutant, Pair, batches, functions_at, mutants_of, read_pairs  # noqa: E402
 from mutants import Trial  # noqa: E402
 from proofs import SCRIPTS  # noqa: E402
-from reports import Report, Verdict, failed_tests, refused_by_ci, verdict_of  # noqa: E402
+from reports import Report, Verdict, failed_tests, refused_by_ci, verdict_of, without_answers  # noqa: E402
 from schedule import Task, run_all  # noqa: E402
-from sources import Sources, kit_sum  # noqa: E402
+from sources import Sources, checksum, kit_folder, kit_sum  # noqa: E402
 
 SOURCE = """
 impl<'a> Reader<'a> {
@@ -158,6 +159,23 @@ only=3 holes=0
         report = Report(self.TEXT, "pf_x")
         self.assertEqual(list(report.open_goals("a::Right::has")), ["the goal `returns-2` of pf_x::a::fn::Right::has::any"])
 
+    def test_an_answer_that_does_not_fit(self):
+        text = "./proofs/a/Left/new/Answers.antt:5:1 error: `returns`: the two types differ\nfn pf_x::a::Left::new: not proved\nonly=1 holes=0\n"
+        report, mutant = Report(text, "pf_x"), Mutant("m", functions=frozenset(["a::Left::new"]))
+        self.assertEqual(list(report.open_goals("a::Left::new")), [])
+        self.assertEqual(list(report.unfit_answers("a::Left::new")), [("a/Left/new/Answers.antt", "returns")])
+        self.assertEqual(verdict_of(report, mutant), (Verdict.BY_AN_ANSWER, "the answer `returns` of proofs/a/Left/new/Answers.antt"))
+
+    def test_without_answers(self):
+        text = "use A.{b}\n\npub b : goal.b\nunfolding c\nb d =\n    e\n\nhelper : T\nhelper = f\n\npub b-2 : goal.b-2\nb-2 d = g\n"
+        self.assertEqual(without_answers(text, {"b"}), text.replace("pub b : goal.b\nunfolding c\nb d =\n    e\n\n", ""))
+        self.assertEqual(without_answers(text, {"b-2", "helper"}), text[: text.index("helper")])
+        self.assertEqual(without_answers(text, {"c"}), text)
+
+    def test_a_lemma_that_fails_with_a_mutant_of_no_function(self):
+        text = "./proofs/Limits.antt:5:1 error: `above`: the two types differ\nfn pf_x::a::Left::new: not proved\nonly=1 holes=0\n"
+        self.assertEqual(verdict_of(Report(text, "pf_x"), Mutant("m")), (Verdict.REFUSED, "`above` of proofs/Limits.antt"))
+
     def test_no_verdict(self):
         mutant = Mutant("m", [Pair("src/a.rt", "1", "2")], frozenset(["a::Left::new"]))
         for text in ["antt gave no verdict: it ran out of memory\n", "no verdict\nonly=1"]:
@@ -178,19 +196,20 @@ class CiLog(unittest.TestCase):
     def said(self, line, name="low/m"):
         with tempfile.TemporaryDirectory(prefix="fmtcanon-test-") as folder:
             crate = Path(folder) / "low"
-            toy_crates.write(Path(folder), {"low/src/lib.rt": "fn a() -> u32\n    ensures { x }\n{\n    1\n}\nfn b() {}\n"})
+            toy_crates.write(Path(folder), {"low/src/lib.rt": "fn a()\n    -> u32\n    ensures { x }\n{\n    1\n}\nfn b() {}\n"})
             mutant = Mutant(name, [Pair("src/lib.rt", "    1", "    2")], frozenset(["a"]))
             return refused_by_ci(f"rt: note\nrt: must-fail {line}\n", mutant, crate)
 
     def test_open_goal(self):
-        self.assertEqual(self.said(f"low/m.edit: refused, as it must be: note: src/lib.rt:2:15: {self.NOTE}"), f"by rt ci: src/lib.rt:2: {self.NOTE}")
+        for line in [1, 2, 3, 5]:
+            self.assertEqual(self.said(f"low/m.edit: refused, as it must be: note: src/lib.rt:{line}:1: {self.NOTE}"), f"by rt ci: src/lib.rt:{line}: {self.NOTE}")
 
     def test_no_open_goal_of_that_function(self):
         open_goal = f"refused, as it must be: note: src/lib.rt:2:15: {self.NOTE}"
         for line in [
             f"low/n.edit: {open_goal}",
             f"high/m.edit: {open_goal}",
-            f"low/m.edit: refused, as it must be: note: src/lib.rt:6:1: {self.NOTE}",
+            f"low/m.edit: refused, as it must be: note: src/lib.rt:7:1: {self.NOTE}",
             f"low/m.edit: refused, as it must be: note: src/other.rt:2:15: {self.NOTE}",
             "low/m.edit: refused, as it must be: ./proofs/a/Answers.antt:5:1: error: `returns`: the two types differ",
             "low/m.edit: refused, as it must be (only because a proof file names what the edit took away): note: src/lib.rt:2:15: it is not proved",
@@ -399,6 +418,33 @@ class Scheduling(unittest.TestCase):
             run_all([Task("a", fail)], 1)
 
 
+class Remembering(unittest.TestCase):
+    """These tests are remembered once they passed, and only then."""
+
+    def runs(self, folder, failures=(), words=(), kit="kit"):
+        """Returns how often the tests were run by `main`, and its status."""
+        ran = unittest.mock.Mock(result=unittest.mock.Mock(testsRun=3, failures=list(failures), errors=[]))
+        with contextlib.ExitStack() as stack:
+            for patch in [
+                unittest.mock.patch.object(unittest, "main", return_value=ran),
+                unittest.mock.patch.object(sys, "argv", ["mutants_test.py", *words]),
+                unittest.mock.patch.dict(os.environ, {"XDG_CACHE_HOME": str(folder)}),
+                unittest.mock.patch(f"{__name__}.kit_sum", return_value=kit),
+                contextlib.redirect_stdout(None),
+            ]:
+                stack.enter_context(patch)
+            status = main()
+            return unittest.main.call_count, status
+
+    @in_folder
+    def test_once_passed(self, folder):
+        self.assertEqual(self.runs(folder, ["a failure"]), (1, 1))
+        self.assertEqual(self.runs(folder), (1, 0))
+        self.assertEqual(self.runs(folder), (0, 0))
+        self.assertEqual(self.runs(folder, words=["--anew"]), (1, 0))
+        self.assertEqual(self.runs(folder, kit="another"), (1, 0))
+
+
 class Whole(unittest.TestCase):
     """The script itself, with the prover."""
 
@@ -415,7 +461,8 @@ class Whole(unittest.TestCase):
         environment = {**os.environ, "XDG_CACHE_HOME": str(self.folder / "cache")}
         command = [sys.executable, str(self.folder / "tests/mutants.py"), "--jobs", "2", *words]
         done = subprocess.run(command, env=environment, stdout=subprocess.PIPE, stderr=subprocess.STDOUT, encoding="utf-8", check=False)
-        found = dict(re.findall(r"^low/([\w-]+): ([^:]+): ", done.stdout, re.MULTILINE))
+        found, last = (dict(re.findall(rf"^{it}low/([\w-]+): ([^:]+): ", done.stdout, re.MULTILINE)) for it in ["", "not refused: "])
+        self.assertEqual(last, {name: verdict for name, verdict in found.items() if not Verdict(verdict).is_good()})
         return {name: Verdict(verdict) for name, verdict in found.items()}, done.stdout.splitlines()[-2:], done.returncode
 
     def counts(self, tried, remembered, passed, failed):
@@ -426,11 +473,11 @@ class Whole(unittest.TestCase):
     def test_each_kind(self):
         toy_crates.write(self.folder, {"crates/low/mutants.txt": toy_crates.mutants_text(toy_crates.MUTANTS)})
         wanted = {name: verdict for name, (_, verdict) in toy_crates.MUTANTS.items()}
-        good = sum(it.is_good() for it in wanted.values())
-        self.assertEqual(self.run_script(), (wanted, self.counts(9, 0, good, 9 - good), 1))
-        # Only the good ones are remembered.
         bad = {name: verdict for name, verdict in wanted.items() if not verdict.is_good()}
-        self.assertEqual(self.run_script(), (bad, self.counts(9 - good, good, good, 9 - good), 1))
+        good = len(wanted) - len(bad)
+        self.assertEqual(self.run_script(), (wanted, self.counts(len(wanted), 0, good, len(bad)), 1))
+        # Only the good ones are remembered.
+        self.assertEqual(self.run_script(), (bad, self.counts(len(bad), good, good, len(bad)), 1))
 
     def test_what_is_tried_again(self):
         names = ["no-search", "renamed-and-wrong"]
@@ -464,8 +511,22 @@ class Whole(unittest.TestCase):
         self.assertEqual(self.run_script()[1:], (self.counts(0, 0, 0, 0), 1))
 
 
-if __name__ == "__main__":
-    ran = unittest.main(exit=False).result
+def main():
+    """Runs the tests, unless they passed before with the same kit and scripts. Prints how many passed and failed."""
+    files = [*SCRIPTS, Path(__file__), Path(toy_crates.__file__)]
+    cache = None if "--anew" in sys.argv[1:] else cache_folder()
+    key = checksum(kit_sum(kit_folder()), sys.version, [it.read_bytes() for it in files])
+    passed = cache and Kept(cache).verdicts("tests", key).get("passed")
+    if passed:
+        print(f"remembered from an earlier run on this machine\n{passed} passed, 0 failed")
+        return 0
+    ran = unittest.main(argv=sys.argv[:1], exit=False).result
     failed = len(ran.failures) + len(ran.errors)
+    if cache and ran.testsRun and not failed:
+        Kept(cache).keep_verdict("tests", key, "passed", str(ran.testsRun))
     print(f"{ran.testsRun - failed} passed, {failed} failed")
-    sys.exit(1 if failed or not ran.testsRun else 0)
+    return 1 if failed or not ran.testsRun else 0
+
+
+if __name__ == "__main__":
+    sys.exit(main())

@@ -11,13 +11,14 @@ NO_CODE = re.compile(r"""//[^\n]*|/\*.*?\*/|b?"(?:\\.|[^"\\])*"|b?'(?:\\(?:x..|u
 
 @dataclass(frozen=True)
 class Function:
-    """A function: its path below the crate, and the offsets at which its contract and its body begin and its body ends.
+    """A function: its path below the crate, and the offsets at which its `fn`, its contract and its body begin and its body ends.
 
     It may have `pub` or `pub(..)` before its name, with `extern` after that, and the head of the block that it is in, where it
     is in one.
     """
 
     path: str
+    head: int
     contract: int
     start: int
     end: int
@@ -132,7 +133,8 @@ def walk(code, span, names, homes, found, block=""):
         if item["kind"] == "fn":
             body = body_of(code, item.end())
             if body:
-                found.append(Function("::".join([*names, item["name"]]), *body, visibility_at(code, item.start()), block))
+                path = "::".join([*names, item["name"]])
+                found.append(Function(path, item.start(), *body, visibility_at(code, item.start()), block))
             at = body[2] if body else item.end()
             continue
         opens = code.find("{", item.end())

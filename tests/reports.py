@@ -16,6 +16,7 @@ class Verdict(Enum):
     """What became of a mutant."""
 
     REFUSED = "refused"
+    BY_AN_ANSWER = "REFUSED BY AN ANSWER ALONE, which may only not fit the wording"
     BY_A_TEST = "refused by a proof file alone, and a test fails with it"
     BY_A_PROOF_FILE = "REFUSED BY A PROOF FILE ALONE, and every test passes with it"
     LET_THROUGH = "LET THROUGH"
@@ -52,7 +53,7 @@ class Report:
                 yield file, name
 
     def open_goals(self, path=None):
-        """Yields what is open in the function at this path, or anywhere: goals that no search proves and no answer fits."""
+        """Yields the goals that no search proves and that have no answer, of the function at this path; or those of any, and lemmas that fail."""
         if path is None:
             for file, name in self.answers(r"(?:[\w+-]+/)*"):
                 yield f"`{name}` of proofs/{file}"
@@ -60,8 +61,11 @@ class Report:
             goal = re.search(r"`search` did not prove `([^`]+)`", self.lines[name])
             if goal:
                 yield f"the goal `{goal[1]}` of {name}"
-            for _, goal in self.answers(re.escape("/".join(name.split("::")[1:])) + "/"):
-                yield f"the answer to the goal `{goal}` of {name}"
+
+    def unfit_answers(self, path):
+        """Yields the file and the name of each answer that doesn't prove its goal, of the function at this path."""
+        for name in self.names(path):
+            yield from self.answers(re.escape("/".join(name.split("::")[1:])) + "/")
 
     def is_refused(self, path=None):
         """Returns whether the function at this path, or any, is not proved."""
@@ -84,9 +88,18 @@ def verdict_of(report, mutant):
     for path in paths:
         for goal in report.open_goals(path):
             return Verdict.REFUSED, goal
+    for path in sorted(mutant.functions):
+        for file, name in report.unfit_answers(path):
+            return Verdict.BY_AN_ANSWER, f"the answer `{name}` of proofs/{file}"
     if any(report.is_refused(path) for path in paths):
         return Verdict.BY_A_PROOF_FILE, report.first_error()
     return Verdict.LET_THROUGH, f"{', '.join(map(str, paths))} as proved"
+
+
+def without_answers(text, names):
+    """Returns the text of a proof file without the answers of these names. What is named inside an answer stays."""
+    parts = re.split(r"^(?=pub |abbrev |[\w-]+ : )", text, flags=re.MULTILINE)
+    return "".join(it for it in parts if it.partition(" :")[0].split(" ")[-1] not in names)
 
 
 def failed_tests(said):
@@ -110,7 +123,7 @@ def refused_by_ci(log, mutant, crate):
         lines = text.splitlines(keepends=True)
         start = sum(map(len, lines[: int(line) - 1]))
         found = rattle_functions.functions(text, file, homes)
-        at_line = {it.path for it in found if it.contract < start + len(lines[int(line) - 1]) and start < it.end}
+        at_line = {it.path for it in found if it.head < start + len(lines[int(line) - 1]) and start < it.end}
         if at_line & mutant.functions:
             return f"by rt ci: {file}:{line}: {why[:120]}"
     return None

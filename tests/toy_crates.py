@@ -37,6 +37,14 @@ pub fn same(n: u32) -> u32
     kept
 }
 
+/// Returns the same number, which has an answer that no other wording fits.
+pub fn also(n: u32) -> u32
+    ensures { result ≡ n }
+{
+    let copy = n;
+    copy
+}
+
 /// Returns the limit.
 pub fn limit() -> u32
     ensures { result ≡ 100 }
@@ -52,6 +60,12 @@ use Rattle.low.proofs.twice.Goals as goal
 pub returns : goal.returns
 unfolding doubled
 returns c = ap (λ n. n + n) c.from-wide.ensures
+""",
+    "crates/low/proofs/also/Answers.antt": """use Rattle.std.proofs.Common.{refl}
+use Rattle.low.proofs.also.Goals as goal
+
+pub returns : goal.returns
+returns c = refl
 """,
     "crates/middle/src/lib.rt": """//! A crate with no tests.
 #![tactic(auto)]
@@ -95,6 +109,7 @@ WIDE = "file: src/lib.rt\nold: let wide = u32::from(n);\nnew: "
 MUTANTS = {
     "no-search": ("file: src/lib.rt\nold: let kept = n;\nnew: let kept = 1;", Verdict.REFUSED),
     "no-answer": ("file: src/lib.rt\nold: wide + wide\nnew: wide + 1", Verdict.REFUSED),
+    "other-wording": ("file: src/lib.rt\nold: let copy = n;\nnew: let copy = same(n);", Verdict.BY_AN_ANSWER),
     "constant": ("file: src/lib.rt\nold: u32 = 100\nnew: u32 = 101", Verdict.REFUSED),
     "renamed-and-wrong": (f"{WIDE}let broad = u32::from(n); let wide = broad + 1;", Verdict.BY_A_TEST),
     "renamed": (f"{WIDE}let broad = u32::from(n); let wide = broad;", Verdict.BY_A_PROOF_FILE),
