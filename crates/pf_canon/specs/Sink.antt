@@ -1,5 +1,5 @@
 -- What is given bytes, one text after another. This project's own.
-use Rattle.std.specs.Prelude.{◌≡◌, ℕ, ◌+◌, ◌<◌, ◌^◌, [], ◌++◌, length, ◌≢◌, Option, Some, None}
+use Rattle.std.specs.Prelude.{◌≡◌, ℕ, ◌+◌, ◌<◌, ◌≤◌, ◌^◌, [], ◌++◌, length, ◌≢◌, Option, Some, None}
 use Rattle.std.specs.Borrow.{Bor}
 use Rattle.pf_values.specs.meaning.Text.{Text}
 use Rattle.pf_canon.specs.declared.sink.ByteCount.{ByteCount}
@@ -23,8 +23,10 @@ IsCounted old new bytes = Counts old.len (length bytes) new.len
 abbrev pub given_len : {R : Type 0} → (R → Text) → TextBuilder R → ℕ
 given_len bytes_of builder = length (bytes_of builder.buffer) + builder.lost
 
--- they were counted, and appended unless there was no room for them or for others before
+-- they were counted, and appended unless there was no room for them or for others before; nothing is
+-- taken away
 pub record IsBuilt {R : Type 0} (bytes_of : R → Text) (old new : TextBuilder R) (bytes : Text) : Type 0 where
+  pub grown : length (bytes_of old.buffer) ≤ length (bytes_of new.buffer)
   pub count : Counts (given_len bytes_of old) (length bytes) (given_len bytes_of new)
   pub whole : new.lost ≡ 0
       → (old.lost ≡ 0) × (bytes_of new.buffer ≡ bytes_of old.buffer ++ bytes)

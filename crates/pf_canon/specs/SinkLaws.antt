@@ -25,10 +25,12 @@ counts_both before mid after t u h g few =
 pub builds : {R : Type 0} (bytes_of : R → Text) → IsSink (IsBuilt bytes_of)
 builds bytes_of = record {
   none = λ s. record {
+    grown = omega arith;
     count = counts_none (given_len bytes_of s);
     whole = λ going. (going, sym (append-nil (bytes_of s.buffer)));
   };
   both = λ a b c t u h g. record {
+    grown = omega (arith, h.grown, g.grown);
     count = counts_both (given_len bytes_of a) (given_len bytes_of b) (given_len bytes_of c) t u h.count g.count;
     whole = λ going.
         let last = g.whole going in

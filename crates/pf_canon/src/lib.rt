@@ -15,7 +15,9 @@ mod transducer;
 mod walk;
 
 pub use canonical_bytes::CanonBytes;
-pub use canonical_texts::{canonical, canonical_len, canonical_with_room, is_canonical};
+pub use canonical_texts::{
+    append_canonical, canonical, canonical_len, canonical_with_room, is_canonical,
+};
 pub use comparison::{same_stream, same_text};
 pub use copy::{canonical_stream, copy_canonical};
 pub use faults::{CanonFault, CopyFault, Side, SideFault, StreamFault};

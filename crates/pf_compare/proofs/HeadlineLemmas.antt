@@ -2,13 +2,15 @@
 use Rattle.std.proofs.Common.{subst}
 use Rattle.pf_values.specs.declared.models.Model.{Model}
 use Rattle.pf_values.specs.meaning.Canonical.{IsCanonicalOf}
+use Rattle.pf_values.specs.meaning.Items.{IsAccepted}
 use Rattle.pf_values.specs.meaning.Printing.{AreEquivalent}
 use Rattle.pf_values.specs.meaning.Text.{Text}
 use Rattle.pf_canon.proofs.EquivalentTexts.{equivalent_by}
+use Rattle.pf_canon.proofs.SomeCanonical.{some_canonical}
 use Rattle.pf_probes.proofs.Unique.{equivalent_formats_one, one_canonical, own_canonical}
 use Rattle.pf_values.specs.meaning.Headline.{HasOneCanonical, HaveOneMeaning}
 
-pub only_one : (model : Model) (t c : Text) → IsCanonicalOf model t c → HasOneCanonical model t
+only_one : (model : Model) (t c : Text) → IsCanonicalOf model t c → HasOneCanonical model t
 only_one model t c h = record {
   canonical = c;
   is = h;
@@ -16,6 +18,9 @@ only_one model t c h = record {
   means_the_same = h.equivalent;
   is_its_own = own_canonical model c h.canonical;
 }
+
+pub one_text : (model : Model) (t : Text) → IsAccepted t → HasOneCanonical model t
+one_text model t h = let some = some_canonical model t h.0 h.1.reads in only_one model t some.0 some.1
 
 pub one_meaning : (model : Model) (t u : Text) → HasOneCanonical model t → HasOneCanonical model u → HaveOneMeaning model t u
 one_meaning model t u h g = record {

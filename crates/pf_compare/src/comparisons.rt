@@ -6,14 +6,13 @@ ghost use Rattle.pf_values.specs.meaning.Text.{Text};
 ghost use Rattle.pf_canon.specs.Comparison.{AreTextsSame};
 ghost use Rattle.pf_render.specs.Rendering.{Renders};
 ghost use Rattle.pf_compare.specs.Answers.{AreUnlike, HaveSameTypes, FaultForCompare, IsComparisonOf, PrintsSome, TellApart};
-ghost use Rattle.pf_compare.specs.Lone.{AreToldApartAt, FormatsDifferInOne, FormatsDifferInOneAtMost};
+ghost use Rattle.pf_compare.specs.Lone.{AreToldApartAt, FormatsDifferInOne};
 ghost use Rattle.pf_compare.specs.declared.comparisons.CompareFault.TheVariants.{Memory};
 ghost use Rattle.pf_compare.specs.declared.comparisons.Verdict.TheVariants.{Same};
 
 use crate::differences::{
     ItemDifference, LoneDifference, are_unlike, first_type_difference, item_difference,
 };
-use crate::laws::one_canonical_text;
 use crate::layouts::lay_out;
 use crate::owned_args::OwnedArg;
 use crate::reductions::print_alike;
@@ -54,19 +53,10 @@ fn compare_unlike(
         (FaultForCompare model f.now g.now) }
 {
     match item_difference(f, g) {
-        ItemDifference::Nowhere => Ok(compare_equal_items(model, f, g)),
+        ItemDifference::Nowhere => Ok(same_comparison()),
         ItemDifference::Lone(difference) => compare_lone(alloc, model, f, g, &difference),
         ItemDifference::Unknown => compare_any(alloc, model, f, g),
     }
-}
-
-// Compares two formats with the same items. That they have a canonical text takes one reading.
-fn compare_equal_items(model: Model, f: &[u8], g: &[u8]) -> Comparison
-    requires { FormatsDifferInOneAtMost f.now g.now None }
-    ensures { IsComparisonOf model f.now g.now result }
-{
-    one_canonical_text(model, f);
-    same_comparison()
 }
 
 // Compares two formats that may differ anywhere, or nowhere.
@@ -166,8 +156,8 @@ fn compare_at(
     }
 }
 
-// The same where none is: the two directives may print the same. Then the formats are equivalent, and
-// that they have a canonical text takes one reading.
+// Compares two formats for which no candidate is foreseen: they are equivalent if the two directives
+// print the same.
 fn compare_unforeseen(
     alloc: Global,
     model: Model,
@@ -181,7 +171,6 @@ fn compare_unforeseen(
         (FaultForCompare model f.now g.now) }
 {
     if print_alike(model, &difference.first, &difference.second) {
-        one_canonical_text(model, f);
         return Ok(same_comparison());
     }
     match first_candidate_alone(alloc, model, &difference.first, &difference.second)? {

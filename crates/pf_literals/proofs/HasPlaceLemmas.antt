@@ -1,5 +1,5 @@
--- A source has a place for each of its bytes, and one behind them, all within it.
-use Rattle.std.proofs.Common.{◌≡◌, ℕ, zero, suc, get_or, subst, ◌+◌, ◌<◌, ◌≤◌, List, [], ◌∷◌, ◌++◌, length, map, refl, sym, ap, ap₂, ◌∙◌, arith, length-append}
+-- A source has a place for each of its bytes, and one behind them, each before its end.
+use Rattle.std.proofs.Common.{◌≡◌, ◌≢◌, ℕ, zero, suc, get_or, subst, ◌+◌, ◌<◌, ◌≤◌, List, [], ◌∷◌, ◌++◌, length, map, refl, sym, ap, ap₂, ◌∙◌, arith, length-append}
 use Rattle.std.specs.Prelude.{Some, flat_map, slice_get}
 use Rattle.std.specs.List.{AllByRecursion}
 use Rattle.std.proofs.lemmas.Option.{slice_get-get_or}
@@ -19,20 +19,20 @@ count_places at (l ∷ literals) =
     ∙ ap₂ (λ n m. n + m) (count_elements (at + 1) l.elements) (count_places (at + length (literal_text l)) literals)
     ∙ sym (length-append (map value l.elements) (literal_bytes literals))
 
--- places within a bound
+-- places before a bound
 abbrev AreWithin : ℕ → List ℕ → Type 0
-AreWithin bound found = AllByRecursion (λ at. at ≤ bound) found
+AreWithin bound found = AllByRecursion (λ at. at < bound) found
 
 within_both : (bound : ℕ) (xs ys : List ℕ) → AreWithin bound xs → AreWithin bound ys → AreWithin bound (xs ++ ys)
 within_both bound [] ys h g = g
 within_both bound (x ∷ xs) ys h g = (h.0, within_both bound xs ys h.1 g)
 
-within_at : (bound : ℕ) (xs : List ℕ) (index at : ℕ) → AreWithin bound xs → slice_get xs index ≡ Some at → at ≤ bound
+within_at : (bound : ℕ) (xs : List ℕ) (index at : ℕ) → AreWithin bound xs → slice_get xs index ≡ Some at → at < bound
 within_at bound [] index at h e = absurd (cc)
-within_at bound (x ∷ xs) zero at h e = let same : x ≡ at = cc in subst (λ n. n ≤ bound) same h.0
+within_at bound (x ∷ xs) zero at h e = let same : x ≡ at = cc in subst (λ n. n < bound) same h.0
 within_at bound (x ∷ xs) (suc index) at h e = within_at bound xs index at h.1 e
 
-elements_within : (bound at : ℕ) (elements : List Element) → at + length (flat_map written elements) ≤ bound → AreWithin bound (element_places at elements)
+elements_within : (bound at : ℕ) (elements : List Element) → at + length (flat_map written elements) < bound → AreWithin bound (element_places at elements)
 elements_within bound at [] h = tt
 elements_within bound at (element ∷ elements) h =
     let long = length-append (written element) (flat_map written elements) in
@@ -51,20 +51,25 @@ literals_within bound at (l ∷ literals) h =
     (elements_within bound (at + 1) l.elements (omega (arith, h, long, one)))
     (literals_within bound (at + length (literal_text l)) literals (omega (arith, h, long)))
 
-close_within : (bound before at : ℕ) (literals : List StringLiteral) → before ≤ bound → at + length (flat_map literal_text literals) ≤ bound → close_of before at literals ≤ bound
+close_within : (bound before at : ℕ) (literals : List StringLiteral) → before < bound → at + length (flat_map literal_text literals) ≤ bound → close_of before at literals < bound
 close_within bound before at [] b h = b
 close_within bound before at (l ∷ literals) b h =
     let long = length-append (literal_text l) (flat_map literal_text literals) in
     let one = literal_length l in
     close_within bound (at + 1 + length (flat_map written l.elements)) (at + length (literal_text l)) literals (omega (arith, h, long, one)) (omega (arith, h, long))
 
--- each place is within the source
-pub place_within : (t : Bytes) (index at : ℕ) → IsPlaceOf t index at → at ≤ length t
+some_bytes : (literals : List StringLiteral) → literals ≢ [] → 0 < length (flat_map literal_text literals)
+some_bytes [] h = absurd (h refl)
+some_bytes (l ∷ literals) h = omega (arith, length-append (literal_text l) (flat_map literal_text literals), literal_length l)
+
+-- each place is before the end of the source
+pub place_within : (t : Bytes) (index at : ℕ) → IsPlaceOf t index at → at < length t
 place_within t index at (found, close, h, is) =
     let all = length-append h.source.front (flat_map literal_text h.literals) in
     let whole = ap length h.source.whole in
     let room : length h.source.front + length (flat_map literal_text h.literals) ≤ length t = omega (arith, all, whole) in
-    let ends = subst (λ n. n ≤ length t) (sym h.close_is) (close_within (length t) 0 (length h.source.front) h.literals (omega arith) room) in
+    let some = some_bytes h.literals h.source.some in
+    let ends = subst (λ n. n < length t) (sym h.close_is) (close_within (length t) 0 (length h.source.front) h.literals (omega (arith, room, some)) room) in
     let begins = subst (AreWithin (length t)) (sym h.places_are) (literals_within (length t) (length h.source.front) h.literals room) in
     within_at (length t) (found ++ close ∷ []) index at (within_both (length t) found (close ∷ []) begins (ends, tt)) is
 

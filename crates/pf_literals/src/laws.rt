@@ -28,11 +28,11 @@ pub fn places_once()
         → HasPlaces t others last → (found ≡ others) × (close ≡ last) }
 {}
 
-/// A source has a place for each of its bytes, and one behind them, and these lie in it.
+/// A source has a place for each of its bytes, and one behind them, and each is less than its length.
 pub fn places_there()
     ensures there { (t bytes : Bytes) (index : ℕ) → IsSourceOf t bytes → index ≤ length bytes
         → (at : ℕ) × IsPlaceOf t index at }
-    ensures within { (t : Bytes) (index at : ℕ) → IsPlaceOf t index at → at ≤ length t }
+    ensures within { (t : Bytes) (index at : ℕ) → IsPlaceOf t index at → at < length t }
 {}
 
 /// A text that is no source is refused for one reason and at one place.

@@ -1,14 +1,12 @@
-//! The letters of specifications, and what single bytes mean (C11 7.21.6.1, paragraphs 4 to 8).
+//! What single bytes of specifications mean (C11 7.21.6.1, paragraphs 4 to 8).
 ghost use Rattle.std.specs.Prelude.{◌≡◌};
-ghost use Rattle.pf_values.specs.meaning.Conversions.{conv_letter};
-ghost use Rattle.pf_values.specs.meaning.Flags.{flag_byte};
-ghost use Rattle.pf_values.specs.meaning.Lengths.{length_letters};
 ghost use Rattle.pf_text.specs.Letters.{flag_of, modifier_of, conv_of, refused_letter};
 
 use pf_values::{Conv, Flag, Length, RefusalKind};
 
+/// Returns the flag that a byte spells.
 #[inline(always)]
-pub(crate) fn flag_of(byte: u8) -> Option<Flag>
+pub fn flag_of(byte: u8) -> Option<Flag>
     ensures { result ≡ flag_of byte }
 {
     match byte {
@@ -67,49 +65,5 @@ pub(crate) fn refused_letter(byte: u8) -> RefusalKind
         b'n' => RefusalKind::Count,
         b'C' | b'S' => RefusalKind::Wide,
         _ => RefusalKind::Unexpected,
-    }
-}
-
-pub(crate) fn flag_byte(flag: Flag) -> u8
-    ensures { result ≡ flag_byte flag }
-{
-    match flag {
-        Flag::Minus => b'-',
-        Flag::Plus => b'+',
-        Flag::Space => b' ',
-        Flag::Alt => b'#',
-        Flag::Zero => b'0',
-        Flag::Group => b'\'',
-    }
-}
-
-pub(crate) fn length_letters(length: Length) -> &'static [u8]
-    ensures { result.now ≡ length_letters length }
-{
-    match length {
-        Length::None => b"",
-        Length::Hh => b"hh",
-        Length::H => b"h",
-        Length::L => b"l",
-        Length::Ll => b"ll",
-        Length::J => b"j",
-        Length::Z => b"z",
-        Length::T => b"t",
-    }
-}
-
-pub(crate) fn conv_letter(conv: Conv) -> u8
-    ensures { result ≡ conv_letter conv }
-{
-    match conv {
-        Conv::D => b'd',
-        Conv::I => b'i',
-        Conv::U => b'u',
-        Conv::O => b'o',
-        Conv::X => b'x',
-        Conv::UpperX => b'X',
-        Conv::B => b'b',
-        Conv::C => b'c',
-        Conv::S => b's',
     }
 }

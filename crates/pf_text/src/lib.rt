@@ -15,8 +15,9 @@ mod spelling;
 mod state;
 
 pub use argument_types::signature;
+pub use letters::flag_of;
 pub use pieces::{Piece, Pieces, check};
 pub use scanner::{Refusal, Scanner, Step};
 pub use search::literal_len;
 pub use signatures::{Signature, TextFault};
-pub use spelling::{Spelling, spell};
+pub use spelling::{Spelling, push_flags, spell};

@@ -6,7 +6,6 @@ ghost use Rattle.pf_values.specs.meaning.Lengths.{length_letters};
 ghost use Rattle.pf_values.specs.meaning.Spelling.{flags_spelled, precision_spelled, spelling_of, width_spelled};
 ghost use Rattle.pf_text.specs.Letters.{flags_kept};
 
-use crate::letters::{conv_letter, flag_byte, length_letters};
 use arrayvec::ArrayVec;
 use pf_values::{Directive, Flag, FlagSet, Length};
 
@@ -26,12 +25,13 @@ pub fn spell(directive: &Directive) -> Spelling
     push_width(&mut out, directive.width());
     push_precision(&mut out, directive.precision());
     push_letters(&mut out, directive.length());
-    out.push(conv_letter(directive.conv()));
+    out.push(directive.conv().letter());
     out
 }
 
-fn push_flags(out: &mut Spelling, flags: FlagSet)
-    requires { array_vec_len out.old + 6 ≤ 20 }
+/// Appends the bytes that spell flags, each once and in the order of `spell`.
+pub fn push_flags<const N: usize>(out: &mut ArrayVec<u8, N>, flags: FlagSet)
+    requires { array_vec_len out.old + 6 ≤ N }
     ensures bytes { out.new.items ≡ out.old.items ++ flags_spelled flags }
     ensures len { array_vec_len out.new ≤ array_vec_len out.old + 6 }
 {
@@ -40,12 +40,12 @@ fn push_flags(out: &mut Spelling, flags: FlagSet)
     }
 }
 
-fn push_flag(out: &mut Spelling, flags: FlagSet, flag: Flag)
-    requires { array_vec_len out.old < 20 }
+fn push_flag<const N: usize>(out: &mut ArrayVec<u8, N>, flags: FlagSet, flag: Flag)
+    requires { array_vec_len out.old < N }
     ensures { out.new.items ≡ out.old.items ++ flags_kept flags (flag ∷ []) }
 {
     if flags.has(flag) {
-        out.push(flag_byte(flag));
+        out.push(flag.byte());
     }
 }
 
@@ -89,7 +89,7 @@ fn push_letters(out: &mut Spelling, length: Length)
     ensures bytes { out.new.items ≡ out.old.items ++ length_letters length }
     ensures len { array_vec_len out.new ≤ array_vec_len out.old + 2 }
 {
-    let letters = length_letters(length);
+    let letters = length.letters();
     if letters.is_empty() {
         return;
     }

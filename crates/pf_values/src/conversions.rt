@@ -4,6 +4,7 @@ ghost use Rattle.pf_values.specs.meaning.Bases.{is_defined};
 ghost use Rattle.pf_values.specs.meaning.Conversions.{
   alternative_under,
   base_under,
+  conv_letter,
   has_capitals,
   kept_conv,
   kind_of,
@@ -63,6 +64,23 @@ impl Conv {
         Conv::C,
         Conv::S,
     ];
+
+    /// Returns the letter that spells the conversion.
+    pub fn letter(self) -> u8
+        ensures { result ≡ conv_letter self }
+    {
+        match self {
+            Conv::D => b'd',
+            Conv::I => b'i',
+            Conv::U => b'u',
+            Conv::O => b'o',
+            Conv::X => b'x',
+            Conv::UpperX => b'X',
+            Conv::B => b'b',
+            Conv::C => b'c',
+            Conv::S => b's',
+        }
+    }
 
     /// The conversion that a normal directive has for it: `i` is another name for `d`
     /// (C11 7.21.6.1, paragraph 8).

@@ -1,6 +1,6 @@
 //! The flags of a conversion specification, and sets of them.
 ghost use Rattle.std.specs.Prelude.{◌≡◌};
-ghost use Rattle.pf_values.specs.meaning.Flags.{has, no_flags, with_flag};
+ghost use Rattle.pf_values.specs.meaning.Flags.{flag_byte, has, no_flags, with_flag};
 
 /// A flag (C11 7.21.6.1, paragraph 6; the apostrophe is POSIX's).
 #[derive(Clone, Copy, Debug, PartialEq, Eq)]
@@ -29,6 +29,20 @@ impl Flag {
         Flag::Zero,
         Flag::Group,
     ];
+
+    /// Returns the byte that spells the flag.
+    pub fn byte(self) -> u8
+        ensures { result ≡ flag_byte self }
+    {
+        match self {
+            Flag::Minus => b'-',
+            Flag::Plus => b'+',
+            Flag::Space => b' ',
+            Flag::Alt => b'#',
+            Flag::Zero => b'0',
+            Flag::Group => b'\'',
+        }
+    }
 }
 
 /// A set of flags. A flag that is given twice means the same as once.

@@ -1,8 +1,10 @@
 //! Laws over the definitions alone. Each is the contract of a function that does nothing.
+ghost use Rattle.std.specs.Prelude.{◌≡◌, [], ◌∷◌};
 ghost use Rattle.pf_values.specs.declared.conversions.TheConstants.Conv.{ALL as conversions};
 ghost use Rattle.pf_values.specs.declared.flags.TheConstants.Flag.{ALL as flags};
 ghost use Rattle.pf_values.specs.declared.lengths.TheConstants.Length.{ALL as lengths};
 ghost use Rattle.pf_values.specs.declared.models.Model.{Model};
+ghost use Rattle.pf_values.specs.declared.models.Model.TheVariants.{Lp64, Ilp32, Llp64};
 ghost use Rattle.pf_values.specs.declared.models.TheConstants.Model.{ALL as models};
 ghost use Rattle.pf_values.specs.declared.refusals.TheConstants.RefusalKind.{ALL as refusals};
 ghost use Rattle.pf_values.specs.Laws.{PrintsOnce, HasEachOnce};
@@ -19,4 +21,10 @@ pub fn tables_have_each_once()
     ensures flags { HasEachOnce flags }
     ensures models { HasEachOnce models }
     ensures refusals { HasEachOnce refusals }
+{}
+
+/// The data models of `Model::ALL` have this order, which says which ones `both` and `all` are, and
+/// which number and which bit each has in C.
+pub fn models_in_order()
+    ensures { models ≡ Lp64 ∷ Ilp32 ∷ Llp64 ∷ [] }
 {}

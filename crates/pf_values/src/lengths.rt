@@ -1,7 +1,7 @@
 //! Length modifiers.
 ghost use Rattle.std.specs.Prelude.{◌≡◌};
 ghost use Rattle.pf_values.specs.meaning.DataModel.{kept_length};
-ghost use Rattle.pf_values.specs.meaning.Lengths.{is_long, is_absent};
+ghost use Rattle.pf_values.specs.meaning.Lengths.{is_long, is_absent, length_letters};
 
 use crate::data_model::length_row;
 use crate::models::Model;
@@ -39,6 +39,22 @@ impl Length {
         Length::Z,
         Length::T,
     ];
+
+    /// Returns the letters that spell the length modifier, of which there are at most two.
+    pub fn letters(self) -> &'static [u8]
+        ensures { result.now ≡ length_letters self }
+    {
+        match self {
+            Length::None => b"",
+            Length::Hh => b"hh",
+            Length::H => b"h",
+            Length::L => b"l",
+            Length::Ll => b"ll",
+            Length::J => b"j",
+            Length::Z => b"z",
+            Length::T => b"t",
+        }
+    }
 
     /// The length modifier that a normal directive has for it: one that names the same types in
     /// this data model (C11 7.21.6.1, paragraph 7).

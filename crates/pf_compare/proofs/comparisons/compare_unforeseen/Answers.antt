@@ -11,7 +11,7 @@ pub returns-then-print_alike : goal.returns-then-print_alike
 returns-then-print_alike c =
     let h = c.requires.lone in
     subst (λ (r : Comparison). IsComparisonOf c.args.model c.args.f.now c.args.g.now r) (sym c.same_comparison.ensures)
-    (lone_verdict c.args.model c.args.f.now c.args.g.now c.args.difference.now h (told_unlike _ _ c.print_alike.result c.if-print_alike.true c.print_alike.ensures) (c.one_canonical_text.ensures (h.xs, h.accepted_first)))
+    (lone_verdict c.args.model c.args.f.now c.args.g.now c.args.difference.now h (told_unlike _ _ c.print_alike.result c.if-print_alike.true c.print_alike.ensures))
 
 pub returns-in_err-place : goal.returns-in_err-place
 returns-in_err-place c =

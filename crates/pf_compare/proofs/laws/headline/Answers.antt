@@ -1,5 +1,5 @@
-use Rattle.pf_compare.proofs.HeadlineLemmas.{one_meaning}
+use Rattle.pf_compare.proofs.HeadlineLemmas.{one_meaning, one_text}
 use Rattle.pf_compare.proofs.laws.headline.Goals as goal
 
 pub returns : goal.returns
-returns c = λ h g. one_meaning c.args.model _ _ (c.one_canonical_text.ensures h) (c.one_canonical_text-2.ensures g)
+returns c = λ model t u h g. one_meaning model t u (one_text model t h) (one_text model u g)

@@ -3,4 +3,4 @@ use Rattle.pf_text.specs.Letters.{flags_kept}
 use Rattle.pf_text.proofs.spelling.push_flags.Given as goal
 
 abbrev pub invariant-loop-flag : goal.invariant-loop-flag
-invariant-loop-flag l = l.out.items ≡ l.initial.out.items ++ flags_kept l.flags (take l.flag-index l.flag-items)
+invariant-loop-flag g l = l.out.items ≡ l.initial.out.items ++ flags_kept l.flags (take l.flag-index l.flag-items)
