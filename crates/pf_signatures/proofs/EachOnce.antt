@@ -18,10 +18,10 @@ pub each_type : HasEachOnce all_types
 each_type Int = once type_place all_types Int refl refl
 each_type type = once type_place all_types type refl refl
 
--- 5, 6 and 9 to 12 are numbers of kinds that the profile alone has
+-- 5 and 9 to 12 are numbers of kinds that the profile alone has
 abbrev kind_place : SignatureRefusalKind → ℕ
 kind_place kind =
-    if nat_le (signature_kind_number kind) 4 then signature_kind_number kind - 1 else if nat_le (signature_kind_number kind) 8 then signature_kind_number kind - 3 else signature_kind_number kind - 7
+    if nat_le (signature_kind_number kind) 4 then signature_kind_number kind - 1 else if nat_le (signature_kind_number kind) 8 then signature_kind_number kind - 2 else signature_kind_number kind - 6
 
 pub each_kind : HasEachOnce all_kinds
 each_kind NulByte = once kind_place all_kinds NulByte refl refl

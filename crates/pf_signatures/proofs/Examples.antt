@@ -10,14 +10,18 @@ use Rattle.pf_values.specs.meaning.Text.{Text}
 use Rattle.pf_signatures.specs.declared.conversions.Conversion.TheVariants.{Count}
 use Rattle.pf_signatures.specs.declared.conversions.Modifier.TheVariants.{Integer}
 use Rattle.pf_signatures.specs.declared.refusals.SignatureRefusalKind.{SignatureRefusalKind}
-use Rattle.pf_signatures.specs.declared.refusals.SignatureRefusalKind.TheVariants.{NulByte, Truncated, Unexpected, BadPercent, WidthTooLarge, PrecisionTooLarge, AltUndefined, CountUndefined, Mixed, MissingArgument, TwoTypes}
+use Rattle.pf_signatures.specs.declared.refusals.SignatureRefusalKind.TheVariants.{NulByte, Truncated, Unexpected, BadPercent, WidthTooLarge, PrecisionTooLarge}
+use Rattle.pf_signatures.specs.declared.refusals.SignatureRefusalKind.TheVariants.{AltUndefined, CountUndefined, Mixed, MissingArgument, TwoTypes, Numbered}
+use Rattle.pf_signatures.specs.declared.refusals.SignatureRefusalKind.TheVariants.{LengthUndefined, GroupUndefined}
 use Rattle.pf_signatures.specs.declared.types.ArgumentType.TheVariants.{Int, Double, PointerToLong, PointerToLongLong}
 use Rattle.pf_signatures.specs.Defined.{undefined_as}
 use Rattle.pf_signatures.specs.Readings.{Refused, Takes, verdict}
 use Rattle.pf_signatures.specs.Refusals.{IsPosixRefusedAt}
 use Rattle.pf_signatures.specs.Types.{fetch, conversion_type}
+use Rattle.pf_signatures.specs.Unnumbered.{IsWholeRefusedAt}
 use Rattle.pf_signatures.proofs.Soundness.{Tells, told}
 use Rattle.pf_signatures.proofs.Telling.{missing, told_taken}
+use Rattle.pf_signatures.proofs.UnnumberedEnds.{ends_refused}
 
 -- a text is refused where the walk through it stops
 refused : (model : Model) (t : Text) (kind : SignatureRefusalKind) (at : ℕ) → verdict model t ≡ Refused kind at → IsPosixRefusedAt model t kind at
@@ -85,3 +89,34 @@ flag_after_the_width model = refused model _ Unexpected 2 refl
 
 cut_off : (model : Model) → IsPosixRefusedAt model (codes "%5") Truncated 2
 cut_off model = refused model _ Truncated 2 refl
+
+-- Where arguments may have no numbers. `l` with `C`, also after directives that are accepted.
+long_wide : (model : Model) → IsWholeRefusedAt model (codes "%lC") LengthUndefined 2
+long_wide model = ends_refused model (codes "%lC") LengthUndefined 2 refl
+
+long_wide_later : (model : Model) → IsWholeRefusedAt model (codes "%-*.3i%0*.3d%+*u%lC") LengthUndefined 18
+long_wide_later model = ends_refused model (codes "%-*.3i%0*.3d%+*u%lC") LengthUndefined 18 refl
+
+-- a digit after `*`, a second point, `'` with `e`
+digit_after_star : (model : Model) → IsWholeRefusedAt model (codes "%*1$d") Mixed 2
+digit_after_star model = ends_refused model (codes "%*1$d") Mixed 2 refl
+
+two_points : (model : Model) → IsWholeRefusedAt model (codes "%b%0*..4095jfx y%c%.*LG") Unexpected 6
+two_points model = ends_refused model (codes "%b%0*..4095jfx y%c%.*LG") Unexpected 6 refl
+
+grouped_exponent : (model : Model) → IsWholeRefusedAt model (codes "*x y%'#*.6ze") GroupUndefined 11
+grouped_exponent model = ends_refused model (codes "*x y%'#*.6ze") GroupUndefined 11 refl
+
+-- `$` after a number: in a text that is accepted otherwise, in one that ends, after other
+-- specifications, after the largest number
+one_numbered : (model : Model) → IsWholeRefusedAt model (codes "%1$d") Numbered 2
+one_numbered model = ends_refused model (codes "%1$d") Mixed 2 refl
+
+numbered_at_the_end : (model : Model) → IsWholeRefusedAt model (codes "%1$") Numbered 2
+numbered_at_the_end model = ends_refused model (codes "%1$") Mixed 2 refl
+
+numbered_later : (model : Model) → IsWholeRefusedAt model (codes "%d%f%12$") Numbered 7
+numbered_later model = ends_refused model (codes "%d%f%12$") Mixed 7 refl
+
+largest_numbered : (model : Model) → IsWholeRefusedAt model (codes "%4095$d") Numbered 5
+largest_numbered model = ends_refused model (codes "%4095$d") Mixed 5 refl

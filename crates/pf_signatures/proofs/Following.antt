@@ -27,7 +27,7 @@ use Rattle.pf_signatures.proofs.Wording.{IsTurnedDown, words_refuse}
 within_limit : (n : ℕ) → n < MAX_TEXT_LEN → nat_le MAX_TEXT_LEN n ≡ false
 within_limit n h = grind (arith, nat_tests)
 
-run-refused : (model : Model) (kind : SignatureRefusalKind) (t : Text) → run model (Err kind) t ≡ Err kind
+pub run-refused : (model : Model) (kind : SignatureRefusalKind) (t : Text) → run model (Err kind) t ≡ Err kind
 run-refused model kind [] = refl
 run-refused model kind (b ∷ t) = run-refused model kind t
 
@@ -88,7 +88,7 @@ module _ (model : Model) where
       let all = all_follow base (fetches model s ++ more) h in
       (all_back _ (star_fetches s.width ++ star_fetches s.precision) (last ∷ more) (subst (AllByRecursion (λ f. Follows (style_of base) (Some (style_by f.number)))) (append_assoc (star_fetches s.width ++ star_fetches s.precision) (last ∷ []) more) all)).0
 
-  byte_run : (t : Text) (b : ℕ) (style : Numbering) → SpellsPosixItem t (Byte b) → run model (Ok (stand style Between [])) t ≡ Ok (stand style Between [])
+  pub byte_run : (t : Text) (b : ℕ) (style : Numbering) → SpellsPosixItem t (Byte b) → run model (Ok (stand style Between [])) t ≡ Ok (stand style Between [])
   byte_run t b style h = go (b == 37) refl h where
     go : (c : Bool) → (b == 37) ≡ c → MatchBool c (t ≡ 37 ∷ 37 ∷ []) ((b ≢ 0) × (t ≡ b ∷ [])) → run model (Ok (stand style Between [])) t ≡ Ok (stand style Between [])
     go true c h = ap (run model (Ok (stand style Between []))) h

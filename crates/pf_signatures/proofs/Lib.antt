@@ -21,4 +21,20 @@ pub mod StepLemmas
 pub mod DifferenceLemmas
 pub mod Profile
 pub mod EachOnce
+pub mod DefinedLemmas
+pub mod Spans
+pub mod SpecificationsOnce
+pub mod ReadOnce
+pub mod KeptTypes
+pub mod Narrowed
+pub mod UnnumberedLemmas
+pub mod UnnumberedEnds
+pub mod PartLemmas
+pub mod StretchLemmas
 mod Examples
+pub mod SpecificationBytes
+pub mod StarLemmas
+pub mod DirectiveTypes
+pub mod DirectiveLemmas
+pub mod DirectiveSteps
+pub mod DirectivesOnce

@@ -25,7 +25,7 @@ pub record IsInOrder (model : Model) (t : Text) (seen : List Fetch) (left : Fetc
   pub unnumbered : AllByRecursion (λ f. f.number ≡ None) seen
   pub bounded : IsBounded Unnumbered left
 
-no_number : (o : Option ℕ) → Follows Unnumbered (Some (style_by o)) → o ≡ None
+pub no_number : (o : Option ℕ) → Follows Unnumbered (Some (style_by o)) → o ≡ None
 no_number None h = refl
 no_number (Some n) (inl e) = cc
 no_number (Some n) (inr e) = cc
@@ -60,24 +60,24 @@ module _ (model : Model) (t : Text) (seen : List Fetch) (old : FetchTrace) (h : 
   refused_in_order kind at e = subst (Tells model t) (h.verdict_is ∙ ap (verdict_after seen) e) (told model t)
 
 -- the places of a slice
-pub length_filled : (old types : List ArgumentType) → length (filled old types) ≡ length old
-length_filled [] types = refl
+pub length_filled : {X : Type 0} (old more : List X) → length (filled old more) ≡ length old
+length_filled [] more = refl
 length_filled (o ∷ old) [] = refl
-length_filled (o ∷ old) (type ∷ types) = ap suc (length_filled old types)
+length_filled (o ∷ old) (x ∷ more) = ap suc (length_filled old more)
 
-pub filled_none : (old : List ArgumentType) → filled old [] ≡ old
+pub filled_none : {X : Type 0} (old : List X) → filled old [] ≡ old
 filled_none [] = refl
 filled_none (o ∷ old) = refl
 
-pub filled_set : (old types : List ArgumentType) (type : ArgumentType) → length types < length old → set (filled old types) (length types) type ≡ filled old (types ++ type ∷ [])
-filled_set [] types type less = absurd (omega arith)
-filled_set (o ∷ old) [] type less = ap (λ l. type ∷ l) (sym (filled_none old))
-filled_set (o ∷ old) (t ∷ types) type less = ap (λ l. t ∷ l) (filled_set old types type (omega (arith, less)))
+pub filled_set : {X : Type 0} (old more : List X) (x : X) → length more < length old → set (filled old more) (length more) x ≡ filled old (more ++ x ∷ [])
+filled_set [] more x less = absurd (omega arith)
+filled_set (o ∷ old) [] x less = ap (λ l. x ∷ l) (sym (filled_none old))
+filled_set (o ∷ old) (y ∷ more) x less = ap (λ l. y ∷ l) (filled_set old more x (omega (arith, less)))
 
-pub filled_full : (old types more : List ArgumentType) → length old ≤ length types → filled old types ≡ filled old (types ++ more)
-filled_full [] types more full = refl
+pub filled_full : {X : Type 0} (old before more : List X) → length old ≤ length before → filled old before ≡ filled old (before ++ more)
+filled_full [] before more full = refl
 filled_full (o ∷ old) [] more full = absurd (omega arith)
-filled_full (o ∷ old) (t ∷ types) more full = ap (λ l. t ∷ l) (filled_full old types more (omega (arith, full)))
+filled_full (o ∷ old) (y ∷ before) more full = ap (λ l. y ∷ l) (filled_full old before more (omega (arith, full)))
 
 -- a text that fetches nothing, or is refused before
 pub no_arguments : (model : Model) (t : Text) → fetch_trace model t ≡ Whole → HasArguments model t []

@@ -58,7 +58,7 @@ module _ (model : Model) where
     on_part to at follows =
         record { items = g.items; whole = g.whole; part = g.part ++ byte ∷ []; own = g.own; reads = g.reads; at = at; split = item_split; fetches_are = g.fetches_are; agreed = g.agreed; style = follows }
 
-    on_arrived : (to : PosixState) → Arrives model (style_of seen) g.part g.own byte to → IsGoodPosixFront model (front ++ byte ∷ []) seen to
+    pub on_arrived : (to : PosixState) → Arrives model (style_of seen) g.part g.own byte to → IsGoodPosixFront model (front ++ byte ∷ []) seen to
     on_arrived Between h =
         record {
           items = g.items ++ Byte h.0 ∷ [];
@@ -99,7 +99,7 @@ module _ (model : Model) where
             style = subst (Follows (style_of (seen ++ f ∷ []))) (sym known) (inr (style_push seen f follows));
           }
 
-      on_brought : (to : PosixState) → Brings model (style_of seen) g.part g.own byte f to → IsGoodPosixFront model (front ++ byte ∷ []) (seen ++ f ∷ []) to
+      pub on_brought : (to : PosixState) → Brings model (style_of seen) g.part g.own byte f to → IsGoodPosixFront model (front ++ byte ∷ []) (seen ++ f ∷ []) to
       on_brought Between h =
           record {
             items = g.items ++ Specification h.0 ∷ [];
@@ -128,7 +128,7 @@ module _ (model : Model) where
   at_end : (front : Text) (seen : List Fetch) (state : PosixState) → IsGoodPosixFront model front seen state → length front ≤ MAX_TEXT_LEN → (state ≢ Between → IsPosixRefusedAt model (front ++ []) Truncated (length front))
   at_end front seen state g few open_ = record { front = front; rest = []; fetches = seen; state = state; split = refl; place = refl; limit = few; good = g; cause = inl (refl, open_) }
 
-  sound_end : (front : Text) (seen : List Fetch) (state : PosixState) → IsGoodPosixFront model front seen state → length front ≤ MAX_TEXT_LEN → Tells model (front ++ []) (verdict_after seen (trace_at_end state (length front)))
+  pub sound_end : (front : Text) (seen : List Fetch) (state : PosixState) → IsGoodPosixFront model front seen state → length front ≤ MAX_TEXT_LEN → Tells model (front ++ []) (verdict_after seen (trace_at_end state (length front)))
   sound_end front seen Between g few =
       record {
         items = g.items;
@@ -148,7 +148,7 @@ module _ (model : Model) where
   sound_end front seen (Modified parts modifier) g few = at_end front seen (Modified parts modifier) g few (λ e. cc)
 
   module _ (front rest : Text) (seen : List Fetch) (state : PosixState) (g : IsGoodPosixFront model front seen state) (few : length front ≤ MAX_TEXT_LEN) (byte : ℕ) where
-    at_byte : (kind : SignatureRefusalKind) → IsPosixRefusalCause model seen g.part state (length front) (byte ∷ rest) kind → IsPosixRefusedAt model (front ++ (byte ∷ rest)) kind (length front)
+    pub at_byte : (kind : SignatureRefusalKind) → IsPosixRefusalCause model seen g.part state (length front) (byte ∷ rest) kind → IsPosixRefusedAt model (front ++ (byte ∷ rest)) kind (length front)
     at_byte kind cause = record { front = front; rest = byte ∷ rest; fetches = seen; state = state; split = refl; place = refl; limit = few; good = g; cause = cause }
 
     no_conflict : (f : Fetch) → conflicts seen f ≡ true → ¬ AllByRecursion (IsOneType f) seen
@@ -206,7 +206,7 @@ module _ (model : Model) where
   sound (byte ∷ rest) front seen state g few =
       by_limit front rest seen state g few byte (λ others to good more. sound rest (front ++ byte ∷ []) others to good more) (nat_le MAX_TEXT_LEN (length front)) refl
 
-  at_start : IsGoodPosixFront model [] [] Between
+  pub at_start : IsGoodPosixFront model [] [] Between
   at_start = record { items = []; whole = []; part = []; own = []; reads = refl; at = (refl, refl); split = refl; fetches_are = refl; agreed = agreed_none; style = tt }
 
   pub told : (t : Text) → Tells model t (verdict model t)

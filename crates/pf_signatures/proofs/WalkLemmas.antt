@@ -16,13 +16,13 @@ use Rattle.pf_signatures.specs.declared.reader.NextFetch.TheVariants as nexts
 use Rattle.pf_signatures.specs.declared.reader.Reader.{Reader}
 use Rattle.pf_signatures.specs.Walks.{IsNextFetch, trace_left}
 
-within_limit : (n : ℕ) → n < MAX_TEXT_LEN → nat_le MAX_TEXT_LEN n ≡ false
+pub within_limit : (n : ℕ) → n < MAX_TEXT_LEN → nat_le MAX_TEXT_LEN n ≡ false
 within_limit n h = grind (arith, nat_tests)
 
 past_limit : (n : ℕ) → MAX_TEXT_LEN ≤ n → nat_le MAX_TEXT_LEN n ≡ true
 past_limit n h = grind (arith, nat_tests)
 
-literal : (byte : ℕ) → is_byte2 37 0 byte ≢ true → ((byte == 0) ≡ false) × ((byte == 37) ≡ false)
+pub literal : (byte : ℕ) → is_byte2 37 0 byte ≢ true → ((byte == 0) ≡ false) × ((byte == 37) ≡ false)
 literal byte h = go (byte == 37) (byte == 0) refl refl h where
   go : (a b : Bool) → (byte == 37) ≡ a → (byte == 0) ≡ b → (a || b) ≢ true → ((byte == 0) ≡ false) × ((byte == 37) ≡ false)
   go true b e f h = absurd (h refl)

@@ -3,7 +3,7 @@
 use Rattle.std.specs.Prelude.{ℕ, codes}
 use Rattle.pf_values.specs.meaning.Text.{Text}
 use Rattle.pf_signatures.specs.declared.refusals.SignatureRefusalKind.{SignatureRefusalKind}
-use Rattle.pf_signatures.specs.declared.refusals.SignatureRefusalKind.TheVariants.{NulByte, Truncated, Unexpected, BadPercent, WidthTooLarge, PrecisionTooLarge, AltUndefined, ZeroUndefined, GroupUndefined, PrecisionUndefined, LengthUndefined, TooLong, CountUndefined, Mixed, MissingArgument, TwoTypes}
+use Rattle.pf_signatures.specs.declared.refusals.SignatureRefusalKind.TheVariants.{NulByte, Truncated, Unexpected, BadPercent, Numbered, WidthTooLarge, PrecisionTooLarge, AltUndefined, ZeroUndefined, GroupUndefined, PrecisionUndefined, LengthUndefined, TooLong, CountUndefined, Mixed, MissingArgument, TwoTypes}
 use Rattle.pf_signatures.specs.declared.types.ArgumentType.{ArgumentType}
 use Rattle.pf_signatures.specs.declared.types.ArgumentType.TheVariants.{Int, UInt, Long, ULong, LongLong, ULongLong, Str, Double, LongDouble, WideChar, WideString, Pointer, PointerToSChar, PointerToShort, PointerToInt, PointerToLong, PointerToLongLong}
 
@@ -13,6 +13,7 @@ signature_kind_number NulByte = 1
 signature_kind_number Truncated = 2
 signature_kind_number Unexpected = 3
 signature_kind_number BadPercent = 4
+signature_kind_number Numbered = 6
 signature_kind_number WidthTooLarge = 7
 signature_kind_number PrecisionTooLarge = 8
 signature_kind_number AltUndefined = 13
@@ -32,6 +33,7 @@ signature_kind_name NulByte = codes "NulByte"
 signature_kind_name Truncated = codes "Truncated"
 signature_kind_name Unexpected = codes "Unexpected"
 signature_kind_name BadPercent = codes "BadPercent"
+signature_kind_name Numbered = codes "Numbered"
 signature_kind_name WidthTooLarge = codes "WidthTooLarge"
 signature_kind_name PrecisionTooLarge = codes "PrecisionTooLarge"
 signature_kind_name AltUndefined = codes "AltUndefined"

@@ -17,11 +17,11 @@ IsAcceptedOrRefused model t =
     ((types : List ArgumentType) × HasArguments model t types)
     ⊎ ((kind : SignatureRefusalKind) × (at : ℕ) × IsPosixRefusedAt model t kind at)
 
--- types at the front of a slice, as many as there is room for, and then what was there
-abbrev pub filled : List ArgumentType → List ArgumentType → List ArgumentType
-filled [] types = []
+-- elements at the front of a slice, as many as there is room for, and then what was there
+abbrev pub filled : {X : Type 0} → List X → List X → List X
+filled [] more = []
 filled (o ∷ old) [] = o ∷ old
-filled (o ∷ old) (type ∷ types) = type ∷ filled old types
+filled (o ∷ old) (x ∷ more) = x ∷ filled old more
 
 -- a text has so many types, and the first of them are at the front of a slice, as many as there is
 -- room for; the rest of the slice is as it was

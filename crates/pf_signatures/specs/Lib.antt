@@ -14,4 +14,14 @@ pub mod Readings
 pub mod Walks
 pub mod Tabled
 pub mod Laws
+pub mod OpaqueParts
+pub mod Opaque
+pub mod Stretches
+pub mod Unnumbered
+pub mod Endings
+pub mod Heads
+pub mod PartsInText
+pub mod StretchesInText
 pub mod Steps
+pub mod Directives
+pub mod DirectiveWalks

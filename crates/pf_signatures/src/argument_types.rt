@@ -113,7 +113,7 @@ pub fn arguments_vec(
         Ok(count) => count,
         Err(refusal) => return Err(SignatureFault::Refused(refusal)),
     };
-    let mut types = match room_for(alloc, count) {
+    let mut types = match room_for(alloc, ArgumentType::Int, count) {
         Ok(types) => types,
         Err(AllocError) => return Err(SignatureFault::Memory),
     };
@@ -123,16 +123,20 @@ pub fn arguments_vec(
     }
 }
 
-// Room for so many types. Where that is none, no memory is taken.
-fn room_for(alloc: Global, count: u64) -> Result<Vec<ArgumentType>, AllocError>
-    ensures room { IfOk result (λ types. length types.items ≡ count) }
+/// Returns a vector of `count` copies of `blank`. For 0 it takes no memory.
+pub(crate) fn room_for<T: Copy + Drop>(
+    alloc: Global,
+    blank: T,
+    count: u64,
+) -> Result<Vec<T>, AllocError>
+    ensures room { IfOk result (λ room. length room.items ≡ count) }
     ensures some { IfErr result (λ _. 0 < count) }
 {
     if count == 0 {
         return Ok(Vec::new(alloc));
     }
     match usize::try_from(count) {
-        Ok(count) => Vec::from_elem(alloc, ArgumentType::Int, count),
+        Ok(count) => Vec::from_elem(alloc, blank, count),
         Err(_) => Err(AllocError),
     }
 }

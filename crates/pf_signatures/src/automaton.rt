@@ -10,11 +10,12 @@ ghost use Rattle.pf_signatures.specs.Types.{fetch};
 
 use crate::conversions::Modifier;
 use crate::fetches::{Fetch, conversion_type};
-use crate::letters::{conversion_of, flag_of, length_modifier_of};
+use crate::letters::{conversion_of, length_modifier_of};
 use crate::partial_specification::{Numbering, PartialSpecification, WidthOrPrecision};
 use crate::refusals::SignatureRefusalKind;
 use crate::types::ArgumentType;
 use crate::undefined_combinations::undefined_as;
+use pf_text::flag_of;
 use pf_values::limits::MAX_NUMBER;
 use pf_values::{Length, Model};
 

@@ -10,10 +10,13 @@ ghost use Rattle.pf_signatures.specs.declared.refusals.SignatureRefusalKind.{Sig
 ghost use Rattle.pf_signatures.specs.declared.refusals.TheConstants.SignatureRefusalKind.{ALL as every_kind};
 ghost use Rattle.pf_signatures.specs.declared.types.ArgumentType.{ArgumentType};
 ghost use Rattle.pf_signatures.specs.declared.types.TheConstants.ArgumentType.{ALL as every_type};
+ghost use Rattle.pf_signatures.specs.declared.directive_spans.DirectiveSpan.{DirectiveSpan};
+ghost use Rattle.pf_signatures.specs.Directives.{HasDirectives};
 ghost use Rattle.pf_signatures.specs.Items.{HasArguments};
 ghost use Rattle.pf_signatures.specs.Laws.{ComparesArgumentTypes, IsAcceptedOrRefused};
 ghost use Rattle.pf_signatures.specs.Refusals.{IsPosixRefusedAt};
 ghost use Rattle.pf_signatures.specs.Types.{widened};
+ghost use Rattle.pf_signatures.specs.Unnumbered.{AcceptsUnnumbered, IsJudged, IsReadOnce, IsWholeRefusedAt, TypesAreKept};
 
 /// A text is accepted, or refused.
 pub fn accepted_or_refused()
@@ -31,6 +34,12 @@ pub fn never_both()
 pub fn types_once()
     ensures { (model : model_of_data) (t : Text) (types others : List ArgumentType)
         → HasArguments model t types → HasArguments model t others → types ≡ others }
+{}
+
+/// An accepted text has one list of conversion specifications.
+pub fn directives_once()
+    ensures { (model : model_of_data) (t : Text) (directives others : List DirectiveSpan)
+        → HasDirectives model t directives → HasDirectives model t others → directives ≡ others }
 {}
 
 /// A text is refused for one reason at one place.
@@ -55,6 +64,34 @@ pub fn profile_types()
 pub fn same_fits()
     ensures { (model : model_of_data) (t u : Text) → IsAccepted t → IsAccepted u
         → AreEquivalent model t u → ComparesArgumentTypes model t u None }
+{}
+
+/// A text is read as one list of stretches and opaque directives at most.
+pub fn read_once()
+    ensures { (t : Text) → IsReadOnce t }
+{}
+
+/// A text is accepted as stretches and opaque directives exactly if it is read with no numbered
+/// specification, and it is within the limit.
+pub fn accepts_unnumbered()
+    ensures { (t : Text) → AcceptsUnnumbered t }
+{}
+
+/// What is accepted so has arguments of the types of its stretches and opaque directives.
+pub fn types_are_kept()
+    ensures { (model : model_of_data) → TypesAreKept model }
+{}
+
+/// Where arguments may have no numbers, a text is accepted or refused, and never both.
+pub fn judged_unnumbered()
+    ensures { (model : model_of_data) (t : Text) → IsJudged model t }
+{}
+
+/// Where arguments may have no numbers, a text is refused for one reason at one place.
+pub fn refused_unnumbered_once()
+    ensures { (model : model_of_data) (t : Text) (kind other : SignatureRefusalKind) (p q : ℕ)
+        → IsWholeRefusedAt model t kind p → IsWholeRefusedAt model t other q
+        → (kind ≡ other) × (p ≡ q) }
 {}
 
 /// Each table `ALL` has each value of its type exactly once.

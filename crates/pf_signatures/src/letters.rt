@@ -1,26 +1,10 @@
-//! Single bytes of a specification: flags, length modifiers and conversions (C11 7.21.6.1,
-//! paragraphs 4 to 8).
+//! Single bytes of a specification: length modifiers and conversions (C11 7.21.6.1, paragraphs 7
+//! and 8).
 ghost use Rattle.std.specs.Prelude.{◌≡◌};
 ghost use Rattle.pf_signatures.specs.Letters.{conversion_of, length_modifier_of};
-ghost use Rattle.pf_text.specs.Letters.{flag_of};
 
 use crate::conversions::{Conversion, Floating, Modifier};
-use pf_values::{Conv, Flag, Length};
-
-#[inline(always)]
-pub(crate) fn flag_of(byte: u8) -> Option<Flag>
-    ensures { result ≡ flag_of byte }
-{
-    match byte {
-        b'-' => Some(Flag::Minus),
-        b'+' => Some(Flag::Plus),
-        b' ' => Some(Flag::Space),
-        b'#' => Some(Flag::Alt),
-        b'0' => Some(Flag::Zero),
-        b'\'' => Some(Flag::Group),
-        _ => None,
-    }
-}
+use pf_values::{Conv, Length};
 
 /// The modifier that a letter is or begins.
 #[inline(always)]

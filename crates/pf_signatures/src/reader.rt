@@ -5,6 +5,7 @@ ghost use Rattle.pf_values.specs.declared.limits.TheConstants.{MAX_TEXT_LEN as L
 ghost use Rattle.pf_values.specs.declared.models.Model.{Model as ModelOf};
 ghost use Rattle.pf_values.specs.meaning.Text.{Text, percent};
 ghost use Rattle.pf_signatures.specs.declared.reader.Reader.{Reader as ReaderOf};
+ghost use Rattle.pf_signatures.specs.Endings.{unnumbered_trace};
 ghost use Rattle.pf_signatures.specs.Readings.{Fetches, trace_from, fetch_trace};
 ghost use Rattle.pf_signatures.specs.declared.partial_specification.Numbering.TheVariants.{Unnumbered};
 ghost use Rattle.pf_signatures.specs.Refusals.{style_by};
@@ -50,6 +51,19 @@ impl Reader {
         Reader {
             automaton: Automaton::new(),
             style: Numbering::Undecided,
+            at: 0,
+        }
+    }
+
+    /// A reader before the first byte, as if behind a specification that isn't numbered.
+    #[inline(always)]
+    pub(crate) fn unnumbered() -> Reader
+        ensures start { result.at ≡ 0 }
+        ensures left { (model : ModelOf) (t : Text) → trace_left model t result ≡ unnumbered_trace model t }
+    {
+        Reader {
+            automaton: Automaton::new(),
+            style: Numbering::Unnumbered,
             at: 0,
         }
     }
@@ -216,8 +230,9 @@ fn run_len(rest: &[u8], at: usize) -> usize
     len
 }
 
+/// Whether an argument is fetched by its number.
 #[inline(always)]
-fn style_by(number: Option<u16>) -> Numbering
+pub(crate) fn style_by(number: Option<u16>) -> Numbering
     ensures { result ≡ style_by number }
 {
     match number {

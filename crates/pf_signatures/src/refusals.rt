@@ -37,6 +37,8 @@ pub enum SignatureRefusalKind {
     Unexpected,
     /// `%` inside a specification, other than the second byte of `%%`.
     BadPercent,
+    /// The number of an argument, where the format may have none (`check_unnumbered`).
+    Numbered,
     /// A field width, or the number of an argument or of one for the width, above the limit.
     WidthTooLarge,
     /// A precision, or the number of an argument for it, above the limit.
@@ -65,11 +67,12 @@ pub enum SignatureRefusalKind {
 
 impl SignatureRefusalKind {
     /// All kinds, in the order of their numbers.
-    pub const ALL: [SignatureRefusalKind; 16] = [
+    pub const ALL: [SignatureRefusalKind; 17] = [
         SignatureRefusalKind::NulByte,
         SignatureRefusalKind::Truncated,
         SignatureRefusalKind::Unexpected,
         SignatureRefusalKind::BadPercent,
+        SignatureRefusalKind::Numbered,
         SignatureRefusalKind::WidthTooLarge,
         SignatureRefusalKind::PrecisionTooLarge,
         SignatureRefusalKind::AltUndefined,
@@ -93,6 +96,7 @@ impl SignatureRefusalKind {
             SignatureRefusalKind::Truncated => 2,
             SignatureRefusalKind::Unexpected => 3,
             SignatureRefusalKind::BadPercent => 4,
+            SignatureRefusalKind::Numbered => 6,
             SignatureRefusalKind::WidthTooLarge => 7,
             SignatureRefusalKind::PrecisionTooLarge => 8,
             SignatureRefusalKind::AltUndefined => 13,
@@ -117,6 +121,7 @@ impl SignatureRefusalKind {
             SignatureRefusalKind::Truncated => "Truncated",
             SignatureRefusalKind::Unexpected => "Unexpected",
             SignatureRefusalKind::BadPercent => "BadPercent",
+            SignatureRefusalKind::Numbered => "Numbered",
             SignatureRefusalKind::WidthTooLarge => "WidthTooLarge",
             SignatureRefusalKind::PrecisionTooLarge => "PrecisionTooLarge",
             SignatureRefusalKind::AltUndefined => "AltUndefined",

@@ -144,14 +144,14 @@ fn refusal(kind: SignatureRefusalKind, at: usize) -> SignatureRefusal
     }
 }
 
-/// Sets the type at a place, if the slice has that place.
+/// Sets the element at a place, if the slice has that place.
 #[inline(always)]
-pub(crate) fn put(out: &mut [ArgumentType], place: usize, wanted: ArgumentType)
+pub(crate) fn put<T: Copy>(out: &mut [T], place: usize, element: T)
     ensures length { length out.new ≡ length out.old }
-    ensures filled { (start types : List ArgumentTypeOf) → out.old ≡ filled start types
-        → place ≡ length types → out.new ≡ filled start (types ++ wanted ∷ []) }
+    ensures filled { (start before : List T) → out.old ≡ filled start before
+        → place ≡ length before → out.new ≡ filled start (before ++ element ∷ []) }
 {
     if place < out.len() {
-        out[place] = wanted;
+        out[place] = element;
     }
 }
