@@ -12,15 +12,15 @@ use Rattle.pf_values.specs.meaning.Text.{Text}
 use Rattle.pf_signatures.specs.declared.types.ArgumentType.{ArgumentType}
 use Rattle.pf_signatures.specs.Specifications.{PosixSpecification}
 use Rattle.pf_signatures.specs.Types.{conversion_type, fetch, star_fetches, widened}
+use Rattle.pf_signatures.specs.Opaque.{SpellsOpaque}
+use Rattle.pf_signatures.specs.Stretches.{Stretches, Before, types_of_opaque, whole_types}
+use Rattle.pf_signatures.proofs.SpecificationsOnce.{one_specification, parts_of}
 use Rattle.pf_whole.specs.meaning.NormalSpellings.{normal_parts, normal_spelling}
-use Rattle.pf_whole.specs.meaning.Opaque.{SpellsOpaque}
-use Rattle.pf_whole.specs.meaning.Stretches.{Stretches, Before, types_of_opaque, whole_types}
 use Rattle.pf_whole.specs.meaning.Traces.{Ends, Calls, HasTrace, Trace, TraceAlike}
 use Rattle.pf_whole.specs.meaning.WholeArguments.{WholeArgument, Known, HasWholeTypes}
 use Rattle.pf_whole.proofs.KnownArguments.{known_once, known_typed, widened_once}
 use Rattle.pf_whole.proofs.NormalLemmas.{types_again}
 use Rattle.pf_whole.proofs.SomeTrace.{call_of, known_printed, some_trace, trace_before, typed_both, typed_count}
-use Rattle.pf_whole.proofs.SpecificationsOnce.{one_specification, parts_of}
 use Rattle.pf_whole.proofs.SpelledNormally.{opaque_normally}
 use Rattle.pf_whole.proofs.TraceLemmas.{known_count, trace_sym}
 use Rattle.pf_whole.proofs.TwoValues.{count, count_is, whole_neutrals_typed, nth, nth_another, nth_behind, nth_neutral, one_other, one_other_typed, two_values}

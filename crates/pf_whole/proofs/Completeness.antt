@@ -7,13 +7,13 @@ use Rattle.pf_values.specs.meaning.Printing.{PrintAlike}
 use Rattle.pf_values.specs.meaning.Text.{Text}
 use Rattle.pf_probes.proofs.Unique.{equivalent_formats_one}
 use Rattle.pf_signatures.specs.Specifications.{PosixSpecification}
+use Rattle.pf_signatures.specs.Stretches.{Stretches, Last, Before, ReadsWhole, whole_types}
+use Rattle.pf_signatures.proofs.ReadOnce.{read_once}
 use Rattle.pf_whole.specs.Laws.{AlikeHaveOneCanonical}
-use Rattle.pf_whole.specs.meaning.Stretches.{Stretches, Last, Before, ReadsWhole, whole_types}
 use Rattle.pf_whole.specs.meaning.Traces.{Ends, Calls, HasTrace, Trace, TraceAlike}
 use Rattle.pf_whole.specs.meaning.WholeCanonical.{IsCanonicalStretch, IsPutTogether}
 use Rattle.pf_whole.proofs.Apart.{one_spelling, rests_alike, stretches_alike}
 use Rattle.pf_whole.proofs.ProfileTexts.{alike_last}
-use Rattle.pf_whole.proofs.ReadOnce.{read_once}
 use Rattle.pf_whole.proofs.SomeTrace.{some_trace}
 use Rattle.pf_whole.proofs.TraceLemmas.{trace_sym}
 use Rattle.pf_whole.proofs.TwoValues.{whole_neutrals_typed, whole_neutrals}

@@ -1,7 +1,7 @@
 -- Examples of the definitions, each of which computes. docs/DEFINITIONS.md goes through them.
 use Rattle.std.proofs.Common.{◌≡◌, ℕ, zero, suc, ◌<◌, ◌≤◌, Bool, true, false, List, [], ◌∷◌, ◌++◌, codes, length, map, refl, sym, ap, ◌∙◌, arith, inl, inr}
 use Rattle.std.proofs.Common.{subst}
-use Rattle.std.specs.Prelude.{Option, Some, None, ◌==◌, if◌then◌else◌, decimal, flat_map, Contains, slice_index, slice_get, pos, negsuc}
+use Rattle.std.specs.Prelude.{Option, Some, None, decimal, flat_map, Contains, slice_index, slice_get, pos, negsuc}
 use Rattle.std.specs.Fmt.{digit_glyph, digits}
 use Rattle.std.specs.Int.Digits.{digits_of}
 use Rattle.std.specs.List.{AllByRecursion}
@@ -37,29 +37,22 @@ use Rattle.pf_signatures.specs.declared.conversions.Floating.{Floating}
 use Rattle.pf_signatures.specs.declared.conversions.Floating.TheVariants as floats
 use Rattle.pf_signatures.specs.declared.conversions.Modifier.{Modifier}
 use Rattle.pf_signatures.specs.declared.conversions.Modifier.TheVariants.{Integer, LongDouble}
+use Rattle.pf_signatures.specs.declared.types.ArgumentType.TheVariants.{Int, Double, WideString, PointerToLong}
 use Rattle.pf_signatures.specs.Defined.{IsPosixDefined}
 use Rattle.pf_signatures.specs.Specifications.{Amount, Given, Fetched, PosixSpecification, conversion_letter, modifier_letters}
 use Rattle.pf_signatures.specs.Spelling.{SpellsPosixPrecision, SpellsPosixWidth}
-use Rattle.pf_signatures.specs.declared.refusals.SignatureRefusalKind.{SignatureRefusalKind}
-use Rattle.pf_signatures.specs.declared.refusals.SignatureRefusalKind.TheVariants.{Unexpected, LengthUndefined, GroupUndefined, Mixed}
-use Rattle.pf_signatures.specs.declared.types.ArgumentType.TheVariants.{Int, Double, WideString, PointerToLong}
-use Rattle.pf_signatures.specs.Readings.{Refused, Takes, Verdict, verdict}
-use Rattle.pf_signatures.specs.Refusals.{IsPosixRefusedAt}
-use Rattle.pf_signatures.proofs.Following.{said}
-use Rattle.pf_signatures.proofs.Soundness.{Tells, told}
-use Rattle.pf_signatures.proofs.Unique.{one_refusal}
-use Rattle.pf_whole.specs.Answers.{Different, DirectivesDiffer, IsNumberedAt, IsWholeProbe, IsWholeRefusedAt, IsWholeVerdict, StretchesAgree, TellStretches}
+use Rattle.pf_signatures.specs.Opaque.{SpellsOpaque, is_opaque}
+use Rattle.pf_signatures.specs.Stretches.{Stretches, Last, Before, ReadsWhole, whole_types}
+use Rattle.pf_signatures.proofs.SpecificationsOnce.{made}
+use Rattle.pf_whole.specs.Answers.{Different, DirectivesDiffer, IsWholeProbe, IsWholeVerdict, StretchesAgree, TellStretches}
 use Rattle.pf_whole.specs.Answers.{TracesTogether, TypesDiffer}
 use Rattle.pf_whole.specs.Laws.{PlacedCall, placed_calls}
 use Rattle.pf_whole.specs.meaning.NormalSpellings.{normal_spelling}
-use Rattle.pf_whole.specs.meaning.Opaque.{SpellsOpaque, is_opaque}
-use Rattle.pf_whole.specs.meaning.Stretches.{Stretches, Last, Before, ReadsWhole, whole_types}
 use Rattle.pf_whole.specs.meaning.Traces.{AreWholeAlike}
 use Rattle.pf_whole.specs.meaning.WholeArguments.{narrowed}
 use Rattle.pf_whole.specs.meaning.WholeCanonical.{IsCanonicalStretch, IsWholeCanonicalOf}
 use Rattle.pf_whole.proofs.Completeness.{alike_have_one_canonical}
 use Rattle.pf_whole.proofs.OneCanonical.{one_canonical_is_alike}
-use Rattle.pf_whole.proofs.SpecificationsOnce.{made}
 use Rattle.pf_whole.proofs.Telling.{telling_is_apart}
 use Rattle.pf_whole.proofs.Together.{agreeing_is_together}
 
@@ -521,114 +514,6 @@ calls_in_order : placed_calls Lp64 0 (Before [] (parts [] star_width no_precisio
     (Before [] (parts [] no_width no_precision (Integer lengths.None) Pointer) (Last [])))
     ≡ record { index = 0; spelling = codes "%*f" } ∷ record { index = 2; spelling = codes "%p" } ∷ []
 calls_in_order = refl
-
--- how many bytes come before the first `$`
-abbrev before_dollar : Text → ℕ
-before_dollar [] = 0
-before_dollar (byte ∷ t) = if byte == 36 then 0 else suc (before_dollar t)
-
-dollar_behind : (front rest : Text) → before_dollar (front ++ 36 ∷ rest) ≤ length front
-dollar_behind [] rest = omega arith
-dollar_behind (byte ∷ front) rest = go (byte == 36) (dollar_behind front rest) where
-  go : (b : Bool) → before_dollar (front ++ 36 ∷ rest) ≤ length front → (if b then 0 else suc (before_dollar (front ++ 36 ∷ rest))) ≤ length (byte ∷ front)
-  go true h = omega arith
-  go false h = omega (arith, h)
-
--- a text is refused as by `pf_signatures`, where no `$` comes before
-refused : (model : Model) (t : Text) (kind : SignatureRefusalKind) (at : ℕ) → verdict model t ≡ Refused kind at → at < before_dollar t
-    → IsWholeRefusedAt model t (Some kind) at
-refused model t kind at e first = (
-  subst (Tells model t) e (told model t),
-  λ place h.
-      let behind = dollar_behind (h.whole ++ 37 ∷ h.digits) h.rest in
-      omega (arith, first, subst (λ u. before_dollar u ≤ length (h.whole ++ 37 ∷ h.digits)) (sym h.split) behind, h.place),
-)
-
--- and at the `$`, if that comes no later than what `pf_signatures` refuses, or than the end
-abbrev refused_no_earlier : Verdict → Text → ℕ → Type 0
-refused_no_earlier (Takes fs) t at = at ≤ length t
-refused_no_earlier (Refused kind place) t at = at ≤ place
-
-numbered : (model : Model) (t : Text) (at : ℕ) → IsNumberedAt t at → refused_no_earlier (verdict model t) t at → IsWholeRefusedAt model t None at
-numbered model t at h first = (h, λ kind place refusal. go kind place refusal (verdict model t) refl first) where
-  go : (kind : SignatureRefusalKind) (place : ℕ) → IsPosixRefusedAt model t kind place → (v : Verdict) → verdict model t ≡ v → refused_no_earlier v t at
-      → ¬ (place < at)
-  go kind place refusal (Takes fs) e few = λ less. elim (said model t kind place refusal) [
-    | inl f ↦ let no : Takes fs ≡ Refused kind place = sym e ∙ f in cc
-    | inr f ↦ omega (arith, f.1, few, less)
-  ]
-  go kind place refusal (Refused other q) e few = λ less.
-      let same = (one_refusal model t other kind q place (subst (Tells model t) e (told model t)) refusal).1 in
-      omega (arith, same, few, less)
-
--- `l` with `C`, and after directives that are accepted
-long_wide : (model : Model) → IsWholeRefusedAt model (codes "%lC") (Some LengthUndefined) 2
-long_wide model = refused model _ LengthUndefined 2 refl (omega arith)
-
-long_wide_later : (model : Model) → IsWholeRefusedAt model (codes "%-*.3i%0*.3d%+*u%lC") (Some LengthUndefined) 18
-long_wide_later model = refused model _ LengthUndefined 18 refl (omega arith)
-
--- a digit after `*`, a second point, `'` with `e`
-mixed : (model : Model) → IsWholeRefusedAt model (codes "%*1$d") (Some Mixed) 2
-mixed model = refused model _ Mixed 2 refl (omega arith)
-
-two_points : (model : Model) → IsWholeRefusedAt model (codes "%b%0*..4095jfx y%c%.*LG") (Some Unexpected) 6
-two_points model = refused model _ Unexpected 6 refl (omega arith)
-
-grouped_exponent : (model : Model) → IsWholeRefusedAt model (codes "*x y%'#*.6ze") (Some GroupUndefined) 11
-grouped_exponent model = refused model _ GroupUndefined 11 refl (omega arith)
-
--- `$` after a number: in a text that `pf_signatures` accepts, in one that ends, after the largest number
-one_numbered : IsNumberedAt (codes "%1$d") 2
-unfolding digits
-one_numbered = record {
-  whole = [];
-  digits = codes "1";
-  rest = codes "d";
-  items = [];
-  n = 1;
-  reads = refl;
-  unnumbered = tt;
-  number = width_spelled 1 (omega arith) (omega arith);
-  split = refl;
-  place = refl;
-  limit = omega arith;
-}
-
-numbered_alone : (model : Model) → IsWholeRefusedAt model (codes "%1$d") None 2
-numbered_alone model = numbered model _ 2 one_numbered (omega arith)
-
-numbered_at_the_end : (model : Model) → IsWholeRefusedAt model (codes "%1$") None 2
-unfolding digits
-numbered_at_the_end model = numbered model _ 2 (record {
-  whole = [];
-  digits = codes "1";
-  rest = [];
-  items = [];
-  n = 1;
-  reads = refl;
-  unnumbered = tt;
-  number = width_spelled 1 (omega arith) (omega arith);
-  split = refl;
-  place = refl;
-  limit = omega arith;
-}) (omega arith)
-
-largest_numbered : (model : Model) → IsWholeRefusedAt model (codes "%4095$d") None 5
-unfolding digits
-largest_numbered model = numbered model _ 5 (record {
-  whole = [];
-  digits = codes "4095";
-  rest = codes "d";
-  items = [];
-  n = 4095;
-  reads = refl;
-  unnumbered = tt;
-  number = width_spelled 4095 (omega arith) (omega arith);
-  split = refl;
-  place = refl;
-  limit = omega arith;
-}) (omega arith)
 
 -- Verdicts. `%*d` and `%d%d` have the same types, and one of them makes a call.
 abbrev bare : Conv → Specification

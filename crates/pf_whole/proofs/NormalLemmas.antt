@@ -6,7 +6,7 @@ use Rattle.pf_values.specs.declared.conversions.Conv.TheVariants as convs
 use Rattle.pf_values.specs.declared.conversions.Kind.{Kind}
 use Rattle.pf_values.specs.declared.conversions.Kind.TheVariants as kinds
 use Rattle.pf_values.specs.declared.flags.FlagSet.{FlagSet}
-use Rattle.pf_values.specs.declared.flags.Flag.TheVariants.{Minus, Plus, Space, Alt, Zero, Group}
+use Rattle.pf_values.specs.declared.flags.Flag.TheVariants.{Minus, Plus, Space, Zero}
 use Rattle.pf_values.specs.declared.lengths.Length.{Length}
 use Rattle.pf_values.specs.declared.lengths.Length.TheVariants as lengths
 use Rattle.pf_values.specs.declared.models.Model.{Model}
@@ -16,21 +16,20 @@ use Rattle.pf_values.specs.meaning.DataModel.{kept_length}
 use Rattle.pf_values.specs.meaning.Flags.{has}
 use Rattle.pf_values.specs.meaning.Lengths.{is_absent, is_long}
 use Rattle.pf_values.proofs.DataModelLemmas.{kept_row}
-use Rattle.pf_values.proofs.DefinedLemmas.{none_first}
 use Rattle.pf_reduce.proofs.CarriedIntegers.{kept_kind}
 use Rattle.pf_signatures.specs.declared.conversions.Conversion.{Conversion}
 use Rattle.pf_signatures.specs.declared.conversions.Conversion.TheVariants.{Profile, Float, UpperC, UpperS, Pointer, Count}
 use Rattle.pf_signatures.specs.declared.conversions.Floating.TheVariants as floats
 use Rattle.pf_signatures.specs.declared.conversions.Modifier.{Modifier}
 use Rattle.pf_signatures.specs.declared.conversions.Modifier.TheVariants.{Integer, LongDouble}
-use Rattle.pf_signatures.specs.Defined.{has_any_flag, is_count, takes_alt, takes_group, takes_modifier, takes_precision, takes_zero, undefined_as}
+use Rattle.pf_signatures.specs.Defined.{is_count, takes_alt, takes_modifier, takes_precision, takes_zero}
 use Rattle.pf_signatures.specs.Specifications.{Amount, Given, Fetched, PosixSpecification}
 use Rattle.pf_signatures.specs.Types.{conversion_type, counted_type, integer_length, kind_type, star_fetches, widened}
+use Rattle.pf_signatures.specs.Opaque.{is_opaque, is_outside, is_star}
+use Rattle.pf_signatures.specs.Stretches.{types_of_opaque}
+use Rattle.pf_signatures.proofs.SpecificationsOnce.{same_fields}
 use Rattle.pf_whole.specs.meaning.NormalSpellings.{given_precision, integer_modifier, is_amount, is_general, is_given, is_integer, keeps_sign, kept_conversion}
 use Rattle.pf_whole.specs.meaning.NormalSpellings.{kept_flags, kept_modifier, normal_precision, meant_precision, normal_parts}
-use Rattle.pf_whole.specs.meaning.Opaque.{is_opaque, is_outside, is_star}
-use Rattle.pf_whole.specs.meaning.Stretches.{types_of_opaque}
-use Rattle.pf_whole.proofs.SpecificationsOnce.{same_fields}
 
 -- conversions
 pub record SameConversion (before after : Conversion) : Type 0 where
@@ -247,30 +246,6 @@ opaque_again model s e =
     let precision = precision_same s.conversion s.precision in
     ap (λ b. is_star s.width || b || is_outside (kept_conversion s.conversion) (kept_modifier model s.conversion s.modifier)) precision.star
     ∙ one_of (is_star s.width) (is_star s.precision) (is_outside s.conversion s.modifier) _ e (outside_again model s.conversion s.modifier)
-
--- defined
-pub record HasNoReason (set : FlagSet) (width precision : Bool) (modifier : Modifier) (conversion : Conversion) : Type 0 where
-  pub alt : (has set Alt && not (takes_alt conversion)) ≡ false
-  pub zero_flag : (has set Zero && not (takes_zero conversion)) ≡ false
-  pub group : (has set Group && not (takes_group conversion)) ≡ false
-  pub precision_is : (precision && not (takes_precision conversion)) ≡ false
-  pub modifier_is : not (takes_modifier conversion modifier) ≡ false
-  pub count : (is_count conversion && (has_any_flag set || width || precision)) ≡ false
-
-pub no_reason : (set : FlagSet) (width precision : Bool) (modifier : Modifier) (conversion : Conversion)
-    → undefined_as set width precision modifier conversion ≡ None → HasNoReason set width precision modifier conversion
-no_reason set width precision modifier conversion e =
-    let a = none_first _ _ _ e in
-    let b = none_first _ _ _ a.1 in
-    let c = none_first _ _ _ b.1 in
-    let d = none_first _ _ _ c.1 in
-    let f = none_first _ _ _ d.1 in
-    let g = none_first _ _ _ f.1 in
-    record { alt = a.0; zero_flag = b.0; group = c.0; precision_is = d.0; modifier_is = f.0; count = g.0 }
-
-pub is_defined : (set : FlagSet) (width precision : Bool) (modifier : Modifier) (conversion : Conversion) → HasNoReason set width precision modifier conversion
-    → undefined_as set width precision modifier conversion ≡ None
-is_defined set width precision modifier conversion h = rw (h.alt, h.zero_flag, h.group, h.precision_is, h.modifier_is, h.count) refl
 
 pub modifier_stands : (model : Model) (conversion : Conversion) (modifier : Modifier) → not (takes_modifier conversion modifier) ≡ false
     → not (takes_modifier (kept_conversion conversion) (kept_modifier model conversion modifier)) ≡ false

@@ -4,14 +4,14 @@ use Rattle.pf_values.specs.declared.models.Model.{Model}
 use Rattle.pf_values.specs.meaning.Items.{Item}
 use Rattle.pf_values.specs.meaning.Printing.{PrintAlike}
 use Rattle.pf_values.specs.meaning.Text.{Text}
+use Rattle.pf_signatures.specs.Stretches.{Stretches, Last, Before, ReadsWhole}
+use Rattle.pf_signatures.proofs.ReadOnce.{read_once}
 use Rattle.pf_whole.specs.Laws.{OneCanonicalIsAlike}
 use Rattle.pf_whole.specs.meaning.NormalSpellings.{normal_parts, normal_spelling, posix_spelling_of}
-use Rattle.pf_whole.specs.meaning.Stretches.{Stretches, Last, Before, ReadsWhole}
 use Rattle.pf_whole.specs.meaning.Traces.{AreWholeAlike, TraceAlike}
 use Rattle.pf_whole.specs.meaning.WholeCanonical.{IsPutTogether, IsWholeCanonicalOf}
 use Rattle.pf_whole.proofs.NormalLemmas.{normal_again, types_again}
 use Rattle.pf_whole.proofs.ProfileTexts.{last_alike}
-use Rattle.pf_whole.proofs.ReadOnce.{read_once}
 use Rattle.pf_whole.proofs.SpelledNormally.{opaque_normally}
 use Rattle.pf_whole.proofs.TraceLemmas.{before_alike, trace_sym, trace_trans}
 
@@ -22,7 +22,7 @@ pub record IsReadBack (model : Model) (a : Stretches) (c : Text) : Type 0 where
   pub alike : TraceAlike model a own
   pub together : IsPutTogether model own c
 
-print_refl : (model : Model) (items : List Item) → PrintAlike model items items
+pub print_refl : (model : Model) (items : List Item) → PrintAlike model items items
 print_refl model items = record { same_types = refl; same_bytes = λ args out typed. (λ g. g, λ g. g) }
 
 pub read_back : (model : Model) (t c : Text) (a : Stretches) → ReadsWhole t a → IsPutTogether model a c → IsReadBack model a c

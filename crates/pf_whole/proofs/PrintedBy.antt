@@ -1,10 +1,10 @@
 -- Alike texts print the same, whatever the calls print.
 use Rattle.std.proofs.Common.{◌≡◌}
 use Rattle.pf_values.specs.declared.models.Model.{Model}
+use Rattle.pf_signatures.specs.Stretches.{whole_types}
+use Rattle.pf_signatures.proofs.ReadOnce.{read_once}
 use Rattle.pf_whole.specs.Laws.{AlikePrintAlike}
-use Rattle.pf_whole.specs.meaning.Stretches.{whole_types}
 use Rattle.pf_whole.specs.meaning.WholeArguments.{HasWholeTypes}
-use Rattle.pf_whole.proofs.ReadOnce.{read_once}
 
 pub alike_prints : (model : Model) → AlikePrintAlike model
 alike_prints model t u h respond a args out reads typed =

@@ -7,13 +7,13 @@ use Rattle.pf_values.specs.meaning.Printing.{PrintAlike}
 use Rattle.pf_values.specs.meaning.Text.{Text}
 use Rattle.pf_text.proofs.Texts.{Reads-unique}
 use Rattle.pf_signatures.specs.Types.{widened}
+use Rattle.pf_signatures.specs.Stretches.{Last}
+use Rattle.pf_signatures.proofs.ReadOnce.{read_once}
 use Rattle.pf_whole.specs.Laws.{ProfileCoincides}
-use Rattle.pf_whole.specs.meaning.Stretches.{Last}
 use Rattle.pf_whole.specs.meaning.Traces.{Ends, Calls, HasTrace, PrintsKnown, Trace, TraceAlike}
 use Rattle.pf_whole.specs.meaning.WholeArguments.{WholeArgument, Known, HasWholeTypes}
 use Rattle.pf_whole.specs.meaning.WholeCanonical.{IsPutTogether}
 use Rattle.pf_whole.proofs.KnownArguments.{known_once, known_typed, typed_known, widened_once}
-use Rattle.pf_whole.proofs.ReadOnce.{read_once}
 
 -- items that print alike print alike for known arguments
 pub known_alike : (model : Model) (a b : List Item) (args : List WholeArgument) (out : Text) → PrintAlike model a b

@@ -1,97 +1,20 @@
 -- Each text of the whole language has a canonical text.
-use Rattle.std.proofs.Common.{◌≡◌, ◌≢◌, ℕ, List, [], ◌∷◌, ◌++◌, refl, sym, ap, ◌∙◌, subst}
-use Rattle.std.proofs.lemmas.List.{append-nil, append_assoc}
+use Rattle.std.proofs.Common.{List, ◌++◌, refl, subst}
 use Rattle.pf_values.specs.declared.models.Model.{Model}
-use Rattle.pf_values.specs.meaning.Items.{Item, Byte, Directive}
-use Rattle.pf_values.specs.meaning.Normal.{silent}
+use Rattle.pf_values.specs.meaning.Items.{Item, Reads}
 use Rattle.pf_values.specs.meaning.Text.{Text}
-use Rattle.pf_values.proofs.Alike.{alike_refl, alike-printed}
-use Rattle.pf_canon.proofs.MakingLemmas.{made_settled}
-use Rattle.pf_canon.proofs.RestLemmas.{IsSettling, Settles, byte_settled, directive_settled}
-use Rattle.std.specs.Prelude.{MatchBool, ◌==◌}
-use Rattle.std.proofs.Common.{Bool, true, false}
-use Rattle.pf_values.specs.meaning.Canonical.{IsCanonicalOf}
-use Rattle.pf_values.specs.meaning.Items.{IsReadAs, Reads}
-use Rattle.pf_values.specs.meaning.Printing.{PrintAlike}
-use Rattle.pf_text.proofs.Texts.{Reads-unique}
+use Rattle.pf_canon.proofs.SomeCanonical.{some_canonical}
+use Rattle.pf_signatures.specs.Stretches.{Stretches, Last, Before, ReadsWhole, IsWholeAccepted}
 use Rattle.pf_whole.specs.meaning.WholeHeadline.{HasOneWholeCanonical, WholeHeadline}
 use Rattle.pf_whole.specs.meaning.NormalSpellings.{normal_spelling}
-use Rattle.pf_whole.specs.meaning.Stretches.{Stretches, Last, Before, ReadsWhole, IsWholeAccepted}
 use Rattle.pf_whole.specs.meaning.Traces.{AreWholeAlike}
 use Rattle.pf_whole.specs.meaning.WholeCanonical.{IsCanonicalStretch, IsPutTogether, IsWholeCanonicalOf}
 use Rattle.pf_whole.proofs.Completeness.{alike_have_one_canonical}
+use Rattle.pf_whole.proofs.Loops.{stretch_of}
 use Rattle.pf_whole.proofs.OneCanonical.{alike_to_it, its_own, one_canonical_is_alike}
 
-some_byte : (t : Text) (byte : ℕ) → IsReadAs t (Byte byte) → byte ≢ 0
-some_byte t byte h = go (byte == 37) refl h where
-  go : (b : Bool) → (byte == 37) ≡ b → MatchBool b (t ≡ 37 ∷ 37 ∷ []) ((byte ≢ 0) × (t ≡ byte ∷ [])) → byte ≢ 0
-  go true e h = λ zero. let no : false ≡ true = sym (ap (λ k. k == 37) zero) ∙ e in cc
-  go false e h = h.0
-
--- the items that follow
-joined : (model : Model) (out first more : Text) (waiting : ℕ) (before items : List Item) (item : Item)
-    → IsSettling model ((out ++ first) ++ more) waiting ((before ++ item ∷ []) ++ items) []
-    → IsSettling model (out ++ (first ++ more)) waiting (before ++ item ∷ items) []
-joined model out first more waiting before items item h =
-    subst (λ t. IsSettling model t waiting (before ++ item ∷ items) []) (append_assoc out first more)
-    (subst (λ l. IsSettling model ((out ++ first) ++ more) waiting l []) (append_assoc before (item ∷ []) items) h)
-
-settle : (model : Model) (out : Text) (waiting : ℕ) (before items : List Item) (t : Text) → Reads t items → IsSettling model out waiting before []
-    → Settles model out (before ++ items)
-settle model out waiting before [] t reads h = record {
-  more = [];
-  waiting = waiting;
-  made = subst (λ u. IsSettling model u waiting (before ++ []) []) (sym (append-nil out))
-      (subst (λ l. IsSettling model out waiting l []) (sym (append-nil before)) h);
-}
-settle model out waiting before (Byte byte ∷ items) t reads h =
-    let here = byte_settled model out waiting before byte (some_byte reads.0 byte reads.2) h in
-    let rest = settle model (out ++ here.more) here.waiting (before ++ Byte byte ∷ []) items reads.1 reads.3 here.made in
-    record {
-      more = here.more ++ rest.more;
-      waiting = rest.waiting;
-      made = joined model out here.more rest.more rest.waiting before items
-          (Byte byte) rest.made;
-    }
-settle model out waiting before (Directive s ∷ items) t reads h =
-    let here = directive_settled model out waiting before s reads.2.1 h in
-    let rest = settle model (out ++ here.more) here.waiting (before ++ Directive s ∷ []) items reads.1 reads.3 here.made in
-    record {
-      more = here.more ++ rest.more;
-      waiting = rest.waiting;
-      made = joined model out here.more rest.more rest.waiting before items
-          (Directive s) rest.made;
-    }
-
-no_silent : (before : List Item) → [] ≢ before ++ Directive silent ∷ []
-no_silent [] e = cc
-no_silent (item ∷ before) e = cc
-
-nothing_made : (model : Model) → IsSettling model [] 0 [] []
-nothing_made model = record {
-  others = [];
-  alike = alike_refl model [];
-  making = record {
-    done = [];
-    reads = refl;
-    whole = refl;
-    canonical = tt;
-    open_end = no_silent;
-    alike = alike-printed model [] []
-        (alike_refl model []);
-    kept = λ c. refl;
-  };
-}
-
--- a stretch has a canonical text
 some_stretch : (model : Model) (t : Text) (items : List Item) → Reads t items → (c : Text) × IsCanonicalStretch model items c
-some_stretch model t items reads =
-    let all = settle model [] 0 [] items t reads (nothing_made model) in
-    let is : IsCanonicalOf model t _ = (made_settled model _ all.waiting all.made.others all.made.making t items reads all.made.alike).canonical_is in
-    let first : is.equivalent.first ≡ items = Reads-unique t is.equivalent.first items is.equivalent.reads_first reads in
-    let second : is.equivalent.second ≡ is.canonical.0 = Reads-unique _ is.equivalent.second is.canonical.0 is.equivalent.reads_second is.canonical.1.reads in
-    let alike : PrintAlike model items is.canonical.0 = rw (first, second) at is.equivalent.alike in
-    (_, record { own = is.canonical.0; canonical = is.canonical.1; alike = alike })
+some_stretch model t items reads = let some = some_canonical model t items reads in (some.0, stretch_of model t some.0 items reads some.1)
 
 some_whole : (model : Model) (t : Text) (a : Stretches) → ReadsWhole t a → (c : Text) × IsPutTogether model a c
 some_whole model t (Last items) reads = some_stretch model t items reads

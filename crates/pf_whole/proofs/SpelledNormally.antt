@@ -13,12 +13,13 @@ use Rattle.pf_signatures.specs.declared.conversions.Conversion.{Conversion}
 use Rattle.pf_signatures.specs.Defined.{IsPosixDefined, has_any_flag, is_count, takes_precision, takes_zero}
 use Rattle.pf_signatures.specs.Specifications.{Amount, Given, Fetched, PosixSpecification}
 use Rattle.pf_signatures.specs.Spelling.{SpellsPosition, SpellsPosix, SpellsPosixPrecision, SpellsPosixWidth, SpellsUpToPrecision}
+use Rattle.pf_signatures.specs.Opaque.{SpellsOpaque}
+use Rattle.pf_signatures.proofs.DefinedLemmas.{is_defined, no_reason}
+use Rattle.pf_signatures.proofs.SpecificationsOnce.{HasParts, no_number, parts_of}
 use Rattle.pf_whole.specs.meaning.NormalSpellings.{is_amount, is_general, is_given, is_integer, keeps_sign, kept_conversion, kept_flags, kept_modifier}
 use Rattle.pf_whole.specs.meaning.NormalSpellings.{normal_precision, meant_precision, normal_parts, normal_spelling, posix_precision_spelled}
 use Rattle.pf_whole.specs.meaning.NormalSpellings.{posix_width_spelled}
-use Rattle.pf_whole.specs.meaning.Opaque.{SpellsOpaque}
-use Rattle.pf_whole.proofs.NormalLemmas.{fewer_some, is_defined, less, modifier_stands, no_flags_left, no_reason, opaque_again, precision_same, same_conversion}
-use Rattle.pf_whole.proofs.SpecificationsOnce.{HasParts, no_number, parts_of}
+use Rattle.pf_whole.proofs.NormalLemmas.{fewer_some, less, modifier_stands, no_flags_left, opaque_again, precision_same, same_conversion}
 
 none_placed : (number : Option ℕ) → number ≡ None → SpellsPosition [] number
 none_placed None e = refl

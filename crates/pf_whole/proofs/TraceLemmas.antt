@@ -9,8 +9,8 @@ use Rattle.pf_values.specs.meaning.Text.{Text}
 use Rattle.pf_signatures.specs.declared.types.ArgumentType.{ArgumentType}
 use Rattle.pf_signatures.specs.Specifications.{PosixSpecification}
 use Rattle.pf_signatures.specs.Types.{widened}
+use Rattle.pf_signatures.specs.Stretches.{Stretches, Before, types_of_opaque, whole_types}
 use Rattle.pf_whole.specs.meaning.NormalSpellings.{normal_spelling}
-use Rattle.pf_whole.specs.meaning.Stretches.{Stretches, Before, types_of_opaque, whole_types}
 use Rattle.pf_whole.specs.meaning.Traces.{Ends, Calls, HasTrace, PrintsKnown, Trace, TraceAlike}
 use Rattle.pf_whole.specs.meaning.WholeArguments.{WholeArgument, Known, HasWholeTypes}
 use Rattle.pf_whole.proofs.ProfileTexts.{known_alike, turned}

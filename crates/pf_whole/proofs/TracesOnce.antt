@@ -8,8 +8,8 @@ use Rattle.pf_values.specs.meaning.Text.{Text}
 use Rattle.pf_values.proofs.Alike.{PrintsAll-unique}
 use Rattle.pf_signatures.specs.Specifications.{PosixSpecification}
 use Rattle.pf_signatures.specs.Types.{widened}
+use Rattle.pf_signatures.specs.Stretches.{Stretches, Last, Before, types_of_opaque, whole_types}
 use Rattle.pf_whole.specs.Laws.{TracesOnce}
-use Rattle.pf_whole.specs.meaning.Stretches.{Stretches, Last, Before, types_of_opaque, whole_types}
 use Rattle.pf_whole.specs.meaning.Traces.{Call, Calls, Ends, HasTrace, IsCallOf, PrintsKnown, Trace}
 use Rattle.pf_whole.specs.meaning.WholeArguments.{WholeArgument, Known, HasWholeTypes}
 use Rattle.pf_whole.proofs.Apart.{same_parts}

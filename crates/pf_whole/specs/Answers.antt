@@ -1,30 +1,25 @@
--- What functions that are still to be written are to answer: refusals and canonical texts, and a
--- comparison with the arguments that it shows. This project's own: the standard compares no formats.
+-- What functions that are still to be written are to answer: canonical texts, and a comparison with the
+-- arguments that it shows. This project's own: the standard compares no formats.
 --
 -- The last part has what three laws say: `calls_give_shape`, `telling_is_apart` and
 -- `agreeing_is_together`. They speak of `TracesApart` and `TracesTogether`, too. No law speaks of the
--- other definitions before that part, so nothing is proved of them: not that each text is accepted or
--- refused (`IsJudged`), and not that two texts have one verdict.
-use Rattle.std.specs.Prelude.{◌≡◌, ◌≢◌, ℕ, ◌<◌, List, ◌∷◌, ◌++◌, map, length, slice_get, slice_set, Contains, Option, Some, None, ◌⊎◌, ◌↔◌, ⊤}
-use Rattle.std.specs.List.{AllByRecursion, AllZip}
-use Rattle.pf_values.specs.declared.limits.TheConstants.{MAX_TEXT_LEN}
+-- other definitions before that part, so nothing is proved of them: not that two texts have one
+-- verdict.
+use Rattle.std.specs.Prelude.{◌≡◌, ◌≢◌, ℕ, List, ◌++◌, map, length, slice_get, slice_set, Contains, Option, Some, None, ◌⊎◌, ◌↔◌, ⊤}
+use Rattle.std.specs.List.{AllZip}
 use Rattle.pf_values.specs.declared.models.Model.{Model}
 use Rattle.pf_values.specs.declared.types.ArgType.{ArgType}
 use Rattle.pf_values.specs.Candidates.{candidates, neutral}
 use Rattle.pf_values.specs.meaning.Arguments.{Argument, HasTypes}
 use Rattle.pf_values.specs.meaning.Digits.{IsLeastFrom}
 use Rattle.pf_values.specs.meaning.Items.{Item, types}
-use Rattle.pf_values.specs.meaning.Text.{Text, dollar, percent}
+use Rattle.pf_values.specs.meaning.Text.{Text}
 use Rattle.pf_compare.specs.Answers.{IsEarlier, PrintTheSame, PrintUnlike}
-use Rattle.pf_signatures.specs.declared.refusals.SignatureRefusalKind.{SignatureRefusalKind}
 use Rattle.pf_signatures.specs.declared.types.ArgumentType.{ArgumentType}
-use Rattle.pf_signatures.specs.Items.{PosixItem, ReadsPosix}
 use Rattle.pf_signatures.specs.Laws.{IsFirstDifference}
-use Rattle.pf_signatures.specs.Refusals.{IsPosixRefusedAt}
-use Rattle.pf_signatures.specs.Spelling.{SpellsPositive}
-use Rattle.pf_whole.specs.Laws.{IsUnnumbered, PlacedCall, placed_calls}
+use Rattle.pf_signatures.specs.Stretches.{Stretches, Last, Before, ReadsWhole, IsWholeAccepted, types_of_opaque, whole_types}
+use Rattle.pf_whole.specs.Laws.{PlacedCall, placed_calls}
 use Rattle.pf_whole.specs.meaning.NormalSpellings.{normal_spelling}
-use Rattle.pf_whole.specs.meaning.Stretches.{Stretches, Last, Before, ReadsWhole, IsWholeAccepted, types_of_opaque, whole_types}
 use Rattle.pf_whole.specs.meaning.Traces.{AreWholeAlike, HasTrace, Trace, TraceAlike}
 use Rattle.pf_whole.specs.meaning.WholeArguments.{WholeArgument, Known, Other, HasWholeTypes, narrowed}
 use Rattle.pf_whole.specs.meaning.WholeCanonical.{IsWholeCanonicalOf}
@@ -33,36 +28,6 @@ use Rattle.pf_whole.specs.meaning.WholeCanonical.{IsWholeCanonicalOf}
 pub record IsWholeCanonicalFor (model : Model) (t c : Text) : Type 0 where
   pub accepted : IsWholeAccepted t
   pub canonical_is : IsWholeCanonicalOf model t c
-
--- the byte at this offset is a `$` directly after the first number of a specification, which numbers
--- the argument (POSIX fprintf on `%n$`); items that aren't numbered come before it
-pub record IsNumberedAt (t : Text) (at : ℕ) : Type 0 where
-  pub whole : Text
-  pub digits : Text
-  pub rest : Text
-  pub items : List PosixItem
-  pub n : ℕ
-  pub reads : ReadsPosix whole items
-  pub unnumbered : AllByRecursion IsUnnumbered items
-  pub number : SpellsPositive digits n
-  pub split : t ≡ (whole ++ percent ∷ digits) ++ dollar ∷ rest
-  pub place : at ≡ length (whole ++ percent ∷ digits)
-  pub limit : at < MAX_TEXT_LEN
-
--- A text is refused at this offset. `None`: as Numbered, and `pf_signatures` refuses it no earlier.
--- `Some kind`: `pf_signatures` refuses it so, and no `$` numbers an argument before or there.
-abbrev pub IsWholeRefusedAt : Model → Text → Option SignatureRefusalKind → ℕ → Type 0
-IsWholeRefusedAt model t None at =
-    IsNumberedAt t at
-    × ((kind : SignatureRefusalKind) (place : ℕ) → IsPosixRefusedAt model t kind place → ¬ (place < at))
-IsWholeRefusedAt model t (Some kind) at =
-    IsPosixRefusedAt model t kind at × ((place : ℕ) → IsNumberedAt t place → at < place)
-
--- a text is accepted or refused, and never both
-abbrev pub IsJudged : Model → Text → Type 0
-IsJudged model t =
-    (IsWholeAccepted t ⊎ ((kind : Option SignatureRefusalKind) × (at : ℕ) × IsWholeRefusedAt model t kind at))
-    × ((kind : Option SignatureRefusalKind) (at : ℕ) → IsWholeRefusedAt model t kind at → ¬ IsWholeAccepted t)
 
 -- What a comparison answers. Of the shown arguments, `None` is any argument of an opaque directive.
 pub data WholeVerdict : Type 0 where

@@ -1,22 +1,15 @@
 -- What the laws say.
-use Rattle.std.specs.Prelude.{◌≡◌, ℕ, ◌+◌, ◌≤◌, List, [], ◌∷◌, ◌++◌, length, None, ◌↔◌, ⊤}
-use Rattle.std.specs.List.{AllByRecursion}
-use Rattle.pf_values.specs.declared.limits.TheConstants.{MAX_TEXT_LEN}
+use Rattle.std.specs.Prelude.{◌≡◌, ℕ, ◌+◌, List, [], ◌∷◌, ◌++◌, length, ◌↔◌}
 use Rattle.pf_values.specs.declared.models.Model.{Model}
 use Rattle.pf_values.specs.meaning.Canonical.{IsCanonicalOf}
 use Rattle.pf_values.specs.meaning.Items.{IsAccepted, types}
 use Rattle.pf_values.specs.meaning.Printing.{AreEquivalent, PrintAlike}
 use Rattle.pf_values.specs.meaning.Text.{Text}
-use Rattle.pf_signatures.specs.Items.{HasArguments, Byte, PosixItem, ReadsPosix, Specification}
+use Rattle.pf_signatures.specs.Stretches.{Stretches, Last, Before, ReadsWhole, types_of_opaque, whole_types}
 use Rattle.pf_whole.specs.meaning.NormalSpellings.{normal_spelling}
-use Rattle.pf_whole.specs.meaning.Stretches.{Stretches, Last, Before, ReadsWhole, types_of_opaque, whole_types, IsWholeAccepted}
 use Rattle.pf_whole.specs.meaning.Traces.{AreWholeAlike, Call, Calls, Ends, HasTrace, Trace}
 use Rattle.pf_whole.specs.meaning.WholeArguments.{WholeArgument, HasWholeTypes}
 use Rattle.pf_whole.specs.meaning.WholeCanonical.{IsWholeCanonicalOf}
-
--- a text is read as one list of stretches at most
-abbrev pub IsReadOnce : Text → Type 0
-IsReadOnce t = (a b : Stretches) → ReadsWhole t a → ReadsWhole t b → a ≡ b
 
 -- stretches have exactly one trace for these arguments
 pub record HasOneTrace (model : Model) (a : Stretches) (args : List WholeArgument) : Type 0 where
@@ -114,26 +107,3 @@ placed_calls model index (Before items s rest) =
 abbrev pub AlikeCallTheSame : Model → Type 0
 AlikeCallTheSame model = (t u : Text) (a b : Stretches) → ReadsWhole t a → ReadsWhole u b
     → AreWholeAlike model t u → placed_calls model 0 a ≡ placed_calls model 0 b
-
--- a text that is read as stretches, and is within the limit, has arguments of their types by the
--- definitions of `pf_signatures`, too
-abbrev pub TypesAreKept : Model → Type 0
-TypesAreKept model = (t : Text) (a : Stretches) → ReadsWhole t a → length t ≤ MAX_TEXT_LEN
-    → HasArguments model t (whole_types model a)
-
--- the item is not a numbered specification (POSIX fprintf on `%n$`)
-abbrev pub IsUnnumbered : PosixItem → Type 0
-IsUnnumbered (Byte byte) = ⊤
-IsUnnumbered (Specification s) = s.position ≡ None
-
--- a text is read by the definitions of `pf_signatures`, with no numbered specification, and is within
--- the limit
-pub record IsAcceptedUnnumbered (t : Text) : Type 0 where
-  pub items : List PosixItem
-  pub reads : ReadsPosix t items
-  pub unnumbered : AllByRecursion IsUnnumbered items
-  pub limit : length t ≤ MAX_TEXT_LEN
-
--- a text is accepted exactly if this holds
-abbrev pub AcceptsUnnumbered : Text → Type 0
-AcceptsUnnumbered t = IsWholeAccepted t ↔ IsAcceptedUnnumbered t

@@ -1,27 +1,6 @@
--- The parts of an opaque directive, as the code holds them.
-use Rattle.std.specs.Prelude.{Bool, false, Option, Some, None}
+-- The flags of a normal spelling, as the code puts them together.
+use Rattle.std.specs.Prelude.{Bool, false}
 use Rattle.pf_values.specs.declared.flags.FlagSet.{FlagSet}
-use Rattle.pf_signatures.specs.Specifications.{Amount, Given, Fetched, PosixSpecification}
-use Rattle.pf_whole.specs.declared.directives.OpaqueDirective.{OpaqueDirective}
-use Rattle.pf_whole.specs.declared.directives.OpaqueAmount.{OpaqueAmount}
-use Rattle.pf_whole.specs.declared.directives.OpaqueAmount.TheVariants as amounts
-
--- the width or precision that the code's value is
-abbrev pub amount_of : Option OpaqueAmount → Option Amount
-amount_of None = None
-amount_of (Some (amounts.Number n)) = Some (Given n)
-amount_of (Some amounts.Star) = Some (Fetched None)
-
--- the specification with the directive's parts
-abbrev pub parts_of_opaque : OpaqueDirective → PosixSpecification
-parts_of_opaque d = record {
-  position = None;
-  flags = d.flags;
-  width = amount_of d.width;
-  precision = amount_of d.precision;
-  modifier = d.modifier;
-  conversion = d.conversion;
-}
 
 -- a set of flags without `'`
 abbrev pub made_set : Bool → Bool → Bool → Bool → Bool → FlagSet

@@ -1,8 +1,6 @@
 -- What the headline of the whole language depends on, in addition to definitions of `pf_values` and
 -- `pf_signatures`.
-pub mod Opaque
 pub mod NormalSpellings
-pub mod Stretches
 pub mod WholeArguments
 pub mod Traces
 pub mod WholeCanonical

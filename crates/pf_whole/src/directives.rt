@@ -1,50 +1,25 @@
-//! Opaque directives, and the parts of their normal spellings.
+//! The parts of the normal spelling of an opaque directive.
 ghost use Rattle.std.specs.Prelude.{◌≡◌, ◌&&◌, if◌then◌else◌, Some};
 ghost use Rattle.pf_signatures.specs.Specifications.{Given};
-ghost use Rattle.pf_values.specs.meaning.Conversions.{is_text, is_signed};
+ghost use Rattle.pf_values.specs.meaning.Conversions.{is_text};
 ghost use Rattle.pf_values.specs.meaning.Flags.{with_flag};
-ghost use Rattle.pf_whole.specs.meaning.NormalSpellings.{floating_modifier, floating_precision, given_precision, integer_modifier, is_amount, is_general, is_given, is_integer, keeps_sign, keeps_zero, kept_conversion, kept_flags, kept_modifier, normal_precision, meant_precision, normal_parts};
-ghost use Rattle.pf_whole.specs.Parts.{amount_of, made_set, parts_of_opaque};
+ghost use Rattle.pf_whole.specs.meaning.NormalSpellings.{floating_modifier, given_precision, integer_modifier, is_amount, is_general, is_given, is_integer, keeps_sign, kept_conversion, kept_flags, kept_modifier, normal_precision, meant_precision, normal_parts};
+ghost use Rattle.pf_whole.specs.Parts.{made_set};
+ghost use Rattle.pf_signatures.specs.OpaqueParts.{amount_of, parts_of_opaque};
 
-use pf_signatures::{Conversion, Floating, Modifier};
+use pf_signatures::{Conversion, Floating, Modifier, OpaqueAmount, OpaqueDirective};
 use pf_values::{Conv, Flag, FlagSet, Length, Model};
 
-/// A width or a precision that is given.
-#[derive(Clone, Copy, Debug, PartialEq, Eq)]
-pub enum OpaqueAmount {
-    /// A number.
-    Number(u16),
-    /// `*`: an argument supplies it.
-    Star,
-}
-
-/// The parts of a directive that the profile lacks.
-#[derive(Clone, Copy, Debug, PartialEq, Eq)]
-pub struct OpaqueDirective {
-    /// Its flags.
-    pub flags: FlagSet,
-    /// Its width.
-    pub width: Option<OpaqueAmount>,
-    /// Its precision.
-    pub precision: Option<OpaqueAmount>,
-    /// Its length modifier.
-    pub modifier: Modifier,
-    /// Its conversion.
-    pub conversion: Conversion,
-}
-
-impl OpaqueDirective {
-    /// Returns the directive with the parts of its normal spelling.
-    pub fn normal(self, model: Model) -> OpaqueDirective
-        ensures { parts_of_opaque result ≡ normal_parts model (parts_of_opaque self) }
-    {
-        OpaqueDirective {
-            flags: kept_flags(self),
-            width: self.width,
-            precision: normal_precision(self.conversion, self.precision),
-            modifier: kept_modifier(model, self.conversion, self.modifier),
-            conversion: kept_conversion(self.conversion),
-        }
+/// Returns the directive with the parts of its normal spelling in a data model.
+pub fn normal_directive(model: Model, directive: OpaqueDirective) -> OpaqueDirective
+    ensures { parts_of_opaque result ≡ normal_parts model (parts_of_opaque directive) }
+{
+    OpaqueDirective {
+        flags: kept_flags(directive),
+        width: directive.width,
+        precision: normal_precision(directive.conversion, directive.precision),
+        modifier: kept_modifier(model, directive.conversion, directive.modifier),
+        conversion: kept_conversion(directive.conversion),
     }
 }
 

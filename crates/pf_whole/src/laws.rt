@@ -1,25 +1,8 @@
 //! Laws over the definitions: each is the contract of a function that does nothing.
 ghost use Rattle.pf_values.specs.declared.models.Model.{Model as ModelOf};
-ghost use Rattle.pf_values.specs.meaning.Text.{Text};
 ghost use Rattle.pf_whole.specs.Answers.{AgreeingIsTogether, CallsGiveShape, TellingIsApart};
 ghost use Rattle.pf_whole.specs.meaning.WholeHeadline.{WholeHeadline};
-ghost use Rattle.pf_whole.specs.Laws.{AcceptsUnnumbered, TypesAreKept, AlikeCallTheSame, AlikeIsCorresponding, CanonicalIsAlike, AlikeHaveOneCanonical, OneCanonicalIsAlike, ProfileCoincides, AlikePrintAlike, IsReadOnce, TracesOnce};
-
-/// A text is read as one list of stretches and opaque directives at most.
-pub fn read_once()
-    ensures { (t : Text) → IsReadOnce t }
-{}
-
-/// A text is accepted exactly if `pf_signatures` reads it with no numbered specification, and it is
-/// within the limit.
-pub fn accepts_unnumbered()
-    ensures { (t : Text) → AcceptsUnnumbered t }
-{}
-
-/// What is accepted here has arguments of the same types by the definitions of `pf_signatures`.
-pub fn types_are_kept()
-    ensures { (model : ModelOf) → TypesAreKept model }
-{}
+ghost use Rattle.pf_whole.specs.Laws.{AlikeCallTheSame, AlikeIsCorresponding, CanonicalIsAlike, AlikeHaveOneCanonical, OneCanonicalIsAlike, ProfileCoincides, AlikePrintAlike, TracesOnce};
 
 /// Stretches and opaque directives have exactly one trace for each list of arguments of their types.
 pub fn traces_once()

@@ -2,7 +2,17 @@
 //! and by the calls that all other directives make.
 #![tactic(auto)]
 
+mod calls;
+mod canonical_texts;
+mod comparison;
 mod directives;
 pub mod laws;
+mod lengths;
+mod spelling;
+mod verdicts;
 
-pub use directives::{OpaqueAmount, OpaqueDirective};
+pub use canonical_texts::{canonical, canonical_with_room};
+pub use comparison::same_text;
+pub use directives::normal_directive;
+pub use lengths::{canonical_len, is_canonical};
+pub use verdicts::{WholeCompareFault, WholeVerdict, compare};

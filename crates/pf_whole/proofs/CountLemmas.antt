@@ -1,0 +1,97 @@
+-- How many arguments stretches and opaque directives take.
+use Rattle.std.proofs.Common.{◌≡◌, ℕ, ◌+◌, ◌-◌, ◌<◌, ◌≤◌, List, [], ◌∷◌, ◌++◌, map, length, length-append, replicate, refl, sym, ap, ◌∙◌, arith, subst}
+use Rattle.std.specs.Prelude.{Option, Some, None}
+use Rattle.std.proofs.lemmas.List.{append-nil, append_assoc, replicate-append-replicate}
+use Rattle.pf_values.specs.declared.limits.TheConstants.{MAX_TEXT_LEN}
+use Rattle.pf_values.specs.declared.models.Model.{Model}
+use Rattle.pf_values.specs.meaning.Flags.{flag_byte}
+use Rattle.pf_values.specs.meaning.Items.{Byte, Directive, HasItems, Item, Reads, types}
+use Rattle.pf_values.specs.meaning.Text.{Text}
+use Rattle.pf_canon.proofs.TextLemmas.{items_few}
+use Rattle.pf_signatures.specs.declared.types.ArgumentType.{ArgumentType}
+use Rattle.pf_signatures.specs.Items.{HasArguments}
+use Rattle.pf_signatures.specs.Opaque.{SpellsOpaque}
+use Rattle.pf_signatures.specs.Specifications.{Amount, Given, Fetched, PosixSpecification, conversion_letter, modifier_letters}
+use Rattle.pf_signatures.specs.Spelling.{SpellsPosixPrecision, SpellsPosixWidth}
+use Rattle.pf_signatures.specs.Stretches.{Last, Before, ReadsWhole, types_of_opaque}
+use Rattle.pf_signatures.specs.Types.{conversion_type, fetch, fetches, star_fetches, widened}
+use Rattle.pf_signatures.proofs.KeptTypes.{types_are_kept}
+use Rattle.pf_signatures.proofs.SpecificationsOnce.{parts_of}
+use Rattle.pf_signatures.proofs.Unique.{one_list}
+use Rattle.pf_whole.proofs.TraceLemmas.{length_map}
+
+-- the arguments of a stretch, and of an opaque directive
+pub stretch_args : (model : Model) (t : Text) (items : List Item) → HasItems t items → HasArguments model t (map widened (types model items))
+stretch_args model t items h = types_are_kept model t (Last items) h.reads h.limit
+
+pub opaque_args : (model : Model) (t : Text) (s : PosixSpecification) → SpellsOpaque t s → length t ≤ MAX_TEXT_LEN → HasArguments model t (types_of_opaque model s)
+opaque_args model t s h few =
+    let reads : ReadsWhole t (Before [] s (Last [])) = ([], t, [], refl, h, refl, sym (append-nil t)) in
+    subst (HasArguments model t) (append-nil (types_of_opaque model s)) (types_are_kept model t (Before [] s (Last [])) reads few)
+
+-- a count of the arguments is that of these
+pub counted : (model : Model) (t : Text) (known : List ArgumentType) (n : ℕ) → HasArguments model t known
+    → (others : List ArgumentType) × HasArguments model t others × (n ≡ length others) → n ≡ length known
+counted model t known n h g = g.2 ∙ ap length (one_list model t g.0 known g.1 h)
+
+types_few : (model : Model) (items : List Item) → length (types model items) ≤ length items
+types_few model [] = omega arith
+types_few model (Byte byte ∷ items) = omega (arith, types_few model items)
+types_few model (Directive s ∷ items) = omega (arith, types_few model items)
+
+-- no stretch takes more arguments than it has bytes, and no opaque directive
+pub stretch_args_few : (model : Model) (t : Text) (items : List Item) → Reads t items → length (map widened (types model items)) ≤ length t
+stretch_args_few model t items h = omega (arith, length_map widened (types model items), types_few model items, items_few t items h)
+
+star_few : (t : Text) (amount : Option Amount) → SpellsPosixWidth t None amount → length (star_fetches amount) ≤ length t
+star_few t None h = omega arith
+star_few t (Some (Given n)) h = omega arith
+star_few t (Some (Fetched number)) h = omega (arith, ap length h.whole)
+
+point_few : (t : Text) (amount : Option Amount) → SpellsPosixPrecision t None amount → length (star_fetches amount) ≤ length t
+point_few t None h = omega arith
+point_few t (Some (Given n)) h = omega arith
+point_few t (Some (Fetched number)) h = omega (arith, ap length h.2, ap length h.1.whole)
+
+opaque_count : (model : Model) (s : PosixSpecification)
+    → length (types_of_opaque model s) ≡ length (star_fetches s.width) + length (star_fetches s.precision) + 1
+opaque_count model s =
+    let last = fetch s.position (conversion_type model s.modifier s.conversion) ∷ [] in
+    length_map (λ f. f.wanted) (fetches model s)
+    ∙ omega (arith, length-append (star_fetches s.width ++ star_fetches s.precision) last, length-append (star_fetches s.width) (star_fetches s.precision))
+
+pub opaque_args_few : (model : Model) (t : Text) (s : PosixSpecification) → SpellsOpaque t s → length (types_of_opaque model s) ≤ length t
+opaque_args_few model t s h =
+    let parts = parts_of t s h.spelled h.unnumbered in
+    let flags = map flag_byte parts.flags in
+    let letters = modifier_letters s.modifier ++ conversion_letter s.conversion ∷ [] in
+    omega (
+      arith,
+      opaque_count model s,
+      star_few parts.width s.width parts.width_is,
+      point_few parts.precision s.precision parts.precision_is,
+      ap length parts.whole,
+      length-append flags (parts.width ++ (parts.precision ++ letters)),
+      length-append parts.width (parts.precision ++ letters),
+      length-append parts.precision letters,
+    )
+
+pub opaque_args_some : (model : Model) (s : PosixSpecification) → 0 < length (types_of_opaque model s)
+opaque_args_some model s = omega (arith, opaque_count model s)
+
+-- arguments that may be any are added one by one
+pub none_yet : {X : Type 0} (shown : List (Option X)) (count : ℕ) → shown ≡ shown ++ replicate (count - count) None
+none_yet shown count =
+    let none : count - count ≡ 0 = omega arith in
+    sym (append-nil shown) ∙ ap (λ n. shown ++ replicate n None) (sym none)
+
+pub none_more : {X : Type 0} (start before after : List (Option X)) (count left : ℕ) → before ≡ start ++ replicate (count - left) None → after ≡ before ++ None ∷ []
+    → left ≤ count → 0 < left → after ≡ start ++ replicate (count - (left - 1)) None
+none_more start before after count left h g few some =
+    let n : (count - left) + 1 ≡ count - (left - 1) = omega (arith, few, some) in
+    g ∙ ap (λ l. l ++ None ∷ []) h ∙ append_assoc start (replicate (count - left) None) (None ∷ [])
+    ∙ ap (λ l. start ++ l) (replicate-append-replicate (count - left) 1 None ∙ ap (λ k. replicate k None) n)
+
+pub no_items : {X : Type 0} (xs : List X) → length xs ≡ 0 → xs ≡ []
+no_items [] e = refl
+no_items (x ∷ xs) e = absurd (omega (arith, e))

@@ -1,0 +1,86 @@
+-- What the next stretch of a text says of the text, for loops over stretches.
+use Rattle.std.proofs.Common.{◌≡◌, ℕ, ◌*◌, ◌-◌, ◌<◌, ◌≤◌, List, take, drop, length, refl, sym, ap, ◌∙◌, arith, subst, length-take, length-drop}
+use Rattle.std.specs.Prelude.{Some, None, IsSome, IsSomeAnd}
+use Rattle.pf_values.specs.declared.limits.TheConstants.{MAX_TEXT_LEN}
+use Rattle.pf_values.specs.declared.models.Model.{Model}
+use Rattle.pf_canon.specs.declared.limits.TheConstants.{MAX_DIRECTIVE_LEN}
+use Rattle.pf_canon.specs.Answers.{IsCanonicalFor}
+use Rattle.pf_canon.proofs.TextLemmas.{items_few}
+use Rattle.pf_canon.proofs.TransducerLemmas.{most_items}
+use Rattle.pf_values.specs.meaning.Items.{HasItems, Item, Reads}
+use Rattle.pf_values.specs.meaning.Text.{Text}
+use Rattle.pf_signatures.specs.declared.opaque_directives.OpaqueDirective.{OpaqueDirective}
+use Rattle.pf_signatures.specs.declared.stretches.Stretch.{Stretch}
+use Rattle.pf_signatures.specs.Heads.{IsHead, IsPlaced}
+use Rattle.pf_signatures.specs.Opaque.{SpellsOpaque}
+use Rattle.pf_signatures.specs.OpaqueParts.{parts_of_opaque}
+use Rattle.pf_signatures.specs.Stretches.{Stretches, Last, Before, ReadsWhole}
+
+-- the bytes of a text between two places
+abbrev pub between : Text → ℕ → ℕ → Text
+between t from to = take (to - from) (drop from t)
+
+abbrev pub first_items : Stretches → List Item
+first_items (Last items) = items
+first_items (Before items s rest) = items
+
+pub between_few : (t : Text) (from to limit : ℕ) → length t ≤ limit → length (between t from to) ≤ limit
+between_few t from to limit h = omega (arith, h, length-take (to - from) (drop from t), length-drop from t)
+
+-- the bytes of a stretch are read as its items, and are within the limit
+pub stretch_has : (t : Text) (from : ℕ) (left : Stretches) (stretch : Stretch) → IsHead t from left stretch → length t ≤ MAX_TEXT_LEN
+    → HasItems (between t from stretch.end) (first_items left)
+stretch_has t from (Last items) stretch h limit = record { reads = h.2; limit = between_few t from stretch.end MAX_TEXT_LEN limit }
+stretch_has t from (Before items s rest) stretch h limit = record { reads = h.1; limit = between_few t from stretch.end MAX_TEXT_LEN limit }
+
+-- an opaque directive comes after the stretch
+pub record IsBeforeDirective (t : Text) (from : ℕ) (left : Stretches) (stretch : Stretch) (directive : OpaqueDirective) : Type 0 where
+  pub items : List Item
+  pub rest : Stretches
+  pub left_is : left ≡ Before items (parts_of_opaque directive) rest
+  pub reads : Reads (between t from stretch.end) items
+  pub spells : SpellsOpaque (between t stretch.end stretch.after) (parts_of_opaque directive)
+  pub later : ReadsWhole (drop stretch.after t) rest
+
+pub before_directive : (t : Text) (from : ℕ) (left : Stretches) (stretch : Stretch) (directive : OpaqueDirective) → IsHead t from left stretch
+    → stretch.opaque ≡ Some directive → IsBeforeDirective t from left stretch directive
+before_directive t from (Last items) stretch directive h e = let no : None ≡ Some directive = sym h.0 ∙ e in cc
+before_directive t from (Before items s rest) stretch directive h e =
+    let parts : IsSomeAnd (Some directive) (λ d. parts_of_opaque d ≡ s) = subst (λ o. IsSomeAnd o (λ d. parts_of_opaque d ≡ s)) e h.0 in
+    let same : parts_of_opaque directive ≡ s = parts in
+    record {
+      items = items;
+      rest = rest;
+      left_is = ap (λ p. Before items p rest) (sym same);
+      reads = h.1;
+      spells = subst (SpellsOpaque (between t stretch.end stretch.after)) (sym same) h.2;
+      later = h.3;
+    }
+
+-- the text ends with the stretch
+pub at_last : (t : Text) (from : ℕ) (left : Stretches) (stretch : Stretch) → IsHead t from left stretch → stretch.opaque ≡ None
+    → (left ≡ Last (first_items left)) × (stretch.end ≡ length t)
+at_last t from (Last items) stretch h e = (refl, h.1)
+at_last t from (Before items s rest) stretch h e = absurd (subst (λ o. IsSomeAnd o (λ d. parts_of_opaque d ≡ s)) e h.0)
+
+-- what is left after a directive is shorter
+pub goes_further : (t : Text) (from : ℕ) (stretch : Stretch) (directive : OpaqueDirective) → IsPlaced t from stretch → stretch.opaque ≡ Some directive
+    → from < stretch.after
+goes_further t from stretch directive h e =
+    let some : IsSome stretch.opaque = rw e refl in
+    omega (arith, h.begins, h.further some)
+
+-- a directive has some bytes
+pub goes_on_behind : (t : Text) (from : ℕ) (stretch : Stretch) (directive : OpaqueDirective) → IsPlaced t from stretch → stretch.opaque ≡ Some directive
+    → stretch.end < stretch.after
+goes_on_behind t from stretch directive h e = let some : IsSome stretch.opaque = rw e refl in h.further some
+
+-- how long the canonical text of a stretch is at most
+pub stretch_few : (model : Model) (t : Text) (from to : ℕ) (c : Text) → IsCanonicalFor model (between t from to) c → length c ≤ MAX_DIRECTIVE_LEN * (to - from)
+stretch_few model t from to c h =
+    let bytes = items_few (between t from to) h.items h.accepted.reads in
+    omega (arith, h.few, most_items h.items, bytes, length-take (to - from) (drop from t))
+
+-- how many bytes are between two places
+pub between_long : (t : Text) (from to : ℕ) → length (between t from to) ≤ to - from
+between_long t from to = omega (arith, length-take (to - from) (drop from t))

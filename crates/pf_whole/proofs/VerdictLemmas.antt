@@ -1,0 +1,84 @@
+-- What the calls find, as verdicts on whole texts.
+use Rattle.std.proofs.Common.{◌≡◌, ◌≢◌, ℕ, List, refl, sym, ap, ◌∙◌, subst}
+use Rattle.std.specs.Prelude.{Option, Some, None}
+use Rattle.pf_values.specs.declared.models.Model.{Model}
+use Rattle.pf_values.specs.meaning.Arguments.{Argument}
+use Rattle.pf_values.specs.meaning.Text.{Text}
+use Rattle.pf_signatures.specs.declared.comparison.FitsRefusal.{FitsRefusal}
+use Rattle.pf_signatures.specs.declared.comparison.FitsRefusal.TheVariants as refusals
+use Rattle.pf_signatures.specs.Laws.{ComparesArgumentTypes, FaultForFits, IsFirstDifference}
+use Rattle.pf_signatures.specs.Stretches.{Stretches, ReadsWhole, IsWholeAccepted, whole_types}
+use Rattle.pf_signatures.proofs.KeptTypes.{types_are_kept}
+use Rattle.pf_signatures.proofs.ReadOnce.{read_once}
+use Rattle.pf_signatures.proofs.Unique.{never_both, one_list}
+use Rattle.pf_whole.specs.Answers.{IsWholeComparisonOf, IsWholeVerdict, WholeVerdict, Same, TypesDiffer, DirectivesDiffer, Different, HaveOneShape}
+use Rattle.pf_whole.specs.Calls.{CallsDiffer}
+use Rattle.pf_whole.specs.Comparisons.{ShowsDifference}
+use Rattle.pf_whole.specs.meaning.Traces.{AreWholeAlike, TraceAlike}
+use Rattle.pf_whole.proofs.Telling.{calls_give_shape}
+
+-- the types that a comparison of types finds are those of the stretches
+compared_types : (model : Model) (t u : Text) (index : Option ℕ) → (h : IsWholeAccepted t) → (g : IsWholeAccepted u) → ComparesArgumentTypes model t u index
+    → IsFirstDifference (whole_types model h.stretches) (whole_types model g.stretches) index
+compared_types model t u index h g found =
+    let first : found.types ≡ whole_types model h.stretches =
+    one_list model t found.types (whole_types model h.stretches) found.first_accepted (types_are_kept model t h.stretches h.reads h.limit) in
+    let second : found.others ≡ whole_types model g.stretches =
+    one_list model u found.others (whole_types model g.stretches) found.second_accepted (types_are_kept model u g.stretches g.reads g.limit) in
+    subst (λ l. IsFirstDifference (whole_types model h.stretches) l index) second (subst (λ l. IsFirstDifference l found.others index) first found.difference)
+
+-- a verdict on texts that aren't alike
+apart_verdict : (model : Model) (t u : Text) (verdict : WholeVerdict) → (h : IsWholeAccepted t) → (g : IsWholeAccepted u) → ¬ AreWholeAlike model t u
+    → verdict ≢ Same → IsWholeVerdict model h.stretches g.stretches verdict → IsWholeComparisonOf model t u verdict
+apart_verdict model t u verdict h g apart other is = record {
+  first = h;
+  second = g;
+  same = (λ e. absurd (other e), λ alike. absurd (apart alike));
+  is = is;
+}
+
+pub types_verdict : (model : Model) (t u : Text) (index : ℕ) → IsWholeAccepted t → IsWholeAccepted u → ¬ AreWholeAlike model t u
+    → ComparesArgumentTypes model t u (Some index) → IsWholeComparisonOf model t u (TypesDiffer index)
+types_verdict model t u index h g apart found =
+    apart_verdict model t u (TypesDiffer index) h g apart (λ e. cc) (compared_types model t u (Some index) h g found)
+
+pub calls_verdict : (model : Model) (t u : Text) (index : ℕ) → IsWholeAccepted t → IsWholeAccepted u → ¬ AreWholeAlike model t u
+    → ComparesArgumentTypes model t u None → CallsDiffer model t u (Some index) → IsWholeComparisonOf model t u (DirectivesDiffer index)
+calls_verdict model t u index h g apart types calls =
+    apart_verdict model t u (DirectivesDiffer index) h g apart (λ e. cc)
+    (compared_types model t u None h g types, calls h.stretches g.stretches h.reads g.reads)
+
+-- texts of equal types and equal calls have one shape
+pub shape_of : (model : Model) (t u : Text) (a b : Stretches) → IsWholeAccepted t → IsWholeAccepted u → ComparesArgumentTypes model t u None
+    → CallsDiffer model t u None → ReadsWhole t a → ReadsWhole u b → HaveOneShape model a b
+shape_of model t u a b h g types calls k l =
+    let first : h.stretches ≡ a = read_once t h.stretches a h.reads k in
+    let second : g.stretches ≡ b = read_once u g.stretches b g.reads l in
+    let same : whole_types model h.stretches ≡ whole_types model g.stretches = compared_types model t u None h g types in
+    calls_give_shape model t u a b k l (ap (whole_types model) (sym first) ∙ same ∙ ap (whole_types model) second) (calls a b k l)
+
+pub shown_verdict : (model : Model) (t u : Text) (shown : List (Option Argument)) → IsWholeAccepted t → IsWholeAccepted u → ¬ AreWholeAlike model t u
+    → ComparesArgumentTypes model t u None → CallsDiffer model t u None
+    → ((a b : Stretches) → ReadsWhole t a → ReadsWhole u b → ShowsDifference model a b shown) → IsWholeComparisonOf model t u (Different shown)
+shown_verdict model t u shown h g apart types calls shows =
+    apart_verdict model t u (Different shown) h g apart (λ e. cc) (
+      compared_types model t u None h g types,
+      calls h.stretches g.stretches h.reads g.reads,
+      shows h.stretches g.stretches h.reads g.reads,
+    )
+
+pub same_verdict : (model : Model) (t u : Text) → IsWholeAccepted t → IsWholeAccepted u → AreWholeAlike model t u → IsWholeComparisonOf model t u Same
+same_verdict model t u h g alike = record {
+  first = h;
+  second = g;
+  same = (λ e. alike, λ e. refl);
+  is = subst (λ a. TraceAlike model a g.stretches) (read_once t alike.first h.stretches alike.reads_first h.reads)
+      (subst (λ b. TraceAlike model alike.first b) (read_once u alike.second g.stretches alike.reads_second g.reads) alike.alike);
+}
+
+-- texts that are accepted are compared by their types
+pub fit_anyway : (model : Model) (t u : Text) (refusal : FitsRefusal) → IsWholeAccepted t → IsWholeAccepted u → FaultForFits model t u refusal → ⊥
+fit_anyway model t u (refusals.First refusal) h g fault =
+    never_both model t (whole_types model h.stretches) refusal.kind refusal.at (types_are_kept model t h.stretches h.reads h.limit) fault
+fit_anyway model t u (refusals.Second refusal) h g fault =
+    never_both model u (whole_types model g.stretches) refusal.kind refusal.at (types_are_kept model u g.stretches g.reads g.limit) fault.1

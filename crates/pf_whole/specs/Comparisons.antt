@@ -1,0 +1,90 @@
+-- What a comparison answers, as the code holds it.
+use Rattle.std.specs.Prelude.{◌≡◌, ◌⊎◌, Bool, true, false, List, map, option_map, Option, Some, None, ⊤}
+use Rattle.std.specs.List.{AllZip}
+use Rattle.pf_values.specs.declared.models.Model.{Model}
+use Rattle.pf_values.specs.Candidates.{neutrals}
+use Rattle.pf_values.specs.meaning.Arguments.{Argument}
+use Rattle.pf_values.specs.meaning.Items.{HasItems, Item, types}
+use Rattle.pf_values.specs.meaning.Printing.{PrintAlike}
+use Rattle.pf_values.specs.meaning.Text.{Text}
+use Rattle.pf_compare.specs.declared.owned_args.OwnedArg.{OwnedArg}
+use Rattle.pf_compare.specs.Answers.{PrintTheSame, PrintUnlike}
+use Rattle.pf_compare.specs.Owned.{argument_of_owned, type_of_owned}
+use Rattle.pf_signatures.specs.declared.types.ArgumentType.{ArgumentType}
+use Rattle.pf_signatures.specs.Types.{widened}
+use Rattle.pf_whole.specs.declared.verdicts.Difference.{Difference}
+use Rattle.pf_whole.specs.declared.verdicts.Difference.TheVariants as differences
+use Rattle.pf_whole.specs.declared.verdicts.StretchArguments.{StretchArguments}
+use Rattle.pf_whole.specs.declared.verdicts.StretchArguments.TheVariants as shown
+use Rattle.pf_whole.specs.declared.verdicts.WholeCompareFault.{WholeCompareFault}
+use Rattle.pf_whole.specs.declared.verdicts.WholeCompareFault.TheVariants.{Refused, Memory}
+use Rattle.pf_whole.specs.declared.verdicts.WholeVerdict.{WholeVerdict}
+use Rattle.pf_whole.specs.declared.verdicts.WholeVerdict.TheVariants as verdicts
+use Rattle.pf_whole.specs.Answers as answers
+use Rattle.pf_whole.specs.Answers.{HaveOneShape, IsWholeComparisonOf, ShowsNeutral, ShowsProbe}
+use Rattle.pf_whole.specs.Faults.{FaultForWholeSame}
+use Rattle.pf_whole.specs.Findings.{IsTellingProbe}
+use Rattle.pf_signatures.specs.Stretches.{Stretches, ReadsWhole, IsWholeAccepted, whole_types}
+use Rattle.pf_whole.specs.meaning.Traces.{AreWholeAlike}
+
+-- the arguments that are shown
+abbrev pub shown_as : List (Option OwnedArg) → List (Option Argument)
+shown_as shown = map (option_map argument_of_owned) shown
+
+-- an argument has its type, if it is shown
+abbrev pub HasShownType : Option OwnedArg → ArgumentType → Type 0
+HasShownType None type = ⊤
+HasShownType (Some argument) type = widened (type_of_owned argument) ≡ type
+
+abbrev pub verdict_of : WholeVerdict → answers.WholeVerdict
+verdict_of verdicts.Same = answers.Same
+verdict_of (verdicts.Types index) = answers.TypesDiffer index
+verdict_of (verdicts.Directives index) = answers.DirectivesDiffer index
+verdict_of (verdicts.Args shown) = answers.Different (shown_as shown.items)
+
+-- each argument that is shown has the type of the text's argument
+abbrev pub AreShownTyped : Model → Text → WholeVerdict → Type 0
+AreShownTyped model t (verdicts.Args shown) = (a : Stretches) → ReadsWhole t a
+    → AllZip HasShownType shown.items (whole_types model a)
+AreShownTyped model t _ = ⊤
+
+-- the answer to two accepted texts
+pub record IsComparison (model : Model) (t u : Text) (verdict : WholeVerdict) : Type 0 where
+  pub is : IsWholeComparisonOf model t u (verdict_of verdict)
+  pub typed : AreShownTyped model t verdict
+
+-- Why there is none. Memory is wanting only where both are accepted, with equal types and calls, and are
+-- not alike.
+abbrev pub FaultForWholeCompare : Model → Text → Text → WholeCompareFault → Type 0
+FaultForWholeCompare model t u (Refused refusal) = FaultForWholeSame model t u refusal
+FaultForWholeCompare model t u Memory = IsWholeAccepted t × IsWholeAccepted u × (¬ AreWholeAlike model t u)
+    × ((a b : Stretches) → ReadsWhole t a → ReadsWhole u b → HaveOneShape model a b)
+
+-- what tells two stretches of equal types apart
+abbrev pub IsDifference : Model → Text → Text → Difference → Type 0
+IsDifference model t u differences.None = (xs ys : List Item) → HasItems t xs → HasItems u ys → PrintAlike model xs ys
+IsDifference model t u differences.Neutral = (xs ys : List Item) → HasItems t xs → HasItems u ys
+    → PrintUnlike model xs ys (neutrals (types model xs))
+IsDifference model t u (differences.Probe args) = (xs ys : List Item) → HasItems t xs → HasItems u ys
+    → (map type_of_owned args.items ≡ types model xs)
+    × IsTellingProbe model xs ys (map argument_of_owned args.items)
+
+-- Of two stretches, neutral arguments are shown where they print alike, or where a probe was found
+-- before; and otherwise those of their first probe.
+abbrev pub IsShownNext : Model → List Item → List Item → Bool → List Argument → Bool → Type 0
+IsShownNext model xs ys found args now =
+    (PrintAlike model xs ys × (args ≡ neutrals (types model xs)) × (now ≡ found))
+    ⊎ (((found ≡ true) × (now ≡ true) × PrintTheSame model xs ys (neutrals (types model xs))
+    × (args ≡ neutrals (types model xs)))
+    ⊎ ((found ≡ false) × (now ≡ true) × IsTellingProbe model xs ys args))
+
+abbrev pub AreShownNext : Model → Text → Text → Bool → StretchArguments → Type 0
+AreShownNext model t u found shown.Neutral = (xs ys : List Item) → HasItems t xs → HasItems u ys
+    → PrintUnlike model xs ys (neutrals (types model xs))
+AreShownNext model t u found (shown.Shown args now) = (xs ys : List Item) → HasItems t xs → HasItems u ys
+    → (map type_of_owned args.items ≡ types model xs)
+    × IsShownNext model xs ys found (map argument_of_owned args.items) now
+
+-- neutral arguments are shown, or those of the first probe that tells the texts apart
+abbrev pub ShowsDifference : Model → Stretches → Stretches → List (Option Argument) → Type 0
+ShowsDifference model a b shown = ShowsNeutral model a b shown ⊎ ShowsProbe model a b shown

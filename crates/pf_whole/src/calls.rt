@@ -1,0 +1,89 @@
+//! The calls that formats make, and the first one that only one of two formats makes.
+ghost use Rattle.std.specs.Prelude.{◌≤◌, ◌≡◌, List, drop, length};
+ghost use Rattle.pf_signatures.specs.declared.types.ArgumentType.{ArgumentType};
+ghost use Rattle.pf_signatures.specs.Items.{HasArguments};
+ghost use Rattle.pf_signatures.specs.Stretches.{IsWholeAccepted, ReadsWhole, Stretches};
+ghost use Rattle.pf_whole.specs.Calls.{CallsDiffer, IsNextCall};
+
+use crate::comparison::make_one_call;
+use pf_signatures::{OpaqueDirective, arguments, next_stretch};
+use pf_values::Model;
+
+/// A directive that the profile lacks, and the index of the first argument of its call.
+#[derive(Clone, Copy)]
+pub(crate) struct PlacedDirective {
+    pub(crate) index: u64,
+    pub(crate) directive: OpaqueDirective,
+}
+
+/// What is left of a format: it begins at this offset, and its first argument has this index.
+#[derive(Clone, Copy)]
+pub(crate) struct Rest {
+    pub(crate) at: usize,
+    pub(crate) index: u64,
+}
+
+/// Returns the index of the first argument of the first call that only one of two accepted formats
+/// makes.
+pub(crate) fn first_call_difference(model: Model, first: &[u8], second: &[u8]) -> Option<u64>
+    requires first { IsWholeAccepted first.now }
+    requires second { IsWholeAccepted second.now }
+    ensures { CallsDiffer model first.now second.now result }
+{
+    let mut one = Rest { at: 0, index: 0 };
+    let mut two = Rest { at: 0, index: 0 };
+    while let Some((call, after)) = next_call(model, first, one) {
+        let Some((other, after_other)) = next_call(model, second, two) else {
+            return Some(call.index);
+        };
+        if call.index != other.index {
+            return Some(call.index.min(other.index));
+        }
+        if !make_one_call(model, call.directive, other.directive) {
+            return Some(call.index);
+        }
+        one = after;
+        two = after_other;
+    }
+    match next_call(model, second, two) {
+        Some((other, _)) => Some(other.index),
+        None => None,
+    }
+}
+
+// Returns the next call of an accepted format, and what is left after it.
+fn next_call(model: Model, text: &[u8], rest: Rest) -> Option<(PlacedDirective, Rest)>
+    requires few { rest.index ≤ rest.at }
+    requires within { rest.at ≤ length text.now }
+    requires accepted { IsWholeAccepted text.now }
+    requires reads { (left : Stretches) × ReadsWhole (drop rest.at text.now) left }
+    ensures { (left : Stretches) → ReadsWhole (drop rest.at text.now) left
+        → IsNextCall model text.now left rest result }
+{
+    let Some(stretch) = next_stretch(text, rest.at) else {
+        unreachable!();
+    };
+    let Some(directive) = stretch.opaque else {
+        return None;
+    };
+    let index = rest.index + argument_count(model, &text[rest.at..stretch.end]);
+    let own = argument_count(model, &text[stretch.end..stretch.after]);
+    let call = PlacedDirective { index, directive };
+    let after = Rest {
+        at: stretch.after,
+        index: index + own,
+    };
+    Some((call, after))
+}
+
+/// Returns how many arguments an accepted format takes.
+pub(crate) fn argument_count(model: Model, text: &[u8]) -> u64
+    requires { (types : List ArgumentType) × HasArguments model text.now types }
+    ensures { (types : List ArgumentType) × HasArguments model text.now types
+        × (result ≡ length types) }
+{
+    match arguments(model, text, &mut []) {
+        Ok(count) => count,
+        Err(_) => unreachable!(),
+    }
+}

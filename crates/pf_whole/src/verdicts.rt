@@ -1,0 +1,284 @@
+//! How two formats of the whole language compare.
+ghost use Rattle.std.specs.Prelude.{◌≡◌, ◌++◌, IfOk, List, MatchResult, None, Some, map, replicate};
+ghost use Rattle.std.specs.List.{AllZip};
+ghost use Rattle.pf_values.specs.meaning.Items.{HasItems, IsAccepted, Item, Reads, types};
+ghost use Rattle.pf_compare.specs.Answers.{IsComparisonOf};
+ghost use Rattle.pf_compare.specs.Witnesses.{AreNeutral};
+ghost use Rattle.pf_compare.specs.declared.owned_args.OwnedArg.{OwnedArg};
+ghost use Rattle.pf_signatures.specs.Stretches.{IsWholeAccepted, ReadsWhole, Stretches, whole_types};
+ghost use Rattle.pf_whole.specs.Answers.{HaveOneShape, neutral_shown};
+ghost use Rattle.pf_whole.specs.Comparisons.{AreShownNext, FaultForWholeCompare, HasShownType, IsComparison, IsDifference, ShowsDifference, shown_as};
+ghost use Rattle.pf_whole.specs.declared.verdicts.WholeCompareFault.TheVariants.{Memory};
+ghost use Rattle.pf_whole.specs.meaning.Traces.{AreWholeAlike};
+
+use crate::calls::{argument_count, first_call_difference};
+use crate::comparison::same_text;
+use pf_compare::{Comparison, OwnedArg, Verdict, neutrals_of};
+use pf_signatures::{FitsRefusal, fits, next_stretch};
+use pf_values::Model;
+use std::alloc::{AllocError, Global};
+use thiserror::Error;
+
+/// How two formats of the whole language compare.
+#[derive(Debug, Drop)]
+pub enum WholeVerdict {
+    /// They are alike: equal argument types, and for all arguments equal bytes and equal calls.
+    Same,
+    /// Their argument types differ first at this index, counted from 0. If one list of types begins
+    /// the other, it is the length of the shorter.
+    Types(u64),
+    /// Their argument types are equal. This is the least index of an argument with which a call begins
+    /// that only one of them makes.
+    Directives(u64),
+    /// Their argument types and their calls are equal. For these arguments they print different bytes.
+    /// `None` stands for any argument of a directive that the profile lacks.
+    Args(Vec<Option<OwnedArg>>),
+}
+
+/// Why two formats are not compared.
+#[derive(Clone, Copy, Debug, PartialEq, Eq, Error)]
+pub enum WholeCompareFault {
+    /// One of them is refused.
+    #[error("{0}")]
+    Refused(FitsRefusal),
+    /// A growth was refused.
+    #[error("out of memory")]
+    Memory,
+}
+
+impl From<AllocError> for WholeCompareFault {
+    ghost from_gives = { λ _ fault. fault ≡ Memory };
+
+    fn from(_error: AllocError) -> WholeCompareFault {
+        WholeCompareFault::Memory
+    }
+}
+
+/// Compares two formats in a data model. A refused one is answered by its refusal, the first before the
+/// second. Memory is taken only for arguments: if both are accepted, and their argument types and calls
+/// are equal, and they are not alike.
+pub fn compare(
+    alloc: Global,
+    model: Model,
+    first: &[u8],
+    second: &[u8],
+) -> Result<WholeVerdict, WholeCompareFault>
+    ensures { MatchResult result (IsComparison model first.now second.now)
+        (FaultForWholeCompare model first.now second.now) }
+{
+    match same_text(model, first, second) {
+        Ok(true) => Ok(WholeVerdict::Same),
+        Ok(false) => compare_apart(alloc, model, first, second),
+        Err(refusal) => Err(WholeCompareFault::Refused(refusal)),
+    }
+}
+
+// Compares two accepted formats that aren't alike.
+fn compare_apart(
+    alloc: Global,
+    model: Model,
+    first: &[u8],
+    second: &[u8],
+) -> Result<WholeVerdict, WholeCompareFault>
+    requires accepted_first { IsWholeAccepted first.now }
+    requires accepted_second { IsWholeAccepted second.now }
+    requires apart { ¬ AreWholeAlike model first.now second.now }
+    ensures { MatchResult result (IsComparison model first.now second.now)
+        (FaultForWholeCompare model first.now second.now) }
+{
+    match fits(model, first, second) {
+        Ok(Some(index)) => return Ok(WholeVerdict::Types(index)),
+        Ok(None) => {}
+        Err(_) => unreachable!(),
+    }
+    if let Some(index) = first_call_difference(model, first, second) {
+        return Ok(WholeVerdict::Directives(index));
+    }
+    Ok(WholeVerdict::Args(first_difference(alloc, model, first, second)?))
+}
+
+// Returns arguments for which two accepted formats print different bytes, whose types and calls are
+// equal, and which aren't alike.
+fn first_difference(
+    alloc: Global,
+    model: Model,
+    first: &[u8],
+    second: &[u8],
+) -> Result<Vec<Option<OwnedArg>>, AllocError>
+    requires accepted_first { IsWholeAccepted first.now }
+    requires accepted_second { IsWholeAccepted second.now }
+    requires shape { (a b : Stretches) → ReadsWhole first.now a → ReadsWhole second.now b
+        → HaveOneShape model a b }
+    requires apart { ¬ AreWholeAlike model first.now second.now }
+    ensures { IfOk result (λ shown. (a b : Stretches) → ReadsWhole first.now a
+        → ReadsWhole second.now b → ShowsDifference model a b (shown_as shown.items)
+        × AllZip HasShownType shown.items (whole_types model a)) }
+{
+    let mut shown = Vec::new(alloc);
+    let mut is_found = false;
+    let mut at = 0;
+    let mut from = 0;
+    while let Some(stretch) = next_stretch(first, at) {
+        let Some(other) = next_stretch(second, from) else {
+            unreachable!();
+        };
+        match stretch_arguments(
+            alloc,
+            model,
+            &first[at..stretch.end],
+            &second[from..other.end],
+            is_found,
+        )? {
+            StretchArguments::Neutral => return neutral_arguments(alloc, model, first),
+            StretchArguments::Shown(args, found) => {
+                push_all(args, &mut shown)?;
+                is_found = found;
+            }
+        }
+        let Some(_) = stretch.opaque else {
+            return Ok(shown);
+        };
+        push_any(
+            argument_count(model, &first[stretch.end..stretch.after]),
+            &mut shown,
+        )?;
+        at = stretch.after;
+        from = other.after;
+    }
+    unreachable!()
+}
+
+// The arguments of a stretch that are shown.
+#[derive(Drop)]
+enum StretchArguments {
+    // Neutral arguments tell the stretches apart, so all that is shown is neutral.
+    Neutral,
+    // These arguments, and whether a probe was found by now.
+    Shown(Vec<OwnedArg>, bool),
+}
+
+// Returns the arguments that are shown of the first of two stretches of equal types: those of the first
+// probe that tells them apart, unless one was found before, and otherwise neutral ones.
+fn stretch_arguments(
+    alloc: Global,
+    model: Model,
+    first: &[u8],
+    second: &[u8],
+    is_found: bool,
+) -> Result<StretchArguments, AllocError>
+    requires { (xs ys : List Item) × HasItems first.now xs × HasItems second.now ys
+        × (types model xs ≡ types model ys) }
+    ensures { IfOk result (AreShownNext model first.now second.now is_found) }
+{
+    match compare_stretches(alloc, model, first, second)? {
+        Difference::None => Ok(StretchArguments::Shown(
+            neutrals_of(alloc, model, first)?,
+            is_found,
+        )),
+        Difference::Neutral => Ok(StretchArguments::Neutral),
+        Difference::Probe(args) => {
+            if is_found {
+                return Ok(StretchArguments::Shown(neutrals_of(alloc, model, first)?, is_found));
+            }
+            Ok(StretchArguments::Shown(args, true))
+        }
+    }
+}
+
+// What tells two stretches of equal types apart.
+#[derive(Drop)]
+enum Difference {
+    None,
+    Neutral,
+    Probe(Vec<OwnedArg>),
+}
+
+fn compare_stretches(
+    alloc: Global,
+    model: Model,
+    first: &[u8],
+    second: &[u8],
+) -> Result<Difference, AllocError>
+    requires { (xs ys : List Item) × HasItems first.now xs × HasItems second.now ys
+        × (types model xs ≡ types model ys) }
+    ensures { IfOk result (IsDifference model first.now second.now) }
+{
+    match pf_compare::compare(alloc, model, first, second) {
+        Ok(comparison) => Ok(difference_of(model, first, second, comparison)),
+        Err(_) => Err(AllocError),
+    }
+}
+
+fn difference_of(model: Model, first: &[u8], second: &[u8], comparison: Comparison) -> Difference
+    requires compared { IsComparisonOf model first.now second.now comparison }
+    requires types { (xs ys : List Item) × HasItems first.now xs × HasItems second.now ys
+        × (types model xs ≡ types model ys) }
+    ensures { IsDifference model first.now second.now result }
+{
+    let Comparison {
+        verdict,
+        renderings,
+    } = comparison;
+    match verdict {
+        Verdict::Same => Difference::None,
+        Verdict::Types(_) => unreachable!(),
+        Verdict::Args(args) => {
+            if renderings == 1 {
+                Difference::Neutral
+            } else {
+                Difference::Probe(args)
+            }
+        }
+    }
+}
+
+// Returns neutral arguments for an accepted format.
+fn neutral_arguments(
+    alloc: Global,
+    model: Model,
+    text: &[u8],
+) -> Result<Vec<Option<OwnedArg>>, AllocError>
+    requires { IsWholeAccepted text.now }
+    ensures { IfOk result (λ shown. (a : Stretches) → ReadsWhole text.now a
+        → (shown_as shown.items ≡ neutral_shown model a)
+        × AllZip HasShownType shown.items (whole_types model a)) }
+{
+    let mut shown = Vec::new(alloc);
+    let mut at = 0;
+    while let Some(stretch) = next_stretch(text, at) {
+        push_all(
+            neutrals_of(alloc, model, &text[at..stretch.end])?,
+            &mut shown,
+        )?;
+        let Some(_) = stretch.opaque else {
+            return Ok(shown);
+        };
+        push_any(
+            argument_count(model, &text[stretch.end..stretch.after]),
+            &mut shown,
+        )?;
+        at = stretch.after;
+    }
+    unreachable!()
+}
+
+fn push_all(args: Vec<OwnedArg>, shown: &mut Vec<Option<OwnedArg>>) -> Result<(), AllocError>
+    ensures { IfOk result (λ _. shown.new.items ≡ shown.old.items ++ map Some args.items) }
+{
+    for argument in args {
+        shown.push(Some(argument))?;
+    }
+    Ok(())
+}
+
+// Adds so many arguments that may be any.
+fn push_any(count: u64, shown: &mut Vec<Option<OwnedArg>>) -> Result<(), AllocError>
+    ensures { IfOk result (λ _. shown.new.items ≡ shown.old.items ++ replicate count None) }
+{
+    let mut left = count;
+    while left > 0 {
+        shown.push(None)?;
+        left -= 1;
+    }
+    Ok(())
+}
