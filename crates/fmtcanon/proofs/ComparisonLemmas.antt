@@ -6,7 +6,7 @@ use Rattle.pf_values.specs.declared.models.Model.{Model}
 use Rattle.pf_values.specs.meaning.Text.{Text}
 use Rattle.fmtcanon.specs.declared.answer.Ending.{Ending}
 use Rattle.fmtcanon.specs.declared.answer.Ending.TheVariants as endings
-use Rattle.fmtcanon.specs.Comparisons.{IsComparisonAnswer, IsComparisonInEach, ending_with}
+use Rattle.fmtcanon.specs.Comparisons.{IsAnswerInEach, ending_with}
 use Rattle.fmtcanon.specs.Lines.{line}
 use Rattle.fmtcanon.specs.Models.{model_name}
 
@@ -21,12 +21,12 @@ with_more endings.Done b c = refl
 with_more endings.Different b c = refl
 
 -- one more verdict
-module _ (first second : Text) (model : Model) (lines : Text) (ends : Ending) (answer : IsComparisonAnswer model first second lines ends) where
+module _ (IsIn : Model → Text → Ending → Type 0) (model : Model) (lines : Text) (ends : Ending) (answer : IsIn model lines ends) where
   abbrev told : Text
   told = line (model_name model) ++ lines
 
-  pub one_more_model : (models : List Model) (out : Text) (end : Ending) → IsComparisonInEach models first second out end
-      → IsComparisonInEach (models ++ model ∷ []) first second (out ++ told) (ending_with end ends)
+  pub one_more_model : (models : List Model) (out : Text) (end : Ending) → IsAnswerInEach IsIn models out end
+      → IsAnswerInEach IsIn (models ++ model ∷ []) (out ++ told) (ending_with end ends)
   one_more_model [] out end h =
       (lines, [], ends, endings.Same, answer, (refl, refl), ap (λ o. o ++ told) h.0 ∙ sym (append-nil told), ap (λ e. ending_with e ends) h.1 ∙ with_same ends)
   one_more_model (other ∷ models) out end (its, others, ended, rest, is, h, out_is, end_is) = (
@@ -41,15 +41,15 @@ module _ (first second : Text) (model : Model) (lines : Text) (ends : Ending) (a
   )
 
 -- and the loop has pushed it, with the name of its data model
-pub verdict_pushed : (first second : Text) (models : List Model) (i : ℕ) (d : Model) → i < length models
-    → (lines : Text) (ends : Ending) → IsComparisonAnswer (get_or models i d) first second lines ends
-    → (out : Text) (end : Ending) → IsComparisonInEach (take i models) first second out end
+pub verdict_pushed : (IsIn : Model → Text → Ending → Type 0) (models : List Model) (i : ℕ) (d : Model) → i < length models
+    → (lines : Text) (ends : Ending) → IsIn (get_or models i d) lines ends
+    → (out : Text) (end : Ending) → IsAnswerInEach IsIn (take i models) out end
     → (name : Text) → name ≡ model_name (get_or models i d) → (new : Text) → new ≡ out ++ line name ++ lines
-    → (ended : Ending) → ended ≡ ending_with end ends → IsComparisonInEach (take (i + 1) models) first second new ended
-verdict_pushed first second models i d few lines ends answer out end h name name_is new new_is ended ended_is =
+    → (ended : Ending) → ended ≡ ending_with end ends → IsAnswerInEach IsIn (take (i + 1) models) new ended
+verdict_pushed IsIn models i d few lines ends answer out end h name name_is new new_is ended ended_is =
     let model = get_or models i d in
     let next : suc i ≡ i + 1 = omega arith in
     let front : take i models ++ model ∷ [] ≡ take (i + 1) models = sym (take-suc models i d few) ∙ ap (λ n. take n models) next in
     let text : new ≡ out ++ (line (model_name model) ++ lines) = new_is ∙ ap (λ n. out ++ line n ++ lines) name_is ∙ append_assoc out (line (model_name model)) lines in
-    rw text (rw ended_is (subst (λ ms. IsComparisonInEach ms first second (out ++ (line (model_name model) ++ lines)) (ending_with end ends)) front
-    (one_more_model first second model lines ends answer (take i models) out end h)))
+    rw text (rw ended_is (subst (λ ms. IsAnswerInEach IsIn ms (out ++ (line (model_name model) ++ lines)) (ending_with end ends)) front
+    (one_more_model IsIn model lines ends answer (take i models) out end h)))

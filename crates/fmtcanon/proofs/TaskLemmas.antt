@@ -22,7 +22,7 @@ is_question command rows (Arguments model format) h = h
 is_question command rows (Canon model format) h = h
 is_question command rows (Show model format) h = h
 is_question command rows (Format model format given) h = absurd h.3
-is_question command rows (Fits model first second) h = h
+is_question command rows (Fits models first second) h = h
 is_question command rows (Same models first second) h = h
 
 module _ (command : Text) (rows : List Row) (kind : RecordQuestion) (is : IsAsked command rows kind) where
@@ -62,7 +62,7 @@ none_wanted (asked.Types notation model) = λ e. absurd (omega (arith, e))
 none_wanted (asked.Arguments notation model) = λ e. absurd (omega (arith, e))
 none_wanted (asked.Canon notation model) = λ e. absurd (omega (arith, e))
 none_wanted (asked.Show notation model) = λ e. absurd (omega (arith, e))
-none_wanted (asked.Fits notation model) = λ e. absurd (omega (arith, e))
+none_wanted (asked.Fits notation models) = λ e. absurd (omega (arith, e))
 none_wanted (asked.Same notation models) = λ e. absurd (omega (arith, e))
 
 pub misplaced_any : (kind : RecordQuestion) (rows : List Row) (fault : NoTask) → IsMisplaced kind rows → IsNoTaskOn kind rows fault
@@ -80,6 +80,6 @@ module _ (command : Text) (rows : List Row) where
     not_types (is_whole rows) refl other,
     λ e. other (asked.Canon (notation_in rows) (model_in rows)) (e, refl, refl),
     λ e. other (asked.Show (notation_in rows) (model_in rows)) (e, refl, refl),
-    λ e. other (asked.Fits (notation_in rows) (model_in rows)) (e, refl, refl),
+    λ e. other (asked.Fits (notation_in rows) (models_in rows)) (e, refl, refl),
     λ e. other (asked.Same (notation_in rows) (models_in rows)) (e, refl, refl),
   )

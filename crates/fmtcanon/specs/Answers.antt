@@ -1,5 +1,6 @@
 -- What a question is answered with, and why it is not. This project's own.
-use Rattle.std.specs.Prelude.{◌≡◌, ℕ, ◌≤◌, length, Option, None, Some, map, ⊤}
+use Rattle.std.specs.Prelude.{◌≡◌, ℕ, ◌≤◌, List, ◌∷◌, ◌++◌, length, Option, None, Some, map, ⊤}
+use Rattle.std.specs.List.{AllByRecursion}
 use Rattle.pf_signatures.specs.Items.{IsPosixAccepted}
 use Rattle.pf_signatures.specs.Refusals as whole
 use Rattle.pf_values.specs.declared.models.Model.{Model}
@@ -15,13 +16,14 @@ use Rattle.fmtcanon.specs.declared.outcome.Fault.{Fault}
 use Rattle.fmtcanon.specs.declared.outcome.Fault.TheVariants.{Refused, RefusedWhole, BadLiteral, BadWord, WrongCount, WrongType, Memory}
 use Rattle.fmtcanon.specs.declared.task.Question.{Question}
 use Rattle.fmtcanon.specs.declared.task.Question.TheVariants.{Types, Arguments, Canon, Show, Format, Fits, Same}
-use Rattle.fmtcanon.specs.ArgumentLines.{HasArgumentLines, IsFitAnswer}
-use Rattle.fmtcanon.specs.Comparisons.{IsComparisonIn}
+use Rattle.fmtcanon.specs.ArgumentLines.{HasArgumentLines}
+use Rattle.fmtcanon.specs.Comparisons.{AreFitsIn, IsComparisonIn}
 use Rattle.fmtcanon.specs.FormatArguments.{IsArgumentFault, IsPrinted}
 use Rattle.fmtcanon.specs.declared.formats.GivenFormat.{GivenFormat}
 use Rattle.fmtcanon.specs.declared.formats.Notation.{Notation}
 use Rattle.fmtcanon.specs.Formats.{HoldsAt, HoldsOf, IsFormat, IsNoFormat, IsPlaceInText, written_in}
 use Rattle.fmtcanon.specs.Lines.{line}
+use Rattle.fmtcanon.specs.Models.{asked_models}
 use Rattle.fmtcanon.specs.Shows.{HasShownLines}
 use Rattle.fmtcanon.specs.TypeLines.{HasTypeLines}
 
@@ -43,9 +45,9 @@ IsAnswer (Show model format) out ending = (bytes : Text) × IsFormat format byte
     × HasShownLines model bytes out × (ending ≡ endings.Done)
 IsAnswer (Format model format words) out ending = (bytes : Text) × IsFormat format bytes
     × IsPrinted model bytes (map (λ s. s.now) words.items) out × (ending ≡ endings.Done)
-IsAnswer (Fits model first second) out ending =
+IsAnswer (Fits models first second) out ending =
     (one other : Text) × IsFormat first one × IsFormat second other
-    × IsFitAnswer model one other out ending
+    × AreFitsIn models one other out ending
 IsAnswer (Same models first second) out ending =
     (one other : Text) × IsFormat first one × IsFormat second other
     × IsComparisonIn models one other out ending
@@ -79,6 +81,22 @@ IsFitFault model first second (RefusedWhole (Some sides.Second) refusal) =
     IsPosixAccepted model first × whole.IsPosixRefusedAt model second refusal.kind refusal.at
 IsFitFault model first second Memory = ⊤
 IsFitFault model first second _ = ⊥
+
+-- a fault in the first of some data models that has one
+pub record IsFirstFault (models : List Model) (Accepts : Model → Type 0)
+    (IsFault : Model → Fault → Type 0) (fault : Fault) : Type 0 where
+  pub before : List Model
+  pub model : Model
+  pub after : List Model
+  pub split : models ≡ before ++ model ∷ after
+  pub accepted : AllByRecursion Accepts before
+  pub fault_is : IsFault model fault
+
+-- why two texts have no answer in some data models
+abbrev pub IsFitFaultIn : List Model → Text → Text → Fault → Type 0
+IsFitFaultIn models first second = IsFirstFault models
+    (λ model. IsPosixAccepted model first × IsPosixAccepted model second)
+    (λ model. IsFitFault model first second)
 
 -- Why a format that is given has none, by why its bytes have none: a refusal is reported at its place in
 -- the text.
@@ -117,6 +135,12 @@ IsGivenPairFault IsFault Accepted first second (BadLiteral (Some sides.Second) r
 IsGivenPairFault IsFault Accepted first second Memory = ⊤
 IsGivenPairFault IsFault Accepted first second _ = ⊥
 
+-- why two of the whole language have none in some data models
+abbrev pub IsGivenFitFault : List Model → GivenFormat → GivenFormat → Fault → Type 0
+IsGivenFitFault models first second = IsFirstFault models
+    (λ model. HoldsOf first (IsPosixAccepted model) × HoldsOf second (IsPosixAccepted model))
+    (λ model. IsGivenPairFault (IsWholeFault model) (IsPosixAccepted model) first second)
+
 -- why a question has none
 abbrev pub IsQuestionFault : Question → Fault → Type 0
 IsQuestionFault (Types model format) fault = IsGivenFault IsFormatFault format fault
@@ -125,8 +149,8 @@ IsQuestionFault (Canon model format) fault = IsGivenFault IsFormatFault format f
 IsQuestionFault (Show model format) fault = IsGivenFault IsFormatFault format fault
 IsQuestionFault (Format model format words) fault =
     IsGivenFault (λ bytes. IsArgumentFault model bytes (map (λ s. s.now) words.items)) format fault
-IsQuestionFault (Fits model first second) fault =
-    IsGivenPairFault (IsWholeFault model) (IsPosixAccepted model) first second fault
+IsQuestionFault (Fits models first second) fault =
+    IsGivenFitFault (asked_models models) first second fault
 IsQuestionFault (Same models first second) fault =
     IsGivenPairFault IsFormatFault IsAccepted first second fault
 

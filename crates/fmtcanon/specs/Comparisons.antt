@@ -1,7 +1,6 @@
 -- What a comparison prints. This project's own.
-use Rattle.std.specs.Prelude.{◌≡◌, List, [], ◌∷◌, ◌++◌, codes, decimal, flat_map, take}
+use Rattle.std.specs.Prelude.{◌≡◌, List, [], ◌∷◌, ◌++◌, codes, decimal, flat_map}
 use Rattle.pf_values.specs.declared.models.Model.{Model}
-use Rattle.pf_values.specs.declared.models.TheConstants.Model.{ALL}
 use Rattle.pf_values.specs.declared.types.ArgType.{ArgType}
 use Rattle.pf_values.specs.meaning.Arguments.{Argument, HasType}
 use Rattle.pf_values.specs.meaning.Text.{Text}
@@ -16,9 +15,10 @@ use Rattle.fmtcanon.specs.declared.answer.Ending.{Ending}
 use Rattle.fmtcanon.specs.declared.answer.Ending.TheVariants as endings
 use Rattle.fmtcanon.specs.declared.models.Models.{Models}
 use Rattle.fmtcanon.specs.declared.models.Models.TheVariants.{All, Both, One}
+use Rattle.fmtcanon.specs.ArgumentLines.{IsFitAnswer}
 use Rattle.fmtcanon.specs.ArgumentWords.{SpellsArgument}
 use Rattle.fmtcanon.specs.Lines.{line}
-use Rattle.fmtcanon.specs.Models.{model_name}
+use Rattle.fmtcanon.specs.Models.{asked_models, model_name}
 
 -- it is read as that argument
 abbrev pub PrintedWordIsRead : Model → Type 0
@@ -56,19 +56,25 @@ ending_with endings.Same others = others
 ending_with endings.Done others = endings.Done
 ending_with endings.Different others = endings.Different
 
--- the verdict in each of these data models, below its name
-abbrev pub IsComparisonInEach : List Model → Text → Text → Text → Ending → Type 0
-IsComparisonInEach [] first second out ending = (out ≡ []) × (ending ≡ endings.Same)
-IsComparisonInEach (model ∷ models) first second out ending =
+-- the answer in each of these data models, below its name
+abbrev pub IsAnswerInEach : (Model → Text → Ending → Type 0) → List Model → Text → Ending → Type 0
+IsAnswerInEach IsIn [] out ending = (out ≡ []) × (ending ≡ endings.Same)
+IsAnswerInEach IsIn (model ∷ models) out ending =
     (lines others : Text) × (ends end : Ending)
-    × IsComparisonAnswer model first second lines ends
-    × IsComparisonInEach models first second others end
+    × IsIn model lines ends × IsAnswerInEach IsIn models others end
     × (out ≡ line (model_name model) ++ lines ++ others) × (ending ≡ ending_with ends end)
+
+-- the answer in the data models that are asked for
+abbrev pub IsAnswerIn : (Model → Text → Ending → Type 0) → Models → Text → Ending → Type 0
+IsAnswerIn IsIn (One model) out ending = IsIn model out ending
+IsAnswerIn IsIn Both out ending = IsAnswerInEach IsIn (asked_models Both) out ending
+IsAnswerIn IsIn All out ending = IsAnswerInEach IsIn (asked_models All) out ending
 
 -- the verdict in the data models that are asked for
 abbrev pub IsComparisonIn : Models → Text → Text → Text → Ending → Type 0
-IsComparisonIn (One model) first second out ending =
-    IsComparisonAnswer model first second out ending
-IsComparisonIn Both first second out ending =
-    IsComparisonInEach (take 2 ALL) first second out ending
-IsComparisonIn All first second out ending = IsComparisonInEach ALL first second out ending
+IsComparisonIn models first second =
+    IsAnswerIn (λ model. IsComparisonAnswer model first second) models
+
+-- whether the second format takes just the arguments of the first, in each of these data models
+abbrev pub AreFitsIn : Models → Text → Text → Text → Ending → Type 0
+AreFitsIn models first second = IsAnswerIn (λ model. IsFitAnswer model first second) models

@@ -6,7 +6,10 @@ use Rattle.pf_literals.specs.declared.faults.LiteralRefusal.{LiteralRefusal}
 use Rattle.pf_literals.specs.Answers.{IsPlaceOf}
 use Rattle.pf_literals.specs.Encoding.{encoding}
 use Rattle.pf_literals.specs.Faults.{IsFaultAt}
+use Rattle.pf_literals.specs.Laws.{AreCStringBytes}
 use Rattle.pf_literals.specs.Sources.{IsSourceOf}
+use Rattle.pf_values.specs.declared.models.Model.{Model}
+use Rattle.pf_values.specs.meaning.Canonical.{IsCanonicalOf}
 use Rattle.pf_values.specs.meaning.Text.{Text}
 use Rattle.fmtcanon.specs.declared.formats.GivenFormat.{GivenFormat}
 use Rattle.fmtcanon.specs.declared.formats.Notation.{Notation}
@@ -55,3 +58,12 @@ pub record HoldsAt (given : GivenFormat) (Holds : Text → ℕ → Type 0) (repo
   pub at : ℕ
   pub holds : Holds bytes at
   pub place_is : IsPlaceInText given.notation given.text.now at reported
+
+-- `literal` is the canonical text of the format that `t` gives as literals, as one literal
+pub record IsCanonicalLiteralOf (model : Model) (t literal : Text) : Type 0 where
+  pub bytes : Text
+  pub canonical : Text
+  pub gives : IsSourceOf t bytes
+  pub canonical_is : IsCanonicalOf model bytes canonical
+  pub nonzero : AreCStringBytes canonical
+  pub literal_is : literal ≡ encoding canonical

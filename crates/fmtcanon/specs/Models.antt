@@ -1,5 +1,5 @@
 -- The data models that the option `--model` names. This project's own.
-use Rattle.std.specs.Prelude.{List, [], ◌∷◌, ◌++◌, Option, Some, None, codes, map, if◌then◌else◌}
+use Rattle.std.specs.Prelude.{List, [], ◌∷◌, ◌++◌, Option, Some, None, codes, map, if◌then◌else◌, take}
 use Rattle.std.specs.Str.{bytes_eq}
 use Rattle.clap.specs.Walk.{Row, first_of}
 use Rattle.pf_values.specs.declared.models.Model.{Model}
@@ -22,6 +22,18 @@ model_names = map model_name ALL
 -- the same, where two formats are compared: in the first two, or in all
 abbrev pub model_names_or_more : List Text
 model_names_or_more = model_names ++ codes "both" ∷ codes "all" ∷ []
+
+-- the data models that are asked for
+abbrev pub asked_models : Models → List Model
+asked_models (One model) = model ∷ []
+asked_models Both = take 2 ALL
+asked_models All = ALL
+
+-- the first of them
+abbrev pub first_model : Models → Model
+first_model (One model) = model
+first_model Both = Lp64
+first_model All = Lp64
 
 -- the first of some data models that has a name, else LP64
 abbrev pub model_among : List Model → Text → Model

@@ -12,7 +12,7 @@ formats_wanted (asked.Types notation model) = 1
 formats_wanted (asked.Arguments notation model) = 1
 formats_wanted (asked.Canon notation model) = 1
 formats_wanted (asked.Show notation model) = 1
-formats_wanted (asked.Fits notation model) = 2
+formats_wanted (asked.Fits notation models) = 2
 formats_wanted (asked.Same notation models) = 2
 
 -- one format, or two
@@ -31,8 +31,8 @@ IsAbout (Canon model format) kind formats =
 IsAbout (Show model format) kind formats =
     (kind ≡ asked.Show format.notation model) × (formats ≡ format.text.now ∷ [])
 IsAbout (Format model format words) kind formats = ⊥
-IsAbout (Fits model first second) kind formats =
-    (kind ≡ asked.Fits first.notation model) × (second.notation ≡ first.notation)
+IsAbout (Fits models first second) kind formats =
+    (kind ≡ asked.Fits first.notation models) × (second.notation ≡ first.notation)
     × (formats ≡ first.text.now ∷ second.text.now ∷ [])
 IsAbout (Same models first second) kind formats =
     (kind ≡ asked.Same first.notation models) × (second.notation ≡ first.notation)

@@ -74,8 +74,8 @@ IsAsked command rows (asked.Canon notation model) =
     (command ≡ codes "canon") × (notation ≡ notation_in rows) × (model ≡ model_in rows)
 IsAsked command rows (asked.Show notation model) =
     (command ≡ codes "show") × (notation ≡ notation_in rows) × (model ≡ model_in rows)
-IsAsked command rows (asked.Fits notation model) =
-    (command ≡ codes "fits") × (notation ≡ notation_in rows) × (model ≡ model_in rows)
+IsAsked command rows (asked.Fits notation models) =
+    (command ≡ codes "fits") × (notation ≡ notation_in rows) × (models ≡ models_in rows)
 IsAsked command rows (asked.Same notation models) =
     (command ≡ codes "same") × (notation ≡ notation_in rows) × (models ≡ models_in rows)
 
@@ -99,8 +99,8 @@ IsQuestion command rows (Format model format given) =
     (command ≡ codes "format") × (format.notation ≡ notation_in rows) × (model ≡ model_in rows)
     × HasValue rows (codes "F") format.text.now
     × HasAllValues rows (codes "ARG") (map (λ s. s.now) given.items)
-IsQuestion command rows (Fits model first second) =
-    IsAskedOf command rows (Fits model first second)
+IsQuestion command rows (Fits models first second) =
+    IsAskedOf command rows (Fits models first second)
 IsQuestion command rows (Same models first second) =
     IsAskedOf command rows (Same models first second)
 

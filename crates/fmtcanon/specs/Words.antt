@@ -113,7 +113,7 @@ command_rows one more =
     ∷ record { name = codes "show"; arguments = Records; models = one }
     ∷ record { name = codes "format"; arguments = Format; models = one }
     ∷ record { name = codes "same"; arguments = Pairs; models = more }
-    ∷ record { name = codes "fits"; arguments = Pairs; models = one }
+    ∷ record { name = codes "fits"; arguments = Pairs; models = more }
     ∷ record { name = codes "stream"; arguments = Nothing; models = one }
     ∷ []
 

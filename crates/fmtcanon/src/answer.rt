@@ -1,17 +1,18 @@
 //! The answer to a question.
 ghost use Rattle.std.specs.Prelude.{◌≡◌, Err, IfErr, MatchResult, Ok, IfOk, MatchOption, Some, map};
 ghost use Rattle.pf_signatures.specs.Items.{IsPosixAccepted};
-ghost use Rattle.fmtcanon.specs.Answers.{IsAnswer, IsQuestionFault, HasCanonicalLine, IsFormatFault, IsGivenFault, IsGivenPairFault, IsWholeFault, IsFaultInTexts, IsFaultInText, side_of};
+ghost use Rattle.fmtcanon.specs.Answers.{IsAnswer, IsQuestionFault, HasCanonicalLine, IsFormatFault, IsGivenFault, IsGivenFitFault, IsGivenPairFault, IsWholeFault, IsFaultInTexts, IsFaultInText, side_of};
 ghost use Rattle.fmtcanon.specs.declared.answer.Ending.TheVariants.{Done};
 ghost use Rattle.pf_canon.specs.declared.faults.Side.TheVariants as sides;
 ghost use Rattle.pf_values.specs.meaning.Items.{IsAccepted};
 ghost use Rattle.pf_values.specs.meaning.Text.{Text};
-ghost use Rattle.fmtcanon.specs.ArgumentLines.{HasArgumentLines, IsFitAnswer};
-ghost use Rattle.fmtcanon.specs.Comparisons.{IsComparisonIn};
+ghost use Rattle.fmtcanon.specs.ArgumentLines.{HasArgumentLines};
+ghost use Rattle.fmtcanon.specs.Comparisons.{AreFitsIn, IsComparisonIn};
 ghost use Rattle.fmtcanon.specs.Faults.{of_literal};
 ghost use Rattle.fmtcanon.specs.FormatArguments.{IsArgumentFault, IsPrinted};
 ghost use Rattle.fmtcanon.specs.Formats.{IsFormat};
 ghost use Rattle.fmtcanon.specs.Lines.{line};
+ghost use Rattle.fmtcanon.specs.Models.{asked_models};
 ghost use Rattle.fmtcanon.specs.Shows.{HasShownLines};
 ghost use Rattle.fmtcanon.specs.TypeLines.{HasTypeLines};
 ghost use Rattle.fmtcanon.specs.declared.formats.GivenFormat.{GivenFormat};
@@ -69,10 +70,10 @@ pub fn answer_to(alloc: Global, question: &Question<'_>) -> Result<Answer, Fault
             words,
         } => done(printed_by_given(alloc, *model, format, words)),
         Question::Fits {
-            model,
+            models,
             first,
             second,
-        } => fit_of_given(alloc, *model, first, second),
+        } => fit_of_given(alloc, *models, first, second),
         Question::Same {
             models,
             first,
@@ -181,14 +182,14 @@ pub fn printed_by_given(
 /// Whether the second of two formats that are given takes just the arguments of the first.
 pub fn fit_of_given(
     alloc: Global,
-    model: Model,
+    models: Models,
     first: &GivenFormat<'_>,
     second: &GivenFormat<'_>,
 ) -> Result<Answer, Fault>
     ensures { MatchResult result (λ answer.
         (one other : Text) × IsFormat first.now one × IsFormat second.now other
-        × IsFitAnswer model one other answer.bytes.items answer.ending)
-        (IsGivenPairFault (IsWholeFault model) (IsPosixAccepted model) first.now second.now) }
+        × AreFitsIn models one other answer.bytes.items answer.ending)
+        (IsGivenFitFault (asked_models models) first.now second.now) }
 {
     let one = match first.bytes(alloc) {
         Ok(bytes) => bytes,
@@ -197,11 +198,11 @@ pub fn fit_of_given(
     let other = match second.bytes(alloc) {
         Ok(bytes) => bytes,
         Err(fault) => return Err(without_second(
-            refused_whole(model, first, one.as_slice()),
+            refused_whole(models.first(), first, one.as_slice()),
             fault,
         )),
     };
-    match fit_answer(alloc, model, one.as_slice(), other.as_slice()) {
+    match fit_answer(alloc, models, one.as_slice(), other.as_slice()) {
         Ok(answer) => Ok(answer),
         Err(fault) => Err(placed_in_pair(first, second, fault)),
     }

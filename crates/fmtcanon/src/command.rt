@@ -93,7 +93,7 @@ fn definition_with<'a>(
             about: "Tells whether one format takes just the arguments of another, in the whole language",
             below: FITS_HELP,
             arguments: Arguments::Pairs,
-            models: one,
+            models: more,
         },
         Row {
             name: "stream",
@@ -327,6 +327,7 @@ Refusals: docs/REFUSALS.md of the source says what each means, and what to write
 const FITS_HELP: &str = "\
 Example:
   fmtcanon fits '%s of %d' '%2$d/%1$s'
+  fmtcanon fits --model all %zu %lu
   printf '%s\\0' %d %i %.2f %d | fmtcanon fits --null
 
 A format that begins with - stands after --, as in: fmtcanon fits -- '-%d' '-%i'

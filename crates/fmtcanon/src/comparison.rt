@@ -1,9 +1,10 @@
 //! Two formats compared, as lines: by what they print, and by their types alone.
 ghost use Rattle.std.specs.Prelude.{◌≡◌, ◌<◌, ◌++◌, IfOk, MatchResult, codes, decimal, flat_map};
-ghost use Rattle.fmtcanon.specs.Answers.{IsFitFault, IsPairFault};
+ghost use Rattle.fmtcanon.specs.Answers.{IsFitFault, IsFitFaultIn, IsPairFault};
 ghost use Rattle.fmtcanon.specs.ArgumentLines.{IsFitAnswer, fit_ending, fit_line};
-ghost use Rattle.fmtcanon.specs.Comparisons.{IsComparisonAnswer, IsComparisonIn, IsComparisonInEach, argument_line, ending_of, ending_with, verdict_lines};
+ghost use Rattle.fmtcanon.specs.Comparisons.{AreFitsIn, IsAnswerInEach, IsComparisonAnswer, IsComparisonIn, argument_line, ending_of, ending_with, verdict_lines};
 ghost use Rattle.fmtcanon.specs.Lines.{line};
+ghost use Rattle.fmtcanon.specs.Models.{asked_models};
 
 use crate::answer::{Answer, Ending};
 use crate::models::{Models, name_of};
@@ -42,8 +43,8 @@ fn answer_in_each(
     second: &[u8],
 ) -> Result<Answer, Fault>
     ensures { MatchResult result
-        (λ answer. IsComparisonInEach models.now first.now second.now
-        answer.bytes.items answer.ending)
+        (λ answer. IsAnswerInEach (λ model. IsComparisonAnswer model first.now second.now)
+        models.now answer.bytes.items answer.ending)
         (IsPairFault first.now second.now) }
 {
     let mut bytes = Vec::new(alloc);
@@ -123,8 +124,47 @@ fn argument_lines(alloc: Global, args: &[OwnedArg]) -> Result<Vec<u8>, AllocErro
 }
 
 /// Whether the second format takes just the arguments of the first, in a data model; else the least
-/// index at which they differ. Both may be of the whole language.
-pub fn fit_answer(alloc: Global, model: Model, first: &[u8], second: &[u8]) -> Result<Answer, Fault>
+/// index at which they differ. Both may be of the whole language. In more than one data model, each
+/// verdict comes below the name of its model.
+pub fn fit_answer(
+    alloc: Global,
+    models: Models,
+    first: &[u8],
+    second: &[u8],
+) -> Result<Answer, Fault>
+    ensures { MatchResult result
+        (λ answer. AreFitsIn models first.now second.now answer.bytes.items answer.ending)
+        (IsFitFaultIn (asked_models models) first.now second.now) }
+{
+    match models {
+        Models::One(model) => fit_in(alloc, model, first, second),
+        Models::Both => fit_in_each(alloc, &Model::ALL[..2], first, second),
+        Models::All => fit_in_each(alloc, &Model::ALL, first, second),
+    }
+}
+
+fn fit_in_each(
+    alloc: Global,
+    models: &[Model],
+    first: &[u8],
+    second: &[u8],
+) -> Result<Answer, Fault>
+    ensures { MatchResult result
+        (λ answer. IsAnswerInEach (λ model. IsFitAnswer model first.now second.now)
+        models.now answer.bytes.items answer.ending)
+        (IsFitFaultIn models.now first.now second.now) }
+{
+    let mut bytes = Vec::new(alloc);
+    let mut ending = Ending::Same;
+    for model in models {
+        let answer = fit_in(alloc, *model, first, second)?;
+        push_verdict(&mut bytes, name_of(*model), &answer.bytes)?;
+        ending = ending_with(ending, answer.ending);
+    }
+    Ok(Answer { bytes, ending })
+}
+
+fn fit_in(alloc: Global, model: Model, first: &[u8], second: &[u8]) -> Result<Answer, Fault>
     ensures { MatchResult result
         (λ answer. IsFitAnswer model first.now second.now answer.bytes.items answer.ending)
         (IsFitFault model first.now second.now) }

@@ -2,9 +2,11 @@
 ghost use Rattle.fmtcanon.specs.ArgumentWords.{SpellsOneArgument};
 ghost use Rattle.pf_values.specs.declared.models.Model.{Model};
 ghost use Rattle.fmtcanon.specs.Comparisons.{PrintedWordIsRead};
+ghost use Rattle.fmtcanon.specs.Formats.{IsCanonicalLiteralOf};
 ghost use Rattle.pf_reduce.specs.Reducing.{IsReducedTo};
 ghost use Rattle.pf_reduce.specs.declared.results.Reduced.{Reduced};
 ghost use Rattle.pf_values.specs.meaning.Specification.{Specification};
+ghost use Rattle.pf_values.specs.meaning.Text.{Text};
 ghost use Rattle.std.specs.Prelude.{◌≡◌};
 
 /// A word gives one argument at most.
@@ -21,4 +23,10 @@ pub fn printed_word_is_read()
 pub fn one_reduction()
     ensures { (model : Model) (s : Specification) (r q : Reduced) → IsReducedTo model s r
         → IsReducedTo model s q → r ≡ q }
+{}
+
+/// The canonical literal of a format that is given as literals is its own canonical literal.
+pub fn canonical_literal_is_its_own()
+    ensures { (model : Model) (t literal : Text) → IsCanonicalLiteralOf model t literal
+        → IsCanonicalLiteralOf model literal literal }
 {}

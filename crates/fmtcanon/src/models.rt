@@ -1,6 +1,6 @@
 //! The data models that the option `--model` names.
 ghost use Rattle.std.specs.Prelude.{◌≡◌};
-ghost use Rattle.fmtcanon.specs.Models.{model_in, model_name, model_named, models_in, models_named};
+ghost use Rattle.fmtcanon.specs.Models.{first_model, model_in, model_name, model_named, models_in, models_named};
 ghost use Rattle.fmtcanon.specs.Tasks.{rows_in};
 
 use clap::ArgMatches;
@@ -21,6 +21,18 @@ pub enum Models {
     Both,
     /// All, one after another.
     All,
+}
+
+impl Models {
+    /// The first of them.
+    pub fn first(self) -> Model
+        ensures { result ≡ first_model self }
+    {
+        match self {
+            Models::One(model) => model,
+            Models::Both | Models::All => Model::Lp64,
+        }
+    }
 }
 
 /// The name of a data model.
@@ -44,7 +56,7 @@ pub fn model_of(inner: &ArgMatches<'_>) -> Model
     }
 }
 
-/// The data models of the command that compares.
+/// The data models of a command about two formats.
 pub fn models_of(inner: &ArgMatches<'_>) -> Models
     ensures { result ≡ models_in (rows_in inner.now) }
 {

@@ -38,8 +38,8 @@ pub enum Question<'a> {
     },
     /// Whether one format of the whole language takes just the arguments of another.
     Fits {
-        /// The data model.
-        model: Model,
+        /// The data models.
+        models: Models,
         /// The other.
         first: GivenFormat<'a>,
         /// The one.
@@ -69,7 +69,7 @@ pub enum RecordQuestion {
     /// What each is made of.
     Show(Notation, Model),
     /// Of each two, whether the second takes just the arguments of the first.
-    Fits(Notation, Model),
+    Fits(Notation, Models),
     /// Of each two, whether one may stand for the other.
     Same(Notation, Models),
 }
@@ -116,8 +116,8 @@ impl RecordQuestion {
             (λ question. IsAbout question self (first.now ∷ second.now ∷ [])) }
     {
         match self {
-            RecordQuestion::Fits(notation, model) => Some(Question::Fits {
-                model,
+            RecordQuestion::Fits(notation, models) => Some(Question::Fits {
+                models,
                 first: GivenFormat::new(notation, first),
                 second: GivenFormat::new(notation, second),
             }),
@@ -208,7 +208,7 @@ fn kind_asked(name: &str, inner: &ArgMatches<'_>) -> Option<RecordQuestion>
         "types" => Some(about_types(inner, notation, model)),
         "canon" => Some(RecordQuestion::Canon(notation, model)),
         "show" => Some(RecordQuestion::Show(notation, model)),
-        "fits" => Some(RecordQuestion::Fits(notation, model)),
+        "fits" => Some(RecordQuestion::Fits(notation, models_of(inner))),
         "same" => Some(RecordQuestion::Same(notation, models_of(inner))),
         _ => None,
     }

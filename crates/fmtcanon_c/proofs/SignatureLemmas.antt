@@ -1,10 +1,18 @@
--- Two formats that don't take the same arguments.
-use Rattle.std.proofs.Common.{◌∙◌, ℕ, Some, ap, slice_get, sym}
-use Rattle.pf_signatures.specs.Laws.{ComparesArgumentTypes}
+-- Two formats that don't take the same arguments, and data models in which they do.
+use Rattle.std.proofs.Common.{◌≡◌, ◌∙◌, ◌++◌, ◌∷◌, [], ◌+◌, ◌<◌, Bool, true, false, List, ℕ, suc, Some, ap, arith, drop, get_or, length, slice_get, subst, sym, take}
+use Rattle.std.specs.List.{AllByRecursion}
+use Rattle.std.specs.Prelude.{◌↔◌, IsTrue}
+use Rattle.std.proofs.Math.Seq.{take-suc}
+use Rattle.std.proofs.lemmas.Bool.{false≢true}
+use Rattle.std.proofs.lemmas.List.{drop_more, take-append-drop}
+use Rattle.pf_signatures.specs.declared.comparison.FitsRefusal.{FitsRefusal}
+use Rattle.pf_signatures.specs.Items.{IsPosixAccepted}
+use Rattle.pf_signatures.specs.Laws.{ComparesArgumentTypes, FaultForFits}
+use Rattle.pf_signatures.proofs.Agreeing.{all_push}
 use Rattle.pf_signatures.proofs.Unique.{one_list}
 use Rattle.pf_values.specs.declared.models.Model.{Model}
 use Rattle.pf_values.specs.meaning.Text.{Text}
-use Rattle.fmtcanon_c.specs.Signatures.{Fit}
+use Rattle.fmtcanon_c.specs.Signatures.{Fit, StopsFitsIn}
 
 module _ (model : Model) (f g : Text) where
   pub they_differ : (index : ℕ) → ComparesArgumentTypes model f g (Some index) → ¬ Fit model f g
@@ -12,3 +20,32 @@ module _ (model : Model) (f g : Text) where
       let one = one_list model f h.types types h.first_accepted of_f in
       let other = one_list model g h.others types h.second_accepted of_g in
       h.difference.0 (ap (λ (ts : _). slice_get ts index) (one ∙ sym other))
+
+-- a truth value that says so, or doesn't
+pub fits_so : (is : Bool) (Is : Type 0) → is ≡ true → (IsTrue is ↔ Is) → Is
+fits_so is Is e h = h.0 e
+
+pub fits_not : (is : Bool) (Is : Type 0) → is ≡ false → (IsTrue is ↔ Is) → ¬ Is
+fits_not is Is e h so = false≢true (sym e ∙ h.1 so)
+
+module _ (f g : Text) (models : List Model) (i : ℕ) (d : Model) (few : i < length models) where
+  -- one more data model accepts both
+  pub accepted_more : AllByRecursion (λ model. IsPosixAccepted model f × IsPosixAccepted model g) (take i models) → IsPosixAccepted (get_or models i d) f × IsPosixAccepted (get_or models i d) g
+      → AllByRecursion (λ model. IsPosixAccepted model f × IsPosixAccepted model g) (take (i + 1) models)
+  accepted_more h a =
+      let next : suc i ≡ i + 1 = omega arith in
+      subst (AllByRecursion (λ model. IsPosixAccepted model f × IsPosixAccepted model g)) (sym (take-suc models i d few) ∙ ap (λ n. take n models) next)
+      (all_push (λ model. IsPosixAccepted model f × IsPosixAccepted model g) (take i models) (get_or models i d) h a)
+
+  -- or refuses one
+  pub stops_at : (refusal : FitsRefusal) → AllByRecursion (λ model. IsPosixAccepted model f × IsPosixAccepted model g) (take i models) → FaultForFits (get_or models i d) f g refusal
+      → StopsFitsIn models f g refusal
+  stops_at refusal h fault =
+      record {
+        before = take i models;
+        model = get_or models i d;
+        after = drop (i + 1) models;
+        split = sym (take-append-drop i models) ∙ ap (λ r. take i models ++ r) (drop_more models i d few);
+        accepted = h;
+        refused = fault;
+      }

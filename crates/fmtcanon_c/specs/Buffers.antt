@@ -1,13 +1,12 @@
 -- What is put into a caller's buffer. This project's own.
-use Rattle.std.specs.Prelude.{ℕ, ◌++◌, length, drop, leb, if◌then◌else◌}
+use Rattle.std.specs.Prelude.{ℕ, List, ◌++◌, length, drop, leb, if◌then◌else◌}
 use Rattle.pf_values.specs.declared.types.ArgType.{ArgType}
 use Rattle.pf_values.specs.declared.types.ArgType.TheVariants.{Int, UInt, Long, ULong, LongLong, ULongLong, Str}
-use Rattle.pf_values.specs.meaning.Text.{Text}
 
--- bytes at the front of a buffer that has room for them; any other is left as it is
-abbrev pub put : Text → Text → Text
-put bytes out =
-    if leb (length bytes) (length out) then bytes ++ drop (length bytes) out else out
+-- elements at the front of a buffer that has room for them; any other is left as it is
+abbrev pub put : {X : Type 0} → List X → List X → List X
+put elements out =
+    if leb (length elements) (length out) then elements ++ drop (length elements) out else out
 
 -- the code of a type
 abbrev pub type_code : ArgType → ℕ

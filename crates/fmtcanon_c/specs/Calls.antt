@@ -55,21 +55,25 @@ AnswersSame model f g error code error_now =
     (IsAccepted f × IsAccepted g × IsTruthCode (AreEquivalent model f g) code × (error_now ≡ error))
     ⊎ IsOneRefusedBy f g code error_now
 
--- Of some data models those in which two texts mean the same, as a sum: the first counts so much, and
--- each other twice as much as the one before it.
-abbrev pub AreSameModels : ℕ → List Model → Text → Text → ℕ → Type 0
-AreSameModels weight [] f g sum = sum ≡ 0
-AreSameModels weight (model ∷ models) f g sum =
-    (others : ℕ) × AreSameModels (2 * weight) models f g others
-    × ((AreEquivalent model f g × (sum ≡ weight + others))
-    ⊎ ((¬ AreEquivalent model f g) × (sum ≡ others)))
+-- Of some data models those in which it is so, as a sum: the first counts so much, and each other
+-- twice as much as the one before it.
+abbrev pub AreModels : (Model → Type 0) → ℕ → List Model → ℕ → Type 0
+AreModels Is weight [] sum = sum ≡ 0
+AreModels Is weight (model ∷ models) sum =
+    (others : ℕ) × AreModels Is (2 * weight) models others
+    × ((Is model × (sum ≡ weight + others)) ⊎ ((¬ Is model) × (sum ≡ others)))
 
--- the data models in which two accepted texts mean the same, with the error untouched: 1 for the
--- first, 2 for the second, 4 for the third, added; or one is refused
+-- the data models in which it is so, as an answer: 1 for the first, 2 for the second, 4 for the third,
+-- added
+abbrev pub IsModelsCode : (Model → Type 0) → ℤ → Type 0
+IsModelsCode Is code = (sum : ℕ) × AreModels Is 1 ALL sum × (code ≡ pos sum)
+
+-- the data models in which two accepted texts mean the same, with the error untouched; or one is
+-- refused
 abbrev pub AnswersModels : Text → Text → CError → ℤ → CError → Type 0
 AnswersModels f g error code error_now =
-    (IsAccepted f × IsAccepted g
-    × ((sum : ℕ) × AreSameModels 1 ALL f g sum × (code ≡ pos sum)) × (error_now ≡ error))
+    (IsAccepted f × IsAccepted g × IsModelsCode (λ model. AreEquivalent model f g) code
+    × (error_now ≡ error))
     ⊎ IsOneRefusedBy f g code error_now
 
 -- nothing was put: the text is refused, or memory is out

@@ -1,17 +1,25 @@
 -- What the calls about the types of the whole language answer. This project's own.
-use Rattle.std.specs.Prelude.{◌≡◌, ◌≢◌, ◌⊎◌, ℤ, pos, neg_ℤ, List, [], length, map}
+use Rattle.std.specs.Prelude.{◌≡◌, ◌≢◌, ◌⊎◌, ℕ, ℤ, pos, neg_ℤ, List, [], ◌∷◌, ◌++◌, Option, Some, None, length, map}
+use Rattle.std.specs.List.{AllByRecursion}
 use Rattle.pf_canon.specs.declared.faults.Side.{Side}
 use Rattle.pf_canon.specs.declared.faults.Side.TheVariants.{First, Second}
+use Rattle.pf_signatures.specs.declared.comparison.FitsRefusal.{FitsRefusal}
+use Rattle.pf_signatures.specs.declared.directive_spans.DirectiveSpan.{DirectiveSpan}
 use Rattle.pf_signatures.specs.declared.refusals.SignatureRefusalKind.{SignatureRefusalKind}
 use Rattle.pf_signatures.specs.declared.types.ArgumentType.{ArgumentType}
+use Rattle.pf_signatures.specs.Directives.{HasDirectives}
 use Rattle.pf_signatures.specs.Items.{HasArguments, IsPosixAccepted}
 use Rattle.pf_signatures.specs.Kinds.{signature_kind_number, type_number}
+use Rattle.pf_signatures.specs.Laws.{FaultForFits}
 use Rattle.pf_signatures.specs.Refusals.{IsPosixRefusedAt}
 use Rattle.pf_values.specs.declared.models.Model.{Model}
+use Rattle.pf_values.specs.declared.models.TheConstants.Model.{ALL}
 use Rattle.pf_values.specs.meaning.Text.{Text}
+use Rattle.fmtcanon_c.specs.declared.directives.CDirective.{CDirective}
+use Rattle.fmtcanon_c.specs.declared.directives.TheConstants.{NO_ARGUMENT}
 use Rattle.fmtcanon_c.specs.declared.interface.CError.{CError}
 use Rattle.fmtcanon_c.specs.Buffers.{put}
-use Rattle.fmtcanon_c.specs.Calls.{IsOut, IsTruthCode}
+use Rattle.fmtcanon_c.specs.Calls.{IsModelsCode, IsOut, IsTruthCode}
 use Rattle.fmtcanon_c.specs.Errors.{side_number}
 
 -- a text of the whole language is refused, and the error says why and where
@@ -44,3 +52,57 @@ AnswersFit model f g error code error_now =
     × (error_now ≡ error))
     ⊎ (IsRefusedWhole model First f code error_now
     ⊎ (IsPosixAccepted model f × IsRefusedWhole model Second g code error_now))
+
+-- two texts are compared in one data model after the other, and one is refused
+pub record StopsFitsIn (models : List Model) (f g : Text) (refusal : FitsRefusal) : Type 0 where
+  pub before : List Model
+  pub model : Model
+  pub after : List Model
+  pub split : models ≡ before ++ model ∷ after
+  pub accepted : AllByRecursion (λ m. IsPosixAccepted m f × IsPosixAccepted m g) before
+  pub refused : FaultForFits model f g refusal
+
+-- one of two texts is refused in a data model, and none is in those before it
+pub record IsRefusedFirstIn (models : List Model) (f g : Text) (code : ℤ) (error : CError) : Type 0 where
+  pub before : List Model
+  pub model : Model
+  pub after : List Model
+  pub split : models ≡ before ++ model ∷ after
+  pub accepted : AllByRecursion (λ m. IsPosixAccepted m f × IsPosixAccepted m g) before
+  pub refused : IsRefusedWhole model First f code error
+      ⊎ (IsPosixAccepted model f × IsRefusedWhole model Second g code error)
+
+-- the data models in which their types are equal, where both are accepted in all, with the error
+-- untouched; or one text is refused in the first data model in which one is
+abbrev pub AnswersFitModels : Text → Text → CError → ℤ → CError → Type 0
+AnswersFitModels f g error code error_now =
+    (AllByRecursion (λ model. IsPosixAccepted model f × IsPosixAccepted model g) ALL
+    × IsModelsCode (λ model. Fit model f g) code × (error_now ≡ error))
+    ⊎ IsRefusedFirstIn ALL f g code error_now
+
+-- the index of an argument, or the number for none
+abbrev pub index_or_none : Option ℕ → ℕ
+index_or_none None = NO_ARGUMENT
+index_or_none (Some index) = index
+
+-- the record of a specification
+abbrev pub record_of : DirectiveSpan → CDirective
+record_of d = record {
+  begin = d.begin;
+  end = d.end;
+  argument = d.argument;
+  width_argument = index_or_none d.width_argument;
+  precision_argument = index_or_none d.precision_argument;
+  kind = type_number d.kind;
+}
+
+-- the records of the specifications are put, where the buffer has room for them, and how many they are
+-- is answered; or the text is refused, or memory for them is out
+abbrev pub PutsDirectives : Model → Text → List CDirective → CError → ℤ → List CDirective → CError → Type 0
+PutsDirectives model t out error code out_now error_now =
+    ((directives : List DirectiveSpan) × HasDirectives model t directives
+    × (code ≡ pos (length directives)) × (out_now ≡ put (map record_of directives) out)
+    × (error_now ≡ error))
+    ⊎ ((out_now ≡ out) × (IsRefusedWhole model First t code error_now
+    ⊎ IsOut ((directives : List DirectiveSpan) × HasDirectives model t directives × (directives ≢ []))
+    code error error_now))

@@ -1,11 +1,15 @@
 //! The types of the arguments that a format takes, in the profile and in the whole language.
-ghost use Rattle.std.specs.Prelude.{◌≡◌, ◌≤◌, ◌++◌, length, drop, map, neg_ℤ, pos};
+ghost use Rattle.std.specs.Prelude.{◌≡◌, ◌≤◌, ◌↔◌, ◌++◌, IsTrue, MatchResult, length, drop, map, neg_ℤ, pos};
+ghost use Rattle.std.specs.List.{AllByRecursion};
 ghost use Rattle.fmtcanon_c.specs.Buffers.{type_code};
-ghost use Rattle.fmtcanon_c.specs.Calls.{PutsTypes};
+ghost use Rattle.fmtcanon_c.specs.Calls.{AreModels, PutsTypes};
 ghost use Rattle.fmtcanon_c.specs.Models.{InModel};
+ghost use Rattle.pf_signatures.specs.Items.{IsPosixAccepted};
 ghost use Rattle.pf_signatures.specs.Kinds.{signature_kind_number, type_number};
+ghost use Rattle.pf_signatures.specs.Laws.{FaultForFits};
+ghost use Rattle.pf_values.specs.declared.models.TheConstants.Model.{ALL};
 ghost use Rattle.fmtcanon_c.specs.Errors.{side_number};
-ghost use Rattle.fmtcanon_c.specs.Signatures.{PutsArguments, AnswersFit};
+ghost use Rattle.fmtcanon_c.specs.Signatures.{AnswersFit, AnswersFitModels, Fit, PutsArguments, StopsFitsIn};
 
 use crate::interface::{CError, NO_MEMORY, NO_MODEL, model_of, put_refusal, side_number};
 use pf_canon::Side;
@@ -153,8 +157,54 @@ fn fits_in(model: Model, first: &[u8], second: &[u8], error: &mut CError) -> i64
     }
 }
 
-// Leaves a refusal there, and gives its code.
-fn put_signature(error: &mut CError, side: Side, refusal: SignatureRefusal) -> i64
+/// The data models in which the second format takes just the arguments of the first, as
+/// `fmtcanon_same_models` gives them, else the code of the refusal of one in the first data model in
+/// which one is refused. It takes no memory.
+#[unsafe(no_mangle)]
+pub extern "C" fn fmtcanon_fits_models(first: &[u8], second: &[u8], error: &mut CError) -> i64
+    ensures { AnswersFitModels first.now second.now error.old result error.new }
+{
+    match fits_models(first, second) {
+        Ok(sum) => i64::from(sum),
+        Err(FitsRefusal::First(refusal)) => put_signature(error, Side::First, refusal),
+        Err(FitsRefusal::Second(refusal)) => put_signature(error, Side::Second, refusal),
+    }
+}
+
+// The data models in which it does, as a sum.
+fn fits_models(first: &[u8], second: &[u8]) -> Result<u8, FitsRefusal>
+    ensures { MatchResult result
+        (λ sum. AllByRecursion (λ model. IsPosixAccepted model first.now × IsPosixAccepted model second.now) ALL
+        × AreModels (λ model. Fit model first.now second.now) 1 ALL sum)
+        (StopsFitsIn ALL first.now second.now) }
+{
+    let mut sum = 0;
+    let mut weight = 1;
+    for model in &Model::ALL {
+        if is_fit(*model, first, second)? {
+            sum += weight;
+        }
+        weight *= 2;
+    }
+    Ok(sum)
+}
+
+// Whether it does in a data model.
+fn is_fit(model: Model, first: &[u8], second: &[u8]) -> Result<bool, FitsRefusal>
+    ensures { MatchResult result
+        (λ is. IsPosixAccepted model first.now × IsPosixAccepted model second.now
+        × (IsTrue is ↔ Fit model first.now second.now))
+        (FaultForFits model first.now second.now) }
+{
+    match fits(model, first, second) {
+        Ok(None) => Ok(true),
+        Ok(Some(_)) => Ok(false),
+        Err(refusal) => Err(refusal),
+    }
+}
+
+/// Leaves a refusal there, and gives its code.
+pub(crate) fn put_signature(error: &mut CError, side: Side, refusal: SignatureRefusal) -> i64
     ensures code { result ≡ neg_ℤ (pos (signature_kind_number refusal.kind)) }
     ensures at { error.new.at ≡ refusal.at }
     ensures kind { error.new.kind ≡ signature_kind_number refusal.kind }

@@ -2,8 +2,9 @@
 ghost use Rattle.std.specs.Prelude.{◌≡◌, MatchResult, ◌⊎◌, IfOk};
 ghost use Rattle.pf_values.specs.declared.models.TheConstants.Model.{ALL};
 ghost use Rattle.pf_values.specs.meaning.Items.{IsAccepted};
+ghost use Rattle.pf_values.specs.meaning.Printing.{AreEquivalent};
 ghost use Rattle.pf_canon.specs.Comparison.{TextStops};
-ghost use Rattle.fmtcanon_c.specs.Calls.{AreSameModels, AnswersModels, AnswersSame, PutsComparison, PutsNoComparison, AnswersVerdict, IsFaultCode, IsComparisonCode, verdict_code, verdict_number, words_of, HasSeparatingArguments};
+ghost use Rattle.fmtcanon_c.specs.Calls.{AreModels, AnswersModels, AnswersSame, PutsComparison, PutsNoComparison, AnswersVerdict, IsFaultCode, IsComparisonCode, verdict_code, verdict_number, words_of, HasSeparatingArguments};
 ghost use Rattle.fmtcanon_c.specs.Models.{InModel};
 ghost use Rattle.fmtcanon_c.specs.Words.{ended_words};
 
@@ -54,7 +55,7 @@ pub extern "C" fn fmtcanon_same_models(first: &[u8], second: &[u8], error: &mut 
 fn same_models(first: &[u8], second: &[u8]) -> Result<u8, (Side, Refusal)>
     ensures { MatchResult result
         (λ sum. IsAccepted first.now × IsAccepted second.now
-        × AreSameModels 1 ALL first.now second.now sum)
+        × AreModels (λ model. AreEquivalent model first.now second.now) 1 ALL sum)
         (TextStops first.now second.now) }
 {
     let mut sum = 0;

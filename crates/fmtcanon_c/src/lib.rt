@@ -4,5 +4,6 @@
 mod argument_types;
 mod canonical_texts;
 mod comparison;
+mod directives;
 mod interface;
 mod literals;

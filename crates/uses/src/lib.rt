@@ -9,3 +9,4 @@ pub mod formats;
 pub mod meaning;
 #[cfg(test)]
 mod tests;
+pub mod whole;

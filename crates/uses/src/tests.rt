@@ -11,12 +11,14 @@ use pf_values::{Conv, Counted, Directive, FlagSet, Length, Model, RefusalKind};
 
 mod canonical;
 mod comparisons;
+mod faults;
 mod literals;
 mod memory;
 mod printing;
 mod reading;
 mod signatures;
 mod values;
+mod whole;
 
 #[test]
 fn a_format_may_replace_another(rt: HostRuntime) {

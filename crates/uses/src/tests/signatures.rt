@@ -1,15 +1,18 @@
 //! What no run of the program shows of `pf_signatures`: each public call once.
 use pf_signatures::laws::{
-    accepted_or_refused, never_both, profile_types, refused_for_good, refused_once, same_fits,
-    tables_have_each_once, types_once,
+    accepted_or_refused, accepts_unnumbered, directives_once, judged_unnumbered, never_both,
+    profile_types, read_once, refused_for_good, refused_once, refused_unnumbered_once, same_fits,
+    tables_have_each_once, types_are_kept, types_once,
 };
 use pf_signatures::{
-    ArgumentType, FitsRefusal, SignatureRefusal, SignatureRefusalKind, arguments, fits,
+    ArgumentType, DirectiveSpan, FitsRefusal, SignatureRefusal, SignatureRefusalKind, arguments,
+    directives, fits,
 };
 use pf_values::Model;
 use std::alloc::{AllocError, Global};
 
 mod callers;
+mod stretches;
 
 fn are_types_numbered() -> bool {
     for (index, kind) in ArgumentType::ALL.iter().enumerate() {
@@ -51,10 +54,16 @@ fn types_kinds_and_what_they_say(rt: HostRuntime) {
     accepted_or_refused();
     never_both();
     types_once();
+    directives_once();
     refused_once();
     refused_for_good();
     profile_types();
     same_fits();
+    read_once();
+    accepts_unnumbered();
+    types_are_kept();
+    judged_unnumbered();
+    refused_unnumbered_once();
     tables_have_each_once();
 }
 
@@ -70,5 +79,33 @@ fn no_room_and_some(rt: HostRuntime) {
             && types == [ArgumentType::Str, ArgumentType::Long, ArgumentType::Pointer]
             && fits(Model::Lp64, b"%zu", b"%lu") == Ok(None)
             && fits(Model::Llp64, b"%zu", b"%lu") == Ok(Some(0))
+    );
+}
+
+#[test]
+fn room_for_all_directives_but_one(rt: HostRuntime) {
+    let mut some = [DirectiveSpan::default()];
+    let mut all = [DirectiveSpan::default(); 3];
+    let counts = [
+        directives(Model::Lp64, b"%s%ld", &mut some),
+        directives(Model::Llp64, b"%2$*1$.*3$zx%%", &mut all),
+    ];
+    let hexadecimal = DirectiveSpan {
+        begin: 0,
+        end: 12,
+        argument: 1,
+        width_argument: Some(0),
+        precision_argument: Some(2),
+        kind: ArgumentType::ULongLong,
+    };
+    assert!(rt;
+        counts == [Ok(2), Ok(1)]
+            && some[0].kind == ArgumentType::Str
+            && all
+                == [
+                    hexadecimal,
+                    DirectiveSpan::default(),
+                    DirectiveSpan::default()
+                ]
     );
 }

@@ -1,0 +1,101 @@
+-- Whether formats fit in one data model after the other.
+use Rattle.std.proofs.Common.{◌≡◌, ℕ, suc, ◌+◌, ◌<◌, List, [], ◌∷◌, ◌++◌, length, get_or, take, drop, refl, sym, ap, ◌∙◌, subst, arith, Result, Ok, Err}
+use Rattle.std.specs.List.{AllByRecursion}
+use Rattle.std.specs.Prelude.{MatchOption, MatchResult, Option, None, Some}
+use Rattle.std.proofs.Math.Seq.{take-suc}
+use Rattle.std.proofs.lemmas.List.{drop_more, take-append-drop}
+use Rattle.pf_canon.specs.declared.faults.Side.TheVariants as sides
+use Rattle.pf_literals.specs.declared.faults.LiteralFault.{LiteralFault}
+use Rattle.pf_literals.specs.declared.faults.LiteralFault.TheVariants as literals
+use Rattle.pf_values.specs.declared.models.Model.{Model}
+use Rattle.pf_values.specs.declared.models.Model.TheVariants.{Ilp32, Llp64}
+use Rattle.pf_values.specs.meaning.Text.{Text}
+use Rattle.pf_signatures.specs.Items.{IsPosixAccepted}
+use Rattle.pf_signatures.proofs.Agreeing.{all_map, all_push}
+use Rattle.fmtcanon.specs.Answers.{IsFirstFault, IsFitFault, IsFitFaultIn, IsGivenFitFault, IsGivenPairFault, IsFaultInTexts, IsWholeFault, side_of}
+use Rattle.fmtcanon.specs.Faults.{of_literal}
+use Rattle.fmtcanon.specs.Formats.{HoldsOf, IsBytesFault, IsFormat}
+use Rattle.fmtcanon.specs.Models.{asked_models, first_model}
+use Rattle.fmtcanon.specs.declared.formats.GivenFormat.{GivenFormat}
+use Rattle.fmtcanon.specs.declared.models.Models.{Models}
+use Rattle.fmtcanon.specs.declared.models.Models.TheVariants.{All, Both, One}
+use Rattle.fmtcanon.specs.declared.outcome.Fault.{Fault}
+use Rattle.fmtcanon.proofs.GivenLemmas.{fit_fault}
+
+module _ (models : List Model) (i : ℕ) (d : Model) (few : i < length models) where
+  -- one more data model
+  pub all_more : (Accepts : Model → Type 0) → AllByRecursion Accepts (take i models) → Accepts (get_or models i d) → AllByRecursion Accepts (take (i + 1) models)
+  all_more Accepts h a =
+      let next : suc i ≡ i + 1 = omega arith in
+      subst (AllByRecursion Accepts) (sym (take-suc models i d few) ∙ ap (λ n. take n models) next) (all_push Accepts (take i models) (get_or models i d) h a)
+
+  -- a fault in it
+  pub fault_at : (Accepts : Model → Type 0) (IsFault : Model → Fault → Type 0) (fault : Fault) → AllByRecursion Accepts (take i models) → IsFault (get_or models i d) fault
+      → IsFirstFault models Accepts IsFault fault
+  fault_at Accepts IsFault fault h is =
+      record {
+        before = take i models;
+        model = get_or models i d;
+        after = drop (i + 1) models;
+        split = sym (take-append-drop i models) ∙ ap (λ r. take i models ++ r) (drop_more models i d few);
+        accepted = h;
+        fault_is = is;
+      }
+
+-- one data model
+pub one_model : {X : Type 0} (Says : X → Type 0) (model : Model) (first second : Text) (result : Result X Fault) → MatchResult result Says (IsFitFault model first second)
+    → MatchResult result Says (IsFitFaultIn (model ∷ []) first second)
+one_model Says model first second (Ok answer) h = h
+one_model Says model first second (Err fault) h = record { before = []; model = model; after = []; split = refl; accepted = tt; fault_is = h }
+
+module _ (first second : GivenFormat) where
+  -- a fault of texts is one of the formats that give them
+  pub fit_faults : (one other : Text) → IsFormat first one → IsFormat second other → (models : List Model) (fault reported : Fault) → IsFitFaultIn models one other fault
+      → IsFaultInTexts first second (side_of fault) fault reported → IsGivenFitFault models first second reported
+  fit_faults one other g h models fault reported k is =
+      record {
+        before = k.before;
+        model = k.model;
+        after = k.after;
+        split = k.split;
+        accepted = all_map _ (λ model. HoldsOf first (IsPosixAccepted model) × HoldsOf second (IsPosixAccepted model)) k.before (λ model a. ((one, g, a.0), (other, h, a.1))) k.accepted;
+        fault_is = fit_fault first second one other g h k.model fault reported k.fault_is is;
+      }
+
+  rest_of : (models : Models) → (rest : List Model) × (asked_models models ≡ first_model models ∷ rest)
+  rest_of (One model) = ([], refl)
+  rest_of Both = (Ilp32 ∷ [], refl)
+  rest_of All = (Ilp32 ∷ Llp64 ∷ [], refl)
+
+  -- a fault in the first data model
+  pub first_fault : (models : Models) (fault : Fault) → IsGivenPairFault (IsWholeFault (first_model models)) (IsPosixAccepted (first_model models)) first second fault
+      → IsGivenFitFault (asked_models models) first second fault
+  first_fault models fault h =
+      let rest = rest_of models in
+      record { before = []; model = first_model models; after = rest.0; split = rest.1; accepted = tt; fault_is = h }
+
+  -- a format that no literals give
+  literal_first : (IsFault : Text → Fault → Type 0) (Accepted : Text → Type 0) (fault : LiteralFault) → IsBytesFault first fault → IsGivenPairFault IsFault Accepted first second (of_literal (Some sides.First) fault)
+  literal_first IsFault Accepted (literals.Refused refusal) h = h
+  literal_first IsFault Accepted literals.Memory h = tt
+
+  literal_second : (IsFault : Text → Fault → Type 0) (Accepted : Text → Type 0) (fault : LiteralFault) → HoldsOf first Accepted → IsBytesFault second fault
+      → IsGivenPairFault IsFault Accepted first second (of_literal (Some sides.Second) fault)
+  literal_second IsFault Accepted (literals.Refused refusal) a h = (a, h)
+  literal_second IsFault Accepted literals.Memory a h = tt
+
+  pub first_missing : (models : Models) (fault : LiteralFault) (result : Fault) → IsBytesFault first fault → result ≡ of_literal (Some sides.First) fault → IsGivenFitFault (asked_models models) first second result
+  first_missing models fault result h e =
+      subst (IsGivenFitFault (asked_models models) first second) (sym e)
+      (first_fault models (of_literal (Some sides.First) fault) (literal_first (IsWholeFault (first_model models)) (IsPosixAccepted (first_model models)) fault h))
+
+  pub second_missing : (models : Models) (model : Model) (one : Text) (refused : Option Fault) (fault : LiteralFault) (result : Fault) → model ≡ first_model models → IsFormat first one
+      → MatchOption refused (IsPosixAccepted model one) (λ f. (other : GivenFormat) → IsGivenPairFault (IsWholeFault model) (IsPosixAccepted model) first other f) → IsBytesFault second fault
+      → MatchOption refused (result ≡ of_literal (Some sides.Second) fault) (λ f. result ≡ f) → IsGivenFitFault (asked_models models) first second result
+  second_missing models model one None fault result m g accepted h e =
+      let holds = subst (λ x. IsPosixAccepted x one) m accepted in
+      subst (IsGivenFitFault (asked_models models) first second) (sym e)
+      (first_fault models (of_literal (Some sides.Second) fault) (literal_second (IsWholeFault (first_model models)) (IsPosixAccepted (first_model models)) fault (one, g, holds) h))
+  second_missing models model one (Some f) fault result m g refused h e =
+      subst (IsGivenFitFault (asked_models models) first second) (sym e)
+      (first_fault models f (subst (λ x. IsGivenPairFault (IsWholeFault x) (IsPosixAccepted x) first second f) m (refused second)))

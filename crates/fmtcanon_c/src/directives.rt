@@ -1,0 +1,98 @@
+//! The conversion specifications of a format, as records.
+ghost use Rattle.std.specs.Prelude.{◌≡◌, ◌≤◌, ◌++◌, length, drop, map};
+ghost use Rattle.fmtcanon_c.specs.Models.{InModel};
+ghost use Rattle.fmtcanon_c.specs.Signatures.{PutsDirectives, index_or_none, record_of};
+
+use crate::argument_types::put_signature;
+use crate::interface::{CError, NO_MEMORY, NO_MODEL, model_of};
+use pf_canon::Side;
+use pf_signatures::{DirectiveSpan, SignatureFault, directives_vec};
+use pf_values::Model;
+use std::alloc::Global;
+
+/// `FMTCANON_NO_ARGUMENT`
+pub(crate) const NO_ARGUMENT: u64 = u64::MAX;
+
+/// `fmtcanon_directive`: a conversion specification.
+#[repr(C)]
+#[derive(Clone, Copy)]
+pub struct CDirective {
+    /// The offset of its `%`.
+    pub begin: u64,
+    /// The offset after its conversion.
+    pub end: u64,
+    /// The argument that it converts, counted from 0.
+    pub argument: u64,
+    /// The argument of a `*` as its width, or `NO_ARGUMENT`.
+    pub width_argument: u64,
+    /// The argument of a `*` as its precision, or `NO_ARGUMENT`.
+    pub precision_argument: u64,
+    /// The number of the type of the argument that it converts.
+    pub kind: u64,
+}
+
+/// Puts a record for each conversion specification into a buffer that has room for them. Their number,
+/// or the code of an error.
+#[unsafe(no_mangle)]
+pub extern "C" fn fmtcanon_directives(
+    alloc: Global,
+    model: i32,
+    text: &[u8],
+    out: &mut [CDirective],
+    error: &mut CError,
+) -> i64
+    ensures { InModel model
+        (λ m. PutsDirectives m text.now out.old error.old result out.new error.new)
+        result ((out.new ≡ out.old) × (error.new ≡ error.old)) }
+{
+    match model_of(model) {
+        Some(model) => put_directives(alloc, model, text, out, error),
+        None => NO_MODEL,
+    }
+}
+
+fn put_directives(
+    alloc: Global,
+    model: Model,
+    text: &[u8],
+    out: &mut [CDirective],
+    error: &mut CError,
+) -> i64
+    ensures { PutsDirectives model text.now out.old error.old result out.new error.new }
+{
+    match directives_vec(alloc, model, text) {
+        Ok(directives) => {
+            let directives = directives.as_slice();
+            if directives.len() <= out.len() {
+                put_records(out, directives);
+            }
+            directives.len() as i64
+        }
+        Err(SignatureFault::Refused(refusal)) => put_signature(error, Side::First, refusal),
+        Err(SignatureFault::Memory) => NO_MEMORY,
+    }
+}
+
+fn put_records(out: &mut [CDirective], directives: &[DirectiveSpan])
+    requires { length directives.now ≤ length out.old }
+    ensures { out.new ≡ map record_of directives.now ++ drop (length directives.now) out.old }
+{
+    let mut at = 0;
+    while at < directives.len() {
+        out[at] = record_of(directives[at]);
+        at += 1;
+    }
+}
+
+fn record_of(directive: DirectiveSpan) -> CDirective
+    ensures { result ≡ record_of directive }
+{
+    CDirective {
+        begin: directive.begin,
+        end: directive.end,
+        argument: directive.argument,
+        width_argument: directive.width_argument.unwrap_or(NO_ARGUMENT),
+        precision_argument: directive.precision_argument.unwrap_or(NO_ARGUMENT),
+        kind: u64::from(directive.kind.number()),
+    }
+}

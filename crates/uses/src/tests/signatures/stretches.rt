@@ -1,0 +1,115 @@
+//! Formats without numbered arguments: whether one is accepted, and its stretches.
+ghost use Rattle.std.specs.Prelude.{IsTrue, List};
+ghost use Rattle.pf_values.specs.meaning.Items.{Item, Reads};
+ghost use Rattle.pf_signatures.specs.Stretches.{IsWholeAccepted, Last};
+
+use pf_signatures::{
+    Conversion, Floating, Modifier, OpaqueAmount, OpaqueDirective, SignatureRefusal,
+    SignatureRefusalKind, Stretch, check_unnumbered, next_stretch,
+};
+use pf_values::{Flag, FlagSet, Length, Model};
+
+/// Whether a format is known to be accepted without numbered arguments.
+fn has_stretches(model: Model, format: &[u8]) -> bool
+    ensures { IsTrue result → IsWholeAccepted format.now }
+{
+    match check_unnumbered(model, format) {
+        Ok(()) => true,
+        Err(_) => false,
+    }
+}
+
+/// Whether a format has no directive that the profile lacks. This is known of each one that is read in
+/// the profile.
+fn is_one_stretch(format: &[u8]) -> bool
+    ensures { (items : List Item) → Reads format.now items → IsTrue result }
+{
+    match next_stretch(format, 0) {
+        Some(stretch) => stretch.opaque.is_none(),
+        None => false,
+    }
+}
+
+fn is_refused(format: &[u8], kind: SignatureRefusalKind, at: u64) -> bool {
+    check_unnumbered(Model::Lp64, format) == Err(SignatureRefusal { kind, at })
+}
+
+#[test]
+fn formats_without_numbers(rt: HostRuntime) {
+    assert!(rt;
+        is_one_stretch(b"%d of %-8.3s%%")
+            && !is_one_stretch(b"%d of %-8.*s%%")
+            && has_stretches(Model::Llp64, b"%*.*f%% %2s%zn")
+            && !has_stretches(Model::Lp64, b"%1$d")
+            && is_refused(b"%1$d", SignatureRefusalKind::Numbered, 2)
+            && is_refused(b"%d%f%12$", SignatureRefusalKind::Numbered, 7)
+            && is_refused(b"%*1$d", SignatureRefusalKind::Mixed, 2)
+            && is_refused(
+                b"%-*.3i%0*.3d%+*u%lC",
+                SignatureRefusalKind::LengthUndefined,
+                18
+            )
+            && is_refused(b"%d%-1$d", SignatureRefusalKind::Unexpected, 5)
+    );
+}
+
+fn is_first_stretch(format: &[u8], from: usize, wanted: Stretch) -> bool {
+    if from > format.len() {
+        return false;
+    }
+    next_stretch(format, from) == Some(wanted)
+}
+
+#[test]
+fn stretches_and_directives(rt: HostRuntime) {
+    let format = b"a%%%5i%-08.*lf%%%hhn!";
+    let floating = OpaqueDirective {
+        flags: FlagSet::empty().with(Flag::Minus).with(Flag::Zero),
+        width: Some(OpaqueAmount::Number(8)),
+        precision: Some(OpaqueAmount::Star),
+        modifier: Modifier::Integer(Length::L),
+        conversion: Conversion::Float(Floating::F),
+    };
+    let count = OpaqueDirective {
+        flags: FlagSet::empty(),
+        width: None,
+        precision: None,
+        modifier: Modifier::Integer(Length::Hh),
+        conversion: Conversion::Count,
+    };
+    assert!(rt;
+        is_first_stretch(
+            format,
+            0,
+            Stretch {
+                end: 6,
+                opaque: Some(floating),
+                after: 14
+            }
+        ) && is_first_stretch(
+            format,
+            14,
+            Stretch {
+                end: 16,
+                opaque: Some(count),
+                after: 20
+            }
+        ) && is_first_stretch(
+            format,
+            20,
+            Stretch {
+                end: 21,
+                opaque: None,
+                after: 21
+            }
+        ) && is_first_stretch(
+            format,
+            21,
+            Stretch {
+                end: 21,
+                opaque: None,
+                after: 21
+            }
+        )
+    );
+}
