@@ -3,7 +3,7 @@
 # The values of --model, which may stand in a word of its own or after `=`.
 _fmtcanon_models() {
     local values='lp64 ilp32 llp64'
-    [[ $1 == same ]] && values+=' both all'
+    [[ $1 == same || $1 == fits ]] && values+=' both all'
     mapfile -t COMPREPLY < <(compgen -P "$3" -W "$values" -- "$2")
 }
 

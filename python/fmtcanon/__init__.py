@@ -38,6 +38,10 @@ installation puts it, otherwise `libfmtcanon.so.0`, where the system looks for l
     b'ab  |+0042'
     >>> fmtcanon.fits("%.2f of %s", "%2$s: %1$.2f")
     True
+    >>> [model.name for model in fmtcanon.fits_in("%zu", "%lu")]
+    ['LP64']
+    >>> fmtcanon.directives("%2$*1$d")
+    [DirectiveSpan(start=0, end=7, type=<Type.INT: 1>, argument=1, width_argument=0, precision_argument=None)]
     >>> fmtcanon.decode_literal('"Total: %i" "\\\\n"')
     b'Total: %i\\n'
     >>> fmtcanon.encode_literal(fmtcanon.canonical(b"\\x01%#o"))
@@ -65,6 +69,7 @@ __all__ = [
     "BadLiteral",
     "Comparison",
     "Directive",
+    "DirectiveSpan",
     "Kind",
     "LiteralKind",
     "Model",
@@ -81,8 +86,10 @@ __all__ = [
     "check",
     "compare",
     "decode_literal",
+    "directives",
     "encode_literal",
     "fits",
+    "fits_in",
     "format",
     "is_canonical",
     "same",
@@ -103,6 +110,7 @@ _Text = TypeVar("_Text", str, bytes)
 _VERSION = (0, 2)
 _NO_MEMORY = -100
 _NO_PLACE = -102
+_NO_ARGUMENT = 2**64 - 1
 _LONGEST_NAME = 18
 
 
@@ -224,6 +232,22 @@ class Comparison(NamedTuple):
     arguments: Optional[Tuple[Union[int, bytes], ...]] = None
 
 
+class DirectiveSpan(NamedTuple):
+    """A conversion specification of a format: its bytes, and the arguments that it takes.
+
+    Its bytes are those from `start` up to `end`, without the one at `end`. `argument` is the index of the
+    argument that it converts, and `type` is the type of that argument. `width_argument` and
+    `precision_argument` are the indexes of the arguments of `*`. Each is None if there is no `*` there.
+    """
+
+    start: int
+    end: int
+    type: Type
+    argument: int
+    width_argument: Optional[int]
+    precision_argument: Optional[int]
+
+
 class _Error(ctypes.Structure):
     _fields_ = [("at", ctypes.c_uint64), ("kind", ctypes.c_uint32), ("side", ctypes.c_uint32)]
 
@@ -233,6 +257,17 @@ class _Comparison(ctypes.Structure):
         ("number", ctypes.c_uint64),
         ("verdict", ctypes.c_uint32),
         ("renderings", ctypes.c_uint32),
+    ]
+
+
+class _Directive(ctypes.Structure):
+    _fields_ = [
+        ("begin", ctypes.c_uint64),
+        ("end", ctypes.c_uint64),
+        ("argument", ctypes.c_uint64),
+        ("width_argument", ctypes.c_uint64),
+        ("precision_argument", ctypes.c_uint64),
+        ("kind", ctypes.c_uint64),
     ]
 
 
@@ -253,6 +288,11 @@ _CALLS = {
     ),
     "arguments": ((*_MODEL, *_TEXT, *_TEXT, *_ERROR), ctypes.c_int64),
     "fits": ((*_MODEL, *_TEXT, *_TEXT, *_ERROR), ctypes.c_int64),
+    "fits_models": ((*_TEXT, *_TEXT, *_ERROR), ctypes.c_int64),
+    "directives": (
+        (*_MODEL, *_TEXT, ctypes.POINTER(_Directive), ctypes.c_size_t, *_ERROR),
+        ctypes.c_int64,
+    ),
     "decode_literal": ((*_TEXT, *_TEXT, *_ERROR), ctypes.c_int64),
     "encode_literal": ((*_TEXT, *_TEXT), ctypes.c_int64),
     "source_offset": ((*_TEXT, ctypes.c_uint64), ctypes.c_int64),
@@ -384,6 +424,42 @@ def fits(first: Format, second: Format, *, model: DataModel = Model.LP64) -> boo
     return _answer(result, error) == 1
 
 
+def fits_in(first: Format, second: Format) -> List[Model]:
+    """Returns the data models in which the second format takes just the arguments of the first, LP64 first.
+
+    Raises `Refused` if one of the formats is refused in any data model.
+    """
+    f, g, error = _bytes(first), _bytes(second), _Error()
+    found = _answer(_library().fmtcanon_fits_models(f, len(f), g, len(g), error), error)
+    return _models(found)
+
+
+def _models(found: int) -> List[Model]:
+    return [model for model in Model if found & 1 << model]
+
+
+def directives(format: Format, *, model: DataModel = Model.LP64) -> List[DirectiveSpan]:
+    """Returns the conversion specifications of a format of the whole language, in the order of the text.
+
+    `%%` is none of them.
+    """
+    text, error = _bytes(format), _Error()
+    # Each has a percent sign.
+    room = text.count(b"%")
+    records = (_Directive * room)()
+    result = _library().fmtcanon_directives(model_of(model), text, len(text), records, room, error)
+    return [_span(record) for record in records[: _answer(result, error)]]
+
+
+def _span(record: _Directive) -> DirectiveSpan:
+    width, precision = _index(record.width_argument), _index(record.precision_argument)
+    return DirectiveSpan(record.begin, record.end, Type(record.kind), record.argument, width, precision)
+
+
+def _index(argument: int) -> Optional[int]:
+    return None if argument == _NO_ARGUMENT else argument
+
+
 def same(first: Format, second: Format, *, model: DataModel = Model.LP64) -> bool:
     """Whether two formats take the same types and print the same bytes for all arguments."""
     f, g, error = _bytes(first), _bytes(second), _Error()
@@ -395,7 +471,7 @@ def same_in(first: Format, second: Format) -> List[Model]:
     """The data models in which two formats are the same: none to all, LP64 first."""
     f, g, error = _bytes(first), _bytes(second), _Error()
     found = _answer(_library().fmtcanon_same_models(f, len(f), g, len(g), error), error)
-    return [model for model in Model if found & 1 << model]
+    return _models(found)
 
 
 def _argument(word: bytes) -> Union[int, bytes]:

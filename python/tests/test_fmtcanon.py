@@ -37,6 +37,28 @@ class Calls(unittest.TestCase):
         self.assertTrue(fmtcanon.same("%5c", b"    %c"))
         self.assertFalse(fmtcanon.same("%05d", "%.5d"))
 
+    def test_directives(self):
+        self.assertEqual(fmtcanon.directives("%2$*1$d"), [(0, 7, Type.INT, 1, 0, None)])
+        wanted = [(1, 7, Type.ULONG, 1, None, 0), (9, 11, Type.INT, 2, None, None)]
+        self.assertEqual(fmtcanon.directives("a%5.*lu%%%c"), wanted)
+        wanted = [(0, 5, Type.DOUBLE, 2, 0, 1), (7, 9, Type.STRING, 3, None, None)]
+        self.assertEqual(fmtcanon.directives("%*.*fé%s"), wanted)
+        # An argument may be used more than once, and as a width before its own conversion.
+        wanted = [(0, 11, Type.STRING, 0, 1, 1), (12, 16, Type.INT, 1, None, None)]
+        self.assertEqual(fmtcanon.directives(b"%1$*2$.*2$s|%2$d"), wanted)
+        self.assertEqual(fmtcanon.directives("%zn", model="llp64")[0].type, Type.POINTER_TO_LONG_LONG)
+        self.assertEqual(fmtcanon.directives("%%"), [])
+        self.assertEqual(fmtcanon.directives(""), [])
+        self.assertEqual(len(fmtcanon.directives("%d" * 5000)), 5000)
+
+    def test_fits(self):
+        self.assertTrue(fmtcanon.fits("%s of %d", "%2$d/%1$s"))
+        self.assertFalse(fmtcanon.fits("%.2f of %s", "%.2f von %d"))
+        self.assertEqual(fmtcanon.fits_in("%zu", "%lu"), [Model.LP64])
+        self.assertEqual(fmtcanon.fits_in("%ju", b"%llu"), [Model.ILP32, Model.LLP64])
+        self.assertEqual(fmtcanon.fits_in("%d", "%i"), list(Model))
+        self.assertEqual(fmtcanon.fits_in("%d", "%s"), [])
+
     def test_compare(self):
         self.assertEqual(fmtcanon.compare("%i", "%d"), (Verdict.SAME, None, None))
         self.assertEqual(fmtcanon.compare("%d%s", "%d"), (Verdict.TYPES, 1, None))
@@ -153,6 +175,13 @@ class Refusals(unittest.TestCase):
         for call in [fmtcanon.same, fmtcanon.same_in, fmtcanon.compare]:
             self.assertEqual(self.refused(call, "%d", "%y").side, 1)
             self.assertEqual(self.refused(call, "%f", "%y").side, 0)
+
+    def test_refused_in_one_data_model(self):
+        refusal = self.refused(fmtcanon.fits_in, "%lu", "%1$zu %1$lu")
+        self.assertEqual((refusal.kind, refusal.byte, refusal.side), (Kind.TWO_TYPES, 10, 1))
+        self.assertEqual(self.refused(fmtcanon.fits_in, "%1$d%d", "%y").side, 0)
+        refusal = self.refused(fmtcanon.directives, "%1$s%1$d")
+        self.assertEqual((refusal.kind, refusal.byte, refusal.side), (Kind.TWO_TYPES, 7, 0))
 
     def test_bytes_are_counted(self):
         self.assertEqual(self.refused(fmtcanon.check, "é%y").byte, 3)

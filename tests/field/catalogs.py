@@ -24,9 +24,10 @@ sys.path.insert(0, str(TOP / "python"))
 
 import fmtcanon  # noqa: E402
 from fmtcanon.po.checking import Checker  # noqa: E402
+from fmtcanon.po.command import as_msgfmt  # noqa: E402
 
 ENVIRONMENT = {**os.environ, "LC_ALL": "C", "LANGUAGE": ""}
-FAULT = re.compile(r"^[^\n]*?:(\d+): (?!warning)(.*(?:format specifications|valid C format|do not both).*)", re.MULTILINE)
+FAULT = re.compile(r"^[^\n]*?:(\d+): (?!warning)(.*(?:format specifications|types of|valid C format|do not both).*)", re.MULTILINE)
 WARNING = re.compile(r"^[^\n]*?:(\d+): warning: (.*)", re.MULTILINE)
 ROWS = [
     ("catalogs", "Catalogs"),
@@ -70,7 +71,7 @@ def compared(mo):
         po.write_bytes(flagged(plain.stdout))
         report = run(["msgfmt", "-c", "-o", os.devnull, str(po)]).stderr.decode(errors="replace")
         ours = io.StringIO()
-        checker = Checker(ours, list(fmtcanon.Model))
+        checker = Checker(lambda it: print(as_msgfmt(it), file=ours), list(fmtcanon.Model))
         checker.check_data("a.po", po.read_bytes())
     if "can't be read" in ours.getvalue() or "multibyte" in report:
         return Counter(catalogs=1, unread=1), [f"{mo}: {ours.getvalue()[:100]}"]

@@ -25,6 +25,7 @@ sys.path.insert(0, str(TOP / "python"))
 
 import fmtcanon  # noqa: E402
 from fmtcanon.po.checking import Checker  # noqa: E402
+from fmtcanon.po.command import as_msgfmt  # noqa: E402
 
 COUNT = 40_000
 SEED = 56
@@ -148,7 +149,7 @@ def catalog(messages):
 def by_line(report):
     found = {}
     for line, words in re.findall(r"^[^:\n]+:(\d+): ([^\n]*)", report, flags=re.MULTILINE):
-        if "format specifications" in words or "valid C format" in words or words.startswith("warning"):
+        if "format specifications" in words or "types of" in words or "valid C format" in words or words.startswith("warning"):
             found.setdefault(int(line), []).append(words)
     return found
 
@@ -161,7 +162,7 @@ def reports(text):
         environment = {**os.environ, "LC_ALL": "C", "LANGUAGE": ""}
         done = subprocess.run(["msgfmt", "-c", "-o", os.devnull, str(file)], env=environment, check=False, stderr=subprocess.PIPE)
         ours = io.StringIO()
-        Checker(ours, list(fmtcanon.Model)).check_data("a.po", file.read_bytes())
+        Checker(lambda it: print(as_msgfmt(it), file=ours), list(fmtcanon.Model)).check_data("a.po", file.read_bytes())
     return by_line(ours.getvalue()), by_line(done.stderr.decode(errors="replace"))
 
 

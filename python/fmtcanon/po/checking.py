@@ -1,10 +1,12 @@
 """Checks that the translations of a catalog take the arguments of their messages."""
 
 import json
-from typing import Iterator, List, NamedTuple, Optional, Sequence, TextIO
+from typing import Callable, Iterator, NamedTuple, Optional, Sequence, Tuple
 
 import fmtcanon
 
+from ..command_line import model_names
+from ..findings import ERROR, WARNING, Finding
 from .formats import Format, shown_kinds, shown_type
 from .plurals import PluralRule, rule_of
 from .reading import Catalog, Message, read_catalog
@@ -14,6 +16,25 @@ from .tokens import Unreadable
 INTEGERS = {fmtcanon.Type.INT, fmtcanon.Type.UINT}
 # How much of a message a report shows.
 SHOWN = 60
+# The kinds of findings.
+TYPES, NUMBER, FORMAT, NEWLINE, USE, UNJUDGED, UNREADABLE = (
+    "types",
+    "number",
+    "format",
+    "newline",
+    "use",
+    "unjudged",
+    "unreadable",
+)
+RULES = {
+    TYPES: "A translation takes arguments of other types than its message.",
+    NUMBER: "A translation takes another number of arguments than its message.",
+    FORMAT: "A translation is not a C format, and its message is one.",
+    NEWLINE: "A translation begins or ends with a newline, and its message doesn't, or the reverse.",
+    USE: "A translation prints an int as something else.",
+    UNJUDGED: "A message is not a C format, so its translation can't be judged.",
+    UNREADABLE: "A catalog can't be read.",
+}
 
 
 class Text(NamedTuple):
@@ -30,29 +51,39 @@ def shown(text: bytes) -> str:
     return quoted if len(quoted) <= SHOWN and len(text) <= 4 * SHOWN else quoted[: SHOWN - 3] + '.."'
 
 
-def difference(wanted: Format, found: Format, may_be_fewer: bool, model: fmtcanon.Model) -> Optional[str]:
-    """Says how the types of two formats differ: by their number, or at the first argument. None if they don't."""
+class Reason(NamedTuple):
+    """What is wrong with a text, with `{}` for its name and that of the one that it is compared with."""
+
+    kind: str
+    text: str
+
+
+def difference(wanted: Format, found: Format, may_be_fewer: bool, model: fmtcanon.Model) -> Optional[Reason]:
+    """Says how the types of two formats differ: by their number, or at an argument, from 0. None if they don't."""
     first, second = wanted.codes(model), found.codes(model)
     if len(second) != len(first) and not (may_be_fewer and len(second) < len(first)):
         counts = f"{len(first)} and {len(second)}"
-        return f"number of format specifications in '{{}}' and '{{}}' does not match: {counts}"
+        return Reason(NUMBER, f"number of format specifications in '{{}}' and '{{}}' does not match: {counts}")
     macros, others = wanted.macros(), found.macros()
     if not macros and not others and first.startswith(second):
         return None
     for at, (one, other) in enumerate(zip(first, second)):
         if macros.get(at) != others.get(at) or (at not in macros and one != other):
             names = f"{shown_type(one, macros.get(at))} and {shown_type(other, others.get(at))}"
-            return f"format specifications in '{{}}' and '{{}}' for argument {at + 1} are not the same: {names}"
+            return Reason(TYPES, f"types of '{{}}' and '{{}}' differ at argument {at}: {names}")
     return None
 
 
-def changed_kind(wanted: Format, found: Format) -> Optional[str]:
+def changed_kind(wanted: Format, found: Format) -> Optional[Reason]:
     """Says which int is printed as something else by the second format, whose types are those of the first."""
     codes = [one.codes(fmtcanon.Model.LP64) for one in (wanted, found)]
     # The second format may leave arguments out.
     for at, (code, one, other) in enumerate(zip(codes[0], wanted.kinds(len(codes[0])), found.kinds(len(codes[1])))):
         if one != other and code in INTEGERS:
-            return f"'{{}}' and '{{}}' use argument {at + 1} otherwise: as {shown_kinds(one)}, and as {shown_kinds(other)}"
+            return Reason(
+                USE,
+                f"'{{}}' and '{{}}' use argument {at} otherwise: as {shown_kinds(one)}, and as {shown_kinds(other)}",
+            )
     return None
 
 
@@ -70,10 +101,10 @@ def newline_faults(message: Message) -> Iterator[str]:
 
 
 class Checker:
-    """Checks one catalog after another, and counts messages and faults."""
+    """Checks one catalog after another, hands each finding on, and counts messages and faults."""
 
-    def __init__(self, out: TextIO, models: Sequence[fmtcanon.Model], is_all: bool = False) -> None:
-        self.out = out
+    def __init__(self, add: Callable[[Finding], None], models: Sequence[fmtcanon.Model], is_all: bool = False) -> None:
+        self.add = add
         self.models = models
         self.is_all = is_all
         self.faults = 0
@@ -83,23 +114,46 @@ class Checker:
         self.is_certain = True
 
     def report(self, file: str, line: int, text: str) -> None:
+        """Reports that a catalog can't be read."""
         self.faults += 1
-        print(f"{file}:{line}: {text}", file=self.out)
+        self.add(Finding(file, line, 1 if line else None, UNREADABLE, ERROR, text))
 
-    def report_of(self, file: str, message: Message, text: str) -> None:
+    def report_of(
+        self,
+        file: str,
+        message: Message,
+        reason: Reason,
+        texts: Sequence[Text] = (),
+        models: Sequence[fmtcanon.Model] = (),
+    ) -> None:
         if self.is_certain:
-            self.report(file, message.line, f"{text} [{shown(message.msgid)}]")
+            self.faults += 1
+            self.found(file, message, ERROR, reason, texts, models)
         else:
             self.is_whole = False
-            self.warn_of(file, message, f"if it is a C format: {text}")
+            self.found(
+                file, message, WARNING, reason._replace(text=f"if it is a C format: {reason.text}"), texts, models
+            )
 
-    def warn_of(self, file: str, message: Message, text: str) -> None:
-        print(f"{file}:{message.line}: warning: {text} [{shown(message.msgid)}]", file=self.out)
+    def found(
+        self,
+        file: str,
+        message: Message,
+        level: str,
+        reason: Reason,
+        texts: Sequence[Text] = (),
+        models: Sequence[fmtcanon.Model] = (),
+    ) -> None:
+        formats = tuple(it.text.decode(errors="backslashreplace") for it in texts)
+        details = {"msgid": message.msgid.decode(errors="backslashreplace"), "formats": list(formats)}
+        names = model_names(models or self.models)
+        text = f"{reason.text} [{shown(message.msgid)}]"
+        self.add(Finding(file, message.line, message.column, reason.kind, level, text, None, formats, names, details))
 
     def leave(self, file: str, message: Message, text: str) -> None:
         """Warns of a text that isn't judged."""
         self.is_whole = False
-        self.warn_of(file, message, text)
+        self.found(file, message, WARNING, Reason(UNJUDGED, text))
 
     def check_data(self, file: str, data: bytes) -> None:
         """Checks the catalog in a file's bytes."""
@@ -116,7 +170,8 @@ class Checker:
     def check_catalog(self, file: str, catalog: Catalog, rule: Optional[PluralRule]) -> None:
         if catalog.hidden:
             self.unjudged += catalog.hidden
-            print(f"{file}:0: warning: {catalog.hidden} strings depend on the machine, and aren't checked", file=self.out)
+            text = f"{catalog.hidden} strings depend on the machine, and aren't checked"
+            self.add(Finding(file, 0, None, UNJUDGED, WARNING, text))
         for message in catalog.messages:
             if message.is_translated and not message.is_fuzzy:
                 self.check_message(file, message, rule, catalog.has_flags)
@@ -124,7 +179,7 @@ class Checker:
     def check_message(self, file: str, message: Message, rule: Optional[PluralRule], has_flags: bool) -> None:
         self.is_certain = True
         for fault in newline_faults(message):
-            self.report_of(file, message, fault)
+            self.report_of(file, message, Reason(NEWLINE, fault))
         is_format = message.is_c_format
         if is_format is None:
             is_format = (self.is_all or not has_flags) and b"%" in (message.plural or message.msgid)
@@ -155,29 +210,33 @@ class Checker:
             return False
         rejection = rejection_of(found, self.models)
         if rejection is None:
-            self.check_types(file, message, (first.name, second.name), (wanted, found), may_be_fewer)
+            self.check_types(file, message, (first, second), (wanted, found), may_be_fewer)
         elif second.name == "msgid" and rejection.kind is fmtcanon.Kind.MISSING_ARGUMENT:
             # The message for one may leave out arguments that no list of arguments may.
             self.leave(file, message, f"'msgid' isn't checked: {rejection.reason}")
         else:
-            reason = f"'{second.name}' is not a valid C format string, unlike '{first.name}'. Reason: {rejection.reason}"
-            self.report_of(file, message, reason)
+            reason = (
+                f"'{second.name}' is not a valid C format string, unlike '{first.name}'. Reason: {rejection.reason}"
+            )
+            self.report_of(file, message, Reason(FORMAT, reason), (first, second))
         return True
 
     def check_types(
-        self, file: str, message: Message, names: Sequence[str], formats: Sequence[Format], may_be_fewer: bool
+        self, file: str, message: Message, texts: Tuple[Text, Text], formats: Tuple[Format, Format], may_be_fewer: bool
     ) -> None:
         wanted, found = formats
-        reasons: List[Optional[str]] = [difference(wanted, found, may_be_fewer, model) for model in self.models]
+        names = [it.name for it in texts]
+        reasons = [difference(wanted, found, may_be_fewer, model) for model in self.models]
         for model, reason in zip(self.models, reasons):
             if reason:
                 # The data model is named if the formats don't differ in each.
                 where = "" if all(reasons) else f", in {model.name}"
-                self.report_of(file, message, reason.format(*names) + where)
+                reason = reason._replace(text=reason.text.format(*names) + where)
+                self.report_of(file, message, reason, texts, [it for it, one in zip(self.models, reasons) if one])
                 return
         change = changed_kind(wanted, found)
         if change:
-            self.warn_of(file, message, change.format(*names))
+            self.found(file, message, WARNING, change._replace(text=change.text.format(*names)), texts)
 
 
 class Rejection(NamedTuple):

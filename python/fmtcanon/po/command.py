@@ -1,13 +1,17 @@
-"""Checks the C formats of message catalogs: a translation must take the arguments of its message.
+"""Checks the C formats of message catalogs: a translation must take the arguments of its message."""
 
-Usage: fmtcanon-po [OPTION].. FILE..
+import errno
+import os
+import sys
+from typing import Any, Optional, Sequence
 
-  --model MODEL  the data models in which the types must be the same: lp64, ilp32, llp64, both (the
-                 first two) or all; all by default, so that a catalog works on every machine: %zu is
-                 not a translation of %lu
-  --c-format     check every message that has a %, except those with the flag no-c-format
-  --strict       exit with status 1 also if something could not be judged
-  --help         print this text
+from ..command_line import MODELS, Parser, status_of
+from ..findings import WARNING, Finding, Printer
+from .checking import RULES, Checker
+
+NAME = "fmtcanon-po"
+DESCRIPTION = """\
+Checks the C formats of message catalogs.
 
 FILE is a .po or .mo file, or - for standard input. Each translated message with the flag c-format or
 possible-c-format is checked, except fuzzy and obsolete ones. The translation must take arguments of
@@ -20,54 +24,39 @@ only a C format has is a warning unless --c-format is given. Messages of a .mo f
 instead of lines.
 
 Formats are those of POSIX fprintf, with numbered arguments, *, floating conversions, %p and %n. %m
-takes no argument. The argument of a macro of <inttypes.h>, such as %<PRIu64>, has its own type.
-
-A fault is reported as by `msgfmt -c`: the file, the line, the reason and the message. If only the
-message is not a C format, its translation can't be judged, which is a warning. It is a warning, too,
-if a translation prints an int as something else, as %c for %d. The last lines give the numbers of
-messages with formats that were judged and that were not, and of faults.
+takes no argument. The argument of a macro of <inttypes.h>, such as %<PRIu64>, has its own type."""
+EPILOG = """\
+A fault is reported on standard error, as by `msgfmt -c`: the file, the line, the reason and the
+message. Arguments are counted from 0. If only the message is not a C format, its translation can't be
+judged, which is a warning. It is a warning, too, if a translation prints an int as something else, as
+%c for %d. The last lines give the numbers of messages with formats that were judged and that were
+not, and of faults.
 
 The exit status is 0 if there is no fault, 1 if there is one or a file can't be read, and 2 for a usage
-error.
-"""
-
-import errno
-import os
-import sys
-from typing import Dict, List, Optional, Sequence
-
-import fmtcanon
-
-from .checking import Checker
-
-MODELS: Dict[str, List[fmtcanon.Model]] = {
-    "lp64": [fmtcanon.Model.LP64],
-    "ilp32": [fmtcanon.Model.ILP32],
-    "llp64": [fmtcanon.Model.LLP64],
-    "both": [fmtcanon.Model.LP64, fmtcanon.Model.ILP32],
-    "all": list(fmtcanon.Model),
-}
+error."""
 
 
-class Options:
-    """The options of the command."""
+def parser() -> Parser:
+    """Returns the definition of the command line."""
+    made = Parser(NAME, "fmtcanon-po [OPTION].. FILE..", DESCRIPTION, EPILOG)
+    made.add_model(
+        "the data models in which the types must be the same: lp64, ilp32, llp64, both for the first two, or all, "
+        "the default, so that a catalog works on every machine: %%zu is not a translation of %%lu"
+    )
+    made.add_argument(
+        "--c-format",
+        action="store_true",
+        help="check every message that has a %%, except those with the flag no-c-format",
+    )
+    made.add_argument("--strict", action="store_true", help="exit with status 1 also if something could not be judged")
+    made.add_output()
+    made.add_argument("files", metavar="FILE", nargs="*", help="a catalog, or - for standard input")
+    return made
 
-    def __init__(self) -> None:
-        self.models = MODELS["all"]
-        self.is_all = False
-        self.is_strict = False
 
-    def take(self, option: str, words: List[str]) -> bool:
-        """Takes one option with its value from the arguments, and says whether it is valid."""
-        if option == "--model" and words and words[0] in MODELS:
-            self.models = MODELS[words.pop(0)]
-        elif option == "--c-format":
-            self.is_all = True
-        elif option == "--strict":
-            self.is_strict = True
-        else:
-            return False
-        return True
+def as_msgfmt(finding: Finding) -> str:
+    """Returns a finding as msgfmt prints it, with no column."""
+    return f"{finding.file}:{finding.line}: {'warning: ' if finding.level == WARNING else ''}{finding.message}"
 
 
 def read_bytes(file: str) -> bytes:
@@ -90,21 +79,21 @@ def check_files(checker: Checker, files: Sequence[str]) -> None:
 
 
 def main(words: Optional[Sequence[str]] = None) -> int:
-    left, options = list(sys.argv[1:] if words is None else words), Options()
-    if "--help" in left[: left.index("--") if "--" in left else len(left)]:
-        print(__doc__, end="")
-        return 0
-    while left and left[0].startswith("--") and left[0] != "--":
-        if not options.take(left.pop(0), left):
-            left = []
-    left = left[1:] if left[:1] == ["--"] else left
-    if not left:
-        print(__doc__, end="", file=sys.stderr)
-        return 2
-    checker = Checker(sys.stderr, options.models, options.is_all)
-    check_files(checker, left)
+    made = parser()
+    options, more = made.parsed(words)
+    if not options.files + more:
+        made.error("give the catalogs")
+    return status_of(NAME, lambda: check(options, [*options.files, *more]))
+
+
+def check(options: Any, files: Sequence[str]) -> int:
+    """Checks the catalogs, and returns the exit status."""
+    printer = Printer(NAME, options.output, RULES, sys.stderr if options.output == "text" else None, as_msgfmt)
+    checker = Checker(printer.add, MODELS[options.model], options.c_format)
+    check_files(checker, files)
+    printer.end()
     print(f"{checker.judged} messages judged, {checker.unjudged} not judged", file=sys.stderr)
     if checker.faults:
         word = "error" if checker.faults == 1 else "errors"
         print(f"found {checker.faults} fatal {word}", file=sys.stderr)
-    return 1 if checker.faults or (options.is_strict and checker.unjudged) else 0
+    return 1 if checker.faults or (options.strict and checker.unjudged) else 0

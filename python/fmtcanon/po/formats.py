@@ -5,6 +5,8 @@ from typing import Dict, Iterator, List, NamedTuple, Optional, Tuple
 
 import fmtcanon
 
+from ..findings import TYPE_NAMES
+
 # A macro of <inttypes.h> comes in angle brackets, as xgettext writes it. Its name has its conversion (C11 7.8.1). d and
 # i take one type, and so do o, u, x and X.
 MACRO = rb"<PRI[dioxXu](?:(?:LEAST|FAST)?(?:8|16|32|64)|MAX|PTR)>"
@@ -164,7 +166,7 @@ def kind_of(match: "re.Match[bytes]", last: bytes) -> int:
 
 def shown_type(code: int, macro: Optional[bytes]) -> str:
     """Returns the name of an argument's type for a report."""
-    return macro.decode() if macro else fmtcanon.Type(code).name.lower().replace("_", " ")
+    return macro.decode() if macro else TYPE_NAMES[fmtcanon.Type(code)]
 
 
 def shown_kinds(kinds: int) -> str:

@@ -23,6 +23,7 @@ class Message:
 
     def __init__(self, line: int, flags: List[str], has_context: bool = False) -> None:
         self.line = line
+        self.column: Optional[int] = None
         # In the order of the file: of `c-format` and `no-c-format` the last one counts.
         self.flags = flags
         self.has_context = has_context
@@ -73,7 +74,7 @@ class PoReader:
         self.text: Optional[bytearray] = None
         self.has_context = False
         self.message: Optional[Message] = None
-        self.line = 0
+        self.line = self.column = 0
 
     def read(self, text: bytes) -> Iterator[Message]:
         """Yields each message as soon as the next one begins."""
@@ -89,7 +90,7 @@ class PoReader:
                 self.begin_form(token)
             else:
                 self.finish_keyword()
-                yield from self.begin_keyword(token.text, token.line)
+                yield from self.begin_keyword(token)
         self.finish_keyword()
         yield from self.finish_message()
 
@@ -113,8 +114,9 @@ class PoReader:
             raise Unreadable(token.line, "the number of a form is too large")
         self.form = int(digits or b"0")
 
-    def begin_keyword(self, keyword: bytes, line: int) -> Iterator[Message]:
-        self.keyword, self.form, self.text, self.line = keyword, None, None, line
+    def begin_keyword(self, token: Token) -> Iterator[Message]:
+        keyword, line = token.text, token.line
+        self.keyword, self.form, self.text, self.line, self.column = keyword, None, None, line, token.column
         if keyword in (b"domain", b"msgctxt", b"msgid"):
             yield from self.finish_message()
         elif self.message is None:
@@ -149,7 +151,7 @@ class PoReader:
             if (self.form is None) != (message.plural is None) or (self.form or 0) in message.forms:
                 raise Unreadable(self.line, "msgstr has a number exactly if there is a msgid_plural, each another")
             if not message.forms:
-                message.line = self.line
+                message.line, message.column = self.line, self.column
             message.forms[self.form or 0] = text
 
     def finish_message(self) -> Iterator[Message]:

@@ -31,11 +31,12 @@ class Unreadable(Exception):
 
 
 class Token(NamedTuple):
-    """A keyword, a form, a string without its quotes, or a comment."""
+    """A keyword, a form, a string without its quotes, or a comment, with its line and its column, in bytes, from 1."""
 
     kind: str
     text: bytes
     line: int
+    column: int
 
 
 def tokens_of(text: bytes) -> Iterator[Token]:
@@ -49,11 +50,11 @@ def tokens_of(text: bytes) -> Iterator[Token]:
         at = match.end()
         if kind == "string":
             end = end_of_string(text, at, line)
-            yield Token(kind, text[at:end], line)
+            yield Token(kind, text[at:end], line, match.start() - text.rfind(b"\n", 0, match.start()))
             at = end + 1
             continue
         if kind != "space":
-            yield Token(kind, match.group(), line)
+            yield Token(kind, match.group(), line, match.start() - text.rfind(b"\n", 0, match.start()))
         line += match.group().count(b"\n")
 
 

@@ -6,6 +6,7 @@ from dataclasses import dataclass
 from typing import Iterator, List, Optional, Sequence, Tuple
 
 from .. import BadLiteral, decode_literal, encode_literal
+from ..verdicts import shared_back, shared_front
 from .tokens import SOURCE, STRING, plain_literals
 
 ELEMENT = re.compile(rb"\\x[0-9A-Fa-f]+|\\[0-7]{1,3}|\\[\s\S]|[^\\]")
@@ -66,8 +67,8 @@ Edit = Tuple[int, int, int, int]
 
 def edits_between(old: bytes, new: bytes) -> Iterator[List[Edit]]:
     """Yields ways to make one text of the other: lists of ranges of the old text, with the ranges of the new that replace them."""
-    front = common_prefix(old, new)
-    back = common_prefix(old[front:][::-1], new[front:][::-1])
+    front = shared_front(old, new)
+    back = shared_back(old, new, front)
     if max(len(old), len(new)) - front - back <= LONGEST:
         matcher = difflib.SequenceMatcher(None, old[front : len(old) - back], new[front : len(new) - back], autojunk=False)
         found = [(a + front, b + front, c + front, d + front) for tag, a, b, c, d in matcher.get_opcodes() if tag != "equal"]
@@ -75,11 +76,6 @@ def edits_between(old: bytes, new: bytes) -> Iterator[List[Edit]]:
     for before, after in [(0, 0), (1, 0), (0, 1), (1, 1)]:
         start, end = max(front - before, 0), max(back - after, 0)
         yield [(start, len(old) - end, start, len(new) - end)]
-
-
-def common_prefix(first: bytes, second: bytes) -> int:
-    """Returns how many bytes two texts have in common at the front."""
-    return next((at for at, (one, other) in enumerate(zip(first, second)) if one != other), min(len(first), len(second)))
 
 
 def respelled(place: Place, new: bytes) -> Optional[bytes]:

@@ -1,0 +1,42 @@
+# Completion of fmtcanon-diff, fmtcanon-po and fmtcanon-replace for bash.
+
+# The values of an option that has a list of them.
+_fmtcanon_values() {
+    case $1 in
+        --model) echo 'lp64 ilp32 llp64 both all' ;;
+        --output) echo 'text json sarif github' ;;
+    esac
+}
+
+_fmtcanon_commands() {
+    local word=${COMP_WORDS[COMP_CWORD]} before=${COMP_WORDS[COMP_CWORD - 1]} options='-h --help --version --model --output' at
+    COMPREPLY=()
+    case ${1##*/} in
+        fmtcanon-diff) options+=' --git --verbose --jobs' ;;
+        fmtcanon-po) options+=' --c-format --strict' ;;
+        fmtcanon-replace)
+            options+=' -p --flag --attribute --function --posix-locale --dry-run --diff --pairs --list --list-functions --jobs'
+            ;;
+    esac
+    # What comes after -- is a file.
+    for ((at = 1; at < COMP_CWORD; at++)); do
+        [[ ${COMP_WORDS[at]} == -- ]] && return
+    done
+    # Bash takes `=` for a word of its own, unless COMP_WORDBREAKS is changed.
+    [[ $before == = ]] && before=${COMP_WORDS[COMP_CWORD - 2]}
+    [[ $word == = ]] && word=''
+    case $before in
+        --model | --output)
+            mapfile -t COMPREPLY < <(compgen -W "$(_fmtcanon_values "$before")" -- "$word")
+            return
+            ;;
+    esac
+    case $word in
+        --model=* | --output=*)
+            mapfile -t COMPREPLY < <(compgen -P "${word%%=*}=" -W "$(_fmtcanon_values "${word%%=*}")" -- "${word#*=}")
+            ;;
+        -*) mapfile -t COMPREPLY < <(compgen -W "$options" -- "$word") ;;
+    esac
+}
+
+complete -o default -F _fmtcanon_commands fmtcanon-diff fmtcanon-po fmtcanon-replace

@@ -1,0 +1,1 @@
+"""Says what a change of C source does to its printf formats: the command fmtcanon-diff."""

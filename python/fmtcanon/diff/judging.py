@@ -1,0 +1,206 @@
+"""Judges a pair of places, and says in words what it found."""
+
+from typing import Any, Dict, List, NamedTuple, Optional, Sequence
+
+from .. import Refused, Type
+from ..command_line import model_names
+from ..findings import ERROR, NOTE, TYPE_NAMES, WARNING, Finding
+from ..models import Model
+from ..verdicts import Kind, Verdict, narrowed, only_words_differ, shared_front, shortened, shown, shown_arguments
+from .literals import NOT_FORMATS, Place
+from .pairing import Pair
+
+LEVELS = {Kind.SAME: NOTE, Kind.DIFFERENT: ERROR, Kind.TYPES: ERROR, Kind.DIRECTIVES: ERROR, Kind.UNJUDGED: WARNING}
+RULES = {
+    Kind.SAME.value: "The old and the new format take the same arguments and print the same bytes.",
+    Kind.DIFFERENT.value: "The old and the new format take the same arguments and print other bytes.",
+    Kind.TYPES.value: "The old and the new format take arguments of different types.",
+    Kind.DIRECTIVES.value: "The old and the new format have different directives that aren't compared further.",
+    Kind.UNJUDGED.value: "The old or the new literal is not a format that can be judged.",
+}
+# A longer format is compared without what it shares with the other.
+LONG = 10_000
+# How much of a text is shown, and how much of that comes before the first difference.
+SHOWN, BEFORE = 60, 20
+
+
+class Judged(NamedTuple):
+    """The verdict on a pair in a data model, with the two texts, if they are known.
+
+    The texts of long formats are without what they share, which takes `before` arguments at the front. `verdict.at`
+    counts these, too.
+    """
+
+    verdict: Verdict
+    old: Optional[bytes]
+    new: Optional[bytes]
+    before: int = 0
+
+
+def is_judged(old: Place, new: Place) -> bool:
+    """Returns whether a pair is worth a verdict: one of the two has a specification, and may be a format."""
+    is_format = old.call.function not in NOT_FORMATS and new.call.function not in NOT_FORMATS
+    return is_format and (old.has_specification() or new.has_specification())
+
+
+def verdict_in(library: Any, old: Place, new: Place, model: Model) -> Judged:
+    (first, why), (second, why_second) = old.text(model), new.text(model)
+    if first is None or second is None:
+        return Judged(Verdict(Kind.UNJUDGED, reason=why or why_second), first, second)
+    if max(len(first), len(second)) > LONG and b"$" not in first + second:
+        return long_verdict(library, first, second, model)
+    return Judged(library.verdict(first, second, model), first, second)
+
+
+def long_verdict(library: Any, old: bytes, new: bytes, model: Model) -> Judged:
+    """Returns the verdict on long formats, of which only what they don't share is compared."""
+    front, back = narrowed(old, new)
+    texts = [it[front : len(it) - back] for it in (old, new)]
+    try:
+        types, before = [library.types(it, model) for it in (old, new)], len(library.types(old[:front], model))
+    except Refused as refusal:
+        unjudged = Verdict(Kind.UNJUDGED, reason=f"{refusal} of a long format")
+        return Judged(unjudged, texts[0], texts[1])
+    verdict = library.verdict(*texts, model)
+    at = shared_front(*types) if verdict.kind is Kind.TYPES else before + verdict.at
+    return Judged(verdict._replace(at=at), texts[0], texts[1], before)
+
+
+def judge(library: Any, file: str, pair: Pair, models: Sequence[Model]) -> Finding:
+    """Returns the finding on a pair: that of the first data model in which the two are not the same."""
+    old, new = pair
+    found = {model: verdict_in(library, old, new, model) for model in models}
+    others = [model for model in models if found[model].verdict.kind is not Kind.SAME]
+    model = others[0] if others else models[0]
+    judged = found[model]
+    same = [it for it in models if it not in others]
+    details = details_of(old, new, model)
+    details["verdicts"] = {name: found[it].verdict.kind.value for name, it in zip(model_names(models), models)}
+    wording = Wording(library, pair, judged, model)
+    message = wording.message()
+    if wording.is_of_words:
+        details["words"] = True
+    if others and same and judged.verdict.kind is not Kind.UNJUDGED:
+        message = f"same in {' and '.join(model_names(same))} only: {wording.both()}"
+    else:
+        message += elsewhere({it: found[it].verdict.kind for it in models}, judged.verdict.kind)
+    details.update(wording.specification())
+    start, end = new.span()
+    return Finding(
+        file,
+        start.line,
+        start.column,
+        judged.verdict.kind.value,
+        LEVELS[judged.verdict.kind],
+        message,
+        (end.line, end.column),
+        (details["old"], details["new"]),
+        model_names(others or models),
+        details,
+    )
+
+
+def details_of(old: Place, new: Place, model: Model) -> Dict[str, Any]:
+    """Returns the two texts in a data model, and the function that the new one is an argument of, if there is one."""
+    is_call = new.call.function != b"" and not new.call.function.startswith(b"#")
+    function = {"function": printable(new.call.function), "argument": new.call.argument} if is_call else {}
+    return {"old": text_of(old, model), "new": text_of(new, model), **function}
+
+
+def elsewhere(kinds: Dict[Model, Kind], kind: Kind) -> str:
+    """Returns what is added for data models in which the types differ, where another verdict is reported."""
+    names = model_names([model for model, it in kinds.items() if it is Kind.TYPES])
+    return f"; types differ in {' and '.join(names)}" if names and kind is not Kind.TYPES else ""
+
+
+class Wording:
+    """What is said of a pair by its verdict in one data model."""
+
+    def __init__(self, library: Any, pair: Pair, judged: Judged, model: Model) -> None:
+        self.library, self.judged, self.model = library, judged, model
+        self.old, self.new = pair
+        self.is_of_words = False
+
+    def both(self) -> str:
+        """Returns the two formats, each as its literals or, with macros in it, as its source."""
+        texts = []
+        for place, text in ((self.old, self.judged.old), (self.new, self.judged.new)):
+            has_names = text is None or any(it.kind == "name" for it in place.parts)
+            texts.append(place.shown() if has_names or text is None else shown(text))
+        return " and ".join(cut(*texts))
+
+    def message(self) -> str:
+        verdict, old, new = self.judged.verdict, self.judged.old, self.judged.new
+        if verdict.kind is Kind.UNJUDGED or old is None or new is None:
+            return f"not judged: {verdict.reason}"
+        if verdict.kind is Kind.SAME:
+            return f"same: {self.both()}"
+        if verdict.kind is Kind.TYPES:
+            names = [type_at(self.library, text, verdict.at - self.judged.before, self.model) for text in (old, new)]
+            return f"types differ at argument {verdict.at}: {names[0]} and {names[1]}"
+        if verdict.kind is Kind.DIRECTIVES:
+            return f"directives differ at argument {verdict.at}: {self.directives(old, new)}"
+        self.is_of_words = only_words_differ(self.library, old, new, self.model)
+        return (
+            f"the words differ: {self.both()}"
+            if self.is_of_words
+            else f"different: {self.both()}{self.example(old, new)}"
+        )
+
+    def specification(self) -> Dict[str, Any]:
+        """Returns where the specification is that takes the argument at which the types or the directives differ."""
+        verdict, text = self.judged.verdict, self.new.text(self.model)[0]
+        if verdict.kind not in (Kind.TYPES, Kind.DIRECTIVES) or text is None or len(text) > LONG:
+            return {}
+        span = self.library.span(text, verdict.at, self.model)
+        offsets = [self.new.offset_of(it) for it in (span.start, span.end - 1)] if span else []
+        places = [self.new.source.position(it) for it in offsets if it is not None]
+        if len(places) < 2:
+            return {}
+        (line, column), (end_line, end_column) = places
+        return {"specification": {"line": line, "column": column, "end_line": end_line, "end_column": end_column + 1}}
+
+    def directives(self, old: bytes, new: bytes) -> str:
+        at = self.judged.verdict.at - self.judged.before
+        spans = [self.library.span(text, at, self.model) for text in (old, new)]
+        texts = [
+            "nothing" if span is None else shown(text[span.start : span.end]) for text, span in zip((old, new), spans)
+        ]
+        return " and ".join(texts)
+
+    def example(self, old: bytes, new: bytes) -> str:
+        """Returns what the two print for arguments that tell them apart."""
+        arguments = shortened(self.library, old, new, self.judged.verdict.arguments, self.model)
+        first, second = (self.library.printed(it, arguments, self.model) for it in (old, new))
+        listed = f"for {shown_arguments(arguments)}"
+        if first is None or second is None or first == second:
+            return f" {listed}" if arguments else ""
+        printed = cut(shown(first), shown(second))
+        return f" print {printed[0]} and {printed[1]}" + (f" {listed}" if arguments else "")
+
+
+def type_at(library: Any, text: bytes, index: int, model: Model) -> str:
+    """Returns the name of the type of a format's argument."""
+    types = library.types(text, model)
+    return TYPE_NAMES[Type(types[index])] if index < len(types) else "no argument"
+
+
+def text_of(place: Place, model: Model) -> str:
+    """Returns the text of a place in a data model, or its source if that isn't known."""
+    text = place.text(model)[0]
+    return place.shown() if text is None else printable(text)
+
+
+def printable(text: bytes) -> str:
+    return text.decode(errors="backslashreplace")
+
+
+def cut(first: str, second: str) -> List[str]:
+    """Returns two texts cut short, so that each shows where they begin to differ."""
+    at = shared_front(first, second)
+    found = []
+    for text in (first, second):
+        start = max(at - BEFORE, 0) if max(len(first), len(second)) > SHOWN else 0
+        piece = text[start : start + SHOWN]
+        found.append((".." if start else "") + piece + (".." if start + SHOWN < len(text) else ""))
+    return found

@@ -1,0 +1,171 @@
+"""What the commands find in files, in one shape, and how it is printed: as text, JSON, SARIF or commands of GitHub."""
+
+from __future__ import annotations
+
+import json
+import os
+import sys
+from dataclasses import dataclass, field
+from typing import Any, Callable, Dict, List, Mapping, Optional, TextIO, Tuple
+from urllib.parse import quote
+
+from . import Type, __version__
+
+# The names of types that all commands use.
+TYPE_NAMES = {
+    Type.INT: "int",
+    Type.UINT: "unsigned int",
+    Type.LONG: "long",
+    Type.ULONG: "unsigned long",
+    Type.LONG_LONG: "long long",
+    Type.ULONG_LONG: "unsigned long long",
+    Type.STRING: "string",
+    Type.DOUBLE: "double",
+    Type.LONG_DOUBLE: "long double",
+    Type.WIDE_CHAR: "wide character",
+    Type.WIDE_STRING: "wide string",
+    Type.POINTER_TO_VOID: "pointer",
+    Type.POINTER_TO_SCHAR: "pointer to signed char",
+    Type.POINTER_TO_SHORT: "pointer to short",
+    Type.POINTER_TO_INT: "pointer to int",
+    Type.POINTER_TO_LONG: "pointer to long",
+    Type.POINTER_TO_LONG_LONG: "pointer to long long",
+}
+ERROR, WARNING, NOTE = "error", "warning", "note"
+# What GitHub calls the levels.
+GITHUB_LEVELS = {ERROR: "error", WARNING: "warning", NOTE: "notice"}
+SARIF_SCHEMA = "https://json.schemastore.org/sarif-2.1.0.json"
+
+
+@dataclass(frozen=True)
+class Finding:
+    """Something that a command found in a file.
+
+    Lines and columns count from 1, and `end` is after the last character. A column is None if it isn't known, and a
+    line is 0 if the finding is of the file as a whole. `level` is "error", "warning" or "note". `formats` are those in
+    question, and `models` the names of the data models in which it holds. `details` are more keys for JSON.
+    """
+
+    file: str
+    line: int
+    column: Optional[int]
+    kind: str
+    level: str
+    message: str
+    end: Optional[Tuple[int, int]] = None
+    formats: Tuple[str, ...] = ()
+    models: Tuple[str, ...] = ()
+    details: Mapping[str, Any] = field(default_factory=dict)
+
+    @property
+    def place(self) -> str:
+        """The file and the position, as GNU programs write them."""
+        known = [it for it in (self.line or None, self.column) if it is not None]
+        return "".join(f"{it}:" for it in (self.file, *known))
+
+
+def as_text(finding: Finding) -> str:
+    return f"{finding.place} {finding.message}"
+
+
+def as_json(finding: Finding) -> str:
+    found: Dict[str, Any] = {"file": finding.file, "line": finding.line, "column": finding.column}
+    if finding.end:
+        found.update(end_line=finding.end[0], end_column=finding.end[1])
+    found.update(kind=finding.kind, level=finding.level, message=finding.message, models=list(finding.models))
+    return json.dumps({**found, **finding.details})
+
+
+def as_github(finding: Finding) -> str:
+    """Returns a workflow command, whose values escape what ends them."""
+    values = {"file": finding.file}
+    if finding.line:
+        values["line"] = str(finding.line)
+    if finding.line and finding.column:
+        values["col"] = str(finding.column)
+        if finding.end and finding.end[0] == finding.line:
+            values["endColumn"] = str(finding.end[1])
+        elif finding.end:
+            values["endLine"] = str(finding.end[0])
+    listed = ",".join(f"{name}={escaped(value, ':,')}" for name, value in values.items())
+    return f"::{GITHUB_LEVELS[finding.level]} {listed}::{escaped(finding.message)}"
+
+
+def escaped(value: str, marks: str = "") -> str:
+    """Returns a value of a workflow command, in which marks, `%` and the ends of lines are `%` and two digits."""
+    return "".join(f"%{ord(it):02X}" if it in "%\r\n" + marks else it for it in value)
+
+
+def uri(file: str) -> str:
+    """Returns the name of a file as a relative reference, or as a URI if it is absolute."""
+    path = quote(os.fsencode(file))
+    return f"file://{path}" if file.startswith("/") else path
+
+
+def sarif_result(finding: Finding, rules: List[str]) -> Dict[str, Any]:
+    region: Dict[str, int] = {}
+    if finding.line:
+        region["startLine"] = finding.line
+    if finding.line and finding.column:
+        region["startColumn"] = finding.column
+        if finding.end:
+            region.update(endLine=finding.end[0], endColumn=finding.end[1])
+    place: Dict[str, Any] = {"artifactLocation": {"uri": uri(finding.file)}}
+    if region:
+        place["region"] = region
+    return {
+        "ruleId": finding.kind,
+        "ruleIndex": rules.index(finding.kind),
+        "level": finding.level,
+        "message": {"text": finding.message},
+        "locations": [{"physicalLocation": place}],
+        "properties": {"models": list(finding.models), **finding.details},
+    }
+
+
+def as_sarif(command: str, rules: Mapping[str, str], findings: List[Finding]) -> str:
+    """Returns a log of SARIF 2.1.0 with one run."""
+    listed = [{"id": kind, "shortDescription": {"text": text}} for kind, text in rules.items()]
+    driver = {"name": command, "version": __version__, "rules": listed}
+    results = [sarif_result(it, list(rules)) for it in findings]
+    run = {"tool": {"driver": driver}, "columnKind": "unicodeCodePoints", "results": results}
+    return json.dumps({"$schema": SARIF_SCHEMA, "version": "2.1.0", "runs": [run]}, indent=2)
+
+
+OUTPUTS = ("text", "json", "sarif", "github")
+
+
+def put(stream: TextIO, line: str) -> None:
+    """Writes a line in UTF-8, in which names of files may have any bytes."""
+    stream.buffer.write(line.encode("utf-8", "surrogateescape") + b"\n")
+    stream.flush()
+
+
+class Printer:
+    """Prints findings in one form, each as soon as it is there; only SARIF waits for the last.
+
+    `rules` are the kinds that the command has, each with what it means; `text` is how it prints a finding as text.
+    """
+
+    def __init__(
+        self,
+        command: str,
+        output: str,
+        rules: Mapping[str, str],
+        stream: Optional[TextIO] = None,
+        text: Callable[[Finding], str] = as_text,
+    ) -> None:
+        self.command, self.output, self.rules = command, output, rules
+        self.stream = sys.stdout if stream is None else stream
+        self.line = {"text": text, "json": as_json, "github": as_github}.get(output, as_text)
+        self.waiting: List[Finding] = []
+
+    def add(self, finding: Finding) -> None:
+        if self.output == "sarif":
+            self.waiting.append(finding)
+        else:
+            put(self.stream, self.line(finding))
+
+    def end(self) -> None:
+        if self.output == "sarif":
+            put(self.stream, as_sarif(self.command, self.rules, self.waiting))

@@ -1,0 +1,126 @@
+"""The command line of fmtcanon-replace."""
+
+import argparse
+import os
+import re
+from typing import Any, List, Optional, Sequence, Tuple
+
+from ..command_line import Parser
+from .pairs import Wrong, format_of, pairs_in
+
+NAME = "fmtcanon-replace"
+USAGE = """\
+fmtcanon-replace [OPTION].. OLD NEW [FILE..]
+       fmtcanon-replace [OPTION].. --pairs FILE [FILE..]
+       fmtcanon-replace [OPTION].. --list [FILE..]
+       fmtcanon-replace [OPTION].. --list-functions [FILE..]"""
+DESCRIPTION = """\
+Replaces printf formats by others in C source. Nothing is replaced unless both take the same
+arguments and print the same bytes for all of them.
+
+OLD and NEW are formats as C has them between the quotes, so '%i\\n' ends in a newline. A place is one
+or more string literals side by side that make up OLD. It is replaced if it is the format of a call
+of the C library's printf family, of a function given by --function, or, with --attribute, of one
+that is declared with the attribute format(printf, ..). The file's own compiler preprocesses it, and
+libclang (the package python3-clang) finds the calls in that text. The result is preprocessed again:
+only the replaced literals may differ. Parts that OLD and NEW share keep their spelling.
+
+FILE is a file or a folder, of which all C and C++ files are read. Without one, they are those of the
+compile commands in -p."""
+EPILOG = """\
+Each place is reported: that it is replaced, or that it is left, and why. So is each place that means
+the same as OLD and is spelled otherwise; one that is NEW already is not. Arguments are counted from 0.
+
+The exit status is 0 if no place was left, 1 if one was, 2 for a usage error, a format that is
+rejected, or a file that can't be read or written."""
+# What isn't a pair of formats and files.
+MODES = ("pairs", "list", "list_functions")
+
+
+def parser() -> Parser:
+    """Returns the definition of the command line."""
+    made = Parser(NAME, USAGE, DESCRIPTION, EPILOG)
+    add_calls(made)
+    made.add_model(
+        "the data models in which OLD and NEW must mean the same: "
+        "lp64, ilp32, llp64, both for the first two, or all, the default"
+    )
+    add_modes(made)
+    made.add_output()
+    made.add_argument(
+        "--jobs", type=int, default=os.cpu_count() or 1, metavar="N", help="how many files are read at a time"
+    )
+    made.add_argument("operands", metavar="OLD NEW FILE", nargs="*", help="two formats, and files or folders")
+    return made
+
+
+def add_calls(made: Parser) -> None:
+    """Adds the options that say how files are compiled, and whose formats are known."""
+    database = "the folder of compile_commands.json; without FILE all its files are read"
+    made.add_argument("-p", metavar="DIR", dest="database", help=database)
+    flag = "without -p, a flag of the compile command, which is cc: --flag=-Iinclude"
+    made.add_argument("--flag", action="append", default=[], metavar="FLAG", help=flag)
+    attribute = "functions with the attribute format(printf, ..) are known"
+    made.add_argument("--attribute", action="store_true", help=attribute)
+    function = "NAME prints its argument INDEX, counted from 0, as printf does"
+    made.add_argument(
+        "--function", action="append", default=[], type=function_of, metavar="NAME:INDEX", help=function
+    )
+
+
+def add_modes(made: Parser) -> None:
+    """Adds the options that say what is done."""
+    for option, text in [
+        ("--posix-locale", "the program prints in the POSIX locale alone; otherwise a format with the flag ' is left"),
+        ("--dry-run", "report what would be done, and change no file"),
+        ("--diff", "print a unified diff, and change no file; what is done with each place goes to standard error"),
+        ("--list", "print all formats of the files, grouped by their meaning, and change no file"),
+        (
+            "--list-functions",
+            "print the functions that the formats of the files are arguments of, "
+            "or without files those whose formats are known",
+        ),
+    ]:
+        made.add_argument(option, action="store_true", help=text)
+    pairs = "replace the formats of a file that has an OLD and a NEW in each line, with a tab between"
+    made.add_argument("--pairs", metavar="FILE", help=pairs)
+
+
+def function_of(word: str) -> Tuple[str, int]:
+    """Returns the name and the index that `NAME:INDEX` gives."""
+    found = re.fullmatch(r"([A-Za-z_]\w*):(\d+)", word)
+    if not found:
+        raise argparse.ArgumentTypeError(f"{word!r} isn't NAME:INDEX")
+    return found[1], int(found[2])
+
+
+def parsed(words: Optional[Sequence[str]]) -> Any:
+    """Returns the options, with `formats`, the pairs, and `files`. A usage error ends the command."""
+    made = parser()
+    options, more = made.parsed(words)
+    operands: List[str] = [*options.operands, *more]
+    modes = [it for it in MODES if getattr(options, it)]
+    if len(modes) > 1:
+        made.error(f"give one of --{modes[0]} and --{modes[1]}".replace("_", "-"))
+    options.formats, options.files = [], operands
+    if options.pairs:
+        try:
+            options.formats = pairs_in(options.pairs)
+        except Wrong as wrong:
+            made.error(str(wrong))
+    elif not modes:
+        options.formats, options.files = [pair_of(made, operands)], operands[2:]
+    return options
+
+
+def pair_of(made: Parser, operands: Sequence[str]) -> Tuple[bytes, bytes]:
+    """Returns OLD and NEW."""
+    if len(operands) < 2:
+        made.error(f"the following arguments are required: {', '.join(['OLD', 'NEW'][len(operands):])}")
+    formats = []
+    for name, operand in zip(("OLD", "NEW"), operands):
+        text = format_of(os.fsencode(operand))
+        if text is None:
+            made.error(f"argument {name}: {operand!r} isn't a format as C has it between the quotes")
+        formats.append(text)
+    return formats[0], formats[1]

@@ -1,0 +1,296 @@
+"""Tries fmtcanon-diff: on changes with the verdicts written down by hand, on files, folders and git, and on what can't be read.
+
+`tests/examples.py` runs it; `tests/more.py` tries its time.
+"""
+
+import json
+import os
+import resource
+import shutil
+import subprocess
+import sys
+import tempfile
+import time
+from pathlib import Path
+
+import changes
+from harness import TIMEOUT, TOP, examples
+
+# Two files, and what is said of the second.
+OLD = """\
+void f(long n, int x) {
+    printf("%05d\\n", x);
+    printf("%s has %lu\\n", name, n);
+    printf("%td\\n", n);
+    printf("%d files\\n", x); puts("%d");
+    printf("%d %d\\n", x, x);
+    printf("%d!\\n", x);
+    gone("%d");
+}
+"""
+NEW = """\
+void f(long n, int x) {
+    printf("%.5d\\n", x);
+    printf("%s has %d\\n", name, n);
+    printf("%ld\\n", n);
+    printf("%d file names\\n", x); puts("%s");
+    printf("%i "
+           "%d\\n", x, x);
+    printf("%d%!\\n", x);
+    came("%d %s", x, name); came("%d");
+}
+"""
+LINES = """\
+FILE:2:12: different: "%05d\\n" and "%.5d\\n" print "-0001\\n" and "-00001\\n" for -1
+FILE:3:12: types differ at argument 1: unsigned long and int
+FILE:4:12: same in lp64 only: "%td\\n" and "%ld\\n"
+FILE:5:12: the words differ: "%d files\\n" and "%d file names\\n"
+FILE:6:12: same: "%d %d\\n" and "%i %d\\n"
+FILE:8:12: not judged: refused 3 Unexpected at byte 3 of "%d%!\\n"
+"""
+SUMMARY = "6 places changed: 1 same, 2 different, 2 with other types, 0 with other directives, 1 not judged; 2 literals came, 1 went\n"
+USAGE = [
+    ([], "give OLD and NEW, or --git"),
+    (["a.c"], "give OLD and NEW, or --git"),
+    (["a.c", "b.c", "c.c"], "give OLD and NEW, or --git"),
+    (["--git", "a", "b", "c"], "--git takes at most two revisions"),
+    (["--model", "LP64", "a.c", "b.c"], "argument --model: invalid choice: 'LP64'"),
+    (["--output=xml", "a.c", "b.c"], "argument --output: invalid choice: 'xml'"),
+    (["--what", "a.c", "b.c"], "--what"),
+    (["--jobs", "many", "a.c", "b.c"], "argument --jobs: invalid int value: 'many'"),
+]
+# The seconds that a tree of a million lines with a thousand changed files, and a line of ten million bytes, may take.
+TREE_SECONDS, LINE_SECONDS = 60, 10
+FILES, LINES_OF_FILE, LONG_LINE = 1_000, 1_000, 10_000_000
+
+
+class Tool:
+    """The command in a folder."""
+
+    def __init__(self, program, folder, work):
+        self.work = Path(work)
+        self.words = [sys.executable, "-m", "fmtcanon.diff"]
+        self.environment = {
+            **os.environ, "FMTCANON_LIBRARY": str(folder / "libfmtcanon.so.0"), "FMTCANON_PROGRAM": program, "PYTHONPATH": str(TOP / "python"),
+            "PYTHONDONTWRITEBYTECODE": "1", "GIT_CONFIG_GLOBAL": os.devnull, "GIT_CONFIG_SYSTEM": os.devnull, "GIT_CEILING_DIRECTORIES": str(self.work.parent),
+            "GIT_AUTHOR_NAME": "a", "GIT_AUTHOR_EMAIL": "a@b", "GIT_COMMITTER_NAME": "a", "GIT_COMMITTER_EMAIL": "a@b",
+        }
+
+    def run(self, *words, where=".", **names):
+        done = subprocess.run(
+            [*self.words, *words], cwd=self.work / where, env={**self.environment, **names}, timeout=10 * TIMEOUT, check=False, stdin=subprocess.DEVNULL, capture_output=True
+        )
+        return done.returncode, done.stdout.decode(errors="surrogateescape"), done.stderr.decode(errors="surrogateescape")
+
+    def put(self, name, text):
+        file = self.work / name
+        file.parent.mkdir(parents=True, exist_ok=True)
+        file.write_bytes(text.encode() if isinstance(text, str) else text)
+        return file
+
+    def git(self, *words):
+        return subprocess.run(["git", *words], cwd=self.work, env=self.environment, check=True, timeout=TIMEOUT, stdout=subprocess.PIPE).stdout.decode()
+
+
+def program_of(body):
+    return body if isinstance(body, bytes) else f"{changes.FRONT}int main(void) {{\n{body}\nreturn 0;\n}}\n".encode()
+
+
+def printed(work, source):
+    """What a program prints, or what its compiler says."""
+    words = ["gcc", "-w", "-x", "c", "-o", work / "program", "-"]
+    built = subprocess.run(words, input=source, timeout=TIMEOUT, check=False, capture_output=True)
+    if built.returncode:
+        return built.stderr
+    return subprocess.run([work / "program"], timeout=TIMEOUT, check=False, stdout=subprocess.PIPE).stdout
+
+
+def try_changes(tool, trials):
+    """Each change has its verdict; what is printed differently is printed differently by gcc's program."""
+    for number, (_, old, new, _) in enumerate(changes.CHANGES):
+        tool.put(f"old/{number:02}.c", program_of(old))
+        tool.put(f"new/{number:02}.c", program_of(new))
+    status, output, _ = tool.run("--verbose", "--output", "json", "old", "new")
+    found = [json.loads(line) for line in output.splitlines()]
+    trials.expect("the status of all changes", status, 1)
+    trials.expect("keys of a finding", [one for one in found if not {"file", "line", "column", "kind", "level", "message", "models", "old", "new"} <= set(one)], [])
+    for number, (name, old, new, wanted) in enumerate(changes.CHANGES):
+        kinds = ["words" if one.get("words") else one["kind"] for one in found if one["file"] == f"new/{number:02}.c"]
+        trials.expect(f"{name}: {old!r} and {new!r}", kinds, wanted)
+        if wanted in (changes.DIFFERENT, changes.WORDS) and isinstance(old, str):
+            outputs = [printed(tool.work, program_of(one)) for one in (old, new)]
+            trials.expect(f"{name}: what is printed: {outputs}", outputs[0] != outputs[1] and b"error" not in b"".join(outputs), True)
+        if wanted == changes.SAME and isinstance(old, str):
+            trials.expect(f"{name}: what is printed", *[printed(tool.work, program_of(one)) for one in (old, new)])
+
+
+def try_lines(tool, trials):
+    """The lines of each kind of finding, in files and in folders."""
+    tool.put("old/src/a.c", OLD)
+    tool.put("new/src/a.c", NEW)
+    tool.put("old/only.c", 'f("a");')
+    tool.put("new/text.txt", 'f("a");')
+    plain = "".join(line for line in LINES.splitlines(keepends=True) if ": same: " not in line)
+    for words, file, lines, more in [
+        (["old/src/a.c", "new/src/a.c"], "new/src/a.c", plain, 0), (["--verbose", "old/src/a.c", "new/src/a.c"], "new/src/a.c", LINES, 0),
+        (["old", "new"], "new/src/a.c", plain, 1), (["--model=all", "old", "new/"], "new/src/a.c", plain, 1), (["--jobs", "1", "--", "old", "new"], "new/src/a.c", plain, 1),
+    ]:
+        wanted = (1, lines.replace("FILE", file), SUMMARY.replace("1 went", f"{1 + more} went"))
+        trials.expect(f"fmtcanon-diff {words}", tool.run(*words), wanted)
+    trials.expect("two files that are equal", tool.run("old/src/a.c", "old/src/a.c"), (0, "", ""))
+    status, output, _ = tool.run("--model", "lp64", "--verbose", "old", "new")
+    trials.expect("--model lp64", (status, 'new/src/a.c:4:12: same: "%td\\n" and "%ld\\n"\n' in output, "only" in output), (1, True, False))
+    tool.put("c.c", 'printf("%d\\n", x);')
+    tool.put("d.c", 'printf("%i\\n", x);')
+    trials.expect("what is the same", tool.run("c.c", "d.c")[:2], (0, ""))
+    tool.put("d.c", 'printf("%d %y\\n", x);')
+    trials.expect("what isn't judged", tool.run("c.c", "d.c")[:2], (0, 'd.c:1:8: not judged: refused 3 Unexpected at byte 4 of "%d %y\\n"\n'))
+    status, output, _ = tool.run("--output", "sarif", "--verbose", "old", "new")
+    log = json.loads(output)
+    results = log["runs"][0]["results"]
+    trials.expect("the log of SARIF", (status, log["version"], [one["ruleId"] for one in results]), (1, "2.1.0", ["different", "types", "types", "different", "same", "unjudged"]))
+    region = {"startLine": 6, "startColumn": 12, "endLine": 7, "endColumn": 18}
+    trials.expect("a region of it", results[4]["locations"][0]["physicalLocation"], {"artifactLocation": {"uri": "new/src/a.c"}, "region": region})
+    status, output, _ = tool.run("--output", "github", "old", "new")
+    wanted = "::error file=new/src/a.c,line=3,col=12,endColumn=25::types differ at argument 1: unsigned long and int"
+    trials.expect("a command of GitHub", (status, wanted in output.splitlines()), (1, True))
+
+
+def try_git(tool, trials):
+    """The work tree, revisions and paths of a repository."""
+    tool.put("src/a.c", OLD)
+    tool.put("b.c", 'printf("%d\\n", x);\n' * 9)
+    tool.put("notes.txt", '"%d"')
+    tool.git("init", "-q")
+    message = "fmtcanon-diff: git: the repository has no commits\n"
+    trials.expect("a repository without commits", tool.run("--git"), (2, "", message))
+    tool.git("add", ".")
+    tool.git("commit", "-qm", "first")
+    trials.expect("no change", tool.run("--git"), (0, "", ""))
+    tool.put("src/a.c", NEW)
+    tool.put("notes.txt", '"%s"')
+    plain = "".join(line for line in LINES.splitlines(keepends=True) if ": same: " not in line)
+    wanted = (1, plain.replace("FILE", "src/a.c"), SUMMARY)
+    for words in [["--git"], ["--git", "HEAD"], ["--git", "--", "src"], ["--git", "HEAD", "--", "src/a.c", "b.c"]]:
+        trials.expect(f"fmtcanon-diff {words}", tool.run(*words), wanted)
+    trials.expect("in a folder", tool.run("--git", "--", ".", where="src"), (1, plain.replace("FILE", "a.c"), SUMMARY))
+    trials.expect("another path", tool.run("--git", "--", "b.c"), (0, "", ""))
+    trials.expect("a path of another kind", tool.run("--git", "--", "notes.txt")[0], 1)
+    tool.git("commit", "-qam", "second")
+    tool.git("mv", "b.c", "c.c")
+    tool.put("c.c", 'printf("%d\\n", x);\n' * 8 + 'printf("%u\\n", x);\n')
+    tool.git("commit", "-qam", "third")
+    renamed = (1, "c.c:9:8: types differ at argument 0: int and unsigned int\n", SUMMARY.replace("6 places", "1 places").replace("1 same, 2 different, 2", "0 same, 0 different, 1").replace("1 not", "0 not").replace("2 literals came, 1", "0 literals came, 0"))
+    for words in [["--git", "HEAD~1", "HEAD"], ["--git", "HEAD~1..HEAD"], ["--git", "HEAD~1"], ["--git", "HEAD~1", "--", "c.c", "b.c"]]:
+        trials.expect(f"a file with another name: {words}", tool.run(*words), renamed)
+    status, output, _ = tool.run("--git", "HEAD~2", "HEAD", "--output", "json")
+    trials.expect("two commits", (status, len(output.splitlines())), (1, 6))
+    for number in range(30):
+        tool.put(f"many/{number:02}.c", 'f("%d");')
+    tool.git("add", "many")
+    tool.git("commit", "-qm", "fourth")
+    for number in range(30):
+        tool.put(f"many/{number:02}.c", 'f("%u");')
+    status, output, _ = tool.run("--git", "--", "many")
+    wanted = [f"many/{number:02}.c:1:3: types differ at argument 0: int and unsigned int" for number in range(30)]
+    trials.expect("many files", (status, output.splitlines()), (1, wanted))
+    tool.git("checkout", "-q", "many")
+    (tool.work / "c.c").unlink()
+    trials.expect("a file that went", tool.run("--git"), (0, "", "0 places changed: 0 same, 0 different, 0 with other types, 0 with other directives, 0 not judged; 0 literals came, 9 went\n"))
+    for words, said in [(["--git", "nowhere"], "git: there is no revision nowhere"), (["--git", "--", "../outside"], "git: ")]:
+        status, output, fault = tool.run(*words)
+        trials.expect(f"fmtcanon-diff {words}", (status, output, fault.startswith(f"fmtcanon-diff: {said}")), (2, "", True))
+
+
+def try_faults(tool, trials):
+    """What can't be read is named, and the status is 2."""
+    tool.put("a.c", 'printf("%d", x);')
+    tool.put("b.c", b'printf("%u", x);\0')
+    tool.put("folder/a.c", 'printf("%u", x);')
+    for words, said in [
+        (["a.c", "b.c"], "b.c: it is a binary file"), (["a.c", "nothing.c"], "nothing.c: No such file or directory"), (["a.c", "folder"], "a.c and folder: one is a folder, and the other is a file"),
+    ]:
+        status, output, fault = tool.run(*words)
+        trials.expect(f"fmtcanon-diff {words}", (status, output, fault.startswith(f"fmtcanon-diff: {said}"), fault.count("\n")), (2, "", True, 1))
+    found = tool.run("--git", PATH=str(tool.work))
+    trials.expect("no git", found, (2, "", "fmtcanon-diff: git can't be run: No such file or directory\n"))
+    for words, said in USAGE:
+        status, output, fault = tool.run(*words)
+        trials.expect(f"fmtcanon-diff {words}: {fault}", (status, output, fault.startswith("usage: fmtcanon-diff"), said in fault.splitlines()[-1]), (2, "", True, True))
+    status, output, fault = tool.run("-h")
+    trials.expect("fmtcanon-diff -h", (status, output.startswith("usage: fmtcanon-diff [OPTION].. OLD NEW"), fault), (0, True, ""))
+    trials.expect("fmtcanon-diff --version", tool.run("--version"), (0, "fmtcanon 0.2.0\n", ""))
+    status, output, fault = tool.run("a.c", "folder/a.c", FMTCANON_LIBRARY="nowhere")
+    trials.expect("no library", (status, output, fault.startswith("fmtcanon-diff: the library of fmtcanon isn't there: ")), (2, "", True))
+    found = tool.run("a.c", "folder/a.c", FMTCANON_PROGRAM="nowhere")
+    trials.expect("no program", found[:2], (1, "folder/a.c:1:8: types differ at argument 0: int and unsigned int\n"))
+    # One file that can't be read doesn't hide what is found in another.
+    tool.put("old/a.c", 'printf("%d", x);')
+    tool.put("old/b.c", "x")
+    tool.put("new/a.c", 'printf("%u", x);')
+    tool.put("new/b.c", "\0")
+    status, output, fault = tool.run("old", "new")
+    trials.expect("a binary file in a folder", (status, output, fault.splitlines()[0]), (2, "new/a.c:1:8: types differ at argument 0: int and unsigned int\n", "fmtcanon-diff: new/b.c: it is a binary file"))
+    # Root may read any file, except through a link that leads in a circle.
+    (tool.work / "circle.c").symlink_to("circle.c")
+    status, output, fault = tool.run("a.c", "circle.c")
+    trials.expect("a file that can't be read", (status, output, fault.startswith("fmtcanon-diff: circle.c: ")), (2, "", True))
+
+
+def try_document(tool, trials):
+    """Each command of docs/DIFF.md prints what is shown below it."""
+    script = f"fmtcanon-diff() {{ '{sys.executable}' -m fmtcanon.diff \"$@\"; }}\n"
+    for command, output in examples(TOP / "docs/DIFF.md"):
+        words = ["bash", "-c", script + command]
+        done = subprocess.run(words, cwd=tool.work, env=tool.environment, check=False, stdout=subprocess.PIPE, stderr=subprocess.STDOUT, timeout=TIMEOUT)
+        trials.expect(f"docs/DIFF.md: {command}", done.stdout.decode(), "".join(f"{line}\n" for line in output))
+
+
+def try_no_repository(tool, trials):
+    status, output, fault = tool.run("--git")
+    trials.expect("no repository", (status, output, fault.startswith("fmtcanon-diff: git: not a git repository"), fault.count("\n")), (2, "", True, 1))
+
+
+def try_diffing(program, folder, trials):
+    with_git = [try_git, try_no_repository]
+    if not shutil.which("git"):
+        print(f"not run, since there is no git here: {', '.join(it.__name__ for it in with_git)}")
+        with_git = []
+    for part in [try_changes, try_lines, *with_git, try_faults, try_document]:
+        with tempfile.TemporaryDirectory() as work:
+            part(Tool(program, folder, os.path.realpath(work)), trials)
+
+
+def timed(tool, *words):
+    """What a run answers, the seconds by the clock and those of the processors."""
+    before, began = resource.getrusage(resource.RUSAGE_CHILDREN), time.monotonic()
+    found = tool.run(*words)
+    after = resource.getrusage(resource.RUSAGE_CHILDREN)
+    return found, time.monotonic() - began, after.ru_utime - before.ru_utime
+
+
+def try_times(program, folder, trials):
+    """A tree of a million lines with a thousand changed files, and lines of ten million bytes."""
+    with tempfile.TemporaryDirectory() as work:
+        tool = Tool(program, folder, os.path.realpath(work))
+        body = "".join(f'    if (x > {n}) printf("line %d of {n}: %s\\n", x + {n}, "text"); /* a comment */\n' for n in range(LINES_OF_FILE - 2))
+        for number in range(FILES):
+            tool.put(f"old/{number}.c", f"void f(int x) {{\n{body}}}\n")
+            tool.put(f"new/{number}.c", f"void f(int x) {{\n{body}}}\n".replace("%d of 500:", "%5d of 500:"))
+        (status, output, _), seconds, of_processors = timed(tool, "old", "new")
+        print(f"{FILES * LINES_OF_FILE} lines with {FILES} changed files: {seconds:.1f} s, {of_processors:.1f} s of processors")
+        trials.expect("a tree", (status, len(output.splitlines())), (1, FILES))
+        trials.expect(f"a tree in {TREE_SECONDS} seconds", seconds < TREE_SECONDS, True)
+        for name, unit in [("one literal", "x%d"), ("words", "a b c ")]:
+            for side, more in [("old.c", "%05d"), ("new.c", "%.5d")]:
+                tool.put(side, f'f("{unit * (LONG_LINE // len(unit))}{more}");')
+            (status, output, _), seconds, _ = timed(tool, "old.c", "new.c")
+            trials.expect(f"a line of 10 MB, {name}: {output[:300]}", (status, output.startswith("new.c:1:3: "), len(output) < 400), (1, True, True))
+            trials.expect(f"a line of 10 MB, {name}, in {LINE_SECONDS} seconds: {seconds:.1f}", seconds < LINE_SECONDS, True)
+        calls = 'f("%d", 1); ' * (LONG_LINE // 12)
+        tool.put("old.c", calls + 'f("%05d", 1);' + calls[: LONG_LINE // 3])
+        tool.put("new.c", calls + 'f("%.5d", 1);' + calls[: LONG_LINE // 3])
+        (status, output, _), seconds, _ = timed(tool, "old.c", "new.c")
+        wanted = f'new.c:1:{len(calls) + 3}: different: "%05d" and "%.5d" print "-0001" and "-00001" for -1\n'
+        trials.expect("a line of 10 MB, calls", (status, output), (1, wanted))
+        trials.expect(f"a line of 10 MB, calls, in {LINE_SECONDS} seconds: {seconds:.1f}", seconds < LINE_SECONDS, True)

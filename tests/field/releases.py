@@ -1,0 +1,57 @@
+#!/usr/bin/env python3
+"""Prints what fmtcanon-diff says of releases of source trees: a table in Markdown.
+
+Usage: tests/field/releases.py OLD NEW [OLD NEW]..
+
+Each OLD and NEW are folders with two releases of one package. With --list it prints what is found instead. It needs the module
+fmtcanon with its library, and the program.
+"""
+
+import os
+import sys
+import time
+from collections import Counter
+from pathlib import Path
+
+TOP = Path(__file__).resolve().parent.parent.parent
+sys.path.insert(0, str(TOP / "python"))
+
+from fmtcanon import Model  # noqa: E402
+from fmtcanon.diff.command import reports  # noqa: E402
+from fmtcanon.diff.trees import changes_of  # noqa: E402
+from fmtcanon.findings import as_text  # noqa: E402
+
+COLUMNS = ["places", "judged", "same", "words", "different", "types", "directives", "unjudged", "came", "went"]
+HEADS = ["Releases", "Places changed", "Judged", "Same", "Only words differ", "Different", "Other types", "Other directives", "Not judged", "Came", "Went", "Seconds"]
+
+
+def surveyed(old, new, is_listed):
+    """Returns the numbers of places of each kind."""
+    counts = Counter()
+    for report in reports(changes_of(old, new), list(Model), os.cpu_count() or 1):
+        counts.update(came=report.came, went=report.went, places=len(report.findings))
+        for finding in report.findings:
+            counts["words" if finding.details.get("words") else finding.kind] += 1
+            counts["judged"] += finding.kind != "unjudged"
+            if is_listed:
+                print(as_text(finding))
+    return counts
+
+
+def main(words):
+    is_listed = words[:1] == ["--list"]
+    folders = words[is_listed:]
+    if not folders or len(folders) % 2:
+        sys.exit(__doc__)
+    if not is_listed:
+        print("| " + " | ".join(HEADS) + " |\n|" + "---|" * len(HEADS))
+    for old, new in zip(folders[::2], folders[1::2]):
+        began = time.monotonic()
+        counts = surveyed(old, new, is_listed)
+        if not is_listed:
+            cells = [f"{counts[it]:,}" for it in COLUMNS]
+            print(f"| {Path(old).name}, {Path(new).name} | " + " | ".join([*cells, f"{time.monotonic() - began:.0f}"]) + " |", flush=True)
+
+
+if __name__ == "__main__":
+    main(sys.argv[1:])
