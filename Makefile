@@ -2,17 +2,19 @@
 # make test              the gate: everything is proved and tested, except what was verified on this
 #                        machine before, then the program and the library are tried
 # make check-more        tries the library with tools that the gate doesn't need: clang, valgrind,
-#                        gettext, libclang, mypy, lintian, debootstrap, and the shells of the completions
+#                        gettext, libclang, mypy, lintian, debootstrap, meson, CMake, and the shells of the
+#                        completions
 # make mutants           tries mutants, which the prover must refuse, and the script that does so
 # make install PREFIX=   installs what `make` built: the program, the C library, the Python module
-#                        with its two commands, manual pages, completions and documents; below
+#                        with its three commands, manual pages, completions and documents; below
 #                        DESTDIR=, where that is given. It builds nothing
 # make uninstall PREFIX= takes all of that away again
 # make dist              an archive of what `make` built, which installs without the kit
 # make deb               a Debian package of it
 # make wheel             a wheel of the Python module with the library and the program inside
-# make tables SOURCES=   what the two commands say of a machine's own catalogs, and of source trees with a
-#                        compile_commands.json in these folders
+# make tables SOURCES= RELEASES=
+#                        what the commands say of a machine's own catalogs, of source trees with a
+#                        compile_commands.json in these folders, and of releases in pairs of folders
 
 PREFIX ?= /usr/local
 BINDIR ?= $(PREFIX)/bin
@@ -170,18 +172,20 @@ MADE = $(DOCDIR)/folders
 PKGCONFIG = 'prefix=$(PREFIX)' 'libdir=$(LIBDIR)' 'includedir=$(INCLUDEDIR)' '' \
     'Name: fmtcanon' 'Description: Canonical texts of printf formats' 'Version: $(VERSION)' \
     'Libs: -L$${libdir} -lfmtcanon' 'Cflags: -I$${includedir}'
-# The commands that are written in Python, with the folder of the module.
+# What a command that is written in Python begins with, with the folder of the module.
 COMMAND = '\#!$(PYTHON)' 'import sys' '' \
     '\# Python puts the folder of this file before the standard library, unless it is told not to.' \
     'if not (sys.flags.isolated or getattr(sys.flags, "safe_path", False)):' '    del sys.path[0]' \
     'sys.path.append("$(PYTHONDIR)")' '' "from fmtcanon.$$name.command import main" '' 'sys.exit(main())'
 CALLS = sed -n 's/^[a-z0-9_]* \(fmtcanon_[a-z_]*\)(.*/\1/p' include/fmtcanon.h
-MODULES = fmtcanon fmtcanon/po fmtcanon/replace
+MODULES = fmtcanon fmtcanon/diff fmtcanon/po fmtcanon/replace
+# The commands that are written in Python.
+COMMANDS = diff po replace
 
 install: places built
 	python3 packaging/folders.py make "$(DESTDIR)" $(MADE) $(BINDIR) $(INCLUDEDIR) $(LIBDIR)/pkgconfig $(PYTHONDIR) \
 	    $(addprefix $(PYTHONDIR)/,$(MODULES)) $(MANDIR)/man1 $(MANDIR)/man3 $(BASHDIR) $(ZSHDIR) $(FISHDIR) \
-	    $(DOCDIR)/docs $(DOCDIR)/examples
+	    $(DOCDIR)/docs $(DOCDIR)/examples $(DOCDIR)/examples/ci
 	install -m 755 $(PROGRAM) $(DESTDIR)$(BINDIR)/fmtcanon
 	install -m 644 include/fmtcanon.h $(DESTDIR)$(INCLUDEDIR)
 	install -m 644 $(C)/libfmtcanon.a $(DESTDIR)$(LIBDIR)
@@ -194,7 +198,7 @@ install: places built
 	install -m 644 python/fmtcanon/py.typed $(DESTDIR)$(PYTHONDIR)/fmtcanon
 	ln -sfr $(DESTDIR)$(LIBDIR)/$(SONAME) $(DESTDIR)$(PYTHONDIR)/fmtcanon/$(SONAME)
 	ln -sfr $(DESTDIR)$(BINDIR)/fmtcanon $(DESTDIR)$(PYTHONDIR)/fmtcanon/program
-	for name in po replace; do printf '%s\n' $(COMMAND) > $(DESTDIR)$(BINDIR)/fmtcanon-$$name && \
+	for name in $(COMMANDS); do printf '%s\n' $(COMMAND) > $(DESTDIR)$(BINDIR)/fmtcanon-$$name && \
 	    chmod 755 $(DESTDIR)$(BINDIR)/fmtcanon-$$name || exit 1; done
 	install -m 644 man/*.1 $(DESTDIR)$(MANDIR)/man1
 	install -m 644 man/*.3 $(DESTDIR)$(MANDIR)/man3
@@ -203,9 +207,14 @@ install: places built
 	install -m 644 completions/fmtcanon.bash $(DESTDIR)$(BASHDIR)/fmtcanon
 	install -m 644 completions/_fmtcanon $(DESTDIR)$(ZSHDIR)
 	install -m 644 completions/fmtcanon.fish $(DESTDIR)$(FISHDIR)
+	for name in $(COMMANDS); do \
+	    install -m 644 completions/fmtcanon-commands.bash $(DESTDIR)$(BASHDIR)/fmtcanon-$$name && \
+	    install -m 644 completions/fmtcanon-commands.fish $(DESTDIR)$(FISHDIR)/fmtcanon-$$name.fish || exit 1; done
+	install -m 644 completions/_fmtcanon-commands $(DESTDIR)$(ZSHDIR)
 	install -m 644 LICENSE README.md CHANGELOG.md $(DESTDIR)$(DOCDIR)
 	install -m 644 docs/*.md $(DESTDIR)$(DOCDIR)/docs
 	install -m 644 examples/canon.c $(DESTDIR)$(DOCDIR)/examples
+	install -m 644 examples/ci/* $(DESTDIR)$(DOCDIR)/examples/ci
 
 # Removes the files that an installation would make, and then the folders that it made, if they are empty. An
 # installation of an older version has no list of them: then the folders with its name are removed.
@@ -237,3 +246,4 @@ tables:
 	FMTCANON_LIBRARY=$(C)/$(SONAME) python3 tests/field/catalogs.py
 	FMTCANON_LIBRARY=$(C)/$(SONAME) python3 tests/field/mutations.py
 	$(if $(SOURCES),FMTCANON_LIBRARY=$(C)/$(SONAME) python3 tests/field/sources.py $(SOURCES))
+	$(if $(RELEASES),FMTCANON_LIBRARY=$(C)/$(SONAME) FMTCANON_PROGRAM=$(PROGRAM) python3 tests/field/releases.py $(RELEASES))

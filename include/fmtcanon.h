@@ -6,7 +6,8 @@
  *
  * The data model. What a format means hangs on it: in LP64 `%zu` is `%lu`, in ILP32 it is `%u`, in
  * LLP64 `%llu`. `model` is an enum fmtcanon_model, that of the machine on which the format is to be
- * used, whatever the library runs on. Which formats are accepted is the same in all.
+ * used, whatever the library runs on. Which formats are accepted is the same in all, except of numbered
+ * arguments: one that has two types in one data model may have one in another.
  *
  * Results. Below zero is an error: -1 to -22 where a format is refused, -201 to -206 where string
  * literals are, and then `*error` says why, where, and which format; FMTCANON_ERROR_NOMEMORY; or FMTCANON_ERROR_MODEL, which is the only
@@ -128,6 +129,19 @@ enum fmtcanon_type {
     FMTCANON_POINTER_TO_LONG_LONG = 17
 };
 
+/* Stands for an argument that a specification doesn't take. */
+#define FMTCANON_NO_ARGUMENT UINT64_MAX
+
+/* A conversion specification of a format. Arguments are counted from 0. */
+typedef struct fmtcanon_directive {
+    uint64_t begin;              /* the byte of its `%`, counted from 0 */
+    uint64_t end;                /* the byte after its conversion */
+    uint64_t argument;           /* the argument that it converts */
+    uint64_t width_argument;     /* the argument of a `*` as its width, or FMTCANON_NO_ARGUMENT */
+    uint64_t precision_argument; /* the argument of a `*` as its precision, or FMTCANON_NO_ARGUMENT */
+    uint64_t kind;               /* the type of the argument that it converts, an enum fmtcanon_type */
+} fmtcanon_directive;
+
 /* What two formats are to each other. */
 enum fmtcanon_verdict {
     FMTCANON_SAME = 1,     /* equal types, and equal bytes for all arguments */
@@ -203,6 +217,19 @@ int64_t fmtcanon_arguments(int model, const char *text, size_t len, unsigned cha
  * be of the whole language. It is the question to ask of a translation. Takes no memory. */
 int64_t fmtcanon_fits(int model, const char *first, size_t first_len, const char *second,
                       size_t second_len, fmtcanon_error *error);
+
+/* The data models in which fmtcanon_fits() is 1, an enum fmtcanon_models. A format that is refused in one
+ * data model is refused here: the error is that of the first data model in which one of the two is. Takes
+ * no memory. */
+int64_t fmtcanon_fits_models(const char *first, size_t first_len, const char *second,
+                             size_t second_len, fmtcanon_error *error);
+
+/* How many conversion specifications the format has, which may be of the whole language; `%%` is none. A
+ * record for each, in the order of the text, is put into `out`, which has room for `cap` records. An int is
+ * the argument of each `*`; the type of the argument that is converted is the one that
+ * fmtcanon_arguments() has at its index. Takes memory in proportion to their number. */
+int64_t fmtcanon_directives(int model, const char *text, size_t len, fmtcanon_directive *out,
+                            size_t cap, fmtcanon_error *error);
 
 /* The number of bytes of a source, which are put into `out` with a zero after them. A
  * source is one or more string literals of C with white space or none before, between and behind

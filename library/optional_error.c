@@ -57,6 +57,16 @@ WITH_OPTIONAL_ERROR(fmtcanon_fits,
                      size_t second_len, fmtcanon_error *error),
                     (model, first, first_len, second, second_len, error))
 
+WITH_OPTIONAL_ERROR(fmtcanon_fits_models,
+                    (const char *first, size_t first_len, const char *second, size_t second_len,
+                     fmtcanon_error *error),
+                    (first, first_len, second, second_len, error))
+
+WITH_OPTIONAL_ERROR(fmtcanon_directives,
+                    (int model, const char *text, size_t len, fmtcanon_directive *out, size_t cap,
+                     fmtcanon_error *error),
+                    (model, text, len, out, cap, error))
+
 WITH_OPTIONAL_ERROR(fmtcanon_decode_literal,
                     (const char *source, size_t len, char *out, size_t cap, fmtcanon_error *error),
                     (source, len, out, cap, error))

@@ -56,8 +56,8 @@ Description: canonical texts of printf formats
  It brings the format strings of the C function printf to one canonical
  spelling, and decides whether one may stand for another: the same
  arguments, and the same bytes printed. The package has the program, a C
- library, a Python module, a check of message catalogs and a command that
- replaces formats in C source.
+ library, a Python module, a check of message catalogs, a command that says
+ what a change of C source does to its formats and one that replaces them.
 CONTROL
 echo "libfmtcanon 0 fmtcanon (>= $1)" > "$stage/DEBIAN/shlibs"
 # Python's compiled modules come and go with the package.

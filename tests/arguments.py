@@ -8,9 +8,12 @@ line is 'N passed, M failed', and it exits with 1 where M isn't 0.
 
 `parse_printf_format` says how many arguments there are, where each is, and its kind; it knows no signs, takes `ll` for `l`
 and `%lc` for `%c`, and gives each pointer of `%n` one code. What is left is gcc's, whose warnings know all of a type.
+
+Where each specification is, and which arguments it takes, is compared with what a regular expression finds.
 """
 
 import ctypes
+import random
 import re
 import subprocess
 import sys
@@ -22,7 +25,7 @@ sys.dont_write_bytecode = True
 sys.path.insert(0, str(Path(__file__).resolve().parent))
 
 from harness import TIMEOUT, Trials  # noqa: E402
-from library import load_module  # noqa: E402
+from library import load_module, shapes  # noqa: E402
 
 INTEGER_LENGTHS = ["", "hh", "h", "l", "ll", "j", "z", "t"]
 # The length modifiers that each conversion takes (C11 7.21.6.1, paragraphs 7 and 8; POSIX for C and S).
@@ -87,6 +90,18 @@ MOST = 64
 # The greatest number of an argument here.
 GREATEST = 4095
 MANY = 10_000_000
+# A specification or `%%`, for formats that are accepted.
+SPECIFICATION = re.compile(
+    rb"%(?:%|(?:([1-9]\d*)\$)?[-+ #0']*(?:(\*)(?:(\d+)\$)?|\d+)?(?:\.(?:(\*)(?:(\d+)\$)?|\d*))?[hljztL]*([a-zA-Z]))"
+)
+# What random formats are made of, and how many there are.
+PARTS = [
+    b"%", b"%%", b"*", b".", b".*", b"1$", b"2$", b"*1$", b"*2$", b"5", b"0", b"-", b"#", b"l", b"h", b"L", b"z", b"d", b"lu",
+    b"s", b"f", b"n", b"p", b"a ",
+]
+IN_ORDER = [b"%d", b"%*d", b"%.*f", b"%*.*s", b"%-5.3lu", b"%%", b"%n", b"x", b".*%c", b"%lc", b"%+.e", b"%0*zx"]
+BY_NUMBER = [b"%2$s", b"%1$d", b"%2$*1$s", b"%1$.*1$i", b"%3$*1$.*1$x", b"%%", b"x.*", b"%2$.3s"]
+RANDOM = 100_000
 
 
 def specifications():
@@ -187,6 +202,53 @@ def other_calls(module):
                 yield option_for(name, other), call_of(format, [other])
 
 
+def found_directives(module, format, model):
+    """What a regular expression finds in an accepted format: each specification, and the arguments that it takes."""
+    types = module.arguments(format, model=model)
+    taken = 0
+    for match in SPECIFICATION.finditer(format):
+        number, is_width, width, is_precision, precision, letter = match.groups()
+        if letter is None:
+            continue
+        places = []
+        for is_star, star in [(is_width, width), (is_precision, precision), (letter, number)]:
+            if not is_star:
+                places.append(None)
+                continue
+            places.append(int(star) - 1 if star else taken)
+            taken += 1
+        *stars, last = places
+        yield module.DirectiveSpan(match.start(), match.end(), types[last], last, *stars)
+
+
+def directives_or_refusal(module, call, format, model):
+    try:
+        return list(call(format, model=model))
+    except module.Refused as refusal:
+        return refusal.kind, refusal.byte
+
+
+def random_formats():
+    chosen = random.Random(42)
+    for _ in range(RANDOM):
+        parts = chosen.choice([PARTS, IN_ORDER, BY_NUMBER])
+        yield b"".join(chosen.choices(parts, k=chosen.randrange(1, 7)))
+
+
+def try_directives(module, trials):
+    """The specifications of real and of random formats, in one data model after the other."""
+    accepted = {"real": 0, "random": 0}
+    for kind, texts in [("real", shapes()), ("random", random_formats())]:
+        for at, format in enumerate(texts):
+            model = module.Model(at % 3)
+            wanted = directives_or_refusal(module, lambda format, model: found_directives(module, format, model), format, model)
+            found = directives_or_refusal(module, module.directives, format, model)
+            accepted[kind] += isinstance(wanted, list) and wanted != []
+            if found != wanted:
+                trials.expect(f"specifications of {format!r} in {model.name}", found, wanted)
+    trials.expect("formats with specifications", (accepted["real"] > 3_900, accepted["random"] > 50_000), (True, True))
+
+
 def try_hostile(module, trials):
     """Texts that are long, or as far from the order of their arguments as may be."""
     letters = ["d", "s", "f", "lu"]
@@ -215,6 +277,7 @@ def main():
     module = load_module(program, folder)
     try_lengths(module, trials)
     try_hostile(module, trials)
+    try_directives(module, trials)
     try_parsed(module, ctypes.CDLL("libc.so.6"), trials)
     with tempfile.TemporaryDirectory() as name:
         try_compiled(module, trials, Path(name))

@@ -82,14 +82,14 @@ STRICTER = [
 ]
 # An int is printed as something else: a warning here, and a fault for msgfmt.
 CHANGED = [
-    ("%d", "%c", "argument 1 otherwise: as a number, and as a character"),
-    ("%d", "%hd", "argument 1 otherwise: as a number, and as a number of type short"),
-    ("%hhd", "%d", "argument 1 otherwise: as a number of type signed char, and as a number"),
-    ("%s %d", "%s %hhd", "argument 2 otherwise: as a number, and as a number of type signed char"),
-    ("%hhd", "%hhx", "argument 1 otherwise: as a number of type signed char, and as a number of type unsigned char"),
-    ("%hu", "%hi", "argument 1 otherwise: as a number of type unsigned short, and as a number of type short"),
-    ("%1$d", "%1$d %1$hd", "argument 1 otherwise: as a number, and as a number and a number of type short"),
-    ("%*d", "%d %d", "argument 1 otherwise: as a width or precision, and as a number"),
+    ("%d", "%c", "argument 0 otherwise: as a number, and as a character"),
+    ("%d", "%hd", "argument 0 otherwise: as a number, and as a number of type short"),
+    ("%hhd", "%d", "argument 0 otherwise: as a number of type signed char, and as a number"),
+    ("%s %d", "%s %hhd", "argument 1 otherwise: as a number, and as a number of type signed char"),
+    ("%hhd", "%hhx", "argument 0 otherwise: as a number of type signed char, and as a number of type unsigned char"),
+    ("%hu", "%hi", "argument 0 otherwise: as a number of type unsigned short, and as a number of type short"),
+    ("%1$d", "%1$d %1$hd", "argument 0 otherwise: as a number, and as a number and a number of type short"),
+    ("%*d", "%d %d", "argument 0 otherwise: as a width or precision, and as a number"),
 ]
 # Types that are equal under other spellings.
 UNCHANGED = [("%d", "%i"), ("%x", "%u"), ("%X", "%o"), ("%f", "%e"), ("%lc", "%C"), ("%ld", "%li"), ("%hd", "%hi"), ("%<PRId64>", "%<PRIi64>"), ("%<PRIu64>", "%<PRIx64>")]
@@ -295,7 +295,7 @@ def msgfmt_lines(file):
     """The lines in which msgfmt finds a fault of a format."""
     environment = {**os.environ, "LC_ALL": "C", "LANGUAGE": ""}
     done = subprocess.run(["msgfmt", "-c", "-o", os.devnull, file], env=environment, check=False, timeout=TIMEOUT, stderr=subprocess.PIPE)
-    words = r"^[^:\n]+:(\d+): [^\n]*(?:format specifications|valid C format)"
+    words = r"^[^:\n]+:(\d+): [^\n]*(?:format specifications|types of|valid C format)"
     return sorted({int(line) for line in re.findall(words, done.stderr.decode(errors="replace"), flags=re.MULTILINE)})
 
 

@@ -43,11 +43,12 @@ def catalog(generator, count, rule):
 def try_plurals(module, trials):
     """Both find faults in the same messages."""
     from fmtcanon.po.checking import Checker
+    from fmtcanon.po.command import as_msgfmt
 
     generator = random.Random(SEED)
     for count, rule in RULES:
         text, report = catalog(generator, count, rule), io.StringIO()
-        Checker(report, list(module.Model)).check_data("a.po", text.encode())
+        Checker(lambda it, out=report: print(as_msgfmt(it), file=out), list(module.Model)).check_data("a.po", text.encode())
         with tempfile.TemporaryDirectory() as work:
             file = Path(work) / "a.po"
             file.write_text(text)

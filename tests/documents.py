@@ -16,7 +16,9 @@ sys.dont_write_bytecode = True
 sys.path.insert(0, str(Path(__file__).resolve().parent))
 
 import arguments  # noqa: E402
+import changes  # noqa: E402
 import definition_names  # noqa: E402
+import diffing  # noqa: E402
 import library  # noqa: E402
 import linear  # noqa: E402
 import literals  # noqa: E402
@@ -100,6 +102,7 @@ def tested_counts():
     yield r"(\d+) sources, with each byte .* and (\d+) made by a fixed generator", [sum(1 for _ in literals.sources()), count]
     yield r"(\d+) texts with all bytes", [sum(1 for _ in literals.texts())]
     yield r"(\d+) formats of `tests/arguments.py`", [sum(1 for _ in arguments.formats())]
+    yield r"of (\d+) random formats are those that a regular expression finds", [arguments.RANDOM]
     yield r"(\d+) arguments in reverse, and texts of (\d+) million bytes", [arguments.GREATEST, arguments.MANY // 1_000_000]
     yield from limits()
     whole = data_rows("whole.jsonl")
@@ -107,6 +110,8 @@ def tested_counts():
     records = data_rows("records.jsonl")
     yield r"(\d+) rows of `tests/rows/records.jsonl`, (\d+) of them", [len(records), len(records) - HAND_RECORDS]
     yield r"(\d+) refused formats and (\d+) directives end after each byte, or a read fails there, and (\d+) formats in which", [data_count(name) for name in ["cut_refusals.jsonl", "cut_directives.jsonl", "fronts.jsonl"]]
+    yield r"(\d+) changes of C source", [len(changes.CHANGES)]
+    yield r"a million lines with (\d+) changed files, and lines of (\d+) million bytes", [diffing.FILES, diffing.LONG_LINE // 1_000_000]
     left = {name for name, _, _ in replacing.LEFT}
     yield r"(\d+) programs that would print something else .* (\d+) of which it is known that it can't see", [len(left) + len(replacing.NOT_SEEN), len(replacing.NOT_SEEN)]
     yield r"(\d+) runs worked out by hand, (\d+) worked reductions and (\d+) calls", [data_count(name) for name in ["commands.jsonl", "reduced.txt", "calls.jsonl"]]
@@ -135,7 +140,7 @@ def limits():
 # The rows that were worked out by hand, which come first.
 HAND_RECORDS = 11
 HAND_LITERALS = 27
-HAND_WHOLE = 29
+HAND_WHOLE = 44
 # Numbers of docs/TESTED.md that count no rows, tests or mutants.
 PLAIN_NUMBERS = [
     r"each of the 256 bytes after 7 beginnings", r"16 shapes", r"take 1, 2, 3 or 7 bytes a call and then fail in one of 5 ways", r"40000 arguments",

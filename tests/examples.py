@@ -1,5 +1,5 @@
 #!/usr/bin/env python3
-"""Tries fmtcanon-replace (replacing.py), fmtcanon-po (translations.py, catalog_edges.py), and the manual page and the completions against the program's help.
+"""Tries fmtcanon-diff (diffing.py), fmtcanon-replace (replacing.py), fmtcanon-po (translations.py, catalog_edges.py), and the manual page and the completions against the program's help.
 
 Usage: tests/examples.py PROGRAM FOLDER
 
@@ -16,7 +16,9 @@ from pathlib import Path
 sys.dont_write_bytecode = True
 sys.path.insert(0, str(Path(__file__).resolve().parent))
 
+import installing  # noqa: E402
 from catalog_edges import try_edges  # noqa: E402
+from diffing import try_diffing  # noqa: E402
 from harness import TIMEOUT, TOP, Trials, run  # noqa: E402
 from replacing import try_without_libclang  # noqa: E402
 from translations import try_catalogs  # noqa: E402
@@ -73,8 +75,9 @@ def try_page(program, trials):
     trials.expect("arguments of the manual page", dict(page_section(page, "ARGUMENTS")), wanted)
     name, text = model_option(helps["canon"])
     wider = re.search(r"possible values: .*(?=\])", model_option(helps["same"])[1]).group()
-    # One command takes more values than the others.
-    model = [(name, text[:-1] + wider.replace("possible values", "; under same") + "]")]
+    # Two commands take more values than the others.
+    trials.expect("values that same and fits take", model_option(helps["fits"]), model_option(helps["same"]))
+    model = [(name, text[:-1] + wider.replace("possible values", "; under same and fits") + "]")]
     given = [option for option in helps["types"]["Options"] if re.search("--(literal|null|whole)", option[0])]
     trials.expect("options of the manual page", list(page_section(page, "OPTIONS")), model + given + top["Options"])
     trials.expect("statuses of the manual page", list(page_section(page, "EXIT STATUS")), top["Exit status"])
@@ -90,6 +93,42 @@ def completed(words):
     file = TOP / "completions/fmtcanon.bash"
     done = subprocess.run(["bash", "-c", script, file, "fmtcanon", *words], stdout=subprocess.PIPE, timeout=TIMEOUT, check=True)
     return done.stdout.decode().split()
+
+
+def completed_command(name, words):
+    """What bash completes after a command that is written in Python and these words."""
+    script = 'source "$0"; name=$1; COMP_WORDS=("$@"); COMP_CWORD=$(($# - 1)); _fmtcanon_commands "$name"; printf "%s\\n" "${COMPREPLY[@]}"'
+    words = ["bash", "-c", script, TOP / "completions/fmtcanon-commands.bash", name, *words]
+    return subprocess.run(words, stdout=subprocess.PIPE, timeout=TIMEOUT, check=True).stdout.decode().split()
+
+
+def try_command_completions(trials):
+    """The completions of the commands that are written in Python have the options of their help."""
+    zsh, fish = ((TOP / f"completions/{name}").read_text(encoding="utf-8") for name in ["_fmtcanon-commands", "fmtcanon-commands.fish"])
+    for name in installing.COMMANDS:
+        options = [one.split()[0] for one in installing.options_of(name)]
+        listed = sorted({"-h", *options})
+        command = f"fmtcanon-{name}"
+        trials.expect(f"bash: {command} -", sorted(completed_command(command, ["-"])), listed)
+        trials.expect(f"bash: {command} --model", completed_command(command, ["--model", ""]), ["lp64", "ilp32", "llp64", "both", "all"])
+        trials.expect(f"bash: {command} --output=s", completed_command(command, ["--output", "=", "s"]), ["sarif"])
+        trials.expect(f"bash: {command} --output=j in one word", completed_command(command, ["--output=j"]), ["--output=json"])
+        trials.expect(f"bash: {command} --", completed_command(command, ["--", "-"]), [])
+        case = re.search(rf"^    {command}\)\n(.*?);;$", zsh, flags=re.DOTALL | re.MULTILINE).group(1)
+        common = zsh[: zsh.index("case $service")]
+        found = re.findall(r"(?<![\w-])(--?[a-z][a-z-]*)(?=[+=]|\[|,|})", common + case)
+        trials.expect(f"zsh: {command}", sorted(set(found)), listed)
+        found = set()
+        for block, commands in [(it[1], it[0].split()) for it in re.findall(r"^for command in (.*?)\n(.*?)^end$", fish, flags=re.DOTALL | re.MULTILINE)]:
+            found |= set(fish_options(block, r"\$command")) if command in commands else set()
+        trials.expect(f"fish: {command}", sorted(found | set(fish_options(fish, command))), listed)
+
+
+def fish_options(text, command):
+    """The options of a command in a completion of fish."""
+    for line in re.findall(rf"complete -c {command}(?= )(.*)", text):
+        yield from (f"-{it}" for it in re.findall(r"-s (\w)", line))
+        yield from (f"--{it}" for it in re.findall(r"-l ([\w-]+)", line))
 
 
 def try_completions(program, trials):
@@ -137,10 +176,12 @@ def main():
     program, folder = os.path.abspath(sys.argv[1]), Path(sys.argv[2]).resolve()
     trials = Trials()
     try_without_libclang(folder, trials)
+    try_diffing(program, folder, trials)
     try_catalogs(folder, trials)
     try_edges(folder, trials)
     try_page(program, trials)
     try_completions(program, trials)
+    try_command_completions(trials)
     return trials.end()
 
 

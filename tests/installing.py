@@ -15,9 +15,12 @@ from harness import TIMEOUT, TOP
 
 HEADER = TOP / "include/fmtcanon.h"
 MODULE = "lib/python3/dist-packages/fmtcanon"
+# The commands that are written in Python.
+COMMANDS = ["diff", "po", "replace"]
 # Without the files whose names a test takes from the header, from docs/ and from the module.
 INSTALLED = {
     "bin/fmtcanon",
+    "bin/fmtcanon-diff",
     "bin/fmtcanon-po",
     "bin/fmtcanon-replace",
     "include/fmtcanon.h",
@@ -30,17 +33,21 @@ INSTALLED = {
     f"{MODULE}/program",
     f"{MODULE}/py.typed",
     "share/bash-completion/completions/fmtcanon",
+    *(f"share/bash-completion/completions/fmtcanon-{name}" for name in COMMANDS),
     "share/doc/fmtcanon/CHANGELOG.md",
     "share/doc/fmtcanon/LICENSE",
     "share/doc/fmtcanon/README.md",
     "share/doc/fmtcanon/folders",
     "share/doc/fmtcanon/examples/canon.c",
     "share/fish/vendor_completions.d/fmtcanon.fish",
+    *(f"share/fish/vendor_completions.d/fmtcanon-{name}.fish" for name in COMMANDS),
     "share/man/man1/fmtcanon.1",
+    "share/man/man1/fmtcanon-diff.1",
     "share/man/man1/fmtcanon-po.1",
     "share/man/man1/fmtcanon-replace.1",
     "share/man/man3/fmtcanon.3",
     "share/zsh/site-functions/_fmtcanon",
+    "share/zsh/site-functions/_fmtcanon-commands",
 }
 PLACES = ["PREFIX=/usr", "PYTHONDIR=/usr/lib/python3/dist-packages"]
 # Folders that can't be passed through a shell, or that would be below the current one.
@@ -74,6 +81,7 @@ def wanted_files():
         INSTALLED
         | {f"{MODULE}/{name}" for name in module}
         | {f"share/doc/fmtcanon/docs/{path.name}" for path in (TOP / "docs").glob("*.md")}
+        | {f"share/doc/fmtcanon/examples/ci/{path.name}" for path in (TOP / "examples/ci").iterdir()}
         | {f"share/man/man3/{name}.3" for name in calls()}
     )
 
@@ -192,7 +200,7 @@ def try_shadows(work, trials):
         for name in ["os", "json", "re", "struct", "typing", "enum", "ctypes", "codecs"]:
             (folder / f"{name}.py").write_text("raise SystemExit('another module')\n")
     environment = {name: value for name, value in os.environ.items() if name not in ("FMTCANON_LIBRARY", "FMTCANON_PROGRAM", "PYTHONPATH")}
-    for name in ["po", "replace"]:
+    for name in COMMANDS:
         done = subprocess.run(
             [home / "bin" / f"fmtcanon-{name}", "--help"], env={**environment, "PYTHONDONTWRITEBYTECODE": "1"}, check=False,
             timeout=TIMEOUT, stdout=subprocess.PIPE, stderr=subprocess.PIPE,
@@ -240,7 +248,7 @@ def try_archive(work, trials):
     words = [sys.executable, "-c", "import fmtcanon; print(fmtcanon.canonical('%i'), fmtcanon.format('%05d', 7))"]
     done = subprocess.run(words, env=environment, check=False, timeout=TIMEOUT, stdout=subprocess.PIPE)
     trials.expect("the module of the archive", (done.returncode, done.stdout), (0, b"%d b'00007'\n"))
-    for name in ["po", "replace"]:
+    for name in COMMANDS:
         words = [stage / "usr/bin" / f"fmtcanon-{name}", "--help"]
         done = subprocess.run(words, env=environment, check=False, timeout=TIMEOUT, stdout=subprocess.PIPE)
         trials.expect(f"fmtcanon-{name} --help", (done.returncode, f"usage: fmtcanon-{name}".encode() in done.stdout.lower()), (0, True))
@@ -270,8 +278,8 @@ def options_of(name):
 
 
 def try_command_pages(trials):
-    """The pages of the two commands have the options of their help."""
-    for name in ["po", "replace"]:
+    """The pages of the commands have the options of their help."""
+    for name in COMMANDS:
         page = (TOP / f"man/fmtcanon-{name}.1").read_text(encoding="utf-8").replace("\\-", "-")
         section = page[page.index(".SH OPTIONS") : page.index(".SH EXIT STATUS")]
         tags = [" ".join(tag.replace('"', "").split()) for tag in re.findall(r"^\.TP\n\.BI? (.*)$", section, flags=re.MULTILINE)]

@@ -31,6 +31,7 @@ WRAPPED = ["-pthread", "-Wl,--wrap=malloc,--wrap=realloc,--wrap=free"]
 PARAMETERS = {
     "&[u8]": ["const char *", "size_t"],
     "&mut [u8]": ["char *", "size_t"],
+    "&mut [CDirective]": ["fmtcanon_directive *", "size_t"],
     "&mut CError": ["fmtcanon_error *"],
     "&mut CComparison": ["fmtcanon_comparison *"],
     "u32": ["uint32_t"],
@@ -42,7 +43,7 @@ NUMBERS = {"i64": "int64_t", "u64": "uint64_t", "u32": "uint32_t"}
 # The types as the program writes them, and the numbers of the library.
 TYPES = ["int", "unsigned int", "long", "unsigned long", "long long", "unsigned long long", "string"]
 # What outcomes.c has: calls, pairs of texts, data models with an invalid one, and sizes of room.
-OUTCOMES = (14, 21, 4, 5)
+OUTCOMES = (16, 21, 4, 6)
 # Of so many formats, one is given to the program, too.
 STEP = 16
 
@@ -113,7 +114,11 @@ def try_header(trials):
     trials.expect("sets of data models", header_numbers("fmtcanon_models"), sets)
     verdicts = source_numbers("fmtcanon_c/src/comparison.rt", r"Verdict::(\w+)[^=]*=> \((\d+),", {"Args": "DIFFERENT"})
     trials.expect("verdicts", header_numbers("fmtcanon_verdict"), verdicts)
-    for name, source, struct in [("fmtcanon_error", "interface", "CError"), ("fmtcanon_comparison", "comparison", "CComparison")]:
+    structs = [
+        ("fmtcanon_error", "interface", "CError"), ("fmtcanon_comparison", "comparison", "CComparison"),
+        ("fmtcanon_directive", "directives", "CDirective"),
+    ]
+    for name, source, struct in structs:
         fields = re.search(rf"typedef struct {name} \{{(.*?)\}}", header_text(), flags=re.DOTALL).group(1)
         text = (SOURCES / f"{source}.rt").read_text(encoding="utf-8")
         code = re.search(rf"#\[repr\(C\)\][^{{]*struct {struct} \{{(.*?)\n\}}", text, flags=re.DOTALL).group(1)

@@ -21,10 +21,12 @@ sys.path.insert(0, str(Path(__file__).resolve().parent))
 import roots  # noqa: E402
 from catalog_edges import try_msgfmt_edges  # noqa: E402
 from catalog_plurals import try_plurals  # noqa: E402
+from diffing import try_times  # noqa: E402
 from library import TIMEOUT, TOP, Trials, compile_with, lines_of, load_module, python_lines, shapes, try_compiler  # noqa: E402
 from linear import try_linear  # noqa: E402
 from literals import try_decoded, try_encoded, try_trigraphs  # noqa: E402
 from models import try_models  # noqa: E402
+from recipes import try_recipes  # noqa: E402
 from replacing import try_replacing  # noqa: E402
 from translations import try_msgfmt  # noqa: E402
 from typing_of_module import try_annotations  # noqa: E402
@@ -33,13 +35,15 @@ from typing_of_module import try_annotations  # noqa: E402
 SYSTEM_PYTHON = "/usr/bin/python3"
 # What fish completes after these words.
 FISH = [
-    ("s", ["same", "show", "stream"]),
-    ("canon --model=", ["--model=ilp32", "--model=llp64", "--model=lp64"]),
-    ("same --model ", ["all", "both", "ilp32", "llp64", "lp64"]),
-    ("format %d ", ["n:", "s:"]),
-    ("format -- %d ", []),
-    ("canon -- --m", []),
+    (" s", ["same", "show", "stream"]),
+    (" canon --model=", ["--model=ilp32", "--model=llp64", "--model=lp64"]),
+    (" same --model ", ["all", "both", "ilp32", "llp64", "lp64"]),
+    (" fits --model ", ["all", "both", "ilp32", "llp64", "lp64"]),
+    (" format %d ", ["n:", "s:"]),
+    (" format -- %d ", []),
+    (" canon -- --m", []),
 ]
+FISH_COMMANDS = [("-diff --model l", ["llp64", "lp64"]), ("-replace --list", ["--list", "--list-functions"]), ("-po --output=s", ["--output=sarif"])]
 
 
 class Tools:
@@ -149,13 +153,15 @@ def try_libclang(folder, trials):
 def try_shells(tools, trials):
     """The other shells read their completions, and groff the manual page."""
     if tools.has("zsh", "zsh"):
-        trials.expect("zsh reads its completion", lines_of(["zsh", "-n", TOP / "completions/_fmtcanon"]), (0, ""))
+        for name in ["_fmtcanon", "_fmtcanon-commands"]:
+            trials.expect(f"zsh reads {name}", lines_of(["zsh", "-n", TOP / "completions" / name]), (0, ""))
     if tools.has("fish", "fish"):
-        file = TOP / "completions/fmtcanon.fish"
-        trials.expect("fish reads its completion", lines_of(["fish", "-n", file]), (0, ""))
-        for words, wanted in FISH:
-            status, output = lines_of(["fish", "--no-config", "-c", f"source {file}; complete -C 'fmtcanon {words}'"])
-            trials.expect(f"fish: {words}", (status, [line.split("\t")[0] for line in output.splitlines()]), (0, wanted))
+        for name, rows in [("fmtcanon", FISH), ("fmtcanon-commands", FISH_COMMANDS)]:
+            file = TOP / f"completions/{name}.fish"
+            trials.expect(f"fish reads {name}.fish", lines_of(["fish", "-n", file]), (0, ""))
+            for words, wanted in rows:
+                status, output = lines_of(["fish", "--no-config", "-c", f"source {file}; complete -C 'fmtcanon{words}'"])
+                trials.expect(f"fish: fmtcanon{words}", (status, [line.split("\t")[0] for line in output.splitlines()]), (0, wanted))
     if tools.has("groff", "groff"):
         for page in sorted((TOP / "man").iterdir()):
             trials.expect(f"groff reads {page.name}", lines_of(["groff", "-man", "-ww", "-z", page]), (0, ""))
@@ -179,6 +185,8 @@ def main():
     try_annotations(tools, trials)
     try_locale(os.path.abspath(sys.argv[1]), folder, trials)
     try_libclang(folder, trials)
+    try_times(os.path.abspath(sys.argv[1]), folder, trials)
+    try_recipes(os.path.abspath(sys.argv[1]), folder, tools, trials)
     try_shells(tools, trials)
     roots.try_all(os.path.abspath(sys.argv[1]), tools, trials)
     return trials.end()

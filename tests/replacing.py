@@ -6,6 +6,7 @@ without it; the parts that need no compiler are in python/tests/test_replace.py.
 
 import json
 import os
+import re
 import resource
 import signal
 import subprocess
@@ -94,11 +95,11 @@ SOURCES = [
 ]
 # Options with the formats, and what is said of a place that is OLD.
 DIFFERENCES = [
-    (["%05d", "%.5d"], "left: the two print different bytes for (-1,)"),
+    (["%05d", "%.5d"], "left: the two print different bytes for -1"),
     (["%d", "%ld"], "left: the types differ at argument 0"),
     (["%zu", "%lu"], "left: in ILP32 the types differ at argument 0; in LLP64 the types differ at argument 0"),
     (["--model", "both", "%zd", "%d"], "left: in LP64 the types differ at argument 0"),
-    (["--model", "ilp32", "%zx", "%u"], "left: the two print different bytes for (4294967295,)"),
+    (["--model", "ilp32", "%zx", "%u"], "left: the two print different bytes for 4294967295"),
     (["--model", "lp64", "%zu", "%lu"], "replaced"),
     (["--model", "ilp32", "%zd", "%d"], "replaced"),
     (["%'i", "%d"], "left: the flag ' groups digits, except in the POSIX locale: --posix-locale says that it prints there"),
@@ -116,11 +117,15 @@ USAGE = [
     (['%d"', "%d", "a.c"], "between the quotes"),
     (["%d\\", "%d", "a.c"], "between the quotes"),
     (["%d\\q", "%d", "a.c"], "between the quotes"),
+    (["--list", "--pairs", "x", "a.c"], "give one of --pairs and --list"),
+    (["--list-functions", "--list", "a.c"], "give one of --list and --list-functions"),
+    (["--pairs", "nowhere", "a.c"], "nowhere: No such file or directory"),
+    (["--output", "xml", "%i", "%d", "a.c"], "argument --output: invalid choice"),
 ]
 WRONG = [
     (["%y", "%d", "a.c"], "OLD is refused 3 Unexpected at byte 1"),
     (["%d", "%f", "a.c"], "NEW is refused 9 Float at byte 1"),
-    (["%i", "%d"], "give the files, or the folder of a compile_commands.json"),
+    (["%i", "%d"], "give files or folders, or the folder of a compile_commands.json"),
     (["-p", "nowhere", "%i", "%d"], "nowhere"),
 ]
 # The seconds of the processor that a line of 400,000 bytes may take, and one literal of ten million.
@@ -141,6 +146,11 @@ class Tool:
         }
 
     def run(self, words):
+        """Returns the status and the streams of a run, without the columns of places."""
+        status, output, fault = self.run_with_columns(words)
+        return status, re.sub(r"^(.*?:\d+):\d+: ", r"\1: ", output, flags=re.MULTILINE), fault
+
+    def run_with_columns(self, words):
         done = subprocess.run([*self.words, *words], cwd=self.work, env=self.environment, timeout=10 * TIMEOUT, check=False, capture_output=True)
         return done.returncode, done.stdout.decode(errors="surrogateescape"), done.stderr.decode(errors="surrogateescape")
 
@@ -334,6 +344,74 @@ def try_usage(tool, trials):
     trials.expect("replace --help", (status, "usage: fmtcanon-replace" in report, fault), (0, True, ""))
 
 
+TREE = {
+    "tree/a.c": '#include <stdio.h>\nvoid f(void) { printf("%i\\n", 1); printf("%5c|", 1); }\n',
+    "tree/in/b.c": '#include "b.h"\nvoid g(void) { printf("%-i\\n", 1);\n  puts("%i"); fprintf(stderr, "%d\\n" , 1); printf("%y", 1); }\n',
+    "tree/in/b.h": '#include <stdio.h>\nstatic inline void h(void) { say("%f"); say("%f"); printf("%d" OWN, 1); }\n',
+    "tree/notes": 'printf("%i\\n");\n',
+}
+LISTED = """\
+"    %c|": 1 place
+tree/a.c:2:42: "%5c|"
+
+"%d\\n": 3 places, 3 spellings
+tree/a.c:2:23: "%i\\n"
+tree/in/b.c:2:23: "%-i\\n"
+tree/in/b.c:3:31: "%d\\n"
+
+not judged: 4 places
+tree/in/b.c:3:51: not judged: refused 3 Unexpected at byte 1 of "%y"
+tree/in/b.h:2:34: not judged: refused 9 Float at byte 1 of "%f"
+tree/in/b.h:2:45: not judged: refused 9 Float at byte 1 of "%f"
+tree/in/b.h:2:59: not judged: the macro OWN is part of it
+"""
+FUNCTIONS = "printf:0: known, 5 places\nsay:0: not known, 2 places\nfprintf:1: known, 1 place\n"
+# Files of pairs that can't be used, and what is said of them.
+WRONG_PAIRS = [
+    ("%i\n", "pairs:1: it isn't two formats"), ("%i\t%d\t%u\n", "pairs:1: it isn't two formats"), ('%i\t"\n', "pairs:1: it isn't two formats"),
+    ("%i\t%d\n\n%i\t%u\n", "pairs:3: the old format has another new one before"), ("%i\t%d\n%y\t%d\n", 'OLD is refused 3 Unexpected at byte 1 of "%y"'),
+]
+WRONG_COMMANDS = ["", "{", "[1]", "null", '[{"directory": 5}]', "\0"]
+
+
+def try_trees(tool, trials):
+    """Folders, files of pairs, lists, unified diffs, and forms of output."""
+    for name, text in TREE.items():
+        tool.put(name, text)
+    trials.expect("the list of a tree", tool.run_with_columns(["--list", "tree"]), (0, LISTED, ""))
+    trials.expect("the functions of a tree", tool.run(["--list-functions", "tree"]), (0, FUNCTIONS, ""))
+    trials.expect("a function that is given", "say:0: known, 2 places" in tool.run(["--list-functions", "--function", "say:0", "tree"])[1], True)
+    status, known, _ = tool.run(["--list-functions"])
+    trials.expect("the functions that are known", (status, {"printf:0: known", "fprintf:1: known", "syslog:1: known"} <= set(known.splitlines())), (0, True))
+    found = [json.loads(line) for line in tool.run(["--list", "--output", "json", "tree/a.c"])[1].splitlines()]
+    trials.expect("the list as JSON", [(one["kind"], one["line"], one["column"], one["format"], one["canonical"]) for one in found], [("format", 2, 42, "%5c|", "    %c|"), ("format", 2, 23, "%i\n", "%d\n")])
+    tool.put("pairs", "%i\\n\t%d\\n\n%5c|\t    %c|\n")
+    for words in [["--diff"], ["--dry-run"]]:
+        status, output, fault = tool.run_with_columns([*words, "--pairs", "pairs", "tree"])
+        said = "tree/a.c:2:23: replaced\ntree/a.c:2:42: replaced\ntree/in/b.c:2:23: left: it means the same, and is spelled otherwise\n"
+        trials.expect(f"pairs, {words}", (status, fault if words == ["--diff"] else output), (1, said))
+        trials.expect(f"a file after {words}", (tool.work / "tree/a.c").read_text(), TREE["tree/a.c"])
+        if words == ["--diff"]:
+            patch = output
+    trials.expect("a run with --output github", tool.run(["--output", "github", "--dry-run", OLD, NEW, "tree/a.c"]), (0, "::notice file=tree/a.c,line=2,col=23,endColumn=29::replaced\n", ""))
+    found = [json.loads(line) for line in tool.run(["--output", "json", "--pairs", "pairs", "tree"])[1].splitlines()]
+    wanted = [("tree/a.c", 2, 23, "replaced", "note", "%i\n", "%d\n"), ("tree/a.c", 2, 42, "replaced", "note", "%5c|", "    %c|"), ("tree/in/b.c", 2, 23, "left", "warning", "%-i\n", None)]
+    trials.expect("pairs as JSON", [(*(one[it] for it in ["file", "line", "column", "kind", "level", "old"]), one.get("new")) for one in found], wanted)
+    after = (tool.work / "tree/a.c").read_text()
+    trials.expect("a file after pairs", after, TREE["tree/a.c"].replace("%i", "%d").replace("%5c", "    %c"))
+    tool.put("tree/a.c", TREE["tree/a.c"])
+    done = subprocess.run(["patch", "-p0"], input=patch.encode(), cwd=tool.work, check=False, capture_output=True, timeout=TIMEOUT)
+    trials.expect("patch applies what --diff prints", (done.returncode, (tool.work / "tree/a.c").read_text()), (0, after))
+    for text, line in WRONG_PAIRS:
+        tool.put("pairs", text)
+        status, report, fault = tool.run(["--pairs", "pairs", "tree"])
+        trials.expect(f"a file of pairs {text!r}: {fault}", (status, report, line in fault, "Traceback" in fault), (2, "", True, False))
+    for text in WRONG_COMMANDS:
+        tool.put("compile_commands.json", text)
+        status, report, fault = tool.run(["-p", ".", OLD, NEW])
+        trials.expect(f"compile commands {text!r}: {fault}", (status, report, "compile_commands.json" in fault, "Traceback" in fault), (2, "", True, False))
+
+
 def try_document(tool, trials):
     """Each command of docs/REPLACE.md prints what is shown below it."""
     script = f"fmtcanon-replace() {{ '{tool.words[0]}' '{tool.words[1]}' \"$@\"; }}\n"
@@ -355,7 +433,7 @@ def try_without_libclang(folder, trials):
 
 def try_replacing(folder, python, trials):
     """All of it, with a Python that has libclang."""
-    for part in [try_left, try_calls, try_sources, try_differences, try_commands, try_files, try_signals, try_sizes, try_document]:
+    for part in [try_left, try_calls, try_sources, try_differences, try_commands, try_files, try_trees, try_signals, try_sizes, try_document]:
         with tempfile.TemporaryDirectory() as work:
             tool = Tool(folder, os.path.realpath(work), python)
             part(tool, trials)

@@ -26,8 +26,9 @@ TRIED = [
     ("python3 -c 'import fmtcanon; print(fmtcanon.same(\"%5c\", \"    %c\"))'", "True\n"),
     ("fmtcanon-po --strict right.po 2>&1", "2 messages judged, 0 not judged\n"),
     ("fmtcanon-po wrong.po > faults 2>&1; echo $?", "1\n"),
-    ("fmtcanon-replace %zu %lu size.c || true", "size.c:2: left: in ILP32 the types differ at argument 0; in LLP64 the types differ at argument 0\n"),
-    ("fmtcanon-replace --model lp64 %zu %lu size.c", "size.c:2: replaced\n"),
+    ("fmtcanon-diff size.c other.c 2> counts; echo $?", "other.c:2:32: same in lp64 only: \"%zu\" and \"%lu\"\n1\n"),
+    ("fmtcanon-replace %zu %lu size.c || true", "size.c:2:32: left: in ILP32 the types differ at argument 0; in LLP64 the types differ at argument 0\n"),
+    ("fmtcanon-replace --model lp64 %zu %lu size.c", "size.c:2:32: replaced\n"),
     ("cc -std=c99 -o canon canon.c $(pkg-config --cflags --libs fmtcanon) && ./canon %05u", "%.5u\n"),
 ]
 SIZE_C = '#include <stdio.h>\nint main(void) { return printf("%zu", sizeof(int)) < 0; }\n'
@@ -51,6 +52,7 @@ def put_samples(work):
         shutil.copy(TOP / "tests/catalogs" / name, work)
     shutil.copy(TOP / "examples/canon.c", work)
     (work / "size.c").write_text(SIZE_C)
+    (work / "other.c").write_text(SIZE_C.replace("%zu", "%lu"))
 
 
 def try_commands(where, inside, trials):
@@ -137,6 +139,8 @@ def try_wheel(trials):
         put_samples(Path(work))
         output = shell([folder / "fmtcanon-po", "right.po"], env=environment, cwd=work)
         trials.expect("fmtcanon-po of the wheel", output, (0, "2 messages judged, 0 not judged\n"))
+        output = shell([folder / "fmtcanon-diff", "--model", "lp64", "--verbose", "size.c", "other.c"], env=environment, cwd=work)
+        trials.expect("fmtcanon-diff of the wheel", (output[0], output[1].splitlines()[0]), (0, 'other.c:2:32: same: "%zu" and "%lu"'))
         output = shell([folder / "fmtcanon-replace", "--model", "lp64", "%zu", "%lu", "size.c"], env=environment, cwd=work)
         # pip has no libclang of this name, and the environment sees none of the system's modules.
         trials.expect("fmtcanon-replace of the wheel", output, (2, "fmtcanon-replace: libclang is missing: the package python3-clang has it\n"))

@@ -68,6 +68,7 @@ def of_directives():
     yield ["types", "-z"], records(many), (0, types), 0.03
     yield ["types", "-z", "--whole"], records(many), (0, types), 0.03
     yield ["fits", "-z"], records(many + b"%f", many + b"%f"), (0, records(b"0 fits")), 0.05
+    yield ["fits", "-z", "--model", "all"], records(many, many), (0, records(b"0 lp64\nfits\nilp32\nfits\nllp64\nfits")), 0.15
     line = b"1 types differ at argument %d" % ARGUMENTS
     yield ["fits", "-z"], records(many + b"%f", many + b"%s"), (1, records(line)), 0.05
     yield ["same", "-z"], records(many + b"%d", many + b"%s"), (1, records(line)), 0.05

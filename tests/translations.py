@@ -3,6 +3,7 @@
 `tests/examples.py` runs it, with no tool of gettext; `tests/more.py` compares it with msgfmt.
 """
 
+import json
 import os
 import re
 import struct
@@ -25,19 +26,19 @@ singular.po:15: number of format specifications in 'msgid_plural' and 'msgstr[1]
 found 1 fatal error
 """),
     ("wrong.po", 1, """\
-wrong.po:7: format specifications in 'msgid' and 'msgstr' for argument 1 are not the same: string and int ["%s: %d"]
-wrong.po:11: format specifications in 'msgid' and 'msgstr' for argument 1 are not the same: int and long ["%d items"]
+wrong.po:7: types of 'msgid' and 'msgstr' differ at argument 0: string and int ["%s: %d"]
+wrong.po:11: types of 'msgid' and 'msgstr' differ at argument 0: int and long ["%d items"]
 wrong.po:15: number of format specifications in 'msgid' and 'msgstr' does not match: 2 and 1 ["%d of %d"]
 wrong.po:19: 'msgstr' is not a valid C format string, unlike 'msgid'. Reason: refused 2 Truncated at byte 3 ["%d%%"]
-wrong.po:23: format specifications in 'msgid' and 'msgstr' for argument 2 are not the same: double and string ["%s is %5.1f"]
+wrong.po:23: types of 'msgid' and 'msgstr' differ at argument 1: double and string ["%s is %5.1f"]
 6 messages judged, 0 not judged
 found 5 fatal errors
 """),
     ("whole.po", 1, """\
 whole.po:16: number of format specifications in 'msgid' and 'msgstr' does not match: 2 and 3 ["%*d"]
-whole.po:20: format specifications in 'msgid' and 'msgstr' for argument 2 are not the same: string and double ["%.2f of %s"]
-whole.po:28: format specifications in 'msgid' and 'msgstr' for argument 2 are not the same: <PRIu64> and <PRId64> ["%s: %<PRIu64>"]
-whole.po:32: format specifications in 'msgid' and 'msgstr' for argument 1 are not the same: <PRIuMAX> and ulong ["%<PRIuMAX>"]
+whole.po:20: types of 'msgid' and 'msgstr' differ at argument 1: string and double ["%.2f of %s"]
+whole.po:28: types of 'msgid' and 'msgstr' differ at argument 1: <PRIu64> and <PRId64> ["%s: %<PRIu64>"]
+whole.po:32: types of 'msgid' and 'msgstr' differ at argument 0: <PRIuMAX> and unsigned long ["%<PRIuMAX>"]
 whole.po:36: 'msgstr' is not a valid C format string, unlike 'msgid'. Reason: refused 20 Mixed at byte 15 ["%s: %<PRIu64>%s"]
 whole.po:40: 'msgstr' is not a valid C format string, unlike 'msgid'. Reason: refused 21 MissingArgument at byte 4 ["%s %s"]
 11 messages judged, 0 not judged
@@ -70,7 +71,7 @@ ranges.po:15: number of format specifications in 'msgid_plural' and 'msgstr[1]' 
 found 1 fatal error
 """),
     ("flags.po", 1, """\
-flags.po:3: format specifications in 'msgid' and 'msgstr' for argument 1 are not the same: int and string ["%d"]
+flags.po:3: types of 'msgid' and 'msgstr' differ at argument 0: int and string ["%d"]
 1 messages judged, 0 not judged
 found 1 fatal error
 """),
@@ -83,21 +84,21 @@ found 1 fatal error
 # One catalog in each data model, and in both.
 IN_MODELS = [
     (["--model", "lp64"], """\
-models.po:12: format specifications in 'msgid' and 'msgstr' for argument 2 are not the same: int and long ["%d of %d"]
-models.po:16: format specifications in 'msgid' and 'msgstr' for argument 1 are not the same: int and uint ["%d"]
+models.po:12: types of 'msgid' and 'msgstr' differ at argument 1: int and long ["%d of %d"]
+models.po:16: types of 'msgid' and 'msgstr' differ at argument 0: int and unsigned int ["%d"]
 3 messages judged, 0 not judged
 found 2 fatal errors
 """),
     (["--model", "ilp32"], """\
-models.po:8: format specifications in 'msgid' and 'msgstr' for argument 1 are not the same: uint and ulong ["%zu"]
-models.po:16: format specifications in 'msgid' and 'msgstr' for argument 1 are not the same: int and uint ["%d"]
+models.po:8: types of 'msgid' and 'msgstr' differ at argument 0: unsigned int and unsigned long ["%zu"]
+models.po:16: types of 'msgid' and 'msgstr' differ at argument 0: int and unsigned int ["%d"]
 3 messages judged, 0 not judged
 found 2 fatal errors
 """),
     (["--model", "both"], """\
-models.po:8: format specifications in 'msgid' and 'msgstr' for argument 1 are not the same: uint and ulong, in ILP32 ["%zu"]
-models.po:12: format specifications in 'msgid' and 'msgstr' for argument 2 are not the same: int and long, in LP64 ["%d of %d"]
-models.po:16: format specifications in 'msgid' and 'msgstr' for argument 1 are not the same: int and uint ["%d"]
+models.po:8: types of 'msgid' and 'msgstr' differ at argument 0: unsigned int and unsigned long, in ILP32 ["%zu"]
+models.po:12: types of 'msgid' and 'msgstr' differ at argument 1: int and long, in LP64 ["%d of %d"]
+models.po:16: types of 'msgid' and 'msgstr' differ at argument 0: int and unsigned int ["%d"]
 3 messages judged, 0 not judged
 found 3 fatal errors
 """),
@@ -130,7 +131,7 @@ BINARY = [
 ]
 REPORTS_OF_BINARY = [
     ([], 0, """\
-a.mo:1: warning: if it is a C format: format specifications in 'msgid_plural' and 'msgstr[1]' for argument 1 are not the same: int and string ["%d file"]
+a.mo:1: warning: if it is a C format: types of 'msgid_plural' and 'msgstr[1]' differ at argument 0: int and string ["%d file"]
 a.mo:3: warning: if it is a C format: 'msgstr' is not a valid C format string, unlike 'msgid'. Reason: refused 3 Unexpected at byte 6 ["100% of it"]
 a.mo:4: 'msgid' and 'msgstr' entries do not both end with '\\n' ["%u"]
 a.mo:5: 'msgid' and 'msgstr' entries do not both begin with '\\n' ["no format"]
@@ -139,7 +140,7 @@ a.mo:5: 'msgid' and 'msgstr' entries do not both end with '\\n' ["no format"]
 found 3 fatal errors
 """),
     (["--c-format"], 1, """\
-a.mo:1: format specifications in 'msgid_plural' and 'msgstr[1]' for argument 1 are not the same: int and string ["%d file"]
+a.mo:1: types of 'msgid_plural' and 'msgstr[1]' differ at argument 0: int and string ["%d file"]
 a.mo:3: 'msgstr' is not a valid C format string, unlike 'msgid'. Reason: refused 3 Unexpected at byte 6 ["100% of it"]
 a.mo:4: 'msgid' and 'msgstr' entries do not both end with '\\n' ["%u"]
 a.mo:5: 'msgid' and 'msgstr' entries do not both begin with '\\n' ["no format"]
@@ -192,6 +193,25 @@ def try_binaries(folder, trials):
         trials.expect("a warning alone, --strict", check_po(folder, ["--strict", "a.mo"], where=work)[0], 1)
 
 
+def try_forms(folder, trials):
+    """The other forms of output, which go to standard output."""
+    status, out, report = check_po(folder, ["--output", "json", "wrong.po", "singular.po"])
+    found = [json.loads(line) for line in out.splitlines()]
+    kinds = [(7, "types"), (11, "types"), (15, "number"), (19, "format"), (23, "types")]
+    wanted = [*(("wrong.po", line, 1, kind, "error") for line, kind in kinds), ("singular.po", 9, 1, "unjudged", "warning"), ("singular.po", 15, 1, "number", "error")]
+    trials.expect("findings as JSON", [tuple(one[it] for it in ["file", "line", "column", "kind", "level"]) for one in found], wanted)
+    trials.expect("messages in JSON", (status, found[0]["message"]), (1, "types of 'msgid' and 'msgstr' differ at argument 0: string and int [\"%s: %d\"]"))
+    trials.expect("formats in JSON", (found[0]["msgid"], found[0]["formats"], found[0]["models"]), ("%s: %d", ["%s: %d", "%d: %s"], ["lp64", "ilp32", "llp64"]))
+    trials.expect("the numbers after JSON", report.splitlines(), ["7 messages judged, 1 not judged", "found 6 fatal errors"])
+    found = [json.loads(line) for line in check_po(folder, ["--output=json", "models.po"])[1].splitlines()]
+    trials.expect("data models in JSON", [one["models"] for one in found], [["ilp32", "llp64"], ["lp64", "llp64"], ["lp64", "ilp32", "llp64"]])
+    status, out, report = check_po(folder, ["--output", "github", "wrong.po"])
+    wanted = "::error file=wrong.po,line=7,col=1::types of 'msgid' and 'msgstr' differ at argument 0: string and int [\"%25s: %25d\"]"
+    trials.expect("a command of GitHub", (status, out.splitlines()[0]), (1, wanted))
+    status, out, report = check_po(folder, ["--output", "sarif", "wrong.po"])
+    trials.expect("the log of SARIF", (status, [one["ruleId"] for one in json.loads(out)["runs"][0]["results"]]), (1, [kind for _, kind in kinds]))
+
+
 def try_catalogs(folder, trials):
     """The check of message catalogs."""
     for catalog, status, report in CHECKED:
@@ -213,17 +233,20 @@ def try_catalogs(folder, trials):
     trials.expect("both data models where none is said", check_po(folder, ["models.po"])[2], IN_MODELS[-1][1])
     for words in [["--model", "LP64", "right.po"], ["--model", "both"], ["--what", "right.po"], []]:
         status, out, report = check_po(folder, words)
-        trials.expect(f"check_po.py {words}", (status, out, "Usage" in report), (2, "", True))
+        trials.expect(f"check_po.py {words}", (status, out, report.startswith("usage: fmtcanon-po")), (2, "", True))
     status, out, report = check_po(folder, ["--help"])
-    trials.expect("check_po.py --help", (status, "Usage: fmtcanon-po" in out, report), (0, True, ""))
+    trials.expect("check_po.py --help", (status, "usage: fmtcanon-po" in out, report), (0, True, ""))
     report = "2 messages judged, 0 not judged\n"
     trials.expect("two catalogs", check_po(folder, ["--", "right.po", "empty.po"]), (0, "", report))
     try_binaries(folder, trials)
+    try_forms(folder, trials)
 
 
 def fault_lines(text):
     """The faults of formats and newlines in what either tool prints: each line with the words that both have."""
-    kinds = r"format specifications in|number of format|is not a valid C format|do not both"
+    kinds = r"types of|number of format|is not a valid C format|do not both"
+    theirs = r"format specifications in ('.*') and ('.*') for argument (\d+) are not the same"
+    text = re.sub(theirs, lambda it: f"types of {it[1]} and {it[2]} differ at argument {int(it[3]) - 1}", text)
     for line in text.splitlines():
         found = re.match(rf"(\S+:\d+): (.*(?:{kinds})[^:.\[]*)", line)
         if found:

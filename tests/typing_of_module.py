@@ -21,7 +21,9 @@ data: bytes = fmtcanon.canonical(b"%i", model="ilp32")
 kinds: List[fmtcanon.Type] = fmtcanon.types("%d")
 more: List[fmtcanon.Type] = fmtcanon.arguments("%f", model=fmtcanon.Model.LLP64)
 answer: bool = fmtcanon.same("%d", b"%i") and fmtcanon.fits("%d", "%i") and fmtcanon.is_canonical("%d")
-where: List[fmtcanon.Model] = fmtcanon.same_in("%d", "%i")
+where: List[fmtcanon.Model] = fmtcanon.same_in("%d", "%i") + fmtcanon.fits_in("%d", b"%i")
+spans: List[fmtcanon.DirectiveSpan] = fmtcanon.directives("%*d", model="ilp32")
+star: Optional[int] = spans[0].width_argument
 found: fmtcanon.Comparison = fmtcanon.compare("%d", "%u")
 shown: Optional[Tuple[Union[int, bytes], ...]] = found.arguments
 printed: bytes = fmtcanon.format("%d%s", 1, "a")

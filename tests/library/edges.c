@@ -56,6 +56,10 @@ static void layout(void)
     WANT(offsetof(fmtcanon_comparison, number) == 0);
     WANT(offsetof(fmtcanon_comparison, verdict) == 8);
     WANT(offsetof(fmtcanon_comparison, renderings) == 12);
+    WANT(sizeof(fmtcanon_directive) == 48);
+    WANT(offsetof(fmtcanon_directive, begin) == 0 && offsetof(fmtcanon_directive, end) == 8);
+    WANT(offsetof(fmtcanon_directive, argument) == 16 && offsetof(fmtcanon_directive, width_argument) == 24);
+    WANT(offsetof(fmtcanon_directive, precision_argument) == 32 && offsetof(fmtcanon_directive, kind) == 40);
     WANT(FMTCANON_ERROR_NOMEMORY == -100 && FMTCANON_ERROR_MODEL == -101 && FMTCANON_ERROR_NOPLACE == -102);
 }
 
@@ -213,6 +217,51 @@ static void whole_language(void)
     }
 }
 
+static int is_record(const fmtcanon_directive *d, uint64_t begin, uint64_t end, uint64_t argument, uint64_t width,
+                     uint64_t precision, uint64_t kind)
+{
+    return d->begin == begin && d->end == end && d->argument == argument && d->width_argument == width
+           && d->precision_argument == precision && d->kind == kind;
+}
+
+static void directives(void)
+{
+    static const char order[] = "a%5.*lu%%%c", numbered[] = "%2$*1$d", both[] = "%*.*f%s";
+    const uint64_t none = FMTCANON_NO_ARGUMENT;
+    fmtcanon_directive out[4], before[4];
+    fmtcanon_error e = {77, 78, 79};
+    size_t i;
+    memset(out, 'Z', sizeof out);
+    memset(before, 'Z', sizeof before);
+    WANT(fmtcanon_directives(LP64, order, strlen(order), NULL, 0, &e) == 2);
+    WANT(fmtcanon_directives(LP64, order, strlen(order), out, 1, &e) == 2 && !memcmp(out, before, sizeof out));
+    WANT(fmtcanon_directives(LP64, order, strlen(order), out, 2, &e) == 2);
+    WANT(is_record(out, 1, 7, 1, none, 0, FMTCANON_ULONG) && is_record(out + 1, 9, 11, 2, none, none, FMTCANON_INT));
+    WANT(!memcmp(out + 2, before, 2 * sizeof *out));
+    WANT(fmtcanon_directives(LLP64, "%zx", 3, out, 4, &e) == 1 && out[0].kind == FMTCANON_ULONG_LONG);
+    WANT(fmtcanon_directives(LP64, numbered, strlen(numbered), out, 4, &e) == 1);
+    WANT(is_record(out, 0, 7, 1, 0, none, FMTCANON_INT));
+    WANT(fmtcanon_directives(LP64, both, strlen(both), out, 4, &e) == 2);
+    WANT(is_record(out, 0, 5, 2, 0, 1, FMTCANON_DOUBLE) && is_record(out + 1, 5, 7, 3, none, none, FMTCANON_STRING));
+    WANT(fmtcanon_directives(LP64, NULL, 0, NULL, 0, &e) == 0 && fmtcanon_directives(LP64, "%%", 2, out, 4, &e) == 0);
+    WANT(fmtcanon_fits_models("%zu", 3, "%lu", 3, &e) == FMTCANON_IN_LP64);
+    WANT(fmtcanon_fits_models("%s of %d", 8, "%2$d/%1$s", 9, &e) == FMTCANON_IN_ALL);
+    WANT(fmtcanon_fits_models("%d", 2, "%s", 2, &e) == FMTCANON_IN_NEITHER);
+    memcpy(before, out, sizeof out);
+    WANT(fmtcanon_directives(3, "%d", 2, out, 4, &e) == FMTCANON_ERROR_MODEL && e.at == 77 && e.side == 79);
+    for (i = 0; i < COUNT(WHOLE); i++) {
+        size_t len = strlen(WHOLE[i].text);
+        WANT(fmtcanon_directives(LP64, WHOLE[i].text, len, out, 4, &e) == -WHOLE[i].kind);
+        WANT(e.at == WHOLE[i].at && e.kind == (uint32_t)WHOLE[i].kind && e.side == 0);
+        WANT(fmtcanon_directives(LP64, WHOLE[i].text, len, out, 4, NULL) == -WHOLE[i].kind);
+        WANT(fmtcanon_fits_models("%d", 2, WHOLE[i].text, len, NULL) == -WHOLE[i].kind);
+    }
+    WANT(!memcmp(out, before, sizeof out));
+    /* Two types in ILP32 alone: it is refused there, though LP64 has taken both. */
+    WANT(fmtcanon_fits_models("%lu", 3, "%1$zu %1$lu", 11, &e) == -FMTCANON_TWO_TYPES && e.at == 10 && e.side == 1);
+    WANT(fmtcanon_fits(LP64, "%lu", 3, "%1$zu %1$lu", 11, &e) == 1);
+}
+
 /* Each fault of string literals, with a text that has it, and where. */
 static const struct {
     int kind;
@@ -328,6 +377,9 @@ static void pages(void)
         m = fmtcanon_types(LP64, text, len, NULL, 0, &e);
         for (cap = 0; cap < (size_t)m + 3; cap++)
             WANT(fmtcanon_types(LP64, text, len, (unsigned char *)at_end(cap), cap, &e) == m);
+        m = fmtcanon_directives(LP64, text, len, NULL, 0, &e);
+        for (cap = 0; cap < (size_t)m + 3; cap++)
+            WANT(fmtcanon_directives(LP64, text, len, (void *)at_end(cap * sizeof(fmtcanon_directive)), cap, &e) == m);
         w = fmtcanon_compare(LP64, text, len, "%.1d", 4, NULL, 0, &found, &e);
         for (cap = 0; cap < (size_t)w + 3; cap++)
             WANT(fmtcanon_compare(LP64, text, len, "%.1d", 4, at_end(cap), cap, &found, &e) == w);
@@ -346,6 +398,7 @@ static void nothing(void)
     WANT(fmtcanon_canonical(LP64, NULL, 0, one, 1, &e) == 0 && one[0] == 0);
     WANT(fmtcanon_types(LP64, NULL, 0, NULL, 0, &e) == 0);
     WANT(fmtcanon_types(LP64, "%d", 2, NULL, 0, &e) == 1);
+    WANT(fmtcanon_fits_models(NULL, 0, NULL, 0, &e) == FMTCANON_IN_ALL);
     WANT(fmtcanon_same(LP64, NULL, 0, NULL, 0, &e) == 1);
     WANT(fmtcanon_same(LP64, NULL, 0, "", 0, &e) == 1);
     WANT(fmtcanon_compare(LP64, NULL, 0, NULL, 0, NULL, 0, &found, &e) == 0);
@@ -364,14 +417,16 @@ static int64_t growing(int call, char *out, size_t cap, fmtcanon_comparison *fou
     if (call == 2) return fmtcanon_decode_literal("\"a\\n\"", 5, out, cap, e);
     if (call == 3) return fmtcanon_encode_literal("a\n", 2, out, cap);
     if (call == 4) return fmtcanon_arguments(LP64, "%*.*f", 5, (unsigned char *)out, cap, e);
+    if (call == 6) return fmtcanon_directives(LP64, "%*.*f", 5, (void *)out, cap / sizeof(fmtcanon_directive), e);
     return fmtcanon_compare(LP64, "%d%s", 4, "%d%.4095s", 9, out, cap, found, e);
 }
 
 static void refusals_of_memory(void)
 {
-    static char out[16384];
+    static uint64_t room[2048];
+    char *out = (char *)room;
     int call, n;
-    for (call = 0; call < 6; call++) {
+    for (call = 0; call < 7; call++) {
         for (n = 0;; n++) {
             fmtcanon_error e = {77, 78, 79};
             fmtcanon_comparison found = {77, 78, 79};
@@ -379,7 +434,7 @@ static void refusals_of_memory(void)
             out[0] = 'Z';
             growths = 0;
             fails_at = n;
-            result = growing(call, out, sizeof out, &found, &e);
+            result = growing(call, out, sizeof room, &found, &e);
             fails_at = -1;
             WANT(held == 0);
             if (growths <= n) {
@@ -398,14 +453,15 @@ static void refusals_of_memory(void)
  * literal take one growth. */
 static void memory_given_back(void)
 {
-    static char out[16384];
-    static const size_t rooms[] = {0, 1, 8, sizeof out};
+    static uint64_t room[2048];
+    static const size_t rooms[] = {0, 1, 8, sizeof room};
+    char *out = (char *)room;
     fmtcanon_error e;
     fmtcanon_comparison found;
     size_t i;
     int call;
     for (i = 0; i < COUNT(rooms); i++) {
-        for (call = 0; call < 6; call++) {
+        for (call = 0; call < 7; call++) {
             growths = 0;
             WANT(growing(call, out, rooms[i], &found, &e) > 0);
             WANT(growths > 0 && held == 0 && (call == 1 || call == 5 || growths == 1));
@@ -438,6 +494,8 @@ static void without_memory(void)
     fmtcanon_source_offset("\"a\\n\"", 5, 1);
     fmtcanon_fits(LP64, "%2$s%1$d", 8, "%d%s", 4, &e);
     fmtcanon_fits(LP64, "%d%s", 4, "%d%f", 4, &e);
+    fmtcanon_fits_models("%2$s%1$d", 8, "%d%s", 4, &e);
+    fmtcanon_directives(LP64, "100%%", 5, NULL, 0, &e);
     WANT(growths == 0);
 }
 
@@ -487,6 +545,7 @@ int main(void)
     models();
     two_texts();
     whole_language();
+    directives();
     literals();
     literal_pages();
     pages();

@@ -13,14 +13,14 @@
 #define COUNT(rows) (sizeof(rows) / sizeof *(rows))
 
 enum call {
-    CHECK, IS_CANONICAL, CANONICAL_LENGTH, CANONICAL, TYPES, SAME, SAME_MODELS, COMPARE, ARGUMENTS, FITS, DECODE, ENCODE,
-    SOURCE_OFFSET, KIND_NAME, CALLS
+    CHECK, IS_CANONICAL, CANONICAL_LENGTH, CANONICAL, TYPES, SAME, SAME_MODELS, COMPARE, ARGUMENTS, FITS, FITS_MODELS,
+    DIRECTIVES, DECODE, ENCODE, SOURCE_OFFSET, KIND_NAME, CALLS
 };
 enum { SIZE = 32768 };
 
 static const char *const NAMES[CALLS] = {
     "check", "is_canonical", "canonical_length", "canonical", "types", "same", "same_models", "compare", "arguments", "fits",
-    "decode_literal", "encode_literal", "source_offset", "kind_name"};
+    "fits_models", "directives", "decode_literal", "encode_literal", "source_offset", "kind_name"};
 #define TEN "%d%d%d%d%d%d%d%d%d%d"
 static const struct {
     const char *first, *second;
@@ -30,7 +30,7 @@ static const struct {
     {TEN "%1$d", "%d"}, {TEN TEN "%5n", "%n"}, {"%2$d", "%d%2$d"}, {"%1$d%1$s", "%1$d%1$d"}, {"\"%d\\n\" \"\\11\"", "x"},
     {"\"aaaaaaaaaaaaaaaa\\q\"", "\"\""}, {"\"a", "\"\\x100\""}, {"\"a?" "?=\"", "\"\\0\""}, {"\t\"?" "?=\1", "\377"}};
 static const int MODELS[] = {FMTCANON_LP64, FMTCANON_ILP32, FMTCANON_LLP64, 3};
-static const size_t ROOMS[] = {0, 1, 2, 9, SIZE / 2};
+static const size_t ROOMS[] = {0, 1, 2, 9, 2 * sizeof(fmtcanon_directive), SIZE / 2};
 
 static char now[128] = "", *locked_end;
 static int fails_at = -1, growths, held;
@@ -96,6 +96,14 @@ struct given {
     fmtcanon_error *error;
 };
 
+/* The last records for which the buffer has room. */
+static size_t records(const struct given *g) { return g->cap / sizeof(fmtcanon_directive); }
+
+static fmtcanon_directive *last_records(const struct given *g)
+{
+    return records(g) == 0 ? NULL : (fmtcanon_directive *)(void *)(g->out + g->cap % sizeof(fmtcanon_directive));
+}
+
 static int64_t made(const struct given *g)
 {
     const char *f = g->first, *s = g->second;
@@ -112,6 +120,8 @@ static int64_t made(const struct given *g)
     case COMPARE: return fmtcanon_compare(g->model, f, n, s, m, g->out, g->cap, g->found, g->error);
     case ARGUMENTS: return fmtcanon_arguments(g->model, f, n, bytes, g->cap, g->error);
     case FITS: return fmtcanon_fits(g->model, f, n, s, m, g->error);
+    case FITS_MODELS: return fmtcanon_fits_models(f, n, s, m, g->error);
+    case DIRECTIVES: return fmtcanon_directives(g->model, f, n, last_records(g), records(g), g->error);
     case DECODE: return fmtcanon_decode_literal(f, n, g->out, g->cap, g->error);
     case ENCODE: return fmtcanon_encode_literal(f, n, g->out, g->cap);
     case SOURCE_OFFSET: return fmtcanon_source_offset(f, n, m);
@@ -119,10 +129,11 @@ static int64_t made(const struct given *g)
     }
 }
 
-/* Whether an answer of `result` bytes has room: a text has a NUL byte after it. */
+/* Whether an answer of `result` bytes or records has room: a text has a NUL byte after it. */
 static int has_room(const struct given *g, int64_t result)
 {
     int is_text = g->call == CANONICAL || g->call == DECODE || g->call == ENCODE || g->call == KIND_NAME;
+    if (g->call == DIRECTIVES) return result >= 0 && (uint64_t)result <= records(g);
     return result >= 0 && (uint64_t)result + (is_text ? 1 : 0) <= g->cap;
 }
 
@@ -155,12 +166,12 @@ static void try_refused(struct given g, int64_t result, int count)
 /* The call as it is, then with what it leaves alone locked, and then with each allocation refused. */
 static void try_one(struct given g)
 {
-    static char out[SIZE];
+    static uint64_t out[SIZE / sizeof(uint64_t)];
     fmtcanon_error error;
     fmtcanon_comparison found;
     int64_t result;
     int count;
-    g.out = out, g.error = &error, g.found = &found;
+    g.out = (char *)out, g.error = &error, g.found = &found;
     result = counted(&g);
     count = growths;
     if (!has_room(&g, result)) g.out = locked(g.cap);
