@@ -16,4 +16,4 @@ complete -c fmtcanon -n '__fish_seen_subcommand_from types canon show format str
 complete -c fmtcanon -n '__fish_seen_subcommand_from same fits' -l model -x -a 'lp64 ilp32 llp64 both all' -d 'The data model'
 complete -c fmtcanon -n '__fish_seen_subcommand_from types canon show fits same' -s z -l null -d 'Takes formats from standard input, with a zero byte after each'
 complete -c fmtcanon -n '__fish_seen_subcommand_from types canon show format fits same' -l literal -d 'Takes formats as string literals of C source, with their quotes'
-complete -c fmtcanon -n '__fish_seen_subcommand_from types' -l whole -d 'Takes the whole language of printf, with its arguments by number too'
+complete -c fmtcanon -n '__fish_seen_subcommand_from types canon same' -l whole -d 'Accepts the whole language of printf'

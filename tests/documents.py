@@ -107,6 +107,8 @@ def tested_counts():
     yield from limits()
     whole = data_rows("whole.jsonl")
     yield r"(\d+) rows of `tests/rows/whole.jsonl`, (\d+) of them", [len(whole), len(whole) - HAND_WHOLE]
+    opaque = data_rows("opaque.jsonl")
+    yield r"(\d+) rows of `tests/rows/opaque.jsonl`, (\d+) of them", [len(opaque), len(opaque) - HAND_OPAQUE]
     records = data_rows("records.jsonl")
     yield r"(\d+) rows of `tests/rows/records.jsonl`, (\d+) of them", [len(records), len(records) - HAND_RECORDS]
     yield r"(\d+) refused formats and (\d+) directives end after each byte, or a read fails there, and (\d+) formats in which", [data_count(name) for name in ["cut_refusals.jsonl", "cut_directives.jsonl", "fronts.jsonl"]]
@@ -141,6 +143,7 @@ def limits():
 HAND_RECORDS = 11
 HAND_LITERALS = 27
 HAND_WHOLE = 44
+HAND_OPAQUE = 11
 # Numbers of docs/TESTED.md that count no rows, tests or mutants.
 PLAIN_NUMBERS = [
     r"each of the 256 bytes after 7 beginnings", r"16 shapes", r"take 1, 2, 3 or 7 bytes a call and then fail in one of 5 ways", r"40000 arguments",

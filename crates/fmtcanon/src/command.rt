@@ -5,7 +5,7 @@ ghost use Rattle.clap.specs.Simple.{with_rule};
 ghost use Rattle.clap.specs.Words.{app_of};
 ghost use Rattle.clap.specs.declared.builder.command.Command.TheViews.{out-Command as fields_of};
 ghost use Rattle.clap.specs.declared.builder.value_parser.ValueParser.TheVariants.{Names};
-ghost use Rattle.fmtcanon.specs.Words.{IsCommand, any_arguments, on_format, on_literals, on_nothing, on_records, row_app, row_of, the_command, top_app, whole_option, with_row};
+ghost use Rattle.fmtcanon.specs.Words.{IsCommand, any_arguments, on_format, on_literals, on_nothing, on_pairs, on_records, row_app, row_of, the_command, top_app, whole_option, with_row};
 
 use crate::models::{NAMES, NAMES_OR_MORE};
 use clap::{Arg, ArgAction, Command};
@@ -22,6 +22,8 @@ pub enum Arguments {
     WholeRecords,
     /// Two formats, or records.
     Pairs,
+    /// Two formats, or records, perhaps of the whole language.
+    WholePairs,
     /// A format, and what it is to print.
     Format,
 }
@@ -64,7 +66,7 @@ fn definition_with<'a>(
             name: "canon",
             about: "Writes the canonical text of a format, which all formats of its meaning share",
             below: CANON_HELP,
-            arguments: Arguments::Records,
+            arguments: Arguments::WholeRecords,
             models: one,
         },
         Row {
@@ -85,7 +87,7 @@ fn definition_with<'a>(
             name: "same",
             about: "Tells whether one format may stand for another; if not, in what they differ",
             below: SAME_HELP,
-            arguments: Arguments::Pairs,
+            arguments: Arguments::WholePairs,
             models: more,
         },
         Row {
@@ -126,9 +128,8 @@ fn subcommand<'a>(alloc: Global, row: &Row<'a>) -> Result<Command<'a>, AllocErro
         Arguments::Nothing => on_nothing(alloc, row),
         Arguments::Records => on_records(alloc, row),
         Arguments::WholeRecords => taking_whole(alloc, on_records(alloc, row)?),
-        Arguments::Pairs => on_records(alloc, row)?.arg(Arg::new(alloc, "G").help(
-            "Another printf format",
-        )),
+        Arguments::Pairs => on_pairs(alloc, row),
+        Arguments::WholePairs => taking_whole(alloc, on_pairs(alloc, row)?),
         Arguments::Format => taking_arguments(alloc, on_format(alloc, row)?),
     }
 }
@@ -203,6 +204,16 @@ fn on_records<'a>(alloc: Global, row: &Row<'a>) -> Result<Command<'a>, AllocErro
     on_literals(alloc, row)?.arg(null)?.arg(format)
 }
 
+// A subcommand with two formats, or with the option `--null`.
+fn on_pairs<'a>(alloc: Global, row: &Row<'a>) -> Result<Command<'a>, AllocError>
+    ensures { IfOk result
+        (λ command. (app_of command ≡ on_pairs (row_of row.now).name (row_of row.now).models)
+        × ((fields_of command).has_globals ≡ false)) }
+{
+    let format = Arg::new(alloc, "G").help("Another printf format");
+    on_records(alloc, row)?.arg(format)
+}
+
 // The subcommand with the option `--whole` besides.
 fn taking_whole<'a>(alloc: Global, command: Command<'a>) -> Result<Command<'a>, AllocError>
     requires { (fields_of command).has_globals ≡ false }
@@ -212,7 +223,7 @@ fn taking_whole<'a>(alloc: Global, command: Command<'a>) -> Result<Command<'a>, 
     let option = Arg::new(alloc, "whole")
         .long("whole")
         .action(ArgAction::SetTrue)
-        .help("Takes the whole language of printf, with its arguments by number too");
+        .help("Accepts the whole language of printf");
     command.arg(option)
 }
 
@@ -260,6 +271,8 @@ Example:
 A format that begins with - stands after --, as in: fmtcanon types -- '-%i'
 Where that is forgotten, the tip may name a part of the format. Give the whole of it after --.
 
+With --whole arguments may have numbers.
+
 With --null formats come from standard input, each with a zero byte after it. A reply is a status, a
 space, what is written or the line of the refusal, and a zero byte. The exit status is the greatest.
 
@@ -270,10 +283,13 @@ const CANON_HELP: &str = "\
 Example:
   fmtcanon canon 'Total: %i of %u%%'
   fmtcanon canon --literal '\"Total:\\t%i\" \"\\n\"'
+  fmtcanon canon --whole '%i: %-08.6lf'
   printf '%s\\0' %i %5c | fmtcanon canon --null
 
 A format that begins with - stands after --, as in: fmtcanon canon -- '-%i'
 Where that is forgotten, the tip may name a part of the format. Give the whole of it after --.
+
+--whole accepts floating conversions, `*`, wide characters, %p and %n, too, but no numbered arguments.
 
 With --null formats come from standard input, each with a zero byte after it. A reply is a status, a
 space, what is written or the line of the refusal, and a zero byte. The exit status is the greatest.
@@ -311,10 +327,15 @@ const SAME_HELP: &str = "\
 Example:
   fmtcanon same '%05d' '%.5d'
   fmtcanon same --model both '%zu' '%lu'
+  fmtcanon same --whole '%.6f%%%i' '%f%%%d'
   printf '%s\\0' %i %d %5c %-5c | fmtcanon same --null
 
 A format that begins with - stands after --, as in: fmtcanon same -- '-%i' '-%d'
 Where that is forgotten, the tip may name a part of the format. Give the whole of it after --.
+
+--whole accepts floating conversions, `*`, wide characters, %p and %n, too, but no numbered arguments.
+Where the formats differ, `any` is an argument of such a directive. Whether these directives print the
+same where they differ depends on the C library, and isn't said.
 
 With --null formats come two by two from standard input, each with a zero byte after it. A reply is a
 status, a space, what is written or the line of the refusal, and a zero byte. The exit status is the

@@ -14,6 +14,7 @@ mod run;
 mod show_lines;
 mod task;
 mod type_lines;
+mod whole;
 
 use outcome::{Outcome, report};
 use pf_values::Counted;
