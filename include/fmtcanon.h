@@ -146,7 +146,8 @@ typedef struct fmtcanon_directive {
 enum fmtcanon_verdict {
     FMTCANON_SAME = 1,     /* equal types, and equal bytes for all arguments */
     FMTCANON_TYPES = 2,    /* the types of their arguments differ */
-    FMTCANON_DIFFERENT = 3 /* equal types, and arguments are given that they print differently */
+    FMTCANON_DIFFERENT = 3, /* equal types, and arguments are given that they print differently */
+    FMTCANON_DIRECTIVES = 4 /* fmtcanon_whole_compare() alone: equal types, and other directives */
 };
 
 /* Why and where a format is refused. */
@@ -156,14 +157,15 @@ typedef struct fmtcanon_error {
     uint32_t side; /* which format: 0 for the first or only one, 1 for the second */
 } fmtcanon_error;
 
-/* What fmtcanon_compare() answers beside the words of the arguments. */
+/* What fmtcanon_compare() and fmtcanon_whole_compare() answer beside the words of the arguments. */
 typedef struct fmtcanon_comparison {
     uint64_t number;     /* TYPES: the argument, counted from 0, at which the types differ; the
                             number of arguments of the format that has fewer, where they differ in
-                            nothing else. DIFFERENT: how many words are given. SAME: 0. */
+                            nothing else. DIRECTIVES: the argument, counted from 0, at which the
+                            directives differ. DIFFERENT: how many words are given. SAME: 0. */
     uint32_t verdict;    /* an enum fmtcanon_verdict */
-    uint32_t renderings; /* DIFFERENT: the place of the one argument that isn't neutral among those
-                            that are tried for its type, from 1 to 17; else 0. */
+    uint32_t renderings; /* DIFFERENT of fmtcanon_compare(): the place of the one argument that isn't
+                            neutral among those that are tried for its type, from 1 to 17; else 0. */
 } fmtcanon_comparison;
 
 /* 0 where the format is accepted. Takes no memory. */
@@ -223,6 +225,41 @@ int64_t fmtcanon_fits(int model, const char *first, size_t first_len, const char
  * no memory. */
 int64_t fmtcanon_fits_models(const char *first, size_t first_len, const char *second,
                              size_t second_len, fmtcanon_error *error);
+
+/* The length of the canonical text of a format of the whole language without numbered arguments: `$` is
+ * refused. In it each part before, between and after the directives that fmtcanon_canonical() refuses has
+ * its own canonical text, and each of these directives has its normal spelling: for example `%-8f` for
+ * `%-08.6lf`. It is that of fmtcanon_canonical() if that accepts the format. Takes no memory.
+ * FMTCANON_ERROR_NOMEMORY for a length of 2^63 or more. */
+int64_t fmtcanon_whole_canonical_length(int model, const char *text, size_t len, fmtcanon_error *error);
+
+/* That length. The canonical text is put into `out` with a zero after it. There is room where the length
+ * is below `cap`. Takes memory of that length. */
+int64_t fmtcanon_whole_canonical(int model, const char *text, size_t len, char *out, size_t cap,
+                                 fmtcanon_error *error);
+
+/* 1 if two formats of the whole language without numbered arguments are alike, 0 otherwise. They are alike
+ * if they take arguments of the same types, and for all of them print the same bytes and make the same
+ * calls: a directive that fmtcanon_same() refuses calls the C library with its normal spelling and its
+ * arguments. Alike formats have one canonical text, and no others have. For formats that fmtcanon_same()
+ * accepts its answer is the same. A C library may print alike also for directives that differ, as `%1f` and
+ * `%f`. Takes no memory. */
+int64_t fmtcanon_whole_same(int model, const char *first, size_t first_len, const char *second,
+                            size_t second_len, fmtcanon_error *error);
+
+/* The data models in which fmtcanon_whole_same() is 1, an enum fmtcanon_models. Which formats are accepted
+ * is the same in all. Takes no memory. */
+int64_t fmtcanon_whole_same_models(const char *first, size_t first_len, const char *second,
+                                   size_t second_len, fmtcanon_error *error);
+
+/* Compares two formats of the whole language without numbered arguments, as fmtcanon_compare() does those
+ * that it accepts. FMTCANON_DIRECTIVES: the types are equal, and one format makes a call whose first
+ * argument has this index, and the other doesn't. FMTCANON_DIFFERENT: the calls are equal, too; the word
+ * `any` stands for each argument that a call takes, since the two differ whatever it is. Takes memory only
+ * for FMTCANON_DIFFERENT. */
+int64_t fmtcanon_whole_compare(int model, const char *first, size_t first_len, const char *second,
+                               size_t second_len, char *out, size_t cap,
+                               fmtcanon_comparison *comparison, fmtcanon_error *error);
 
 /* How many conversion specifications the format has, which may be of the whole language; `%%` is none. A
  * record for each, in the order of the text, is put into `out`, which has room for `cap` records. An int is

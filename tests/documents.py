@@ -24,6 +24,7 @@ import linear  # noqa: E402
 import literals  # noqa: E402
 import memory  # noqa: E402
 import mutant_files  # noqa: E402
+import opaque  # noqa: E402
 import reach  # noqa: E402
 import records  # noqa: E402
 import replacing  # noqa: E402
@@ -107,8 +108,9 @@ def tested_counts():
     yield from limits()
     whole = data_rows("whole.jsonl")
     yield r"(\d+) rows of `tests/rows/whole.jsonl`, (\d+) of them", [len(whole), len(whole) - HAND_WHOLE]
-    opaque = data_rows("opaque.jsonl")
-    yield r"(\d+) rows of `tests/rows/opaque.jsonl`, (\d+) of them", [len(opaque), len(opaque) - HAND_OPAQUE]
+    rows = data_rows("opaque.jsonl")
+    yield r"(\d+) rows of `tests/rows/opaque.jsonl`, (\d+) of them", [len(rows), len(rows) - HAND_OPAQUE]
+    yield r"(\d+) pairs of formats that a fixed generator spells .* for (\d+) lists of arguments each.*? (\d+) pairs in which", [opaque.PAIRS, opaque.LISTS, opaque.UNLIKE]
     records = data_rows("records.jsonl")
     yield r"(\d+) rows of `tests/rows/records.jsonl`, (\d+) of them", [len(records), len(records) - HAND_RECORDS]
     yield r"(\d+) refused formats and (\d+) directives end after each byte, or a read fails there, and (\d+) formats in which", [data_count(name) for name in ["cut_refusals.jsonl", "cut_directives.jsonl", "fronts.jsonl"]]
@@ -149,7 +151,7 @@ PLAIN_NUMBERS = [
     r"each of the 256 bytes after 7 beginnings", r"16 shapes", r"take 1, 2, 3 or 7 bytes a call and then fail in one of 5 ways", r"40000 arguments",
     r"the replies to 3 records", r"move 1, 2, 3, 7 or 4096 bytes a call, and fail in one of 4 ways", r"loaded before the C library\): \d+ runs",
     r"leaks 64 bytes a record", r"conversations of 1000 records and 1000 pairs", r"one record of 100 million bytes",
-    r"UTF-8", r"\d+ runs and comparisons", r"no 2 normal directives", r"every 2 of", r"what the 2 say",
+    r"UTF-8", r"\d+ runs and comparisons", r"spells in 2 ways", r"no 2 normal directives", r"every 2 of", r"what the 2 say",
 ]
 NUMBER_WORDS = dict(zip("two three four five six seven eight nine ten eleven twelve".split(), range(2, 13)))
 

@@ -2,3 +2,5 @@ pub mod CodeLemmas
 pub mod ComparingLemmas
 mod SamenessLemmas
 mod SignatureLemmas
+pub mod WholeComparingLemmas
+mod WholeLemmas

@@ -5,3 +5,5 @@ pub mod Words
 pub mod Calls
 pub mod Literals
 pub mod Signatures
+pub mod Whole
+pub mod WholeComparisons

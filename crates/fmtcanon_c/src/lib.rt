@@ -7,3 +7,5 @@ mod comparison;
 mod directives;
 mod interface;
 mod literals;
+mod whole_comparison;
+mod whole_texts;
