@@ -8,8 +8,9 @@ ghost use Rattle.pf_values.specs.meaning.Text.{Text};
 ghost use Rattle.fmtcanon.specs.Models.{model_in, models_in};
 ghost use Rattle.fmtcanon.specs.Tasks.{Asks, AsksOther, IsAnsweredBy, IsAsked, IsNoTaskOf, IsNoTaskOn, IsTaskOn, Names, formats_in, is_set, notation_in, rows_in};
 
-use crate::command::{MISPLACED, definition};
+use crate::command::definition;
 use crate::formats::{GivenFormat, Notation};
+use crate::help::MISPLACED;
 use crate::models::{Models, model_of, models_of};
 use clap::error::ErrorKind;
 use clap::{ArgMatches, Error};
