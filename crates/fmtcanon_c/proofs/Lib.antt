@@ -2,3 +2,4 @@ pub mod CodeLemmas
 pub mod ComparingLemmas
 mod SamenessLemmas
 mod SignatureLemmas
+mod HeaderLemmas

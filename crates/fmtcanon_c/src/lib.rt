@@ -6,4 +6,5 @@ mod canonical_texts;
 mod comparison;
 mod directives;
 mod interface;
+mod laws;
 mod literals;
