@@ -6,6 +6,7 @@ mod arguments;
 mod command;
 mod comparison;
 mod formats;
+mod input;
 mod laws;
 mod models;
 mod outcome;
