@@ -25,6 +25,8 @@ HEADER = TOP / "include/fmtcanon.h"
 SHAPES = TOP / "bench/shapes.nul"
 ROWS = TOP / "tests/commands.jsonl"
 SOURCES = TOP / "crates/fmtcanon_c/src"
+# The numbers of the header as definitions, about which the crate has laws.
+LAWS = TOP / "crates/fmtcanon_c/specs/Header.antt"
 STRICT = ["-Wall", "-Wextra", "-pedantic", "-Werror", f"-I{HEADER.parent}"]
 WRAPPED = ["-pthread", "-Wl,--wrap=malloc,--wrap=realloc,--wrap=free"]
 # What a parameter of Rattle is in C.
@@ -129,6 +131,7 @@ def try_header(trials):
     declared = dict(re.findall(r"FMTCANON_ERROR_(\w+) \((-\d+)\)", header_text()))
     code = dict(re.findall(r"NO_(\w+): i64 = (-\d+);", (SOURCES / "interface.rt").read_text(encoding="utf-8")))
     trials.expect("errors that are no refusal", declared, {"NOMEMORY": code["MEMORY"], "MODEL": code["MODEL"], "NOPLACE": code["PLACE"]})
+    try_header_laws(declared, trials)
     version = ".".join(re.findall(r"FMTCANON_VERSION_\w+ (\d+)", header_text()))
     latest = re.search(r"^## (\S+),", (TOP / "CHANGELOG.md").read_text(encoding="utf-8"), flags=re.MULTILINE).group(1)
     trials.expect("the version of the header", version, latest)
@@ -136,6 +139,19 @@ def try_header(trials):
     trials.expect("the version of the Makefile", made, latest)
     python = re.search(r'^version = "(\S+)"$', (TOP / "python/pyproject.toml").read_text(encoding="utf-8"), flags=re.MULTILINE).group(1)
     trials.expect("the version of the Python module", python, latest)
+
+
+def try_header_laws(errors, trials):
+    """The numbers for which `laws.rt` has laws are those of the header, and no error and no kind is left out."""
+    text = LAWS.read_text(encoding="utf-8")
+    laws = {name.upper(): f"-{number}" for name, number in re.findall(r"^error_(\w+) = neg_ℤ \(pos (\d+)\)$", text, flags=re.MULTILINE)}
+    trials.expect("errors in the laws", laws, errors)
+    kinds = re.findall(r"^literal_kind_in_header (\w+) = (\d+)$", text, flags=re.MULTILINE)
+    numbers = {re.sub(r"(?<!^)(?=[A-Z])", "_", name).upper(): int(number) for name, number in kinds}
+    trials.expect("kinds of faults of literals in the laws", numbers, header_numbers("fmtcanon_literal_kind"))
+    power = re.search(r"NO_ARGUMENT ≡ 2 \^ (\d+) - 1$", text, flags=re.MULTILINE)
+    none = re.search(r"FMTCANON_NO_ARGUMENT UINT(\d+)_MAX", header_text())
+    trials.expect("the index that stands for no argument", power and power.group(1), none and none.group(1))
 
 
 def lines_of(words, **options):

@@ -7,6 +7,7 @@ mod command;
 mod comparison;
 mod formats;
 mod help;
+mod input;
 mod laws;
 mod models;
 mod outcome;

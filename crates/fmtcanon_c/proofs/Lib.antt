@@ -4,3 +4,4 @@ mod SamenessLemmas
 mod SignatureLemmas
 pub mod WholeComparingLemmas
 mod WholeLemmas
+mod HeaderLemmas

@@ -1,5 +1,6 @@
 pub mod Buffers
 pub mod Errors
+pub mod Header
 pub mod Models
 pub mod Words
 pub mod Calls
