@@ -42,10 +42,17 @@ def model_rows():
     return [json.loads(line) for line in (TOP / "tests/commands.jsonl").read_text(encoding="utf-8").splitlines()]
 
 
-def examples(document):
-    """The commands in indented blocks, each a line that begins with '$ ', with the lines that follow it."""
+def section(document, heading):
+    """The part of a document below a heading, up to the next one of its level."""
+    text = document.read_text(encoding="utf-8")
+    return text.split(f"\n## {heading}\n")[1].split("\n## ")[0]
+
+
+def examples(document, heading=None):
+    """The commands in indented blocks of a document, or of its part below a heading: each a line that begins with '$ ', with the lines that follow it."""
     command, output = None, []
-    for line in document.read_text(encoding="utf-8").splitlines() + [""]:
+    text = section(document, heading) if heading else document.read_text(encoding="utf-8")
+    for line in text.splitlines() + [""]:
         if line.startswith("    $ "):
             if command:
                 yield command, output

@@ -37,6 +37,7 @@ INSTALLED = {
     "share/doc/fmtcanon/CHANGELOG.md",
     "share/doc/fmtcanon/LICENSE",
     "share/doc/fmtcanon/README.md",
+    "share/doc/fmtcanon/SECURITY.md",
     "share/doc/fmtcanon/folders",
     "share/doc/fmtcanon/examples/canon.c",
     "share/fish/vendor_completions.d/fmtcanon.fish",
@@ -56,7 +57,7 @@ REFUSED = [
     "DESTDIR=stage", "DESTDIR=/tmp/my stage", "BINDIR=bin", "PYTHONDIR=/my modules", "DOCDIR=/a&b",
 ]
 # What an archive is made of.
-TREE = ["include", "man", "packaging", "completions", "examples", "docs", "python", "LICENSE", "README.md", "CHANGELOG.md", "Makefile"]
+TREE = ["include", "man", "packaging", "completions", "examples", "docs", "python", "LICENSE", "README.md", "CHANGELOG.md", "SECURITY.md", "Makefile"]
 BUILT = ["crates/fmtcanon/out/fmtcanon", "out/c/libfmtcanon.a", "out/c/libfmtcanon.so.0.2.0"]
 
 
@@ -80,7 +81,7 @@ def wanted_files():
     return (
         INSTALLED
         | {f"{MODULE}/{name}" for name in module}
-        | {f"share/doc/fmtcanon/docs/{path.name}" for path in (TOP / "docs").glob("*.md")}
+        | {f"share/doc/fmtcanon/{path.relative_to(TOP)}" for path in (TOP / "docs").rglob("*.md")}
         | {f"share/doc/fmtcanon/examples/ci/{path.name}" for path in (TOP / "examples/ci").iterdir()}
         | {f"share/man/man3/{name}.3" for name in calls()}
     )

@@ -92,7 +92,8 @@ def check(options: Any, files: Sequence[str]) -> int:
     checker = Checker(printer.add, MODELS[options.model], options.c_format)
     check_files(checker, files)
     printer.end()
-    print(f"{checker.judged} messages judged, {checker.unjudged} not judged", file=sys.stderr)
+    word = "message" if checker.judged == 1 else "messages"
+    print(f"{checker.judged} {word} judged, {checker.unjudged} not judged", file=sys.stderr)
     if checker.faults:
         word = "error" if checker.faults == 1 else "errors"
         print(f"found {checker.faults} fatal {word}", file=sys.stderr)
