@@ -218,7 +218,7 @@ def try_faults(tool, trials):
         status, output, fault = tool.run(*words)
         trials.expect(f"fmtcanon-diff {words}: {fault}", (status, output, fault.startswith("usage: fmtcanon-diff"), said in fault.splitlines()[-1]), (2, "", True, True))
     status, output, fault = tool.run("-h")
-    trials.expect("fmtcanon-diff -h", (status, output.startswith("usage: fmtcanon-diff [OPTION].. OLD NEW"), fault), (0, True, ""))
+    trials.expect("fmtcanon-diff -h", (status, output.startswith("usage: fmtcanon-diff [OPTION]... OLD NEW"), fault), (0, True, ""))
     trials.expect("fmtcanon-diff --version", tool.run("--version"), (0, "fmtcanon 0.2.0\n", ""))
     status, output, fault = tool.run("a.c", "folder/a.c", FMTCANON_LIBRARY="nowhere")
     trials.expect("no library", (status, output, fault.startswith("fmtcanon-diff: the library of fmtcanon isn't there: ")), (2, "", True))

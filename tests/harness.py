@@ -64,6 +64,15 @@ def examples(document, heading=None):
             command, output = None, []
 
 
+def page_examples(page):
+    """The commands in the EXAMPLES of a manual page, each a line that begins with '$ ', with the lines that follow it."""
+    text = page.read_text(encoding="utf-8")
+    block = re.search(r"^\.SH EXAMPLES\n\.EX\n(.*?)^\.EE$", text, flags=re.DOTALL | re.MULTILINE).group(1)
+    for example in re.split(r"^\$ ", block.replace("\\(aq", "'").replace("\\-", "-").replace("\\e", "\\"), flags=re.MULTILINE)[1:]:
+        command, _, output = example.partition("\n")
+        yield command, output.splitlines()
+
+
 def usage_texts():
     """The words after each line that begins with '$', with the text below it, up to an empty line before the next."""
     blocks = re.split(r"^\$", (TOP / "tests/usage.txt").read_text(encoding="utf-8"), flags=re.MULTILINE)

@@ -19,7 +19,7 @@ sys.dont_write_bytecode = True
 sys.path.insert(0, str(Path(__file__).resolve().parent))
 
 import installing  # noqa: E402
-from harness import TIMEOUT, TOP, Trials, examples, fences, run  # noqa: E402
+from harness import TIMEOUT, TOP, Trials, examples, fences, page_examples, run  # noqa: E402
 
 HEADER = TOP / "include/fmtcanon.h"
 SHAPES = TOP / "bench/shapes.nul"
@@ -28,6 +28,8 @@ SOURCES = TOP / "crates/fmtcanon_c/src"
 STRICT = ["-Wall", "-Wextra", "-pedantic", "-Werror", f"-I{HEADER.parent}"]
 # The documents, or their parts below a heading, whose examples need the library, the module or the commands installed.
 DOCUMENTS = [("docs/C.md", None), ("docs/PYTHON.md", None), ("docs/TRANSLATIONS.md", "Check a catalog")]
+# The manual pages whose examples need no libclang.
+PAGES = ["fmtcanon.1", "fmtcanon-po.1", "fmtcanon-diff.1"]
 WRAPPED = ["-pthread", "-Wl,--wrap=malloc,--wrap=realloc,--wrap=free"]
 # What a parameter of Rattle is in C.
 PARAMETERS = {
@@ -342,6 +344,10 @@ def try_documents(prefix, work, trials):
             got = lines_of(["bash", "-c", command], env=environment, cwd=work, stdin=subprocess.DEVNULL)[1]
             trials.expect(f"{name}: {command}", got, "".join(f"{line}\n" for line in output))
         trials.expect(f"{name} has examples", found > 0, True)
+    for name in PAGES:
+        for command, output in page_examples(TOP / "man" / name):
+            done = subprocess.run(["bash", "-c", command], env=environment, cwd=work, check=False, stdin=subprocess.DEVNULL, stdout=subprocess.PIPE, stderr=subprocess.STDOUT, timeout=TIMEOUT)
+            trials.expect(f"{name}: {command}", done.stdout.decode().splitlines(), output)
     source = " ".join((TOP / "examples/canon.c").read_text(encoding="utf-8").split())
     for language, block in fences((TOP / "docs/C.md").read_text(encoding="utf-8")):
         if language == "c":

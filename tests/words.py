@@ -50,7 +50,7 @@ def plain(text):
     """A text in one line, without the marks of comments and of roff, and without spans in backticks."""
     text = re.sub(r"`[^`\n]*`", "", text)
     text = re.sub(r"^\.[A-Za-z]+|^ *(\*|#)|\\f.|\\-", " ", text, flags=re.MULTILINE)
-    return " ".join(text.split()).lower()
+    return " ".join(text.split())
 
 
 def texts():
@@ -64,7 +64,7 @@ def texts():
 def phrases_in(text):
     """The phrases that a text has, in the order of PHRASES."""
     line = plain(text)
-    return [phrase for phrase in PHRASES if re.search(rf"(?<![\w-]){phrase}\b", line)]
+    return [phrase for phrase in PHRASES if re.search(rf"(?<![\w-])[{phrase[0]}{phrase[0].upper()}]{phrase[1:]}\b", line)]
 
 
 def words_in(paths):
