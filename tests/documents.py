@@ -28,18 +28,18 @@ import replacing  # noqa: E402
 import sizes  # noqa: E402
 import turned  # noqa: E402
 from harness import TOP, Trials, fences, model_rows, section, usage_texts  # noqa: E402
-from words import pages  # noqa: E402
+from words import pages, try_words  # noqa: E402
 
 # The commands with rows of a model of the program.
 MODEL_COMMANDS = ["canon", "same", "format", "show", "stream", "types"]
 # Names in the documents that are none of this repository's: of C and its library, of other tools and of the kit, and
 # placeholders.
 FOREIGN_NAMES = set("""
-    cents errno memset intmax_t ptrdiff_t strerror uintmax_t I64
+    cents errno intmax_t ptrdiff_t strerror uintmax_t I64
     xargs git sort msgfmt pipefail SOURCE_DATE_EPOCH fix plant PKG_CONFIG_PATH ldconfig apt pip pkg config cflags libs pkgconfig sudo iconv
     axiom axioms
     AllocFailed WHAT logic dac8208d650f15bf ed8637e01fc3206ec782c5daf8d913b1fcd4ddf4efb850537416d13256281534 the_type write_all
-    NAME PATH TEXT allow holes lemma is_left_justified expect assert_eq tidy XDG_CACHE_HOME
+    NAME PATH allow holes lemma is_left_justified expect assert_eq tidy XDG_CACHE_HOME
 """.split())
 # Folders whose files are the code that names are looked up in.
 CODE = ["tests/*.py", "crates/*/src/**/*.rt", "crates/*/specs/**/*.antt", "crates/*/proofs/**/*.antt", "bench/**/*", "include/*", "python/**/*.py", "examples/*", "crates.txt", "Makefile", "HANDLES"]
@@ -312,6 +312,7 @@ def main():
     try_definitions(trials)
     try_numbers(trials)
     reach.try_reach(trials)
+    try_words(trials)
     return trials.end()
 
 
