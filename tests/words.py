@@ -43,7 +43,8 @@ def pages():
 def words_of_python(text):
     """The comments and the texts of a file of Python: docstrings, help and messages."""
     tokens = tokenize.generate_tokens(io.StringIO(text).readline)
-    return "\n".join(it.string for it in tokens if it.type in (tokenize.COMMENT, tokenize.STRING))
+    # Texts that come one after another are one text.
+    return "\n".join(it.string.strip("rbfu\"'") for it in tokens if it.type in (tokenize.COMMENT, tokenize.STRING))
 
 
 def plain(text):
