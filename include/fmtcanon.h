@@ -6,7 +6,8 @@
  *
  * The profile and the whole language. The calls from fmtcanon_arguments() to fmtcanon_directives()
  * accept the whole language of POSIX `fprintf`: numbered arguments, `*`, floating and wide conversions,
- * `%p` and `%n`. The others accept the profile: the conversions `d i u o x X b c s`.
+ * `%p` and `%n`. The others accept the profile: the conversions `d i u o x X b c s`. In both, widths and
+ * precisions are at most 4095.
  *
  * The data model. The meaning of a format depends on it: `%zu` is `%lu` in LP64, `%u` in ILP32 and
  * `%llu` in LLP64. `model` is an enum fmtcanon_model: that of the machine on which the format is used,
