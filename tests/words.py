@@ -3,7 +3,8 @@
 
 Usage: tests/words.py
 
-It reads the documents, the manual pages, the header, and the comments, docstrings and texts of the Python module. Its last line is 'N passed, M failed', and it exits with 1 if M isn't 0.
+It reads the documents, the manual pages, the header, the help of the program, and the comments, docstrings and texts of the
+Python module. Its last line is 'N passed, M failed', and it exits with 1 if M isn't 0.
 """
 
 import io
@@ -56,7 +57,7 @@ def plain(text):
 
 def texts():
     """What is read for phrases, each with its name."""
-    for path in [*pages(), *sorted((TOP / "man").iterdir()), *sorted((TOP / "include").iterdir())]:
+    for path in [*pages(), *sorted((TOP / "man").iterdir()), *sorted((TOP / "include").iterdir()), TOP / "tests/usage.txt"]:
         yield str(path.relative_to(TOP)), path.read_text(encoding="utf-8")
     for path in sorted((TOP / "python/fmtcanon").rglob("*.py")):
         yield str(path.relative_to(TOP)), words_of_python(path.read_text(encoding="utf-8"))
