@@ -63,7 +63,7 @@ archive: tools c-tools
 # One object, whose only global names are those of the header.
 JOIN = CC="$(CC)" library/join.sh crates/fmtcanon_c/out/libfmtcanon_c.a
 
-# A file that stays as it is makes nothing anew.
+# A file that stays as it is causes nothing to be made again.
 $(C)/fmtcanon.o: archive
 	$(JOIN) $@.new
 	cmp -s $@.new $@ || mv $@.new $@
@@ -186,7 +186,7 @@ COMMANDS = diff po replace
 install: places built
 	python3 packaging/folders.py make "$(DESTDIR)" $(MADE) $(BINDIR) $(INCLUDEDIR) $(LIBDIR)/pkgconfig $(PYTHONDIR) \
 	    $(addprefix $(PYTHONDIR)/,$(MODULES)) $(MANDIR)/man1 $(MANDIR)/man3 $(BASHDIR) $(ZSHDIR) $(FISHDIR) \
-	    $(DOCDIR)/docs $(DOCDIR)/examples $(DOCDIR)/examples/ci
+	    $(DOCDIR)/docs $(DOCDIR)/docs/internals $(DOCDIR)/examples $(DOCDIR)/examples/ci
 	install -m 755 $(PROGRAM) $(DESTDIR)$(BINDIR)/fmtcanon
 	install -m 644 include/fmtcanon.h $(DESTDIR)$(INCLUDEDIR)
 	install -m 644 $(C)/libfmtcanon.a $(DESTDIR)$(LIBDIR)
@@ -212,8 +212,9 @@ install: places built
 	    install -m 644 completions/fmtcanon-commands.bash $(DESTDIR)$(BASHDIR)/fmtcanon-$$name && \
 	    install -m 644 completions/fmtcanon-commands.fish $(DESTDIR)$(FISHDIR)/fmtcanon-$$name.fish || exit 1; done
 	install -m 644 completions/_fmtcanon-commands $(DESTDIR)$(ZSHDIR)
-	install -m 644 LICENSE README.md CHANGELOG.md $(DESTDIR)$(DOCDIR)
+	install -m 644 LICENSE README.md CHANGELOG.md SECURITY.md $(DESTDIR)$(DOCDIR)
 	install -m 644 docs/*.md $(DESTDIR)$(DOCDIR)/docs
+	install -m 644 docs/internals/*.md $(DESTDIR)$(DOCDIR)/docs/internals
 	install -m 644 examples/canon.c $(DESTDIR)$(DOCDIR)/examples
 	install -m 644 examples/ci/* $(DESTDIR)$(DOCDIR)/examples/ci
 
@@ -230,7 +231,7 @@ uninstall: places built
 	python3 "$(CURDIR)/packaging/folders.py" remove "$(DESTDIR)" "$$stage/made"
 
 ARCHIVE = fmtcanon-$(VERSION)-linux-x86_64
-PACKED = LICENSE README.md CHANGELOG.md Makefile include python/fmtcanon python/pyproject.toml \
+PACKED = LICENSE README.md CHANGELOG.md SECURITY.md Makefile include python/fmtcanon python/pyproject.toml \
     python/README.md man completions docs examples packaging $(PROGRAM) $(C)/libfmtcanon.a $(SHARED)
 
 # The archive depends only on the names and bytes of the files.

@@ -15,7 +15,7 @@ complete -c fmtcanon-po -l c-format -d 'check every message that has a %, except
 complete -c fmtcanon-po -l strict -d 'exit with status 1 also if something could not be judged'
 complete -c fmtcanon-replace -s p -x -a '(__fish_complete_directories)' -d 'the folder of compile_commands.json'
 complete -c fmtcanon-replace -l flag -x -d 'a flag of the compile command'
-complete -c fmtcanon-replace -l attribute -d 'functions with the attribute format(printf, ..) are known'
+complete -c fmtcanon-replace -l attribute -d 'functions with the attribute format(printf, m, n) are known'
 complete -c fmtcanon-replace -l function -x -d 'a function and the index of its format'
 complete -c fmtcanon-replace -l posix-locale -d 'the program prints in the POSIX locale alone'
 complete -c fmtcanon-replace -l dry-run -d 'report what would be done, and change no file'

@@ -1,11 +1,11 @@
 /* The calls as the header declares them: `error` may be NULL, and then the reason of a refusal is dropped.
  *
- * The calls that are proved want a place for it. In the library these have the front proved_ in their
- * names, and this file alone sees and calls them.
+ * The proved calls need a place for it. In the library their names begin with proved_, and only this
+ * file sees and calls them.
  */
 #include "fmtcanon.h"
 
-/* Declares a proved call, and defines the one that gives it a place where it was given none. */
+/* Declares a proved call, and defines the one that passes a place if the caller passed none. */
 #define WITH_OPTIONAL_ERROR(name, parameters, arguments)                                           \
     int64_t proved_##name parameters;                                                              \
     int64_t name parameters                                                                        \

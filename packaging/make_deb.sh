@@ -41,6 +41,12 @@ printf '%s\n' "fmtcanon ($version) unstable; urgency=low" '' '  * The file chang
     > "$documents/changelog.Debian"
 gzip -9n "$documents/changelog" "$documents/changelog.Debian"
 
+# What lintian says of one package with the program, the library and its header, which nobody has asked Debian for.
+overrides=$stage/usr/share/lintian/overrides
+mkdir -p "$overrides"
+printf 'fmtcanon: %s\n' initial-upload-closes-no-bugs link-to-shared-library-in-wrong-package \
+    package-name-doesnt-match-sonames > "$overrides/fmtcanon"
+
 mkdir "$stage/DEBIAN"
 cat > "$stage/DEBIAN/control" << CONTROL
 Package: fmtcanon
@@ -54,10 +60,11 @@ Section: devel
 Priority: optional
 Description: canonical texts of printf formats
  It brings the format strings of the C function printf to one canonical
- spelling, and decides whether one may stand for another: the same
- arguments, and the same bytes printed. The package has the program, a C
- library, a Python module, a check of message catalogs, a command that says
- what a change of C source does to its formats and one that replaces them.
+ spelling, and decides whether two are interchangeable: the same arguments,
+ and the same bytes printed. The package contains the program, a C library
+ and a Python module. fmtcanon-po checks message catalogs, fmtcanon-diff says
+ what a change of C source does to its formats, and fmtcanon-replace replaces
+ formats in C source.
 CONTROL
 echo "libfmtcanon 0 fmtcanon (>= $1)" > "$stage/DEBIAN/shlibs"
 # Python's compiled modules come and go with the package.

@@ -197,21 +197,21 @@ def try_judged(folder, work, trials):
     for msgid, msgstr, reason in STRICTER:
         file.write_text(catalog([message("#, c-format", msgid, msgstr)])[0])
         status, report, *_ = checked(folder, ["--strict", "a.po"], work)
-        trials.expect(f"{msgid} as {msgstr} is a fault: {reason}", (status, len(fault_lines(report)), "1 messages judged" in report), (1, 1, True))
+        trials.expect(f"{msgid} as {msgstr} is a fault: {reason}", (status, len(fault_lines(report)), "1 message judged" in report), (1, 1, True))
     for msgid, msgstr, change in CHANGED:
         file.write_text(catalog([message("#, c-format", msgid, msgstr)])[0])
         status, report, *_ = checked(folder, ["--strict", "a.po"], work)
-        found = (status, "warning: 'msgid' and 'msgstr' use " + change in report, "1 messages judged, 0 not judged" in report)
+        found = (status, "warning: 'msgid' and 'msgstr' use " + change in report, "1 message judged, 0 not judged" in report)
         trials.expect(f"{msgid} as {msgstr} is a warning", found, (0, True, True))
     for msgid, msgstr in UNCHANGED:
         file.write_text(catalog([message("#, c-format", msgid, msgstr)])[0])
-        trials.expect(f"{msgid} as {msgstr} is right", checked(folder, ["--strict", "a.po"], work)[:2], (0, "1 messages judged, 0 not judged\n"))
+        trials.expect(f"{msgid} as {msgstr} is right", checked(folder, ["--strict", "a.po"], work)[:2], (0, "1 message judged, 0 not judged\n"))
     for plural, flags, is_fault in FORMS:
         file.write_text(forms_text(plural, flags))
         status, report, *_ = checked(folder, ["a.po"], work)
         trials.expect(f"the form of {plural[-20:]} with {flags[:20]}", (status, report.count("does not match"), "judged" in report), (is_fault, is_fault, True))
     file.write_text((HEADER % ("UTF-8", "n != 1")) + '#, c-format\nmsgid "%d"\nmsgid_plural "%d %c"\nmsgstr[0] "%d"\nmsgstr[1] "%d %c"\n')
-    trials.expect("an argument that is left out is not changed", checked(folder, ["--strict", "a.po"], work)[:2], (0, "1 messages judged, 0 not judged\n"))
+    trials.expect("an argument that is left out is not changed", checked(folder, ["--strict", "a.po"], work)[:2], (0, "1 message judged, 0 not judged\n"))
     for plural in NO_RULES:
         file.write_text(forms_text(plural, ""))
         status, report, *_ = checked(folder, ["a.po"], work)
@@ -267,7 +267,7 @@ def try_sizes(folder, work, trials):
     for name, msgid, msgstr, most in runs:
         file.write_text(catalog([message("#, c-format", msgid, msgstr)])[0])
         status, report, seconds, _ = checked(folder, ["a.po"], work)
-        trials.expect(f"{name}: {seconds:.1f} seconds, at most {most}", (seconds <= most, "1 messages judged" in report or "1 not judged" in report), (True, True))
+        trials.expect(f"{name}: {seconds:.1f} seconds, at most {most}", (seconds <= most, "1 message judged" in report or "1 not judged" in report), (True, True))
     # Letters of which a message is made, its megabytes, and the memory that it may take.
     texts = [("x", 20, 400), ("\u0436", 20, 400), ("x\U0001f600" + "y" * 100, 20, 400), ("\\n", 2, 60), ('a"\n"', 2, 60)]
     for letters, size, most in texts:

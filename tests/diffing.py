@@ -218,7 +218,7 @@ def try_faults(tool, trials):
         status, output, fault = tool.run(*words)
         trials.expect(f"fmtcanon-diff {words}: {fault}", (status, output, fault.startswith("usage: fmtcanon-diff"), said in fault.splitlines()[-1]), (2, "", True, True))
     status, output, fault = tool.run("-h")
-    trials.expect("fmtcanon-diff -h", (status, output.startswith("usage: fmtcanon-diff [OPTION].. OLD NEW"), fault), (0, True, ""))
+    trials.expect("fmtcanon-diff -h", (status, output.startswith("usage: fmtcanon-diff [OPTION]... OLD NEW"), fault), (0, True, ""))
     trials.expect("fmtcanon-diff --version", tool.run("--version"), (0, "fmtcanon 0.2.0\n", ""))
     status, output, fault = tool.run("a.c", "folder/a.c", FMTCANON_LIBRARY="nowhere")
     trials.expect("no library", (status, output, fault.startswith("fmtcanon-diff: the library of fmtcanon isn't there: ")), (2, "", True))
@@ -238,12 +238,12 @@ def try_faults(tool, trials):
 
 
 def try_document(tool, trials):
-    """Each command of docs/DIFF.md prints what is shown below it."""
+    """Each command of that part of docs/REFACTORING.md prints what is shown below it."""
     script = f"fmtcanon-diff() {{ '{sys.executable}' -m fmtcanon.diff \"$@\"; }}\n"
-    for command, output in examples(TOP / "docs/DIFF.md"):
+    for command, output in examples(TOP / "docs/REFACTORING.md", "What a change does"):
         words = ["bash", "-c", script + command]
         done = subprocess.run(words, cwd=tool.work, env=tool.environment, check=False, stdout=subprocess.PIPE, stderr=subprocess.STDOUT, timeout=TIMEOUT)
-        trials.expect(f"docs/DIFF.md: {command}", done.stdout.decode(), "".join(f"{line}\n" for line in output))
+        trials.expect(f"docs/REFACTORING.md: {command}", done.stdout.decode(), "".join(f"{line}\n" for line in output))
 
 
 def try_no_repository(tool, trials):

@@ -18,7 +18,6 @@ sys.path.insert(0, str(Path(__file__).resolve().parent))
 import arguments  # noqa: E402
 import changes  # noqa: E402
 import definition_names  # noqa: E402
-import diffing  # noqa: E402
 import library  # noqa: E402
 import linear  # noqa: E402
 import literals  # noqa: E402
@@ -26,24 +25,22 @@ import memory  # noqa: E402
 import mutant_files  # noqa: E402
 import opaque  # noqa: E402
 import reach  # noqa: E402
-import records  # noqa: E402
 import replacing  # noqa: E402
-import rooms  # noqa: E402
 import sizes  # noqa: E402
 import turned  # noqa: E402
-from harness import TOP, Trials, fences, model_rows, usage_texts  # noqa: E402
+from harness import TOP, Trials, fences, model_rows, section, usage_texts  # noqa: E402
+from words import pages, try_words  # noqa: E402
 
-# A reader enters by the README.
-README_WORDS = 1200
 # The commands with rows of a model of the program.
 MODEL_COMMANDS = ["canon", "same", "format", "show", "stream", "types"]
 # Names in the documents that are none of this repository's: of C and its library, of other tools and of the kit, and
 # placeholders.
 FOREIGN_NAMES = set("""
-    cents errno memset intmax_t ptrdiff_t strerror uintmax_t I64
-    xargs git sort msgfmt msgunfmt pipefail SOURCE_DATE_EPOCH fix fmt imports plant PYTHONPATH PKG_CONFIG_PATH ldconfig pip pkg config cflags libs pkgconfig sudo
-    AllocFailed Display WHAT logic dac8208d650f15bf ed8637e01fc3206ec782c5daf8d913b1fcd4ddf4efb850537416d13256281534 the_type write_all
-    NAME PATH TEXT allow holes lemma is_left_justified expect assert_eq tidy XDG_CACHE_HOME
+    cents errno intmax_t ptrdiff_t strerror uintmax_t I64
+    xargs git sort msgfmt pipefail SOURCE_DATE_EPOCH fix plant PKG_CONFIG_PATH PYTHONPATH ldconfig apt pip pkg config cflags libs pkgconfig sudo iconv
+    axiom axioms
+    AllocFailed WHAT logic dac8208d650f15bf ed8637e01fc3206ec782c5daf8d913b1fcd4ddf4efb850537416d13256281534 the_type write_all
+    NAME PATH allow holes lemma is_left_justified expect assert_eq tidy XDG_CACHE_HOME
 """.split())
 # Folders whose files are the code that names are looked up in.
 CODE = ["tests/*.py", "crates/*/src/**/*.rt", "crates/*/specs/**/*.antt", "crates/*/proofs/**/*.antt", "bench/**/*", "include/*", "python/**/*.py", "examples/*", "crates.txt", "Makefile", "HANDLES"]
@@ -75,70 +72,52 @@ def pairs_of(count):
 
 
 def tested_counts():
-    """What docs/TESTED.md says is tested: patterns of its numbers, each with the numbers that the files give."""
+    """What the table of docs/VERIFICATION.md says is tested: patterns of its numbers, each with the numbers that the files give."""
     texts = data_count("grid.txt") + data_count("long.txt")
-    shapes, forms = data_count("shapes.txt"), data_count("forms_of_int.jsonl")
+    shapes = data_count("shapes.txt")
     sizes = grid_sizes(True) + grid_sizes(False)
-    yield r"(\d+) refusals out of", [data_count("refused.jsonl")]
-    yield r"(\d+) texts that the GNU C library prints .* 16 shapes and (5) values", [5 * texts, 5]
-    yield r"(\d+) that it prints by `b` \((\d+) shapes with (6) values\)", [6 * shapes, shapes, 6]
-    yield r"(\d+) rows out of other programs' test suites, (\d+) worked rows", [data_count("vectors.txt"), data_count("numbers.txt")]
-    yield r"(\d+) directives and what they are reduced to .* up to (\d+) numbers", [data_count("reductions.jsonl"), numbers_of_int()]
-    yield r"(\d+) worked canonical texts", [data_count("canonical_formats.jsonl")]
+    yield r"(\d+) refusals \|", [data_count("refused.jsonl")]
+    yield r"for 16 shapes and (5) values, and by `b` for (\d+) shapes and (6) values \| (\d+) and (\d+) texts", [5, shapes, 6, 5 * texts, 6 * shapes]
+    yield r"other programs' test suites, and worked rows \| (\d+) and (\d+) \|", [data_count("vectors.txt"), data_count("numbers.txt")]
+    yield r"for up to (\d+) numbers \| (\d+) \|", [numbers_of_int(), data_count("reductions.jsonl")]
+    yield r"rows of whole formats \| (\d+) and (\d+) \|", [data_count("canonical_formats.jsonl"), data_count("formats.jsonl")]
     commands = [row["words"][0] for row in model_rows()]
     for command in MODEL_COMMANDS:
-        yield rf"(\d+)(?: rows)? of `{command}`", [commands.count(command)]
-    yield r"(\d+) rows of whole formats", [data_count("formats.jsonl")]
-    yield r"(\d+) normal directives of int and (\d+) of the other types.* (\d+) pairs, each", [sum(grid_sizes(True)), sum(grid_sizes(False)), sum(map(pairs_of, sizes))]
-    yield r"(\d+) forms of int, (\d+) pairs", [forms, pairs_of(forms)]
-    yield r"(\d+) pairs that one candidate alone", [data_count("told_by_one.jsonl")]
-    yield r"every 2 of (\d+) formats", [data_count("canonical_pairs.jsonl")]
-    yield r"on (\d+) pairs from a model", [data_count("verdicts.jsonl")]
-    longest = max(sum(times for _, times in parts) for row in data_rows("long_comparisons.jsonl") for parts in row[:2])
-    yield r"formats of up to (\d+) directives", [longest]
-    yield r"of the version and of (\d+) faults", [sum("error:" in text for _, text in usage_texts())]
+        yield rf"(\d+) of `{command}`", [commands.count(command)]
+    yield r"every 2 of (\d+) of int and of (\d+) of other types.* (\d+) pairs", [sum(grid_sizes(True)), sum(grid_sizes(False)), sum(map(pairs_of, sizes))]
+    yield r"every 2 of (\d+) formats, and pairs of a model \| (\d+) pairs", [data_count("canonical_pairs.jsonl"), data_count("verdicts.jsonl")]
+    yield r"help and (\d+) errors", [sum("error:" in text for _, text in usage_texts())]
     given = data_rows("literals.jsonl")
-    yield r"(\d+) rows of `tests/rows/literals.jsonl`, (\d+) of them", [len(given), len(given) - HAND_LITERALS]
-    count = literals.COUNT
-    yield r"(\d+) sources, with each byte .* and (\d+) made by a fixed generator", [sum(1 for _ in literals.sources()), count]
-    yield r"(\d+) texts with all bytes", [sum(1 for _ in literals.texts())]
-    yield r"(\d+) formats of `tests/arguments.py`", [sum(1 for _ in arguments.formats())]
-    yield r"of (\d+) random formats are those that a regular expression finds", [arguments.RANDOM]
-    yield r"(\d+) arguments in reverse, and texts of (\d+) million bytes", [arguments.GREATEST, arguments.MANY // 1_000_000]
-    yield from limits()
+    yield r"rows, (\d+) of them of a model \| (\d+) \|", [len(given) - HAND_LITERALS, len(given)]
+    yield r"(\d+) of them random; the literals of texts \| (\d+) sources, (\d+) texts", [literals.COUNT, sum(1 for _ in literals.sources()), sum(1 for _ in literals.texts())]
     whole = data_rows("whole.jsonl")
-    yield r"(\d+) rows of `tests/rows/whole.jsonl`, (\d+) of them", [len(whole), len(whole) - HAND_WHOLE]
-    rows = data_rows("opaque.jsonl")
-    yield r"(\d+) rows of `tests/rows/opaque.jsonl`, (\d+) of them", [len(rows), len(rows) - HAND_OPAQUE]
-    yield r"(\d+) pairs of formats that a fixed generator spells .* for (\d+) lists of arguments each.*? (\d+) pairs in which", [opaque.PAIRS, opaque.LISTS, opaque.UNLIKE]
-    records = data_rows("records.jsonl")
-    yield r"(\d+) rows of `tests/rows/records.jsonl`, (\d+) of them", [len(records), len(records) - HAND_RECORDS]
-    yield r"(\d+) refused formats and (\d+) directives end after each byte, or a read fails there, and (\d+) formats in which", [data_count(name) for name in ["cut_refusals.jsonl", "cut_directives.jsonl", "fronts.jsonl"]]
-    yield r"(\d+) changes of C source", [len(changes.CHANGES)]
-    yield r"a million lines with (\d+) changed files, and lines of (\d+) million bytes", [diffing.FILES, diffing.LONG_LINE // 1_000_000]
+    formats = [len(whole) - HAND_WHOLE, len(arguments.SILENT), len(whole), sum(1 for _ in arguments.formats())]
+    yield r"rows, (\d+) of them of a model; formats compared with gcc, which accepts (\d+) pairs silently.* (\d+) rows, (\d+) formats", formats
+    given = data_rows("opaque.jsonl")
+    yield r"rows, (\d+) of them of a model; pairs that .* for (\d+) lists of arguments \| (\d+) rows, (\d+) and (\d+) pairs", [len(given) - HAND_OPAQUE, opaque.LISTS, len(given), opaque.PAIRS, opaque.UNLIKE]
+    yield r"a regular expression \| (\d+) formats", [arguments.RANDOM]
+    yield from limits()
+    given = data_rows("records.jsonl")
+    yield r"rows, (\d+) of them of a model; conversations; .* (\d+) rows", [len(given) - HAND_RECORDS, len(given)]
+    yield r"what gcc's programs print \| (\d+) \|", [len(changes.CHANGES)]
     left = {name for name, _, _ in replacing.LEFT}
-    yield r"(\d+) programs that would print something else .* (\d+) of which it is known that it can't see", [len(left) + len(replacing.NOT_SEEN), len(replacing.NOT_SEEN)]
-    yield r"(\d+) runs worked out by hand, (\d+) worked reductions and (\d+) calls", [data_count(name) for name in ["commands.jsonl", "reduced.txt", "calls.jsonl"]]
+    yield r"programs that would print something else, (\d+) of which it can't see \| (\d+) \|", [len(replacing.NOT_SEEN), len(left) + len(replacing.NOT_SEEN)]
 
 
 def limits():
     """The same of sizes, times and memory, which the scripts have."""
-    yield r"Over (\d+) records of each command", [records.COUNTED]
-    yield r"gcc accepts (\d+) pairs silently", [len(arguments.SILENT)]
-    yield r"no more over (\d+) records than over (\d+)", [memory.MANY, memory.FEW]
-    yield r"at most (\d+) MiB in a conversation", [memory.MOST_HELD // 1024]
-    yield r"at most (\d+) MiB more than", [memory.MOST_PAGES // 256]
-    yield r"each within (\d+) times", [sizes.TIMES]
-    units = [sizes.DIRECTIVES, sizes.ARGUMENTS, sizes.FIRST_EQUAL]
-    yield r"(\d+) directives, (\d+) arguments, a million escapes of string literals, and (\d+) arguments", units
+    yield r"resident size over (\d+) and over (\d+) records", [memory.MANY, memory.FEW]
     large = sum(count == sizes.LARGE for _, count, _ in sizes.CALLS)
-    yield r"texts of (\d+) million bytes through (\d+) C calls; one record of (\d+) million", [2 * sizes.LARGE // 1_000_000, large, sizes.LONG_RECORD // 1_000_000]
-    yield r"these (\d+) ways take turns", [len(rooms.STEPS) * len(rooms.FAULTS)]
-    calls = {name for name, _, _ in sizes.CALLS}
-    yield r"of (\d+) runs of C calls and of (\d+) runs of the program over (\d+) and over (\d+)", [len(calls), len(list(linear.runs(1))), *linear.SIZES]
-    yield r"grow at most (\d+)\.(\d+) times", [linear.SIZES[1] // linear.SIZES[0], linear.PERCENT // 10]
+    yield r"(\d+) directives, (\d+) arguments, and texts of (\d+) million bytes through (\d+) C calls, each within (\d+) times", [
+        sizes.DIRECTIVES, sizes.ARGUMENTS, 2 * sizes.LARGE // 1_000_000, large, sizes.TIMES
+    ]
+    calls, runs = {name for name, _, _ in sizes.CALLS}, list(linear.runs(1))
+    growth = [linear.SIZES[1] // linear.SIZES[0], linear.PERCENT // 10]
+    yield r"of (\d+) runs of C calls and (\d+) runs of the program, over (\d+) and (\d+) items, grow at most (\d+)\.(\d+) times \| (\d+) runs", [
+        len(calls), len(runs), *linear.SIZES, *growth, len(calls) + len(runs)
+    ]
     _, pairs, _, sizes_of_room = library.OUTCOMES
-    yield r"makes (\d+) calls: each C call with (\d+) pairs of texts.*?(\d+) sizes of room", [math.prod(library.OUTCOMES), pairs, sizes_of_room]
+    yield r"with (\d+) pairs of texts and (\d+) sizes of room, .* (\d+) calls", [pairs, sizes_of_room, math.prod(library.OUTCOMES)]
 
 
 # The rows that were worked out by hand, which come first.
@@ -146,18 +125,13 @@ HAND_RECORDS = 11
 HAND_LITERALS = 27
 HAND_WHOLE = 44
 HAND_OPAQUE = 11
-# Numbers of docs/TESTED.md that count no rows, tests or mutants.
-PLAIN_NUMBERS = [
-    r"each of the 256 bytes after 7 beginnings", r"16 shapes", r"take 1, 2, 3 or 7 bytes a call and then fail in one of 5 ways", r"40000 arguments",
-    r"the replies to 3 records", r"move 1, 2, 3, 7 or 4096 bytes a call, and fail in one of 4 ways", r"loaded before the C library\): \d+ runs",
-    r"leaks 64 bytes a record", r"conversations of 1000 records and 1000 pairs", r"one record of 100 million bytes",
-    r"UTF-8", r"\d+ runs and comparisons", r"spells in 2 ways", r"no 2 normal directives", r"every 2 of", r"what the 2 say",
-]
-NUMBER_WORDS = dict(zip("two three four five six seven eight nine ten eleven twelve".split(), range(2, 13)))
+# Numbers of that table that these scripts don't have.
+PLAIN_NUMBERS = [r"16 shapes", r"a record of 100 million bytes", r"\| \d+ runs and comparisons", r"after each byte \| \d+ runs", r"every 2 of", r"`parse_printf_format`"]
+NUMBER_WORDS = dict(zip("two three four five six seven eight nine ten eleven twelve thirteen fourteen fifteen sixteen seventeen eighteen".split(), range(2, 19)))
 
 
 def with_digits(text):
-    """A text with its numbers in digits: 40,000 as 40000, and words as far as twelve."""
+    """A text with its numbers in digits: 40,000 as 40000, and words as far as eighteen."""
     text = re.sub(r"(?<=\d),(?=\d{3})", "", text)
     words = "|".join(NUMBER_WORDS)
     return re.sub(rf"\b({words})\b", lambda found: str(NUMBER_WORDS[found.group()]), text)
@@ -165,23 +139,18 @@ def with_digits(text):
 
 def try_numbers(trials):
     """The numbers of rows, tests and mutants in the documents are those of the files."""
-    tested = with_digits((TOP / "docs/TESTED.md").read_text(encoding="utf-8"))
-    proved = with_digits((TOP / "docs/PROVED.md").read_text(encoding="utf-8"))
-    words = len((TOP / "README.md").read_text(encoding="utf-8").split())
-    trials.expect(f"README.md has at most {README_WORDS} words: {words}", words <= README_WORDS, True)
+    tested = with_digits(section(TOP / "docs/VERIFICATION.md", "What is only tested"))
     checked = set()
     for pattern, counts in tested_counts():
         found = re.search(pattern, tested)
-        trials.expect(f"docs/TESTED.md: {pattern}", found and [int(number) for number in found.groups()], counts)
+        trials.expect(f"docs/VERIFICATION.md: {pattern}", found and [int(number) for number in found.groups()], counts)
         checked.update(found.start(group) for group in range(1, len(counts) + 1) if found)
     for pattern in PLAIN_NUMBERS:
         for found in re.finditer(pattern, tested):
             checked.update(found.start() + number.start() for number in re.finditer(r"\d+", found.group()))
-    callers = [name for path in (TOP / "crates/uses/src").glob("*.rt") for name in re.findall(r"^pub fn (\w+)", path.read_text(encoding="utf-8"), re.MULTILINE)]
-    found = re.search(r"(\d+) such callers", proved)
-    trials.expect("callers of crates/uses in docs/PROVED.md", found and int(found.group(1)), len(callers))
-    unchecked = [tested[number.start() - 20:number.end() + 20] for number in re.finditer(r"\d+", tested) if number.start() not in checked]
-    trials.expect("numbers of docs/TESTED.md that nothing checks", unchecked, [])
+    unchecked = [tested[max(0, number.start() - 20):number.end() + 20] for number in re.finditer(r"\d+", tested) if number.start() not in checked]
+    trials.expect("numbers of that part of docs/VERIFICATION.md that nothing checks", unchecked, [])
+    try_sizes(trials)
     contributing = (TOP / "docs/CONTRIBUTING.md").read_text(encoding="utf-8")
     for crate in sorted(path.name for path in (TOP / "crates").iterdir()):
         found = re.search(rf"\| `{crate}` \| \d+ \| (\d+) \| (\d+) \|", contributing)
@@ -190,6 +159,28 @@ def try_numbers(trials):
         mutants = len(mutant_files.pairs_in(TOP / "crates" / crate))
         trials.expect(f"tests and mutants of {crate} in CONTRIBUTING.md", found and found.groups(), (str(tests), str(mutants)))
     try_mutant(trials, contributing)
+
+
+def lines_of(pattern, without="/uses/src/tests"):
+    """How many lines the files of a pattern have."""
+    paths = [path for path in TOP.glob(pattern) if without not in str(path.parent / path.stem)]
+    return sum(path.read_text(encoding="utf-8").count("\n") for path in paths)
+
+
+def try_sizes(trials):
+    """The numbers of callers, of functions of C and of lines in docs/VERIFICATION.md; those of lines within a tenth."""
+    text = with_digits((TOP / "docs/VERIFICATION.md").read_text(encoding="utf-8"))
+    callers = [name for path in (TOP / "crates/uses/src").glob("*.rt") for name in re.findall(r"^pub fn (\w+)", path.read_text(encoding="utf-8"), re.MULTILINE)]
+    wrappers = re.findall(r"^WITH_OPTIONAL_ERROR\(", (TOP / "library/optional_error.c").read_text(encoding="utf-8"), re.MULTILINE)
+    for pattern, count in [(r"has (\d+) callers", len(callers)), (r"the (\d+) C functions of", len(wrappers))]:
+        found = re.search(pattern, text)
+        trials.expect(f"docs/VERIFICATION.md: {pattern}", found and int(found.group(1)), count)
+    tests = lines_of("crates/uses/src/tests/**/*.rt", "no such file") + lines_of("crates/uses/src/tests.rt", "no such file")
+    counts = [lines_of("crates/*/src/**/*.rt"), lines_of("crates/*/specs/**/*.antt"), lines_of("crates/*/proofs/**/*.antt"), lines_of("python/fmtcanon/**/*.py"), tests]
+    pattern = r"About (\d+) lines of Rattle with their contracts, (\d+) lines of definitions, (\d+) lines of proofs, (\d+) lines of Python, and (\d+) lines of tests"
+    found = re.search(pattern, text)
+    near = found and [abs(int(number) - count) * 10 <= count for number, count in zip(found.groups(), counts)]
+    trials.expect(f"lines in docs/VERIFICATION.md, within a tenth: {counts}", near, [True] * len(counts))
 
 
 def try_mutant(trials, contributing):
@@ -202,8 +193,7 @@ def try_mutant(trials, contributing):
 
 def documents():
     """The documents, with their texts."""
-    paths = [TOP / "README.md", TOP / "CHANGELOG.md", *sorted((TOP / "docs").glob("*.md")), *sorted((TOP / "crates").glob("*/CALLING.md"))]
-    for path in paths:
+    for path in pages():
         yield str(path.relative_to(TOP)), path.read_text(encoding="utf-8")
 
 
@@ -241,14 +231,22 @@ def try_names(trials):
         foreign -= names
         trials.expect(f"names of {document} that the code has not", sorted(names - known), [])
         named = {span.rstrip("/") for span in spans if re.fullmatch(r"\.?[\w-]+(/[\w.+-]+)+/?|[\w-]+\.(rt|antt|md|py|c|txt|jsonl)", span)}
-        missing = [span for span in named if "/out/" not in span and not any(path.endswith("/" + span) for _, path in paths)]
+        missing = [span for span in named if "/out/" not in f"/{span}" and not any(path.endswith("/" + span) for _, path in paths)]
         trials.expect(f"paths of {document} that are not there", sorted(missing), [])
     trials.expect("foreign names that no document has", sorted(foreign), [])
 
 
+def try_links(trials):
+    """Each link from a document to a file leads to one."""
+    for document, text in documents():
+        links = re.findall(r"\]\(([^)#:\s]+)(?:#[^)]*)?\)", re.sub(r"^(```.*?^```|    .*?)$|`[^`\n]*`", "", text, flags=re.DOTALL | re.MULTILINE))
+        missing = [link for link in links if not (TOP / document).parent.joinpath(link).exists()]
+        trials.expect(f"links of {document} that lead nowhere", missing, [])
+
+
 def try_map(trials):
-    """The part of docs/ARCHITECTURE.md on a crate has each of its source files."""
-    text = (TOP / "docs/ARCHITECTURE.md").read_text(encoding="utf-8")
+    """The part of docs/internals/ARCHITECTURE.md on a crate has each of its source files."""
+    text = (TOP / "docs/internals/ARCHITECTURE.md").read_text(encoding="utf-8")
     parts = dict(re.findall(r"^### `(\w+)`\n(.*?)(?=^##)", text, flags=re.DOTALL | re.MULTILINE))
     for crate in sorted((TOP / "crates").iterdir()):
         sources = [path.relative_to(crate / "src") for path in (crate / "src").rglob("*.rt")]
@@ -258,7 +256,7 @@ def try_map(trials):
 
 
 def crate_rows():
-    """The rows of docs/ARCHITECTURE.md on what crates need, as crates.txt has it."""
+    """The rows of docs/internals/ARCHITECTURE.md on what crates need, as crates.txt has it."""
     for line in (TOP / "crates.txt").read_text(encoding="utf-8").splitlines():
         name, _, needs = line.partition(":")
         needs = needs.split()
@@ -269,9 +267,9 @@ def crate_rows():
 
 def try_graph(trials):
     """The table of what crates need is that of crates.txt."""
-    text = (TOP / "docs/ARCHITECTURE.md").read_text(encoding="utf-8")
+    text = (TOP / "docs/internals/ARCHITECTURE.md").read_text(encoding="utf-8")
     rows = text.split("| Crate | Needs of these | Needs of the kit |\n|---|---|---|\n")[1].split("\n\n")[0].splitlines()
-    trials.expect("what crates need, in docs/ARCHITECTURE.md", rows, list(crate_rows()))
+    trials.expect("what crates need, in docs/internals/ARCHITECTURE.md", rows, list(crate_rows()))
 
 
 def try_edits(trials):
@@ -310,6 +308,7 @@ def main():
         sys.exit(__doc__)
     trials = Trials()
     try_names(trials)
+    try_links(trials)
     try_map(trials)
     try_graph(trials)
     try_callers(trials)
@@ -317,6 +316,7 @@ def main():
     try_definitions(trials)
     try_numbers(trials)
     reach.try_reach(trials)
+    try_words(trials)
     return trials.end()
 
 

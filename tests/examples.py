@@ -36,53 +36,51 @@ def help_of(program, words):
     return parts
 
 
-def page_section(page, name):
-    """The tagged paragraphs of a section of the manual page, without the marks of roff."""
+def page_tags(page, name):
+    """The tags of a section of the manual page, without the marks of roff."""
     body = re.search(rf"^\.SH {name}\n(.*?)(?=^\.SH |\Z)", page, flags=re.DOTALL | re.MULTILINE).group(1)
-    for tag, text in re.findall(r"^\.TP\n\.\w+ (.*)\n([^.].*)$", body, flags=re.MULTILINE):
-        yield " ".join(re.sub(r'\\f[RP]|"', "", tag).replace("\\-", "-").split()).replace(" ,", ","), text
+    for tag in re.findall(r"^\.TP\n\.\w+ (.*)$", body, flags=re.MULTILINE):
+        yield " ".join(re.sub(r'\\f[RP]|"', "", tag).replace("\\-", "-").split()).replace(" ,", ",")
 
 
-def plain_lines(page, name):
-    """The lines of a section that is set as it is, or of the synopsis."""
-    body = re.search(rf"^\.SH {name}\n(.*?)(?=^\.SH |\Z)", page, flags=re.DOTALL | re.MULTILINE).group(1)
-    body = re.sub(r"\n\.(I|RI) ", " ", body).replace("\\(aq", "'").replace("\\-", "-").replace("\\e", "\\")
-    for line in body.splitlines():
+def synopsis_lines(page):
+    """The lines of the synopsis."""
+    body = re.search(r"^\.SH SYNOPSIS\n(.*?)(?=^\.SH )", page, flags=re.DOTALL | re.MULTILINE).group(1)
+    for line in re.sub(r"\n\.(I|RI) ", " ", body).replace("\\-", "-").splitlines():
         line = re.sub(r"^\.B ", "", line)
         if not line.startswith("."):
             yield re.sub(r" (\[) (\w+) (\])", r" \1\2\3", line)
 
 
-def model_option(help_parts):
-    """The option --model of a command, with its text."""
-    return next((re.sub("[<>]", "", name), text) for name, text in help_parts["Options"] if "--model" in name)
+def model_values(help_parts):
+    """The values of the option --model of a command."""
+    return re.search(r"possible values: (.*?)\]", dict(help_parts["Options"])["--model <MODEL>"]).group(1).split(", ")
 
 
 def try_page(program, trials):
-    """The manual page has the commands, arguments, options, statuses and examples of the help."""
+    """The manual page has the commands, arguments, options with their values, statuses and kinds that the program has."""
     page = (TOP / "man/fmtcanon.1").read_text(encoding="utf-8")
     top = help_of(program, [])
     commands = [name for name, _ in top["Commands"]]
     helps = {name: help_of(program, [name]) for name in commands}
-    found = [(tag.split()[0], text) for tag, text in page_section(page, "COMMANDS")]
-    trials.expect("commands of the manual page", found, top["Commands"])
     usages = [usage.replace("<", "").replace(">", "") for name in commands for usage in helps[name]["Usage"]]
-    listed = [f"fmtcanon {tag}" for tag, _ in page_section(page, "COMMANDS")]
-    trials.expect("arguments in the manual page's commands", listed, usages)
-    synopsis = [line for line in plain_lines(page, "SYNOPSIS") if "--" not in line and "COMMAND" not in line]
+    trials.expect("commands in the manual page", [f"fmtcanon {tag}" for tag in page_tags(page, "COMMANDS")], usages)
+    synopsis = [line for line in synopsis_lines(page) if "--" not in line and "COMMAND" not in line]
     trials.expect("the synopsis", synopsis, usages)
-    wanted = {re.sub(r"\W", "", name): text for one in helps.values() for name, text in one["Arguments"]}
-    trials.expect("arguments of the manual page", dict(page_section(page, "ARGUMENTS")), wanted)
-    name, text = model_option(helps["canon"])
-    wider = re.search(r"possible values: .*(?=\])", model_option(helps["same"])[1]).group()
-    # Two commands take more values than the others.
-    trials.expect("values that same and fits take", model_option(helps["fits"]), model_option(helps["same"]))
-    model = [(name, text[:-1] + wider.replace("possible values", "; under same and fits") + "]")]
-    given = [option for option in helps["types"]["Options"] if re.search("--(literal|null|whole)", option[0])]
-    trials.expect("options of the manual page", list(page_section(page, "OPTIONS")), model + given + top["Options"])
-    trials.expect("statuses of the manual page", list(page_section(page, "EXIT STATUS")), top["Exit status"])
-    examples = {example for one in [top, *helps.values()] for example in one["Example"]}
-    trials.expect("examples of the manual page", {line for line in plain_lines(page, "EXAMPLES") if line}, examples)
+    given = {re.sub("[<>]", "", name) for one in [top, *helps.values()] for name, _ in one["Options"]}
+    trials.expect("options of the manual page", sorted(page_tags(page, "OPTIONS")), sorted(given))
+    trials.expect("values that same and fits take", model_values(helps["fits"]), model_values(helps["same"]))
+    section = page[page.index(".SH OPTIONS") : page.index(".SH EXIT STATUS")]
+    for value in model_values(helps["same"]):
+        trials.expect(f"--model {value} in the manual page", re.search(rf"^\.BR? {value}\b", section, flags=re.MULTILINE) is not None, True)
+    options = re.split(r"^\.TP\n", section, flags=re.MULTILINE)
+    for option in ["literal", "null", "whole"]:
+        found = {name for name in commands if re.search(rf"\b{name}\b", next(it for it in options if f"\\-\\-{option}" in it.splitlines()[0]).split(":\n")[0])}
+        trials.expect(f"commands with --{option} in the manual page", found, {name for name in commands if any(f"--{option}" in it for it, _ in helps[name]["Options"])})
+    trials.expect("statuses of the manual page", list(page_tags(page, "EXIT STATUS")), [status for status, _ in top["Exit status"]])
+    kinds = re.findall(r"^ +FMTCANON_(\w+) = (\d+),? ", (TOP / "include/fmtcanon.h").read_text(encoding="utf-8").split("enum fmtcanon_kind {")[1].split("}")[0], flags=re.MULTILINE)
+    names = [f"{number} {name.title().replace('_', '')}" for name, number in kinds]
+    trials.expect("kinds of the manual page", list(page_tags(page, "REFUSALS")), names)
     version = re.search(r'^\.TH .* "(fmtcanon \S+)"', page, flags=re.MULTILINE).group(1)
     trials.expect("the version of the manual page", version, run(program, ["--version"])[2].decode().strip())
 

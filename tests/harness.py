@@ -42,10 +42,17 @@ def model_rows():
     return [json.loads(line) for line in (TOP / "tests/commands.jsonl").read_text(encoding="utf-8").splitlines()]
 
 
-def examples(document):
-    """The commands in indented blocks, each a line that begins with '$ ', with the lines that follow it."""
+def section(document, heading):
+    """The part of a document below a heading, up to the next one of its level."""
+    text = document.read_text(encoding="utf-8")
+    return text.split(f"\n## {heading}\n")[1].split("\n## ")[0]
+
+
+def examples(document, heading=None):
+    """The commands in indented blocks of a document, or of its part below a heading: each a line that begins with '$ ', with the lines that follow it."""
     command, output = None, []
-    for line in document.read_text(encoding="utf-8").splitlines() + [""]:
+    text = section(document, heading) if heading else document.read_text(encoding="utf-8")
+    for line in text.splitlines() + [""]:
         if line.startswith("    $ "):
             if command:
                 yield command, output
@@ -55,6 +62,15 @@ def examples(document):
         elif command:
             yield command, output
             command, output = None, []
+
+
+def page_examples(page):
+    """The commands in the EXAMPLES of a manual page, each a line that begins with '$ ', with the lines that follow it."""
+    text = page.read_text(encoding="utf-8")
+    block = re.search(r"^\.SH EXAMPLES\n\.EX\n(.*?)^\.EE$", text, flags=re.DOTALL | re.MULTILINE).group(1)
+    for example in re.split(r"^\$ ", block.replace("\\(aq", "'").replace("\\-", "-").replace("\\e", "\\"), flags=re.MULTILINE)[1:]:
+        command, _, output = example.partition("\n")
+        yield command, output.splitlines()
 
 
 def usage_texts():

@@ -37,6 +37,7 @@ INSTALLED = {
     "share/doc/fmtcanon/CHANGELOG.md",
     "share/doc/fmtcanon/LICENSE",
     "share/doc/fmtcanon/README.md",
+    "share/doc/fmtcanon/SECURITY.md",
     "share/doc/fmtcanon/folders",
     "share/doc/fmtcanon/examples/canon.c",
     "share/fish/vendor_completions.d/fmtcanon.fish",
@@ -55,8 +56,13 @@ REFUSED = [
     "PREFIX=/opt/my tools", "PREFIX=opt", "PREFIX=", "PREFIX=/it's", "PREFIX=/$$(touch hacked)", "PREFIX=/a;b", "PREFIX=/opt/../etc",
     "DESTDIR=stage", "DESTDIR=/tmp/my stage", "BINDIR=bin", "PYTHONDIR=/my modules", "DOCDIR=/a&b",
 ]
+# The sections that each manual page has.
+SECTIONS = {
+    ".1": ["NAME", "SYNOPSIS", "DESCRIPTION", "OPTIONS", "EXIT STATUS", "ENVIRONMENT", "EXAMPLES", "BUGS", "SEE ALSO"],
+    ".3": ["NAME", "LIBRARY", "SYNOPSIS", "DESCRIPTION", "RETURN VALUE", "ATTRIBUTES", "EXAMPLES", "BUGS", "SEE ALSO"],
+}
 # What an archive is made of.
-TREE = ["include", "man", "packaging", "completions", "examples", "docs", "python", "LICENSE", "README.md", "CHANGELOG.md", "Makefile"]
+TREE = ["include", "man", "packaging", "completions", "examples", "docs", "python", "LICENSE", "README.md", "CHANGELOG.md", "SECURITY.md", "Makefile"]
 BUILT = ["crates/fmtcanon/out/fmtcanon", "out/c/libfmtcanon.a", "out/c/libfmtcanon.so.0.2.0"]
 
 
@@ -80,7 +86,7 @@ def wanted_files():
     return (
         INSTALLED
         | {f"{MODULE}/{name}" for name in module}
-        | {f"share/doc/fmtcanon/docs/{path.name}" for path in (TOP / "docs").glob("*.md")}
+        | {f"share/doc/fmtcanon/{path.relative_to(TOP)}" for path in (TOP / "docs").rglob("*.md")}
         | {f"share/doc/fmtcanon/examples/ci/{path.name}" for path in (TOP / "examples/ci").iterdir()}
         | {f"share/man/man3/{name}.3" for name in calls()}
     )
@@ -260,14 +266,17 @@ def try_page(trials):
     wanted = prototypes(HEADER.read_text(encoding="utf-8"))
     lines = re.findall(r'^\.B "(.*)"$', page[: page.index(".SH DESCRIPTION")], flags=re.MULTILINE)
     trials.expect("prototypes of fmtcanon.3", prototypes(re.sub(r"\n ", " ", "\n".join(lines))), wanted)
-    name = re.search(r"^\.SH NAME\n(.*) \\-", page, flags=re.MULTILINE).group(1)
-    trials.expect("names of fmtcanon.3", name.split(", "), calls())
+    name = re.search(r"^\.SH NAME\n(.*?) \\-", page, flags=re.DOTALL | re.MULTILINE).group(1)
+    trials.expect("names of fmtcanon.3", name.replace("\n", " ").split(", "), calls())
     trials.expect("calls of fmtcanon.3", re.findall(r"^\.TP\n\.B (fmtcanon_\w+)$", page, flags=re.MULTILINE), calls())
     constants = set(re.findall(r"FMTCANON_\w+", page))
     trials.expect("constants of fmtcanon.3 that the header has not", sorted(constants - set(re.findall(r"\w+", HEADER.read_text()))), [])
     for page in (TOP / "man").iterdir():
-        version = re.search(r'^\.TH \S+ [13] "" "(.*?)"', page.read_text(encoding="utf-8")).group(1)
+        text = page.read_text(encoding="utf-8")
+        version = re.search(r'^\.TH \S+ [13] "\d{4}-\d\d-\d\d" "(.*?)"', text).group(1)
         trials.expect(f"the version of {page.name}", version, "fmtcanon 0.2.0")
+        missing = set(SECTIONS[page.suffix]) - set(re.findall(r"^\.SH (.*)$", text, flags=re.MULTILINE))
+        trials.expect(f"sections that {page.name} lacks", sorted(missing), [])
 
 
 def options_of(name):

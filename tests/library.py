@@ -19,7 +19,7 @@ sys.dont_write_bytecode = True
 sys.path.insert(0, str(Path(__file__).resolve().parent))
 
 import installing  # noqa: E402
-from harness import TIMEOUT, TOP, Trials, examples, fences, run  # noqa: E402
+from harness import TIMEOUT, TOP, Trials, examples, fences, page_examples, run  # noqa: E402
 
 HEADER = TOP / "include/fmtcanon.h"
 SHAPES = TOP / "bench/shapes.nul"
@@ -28,6 +28,10 @@ SOURCES = TOP / "crates/fmtcanon_c/src"
 # The numbers of the header as definitions, about which the crate has laws.
 LAWS = TOP / "crates/fmtcanon_c/specs/Header.antt"
 STRICT = ["-Wall", "-Wextra", "-pedantic", "-Werror", f"-I{HEADER.parent}"]
+# The documents, or their parts below a heading, whose examples need the library, the module or the commands installed.
+DOCUMENTS = [("docs/C.md", None), ("docs/PYTHON.md", None), ("docs/TRANSLATIONS.md", "Check a catalog")]
+# The manual pages whose examples need no libclang.
+PAGES = ["fmtcanon.1", "fmtcanon-po.1", "fmtcanon-diff.1"]
 WRAPPED = ["-pthread", "-Wl,--wrap=malloc,--wrap=realloc,--wrap=free"]
 # What a parameter of Rattle is in C.
 PARAMETERS = {
@@ -355,9 +359,8 @@ def try_program(program, module, trials):
         trials.expect(f"types {one}", run(program, ["types", "--", one]), (2, b"", line))
 
 
-def try_document(prefix, work, trials):
-    """Each command of docs/C.md prints what the page shows below it, with the library installed."""
-    document = TOP / "docs/C.md"
+def try_documents(prefix, work, trials):
+    """Each command of DOCUMENTS prints what the page shows below it, with the library installed."""
     (work / "canon.c").write_bytes((TOP / "examples/canon.c").read_bytes())
     environment = {
         **os.environ, "LC_ALL": "C.UTF-8", "CPATH": str(prefix / "include"), "LIBRARY_PATH": str(prefix / "lib"),
@@ -366,14 +369,19 @@ def try_document(prefix, work, trials):
     for name in ["FMTCANON_LIBRARY", "FMTCANON_PROGRAM"]:
         environment.pop(name, None)
     environment["PATH"] = os.pathsep.join([str(prefix / "bin"), os.environ["PATH"]])
-    found = 0
-    for command, output in examples(document):
-        found += 1
-        got = lines_of(["bash", "-c", command], env=environment, cwd=work, stdin=subprocess.DEVNULL)[1]
-        trials.expect(f"docs/C.md: {command}", got, "".join(f"{line}\n" for line in output))
-    trials.expect("docs/C.md has examples", found > 0, True)
+    for name, heading in DOCUMENTS:
+        found = 0
+        for command, output in examples(TOP / name, heading):
+            found += 1
+            got = lines_of(["bash", "-c", command], env=environment, cwd=work, stdin=subprocess.DEVNULL)[1]
+            trials.expect(f"{name}: {command}", got, "".join(f"{line}\n" for line in output))
+        trials.expect(f"{name} has examples", found > 0, True)
+    for name in PAGES:
+        for command, output in page_examples(TOP / "man" / name):
+            done = subprocess.run(["bash", "-c", command], env=environment, cwd=work, check=False, stdin=subprocess.DEVNULL, stdout=subprocess.PIPE, stderr=subprocess.STDOUT, timeout=TIMEOUT)
+            trials.expect(f"{name}: {command}", done.stdout.decode().splitlines(), output)
     source = " ".join((TOP / "examples/canon.c").read_text(encoding="utf-8").split())
-    for language, block in fences(document.read_text(encoding="utf-8")):
+    for language, block in fences((TOP / "docs/C.md").read_text(encoding="utf-8")):
         if language == "c":
             trials.expect("examples/canon.c has the block of docs/C.md", " ".join(block.split()) in source, True)
 
@@ -407,7 +415,7 @@ def main():
         try_program_rows(module, trials)
         try_program(program, module, trials)
         prefix = installing.try_all(work, trials)
-        try_document(prefix, work, trials)
+        try_documents(prefix, work, trials)
     try_unit_tests(program, folder, trials)
     return trials.end()
 

@@ -165,6 +165,9 @@ def try_shells(tools, trials):
     if tools.has("groff", "groff"):
         for page in sorted((TOP / "man").iterdir()):
             trials.expect(f"groff reads {page.name}", lines_of(["groff", "-man", "-ww", "-z", page]), (0, ""))
+    if tools.has("mandoc", "mandoc"):
+        for page in sorted((TOP / "man").iterdir()):
+            trials.expect(f"mandoc finds nothing in {page.name}", lines_of(["mandoc", "-Tlint", page]), (0, ""))
 
 
 def main():

@@ -17,7 +17,11 @@ sys.path.insert(0, str(Path(__file__).resolve().parent))
 
 from harness import TIMEOUT, TOP, Trials, examples, model_rows, run, usage_texts  # noqa: E402
 
-DOCUMENTS = ["README.md", "docs/USING.md", "docs/REFUSALS.md"]
+# The documents, or their parts below a heading, whose examples need the program alone.
+DOCUMENTS = [
+    ("README.md", None), ("docs/CHEATSHEET.md", None), ("docs/USING.md", None), ("docs/REFUSALS.md", None),
+    ("docs/TRANSLATIONS.md", "Check one translation"), ("docs/REFACTORING.md", "One question"),
+]
 
 
 def try_rows(program, trials):
@@ -44,9 +48,9 @@ def try_examples(program, trials):
     """Each example of the documents prints what is shown below it, on either stream."""
     folder = os.path.dirname(os.path.abspath(program))
     environment = {**os.environ, "PATH": folder + os.pathsep + os.environ["PATH"], "LC_ALL": "C.UTF-8"}
-    for name in DOCUMENTS:
+    for name, heading in DOCUMENTS:
         found = 0
-        for command, output in examples(TOP / name):
+        for command, output in examples(TOP / name, heading):
             found += 1
             done = subprocess.run(
                 ["bash", "-c", command], timeout=TIMEOUT, check=False, env=environment, cwd=TOP,
@@ -62,7 +66,7 @@ def try_examples(program, trials):
 def try_first_command(trials):
     """The first command of the README, which proves nothing, prints what the README says."""
     readme = (TOP / "README.md").read_text(encoding="utf-8")
-    [(command, line)] = re.findall(r"^    (cd \S+ && rt try -- .*)\n\nprints `(.*)` within a minute", readme, re.MULTILINE)
+    [(command, line)] = re.findall(r"^    (cd \S+ && rt try -- .*)\n\n.*prints `(.*)` in about a minute", readme, re.MULTILINE)
     done = subprocess.run(["bash", "-c", command], cwd=TOP, capture_output=True, encoding="utf-8", timeout=10 * TIMEOUT, check=False)
     trials.expect(command, (done.stdout, done.stderr.rpartition(" ")[2]), (f"{line}\n", "proved=no\n"))
 
@@ -202,9 +206,9 @@ def try_devices(program, trials):
 
 
 def try_count(trials):
-    """docs/TESTED.md says how many trials there are. This is the last of all, and counts itself."""
-    found = re.search(r"([\d,]+) runs and comparisons", (TOP / "docs/TESTED.md").read_text(encoding="utf-8"))
-    trials.expect("trials in docs/TESTED.md", found and int(found.group(1).replace(",", "")), trials.passed + trials.failed + 1)
+    """docs/VERIFICATION.md says how many trials there are. This is the last of all, and counts itself."""
+    found = re.search(r"([\d,]+) runs and comparisons", (TOP / "docs/VERIFICATION.md").read_text(encoding="utf-8"))
+    trials.expect("trials in docs/VERIFICATION.md", found and int(found.group(1).replace(",", "")), trials.passed + trials.failed + 1)
 
 
 def main():

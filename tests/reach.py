@@ -203,14 +203,14 @@ def try_reach(trials):
     """The folder has what is reached and no more, and docs/DEFINITIONS.md says what that is."""
     found, others = reached(STARTS)
     there = all_there(FOLDER)
-    trials.expect(f"definitions of {FOLDER} that the headline doesn't rest on", in_words(there - found), [])
-    trials.expect(f"definitions that the headline rests on, outside of {FOLDER}", in_words(found - there), [])
+    trials.expect(f"definitions of {FOLDER} that the headline doesn't depend on", in_words(there - found), [])
+    trials.expect(f"definitions that the headline depends on, outside of {FOLDER}", in_words(found - there), [])
     text = (TOP / "docs/DEFINITIONS.md").read_text(encoding="utf-8")
     types, constants = of_code(others)
     trials.expect("types of the code in docs/DEFINITIONS.md", listed(text, "Of the code they use the types "), types)
     trials.expect("constants of the code in docs/DEFINITIONS.md", listed(text, "They use the constants "), constants)
     trials.expect("words of the library in docs/DEFINITIONS.md", listed(text, "Of the library they use "), of_library(others))
-    trials.expect("lines in docs/DEFINITIONS.md", counted(text, "All that the headline and a refusal rest on"), lines_there(FOLDER))
+    trials.expect("lines in docs/DEFINITIONS.md", counted(text, "All that the headline and a rejection depend on"), lines_there(FOLDER))
     try_whole(trials, text, others)
 
 

@@ -59,7 +59,7 @@ def try_entries(tool, trials):
     status, output = shell(tool, found["fmtcanon-diff"], shell=True)
     trials.expect("the hook fmtcanon-diff", (status, 'src.c:3:12: different: "%.5d\\n" and "%05d\\n"' in output), (1, True))
     status, output = shell(tool, f"{found['fmtcanon-po']} po/de.po", shell=True)
-    trials.expect("the hook fmtcanon-po", (status, output), (0, "1 messages judged, 0 not judged\n"))
+    trials.expect("the hook fmtcanon-po", (status, output), (0, "1 message judged, 0 not judged\n"))
 
 
 def try_workflow(tool, trials):

@@ -426,11 +426,11 @@ def try_trees(tool, trials):
 
 
 def try_document(tool, trials):
-    """Each command of docs/REPLACE.md prints what is shown below it."""
+    """Each command of that part of docs/REFACTORING.md prints what is shown below it."""
     script = f"fmtcanon-replace() {{ '{tool.words[0]}' '{tool.words[1]}' \"$@\"; }}\n"
-    for command, output in examples(TOP / "docs/REPLACE.md"):
+    for command, output in examples(TOP / "docs/REFACTORING.md", "Replacing a format"):
         done = subprocess.run(["bash", "-c", script + command], cwd=tool.work, env=tool.environment, check=False, stdout=subprocess.PIPE, stderr=subprocess.STDOUT, timeout=TIMEOUT)
-        trials.expect(f"docs/REPLACE.md: {command}", done.stdout.decode(), "".join(f"{line}\n" for line in output))
+        trials.expect(f"docs/REFACTORING.md: {command}", done.stdout.decode(), "".join(f"{line}\n" for line in output))
 
 
 def try_without_libclang(folder, trials):

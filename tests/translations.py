@@ -22,7 +22,7 @@ CHECKED = [
     ("singular.po", 1, """\
 singular.po:9: warning: 'msgid' isn't checked: refused 21 MissingArgument at byte 16 ["one file in %2$s"]
 singular.po:15: number of format specifications in 'msgid_plural' and 'msgstr[1]' does not match: 1 and 0 ["one file"]
-1 messages judged, 1 not judged
+1 message judged, 1 not judged
 found 1 fatal error
 """),
     ("wrong.po", 1, """\
@@ -57,7 +57,7 @@ newlines.po:10: 'msgid' and 'msgstr' entries do not both end with '\\n' ["\\nsec
 newlines.po:24: 'msgid' and 'msgstr[1]' entries do not both begin with '\\n' ["%d file\\n"]
 newlines.po:24: 'msgid' and 'msgstr[0]' entries do not both end with '\\n' ["%d file\\n"]
 newlines.po:32: 'msgid' and 'msgstr' entries do not both end with '\\n' ["five"]
-1 messages judged, 0 not judged
+1 message judged, 0 not judged
 found 5 fatal errors
 """),
     ("forms.po", 1, """\
@@ -72,12 +72,12 @@ found 1 fatal error
 """),
     ("flags.po", 1, """\
 flags.po:3: types of 'msgid' and 'msgstr' differ at argument 0: int and string ["%d"]
-1 messages judged, 0 not judged
+1 message judged, 0 not judged
 found 1 fatal error
 """),
     ("escape.po", 1, """\
 escape.po:6: number of format specifications in 'msgid' and 'msgstr' does not match: 1 and 2 ["%d"]
-1 messages judged, 0 not judged
+1 message judged, 0 not judged
 found 1 fatal error
 """),
 ]

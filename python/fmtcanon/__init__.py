@@ -23,7 +23,7 @@ and its arguments. Two formats are the same if they also make the same calls.
 A `str` with a lone surrogate, as file names may have it, has no UTF-8, and raises `UnicodeEncodeError`. Pass
 the bytes that `os.fsencode` returns instead.
 
-The library is loaded by the first call that needs it, which raises `ImportError` if there is none. It is the
+The library is loaded by the first call that needs it, which raises `ImportError` if it isn't there. It is the
 one that the environment variable FMTCANON_LIBRARY names, otherwise the one next to this module, where an
 installation puts it, otherwise `libfmtcanon.so.0`, where the system looks for libraries.
 
@@ -123,10 +123,10 @@ _LONGEST_NAME = 18
 
 
 class Refused(ValueError):
-    """A format is refused.
+    """A format is rejected.
 
-    `kind` says why, `name` is the name of the kind as the program writes it, `byte` is the place,
-    counted from 0, and `side` is 1 where it is the second of two formats, else 0.
+    `kind` says why, `name` is the name of the kind as the program prints it, and `byte` is the offset, counted
+    from 0. `side` is 1 if it is the second of two formats, and 0 otherwise.
     """
 
     def __init__(self, kind: Kind, name: str, byte: int, side: int = 0) -> None:
@@ -141,10 +141,10 @@ class Refused(ValueError):
 
 
 class BadLiteral(ValueError):
-    """A text is no string literals of C source.
+    """A text is not string literals of C source.
 
-    `kind` says why, `name` is the name of the kind as the program writes it, and `byte` is the place,
-    counted from 0.
+    `kind` says why, `name` is the name of the kind as the program prints it, and `byte` is the offset, counted
+    from 0.
     """
 
     def __init__(self, kind: LiteralKind, name: str, byte: int) -> None:
@@ -158,13 +158,12 @@ class BadLiteral(ValueError):
 
 
 class Comparison(NamedTuple):
-    """What two formats are to each other.
+    """How two formats compare.
 
-    `types_differ_at` is the index of the first argument of which the types differ, under
-    Verdict.TYPES. `arguments` are arguments that the two print differently, numbers and bytes,
-    under Verdict.DIFFERENT; None among them is an argument that may be any. `directives_differ_at`
-    is the index of the first argument of a call that only one of the two makes, under
-    Verdict.DIRECTIVES. Else they are None.
+    For `Verdict.TYPES`, `types_differ_at` is the index of the first argument whose types differ. For
+    `Verdict.DIFFERENT`, `arguments` are arguments that the two print differently, numbers and bytes; None among
+    them is an argument that may be any. For `Verdict.DIRECTIVES`, `directives_differ_at` is the index of the
+    first argument of a call that only one of the two makes. Otherwise they are None.
     """
 
     verdict: Verdict
@@ -176,7 +175,7 @@ class Comparison(NamedTuple):
 class DirectiveSpan(NamedTuple):
     """A conversion specification of a format: its bytes, and the arguments that it takes.
 
-    Its bytes are those from `start` up to `end`, without the one at `end`. `argument` is the index of the
+    Its bytes are those from `start` to `end`, without the one at `end`. `argument` is the index of the
     argument that it converts, and `type` is the type of that argument. `width_argument` and
     `precision_argument` are the indexes of the arguments of `*`. Each is None if there is no `*` there.
     """
@@ -308,7 +307,7 @@ def _answer(result: int, error: _Error) -> int:
 
 
 def _filled(call: Callable[..., int], room: int, *arguments: Any) -> bytes:
-    """What a call puts into a buffer, which is made larger where it has too little room."""
+    """Returns what a call writes into a buffer, which is made larger if it is too small."""
     while True:
         error, out = _Error(), ctypes.create_string_buffer(room)
         size = _answer(call(*arguments, out, room, error), error)
@@ -318,21 +317,22 @@ def _filled(call: Callable[..., int], room: int, *arguments: Any) -> bytes:
 
 
 def check(format: Format) -> None:
-    """Returns where the format is accepted, and raises Refused where it isn't."""
+    """Returns if the format is accepted, and raises `Refused` otherwise."""
     text, error = _bytes(format), _Error()
     _answer(_library().fmtcanon_check(text, len(text), error), error)
 
 
 def is_canonical(format: Format, *, model: DataModel = Model.LP64) -> bool:
-    """Whether the format is its own canonical text."""
+    """Returns whether the format is its own canonical text."""
     text, error = _bytes(format), _Error()
     return _answer(_library().fmtcanon_is_canonical(model_of(model), text, len(text), error), error) == 1
 
 
 def canonical(format: _Text, *, model: DataModel = Model.LP64, whole: bool = False) -> _Text:
-    """The canonical text, a `str` where the format is one, else bytes.
+    """Returns the canonical text: a `str` if the format is one, otherwise bytes.
 
-    Two formats have one canonical text exactly if they are the same.
+    Two formats have the same canonical text exactly if they take arguments of the same types and print the same
+    bytes for all of them. With `whole`, the format may be of the whole language without numbered arguments.
     """
     text, error, number = _bytes(format), _Error(), model_of(model)
     size = _answer(_call("canonical_length", whole)(number, text, len(text), error), error)
@@ -343,7 +343,7 @@ def canonical(format: _Text, *, model: DataModel = Model.LP64, whole: bool = Fal
 
 
 def types(format: Format, *, model: DataModel = Model.LP64) -> List[Type]:
-    """The types of the arguments, in order."""
+    """Returns the types of the arguments, in order."""
     text = _bytes(format)
     room = text.count(b"%") + 1
     codes = _filled(_library().fmtcanon_types, room, model_of(model), text, len(text))
@@ -368,9 +368,9 @@ def arguments(format: Format, *, model: DataModel = Model.LP64) -> List[Type]:
 
 
 def fits(first: Format, second: Format, *, model: DataModel = Model.LP64) -> bool:
-    """Whether the second format takes just the arguments of the first, by their types.
+    """Returns whether the second format takes exactly the arguments of the first, by their types.
 
-    Both may be of the whole language. It is the question to ask of a translation.
+    Both may be of the whole language. Ask this of a translation.
     """
     f, g, error = _bytes(first), _bytes(second), _Error()
     result = _library().fmtcanon_fits(model_of(model), f, len(f), g, len(g), error)
@@ -378,9 +378,9 @@ def fits(first: Format, second: Format, *, model: DataModel = Model.LP64) -> boo
 
 
 def fits_in(first: Format, second: Format) -> List[Model]:
-    """Returns the data models in which the second format takes just the arguments of the first, LP64 first.
+    """Returns the data models in which the second format takes exactly the arguments of the first, LP64 first.
 
-    Raises `Refused` if one of the formats is refused in any data model.
+    Raises `Refused` if one of the formats is rejected in any data model.
     """
     f, g, error = _bytes(first), _bytes(second), _Error()
     found = _answer(_library().fmtcanon_fits_models(f, len(f), g, len(g), error), error)
@@ -392,9 +392,7 @@ def _models(found: int) -> List[Model]:
 
 
 def directives(format: Format, *, model: DataModel = Model.LP64) -> List[DirectiveSpan]:
-    """Returns the conversion specifications of a format of the whole language, in the order of the text.
-
-    `%%` is none of them.
+    """Returns the conversion specifications of a format of the whole language, in the order of the text, without `%%`.
     """
     text, error = _bytes(format), _Error()
     # Each has a percent sign.
@@ -414,9 +412,9 @@ def _index(argument: int) -> Optional[int]:
 
 
 def same(first: Format, second: Format, *, model: DataModel = Model.LP64, whole: bool = False) -> bool:
-    """Whether two formats take the same types and print the same bytes for all arguments.
+    """Returns whether two formats take the same types and print the same bytes for all arguments.
 
-    In the whole language they also make the same calls. A C library may print alike for calls that differ.
+    With `whole`, they also make the same calls. A C library may print the same for calls that differ.
     """
     f, g, error = _bytes(first), _bytes(second), _Error()
     result = _call("same", whole)(model_of(model), f, len(f), g, len(g), error)
@@ -424,7 +422,7 @@ def same(first: Format, second: Format, *, model: DataModel = Model.LP64, whole:
 
 
 def same_in(first: Format, second: Format, *, whole: bool = False) -> List[Model]:
-    """The data models in which two formats are the same: none to all, LP64 first."""
+    """Returns the data models in which two formats are the same, LP64 first."""
     f, g, error = _bytes(first), _bytes(second), _Error()
     found = _answer(_call("same_models", whole)(f, len(f), g, len(g), error), error)
     return _models(found)
@@ -437,7 +435,7 @@ def _argument(word: bytes) -> Union[int, bytes, None]:
 
 
 def compare(first: Format, second: Format, *, model: DataModel = Model.LP64, whole: bool = False) -> Comparison:
-    """What two formats are to each other, with arguments that they print differently."""
+    """Returns how two formats compare, with arguments that they print differently."""
     f, g, answer = _bytes(first), _bytes(second), _Comparison()
 
     def call(*arguments: Any) -> int:
@@ -457,21 +455,21 @@ def compare(first: Format, second: Format, *, model: DataModel = Model.LP64, who
 
 
 def decode_literal(source: Format) -> bytes:
-    """The bytes that one or more string literals of C source stand for (C11 6.4.5).
+    """Returns the bytes of one or more string literals of C source (C11 6.4.5).
 
-    White space may come before, between and behind them. Raises BadLiteral for anything else.
+    White space may come before, between and after them. Raises `BadLiteral` for anything else.
     """
     text, error = _bytes(source), _Error()
-    # No element stands for more bytes than it has.
+    # No element gives more bytes than it has.
     out = ctypes.create_string_buffer(len(text) + 1)
     size = _answer(_library().fmtcanon_decode_literal(text, len(text), out, len(out), error), error)
     return out.raw[:size]
 
 
 def encode_literal(format: _Text) -> _Text:
-    """The one string literal of a text, with its quotes: a `str` where the text is one, else bytes.
+    """Returns the string literal of a text, with its quotes: a `str` if the text is one, otherwise bytes.
 
-    A zero byte is written as `\\000`; of what has one no C string is made.
+    A NUL is written as `\\000`, at which a C string would end.
     """
     text = _bytes(format)
     # No byte is written with more than four.
@@ -495,7 +493,7 @@ def source_offset(source: Format, index: int) -> Optional[int]:
 
 
 def _raise(fault: Failed) -> NoReturn:
-    """Raises the exception for the answer of the program."""
+    """Raises the exception for what the program says."""
     found = re.fullmatch(r"refused (\d+) (\w+) at byte (\d+)", fault.line)
     if fault.status == REFUSED and found:
         raise Refused(Kind(int(found[1])), found[2], int(found[3])) from None
@@ -534,5 +532,5 @@ def show(format: Format, *, model: DataModel = Model.LP64) -> List[Shown]:
 
 
 def version() -> Tuple[int, int, int]:
-    """The version of the library: major, minor and patch."""
+    """Returns the version of the library: major, minor and patch."""
     return _parts(_library().fmtcanon_version())

@@ -46,7 +46,7 @@ class Parser(argparse.ArgumentParser):
             choices=OUTPUTS,
             default="text",
             metavar="FORM",
-            help="how findings are printed: text, the default; json, an object in each line; "
+            help="how findings are printed: text, the default; json, one object per line; "
             "sarif, a log of SARIF 2.1.0; or github, commands of a workflow",
         )
 

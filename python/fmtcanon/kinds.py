@@ -1,10 +1,10 @@
-"""Kinds of refusals and of faults of literals, types of arguments, and verdicts, each with the number that the library has."""
+"""Why texts are rejected, types of arguments, and verdicts, with the numbers that the library uses."""
 
 import enum
 
 
 class Kind(enum.IntEnum):
-    """Why a format is refused."""
+    """Why a format is rejected."""
 
     NUL_BYTE = 1
     TRUNCATED = 2
@@ -32,7 +32,7 @@ class Kind(enum.IntEnum):
 
 
 class LiteralKind(enum.IntEnum):
-    """Why a text is no string literals of C source."""
+    """Why a text is not string literals of C source."""
 
     NO_LITERAL = 201
     UNTERMINATED = 202
@@ -66,7 +66,7 @@ class Type(enum.IntEnum):
 
 
 class Verdict(enum.IntEnum):
-    """What two formats are to each other."""
+    """How two formats compare."""
 
     SAME = 1
     TYPES = 2

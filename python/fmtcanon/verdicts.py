@@ -1,4 +1,4 @@
-"""Asks what two formats are to each other in a data model, and where a format takes an argument.
+"""Asks how two formats compare in a data model, and where a format takes an argument.
 
 All that is asked of the library about a pair is asked here: its comparison in the whole language, and `fits` for the
 types of formats with numbered arguments, which the comparison rejects.
@@ -25,7 +25,7 @@ SHORT, LONGEST, ARGUMENTS = 8, 20, 8
 
 
 class Kind(enum.Enum):
-    """What two formats are to each other."""
+    """How two formats compare."""
 
     SAME = "same"
     DIFFERENT = "different"
@@ -39,7 +39,7 @@ Argument = Union[int, bytes, None]
 
 
 class Verdict(NamedTuple):
-    """What two formats are to each other.
+    """How two formats compare.
 
     `at` is the index of the first argument at which the types or the directives differ. The two print `arguments`
     differently. `reason` says why there is no verdict.

@@ -21,12 +21,12 @@ DESCRIPTION = """\
 Finds the string literals of C source that changed, and says of each that has a conversion
 specification whether the new format takes the same arguments and prints the same bytes as the old.
 
-OLD and NEW are two files or two folders. With --git the files are those that git has: of REV and REV,
-of REV and the work tree, or of HEAD and the work tree. PATHs are those of git."""
+OLD and NEW are two files or two folders. With --git it compares two revisions, a revision and the
+work tree, or HEAD and the work tree. PATHs are those of git."""
 EPILOG = """\
-A place is one or more string literals side by side, with macros of <inttypes.h> and those that the
+A place is one or more adjacent string literals, with macros of <inttypes.h> and those that the
 file defines as literals. Other macros and wide literals are not judged. Arguments of puts, fputs and
-asm are no formats. Arguments are counted from 0. Places that came or went are counted.
+asm are not formats. Arguments count from 0. Places that came or went are counted.
 
 The exit status is 0 if nothing that was judged differs, 1 if something does, and 2 for a usage error
 or if a file or git can't be read."""
@@ -36,10 +36,10 @@ FEW, WAITING = 8, 4
 
 def parser() -> Parser:
     """Returns the definition of the command line."""
-    usage = "fmtcanon-diff [OPTION].. OLD NEW\n       fmtcanon-diff [OPTION].. --git [REV [REV]] [-- PATH..]"
+    usage = "fmtcanon-diff [OPTION]... OLD NEW\n       fmtcanon-diff [OPTION]... --git [REV [REV]] [-- PATH...]"
     made = Parser(NAME, usage, DESCRIPTION, EPILOG)
     made.add_argument("--git", action="store_true", help="compare what git has")
-    made.add_argument("--verbose", action="store_true", help="report also what is the same")
+    made.add_argument("--verbose", action="store_true", help="also report what is the same")
     made.add_model(
         "the data models in which the formats are compared: "
         "lp64, ilp32, llp64, both for the first two, or all, the default"
@@ -121,7 +121,8 @@ def summary(counts: Dict[str, int]) -> str:
         ]
     )
     changed = sum(counts[it.value] for it in Kind)
-    return f"{changed} places changed: {judged}; {counts['came']} literals came, {counts['went']} went"
+    word = "place" if changed == 1 else "places"
+    return f"{changed} {word} changed: {judged}; {counts['came']} literals came, {counts['went']} went"
 
 
 def run(changes: Iterable[Report], printer: Printer, is_verbose: bool) -> int:

@@ -16,8 +16,8 @@ Checks the C formats of message catalogs.
 FILE is a .po or .mo file, or - for standard input. Each translated message with the flag c-format or
 possible-c-format is checked, except fuzzy and obsolete ones. The translation must take arguments of
 the same types, in the same order. A plural form and msgid must take those of msgid_plural. They may
-leave the last arguments out if they are for at most four numbers, as in 'one file'. Every message
-must begin and end with a newline if its translation does, and only then.
+leave out the last arguments if they are for at most four numbers, as in 'one file'. A message must
+begin and end with a newline exactly if its translation does.
 
 A .mo file doesn't say which messages are C formats. Each one with a % is checked, and a fault that
 only a C format has is a warning unless --c-format is given. Messages of a .mo file have numbers
@@ -29,8 +29,8 @@ EPILOG = """\
 A fault is reported on standard error, as by `msgfmt -c`: the file, the line, the reason and the
 message. Arguments are counted from 0. If only the message is not a C format, its translation can't be
 judged, which is a warning. It is a warning, too, if a translation prints an int as something else, as
-%c for %d. The last lines give the numbers of messages with formats that were judged and that were
-not, and of faults.
+%c for %d. The last lines count the messages that were judged and that were not, and the
+faults.
 
 The exit status is 0 if there is no fault, 1 if there is one or a file can't be read, and 2 for a usage
 error."""
@@ -38,7 +38,7 @@ error."""
 
 def parser() -> Parser:
     """Returns the definition of the command line."""
-    made = Parser(NAME, "fmtcanon-po [OPTION].. FILE..", DESCRIPTION, EPILOG)
+    made = Parser(NAME, "fmtcanon-po [OPTION]... FILE...", DESCRIPTION, EPILOG)
     made.add_model(
         "the data models in which the types must be the same: lp64, ilp32, llp64, both for the first two, or all, "
         "the default, so that a catalog works on every machine: %%zu is not a translation of %%lu"
@@ -92,7 +92,8 @@ def check(options: Any, files: Sequence[str]) -> int:
     checker = Checker(printer.add, MODELS[options.model], options.c_format)
     check_files(checker, files)
     printer.end()
-    print(f"{checker.judged} messages judged, {checker.unjudged} not judged", file=sys.stderr)
+    word = "message" if checker.judged == 1 else "messages"
+    print(f"{checker.judged} {word} judged, {checker.unjudged} not judged", file=sys.stderr)
     if checker.faults:
         word = "error" if checker.faults == 1 else "errors"
         print(f"found {checker.faults} fatal {word}", file=sys.stderr)

@@ -123,7 +123,7 @@ def push_operator(token: str, stack: List[str], out: List[str]) -> None:
 
 
 def pop_until(opening: Optional[str], stack: List[str], out: List[str]) -> None:
-    """Moves operators to the output, up to the opening one, which it drops; to the end if there is none."""
+    """Moves operators to the output, up to the opening one, which it drops; to the end if there isn't one."""
     while stack:
         top = stack.pop()
         if top == opening:

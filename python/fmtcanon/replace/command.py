@@ -1,4 +1,4 @@
-"""Replaces printf formats by others in C source, where each two mean the same."""
+"""Replaces printf formats in C source by others that mean the same."""
 
 import difflib
 import os

@@ -10,26 +10,26 @@ from .pairs import Wrong, format_of, pairs_in
 
 NAME = "fmtcanon-replace"
 USAGE = """\
-fmtcanon-replace [OPTION].. OLD NEW [FILE..]
-       fmtcanon-replace [OPTION].. --pairs FILE [FILE..]
-       fmtcanon-replace [OPTION].. --list [FILE..]
-       fmtcanon-replace [OPTION].. --list-functions [FILE..]"""
+fmtcanon-replace [OPTION]... OLD NEW [FILE...]
+       fmtcanon-replace [OPTION]... --pairs FILE [FILE...]
+       fmtcanon-replace [OPTION]... --list [FILE...]
+       fmtcanon-replace [OPTION]... --list-functions [FILE...]"""
 DESCRIPTION = """\
 Replaces printf formats by others in C source. Nothing is replaced unless both take the same
 arguments and print the same bytes for all of them.
 
 OLD and NEW are formats as C has them between the quotes, so '%i\\n' ends in a newline. A place is one
-or more string literals side by side that make up OLD. It is replaced if it is the format of a call
+or more adjacent string literals that make up OLD. It is replaced if it is the format of a call
 of the C library's printf family, of a function given by --function, or, with --attribute, of one
-that is declared with the attribute format(printf, ..). The file's own compiler preprocesses it, and
+that is declared with the attribute format(printf, m, n). The file's own compiler preprocesses it, and
 libclang (the package python3-clang) finds the calls in that text. The result is preprocessed again:
 only the replaced literals may differ. Parts that OLD and NEW share keep their spelling.
 
-FILE is a file or a folder, of which all C and C++ files are read. Without one, they are those of the
-compile commands in -p."""
+FILE is a file or a folder, of which all C and C++ files are read. Without one, all files of the
+compile commands in -p are read."""
 EPILOG = """\
 Each place is reported: that it is replaced, or that it is left, and why. So is each place that means
-the same as OLD and is spelled otherwise; one that is NEW already is not. Arguments are counted from 0.
+the same as OLD and is spelled in another way. One that is already NEW is not. Arguments count from 0.
 
 The exit status is 0 if no place was left, 1 if one was, 2 for a usage error, a format that is
 rejected, or a file that can't be read or written."""
@@ -60,7 +60,7 @@ def add_calls(made: Parser) -> None:
     made.add_argument("-p", metavar="DIR", dest="database", help=database)
     flag = "without -p, a flag of the compile command, which is cc: --flag=-Iinclude"
     made.add_argument("--flag", action="append", default=[], metavar="FLAG", help=flag)
-    attribute = "functions with the attribute format(printf, ..) are known"
+    attribute = "functions with the attribute format(printf, m, n) are known"
     made.add_argument("--attribute", action="store_true", help=attribute)
     function = "NAME prints its argument INDEX, counted from 0, as printf does"
     made.add_argument(
@@ -71,18 +71,18 @@ def add_calls(made: Parser) -> None:
 def add_modes(made: Parser) -> None:
     """Adds the options that say what is done."""
     for option, text in [
-        ("--posix-locale", "the program prints in the POSIX locale alone; otherwise a format with the flag ' is left"),
+        ("--posix-locale", "the program prints in the POSIX locale only; otherwise a format with the flag ' is left"),
         ("--dry-run", "report what would be done, and change no file"),
         ("--diff", "print a unified diff, and change no file; what is done with each place goes to standard error"),
         ("--list", "print all formats of the files, grouped by their meaning, and change no file"),
         (
             "--list-functions",
-            "print the functions that the formats of the files are arguments of, "
+            "print the functions that take the formats of the files, "
             "or without files those whose formats are known",
         ),
     ]:
         made.add_argument(option, action="store_true", help=text)
-    pairs = "replace the formats of a file that has an OLD and a NEW in each line, with a tab between"
+    pairs = "replace the formats of a file that has an OLD and a NEW on each line, with a tab between"
     made.add_argument("--pairs", metavar="FILE", help=pairs)
 
 

@@ -16,7 +16,7 @@ LONGEST = 2_000
 
 @dataclass(frozen=True)
 class Place:
-    """String literals side by side: where they are in the source, and the bytes that they stand for."""
+    """Adjacent string literals: where they are in the source, and their bytes."""
 
     start: int
     end: int
