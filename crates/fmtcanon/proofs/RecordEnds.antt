@@ -32,6 +32,7 @@ module _ (kind : RecordQuestion) {R W : Type 0} (remaining : R → Known) (conte
   left_stopped well (outcomes.WrongCount wanted given) h = absurd h
   left_stopped well (outcomes.WrongType index) h = absurd h
   left_stopped well (outcomes.Usage text) h = absurd h
+  left_stopped well outcomes.Misplaced h = absurd h
   left_stopped well outcomes.Read h = absurd h
 
   -- the reader was at its end
@@ -50,6 +51,7 @@ module _ (kind : RecordQuestion) {R W : Type 0} (remaining : R → Known) (conte
   left_at_end well end (outcomes.WrongCount wanted given) h = absurd h
   left_at_end well end (outcomes.WrongType index) h = absurd h
   left_at_end well end (outcomes.Usage text) h = absurd h
+  left_at_end well end outcomes.Misplaced h = absurd h
   left_at_end well end outcomes.Read h = absurd h
 
   -- nothing waited, so the input is ready

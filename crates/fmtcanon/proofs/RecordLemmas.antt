@@ -120,6 +120,7 @@ module _ (kind : RecordQuestion) where
     stopped_at_end records (outcomes.WrongCount wanted given) h = absurd h
     stopped_at_end records (outcomes.WrongType index) h = absurd h
     stopped_at_end records (outcomes.Usage text) h = absurd h
+    stopped_at_end records outcomes.Misplaced h = absurd h
     stopped_at_end records outcomes.Read h = absurd h
 
 -- a record that isn't empty is the last one

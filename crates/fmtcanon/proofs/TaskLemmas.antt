@@ -1,5 +1,5 @@
 -- What a command about formats asks, wherever these come from.
-use Rattle.std.proofs.Common.{◌≡◌, ◌≢◌, Bool, false, true, List, [], Option, None, Some, Result, ap, ap₂, arith, codes, inr, length, refl, subst, sym}
+use Rattle.std.proofs.Common.{◌≡◌, ◌≢◌, Bool, false, true, List, [], Option, None, Some, Result, ap, ap₂, arith, codes, length, refl, subst, sym}
 use Rattle.std.specs.Prelude.{IfErr, IfOk}
 use Rattle.std.proofs.lemmas.Result.{IfErr-weaker, IfOk-weaker}
 use Rattle.clap.specs.Walk.{Row, first_of}
@@ -12,7 +12,7 @@ use Rattle.fmtcanon.specs.declared.task.Question.TheVariants.{Types, Arguments, 
 use Rattle.fmtcanon.specs.declared.task.RecordQuestion.{RecordQuestion}
 use Rattle.fmtcanon.specs.declared.task.RecordQuestion.TheVariants as asked
 use Rattle.fmtcanon.specs.declared.task.NoTask.{NoTask}
-use Rattle.fmtcanon.specs.declared.task.NoTask.TheVariants.{Usage, Memory}
+use Rattle.fmtcanon.specs.declared.task.NoTask.TheVariants.{Usage, Misplaced, Memory}
 use Rattle.fmtcanon.specs.declared.task.Task.{Task}
 use Rattle.fmtcanon.specs.declared.task.Task.TheVariants.{Answer, Records, Stream}
 
@@ -34,8 +34,9 @@ module _ (command : Text) (rows : List Row) (kind : RecordQuestion) (is : IsAske
   asks (Stream model) h words names = absurd h
 
   lacks : (fault : NoTask) → IsNoTaskOn kind rows fault → (words : List Text) → Names words command rows → IsNoTaskOf words fault
-  lacks (Usage message) h words names = inr (command, rows, names, kind, is, h)
-  lacks Memory h words names = tt
+  lacks Misplaced h words names = (command, rows, names, kind, is, h)
+  lacks (Usage message) h words names = absurd h
+  lacks Memory h words names = absurd h
 
   -- the task of the command, or why it has none
   pub asks_if : (result : Result Task NoTask) → IfOk result (IsTaskOn kind rows) → IfOk result (λ task. (words : List Text) → Names words command rows → Asks words task)
@@ -68,10 +69,6 @@ none_wanted (asked.Show notation model) = λ e. absurd (omega (arith, e))
 none_wanted (asked.Fits notation models) = λ e. absurd (omega (arith, e))
 none_wanted (asked.Same notation models) = λ e. absurd (omega (arith, e))
 none_wanted (asked.SameWhole notation models) = λ e. absurd (omega (arith, e))
-
-pub misplaced_any : (kind : RecordQuestion) (rows : List Row) (fault : NoTask) → IsMisplaced kind rows → IsNoTaskOn kind rows fault
-misplaced_any kind rows (Usage message) h = h
-misplaced_any kind rows Memory h = tt
 
 module _ (command : Text) (rows : List Row) where
   not_types : (whole : Bool) → is_whole rows ≡ whole → AsksOther command rows → command ≢ codes "types"

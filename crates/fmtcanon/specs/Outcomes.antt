@@ -5,7 +5,7 @@ use Rattle.fmtcanon.specs.declared.answer.Ending.TheVariants as endings
 use Rattle.fmtcanon.specs.declared.outcome.Fault.{Fault}
 use Rattle.fmtcanon.specs.declared.outcome.Fault.TheVariants as faults
 use Rattle.fmtcanon.specs.declared.outcome.Outcome.{Outcome}
-use Rattle.fmtcanon.specs.declared.outcome.Outcome.TheVariants.{Done, Same, Different, Refused, RefusedWhole, BadLiteral, BadWord, WrongCount, WrongType, Answered, NoSecond, Usage, Read, Write, Memory}
+use Rattle.fmtcanon.specs.declared.outcome.Outcome.TheVariants.{Done, Same, Different, Refused, RefusedWhole, BadLiteral, BadWord, WrongCount, WrongType, Answered, NoSecond, Usage, Misplaced, Read, Write, Memory}
 
 -- all of the answer was written
 abbrev pub outcome_of : Ending → Outcome
@@ -39,6 +39,7 @@ status_of (WrongType index) = 3
 status_of (Answered status) = status
 status_of NoSecond = 3
 status_of (Usage text) = 3
+status_of Misplaced = 3
 status_of Read = 4
 status_of (Write written) = 4
 status_of Memory = 4

@@ -13,7 +13,7 @@ use Rattle.pf_canon.specs.declared.faults.Side.{Side}
 use Rattle.pf_canon.specs.declared.faults.Side.TheVariants as sides
 use Rattle.fmtcanon.specs.Lines.{line}
 use Rattle.fmtcanon.specs.declared.outcome.Outcome.{Outcome}
-use Rattle.fmtcanon.specs.declared.outcome.Outcome.TheVariants.{Done, Same, Different, Refused, RefusedWhole, BadLiteral, BadWord, WrongCount, WrongType, Answered, NoSecond, Usage, Read, Write, Memory}
+use Rattle.fmtcanon.specs.declared.outcome.Outcome.TheVariants.{Done, Same, Different, Refused, RefusedWhole, BadLiteral, BadWord, WrongCount, WrongType, Answered, NoSecond, Usage, Misplaced, Read, Write, Memory}
 
 -- which format is refused, where there are two
 abbrev pub side_words : Option Side → Text
@@ -56,6 +56,8 @@ report_text (WrongType index) =
 report_text (Answered status) = []
 report_text NoSecond = line (codes "a second format is wanted")
 report_text (Usage text) = string_bytes text
+report_text Misplaced =
+    codes "error: give the formats as arguments or use '--null', but not both\n\nFor more information, try '--help'.\n"
 report_text Read = line (codes "read failed")
 report_text (Write written) = line (codes "write failed")
 report_text Memory = line (codes "out of memory")

@@ -12,7 +12,7 @@ use Rattle.fmtcanon.specs.declared.answer.Ending.TheVariants as endings
 use Rattle.fmtcanon.specs.declared.outcome.Fault.{Fault}
 use Rattle.fmtcanon.specs.declared.outcome.Fault.TheVariants as faults
 use Rattle.fmtcanon.specs.declared.outcome.Outcome.{Outcome}
-use Rattle.fmtcanon.specs.declared.outcome.Outcome.TheVariants.{Done, Same, Different, Refused, RefusedWhole, BadLiteral, BadWord, WrongCount, WrongType, Usage, Write, Memory}
+use Rattle.fmtcanon.specs.declared.outcome.Outcome.TheVariants.{Done, Same, Different, Refused, RefusedWhole, BadLiteral, BadWord, WrongCount, WrongType, Usage, Misplaced, Write, Memory}
 use Rattle.fmtcanon.specs.declared.task.NoTask.{NoTask}
 use Rattle.fmtcanon.specs.declared.task.NoTask.TheVariants as reasons
 use Rattle.fmtcanon.specs.declared.task.Question.{Question}
@@ -97,6 +97,7 @@ module _ {R W : Type 0} (remaining : R → Known) (contents : W → Known)
   abbrev pub NoTaskEnds : NoTask → Outcome → Type 0
   NoTaskEnds (reasons.Usage text) outcome =
       (outcome ≡ Usage text) × CallsNeither reader left old new
+  NoTaskEnds reasons.Misplaced outcome = (outcome ≡ Misplaced) × CallsNeither reader left old new
   NoTaskEnds reasons.Memory outcome = (outcome ≡ Memory) × CallsNeither reader left old new
 
   -- what the run of a task leaves, or of none

@@ -1,5 +1,5 @@
 -- What the words ask for, as a task. This project's own.
-use Rattle.std.specs.Prelude.{◌≡◌, ◌≢◌, Bool, true, false, List, [], Option, None, Some, codes, if◌then◌else◌, length, map, unwrap_or, ⊤, ◌⊎◌}
+use Rattle.std.specs.Prelude.{◌≡◌, ◌≢◌, Bool, true, false, List, [], Option, None, Some, codes, if◌then◌else◌, length, map, unwrap_or, ⊤}
 use Rattle.std.specs.Option.{option_map_or}
 use Rattle.std.specs.Str.{bytes_eq}
 use Rattle.clap.specs.Faults.{fault_of}
@@ -12,7 +12,7 @@ use Rattle.clap.specs.declared.error.kind.ErrorKind.TheVariants as kind
 use Rattle.clap.specs.declared.parser.matches.ArgMatches.{ArgMatches}
 use Rattle.pf_values.specs.meaning.Text.{Text}
 use Rattle.fmtcanon.specs.declared.task.NoTask.{NoTask}
-use Rattle.fmtcanon.specs.declared.task.NoTask.TheVariants.{Usage, Memory}
+use Rattle.fmtcanon.specs.declared.task.NoTask.TheVariants.{Usage, Misplaced, Memory}
 use Rattle.fmtcanon.specs.declared.task.Task.{Task}
 use Rattle.fmtcanon.specs.declared.task.Task.TheVariants.{Answer, Records, Stream}
 use Rattle.fmtcanon.specs.declared.task.Question.{Question}
@@ -143,13 +143,11 @@ MisplacesFormats words =
     (command : Text) × (rows : List Row) × Names words command rows
     × (kind : RecordQuestion) × IsAsked command rows kind × IsMisplaced kind rows
 
--- clap finds a fault in the words, and doesn't take them; or formats are missing or misplaced
-abbrev pub AreWrong : List Text → Type 0
-AreWrong words = ((¬ IsTaken words) × HasFault words) ⊎ MisplacesFormats words
-
--- words that are not wrong have no task for want of memory alone
+-- Why the words have no task. Clap finds a fault in them, and doesn't take them; or formats are missing
+-- or misplaced; or memory was refused, which may happen with any words.
 abbrev pub IsNoTaskOf : List Text → NoTask → Type 0
-IsNoTaskOf words (Usage message) = AreWrong words
+IsNoTaskOf words (Usage message) = (¬ IsTaken words) × HasFault words
+IsNoTaskOf words Misplaced = MisplacesFormats words
 IsNoTaskOf words Memory = ⊤
 
 -- the task of a command that asks this about formats
@@ -160,12 +158,13 @@ IsTaskOn kind rows (Records asked) =
     (asked ≡ kind) × (is_null rows ≡ true) × (formats_in rows ≡ [])
 IsTaskOn kind rows (Stream model) = ⊥
 
--- why it has none
+-- why it has none: formats are misplaced, which takes no memory to say
 abbrev pub IsNoTaskOn : RecordQuestion → List Row → NoTask → Type 0
-IsNoTaskOn kind rows (Usage message) = IsMisplaced kind rows
-IsNoTaskOn kind rows Memory = ⊤
+IsNoTaskOn kind rows Misplaced = IsMisplaced kind rows
+IsNoTaskOn kind rows _ = ⊥
 
 -- want of memory is answered as such, and may be answered for anything else
 abbrev pub IsAnsweredBy : ErrorKind → NoTask → Type 0
 IsAnsweredBy k (Usage message) = k ≢ kind.OutOfMemory
+IsAnsweredBy k Misplaced = ⊥
 IsAnsweredBy k Memory = ⊤

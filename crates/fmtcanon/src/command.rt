@@ -142,7 +142,9 @@ fn top<'a>(alloc: Global) -> Result<Command<'a>, AllocError>
     ensures { IfOk result (λ command. app_of command ≡ top_app) }
 {
     Command::new(alloc, "fmtcanon")
-        .about("Reads printf formats: canonical texts, argument types, and whether two are interchangeable")
+        .about(
+            "Reads printf formats: canonical texts, argument types, and whether two are interchangeable",
+        )
         .version("0.2.0")
         .after_help(PROGRAM_HELP)
         .no_binary_name(true)

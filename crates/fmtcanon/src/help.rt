@@ -1,11 +1,4 @@
-//! The texts below the help of the commands, and of an error.
-
-/// Printed if formats are missing, or if some are given and `--null`, too.
-pub const MISPLACED: &str = "\
-error: give the formats as arguments or use '--null', but not both
-
-For more information, try '--help'.
-";
+//! The texts below the help of the program and of its commands.
 
 /// Below the help of the program.
 pub const PROGRAM_HELP: &str = "\

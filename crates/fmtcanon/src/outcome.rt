@@ -69,8 +69,10 @@ pub enum Outcome {
     Answered(u8),
     /// A record is left over that wants a second one, and all before it were answered.
     NoSecond,
-    /// The words are no command, or formats are misplaced among them; the text says so.
+    /// The words are not a command, or ask for help; this is the text of `clap`.
     Usage(String),
+    /// Formats are missing, or given besides the option `--null`, and nothing was written.
+    Misplaced,
     /// A read failed.
     Read,
     /// A write or the flush failed after so many bytes.
@@ -120,7 +122,7 @@ impl Outcome {
             Outcome::Refused { .. } | Outcome::RefusedWhole { .. } => 2,
             Outcome::BadLiteral { .. } => 2,
             Outcome::BadWord(_) | Outcome::WrongCount { .. } | Outcome::WrongType(_) => 3,
-            Outcome::NoSecond | Outcome::Usage(_) => 3,
+            Outcome::NoSecond | Outcome::Usage(_) | Outcome::Misplaced => 3,
             Outcome::Answered(status) => *status,
             Outcome::Read | Outcome::Write(_) | Outcome::Memory => 4,
         }
@@ -304,6 +306,10 @@ fn write_report<E: Write>(outcome: &Outcome, errors: &mut Counted<E>) -> Result<
         Outcome::WrongCount { wanted, given } => write_line(errors, &count_line(*wanted, *given)),
         Outcome::WrongType(index) => write_line(errors, &argument_line(*index, "wrong type")),
         Outcome::Usage(text) => write_bytes(errors, text.as_bytes()),
+        Outcome::Misplaced => write_bytes(
+            errors,
+            b"error: give the formats as arguments or use '--null', but not both\n\nFor more information, try '--help'.\n",
+        ),
         Outcome::Read => write_bytes(errors, b"read failed\n"),
         Outcome::Write(_) => write_bytes(errors, b"write failed\n"),
         Outcome::Memory => write_bytes(errors, b"out of memory\n"),

@@ -10,7 +10,6 @@ ghost use Rattle.fmtcanon.specs.Tasks.{Asks, AsksOther, IsAnsweredBy, IsAsked, I
 
 use crate::command::definition;
 use crate::formats::{GivenFormat, Notation};
-use crate::help::MISPLACED;
 use crate::models::{Models, model_of, models_of};
 use clap::error::ErrorKind;
 use clap::{ArgMatches, Error};
@@ -172,6 +171,8 @@ pub enum Task<'a> {
 pub enum NoTask {
     /// What is wrong with the words, or what `clap` answers in place of a command, help included.
     Usage(String),
+    /// Formats are missing, or given besides the option `--null`.
+    Misplaced,
     /// A growth was refused.
     Memory,
 }
@@ -203,7 +204,7 @@ fn named_task<'a>(alloc: Global, name: &str, inner: &ArgMatches<'a>) -> Result<T
         → Names words name.now (rows_in inner.now) → IsNoTaskOf words fault) }
 {
     if let Some(kind) = kind_asked(name, inner) {
-        return formats_task(alloc, inner, kind);
+        return formats_task(inner, kind);
     }
     match name {
         "format" => match given_words(alloc, inner) {
@@ -276,23 +277,19 @@ fn about_same(inner: &ArgMatches<'_>, notation: Notation, models: Models) -> Rec
 }
 
 // The task of a command about formats, which are among its arguments or come as records.
-fn formats_task<'a>(
-    alloc: Global,
-    inner: &ArgMatches<'a>,
-    kind: RecordQuestion,
-) -> Result<Task<'a>, NoTask>
+fn formats_task<'a>(inner: &ArgMatches<'a>, kind: RecordQuestion) -> Result<Task<'a>, NoTask>
     ensures ok { IfOk result (IsTaskOn kind (rows_in inner.now)) }
     ensures err { IfErr result (IsNoTaskOn kind (rows_in inner.now)) }
 {
     if is_set(inner, "null") {
         return match inner.get_str("F") {
             None => Ok(Task::Records(kind)),
-            Some(_) => Err(misplaced(alloc)),
+            Some(_) => Err(NoTask::Misplaced),
         };
     }
     match question_in(inner, kind) {
         Some(question) => Ok(Task::Answer(question)),
-        None => Err(misplaced(alloc)),
+        None => Err(NoTask::Misplaced),
     }
 }
 
@@ -338,14 +335,6 @@ fn question_in<'a>(inner: &ArgMatches<'a>, kind: RecordQuestion) -> Option<Quest
     match inner.get_str("G") {
         None => kind.about(first.as_bytes(), None),
         Some(second) => kind.about(first.as_bytes(), Some(second.as_bytes())),
-    }
-}
-
-// The answer where formats are missing, or are given where none is wanted.
-fn misplaced(alloc: Global) -> NoTask {
-    match String::from_str(alloc, MISPLACED) {
-        Ok(text) => NoTask::Usage(text),
-        Err(AllocError) => NoTask::Memory,
     }
 }
 

@@ -13,13 +13,14 @@ use Rattle.clap.specs.declared.parser.matches.ArgMatches.TheViews.{out-ArgMatche
 use Rattle.fmtcanon.specs.Words.{IsCommand}
 use Rattle.fmtcanon.specs.Tasks.{IsAnsweredBy, IsNoTaskOf, Names, rows_in}
 use Rattle.fmtcanon.specs.declared.task.NoTask.{NoTask}
-use Rattle.fmtcanon.specs.declared.task.NoTask.TheVariants.{Usage, Memory}
+use Rattle.fmtcanon.specs.declared.task.NoTask.TheVariants.{Usage, Misplaced, Memory}
 use Rattle.fmtcanon.proofs.command_line.WordLemmas.{free_command, simple_command, subcommand_given}
 use Rattle.std.proofs.lemmas.Result.{IfErr-weaker, IfOk-weaker}
 use Rattle.fmtcanon.proofs.task.task_of.Goals as goal
 
 answered : (app : App) (words : List Text) (k : ErrorKind) (r : NoTask) → IsCommand app → (takes app words ≡ true → k ≡ kind.OutOfMemory) → (k ≡ kind.OutOfMemory) ⊎ IsAmong k (fault_of app words) → IsAnsweredBy k r → IsNoTaskOf words r
-answered app words k (Usage m) is f g h = inl (λ taken. h (f (taken app is)), (app, is, k, h, elim g [ inl none ↦ absurd (h none) | inr among ↦ among ]))
+answered app words k (Usage m) is f g h = (λ taken. h (f (taken app is)), (app, is, k, h, elim g [ inl none ↦ absurd (h none) | inr among ↦ among ]))
+answered app words k Misplaced is f g h = absurd h
 answered app words k Memory is f g h = tt
 
 abbrev texts : List (Bor Text) → List Text
