@@ -8,7 +8,6 @@ use Rattle.fmtcanon_c.specs.Signatures.{Fit}
 use Rattle.fmtcanon_c.proofs.SamenessLemmas.{added, one_more_weight, passed}
 use Rattle.fmtcanon_c.proofs.SignatureLemmas.{accepted_more, fits_not, fits_so, stops_at}
 use Rattle.fmtcanon_c.proofs.argument_types.fits_models.Goals as goal
-use Rattle.fmtcanon_c.proofs.argument_types.fits_models.Goals.{then-branch, else-branch}
 
 pub loop-model-preserved : goal.loop-model-preserved
 loop-model-preserved c =
@@ -21,13 +20,13 @@ loop-model-preserved c =
     let doubled : 2 ^ (i + 1) ≡ 2 * 2 ^ i = (let plus : i + 1 ≡ suc i = omega arith in ap (λ n. 2 ^ n) plus) ∙ pow-succ' 2 i in
     record {
       fit = elim c.if-branch.branch [
-        | then-branch w ↦ rw w.sum-is (added is_fit ALL i _ c.loop-model-test.true c.loop-model.sum before.fit c.loop-model.weight before.weight (fits_so _ _ w.if-branch.true answer.2))
-        | else-branch w ↦ rw w.sum-is (passed is_fit ALL i _ c.loop-model-test.true c.loop-model.sum before.fit c.loop-model.weight before.weight (fits_not _ _ w.if-branch.false answer.2))
+        | goal.then-branch w ↦ rw w.sum-is (added is_fit ALL i _ c.loop-model-test.true c.loop-model.sum before.fit c.loop-model.weight before.weight (fits_so _ _ w.if-branch.true answer.2))
+        | goal.else-branch w ↦ rw w.sum-is (passed is_fit ALL i _ c.loop-model-test.true c.loop-model.sum before.fit c.loop-model.weight before.weight (fits_not _ _ w.if-branch.false answer.2))
       ];
       weight = omega (arith, before.weight, one_more_weight is_fit ALL i Lp64 c.loop-model-test.true);
       below = elim c.if-branch.branch [
-        | then-branch w ↦ omega (arith, before.below, w.sum-is)
-        | else-branch w ↦ omega (arith, before.below, w.sum-is)
+        | goal.then-branch w ↦ omega (arith, before.below, w.sum-is)
+        | goal.else-branch w ↦ omega (arith, before.below, w.sum-is)
       ];
       small = omega (arith, before.small, doubled);
       accepted = accepted_more first second ALL i _ c.loop-model-test.true before.accepted (answer.0, answer.1);

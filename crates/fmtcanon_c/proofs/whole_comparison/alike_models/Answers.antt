@@ -8,7 +8,6 @@ use Rattle.pf_whole.specs.meaning.Traces.{AreWholeAlike}
 use Rattle.fmtcanon_c.proofs.SamenessLemmas.{added, one_more_weight, passed}
 use Rattle.fmtcanon_c.proofs.WholeLemmas.{alike_not, alike_so, refused_first}
 use Rattle.fmtcanon_c.proofs.whole_comparison.alike_models.Goals as goal
-use Rattle.fmtcanon_c.proofs.whole_comparison.alike_models.Goals.{then-branch, else-branch}
 
 pub loop-model-preserved : goal.loop-model-preserved
 loop-model-preserved c =
@@ -21,13 +20,13 @@ loop-model-preserved c =
     let doubled : 2 ^ (i + 1) ≡ 2 * 2 ^ i = (let plus : i + 1 ≡ suc i = omega arith in ap (λ n. 2 ^ n) plus) ∙ pow-succ' 2 i in
     record {
       alike = elim c.if-branch.branch [
-        | then-branch w ↦ rw w.sum-is (added is_alike ALL i _ c.loop-model-test.true c.loop-model.sum before.alike c.loop-model.weight before.weight (alike_so _ first second _ w.if-branch.true both))
-        | else-branch w ↦ rw w.sum-is (passed is_alike ALL i _ c.loop-model-test.true c.loop-model.sum before.alike c.loop-model.weight before.weight (alike_not _ first second _ w.if-branch.false both))
+        | goal.then-branch w ↦ rw w.sum-is (added is_alike ALL i _ c.loop-model-test.true c.loop-model.sum before.alike c.loop-model.weight before.weight (alike_so _ first second _ w.if-branch.true both))
+        | goal.else-branch w ↦ rw w.sum-is (passed is_alike ALL i _ c.loop-model-test.true c.loop-model.sum before.alike c.loop-model.weight before.weight (alike_not _ first second _ w.if-branch.false both))
       ];
       weight = omega (arith, before.weight, one_more_weight is_alike ALL i Lp64 c.loop-model-test.true);
       below = elim c.if-branch.branch [
-        | then-branch w ↦ omega (arith, before.below, w.sum-is)
-        | else-branch w ↦ omega (arith, before.below, w.sum-is)
+        | goal.then-branch w ↦ omega (arith, before.below, w.sum-is)
+        | goal.else-branch w ↦ omega (arith, before.below, w.sum-is)
       ];
       small = omega (arith, before.small, doubled);
       accepted = λ some. (both.first, both.second);
