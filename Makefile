@@ -129,6 +129,7 @@ define TRIALS
 	python3 tests/library.py $(PROGRAM) $(C)
 	python3 tests/literals.py $(PROGRAM) $(C)
 	python3 tests/arguments.py $(PROGRAM) $(C)
+	python3 tests/opaque.py $(PROGRAM) $(C)
 	python3 tests/examples.py $(PROGRAM) $(C)
 endef
 

@@ -31,7 +31,7 @@ _fmtcanon() {
         _fmtcanon_models "$command" "${word#*=}" --model=
     elif [[ $word == -* ]]; then
         local more=' --literal -z --null'
-        [[ $command == types ]] && more=' --literal -z --null --whole'
+        [[ $command == types || $command == canon || $command == same ]] && more=' --literal -z --null --whole'
         [[ $command == format ]] && more=' --literal'
         [[ $command == stream ]] && more=''
         mapfile -t COMPREPLY < <(compgen -W "--model$more -h --help" -- "$word")

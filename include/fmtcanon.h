@@ -150,7 +150,8 @@ typedef struct fmtcanon_directive {
 enum fmtcanon_verdict {
     FMTCANON_SAME = 1,     /* equal types, and equal bytes for all arguments */
     FMTCANON_TYPES = 2,    /* the types of their arguments differ */
-    FMTCANON_DIFFERENT = 3 /* equal types, and arguments that they print differently */
+    FMTCANON_DIFFERENT = 3, /* equal types, and arguments that they print differently */
+    FMTCANON_DIRECTIVES = 4 /* fmtcanon_whole_compare() only: equal types, and other directives */
 };
 
 /* Why and where a format is rejected. */
@@ -160,14 +161,16 @@ typedef struct fmtcanon_error {
     uint32_t side; /* which format: 0 for the first or only one, 1 for the second */
 } fmtcanon_error;
 
-/* What fmtcanon_compare() returns besides the arguments. */
+/* What fmtcanon_compare() and fmtcanon_whole_compare() return besides the arguments. */
 typedef struct fmtcanon_comparison {
     uint64_t number;     /* TYPES: the first argument whose types differ, counted from 0; the smaller
-                            number of arguments if they differ only in that. DIFFERENT: the number of
+                            number of arguments if they differ only in that. DIRECTIVES: the first
+                            argument at which the directives differ. DIFFERENT: the number of
                             arguments. SAME: 0. */
     uint32_t verdict;    /* an enum fmtcanon_verdict */
-    uint32_t renderings; /* DIFFERENT: how many values of the one argument that isn't 0 or empty were
-                            considered, from 1 to 17; 1 if all are 0 or empty. Otherwise 0. */
+    uint32_t renderings; /* DIFFERENT of fmtcanon_compare(): how many values of the one argument that
+                            isn't 0 or empty were considered, from 1 to 17; 1 if all are 0 or empty.
+                            Otherwise 0. */
 } fmtcanon_comparison;
 
 /* Returns 0 if the format is accepted. Allocates nothing. */
@@ -223,6 +226,39 @@ int64_t fmtcanon_fits(int model, const char *first, size_t first_len, const char
  * is rejected in one of them, the result is the error in the first such data model. Allocates nothing. */
 int64_t fmtcanon_fits_models(const char *first, size_t first_len, const char *second,
                              size_t second_len, fmtcanon_error *error);
+
+/* Returns the length of the canonical text of a format of the whole language without numbered arguments:
+ * `$` is rejected. Each part before, between and after the directives that fmtcanon_canonical() rejects is
+ * replaced by its own canonical text, and each of these directives by its normal spelling: `%-08.6lf` by
+ * `%-8f`. If fmtcanon_canonical() accepts the format, both canonical texts are equal.
+ * FMTCANON_ERROR_NOMEMORY if the length is 2^63 or more. Allocates nothing. */
+int64_t fmtcanon_whole_canonical_length(int model, const char *text, size_t len, fmtcanon_error *error);
+
+/* Returns that length, and writes the canonical text into `out` with a NUL after it. It fits if the length
+ * is below `cap`. Allocates that length. */
+int64_t fmtcanon_whole_canonical(int model, const char *text, size_t len, char *out, size_t cap,
+                                 fmtcanon_error *error);
+
+/* Returns 1 if two formats of the whole language without numbered arguments are interchangeable, 0
+ * otherwise. They are if they take arguments of the same types, and for all of them print the same bytes and
+ * make the same calls: a directive that fmtcanon_same() rejects calls the C library with its normal spelling
+ * and its arguments. For formats that fmtcanon_same() accepts, both answers are equal. Directives that
+ * differ, as `%1f` and `%f`, may print the same with some C library. Allocates nothing. */
+int64_t fmtcanon_whole_same(int model, const char *first, size_t first_len, const char *second,
+                            size_t second_len, fmtcanon_error *error);
+
+/* Returns the data models in which fmtcanon_whole_same() is 1, as an enum fmtcanon_models. Which formats are
+ * accepted is the same in all of them. Allocates nothing. */
+int64_t fmtcanon_whole_same_models(const char *first, size_t first_len, const char *second,
+                                   size_t second_len, fmtcanon_error *error);
+
+/* Compares two formats of the whole language without numbered arguments, as fmtcanon_compare() does those
+ * that it accepts. FMTCANON_DIRECTIVES: the types are equal, and only one of the formats makes a call whose
+ * first argument has this index. FMTCANON_DIFFERENT: the calls are equal, too; `any` is written for each
+ * argument of a call, since the formats differ whatever it is. Allocates only for FMTCANON_DIFFERENT. */
+int64_t fmtcanon_whole_compare(int model, const char *first, size_t first_len, const char *second,
+                               size_t second_len, char *out, size_t cap,
+                               fmtcanon_comparison *comparison, fmtcanon_error *error);
 
 /* Returns the number of conversion specifications of a format of the whole language, without `%%`, and
  * writes a record of each, in the order of the text, into `out`, which has room for `cap` records. The type

@@ -76,3 +76,28 @@ WITH_OPTIONAL_ERROR(fmtcanon_compare,
                      size_t second_len, char *out, size_t cap, fmtcanon_comparison *comparison,
                      fmtcanon_error *error),
                     (model, first, first_len, second, second_len, out, cap, comparison, error))
+
+WITH_OPTIONAL_ERROR(fmtcanon_whole_canonical_length,
+                    (int model, const char *text, size_t len, fmtcanon_error *error),
+                    (model, text, len, error))
+
+WITH_OPTIONAL_ERROR(fmtcanon_whole_canonical,
+                    (int model, const char *text, size_t len, char *out, size_t cap,
+                     fmtcanon_error *error),
+                    (model, text, len, out, cap, error))
+
+WITH_OPTIONAL_ERROR(fmtcanon_whole_same,
+                    (int model, const char *first, size_t first_len, const char *second,
+                     size_t second_len, fmtcanon_error *error),
+                    (model, first, first_len, second, second_len, error))
+
+WITH_OPTIONAL_ERROR(fmtcanon_whole_same_models,
+                    (const char *first, size_t first_len, const char *second, size_t second_len,
+                     fmtcanon_error *error),
+                    (first, first_len, second, second_len, error))
+
+WITH_OPTIONAL_ERROR(fmtcanon_whole_compare,
+                    (int model, const char *first, size_t first_len, const char *second,
+                     size_t second_len, char *out, size_t cap, fmtcanon_comparison *comparison,
+                     fmtcanon_error *error),
+                    (model, first, first_len, second, second_len, out, cap, comparison, error))

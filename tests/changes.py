@@ -24,6 +24,7 @@ static ptrdiff_t gap = 2;
 """
 
 SAME, DIFFERENT, WORDS, TYPES, UNJUDGED = ["same"], ["different"], ["words"], ["types"], ["unjudged"]
+DIRECTIVES = ["directives"]
 CHANGES = [
     # Respelled.
     ("%i for %d", 'printf("%i\\n", n);', 'printf("%d\\n", n);', SAME),
@@ -59,6 +60,14 @@ CHANGES = [
     ("%lu for %zu", 'printf("%zu\\n", size);', 'printf("%lu\\n", (unsigned long)size);', TYPES),
     ("%ld for %td", 'printf("%td\\n", gap);', 'printf("%ld\\n", (long)gap);', TYPES),
     ("%s for %f", 'printf("%f\\n", d);', 'printf("%s\\n", name);', TYPES),
+    # Directives that the profile lacks.
+    ("%i next to %f", 'printf("%i: %.2f\\n", n, d);', 'printf("%d: %.2f\\n", n, d);', SAME),
+    ("a precision of 6", 'printf("%.6f\\n", d);', 'printf("%lf\\n", d);', SAME),
+    ("a precision of %f", 'printf("%.2f\\n", d);', 'printf("%.3f\\n", d);', DIRECTIVES),
+    ("%e for %f", 'printf("%d %f\\n", n, d);', 'printf("%d %e\\n", n, d);', DIRECTIVES),
+    ("a width next to %p", 'printf("%5d %p\\n", n, (void *)0);', 'printf("%6d %p\\n", n, (void *)0);', DIFFERENT),
+    ("words next to %f", 'printf("%f km\\n", d);', 'printf("%f miles\\n", d);', WORDS),
+    ("numbered arguments", 'printf("%2$s %1$d\\n", n, name);', 'printf("%2$s: %1$d\\n", n, name);', UNJUDGED),
     # Macros.
     ("PRIu64 for %lu", 'printf("%lu\\n", (unsigned long)big);', 'printf("%" PRIu64 "\\n", big);', TYPES),
     ("PRIu32 for %u", 'printf("%u\\n", u);', 'printf("%" PRIu32 "\\n", u);', SAME),

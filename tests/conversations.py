@@ -20,6 +20,16 @@ CONVERSATIONS = [
         (b"%d%d%*.*f\0", b"0 int\nint\nint\nint\ndouble\0"), (b"%d%d%2$d\0", b"2 refused 20 Mixed at byte 6\0"),
     ], 2),
     (["types", "-z", "--whole", "--literal"], [(b'"%Lf" "%ls"\0', b"0 long double\nwide string\0"), (b'"\\q"\0', NO_ESCAPE)], 2),
+    (["canon", "-z", "--whole"], [
+        (b"%i: %-08.6lf\0", b"0 %d: %-8f\0"), (b"%1$d\0", b"2 refused 6 Numbered at byte 2\0"), (b"%5c\0", b"0     %c\0"),
+    ], 2),
+    (["canon", "-z", "--whole", "--literal"], [(b'"\\x25" "i%.6f"\0', b'0 "%d%f"\0'), (b'"\\q"\0', NO_ESCAPE)], 2),
+    (["same", "-z", "--whole"], [
+        (b"%.6f%i\0%f%d\0", b"0 same\0"), (b"%f%05d%p\0%f%.5d%p\0", b"1 different\nany\nn:-1\nany\0"),
+        (b"%d%f\0%d%e\0", b"1 directives differ at argument 1\0"), (b"%f\0%d\0", b"1 types differ at argument 0\0"),
+        (b"%y\0%f\0", b"2 first: refused 3 Unexpected at byte 1\0"), (b"%f\0%1$d\0", b"2 second: refused 6 Numbered at byte 2\0"),
+    ], 2),
+    (["same", "-z", "--whole", "--literal"], [(b'"%f"\0"\\x25" "lf"\0', b"0 same\0"), (b'"%f"\0"\\q"\0', b"2 second: literal 3 BadEscape at byte 1\0")], 2),
     (["show", "-z"], [(b"x%i%%\0", b"0 text 1\ndirective %i: int: 0 0 %d 0\npercent\0"), (b"%y\0", UNEXPECTED)], 2),
     (["show", "-z", "--literal"], [(b'"x" "%%"\0', b"0 text 1\npercent\0"), (b'"\\q"\0', NO_ESCAPE)], 2),
     (["same", "-z"], [

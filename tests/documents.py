@@ -23,6 +23,7 @@ import linear  # noqa: E402
 import literals  # noqa: E402
 import memory  # noqa: E402
 import mutant_files  # noqa: E402
+import opaque  # noqa: E402
 import reach  # noqa: E402
 import replacing  # noqa: E402
 import sizes  # noqa: E402
@@ -92,6 +93,8 @@ def tested_counts():
     whole = data_rows("whole.jsonl")
     formats = [len(whole) - HAND_WHOLE, len(arguments.SILENT), len(whole), sum(1 for _ in arguments.formats())]
     yield r"rows, (\d+) of them of a model; formats compared with gcc, which accepts (\d+) pairs silently.* (\d+) rows, (\d+) formats", formats
+    given = data_rows("opaque.jsonl")
+    yield r"rows, (\d+) of them of a model; pairs that .* for (\d+) lists of arguments \| (\d+) rows, (\d+) and (\d+) pairs", [len(given) - HAND_OPAQUE, opaque.LISTS, len(given), opaque.PAIRS, opaque.UNLIKE]
     yield r"a regular expression \| (\d+) formats", [arguments.RANDOM]
     yield from limits()
     given = data_rows("records.jsonl")
@@ -121,6 +124,7 @@ def limits():
 HAND_RECORDS = 11
 HAND_LITERALS = 27
 HAND_WHOLE = 44
+HAND_OPAQUE = 11
 # Numbers of that table that these scripts don't have.
 PLAIN_NUMBERS = [r"16 shapes", r"a record of 100 million bytes", r"\| \d+ runs and comparisons", r"after each byte \| \d+ runs", r"every 2 of", r"`parse_printf_format`"]
 NUMBER_WORDS = dict(zip("two three four five six seven eight nine ten eleven twelve thirteen fourteen fifteen sixteen seventeen eighteen".split(), range(2, 19)))

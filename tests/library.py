@@ -25,6 +25,8 @@ HEADER = TOP / "include/fmtcanon.h"
 SHAPES = TOP / "bench/shapes.nul"
 ROWS = TOP / "tests/commands.jsonl"
 SOURCES = TOP / "crates/fmtcanon_c/src"
+# The numbers of the header as definitions, about which the crate has laws.
+LAWS = TOP / "crates/fmtcanon_c/specs/Header.antt"
 STRICT = ["-Wall", "-Wextra", "-pedantic", "-Werror", f"-I{HEADER.parent}"]
 # The documents, or their parts below a heading, whose examples need the library, the module or the commands installed.
 DOCUMENTS = [("docs/C.md", None), ("docs/PYTHON.md", None), ("docs/TRANSLATIONS.md", "Check a catalog")]
@@ -47,7 +49,7 @@ NUMBERS = {"i64": "int64_t", "u64": "uint64_t", "u32": "uint32_t"}
 # The types as the program writes them, and the numbers of the library.
 TYPES = ["int", "unsigned int", "long", "unsigned long", "long long", "unsigned long long", "string"]
 # What outcomes.c has: calls, pairs of texts, data models with an invalid one, and sizes of room.
-OUTCOMES = (16, 21, 4, 6)
+OUTCOMES = (21, 24, 4, 6)
 # Of so many formats, one is given to the program, too.
 STEP = 16
 
@@ -117,7 +119,9 @@ def try_header(trials):
     sets = {**sets, "IN_NEITHER": 0, "IN_BOTH": sets["IN_LP64"] + sets["IN_ILP32"], "IN_ALL": sum(sets.values())}
     trials.expect("sets of data models", header_numbers("fmtcanon_models"), sets)
     verdicts = source_numbers("fmtcanon_c/src/comparison.rt", r"Verdict::(\w+)[^=]*=> \((\d+),", {"Args": "DIFFERENT"})
-    trials.expect("verdicts", header_numbers("fmtcanon_verdict"), verdicts)
+    whole = source_numbers("fmtcanon_c/src/whole_comparison.rt", r"Verdict::(\w+)[^=]*=> \((\d+),", {"Args": "DIFFERENT"})
+    trials.expect("verdicts that both languages have", {name: whole[name] for name in verdicts}, verdicts)
+    trials.expect("verdicts", header_numbers("fmtcanon_verdict"), whole)
     structs = [
         ("fmtcanon_error", "interface", "CError"), ("fmtcanon_comparison", "comparison", "CComparison"),
         ("fmtcanon_directive", "directives", "CDirective"),
@@ -131,6 +135,7 @@ def try_header(trials):
     declared = dict(re.findall(r"FMTCANON_ERROR_(\w+) \((-\d+)\)", header_text()))
     code = dict(re.findall(r"NO_(\w+): i64 = (-\d+);", (SOURCES / "interface.rt").read_text(encoding="utf-8")))
     trials.expect("errors that are no refusal", declared, {"NOMEMORY": code["MEMORY"], "MODEL": code["MODEL"], "NOPLACE": code["PLACE"]})
+    try_header_laws(declared, trials)
     version = ".".join(re.findall(r"FMTCANON_VERSION_\w+ (\d+)", header_text()))
     latest = re.search(r"^## (\S+),", (TOP / "CHANGELOG.md").read_text(encoding="utf-8"), flags=re.MULTILINE).group(1)
     trials.expect("the version of the header", version, latest)
@@ -138,6 +143,19 @@ def try_header(trials):
     trials.expect("the version of the Makefile", made, latest)
     python = re.search(r'^version = "(\S+)"$', (TOP / "python/pyproject.toml").read_text(encoding="utf-8"), flags=re.MULTILINE).group(1)
     trials.expect("the version of the Python module", python, latest)
+
+
+def try_header_laws(errors, trials):
+    """The numbers for which `laws.rt` has laws are those of the header, and no error and no kind is left out."""
+    text = LAWS.read_text(encoding="utf-8")
+    laws = {name.upper(): f"-{number}" for name, number in re.findall(r"^error_(\w+) = neg_ℤ \(pos (\d+)\)$", text, flags=re.MULTILINE)}
+    trials.expect("errors in the laws", laws, errors)
+    kinds = re.findall(r"^literal_kind_in_header (\w+) = (\d+)$", text, flags=re.MULTILINE)
+    numbers = {re.sub(r"(?<!^)(?=[A-Z])", "_", name).upper(): int(number) for name, number in kinds}
+    trials.expect("kinds of faults of literals in the laws", numbers, header_numbers("fmtcanon_literal_kind"))
+    power = re.search(r"NO_ARGUMENT ≡ 2 \^ (\d+) - 1$", text, flags=re.MULTILINE)
+    none = re.search(r"FMTCANON_NO_ARGUMENT UINT(\d+)_MAX", header_text())
+    trials.expect("the index that stands for no argument", power and power.group(1), none and none.group(1))
 
 
 def lines_of(words, **options):
@@ -167,13 +185,15 @@ def compile_with(compiler, source, program, *more):
 def try_compiler(compiler, folder, trials, work, tools=()):
     """The programs of tests/library compile without a warning, against the archive, and find nothing wrong."""
     name = " ".join(compiler)
-    edges, answers, outcomes = work / "edges", work / "answers", work / "outcomes"
+    edges, answers, outcomes, whole = work / "edges", work / "answers", work / "outcomes", work / "whole"
     archive = folder / "libfmtcanon.a"
     source = TOP / "tests/library"
     trials.expect(f"{name}: edges.c", compile_with(compiler, source / "edges.c", edges, archive, *WRAPPED), (0, ""))
     trials.expect(f"{name}: answers.c", compile_with(compiler, source / "answers.c", answers, archive), (0, ""))
     trials.expect(f"{name}: outcomes.c", compile_with(compiler, source / "outcomes.c", outcomes, archive, *WRAPPED), (0, ""))
+    trials.expect(f"{name}: whole.c", compile_with(compiler, source / "whole.c", whole, archive, "-pthread"), (0, ""))
     if not tools:
+        trials.expect(f"{name}: the whole language", lines_of([whole]), (0, "the whole language is as the header says\n"))
         trials.expect(f"{name}: the edges", lines_of([edges]), (0, "the edges are as the header says\n"))
         trials.expect(f"{name}: the outcomes", lines_of([outcomes]), (0, "calls {}, pairs of texts {}, data models {}, rooms {}\n".format(*OUTCOMES)))
     status, lines = lines_of([*tools, answers, SHAPES])
@@ -228,6 +248,8 @@ def models_line(module, one, other):
 
 
 def word_of(argument):
+    if argument is None:
+        return b"any"
     return b"n:%d" % argument if isinstance(argument, int) else b"s:" + argument
 
 
@@ -235,22 +257,30 @@ def shapes():
     return SHAPES.read_bytes().split(b"\0")[:-1]
 
 
+def same_answer(module, formats, models, whole=False):
+    """The status and the lines of `same`, by three calls, which must agree."""
+    answers = [same_lines(module, *formats, model, whole) for model in models]
+    names = [f"{model.name.lower()}\n".encode() if models[1:] else b"" for model in models]
+    are_same = [lines == b"same\n" for lines in answers]
+    found = module.same_in(*formats, whole=whole)
+    if are_same != [model in found for model in models] or are_same != [module.same(*formats, model=model, whole=whole) for model in models]:
+        return "compare, same and same_in differ"
+    return 0 if all(are_same) else 1, b"".join(name + lines for name, lines in zip(names, answers)), b""
+
+
 def program_answer(module, command, formats, models):
     """What the program answers, by the Python module: the status, and the bytes on the two streams."""
     try:
         if command == "same":
-            answers = [same_lines(module, *formats, model) for model in models]
-            names = [f"{model.name.lower()}\n".encode() if models[1:] else b"" for model in models]
-            are_same = [lines == b"same\n" for lines in answers]
-            # The calls that answer by yes or no say the same.
-            found = module.same_in(*formats)
-            if are_same != [model in found for model in models] or are_same != [module.same(*formats, model=model) for model in models]:
-                return "compare, same and same_in differ"
-            return 0 if all(are_same) else 1, b"".join(name + lines for name, lines in zip(names, answers)), b""
+            found = same_answer(module, formats, models)
+            # For formats of the profile the whole language says the same.
+            return found if same_answer(module, formats, models, True) == found else "the whole language differs"
         if command == "canon":
             canonical = module.canonical(formats[0], model=models[0])
             if module.is_canonical(formats[0], model=models[0]) != (canonical == formats[0]):
                 return "canonical and is_canonical differ"
+            if module.canonical(formats[0], model=models[0], whole=True) != canonical:
+                return "the whole language differs"
             return 0, canonical + b"\n", b""
         if command == "show":
             return 0, "".join(shown_line(module, piece) for piece in module.show(formats[0], model=models[0])).encode(), b""
@@ -276,12 +306,14 @@ def argument_of(word):
     return int(word[2:]) if word.startswith(b"n:") else word[2:]
 
 
-def same_lines(module, one, other, model):
-    found = module.compare(one, other, model=model)
+def same_lines(module, one, other, model, whole=False):
+    found = module.compare(one, other, model=model, whole=whole)
     if found.verdict is module.Verdict.SAME:
         return b"same\n"
     if found.verdict is module.Verdict.TYPES:
         return b"types differ at argument %d\n" % found.types_differ_at
+    if found.verdict is module.Verdict.DIRECTIVES:
+        return b"directives differ at argument %d\n" % found.directives_differ_at
     return b"".join(word + b"\n" for word in [b"different", *map(word_of, found.arguments)])
 
 

@@ -40,6 +40,11 @@ def runs(count):
     yield "show", ["show", "-z"], records(respelled), 0
     yield "same", ["same", "-z"], records(respelled, normal), 0
     yield "same, the last differs", ["same", "-z"], records(respelled + b"%05d", normal + b"%.5d"), 1
+    opaque = [b"%i%.6f" * count, b"%d%f" * count]
+    yield "canon --whole", ["canon", "-z", "--whole"], records(opaque[0]), 0
+    yield "same --whole", ["same", "-z", "--whole"], records(*opaque), 0
+    yield "same --whole, the last differs", ["same", "-z", "--whole"], records(opaque[0] + b"%05d", opaque[1] + b"%.5d"), 1
+    yield "same --whole, the last directive differs", ["same", "-z", "--whole"], records(opaque[0] + b"%f", opaque[1] + b"%e"), 1
     yield "fits", ["fits", "-z"], records(respelled, normal), 0
     yield "canon --literal", ["canon", "-z", "--literal"], records(literals[1]), 0
     yield "same --literal", ["same", "-z", "--literal"], records(*literals), 0

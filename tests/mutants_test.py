@@ -172,6 +172,13 @@ only=3 holes=0
         self.assertEqual(without_answers(text, {"b-2", "helper"}), text[: text.index("helper")])
         self.assertEqual(without_answers(text, {"c"}), text)
 
+    def test_without_steps_that_answers_used(self):
+        steps = "use A.Goals.{then-branch, else-branch}\n"
+        text = f"use A.Goals as goal\n{steps}\npub b : goal.b\nb d = elim d [ | then-branch w ↦ e ]\n\npub c : goal.c\nc d = f\n"
+        self.assertEqual(without_answers(text, {"b"}), "use A.Goals as goal\n\npub c : goal.c\nc d = f\n")
+        self.assertEqual(without_answers(text, {"c"}), text.replace("pub c : goal.c\nc d = f\n", ""))
+        self.assertEqual(without_answers(text, {"e"}), text)
+
     def test_a_lemma_that_fails_with_a_mutant_of_no_function(self):
         text = "./proofs/Limits.antt:5:1 error: `above`: the two types differ\nfn pf_x::a::Left::new: not proved\nonly=1 holes=0\n"
         self.assertEqual(verdict_of(Report(text, "pf_x"), Mutant("m")), (Verdict.REFUSED, "`above` of proofs/Limits.antt"))

@@ -33,6 +33,17 @@ def try_rows(program, trials):
         trials.expect(row["words"], (status, stdout, stderr), (row["status"], wanted_out, wanted_err))
 
 
+def try_profile_as_whole(program, trials):
+    """`canon` and `same` answer formats of the profile with --whole as they do without it."""
+    rows = [row for row in model_rows() if row["words"][:1] in (["canon"], ["same"]) and row["status"] < 2]
+    for row in rows:
+        command, *more = row["words"]
+        words = [command, "--whole", *more]
+        got = run(program, words, row.get("stdin", "").encode("latin-1"))
+        trials.expect(words, got, (row["status"], row["stdout"].encode("latin-1"), b""))
+    trials.expect("pairs of the profile with --whole", len(rows) > 100, True)
+
+
 def try_examples(program, trials):
     """Each example of the documents prints what is shown below it, on either stream."""
     folder = os.path.dirname(os.path.abspath(program))
@@ -210,6 +221,7 @@ def main():
     try_first_command(trials)
     try_usage(program, trials)
     try_refusals(program, trials)
+    try_profile_as_whole(program, trials)
     try_whole(program, trials)
     try_literals(program, trials)
     try_words(program, trials)

@@ -10,6 +10,9 @@ and which types and constants of the code and words of the library the definitio
 It does the same for the headline of the whole language, with WHOLE_STARTS and WHOLE_FOLDER. That headline also depends on
 definitions of FOLDER, and on those of other crates that docs/DEFINITIONS.md lists.
 
+A refusal in the whole language depends on the states of an automaton. What REFUSALS reach, and neither ACCEPTED nor FOLDER has,
+must be what a table of docs/DEFINITIONS.md lists.
+
 Its last line is 'N passed, M failed', and it exits with 1 where M isn't 0.
 """
 
@@ -31,6 +34,10 @@ STARTS = [("pf_compare/src/laws.rt", "headline"), ("pf_text/src/pieces.rt", "che
 WHOLE_FOLDER = "Rattle.pf_whole.specs.meaning"
 WHOLE_STARTS = [("pf_whole/src/laws.rt", "headline")]
 LOWER = "Rattle.pf_signatures.specs"
+# The words for a refusal in the whole language, each with the function whose contract has it; and the words for acceptance.
+REFUSALS = [(f"{LOWER}.Refusals", "IsPosixRefusedAt"), (f"{LOWER}.Unnumbered", "IsWholeRefusedAt")]
+REFUSED_BY = [("pf_signatures/src/argument_types.rt", "arguments"), ("pf_signatures/src/unnumbered.rt", "check_unnumbered")]
+ACCEPTED = [(f"{LOWER}.Items", "HasArguments"), (f"{LOWER}.Stretches", "IsWholeAccepted")]
 NAME = r"[^\W\d]\w*"
 # An import: of names of a module, or of a module by another name.
 IMPORT = re.compile(rf"^ *(?:ghost )?(pub )?use (Rattle[\w.]+?)(?:\.\{{([^{{}}]*)\}}| as ({NAME}));?$", re.MULTILINE)
@@ -127,8 +134,13 @@ def contract(file, function):
 
 def reached(starts):
     """The definitions that are reached from some contracts, and the other names: each a module and a name in it."""
+    return reached_from(name for file, function in starts for name in contract(file, function))
+
+
+def reached_from(names):
+    """The same from some names."""
     found, others = set(), set()
-    left = [name for file, function in starts for name in contract(file, function)]
+    left = list(names)
     while left:
         path, name = left.pop()
         there = definition(path, name)
@@ -218,11 +230,42 @@ def try_whole(trials, text, known):
     trials.expect("lines of the whole language in docs/DEFINITIONS.md", counted(text, "What the headline of the whole language depends on"), lines_there(WHOLE_FOLDER))
 
 
+def table_after(text, heading):
+    """The names of the definitions in the first column of the table that begins so, below a heading."""
+    section = re.search(rf"^### {re.escape(heading)}$(.*?)^##", text, flags=re.DOTALL | re.MULTILINE)
+    table = re.search(r"^\| Definition \| Says \|\n\|---\|---\|\n((?:\|.*\n)+)", section[1], flags=re.MULTILINE) if section else None
+    cells = [line.split("|")[1] for line in table[1].splitlines()] if table else []
+    # A name in parentheses is that of a file or of a crate.
+    return [name for cell in cells for name in re.findall(rf"`({NAME})[^`]*`", re.sub(r"\([^)]*\)", "", cell))]
+
+
+def states_in(text):
+    """The states in the table of docs/DEFINITIONS.md, in its order."""
+    rows = re.search(r"^\| State \|.*\n\|---.*\n((?:\|.*\n)+)", text, flags=re.MULTILINE)
+    return re.findall(rf"^\| `({NAME})", rows[1], flags=re.MULTILINE) if rows else []
+
+
+def try_refusals(trials):
+    """docs/DEFINITIONS.md lists what a refusal in the whole language depends on, besides what acceptance does."""
+    text = (TOP / "docs/DEFINITIONS.md").read_text(encoding="utf-8")
+    for word, (file, function) in zip(REFUSALS, REFUSED_BY):
+        trials.expect(f"the contract of {function} has {word[1]}", word in contract(file, function), True)
+    (refused, others), (accepted, known) = reached_from(REFUSALS), reached_from(ACCEPTED)
+    own = {(path, name) for path, name in refused - accepted if not path.startswith(FOLDER + ".")}
+    trials.expect("definitions of a refusal in docs/DEFINITIONS.md", sorted(table_after(text, "Words of a refusal")), sorted(name for _, name in own))
+    states = [name for name, data in module_of(f"{LOWER}.Stages").types.items() if data == "PosixState" != name]
+    trials.expect("states in docs/DEFINITIONS.md", states_in(text), states)
+    types, constants = of_code(others - known)
+    trials.expect("types of the code in a refusal", listed(text, "Of the code these definitions use the types "), types - of_code(known)[0])
+    trials.expect("constants of the code in a refusal that acceptance doesn't use", constants, set())
+
+
 def main():
     if len(sys.argv) != 1:
         sys.exit(__doc__)
     trials = Trials()
     try_reach(trials)
+    try_refusals(trials)
     return trials.end()
 
 

@@ -106,6 +106,16 @@ DIFFERENCES = [
     (["%i", "%'d"], "left: the flag ' groups digits, except in the POSIX locale: --posix-locale says that it prints there"),
     (["%%'%i", "%%'%d"], "replaced"),
     (["--posix-locale", "%'i", "%d"], "replaced"),
+    (["%i: %.2f\\n", "%d: %.2f\\n"], "replaced"),
+    (["%.6lf of %5c", "%f of     %c"], "replaced"),
+    (["%-08.*f|%+ p", "%-8.*f|%+p"], "replaced"),
+    (["%i: %.2f", "%d: %.3f"], "left: the directives differ at argument 1"),
+    (["%*d", "%d%d"], "left: the directives differ at argument 0"),
+    (["%f%05d", "%f%.5d"], "left: the two print different bytes for any, -1"),
+    (["%f", "%Lf"], "left: the types differ at argument 0"),
+    (["%jn%f", "%ln%f"], "left: in ILP32 the types differ at argument 0; in LLP64 the types differ at argument 0"),
+    (["%'f", "%f"], "left: the flag ' groups digits, except in the POSIX locale: --posix-locale says that it prints there"),
+    (["--posix-locale", "%'f", "%f"], "replaced"),
 ]
 USAGE = [
     ([], "usage: fmtcanon-replace"),
@@ -124,7 +134,8 @@ USAGE = [
 ]
 WRONG = [
     (["%y", "%d", "a.c"], "OLD is refused 3 Unexpected at byte 1"),
-    (["%d", "%f", "a.c"], "NEW is refused 9 Float at byte 1"),
+    (["%f", "%1$f", "a.c"], "NEW is refused 6 Numbered at byte 2"),
+    (["%*1$d", "%d", "a.c"], "OLD is refused 20 Mixed at byte 2"),
     (["%i", "%d"], "give files or folders, or the folder of a compile_commands.json"),
     (["-p", "nowhere", "%i", "%d"], "nowhere"),
 ]
@@ -359,10 +370,12 @@ tree/a.c:2:23: "%i\\n"
 tree/in/b.c:2:23: "%-i\\n"
 tree/in/b.c:3:31: "%d\\n"
 
-not judged: 4 places
+"%f": 2 places
+tree/in/b.h:2:34: "%f"
+tree/in/b.h:2:45: "%f"
+
+not judged: 2 places
 tree/in/b.c:3:51: not judged: refused 3 Unexpected at byte 1 of "%y"
-tree/in/b.h:2:34: not judged: refused 9 Float at byte 1 of "%f"
-tree/in/b.h:2:45: not judged: refused 9 Float at byte 1 of "%f"
 tree/in/b.h:2:59: not judged: the macro OWN is part of it
 """
 FUNCTIONS = "printf:0: known, 5 places\nsay:0: not known, 2 places\nfprintf:1: known, 1 place\n"

@@ -97,9 +97,17 @@ def verdict_of(report, mutant):
 
 
 def without_answers(text, names):
-    """Returns the text of a proof file without the answers of these names. What is named inside an answer stays."""
+    """Returns the text of a proof file without the answers of these names, and without the steps of goals that only they used.
+
+    What is named inside an answer stays.
+    """
     parts = re.split(r"^(?=pub |abbrev |[\w-]+ : )", text, flags=re.MULTILINE)
-    return "".join(it for it in parts if it.partition(" :")[0].split(" ")[-1] not in names)
+    left = "".join(it for it in parts if it.partition(" :")[0].split(" ")[-1] not in names)
+    if left == text:
+        return text
+    imports = re.compile(r"^use \S+\.Goals\.\{([^}]*)\}\n", re.MULTILINE)
+    words = set(re.findall(r"[\w-]+", imports.sub("", left)))
+    return imports.sub(lambda found: found[0] if words & set(found[1].split(", ")) else "", left)
 
 
 def failed_tests(said):

@@ -3,8 +3,8 @@
 
 Usage: tests/rooms.py [--each] PROGRAM
 
-Standard output takes some bytes and then fails: each answer of commands.jsonl, whole.jsonl, literals.jsonl and
-written.jsonl in tests/rows/, each canonical text, what `stream` settles before a refusal, what formats print, and replies to records go out in each
+Standard output takes some bytes and then fails: each answer of commands.jsonl, whole.jsonl, opaque.jsonl, literals.jsonl
+and written.jsonl in tests/rows/, each canonical text, what `stream` settles before a refusal, what formats print, and replies to records go out in each
 room that is too small for them. What the C library prints goes into one room for each text. Standard input hands out some bytes and then fails, or ends there: formats and records are cut after each byte. The streams
 are those of tests/narrow.c. How many bytes they move a call, and the error, take turns from run to run; with --each
 every run is made with each of them.
@@ -72,7 +72,7 @@ def try_rooms(narrow, words, stdin, text):
 
 def try_answers(narrow):
     """The answers of the commands, and what `stream` settles of a text and of a directive."""
-    given = [row for name in ["commands", "whole", "literals"] for row in rows_of(f"{name}.jsonl")]
+    given = [row for name in ["commands", "whole", "opaque", "literals"] for row in rows_of(f"{name}.jsonl")]
     rows = [(row["words"], row.get("stdin", "").encode("latin-1"), row["stdout"], row["status"]) for row in given if row["status"] < 2]
     texts = [row for name in ["written", "cut_directives", "canonical_formats"] for row in rows_of(f"{name}.jsonl")]
     rows += [(["stream"], text.encode("latin-1"), canonical, 0) for text, canonical in texts]

@@ -580,6 +580,7 @@ def main():
     try_streams(program, trials, "records.jsonl")
     try_streams(program, trials, "literals.jsonl")
     try_streams(program, trials, "whole.jsonl")
+    try_streams(program, trials, "opaque.jsonl")
     try_usages(program, trials)
     try_refused(program, module, trials)
     try_bytes(program, module, trials)

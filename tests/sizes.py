@@ -40,6 +40,7 @@ CALLS = [
     ("check", DIRECTIVES, 0.01), ("refused", DIRECTIVES, 0.03), ("is_canonical", DIRECTIVES, 0.01), ("canonical_length", DIRECTIVES, 0.03),
     ("canonical", DIRECTIVES, 0.05), ("types", ARGUMENTS, 0.02), ("same", DIRECTIVES, 0.4), ("compare", DIRECTIVES, 0.1),
     ("compare_last", FIRST_EQUAL, 0.06), ("arguments", ARGUMENTS, 0.02), ("fits", ARGUMENTS, 0.04),
+    ("whole_canonical", DIRECTIVES, 0.3), ("whole_same", DIRECTIVES, 1.2), ("whole_compare_last", FIRST_EQUAL, 0.06),
     ("decode_literal", ESCAPES, 0.06), ("encode_literal", ESCAPES, 0.04), ("source_offset", ESCAPES, 0.04),
     ("check", LARGE, 0.1), ("is_canonical", LARGE, 0.3), ("types", LARGE, 0.3), ("arguments", LARGE, 0.4), ("fits", LARGE, 0.8),
     ("decode_literal", LARGE, 0.8), ("encode_literal", LARGE, 0.6), ("source_offset", LARGE, 0.6),

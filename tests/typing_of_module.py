@@ -25,7 +25,10 @@ where: List[fmtcanon.Model] = fmtcanon.same_in("%d", "%i") + fmtcanon.fits_in("%
 spans: List[fmtcanon.DirectiveSpan] = fmtcanon.directives("%*d", model="ilp32")
 star: Optional[int] = spans[0].width_argument
 found: fmtcanon.Comparison = fmtcanon.compare("%d", "%u")
-shown: Optional[Tuple[Union[int, bytes], ...]] = found.arguments
+shown: Optional[Tuple[Union[int, bytes, None], ...]] = found.arguments
+apart: Optional[int] = fmtcanon.compare("%f", b"%e", whole=True).directives_differ_at
+whole: bytes = fmtcanon.canonical(b"%f", whole=fmtcanon.same("%f", "%e", whole=True))
+anywhere: List[fmtcanon.Model] = fmtcanon.same_in("%f", "%e", whole=True)
 printed: bytes = fmtcanon.format("%d%s", 1, "a")
 pieces = fmtcanon.show("%d")
 offset: Optional[int] = fmtcanon.source_offset('"%d"', 1)

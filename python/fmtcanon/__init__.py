@@ -16,6 +16,10 @@ In C source, a format is written as string literals. `decode_literal` returns th
 builds one literal of bytes, and `source_offset` returns the offset in the source of a byte. A text that is not
 string literals raises `BadLiteral`.
 
+`whole=True` asks `canonical`, `same`, `same_in` and `compare` about the whole language of POSIX `fprintf`
+without numbered arguments. A directive that they otherwise reject, as `%f`, makes a call: its normal spelling
+and its arguments. Two formats are the same if they also make the same calls.
+
 A `str` with a lone surrogate, as file names may have it, has no UTF-8, and raises `UnicodeEncodeError`. Pass
 the bytes that `os.fsencode` returns instead.
 
@@ -32,6 +36,10 @@ installation puts it, otherwise `libfmtcanon.so.0`, where the system looks for l
     (-1,)
     >>> fmtcanon.canonical("%zu", model="ilp32")
     '%u'
+    >>> fmtcanon.canonical("%i: %-08.6lf", whole=True)
+    '%d: %-8f'
+    >>> fmtcanon.compare("%f%05d", "%f%.5d", whole=True).arguments
+    (None, -1)
     >>> [model.name for model in fmtcanon.same_in("%zu", "%lu")]
     ['LP64']
     >>> fmtcanon.format("%-4s|%+05d", "ab", 42)
@@ -53,7 +61,6 @@ installation puts it, otherwise `libfmtcanon.so.0`, where the system looks for l
 from __future__ import annotations
 
 import ctypes
-import enum
 import functools
 import operator
 import os
@@ -61,6 +68,7 @@ import re
 from pathlib import Path
 from typing import Any, Callable, List, NamedTuple, NoReturn, Optional, Tuple, TypeVar, Union
 
+from .kinds import Kind, LiteralKind, Type, Verdict
 from .models import DataModel, Model, model_of
 from .printing import REFUSED, UNFIT, Directive, Failed, Percent, Shown, Text, printed, shown
 from .sessions import Reply, Session
@@ -114,76 +122,6 @@ _NO_ARGUMENT = 2**64 - 1
 _LONGEST_NAME = 18
 
 
-class Kind(enum.IntEnum):
-    """Why a format is rejected."""
-
-    NUL_BYTE = 1
-    TRUNCATED = 2
-    UNEXPECTED = 3
-    BAD_PERCENT = 4
-    STAR = 5
-    NUMBERED = 6
-    WIDTH_TOO_LARGE = 7
-    PRECISION_TOO_LARGE = 8
-    FLOAT = 9
-    POINTER = 10
-    COUNT = 11
-    WIDE = 12
-    ALT_UNDEFINED = 13
-    ZERO_UNDEFINED = 14
-    GROUP_UNDEFINED = 15
-    PRECISION_UNDEFINED = 16
-    LENGTH_UNDEFINED = 17
-    TOO_LONG = 18
-    # Of the whole language alone.
-    COUNT_UNDEFINED = 19
-    MIXED = 20
-    MISSING_ARGUMENT = 21
-    TWO_TYPES = 22
-
-
-class LiteralKind(enum.IntEnum):
-    """Why a text is not string literals of C source."""
-
-    NO_LITERAL = 201
-    UNTERMINATED = 202
-    BAD_ESCAPE = 203
-    ESCAPE_TOO_LARGE = 204
-    ZERO_BYTE = 205
-    TRIGRAPH = 206
-
-
-class Type(enum.IntEnum):
-    """The type of an argument."""
-
-    INT = 1
-    UINT = 2
-    LONG = 3
-    ULONG = 4
-    LONG_LONG = 5
-    ULONG_LONG = 6
-    STRING = 7
-    # Of the whole language alone.
-    DOUBLE = 8
-    LONG_DOUBLE = 9
-    WIDE_CHAR = 10
-    WIDE_STRING = 11
-    POINTER_TO_VOID = 12
-    POINTER_TO_SCHAR = 13
-    POINTER_TO_SHORT = 14
-    POINTER_TO_INT = 15
-    POINTER_TO_LONG = 16
-    POINTER_TO_LONG_LONG = 17
-
-
-class Verdict(enum.IntEnum):
-    """How two formats compare."""
-
-    SAME = 1
-    TYPES = 2
-    DIFFERENT = 3
-
-
 class Refused(ValueError):
     """A format is rejected.
 
@@ -223,13 +161,15 @@ class Comparison(NamedTuple):
     """How two formats compare.
 
     For `Verdict.TYPES`, `types_differ_at` is the index of the first argument whose types differ. For
-    `Verdict.DIFFERENT`, `arguments` are arguments that the two print differently, numbers and bytes. Otherwise
-    they are None.
+    `Verdict.DIFFERENT`, `arguments` are arguments that the two print differently, numbers and bytes; None among
+    them is an argument that may be any. For `Verdict.DIRECTIVES`, `directives_differ_at` is the index of the
+    first argument of a call that only one of the two makes. Otherwise they are None.
     """
 
     verdict: Verdict
     types_differ_at: Optional[int] = None
-    arguments: Optional[Tuple[Union[int, bytes], ...]] = None
+    arguments: Optional[Tuple[Union[int, bytes, None], ...]] = None
+    directives_differ_at: Optional[int] = None
 
 
 class DirectiveSpan(NamedTuple):
@@ -289,6 +229,14 @@ _CALLS = {
     "arguments": ((*_MODEL, *_TEXT, *_TEXT, *_ERROR), ctypes.c_int64),
     "fits": ((*_MODEL, *_TEXT, *_TEXT, *_ERROR), ctypes.c_int64),
     "fits_models": ((*_TEXT, *_TEXT, *_ERROR), ctypes.c_int64),
+    "whole_canonical_length": ((*_MODEL, *_TEXT, *_ERROR), ctypes.c_int64),
+    "whole_canonical": ((*_MODEL, *_TEXT, *_TEXT, *_ERROR), ctypes.c_int64),
+    "whole_same": ((*_MODEL, *_TEXT, *_TEXT, *_ERROR), ctypes.c_int64),
+    "whole_same_models": ((*_TEXT, *_TEXT, *_ERROR), ctypes.c_int64),
+    "whole_compare": (
+        (*_MODEL, *_TEXT, *_TEXT, *_TEXT, ctypes.POINTER(_Comparison), *_ERROR),
+        ctypes.c_int64,
+    ),
     "directives": (
         (*_MODEL, *_TEXT, ctypes.POINTER(_Directive), ctypes.c_size_t, *_ERROR),
         ctypes.c_int64,
@@ -323,6 +271,11 @@ def _library() -> ctypes.CDLL:
     if found[:2] != _VERSION:
         raise ImportError(f"{name} has the version {'.'.join(map(str, found))}, which isn't known")
     return library
+
+
+def _call(name: str, whole: bool) -> Any:
+    """Returns a call of the library, or its counterpart for the whole language."""
+    return getattr(_library(), f"fmtcanon_{'whole_' if whole else ''}{name}")
 
 
 def _parts(version: int) -> Tuple[int, int, int]:
@@ -375,16 +328,16 @@ def is_canonical(format: Format, *, model: DataModel = Model.LP64) -> bool:
     return _answer(_library().fmtcanon_is_canonical(model_of(model), text, len(text), error), error) == 1
 
 
-def canonical(format: _Text, *, model: DataModel = Model.LP64) -> _Text:
+def canonical(format: _Text, *, model: DataModel = Model.LP64, whole: bool = False) -> _Text:
     """Returns the canonical text: a `str` if the format is one, otherwise bytes.
 
     Two formats have the same canonical text exactly if they take arguments of the same types and print the same
-    bytes for all of them.
+    bytes for all of them. With `whole`, the format may be of the whole language without numbered arguments.
     """
     text, error, number = _bytes(format), _Error(), model_of(model)
-    size = _answer(_library().fmtcanon_canonical_length(number, text, len(text), error), error)
+    size = _answer(_call("canonical_length", whole)(number, text, len(text), error), error)
     out = ctypes.create_string_buffer(size + 1)
-    _answer(_library().fmtcanon_canonical(number, text, len(text), out, len(out), error), error)
+    _answer(_call("canonical", whole)(number, text, len(text), out, len(out), error), error)
     # Bytes that print themselves stay as they are, so UTF-8 stays UTF-8.
     return out.raw[:size].decode() if isinstance(format, str) else out.raw[:size]
 
@@ -458,37 +411,44 @@ def _index(argument: int) -> Optional[int]:
     return None if argument == _NO_ARGUMENT else argument
 
 
-def same(first: Format, second: Format, *, model: DataModel = Model.LP64) -> bool:
-    """Returns whether two formats take the same types and print the same bytes for all arguments."""
+def same(first: Format, second: Format, *, model: DataModel = Model.LP64, whole: bool = False) -> bool:
+    """Returns whether two formats take the same types and print the same bytes for all arguments.
+
+    With `whole`, they also make the same calls. A C library may print the same for calls that differ.
+    """
     f, g, error = _bytes(first), _bytes(second), _Error()
-    result = _library().fmtcanon_same(model_of(model), f, len(f), g, len(g), error)
+    result = _call("same", whole)(model_of(model), f, len(f), g, len(g), error)
     return _answer(result, error) == 1
 
 
-def same_in(first: Format, second: Format) -> List[Model]:
+def same_in(first: Format, second: Format, *, whole: bool = False) -> List[Model]:
     """Returns the data models in which two formats are the same, LP64 first."""
     f, g, error = _bytes(first), _bytes(second), _Error()
-    found = _answer(_library().fmtcanon_same_models(f, len(f), g, len(g), error), error)
+    found = _answer(_call("same_models", whole)(f, len(f), g, len(g), error), error)
     return _models(found)
 
 
-def _argument(word: bytes) -> Union[int, bytes]:
+def _argument(word: bytes) -> Union[int, bytes, None]:
+    if word == b"any":
+        return None
     return int(word[2:]) if word.startswith(b"n:") else word[2:]
 
 
-def compare(first: Format, second: Format, *, model: DataModel = Model.LP64) -> Comparison:
+def compare(first: Format, second: Format, *, model: DataModel = Model.LP64, whole: bool = False) -> Comparison:
     """Returns how two formats compare, with arguments that they print differently."""
     f, g, answer = _bytes(first), _bytes(second), _Comparison()
 
     def call(*arguments: Any) -> int:
         *texts, out, room, error = arguments
-        size: int = _library().fmtcanon_compare(*texts, out, room, answer, error)
+        size: int = _call("compare", whole)(*texts, out, room, answer, error)
         return size
 
     words = _filled(call, 4096, model_of(model), f, len(f), g, len(g))
     verdict = Verdict(answer.verdict)
     if verdict is Verdict.TYPES:
         return Comparison(verdict, types_differ_at=answer.number)
+    if verdict is Verdict.DIRECTIVES:
+        return Comparison(verdict, directives_differ_at=answer.number)
     if verdict is Verdict.DIFFERENT:
         return Comparison(verdict, arguments=tuple(map(_argument, words.split(b"\0")[:-1])))
     return Comparison(verdict)

@@ -1,14 +1,12 @@
 """Asks how two formats compare in a data model, and where a format takes an argument.
 
-All that is asked of the library about a pair is asked here: its comparison, of the whole language if it has that and
-otherwise of the profile, and `fits` for the types of what the comparison rejects.
+All that is asked of the library about a pair is asked here: its comparison in the whole language, and `fits` for the
+types of formats with numbered arguments, which the comparison rejects.
 """
 
 import enum
-import functools
-import inspect
 import re
-from typing import Any, AnyStr, Callable, List, NamedTuple, Optional, Sequence, Tuple, Union
+from typing import Any, AnyStr, List, NamedTuple, Optional, Sequence, Tuple, Union
 
 import fmtcanon
 from fmtcanon import Model
@@ -89,23 +87,12 @@ def narrowed(old: bytes, new: bytes) -> Tuple[int, int]:
     return front, max(len(back) - 1, 0)
 
 
-def of_whole_language(call: Callable[..., Any]) -> Any:
-    """Returns a call of the module, for the whole language if it offers that."""
-    is_whole = "whole" in inspect.signature(call).parameters
-    return functools.partial(call, whole=True) if is_whole else call
-
-
 class Library:
     """The questions to the library, each with the answer for bytes in a data model."""
 
-    @functools.cached_property
-    def compare(self) -> Any:
-        return of_whole_language(fmtcanon.compare)
-
-    @functools.cached_property
-    def canonical(self) -> Any:
-        """Returns the canonical text of a format, as bytes. Raises `Refused`."""
-        return of_whole_language(fmtcanon.canonical)
+    def canonical(self, text: bytes, model: Model) -> bytes:
+        """Returns the canonical text of a format. Raises `Refused`."""
+        return fmtcanon.canonical(text, model=model, whole=True)
 
     def verdict(self, old: bytes, new: bytes, model: Model) -> Verdict:
         try:
@@ -115,10 +102,10 @@ class Library:
 
     def compared(self, old: bytes, new: bytes, model: Model) -> Verdict:
         """Returns the verdict. Raises `Refused` for a format that the comparison rejects."""
-        found = self.compare(old, new, model=model)
-        at = (found.types_differ_at, getattr(found, "directives_differ_at", None))
+        found = fmtcanon.compare(old, new, model=model, whole=True)
+        at = (found.types_differ_at, found.directives_differ_at)
         index = next((it for it in at if it is not None), 0)
-        return Verdict(Kind[found.verdict.name], at=index, arguments=tuple(found.arguments or ()))
+        return Verdict(Kind[found.verdict.name], at=index, arguments=found.arguments or ())
 
     def by_types(self, old: bytes, new: bytes, model: Model, refusal: fmtcanon.Refused) -> Verdict:
         """Returns the verdict on formats of which the comparison rejects one: only their types can be judged."""

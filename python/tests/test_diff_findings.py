@@ -11,40 +11,16 @@ from fmtcanon.diff.judging import RULES, judge
 from fmtcanon.diff.literals import Source
 from fmtcanon.diff.pairing import paired
 from fmtcanon.findings import ERROR, NOTE, TYPE_NAMES, WARNING, Finding, Printer
-from fmtcanon.verdicts import Kind, Library, Span, Verdict, narrowed, profile, shortened, specifications
+from fmtcanon.verdicts import Kind, Library, Span, narrowed, profile, shortened, specifications
 
 ALL = list(Model)
 
 
-class Table(Library):
-    """The comparison of the whole language for some pairs, by a table: what is in it is answered in every data model."""
-
-    VERDICTS = {
-        (b"%f and %05d %p", b"%f and %.5d %p"): Verdict(Kind.DIFFERENT, arguments=(None, -1, None)),
-        (b"%f%05d%p", b"%f%.5d%p"): Verdict(Kind.DIFFERENT, arguments=(None, -1, None)),
-        (b"%*d", b"%*i"): Verdict(Kind.SAME),
-        (b"%.6f", b"%f"): Verdict(Kind.SAME),
-        (b"%d %f", b"%d %e"): Verdict(Kind.DIRECTIVES, at=1),
-        (b"%*d %s", b"%d%d %s"): Verdict(Kind.DIRECTIVES, at=0),
-        (b"%f km", b"%f miles"): Verdict(Kind.DIFFERENT, arguments=(None,)),
-        (b"%f", b"%f"): Verdict(Kind.SAME),
-        (b"%f ", b"%e "): Verdict(Kind.DIRECTIVES, at=0),
-        (b"%f and %d", b"%f and %s"): Verdict(Kind.TYPES, at=1),
-    }
-
-    def verdict(self, old, new, model):
-        return self.VERDICTS[old, new]
-
-    def printed(self, text, arguments, model):
-        plain, given = profile(text, arguments, model)
-        return {b"%s and %05d %s": b"%f and -0001 %p", b"%s and %.5d %s": b"%f and -00001 %p"}[plain] if given == [b"%f", -1, b"%p"] else None
-
-
-def finding(old, new, library=None, models=ALL, call="f(%s, x);"):
+def finding(old, new, models=ALL, call="f(%s, x);"):
     """The finding on the one pair of two sources of a call."""
     sources = [Source((call % it).encode()) for it in (old, new)]
     [pair] = paired(*sources).changed
-    return judge(library or Library(), "a.c", pair, models)
+    return judge(Library(), "a.c", pair, models)
 
 
 # The literals of an old and a new place, the kind and the message, and the data models in which that holds.
@@ -79,6 +55,10 @@ WHOLE = [
     ('"%*d"', '"%*i"', "same", 'same: "%*d" and "%*i"'),
     ('"%f km"', '"%f miles"', "different", 'the words differ: "%f km" and "%f miles"'),
     ('"%f and %d"', '"%f and %s"', "types", "types differ at argument 1: int and string"),
+    ('"%.2f"', '"%.3f"', "directives", 'directives differ at argument 0: "%.2f" and "%.3f"'),
+    ('"%f at %p"', '"%.6lf at %p"', "same", 'same: "%f at %p" and "%.6lf at %p"'),
+    ('"%jn"', '"%ln"', "types", 'same in lp64 only: "%jn" and "%ln"'),
+    ('"%2$s %1$f"', '"%2$s  %1$f"', "unjudged", 'not judged: refused 6 Numbered at byte 2 of "%2$s %1$f"'),
 ]
 FOUND = Finding("a b.c", 3, 7, "types", ERROR, 'types: 100% "%d", a', (3, 12), ("%d", "%s"), ("lp64", "llp64"), {"old": "%d", "new": "%s"})
 
@@ -101,7 +81,7 @@ class Judging(unittest.TestCase):
 
     def test_whole_language(self):
         for old, new, kind, message in WHOLE:
-            found = finding(old, new, Table())
+            found = finding(old, new)
             self.assertEqual((found.kind, found.message), (kind, message), (old, new))
 
     def test_models(self):
@@ -167,7 +147,7 @@ class Judging(unittest.TestCase):
 
     def test_long_of_whole_language(self):
         front = "%d x" * 5_000
-        found = finding(f'"{front}%f "', f'"{front}%e "', Table()).message
+        found = finding(f'"{front}%f "', f'"{front}%e "').message
         self.assertEqual(found, 'directives differ at argument 5000: "%f" and "%e"')
 
     def test_bytes(self):

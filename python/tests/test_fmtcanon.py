@@ -60,14 +60,38 @@ class Calls(unittest.TestCase):
         self.assertEqual(fmtcanon.fits_in("%d", "%s"), [])
 
     def test_compare(self):
-        self.assertEqual(fmtcanon.compare("%i", "%d"), (Verdict.SAME, None, None))
-        self.assertEqual(fmtcanon.compare("%d%s", "%d"), (Verdict.TYPES, 1, None))
+        self.assertEqual(fmtcanon.compare("%i", "%d"), (Verdict.SAME, None, None, None))
+        self.assertEqual(fmtcanon.compare("%d%s", "%d"), (Verdict.TYPES, 1, None, None))
         self.assertEqual(fmtcanon.compare("%05d%s", "%.5d%s").arguments, (-1, b""))
-        self.assertEqual(fmtcanon.compare("a", "b"), (Verdict.DIFFERENT, None, ()))
+        self.assertEqual(fmtcanon.compare("a", "b"), (Verdict.DIFFERENT, None, (), None))
         # The words are longer than the first buffer.
         self.assertEqual(fmtcanon.compare("%s", "%.4095s").arguments, (b"A" * 4096,))
         many = fmtcanon.compare("%d" * 3000 + "a", "%d" * 3000 + "b")
         self.assertEqual(many.arguments, (0,) * 3000)
+
+    def test_whole_language(self):
+        self.assertEqual(fmtcanon.canonical("%i: %-08.6lf (%5c)", whole=True), "%d: %-8f (    %c)")
+        self.assertEqual(fmtcanon.canonical(b"\xff%C%i", whole=True), b"\xff%lc%d")
+        self.assertEqual(fmtcanon.canonical("%zn", model="ilp32", whole=True), "%n")
+        self.assertEqual(fmtcanon.canonical("%i", whole=True), "%d")
+        self.assertTrue(fmtcanon.same("%.6f%%%i", "%f%%%d", whole=True))
+        self.assertFalse(fmtcanon.same("%1f", "%f", whole=True))
+        self.assertEqual(fmtcanon.same_in("%zn", b"%ln", whole=True), [Model.LP64])
+        self.assertEqual(fmtcanon.same_in("%f", "%lf", whole=True), list(Model))
+        self.assertEqual(fmtcanon.compare("%f%i", "%.6f%d", whole=True), (Verdict.SAME, None, None, None))
+        self.assertEqual(fmtcanon.compare("%f%d", "%f%s", whole=True), (Verdict.TYPES, 1, None, None))
+        self.assertEqual(fmtcanon.compare("%d%f", "%d%e", whole=True), (Verdict.DIRECTIVES, None, None, 1))
+        self.assertEqual(fmtcanon.compare("%*d", "%d%d", whole=True).directives_differ_at, 0)
+        self.assertEqual(fmtcanon.compare("%f%05d%p", "%f%.5d%p", whole=True).arguments, (None, -1, None))
+        self.assertEqual(fmtcanon.compare("%5.0s%f", "%.0s%f", whole=True).arguments, (b"", None))
+        # The word of a string may look like that of an argument that may be any.
+        self.assertEqual(fmtcanon.compare("%f%s", "%f%.4095s", whole=True).arguments, (None, b"A" * 4096))
+        for call in [fmtcanon.canonical, fmtcanon.same, fmtcanon.same_in, fmtcanon.compare]:
+            formats = ["%f"] if call is fmtcanon.canonical else ["%f", "%f"]
+            with self.assertRaises(Refused):
+                call(*formats)
+            with self.assertRaises(Refused):
+                call(*formats, whole=False)
 
     def test_format(self):
         self.assertEqual(fmtcanon.format("%-8s|%+05d|%#x", "ab", 42, 255), b"ab      |+0042|0xff")
@@ -138,8 +162,11 @@ class Calls(unittest.TestCase):
                 with self.assertRaises(ValueError):
                     call("%d", model=wrong)
             for call in [fmtcanon.same, fmtcanon.compare]:
-                with self.assertRaises(ValueError):
-                    call("%d", "%d", model=wrong)
+                for whole in [False, True]:
+                    with self.assertRaises(ValueError):
+                        call("%d", "%d", model=wrong, whole=whole)
+            with self.assertRaises(ValueError):
+                fmtcanon.canonical("%f", model=wrong, whole=True)
         self.assertEqual(fmtcanon.types("%zu", model=1), [Type.UINT])
         self.assertEqual(fmtcanon.types("%zu", model="ilp32"), [Type.UINT])
         self.assertEqual(fmtcanon.canonical("%zu", model="lp64"), "%lu")
@@ -175,6 +202,13 @@ class Refusals(unittest.TestCase):
         for call in [fmtcanon.same, fmtcanon.same_in, fmtcanon.compare]:
             self.assertEqual(self.refused(call, "%d", "%y").side, 1)
             self.assertEqual(self.refused(call, "%f", "%y").side, 0)
+
+    def test_whole_language(self):
+        refusal = self.refused(lambda text: fmtcanon.canonical(text, whole=True), "%f %1$d")
+        self.assertEqual((refusal.kind, refusal.byte, refusal.side), (Kind.NUMBERED, 5, 0))
+        for call in [fmtcanon.same, fmtcanon.same_in, fmtcanon.compare]:
+            refusal = self.refused(lambda *formats, call=call: call(*formats, whole=True), "%*f", "%*1$d")
+            self.assertEqual((refusal.kind, refusal.byte, refusal.side), (Kind.MIXED, 2, 1))
 
     def test_refused_in_one_data_model(self):
         refusal = self.refused(fmtcanon.fits_in, "%lu", "%1$zu %1$lu")

@@ -14,20 +14,21 @@
 
 enum call {
     CHECK, IS_CANONICAL, CANONICAL_LENGTH, CANONICAL, TYPES, SAME, SAME_MODELS, COMPARE, ARGUMENTS, FITS, FITS_MODELS,
-    DIRECTIVES, DECODE, ENCODE, SOURCE_OFFSET, KIND_NAME, CALLS
+    WHOLE_CANONICAL, WHOLE_LENGTH, WHOLE_SAME, WHOLE_MODELS, WHOLE_COMPARE, DIRECTIVES, DECODE, ENCODE, SOURCE_OFFSET, KIND_NAME,
+    CALLS
 };
 enum { SIZE = 32768 };
 
 static const char *const NAMES[CALLS] = {
     "check", "is_canonical", "canonical_length", "canonical", "types", "same", "same_models", "compare", "arguments", "fits",
-    "fits_models", "directives", "decode_literal", "encode_literal", "source_offset", "kind_name"};
+    "fits_models", "whole_canonical", "whole_canonical_length", "whole_same", "whole_same_models", "whole_compare", "directives", "decode_literal", "encode_literal", "source_offset", "kind_name"};
 #define TEN "%d%d%d%d%d%d%d%d%d%d"
 static const struct {
     const char *first, *second;
 } TEXTS[] = {
     {"", ""}, {"%i", "%d"}, {"%zi", "%d"}, {"a", "b"}, {TEN "%4095d%s", TEN "%.4095d%s"}, {TEN "%s", TEN "%.4095s"},
     {TEN "%d", TEN "%s"}, {TEN "%y", "%d"}, {TEN, TEN "%y"}, {"%*d", "%y"}, {"%2$s%1$d", "%d%s"}, {"%*.*f%ls", "%d%d%f%s"},
-    {TEN "%1$d", "%d"}, {TEN TEN "%5n", "%n"}, {"%2$d", "%d%2$d"}, {"%1$d%1$s", "%1$d%1$d"}, {"\"%d\\n\" \"\\11\"", "x"},
+    {TEN "%1$d", "%d"}, {"%f" TEN "%d%.6f%s", "%.6f" TEN "%5d%f%s"}, {"%*d%i%f", "%*d%d%e"}, {"%zn%.0f", "%ln%.f"}, {TEN TEN "%5n", "%n"}, {"%2$d", "%d%2$d"}, {"%1$d%1$s", "%1$d%1$d"}, {"\"%d\\n\" \"\\11\"", "x"},
     {"\"aaaaaaaaaaaaaaaa\\q\"", "\"\""}, {"\"a", "\"\\x100\""}, {"\"a?" "?=\"", "\"\\0\""}, {"\t\"?" "?=\1", "\377"}};
 static const int MODELS[] = {FMTCANON_LP64, FMTCANON_ILP32, FMTCANON_LLP64, 3};
 static const size_t ROOMS[] = {0, 1, 2, 9, 2 * sizeof(fmtcanon_directive), SIZE / 2};
@@ -121,6 +122,11 @@ static int64_t made(const struct given *g)
     case ARGUMENTS: return fmtcanon_arguments(g->model, f, n, bytes, g->cap, g->error);
     case FITS: return fmtcanon_fits(g->model, f, n, s, m, g->error);
     case FITS_MODELS: return fmtcanon_fits_models(f, n, s, m, g->error);
+    case WHOLE_CANONICAL: return fmtcanon_whole_canonical(g->model, f, n, g->out, g->cap, g->error);
+    case WHOLE_LENGTH: return fmtcanon_whole_canonical_length(g->model, f, n, g->error);
+    case WHOLE_SAME: return fmtcanon_whole_same(g->model, f, n, s, m, g->error);
+    case WHOLE_MODELS: return fmtcanon_whole_same_models(f, n, s, m, g->error);
+    case WHOLE_COMPARE: return fmtcanon_whole_compare(g->model, f, n, s, m, g->out, g->cap, g->found, g->error);
     case DIRECTIVES: return fmtcanon_directives(g->model, f, n, last_records(g), records(g), g->error);
     case DECODE: return fmtcanon_decode_literal(f, n, g->out, g->cap, g->error);
     case ENCODE: return fmtcanon_encode_literal(f, n, g->out, g->cap);
@@ -132,7 +138,7 @@ static int64_t made(const struct given *g)
 /* Whether an answer of `result` bytes or records has room: a text has a NUL byte after it. */
 static int has_room(const struct given *g, int64_t result)
 {
-    int is_text = g->call == CANONICAL || g->call == DECODE || g->call == ENCODE || g->call == KIND_NAME;
+    int is_text = g->call == CANONICAL || g->call == WHOLE_CANONICAL || g->call == DECODE || g->call == ENCODE || g->call == KIND_NAME;
     if (g->call == DIRECTIVES) return result >= 0 && (uint64_t)result <= records(g);
     return result >= 0 && (uint64_t)result + (is_text ? 1 : 0) <= g->cap;
 }

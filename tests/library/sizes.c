@@ -180,6 +180,39 @@ static void fits(void)
     WANT(fmtcanon_fits(LP64, first, first_len, second, second_len, &error) == 0 && growths == 0);
 }
 
+/* A stretch and a directive that the profile lacks, in turn. */
+static void whole_canonical(void)
+{
+    one("", "%i%lf", "");
+    WANT(fmtcanon_whole_canonical_length(LP64, first, first_len, &error) == (int64_t)(4 * units) && growths == 0);
+    WANT(fmtcanon_whole_canonical(LP64, first, first_len, out, room, &error) == (int64_t)(4 * units));
+    WANT(is_repeated(out, "%d%f", units) && out[4 * units] == 0 && growths == 1);
+    one("", "%i%lf", "%y");
+    WANT(fmtcanon_whole_canonical(LP64, first, first_len, out, room, &error) == -FMTCANON_UNEXPECTED);
+    WANT(error.at == 5 * units + 1 && growths == 1);
+}
+
+static void whole_same(void)
+{
+    two("%i%lf", "", "%d%f", "");
+    WANT(fmtcanon_whole_same(LP64, first, first_len, second, second_len, &error) == 1);
+    WANT(fmtcanon_whole_same_models(first, first_len, second, second_len, &error) == FMTCANON_IN_ALL);
+    WANT(fmtcanon_whole_compare(LP64, first, first_len, second, second_len, out, room, &found, &error) == 0);
+    WANT(found.verdict == FMTCANON_SAME && growths == 0);
+    two("%i%lf", "%e", "%d%f", "%f");
+    WANT(fmtcanon_whole_compare(LP64, first, first_len, second, second_len, out, room, &found, &error) == 0);
+    WANT(found.verdict == FMTCANON_DIRECTIVES && found.number == 2 * units && growths == 0);
+}
+
+static void whole_compare_last(void)
+{
+    two("%i%lf", "%05d", "%d%f", "%.5d");
+    WANT(fmtcanon_whole_compare(LP64, first, first_len, second, second_len, out, room, &found, &error) == (int64_t)(8 * units + 5));
+    WANT(found.verdict == FMTCANON_DIFFERENT && found.number == 2 * units + 1);
+    for (size_t k = 0; k < units; k++) WANT(!memcmp(out + 8 * k, "n:0\0any", 8));
+    WANT(!memcmp(out + 8 * units, "n:-1", 5));
+}
+
 static void decode(void)
 {
     one("\"", "\\11", "\"");
@@ -210,7 +243,8 @@ static const struct {
 } ROWS[] = {
     {"check", check}, {"refused", refused}, {"is_canonical", is_canonical}, {"canonical_length", canonical_length},
     {"canonical", canonical}, {"types", types}, {"same", same}, {"compare", compare}, {"compare_last", compare_last},
-    {"arguments", arguments}, {"fits", fits}, {"decode_literal", decode}, {"encode_literal", encode}, {"source_offset", source_offset},
+    {"arguments", arguments}, {"fits", fits}, {"whole_canonical", whole_canonical}, {"whole_same", whole_same},
+    {"whole_compare_last", whole_compare_last}, {"decode_literal", decode}, {"encode_literal", encode}, {"source_offset", source_offset},
 };
 
 static void make_room(void)

@@ -1,19 +1,21 @@
 -- What holds of the bytes of a format that is given.
-use Rattle.std.proofs.Common.{◌≡◌, ℕ, ◌≤◌, List, Option, None, Some, ap, arith, length, length-append, subst, sym, unwrap_or}
+use Rattle.std.proofs.Common.{◌≡◌, ℕ, ◌≤◌, List, ◌∷◌, ◌++◌, Option, None, Some, ap, arith, length, length-append, subst, sym, unwrap_or}
 use Rattle.std.specs.Prelude.{MatchOption, ⊤}
 use Rattle.pf_canon.specs.declared.faults.Side.TheVariants as sides
 use Rattle.pf_literals.specs.Answers.{HasNoPlace, IsPlaceOf}
 use Rattle.pf_literals.specs.Sources.{IsSourceOf}
 use Rattle.pf_literals.proofs.HasPlaceLemmas.{has_place}
 use Rattle.pf_signatures.specs.declared.refusals.SignatureRefusalKind.{SignatureRefusalKind}
-use Rattle.pf_signatures.specs.Refusals as whole
+use Rattle.pf_signatures.specs.declared.refusals.SignatureRefusalKind.TheVariants as kinds
+use Rattle.pf_signatures.specs.Refusals.{IsPosixRefusedAt}
+use Rattle.pf_signatures.specs.Unnumbered.{IsNumberedAt, IsWholeRefusedAt}
 use Rattle.pf_values.specs.declared.models.Model.{Model}
 use Rattle.pf_values.specs.declared.refusals.RefusalKind.{RefusalKind}
 use Rattle.pf_values.specs.meaning.Items.{IsAccepted}
 use Rattle.pf_values.specs.meaning.Refusals.{IsRefusedAt}
-use Rattle.pf_values.specs.meaning.Text.{Text}
-use Rattle.pf_signatures.specs.Items.{IsPosixAccepted}
-use Rattle.fmtcanon.specs.Answers.{IsFitFault, IsFormatFault, IsPairFault, IsGivenFault, IsGivenPairFault, IsWholeFault, IsFaultInTexts, IsFaultInText, side_of}
+use Rattle.pf_values.specs.meaning.Text.{Text, dollar, percent}
+use Rattle.fmtcanon.specs.Languages.{AcceptsText, Language, Numbered, RefusesText, Unnumbered}
+use Rattle.fmtcanon.specs.Answers.{IsFormatFault, IsPairFault, IsGivenFault, IsGivenPairFault, IsWholeFault, IsWholePairFault, IsFaultInTexts, IsFaultInText, side_of}
 use Rattle.fmtcanon.specs.FormatArguments.{IsArgumentFault}
 use Rattle.fmtcanon.specs.Formats.{HoldsFormat, IsFormat, IsPlaceInText}
 use Rattle.fmtcanon.specs.declared.outcome.Fault.{Fault}
@@ -28,12 +30,28 @@ refused_within bytes kind at h =
     let both = length-append h.front h.rest in
     omega (arith, place, split, both)
 
-whole_within : (model : Model) (bytes : Text) (kind : SignatureRefusalKind) (at : ℕ) → whole.IsPosixRefusedAt model bytes kind at → at ≤ length bytes
-whole_within model bytes kind at h =
+posix_within : (model : Model) (bytes : Text) (kind : SignatureRefusalKind) (at : ℕ) → IsPosixRefusedAt model bytes kind at → at ≤ length bytes
+posix_within model bytes kind at h =
     let place = h.place in
     let split = ap length h.split in
     let both = length-append h.front h.rest in
     omega (arith, place, split, both)
+
+numbered_within : (bytes : Text) (at : ℕ) → IsNumberedAt bytes at → at ≤ length bytes
+numbered_within bytes at h =
+    let front = h.whole ++ percent ∷ h.digits in
+    let place = h.place in
+    let split = ap length h.split in
+    let both = length-append front (dollar ∷ h.rest) in
+    omega (arith, place, split, both)
+
+unnumbered_within : (model : Model) (bytes : Text) (kind : SignatureRefusalKind) (at : ℕ) → IsWholeRefusedAt model bytes kind at → at ≤ length bytes
+unnumbered_within model bytes kinds.Numbered at h = numbered_within bytes at h.0
+unnumbered_within model bytes kind at h = posix_within model bytes kind at h.0
+
+whole_within : (language : Language) (model : Model) (bytes : Text) (kind : SignatureRefusalKind) (at : ℕ) → RefusesText language model bytes kind at → at ≤ length bytes
+whole_within Numbered model bytes kind at h = posix_within model bytes kind at h
+whole_within Unnumbered model bytes kind at h = unnumbered_within model bytes kind at h
 
 place_there : (text bytes : Text) (index : ℕ) (found : Option ℕ) → MatchOption found (HasNoPlace text index) (IsPlaceOf text index) → IsSourceOf text bytes → index ≤ length bytes
     → IsPlaceOf text index (unwrap_or found index)
@@ -86,15 +104,15 @@ format_of_bytes bytes (WrongCount wanted given) h = tt
 format_of_bytes bytes (WrongType index) h = tt
 format_of_bytes bytes Memory h = tt
 
-pub whole_of_bytes : (model : Model) (bytes : Text) (fault : Fault) → IsWholeFault model bytes fault → IsOfBytes bytes fault
-whole_of_bytes model bytes (Refused side refusal) h = absurd h
-whole_of_bytes model bytes (RefusedWhole None refusal) h = whole_within model bytes refusal.kind refusal.at h
-whole_of_bytes model bytes (RefusedWhole (Some side) refusal) h = h
-whole_of_bytes model bytes (BadLiteral side refusal) h = h
-whole_of_bytes model bytes (BadWord index) h = tt
-whole_of_bytes model bytes (WrongCount wanted given) h = tt
-whole_of_bytes model bytes (WrongType index) h = tt
-whole_of_bytes model bytes Memory h = tt
+pub whole_of_bytes : (language : Language) (model : Model) (bytes : Text) (fault : Fault) → IsWholeFault language model bytes fault → IsOfBytes bytes fault
+whole_of_bytes language model bytes (Refused side refusal) h = absurd h
+whole_of_bytes language model bytes (RefusedWhole None refusal) h = whole_within language model bytes refusal.kind refusal.at h
+whole_of_bytes language model bytes (RefusedWhole (Some side) refusal) h = h
+whole_of_bytes language model bytes (BadLiteral side refusal) h = h
+whole_of_bytes language model bytes (BadWord index) h = tt
+whole_of_bytes language model bytes (WrongCount wanted given) h = tt
+whole_of_bytes language model bytes (WrongType index) h = tt
+whole_of_bytes language model bytes Memory h = tt
 
 pub arguments_of_bytes : (model : Model) (words : List Text) (bytes : Text) (fault : Fault) → IsArgumentFault model bytes words fault → IsOfBytes bytes fault
 arguments_of_bytes model words bytes (Refused None refusal) h = refused_within bytes refusal.kind refusal.at h
@@ -121,17 +139,17 @@ module _ (first second : GivenFormat) (one other : Text) (g : IsFormat first one
   pair_fault (WrongType index) reported hinders is = absurd hinders
   pair_fault Memory reported hinders is = subst (IsGivenPairFault IsFormatFault IsAccepted first second) (sym is) tt
 
-  -- the same of the whole language
-  pub fit_fault : (model : Model) (fault reported : Fault) → IsFitFault model one other fault → IsFaultInTexts first second (side_of fault) fault reported
-      → IsGivenPairFault (IsWholeFault model) (IsPosixAccepted model) first second reported
-  fit_fault model (RefusedWhole None refusal) reported hinders is = absurd hinders
-  fit_fault model (RefusedWhole (Some sides.First) refusal) reported hinders (at, is, of_place) =
-      subst (IsGivenPairFault (IsWholeFault model) (IsPosixAccepted model) first second) (sym is) (record { bytes = one; gives = g; at = refusal.at; holds = hinders; place_is = of_place one g (whole_within model one refusal.kind refusal.at hinders) })
-  fit_fault model (RefusedWhole (Some sides.Second) refusal) reported hinders (at, is, of_place) =
-      subst (IsGivenPairFault (IsWholeFault model) (IsPosixAccepted model) first second) (sym is) ((one, g, hinders.0), record { bytes = other; gives = h; at = refusal.at; holds = hinders.1; place_is = of_place other h (whole_within model other refusal.kind refusal.at hinders.1) })
-  fit_fault model (Refused side refusal) reported hinders is = absurd hinders
-  fit_fault model (BadLiteral side refusal) reported hinders is = absurd hinders
-  fit_fault model (BadWord index) reported hinders is = absurd hinders
-  fit_fault model (WrongCount wanted given) reported hinders is = absurd hinders
-  fit_fault model (WrongType index) reported hinders is = absurd hinders
-  fit_fault model Memory reported hinders is = subst (IsGivenPairFault (IsWholeFault model) (IsPosixAccepted model) first second) (sym is) tt
+  -- why two formats of the whole language have none
+  pub whole_pair_fault : (language : Language) (model : Model) (fault reported : Fault) → IsWholePairFault language model one other fault → IsFaultInTexts first second (side_of fault) fault reported
+      → IsGivenPairFault (IsWholeFault language model) (AcceptsText language model) first second reported
+  whole_pair_fault language model (RefusedWhole None refusal) reported hinders is = absurd hinders
+  whole_pair_fault language model (RefusedWhole (Some sides.First) refusal) reported hinders (at, is, of_place) =
+      subst (IsGivenPairFault (IsWholeFault language model) (AcceptsText language model) first second) (sym is) (record { bytes = one; gives = g; at = refusal.at; holds = hinders; place_is = of_place one g (whole_within language model one refusal.kind refusal.at hinders) })
+  whole_pair_fault language model (RefusedWhole (Some sides.Second) refusal) reported hinders (at, is, of_place) =
+      subst (IsGivenPairFault (IsWholeFault language model) (AcceptsText language model) first second) (sym is) ((one, g, hinders.0), record { bytes = other; gives = h; at = refusal.at; holds = hinders.1; place_is = of_place other h (whole_within language model other refusal.kind refusal.at hinders.1) })
+  whole_pair_fault language model (Refused side refusal) reported hinders is = absurd hinders
+  whole_pair_fault language model (BadLiteral side refusal) reported hinders is = absurd hinders
+  whole_pair_fault language model (BadWord index) reported hinders is = absurd hinders
+  whole_pair_fault language model (WrongCount wanted given) reported hinders is = absurd hinders
+  whole_pair_fault language model (WrongType index) reported hinders is = absurd hinders
+  whole_pair_fault language model Memory reported hinders is = subst (IsGivenPairFault (IsWholeFault language model) (AcceptsText language model) first second) (sym is) tt

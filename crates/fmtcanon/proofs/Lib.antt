@@ -18,4 +18,4 @@ mod RecordEnds
 mod RecordSteps
 mod RecordTexts
 mod RecordLemmas
-mod FitLemmas
+mod PairLemmas

@@ -7,7 +7,7 @@ use Rattle.pf_values.specs.declared.counted.Counted.{Counted}
 use Rattle.pf_values.specs.Counting.{Known, device_of, failures_of, is_flushed}
 use Rattle.pf_values.specs.meaning.Text.{Text}
 use Rattle.fmtcanon.specs.Conversations.{HasAnswered, HasCome, HasReplies, HasRepliedTo, RecordsFinish, RecordsEndEarly, waiting_text}
-use Rattle.fmtcanon.specs.Records.{IsRecords, RecordsEnd, ReadFails, last_record}
+use Rattle.fmtcanon.specs.Records.{AllReplied, IsRecords, RecordsEnd, ReadFails, last_record}
 use Rattle.fmtcanon.specs.declared.outcome.Outcome.{Outcome}
 use Rattle.fmtcanon.specs.declared.outcome.Outcome.TheVariants as outcomes
 use Rattle.fmtcanon.specs.declared.task.RecordQuestion.{RecordQuestion}
@@ -51,6 +51,11 @@ module _ (kind : RecordQuestion) {R W : Type 0} (remaining : R → Known) (conte
   left_at_end well end (outcomes.WrongType index) h = absurd h
   left_at_end well end (outcomes.Usage text) h = absurd h
   left_at_end well end outcomes.Read h = absurd h
+
+  -- nothing waited, so the input is ready
+  pub left_ready : failures_of left ≡ failures_of reader → (c : Conversation) → HasRepliedTo kind contents c old new whole rest → waiting_text c.replies ≡ [] → is_flushed new ≡ true → AllReplied kind remaining contents reader left old new
+  left_ready well c h none flushed =
+      (whole, rest, h.first, c.replies.greatest, (taken, cut, took), well, h.come.few, out_all kind contents old new whole h.replies h.first h.are c.replies c.replies.greatest h.said none flushed refl)
 
   -- a read failed, and nothing waited
   pub left_read : ReadFails kind remaining contents reader left old new → (c : Conversation) → HasRepliedTo kind contents c old new whole rest → waiting_text c.replies ≡ [] → is_flushed new ≡ true → RecordsEnd kind remaining contents reader left old new outcomes.Read

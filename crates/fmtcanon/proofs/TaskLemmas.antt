@@ -8,7 +8,7 @@ use Rattle.fmtcanon.specs.Questions.{formats_of, formats_wanted}
 use Rattle.fmtcanon.specs.Models.{model_in, models_in}
 use Rattle.fmtcanon.specs.Tasks.{Asks, AsksOther, IsAsked, IsAskedOf, IsMisplaced, IsNoTaskOf, IsNoTaskOn, IsQuestion, IsTaskOn, Names, formats_given, formats_in, is_whole, notation_in}
 use Rattle.fmtcanon.specs.declared.task.Question.{Question}
-use Rattle.fmtcanon.specs.declared.task.Question.TheVariants.{Types, Arguments, Canon, Show, Format, Fits, Same}
+use Rattle.fmtcanon.specs.declared.task.Question.TheVariants.{Types, Arguments, Canon, CanonWhole, Show, Format, Fits, Same, SameWhole}
 use Rattle.fmtcanon.specs.declared.task.RecordQuestion.{RecordQuestion}
 use Rattle.fmtcanon.specs.declared.task.RecordQuestion.TheVariants as asked
 use Rattle.fmtcanon.specs.declared.task.NoTask.{NoTask}
@@ -20,10 +20,12 @@ is_question : (command : Text) (rows : List Row) (question : Question) → IsAsk
 is_question command rows (Types model format) h = h
 is_question command rows (Arguments model format) h = h
 is_question command rows (Canon model format) h = h
+is_question command rows (CanonWhole model format) h = h
 is_question command rows (Show model format) h = h
 is_question command rows (Format model format given) h = absurd h.3
 is_question command rows (Fits models first second) h = h
 is_question command rows (Same models first second) h = h
+is_question command rows (SameWhole models first second) h = h
 
 module _ (command : Text) (rows : List Row) (kind : RecordQuestion) (is : IsAsked command rows kind) where
   asks : (task : Task) → IsTaskOn kind rows task → (words : List Text) → Names words command rows → Asks words task
@@ -61,9 +63,11 @@ pub none_wanted : (kind : RecordQuestion) → 0 ≢ formats_wanted kind
 none_wanted (asked.Types notation model) = λ e. absurd (omega (arith, e))
 none_wanted (asked.Arguments notation model) = λ e. absurd (omega (arith, e))
 none_wanted (asked.Canon notation model) = λ e. absurd (omega (arith, e))
+none_wanted (asked.CanonWhole notation model) = λ e. absurd (omega (arith, e))
 none_wanted (asked.Show notation model) = λ e. absurd (omega (arith, e))
 none_wanted (asked.Fits notation models) = λ e. absurd (omega (arith, e))
 none_wanted (asked.Same notation models) = λ e. absurd (omega (arith, e))
+none_wanted (asked.SameWhole notation models) = λ e. absurd (omega (arith, e))
 
 pub misplaced_any : (kind : RecordQuestion) (rows : List Row) (fault : NoTask) → IsMisplaced kind rows → IsNoTaskOn kind rows fault
 misplaced_any kind rows (Usage message) h = h
@@ -74,12 +78,20 @@ module _ (command : Text) (rows : List Row) where
   not_types false w other e = other (asked.Types (notation_in rows) (model_in rows)) (e, w, refl, refl)
   not_types true w other e = other (asked.Arguments (notation_in rows) (model_in rows)) (e, w, refl, refl)
 
+  not_canon : (whole : Bool) → is_whole rows ≡ whole → AsksOther command rows → command ≢ codes "canon"
+  not_canon false w other e = other (asked.Canon (notation_in rows) (model_in rows)) (e, w, refl, refl)
+  not_canon true w other e = other (asked.CanonWhole (notation_in rows) (model_in rows)) (e, w, refl, refl)
+
+  not_same : (whole : Bool) → is_whole rows ≡ whole → AsksOther command rows → command ≢ codes "same"
+  not_same false w other e = other (asked.Same (notation_in rows) (models_in rows)) (e, w, refl, refl)
+  not_same true w other e = other (asked.SameWhole (notation_in rows) (models_in rows)) (e, w, refl, refl)
+
   -- a command that asks nothing of the kind has another name
   pub other_than : AsksOther command rows → (command ≢ codes "types") × (command ≢ codes "canon") × (command ≢ codes "show") × (command ≢ codes "fits") × (command ≢ codes "same")
   other_than other = (
     not_types (is_whole rows) refl other,
-    λ e. other (asked.Canon (notation_in rows) (model_in rows)) (e, refl, refl),
+    not_canon (is_whole rows) refl other,
     λ e. other (asked.Show (notation_in rows) (model_in rows)) (e, refl, refl),
     λ e. other (asked.Fits (notation_in rows) (models_in rows)) (e, refl, refl),
-    λ e. other (asked.Same (notation_in rows) (models_in rows)) (e, refl, refl),
+    not_same (is_whole rows) refl other,
   )

@@ -1,8 +1,6 @@
 -- What a question is answered with, and why it is not. This project's own.
 use Rattle.std.specs.Prelude.{◌≡◌, ℕ, ◌≤◌, List, ◌∷◌, ◌++◌, length, Option, None, Some, map, ⊤}
 use Rattle.std.specs.List.{AllByRecursion}
-use Rattle.pf_signatures.specs.Items.{IsPosixAccepted}
-use Rattle.pf_signatures.specs.Refusals as whole
 use Rattle.pf_values.specs.declared.models.Model.{Model}
 use Rattle.pf_values.specs.meaning.Items.{IsAccepted}
 use Rattle.pf_values.specs.meaning.Refusals.{IsRefusedAt}
@@ -15,17 +13,21 @@ use Rattle.fmtcanon.specs.declared.answer.Ending.TheVariants as endings
 use Rattle.fmtcanon.specs.declared.outcome.Fault.{Fault}
 use Rattle.fmtcanon.specs.declared.outcome.Fault.TheVariants.{Refused, RefusedWhole, BadLiteral, BadWord, WrongCount, WrongType, Memory}
 use Rattle.fmtcanon.specs.declared.task.Question.{Question}
-use Rattle.fmtcanon.specs.declared.task.Question.TheVariants.{Types, Arguments, Canon, Show, Format, Fits, Same}
+use Rattle.fmtcanon.specs.declared.task.Question.TheVariants.{Types, Arguments, Canon, CanonWhole, Show, Format, Fits, Same, SameWhole}
 use Rattle.fmtcanon.specs.ArgumentLines.{HasArgumentLines}
-use Rattle.fmtcanon.specs.Comparisons.{AreFitsIn, IsComparisonIn}
+use Rattle.fmtcanon.specs.Comparisons.{IsComparisonIn}
 use Rattle.fmtcanon.specs.FormatArguments.{IsArgumentFault, IsPrinted}
 use Rattle.fmtcanon.specs.declared.formats.GivenFormat.{GivenFormat}
 use Rattle.fmtcanon.specs.declared.formats.Notation.{Notation}
 use Rattle.fmtcanon.specs.Formats.{HoldsAt, HoldsOf, IsFormat, IsNoFormat, IsPlaceInText, written_in}
+use Rattle.fmtcanon.specs.Languages.{Language, Numbered, Unnumbered, AcceptsText, RefusesText, language_of}
 use Rattle.fmtcanon.specs.Lines.{line}
 use Rattle.fmtcanon.specs.Models.{asked_models}
 use Rattle.fmtcanon.specs.Shows.{HasShownLines}
 use Rattle.fmtcanon.specs.TypeLines.{HasTypeLines}
+use Rattle.fmtcanon.specs.WholeAnswers.{HasWholeCanonicalLine, IsPairAnswerIn}
+use Rattle.fmtcanon.specs.declared.whole.PairQuestion.{PairQuestion}
+use Rattle.fmtcanon.specs.declared.whole.PairQuestion.TheVariants as pairs
 
 -- the canonical text of an accepted format, in a notation, and a newline
 abbrev pub HasCanonicalLine : Notation → Model → Text → Text → Type 0
@@ -41,16 +43,21 @@ IsAnswer (Arguments model format) out ending = (bytes : Text) × IsFormat format
     × HasArgumentLines model bytes out × (ending ≡ endings.Done)
 IsAnswer (Canon model format) out ending = (bytes : Text) × IsFormat format bytes
     × HasCanonicalLine format.notation model bytes out × (ending ≡ endings.Done)
+IsAnswer (CanonWhole model format) out ending = (bytes : Text) × IsFormat format bytes
+    × HasWholeCanonicalLine format.notation model bytes out × (ending ≡ endings.Done)
 IsAnswer (Show model format) out ending = (bytes : Text) × IsFormat format bytes
     × HasShownLines model bytes out × (ending ≡ endings.Done)
 IsAnswer (Format model format words) out ending = (bytes : Text) × IsFormat format bytes
     × IsPrinted model bytes (map (λ s. s.now) words.items) out × (ending ≡ endings.Done)
 IsAnswer (Fits models first second) out ending =
     (one other : Text) × IsFormat first one × IsFormat second other
-    × AreFitsIn models one other out ending
+    × IsPairAnswerIn pairs.Fits models one other out ending
 IsAnswer (Same models first second) out ending =
     (one other : Text) × IsFormat first one × IsFormat second other
     × IsComparisonIn models one other out ending
+IsAnswer (SameWhole models first second) out ending =
+    (one other : Text) × IsFormat first one × IsFormat second other
+    × IsPairAnswerIn pairs.Same models one other out ending
 
 -- why the bytes of a format have no answer: they are refused, or memory wants
 abbrev pub IsFormatFault : Text → Fault → Type 0
@@ -67,20 +74,21 @@ IsPairFault first second (Refused (Some sides.Second) refusal) =
 IsPairFault first second Memory = ⊤
 IsPairFault first second _ = ⊥
 
--- the same in the whole language
-abbrev pub IsWholeFault : Model → Text → Fault → Type 0
-IsWholeFault model format (RefusedWhole None refusal) =
-    whole.IsPosixRefusedAt model format refusal.kind refusal.at
-IsWholeFault model format Memory = ⊤
-IsWholeFault model format _ = ⊥
+-- why the bytes of a format of the whole language have no answer
+abbrev pub IsWholeFault : Language → Model → Text → Fault → Type 0
+IsWholeFault language model format (RefusedWhole None refusal) =
+    RefusesText language model format refusal.kind refusal.at
+IsWholeFault language model format Memory = ⊤
+IsWholeFault language model format _ = ⊥
 
-abbrev pub IsFitFault : Model → Text → Text → Fault → Type 0
-IsFitFault model first second (RefusedWhole (Some sides.First) refusal) =
-    whole.IsPosixRefusedAt model first refusal.kind refusal.at
-IsFitFault model first second (RefusedWhole (Some sides.Second) refusal) =
-    IsPosixAccepted model first × whole.IsPosixRefusedAt model second refusal.kind refusal.at
-IsFitFault model first second Memory = ⊤
-IsFitFault model first second _ = ⊥
+-- why two have none: the refusal of the first, otherwise of the second
+abbrev pub IsWholePairFault : Language → Model → Text → Text → Fault → Type 0
+IsWholePairFault language model first second (RefusedWhole (Some sides.First) refusal) =
+    RefusesText language model first refusal.kind refusal.at
+IsWholePairFault language model first second (RefusedWhole (Some sides.Second) refusal) =
+    AcceptsText language model first × RefusesText language model second refusal.kind refusal.at
+IsWholePairFault language model first second Memory = ⊤
+IsWholePairFault language model first second _ = ⊥
 
 -- a fault in the first of some data models that has one
 pub record IsFirstFault (models : List Model) (Accepts : Model → Type 0)
@@ -93,10 +101,10 @@ pub record IsFirstFault (models : List Model) (Accepts : Model → Type 0)
   pub fault_is : IsFault model fault
 
 -- why two texts have no answer in some data models
-abbrev pub IsFitFaultIn : List Model → Text → Text → Fault → Type 0
-IsFitFaultIn models first second = IsFirstFault models
-    (λ model. IsPosixAccepted model first × IsPosixAccepted model second)
-    (λ model. IsFitFault model first second)
+abbrev pub IsWholePairFaultIn : Language → List Model → Text → Text → Fault → Type 0
+IsWholePairFaultIn language models first second = IsFirstFault models
+    (λ model. AcceptsText language model first × AcceptsText language model second)
+    (λ model. IsWholePairFault language model first second)
 
 -- Why a format that is given has none, by why its bytes have none: a refusal is reported at its place in
 -- the text.
@@ -136,23 +144,27 @@ IsGivenPairFault IsFault Accepted first second Memory = ⊤
 IsGivenPairFault IsFault Accepted first second _ = ⊥
 
 -- why two of the whole language have none in some data models
-abbrev pub IsGivenFitFault : List Model → GivenFormat → GivenFormat → Fault → Type 0
-IsGivenFitFault models first second = IsFirstFault models
-    (λ model. HoldsOf first (IsPosixAccepted model) × HoldsOf second (IsPosixAccepted model))
-    (λ model. IsGivenPairFault (IsWholeFault model) (IsPosixAccepted model) first second)
+abbrev pub IsGivenWholePairFault : Language → List Model → GivenFormat → GivenFormat → Fault → Type 0
+IsGivenWholePairFault language models first second = IsFirstFault models
+    (λ model. HoldsOf first (AcceptsText language model) × HoldsOf second (AcceptsText language model))
+    (λ model. IsGivenPairFault (IsWholeFault language model) (AcceptsText language model) first second)
 
 -- why a question has none
 abbrev pub IsQuestionFault : Question → Fault → Type 0
 IsQuestionFault (Types model format) fault = IsGivenFault IsFormatFault format fault
-IsQuestionFault (Arguments model format) fault = IsGivenFault (IsWholeFault model) format fault
+IsQuestionFault (Arguments model format) fault = IsGivenFault (IsWholeFault Numbered model) format fault
 IsQuestionFault (Canon model format) fault = IsGivenFault IsFormatFault format fault
+IsQuestionFault (CanonWhole model format) fault =
+    IsGivenFault (IsWholeFault Unnumbered model) format fault
 IsQuestionFault (Show model format) fault = IsGivenFault IsFormatFault format fault
 IsQuestionFault (Format model format words) fault =
     IsGivenFault (λ bytes. IsArgumentFault model bytes (map (λ s. s.now) words.items)) format fault
 IsQuestionFault (Fits models first second) fault =
-    IsGivenFitFault (asked_models models) first second fault
+    IsGivenWholePairFault (language_of pairs.Fits) (asked_models models) first second fault
 IsQuestionFault (Same models first second) fault =
     IsGivenPairFault IsFormatFault IsAccepted first second fault
+IsQuestionFault (SameWhole models first second) fault =
+    IsGivenWholePairFault (language_of pairs.Same) (asked_models models) first second fault
 
 -- the side that is refused
 abbrev pub side_of : Fault → Option Side

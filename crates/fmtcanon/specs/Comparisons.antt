@@ -15,7 +15,6 @@ use Rattle.fmtcanon.specs.declared.answer.Ending.{Ending}
 use Rattle.fmtcanon.specs.declared.answer.Ending.TheVariants as endings
 use Rattle.fmtcanon.specs.declared.models.Models.{Models}
 use Rattle.fmtcanon.specs.declared.models.Models.TheVariants.{All, Both, One}
-use Rattle.fmtcanon.specs.ArgumentLines.{IsFitAnswer}
 use Rattle.fmtcanon.specs.ArgumentWords.{SpellsArgument}
 use Rattle.fmtcanon.specs.Lines.{line}
 use Rattle.fmtcanon.specs.Models.{asked_models, model_name}
@@ -74,7 +73,3 @@ IsAnswerIn IsIn All out ending = IsAnswerInEach IsIn (asked_models All) out endi
 abbrev pub IsComparisonIn : Models → Text → Text → Text → Ending → Type 0
 IsComparisonIn models first second =
     IsAnswerIn (λ model. IsComparisonAnswer model first second) models
-
--- whether the second format takes just the arguments of the first, in each of these data models
-abbrev pub AreFitsIn : Models → Text → Text → Text → Ending → Type 0
-AreFitsIn models first second = IsAnswerIn (λ model. IsFitAnswer model first second) models

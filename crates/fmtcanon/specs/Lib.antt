@@ -12,6 +12,8 @@ pub mod ArgumentWords
 pub mod UntypedArgs
 pub mod FormatArguments
 pub mod Comparisons
+pub mod Languages
+pub mod WholeAnswers
 pub mod Answers
 pub mod Outcomes
 pub mod Reports

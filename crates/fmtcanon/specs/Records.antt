@@ -115,6 +115,14 @@ module _ (kind : RecordQuestion) {R W : Type 0} (remaining : R → Known) (conte
   abbrev pub ReadFails : Type 0
   ReadFails = HasFailed reader left ⊎ (max_count ≤ calls_of left)
 
+  -- Each whole record that it has handed out has its reply, which went out and was flushed, except
+  -- one that wants a second. No call failed.
+  abbrev pub AllReplied : Type 0
+  AllReplied =
+      (whole : List Text) × (rest : Text) × (first : List Text) × (greatest : ℕ)
+      × HandsOut whole rest × ReadWell × (length first < formats_wanted kind)
+      × RepliesAll kind contents old new whole first greatest
+
   -- What a run over records leaves. At Read each whole record has its reply, but one that wants a
   -- second. At Memory the first of them have theirs: for which one it was wanted, this doesn't say.
   abbrev pub RecordsEnd : Outcome → Type 0

@@ -1,20 +1,21 @@
 -- What a run leaves, by its outcome. This project's own.
-use Rattle.std.specs.Prelude.{◌≡◌, ℕ, List, true, ◌⊎◌}
+use Rattle.std.specs.Prelude.{◌≡◌, ℕ, List, Result, Ok, Err, true, ⊤}
 use Rattle.pf_values.specs.declared.counted.Counted.{Counted}
 use Rattle.pf_values.specs.Counting.{Known, WritesAll, WritesFirst, is_flushed}
 use Rattle.pf_values.specs.meaning.Text.{Text}
 use Rattle.fmtcanon.specs.Answers.{IsAnswer, IsQuestionFault}
 use Rattle.fmtcanon.specs.Streams.{CopyEnds}
-use Rattle.fmtcanon.specs.Records.{RecordsEnd}
-use Rattle.fmtcanon.specs.Tasks.{Asks, AreWrong}
+use Rattle.fmtcanon.specs.Records.{AllReplied, RecordsEnd}
+use Rattle.fmtcanon.specs.Tasks.{Asks, IsNoTaskOf}
 use Rattle.fmtcanon.specs.declared.answer.Ending.{Ending}
 use Rattle.fmtcanon.specs.declared.answer.Ending.TheVariants as endings
 use Rattle.fmtcanon.specs.declared.outcome.Fault.{Fault}
 use Rattle.fmtcanon.specs.declared.outcome.Fault.TheVariants as faults
 use Rattle.fmtcanon.specs.declared.outcome.Outcome.{Outcome}
 use Rattle.fmtcanon.specs.declared.outcome.Outcome.TheVariants.{Done, Same, Different, Refused, RefusedWhole, BadLiteral, BadWord, WrongCount, WrongType, Usage, Write, Memory}
+use Rattle.fmtcanon.specs.declared.task.NoTask.{NoTask}
+use Rattle.fmtcanon.specs.declared.task.NoTask.TheVariants as reasons
 use Rattle.fmtcanon.specs.declared.task.Question.{Question}
-use Rattle.fmtcanon.specs.declared.task.RecordQuestion.{RecordQuestion}
 use Rattle.fmtcanon.specs.declared.task.Task.{Task}
 use Rattle.fmtcanon.specs.declared.task.Task.TheVariants.{Answer, Records, Stream}
 
@@ -68,9 +69,22 @@ module _ {W : Type 0} (contents : W → Known) (old new : Counted W) where
 abbrev pub CallsNeither : {R W : Type 0} → Counted R → Counted R → Counted W → Counted W → Type 0
 CallsNeither reader left old new = (new ≡ old) × (left ≡ reader)
 
+-- the words ask for this task, or they have none for this reason
+abbrev pub AsksFor : List Text → Result Task NoTask → Type 0
+AsksFor words (Ok task) = Asks words task
+AsksFor words (Err reason) = IsNoTaskOf words reason
+
 module _ {R W : Type 0} (remaining : R → Known) (contents : W → Known)
     (reader left : Counted R) (old new : Counted W) where
-  -- what the run of a task leaves; a question leaves the reader as it was
+  -- When a run may read: over records once all that was handed out has its replies, for `stream`
+  -- at any time, and for a question never.
+  abbrev pub MayRead : Task → Type 0
+  MayRead (Answer question) = ⊥
+  MayRead (Records kind) = AllReplied kind remaining contents reader left old new
+  MayRead (Stream model) = ⊤
+
+  -- What the run of a task leaves. A question leaves the reader as it was. Out of memory, it writes
+  -- nothing, except replies to the first records if the formats come as records.
   abbrev pub TaskEnds : Task → Outcome → Type 0
   TaskEnds (Answer question) outcome =
       AnswerEnds contents old new question outcome × (left ≡ reader)
@@ -79,10 +93,18 @@ module _ {R W : Type 0} (remaining : R → Known) (contents : W → Known)
   TaskEnds (Stream model) outcome =
       CopyEnds model remaining contents reader left old new outcome
 
-  -- Usage is answered for words that are wrong, never for want of memory. For want of memory
-  -- nothing goes out, but replies to the first records, where the formats come so.
+  -- Without a task the outcome is the reason, as it was found, and neither device is called.
+  abbrev pub NoTaskEnds : NoTask → Outcome → Type 0
+  NoTaskEnds (reasons.Usage text) outcome =
+      (outcome ≡ Usage text) × CallsNeither reader left old new
+  NoTaskEnds reasons.Memory outcome = (outcome ≡ Memory) × CallsNeither reader left old new
+
+  -- what the run of a task leaves, or of none
+  abbrev pub FoundEnds : Result Task NoTask → Outcome → Type 0
+  FoundEnds (Ok task) outcome = TaskEnds task outcome
+  FoundEnds (Err reason) outcome = NoTaskEnds reason outcome
+
+  -- what a run of the program leaves
   abbrev pub ProgramEnds : List Text → Outcome → Type 0
-  ProgramEnds words (Usage text) = AreWrong words × CallsNeither reader left old new
-  ProgramEnds words Memory = CallsNeither reader left old new
-      ⊎ ((kind : RecordQuestion) × Asks words (Records kind) × TaskEnds (Records kind) Memory)
-  ProgramEnds words outcome = (task : Task) × Asks words task × TaskEnds task outcome
+  ProgramEnds words outcome =
+      (found : Result Task NoTask) × AsksFor words found × FoundEnds found outcome

@@ -16,7 +16,7 @@ use Rattle.fmtcanon.specs.declared.task.NoTask.TheVariants.{Usage, Memory}
 use Rattle.fmtcanon.specs.declared.task.Task.{Task}
 use Rattle.fmtcanon.specs.declared.task.Task.TheVariants.{Answer, Records, Stream}
 use Rattle.fmtcanon.specs.declared.task.Question.{Question}
-use Rattle.fmtcanon.specs.declared.task.Question.TheVariants.{Types, Arguments, Canon, Show, Format, Fits, Same}
+use Rattle.fmtcanon.specs.declared.task.Question.TheVariants.{Types, Arguments, Canon, CanonWhole, Show, Format, Fits, Same, SameWhole}
 use Rattle.fmtcanon.specs.declared.task.RecordQuestion.{RecordQuestion}
 use Rattle.fmtcanon.specs.declared.task.RecordQuestion.TheVariants as asked
 use Rattle.fmtcanon.specs.declared.formats.Notation.{Notation}
@@ -70,14 +70,18 @@ IsAsked command rows (asked.Types notation model) = (command ≡ codes "types")
     × (is_whole rows ≡ false) × (notation ≡ notation_in rows) × (model ≡ model_in rows)
 IsAsked command rows (asked.Arguments notation model) = (command ≡ codes "types")
     × (is_whole rows ≡ true) × (notation ≡ notation_in rows) × (model ≡ model_in rows)
-IsAsked command rows (asked.Canon notation model) =
-    (command ≡ codes "canon") × (notation ≡ notation_in rows) × (model ≡ model_in rows)
+IsAsked command rows (asked.Canon notation model) = (command ≡ codes "canon")
+    × (is_whole rows ≡ false) × (notation ≡ notation_in rows) × (model ≡ model_in rows)
+IsAsked command rows (asked.CanonWhole notation model) = (command ≡ codes "canon")
+    × (is_whole rows ≡ true) × (notation ≡ notation_in rows) × (model ≡ model_in rows)
 IsAsked command rows (asked.Show notation model) =
     (command ≡ codes "show") × (notation ≡ notation_in rows) × (model ≡ model_in rows)
 IsAsked command rows (asked.Fits notation models) =
     (command ≡ codes "fits") × (notation ≡ notation_in rows) × (models ≡ models_in rows)
-IsAsked command rows (asked.Same notation models) =
-    (command ≡ codes "same") × (notation ≡ notation_in rows) × (models ≡ models_in rows)
+IsAsked command rows (asked.Same notation models) = (command ≡ codes "same")
+    × (is_whole rows ≡ false) × (notation ≡ notation_in rows) × (models ≡ models_in rows)
+IsAsked command rows (asked.SameWhole notation models) = (command ≡ codes "same")
+    × (is_whole rows ≡ true) × (notation ≡ notation_in rows) × (models ≡ models_in rows)
 
 -- a command asks nothing of that kind
 abbrev pub AsksOther : Text → List Row → Type 0
@@ -94,6 +98,7 @@ abbrev pub IsQuestion : Text → List Row → Question → Type 0
 IsQuestion command rows (Types model format) = IsAskedOf command rows (Types model format)
 IsQuestion command rows (Arguments model format) = IsAskedOf command rows (Arguments model format)
 IsQuestion command rows (Canon model format) = IsAskedOf command rows (Canon model format)
+IsQuestion command rows (CanonWhole model format) = IsAskedOf command rows (CanonWhole model format)
 IsQuestion command rows (Show model format) = IsAskedOf command rows (Show model format)
 IsQuestion command rows (Format model format given) =
     (command ≡ codes "format") × (format.notation ≡ notation_in rows) × (model ≡ model_in rows)
@@ -103,6 +108,8 @@ IsQuestion command rows (Fits models first second) =
     IsAskedOf command rows (Fits models first second)
 IsQuestion command rows (Same models first second) =
     IsAskedOf command rows (Same models first second)
+IsQuestion command rows (SameWhole models first second) =
+    IsAskedOf command rows (SameWhole models first second)
 
 -- the words name a command which does that
 abbrev pub Asks : List Text → Task → Type 0

@@ -11,7 +11,7 @@ use Rattle.clap.specs.declared.builder.value_parser.ValueParser.{ValueParser}
 use Rattle.clap.specs.declared.builder.value_parser.ValueParser.TheVariants.{Names}
 use Rattle.pf_values.specs.meaning.Text.{Text}
 use Rattle.fmtcanon.specs.declared.command.Arguments.{Arguments}
-use Rattle.fmtcanon.specs.declared.command.Arguments.TheVariants.{Nothing, Records, WholeRecords, Pairs, Format}
+use Rattle.fmtcanon.specs.declared.command.Arguments.TheVariants.{Nothing, Records, WholeRecords, Pairs, WholePairs, Format}
 use Rattle.fmtcanon.specs.declared.command.Row.{Row}
 use Rattle.fmtcanon.specs.Models.{model_names, model_names_or_more}
 
@@ -60,6 +60,10 @@ abbrev pub on_records : Text → ValueParser → App
 on_records name models =
     with_rule (with_rule (on_literals name models) null_option) (new_rule (codes "F"))
 
+-- the same with the argument G, which may be left out, too
+abbrev pub on_pairs : Text → ValueParser → App
+on_pairs name models = with_rule (on_records name models) (new_rule (codes "G"))
+
 -- the option `--whole`
 abbrev pub whole_option : Rule
 whole_option = record (new_rule (codes "whole")) {
@@ -78,7 +82,8 @@ abbrev pub on_arguments : Arguments → Text → ValueParser → App
 on_arguments Nothing name models = on_nothing name models
 on_arguments Records name models = on_records name models
 on_arguments WholeRecords name models = with_rule (on_records name models) whole_option
-on_arguments Pairs name models = with_rule (on_records name models) (new_rule (codes "G"))
+on_arguments Pairs name models = on_pairs name models
+on_arguments WholePairs name models = with_rule (on_pairs name models) whole_option
 on_arguments Format name models = with_rule (on_format name models) any_arguments
 
 -- The words come without the program's name, a subcommand is wanted, and `--version` is answered
@@ -109,10 +114,10 @@ with_command app row = with_subcommand app (row_app row).top
 abbrev pub command_rows : ValueParser → ValueParser → List CommandRow
 command_rows one more =
     record { name = codes "types"; arguments = WholeRecords; models = one }
-    ∷ record { name = codes "canon"; arguments = Records; models = one }
+    ∷ record { name = codes "canon"; arguments = WholeRecords; models = one }
     ∷ record { name = codes "show"; arguments = Records; models = one }
     ∷ record { name = codes "format"; arguments = Format; models = one }
-    ∷ record { name = codes "same"; arguments = Pairs; models = more }
+    ∷ record { name = codes "same"; arguments = WholePairs; models = more }
     ∷ record { name = codes "fits"; arguments = Pairs; models = more }
     ∷ record { name = codes "stream"; arguments = Nothing; models = one }
     ∷ []

@@ -1,34 +1,36 @@
 //! The answer to a question.
 ghost use Rattle.std.specs.Prelude.{◌≡◌, Err, IfErr, MatchResult, Ok, IfOk, MatchOption, Some, map};
-ghost use Rattle.pf_signatures.specs.Items.{IsPosixAccepted};
-ghost use Rattle.fmtcanon.specs.Answers.{IsAnswer, IsQuestionFault, HasCanonicalLine, IsFormatFault, IsGivenFault, IsGivenFitFault, IsGivenPairFault, IsWholeFault, IsFaultInTexts, IsFaultInText, side_of};
+ghost use Rattle.fmtcanon.specs.Answers.{IsAnswer, IsQuestionFault, HasCanonicalLine, IsFormatFault, IsGivenFault, IsGivenPairFault, IsGivenWholePairFault, IsWholeFault, IsFaultInTexts, IsFaultInText, side_of};
 ghost use Rattle.fmtcanon.specs.declared.answer.Ending.TheVariants.{Done};
 ghost use Rattle.pf_canon.specs.declared.faults.Side.TheVariants as sides;
 ghost use Rattle.pf_values.specs.meaning.Items.{IsAccepted};
 ghost use Rattle.pf_values.specs.meaning.Text.{Text};
 ghost use Rattle.fmtcanon.specs.ArgumentLines.{HasArgumentLines};
-ghost use Rattle.fmtcanon.specs.Comparisons.{AreFitsIn, IsComparisonIn};
+ghost use Rattle.fmtcanon.specs.Comparisons.{IsComparisonIn};
 ghost use Rattle.fmtcanon.specs.Faults.{of_literal};
 ghost use Rattle.fmtcanon.specs.FormatArguments.{IsArgumentFault, IsPrinted};
 ghost use Rattle.fmtcanon.specs.Formats.{IsFormat};
+ghost use Rattle.fmtcanon.specs.Languages.{AcceptsText, Numbered, RefusesText, Unnumbered, language_of};
 ghost use Rattle.fmtcanon.specs.Lines.{line};
 ghost use Rattle.fmtcanon.specs.Models.{asked_models};
 ghost use Rattle.fmtcanon.specs.Shows.{HasShownLines};
 ghost use Rattle.fmtcanon.specs.TypeLines.{HasTypeLines};
+ghost use Rattle.fmtcanon.specs.WholeAnswers.{HasWholeCanonicalLine, IsPairAnswerIn};
 ghost use Rattle.fmtcanon.specs.declared.formats.GivenFormat.{GivenFormat};
 
 use crate::arguments::arguments_for;
-use crate::comparison::{comparison_answer, fit_answer};
+use crate::comparison::comparison_answer;
 use crate::formats::{GivenFormat, Notation};
 use crate::models::Models;
 use crate::outcome::Fault;
 use crate::show_lines::show_lines;
 use crate::task::Question;
 use crate::type_lines::{argument_lines, type_lines};
+use crate::whole::{PairQuestion, pair_answer, whole_canonical_line};
 use pf_canon::{Side, canonical_with_room};
 use pf_literals::LiteralFault;
 use pf_render::{RenderVecFault, render_vec};
-use pf_signatures::{SignatureRefusal, arguments};
+use pf_signatures::{SignatureRefusal, arguments, check_unnumbered};
 use pf_text::{Refusal, check};
 use pf_values::Model;
 use std::alloc::{AllocError, Global};
@@ -63,6 +65,9 @@ pub fn answer_to(alloc: Global, question: &Question<'_>) -> Result<Answer, Fault
         Question::Types(model, format) => done(types_of_given(alloc, *model, format)),
         Question::Arguments(model, format) => done(arguments_of_given(alloc, *model, format)),
         Question::Canon(model, format) => done(canonical_of_given(alloc, *model, format)),
+        Question::CanonWhole(model, format) => {
+            done(whole_canonical_of_given(alloc, *model, format))
+        }
         Question::Show(model, format) => done(parts_of_given(alloc, *model, format)),
         Question::Format {
             model,
@@ -73,12 +78,17 @@ pub fn answer_to(alloc: Global, question: &Question<'_>) -> Result<Answer, Fault
             models,
             first,
             second,
-        } => fit_of_given(alloc, *models, first, second),
+        } => pair_answer_of_given(alloc, PairQuestion::Fits, *models, first, second),
         Question::Same {
             models,
             first,
             second,
         } => comparison_of_given(alloc, *models, first, second),
+        Question::SameWhole {
+            models,
+            first,
+            second,
+        } => pair_answer_of_given(alloc, PairQuestion::Same, *models, first, second),
     }
 }
 
@@ -118,7 +128,7 @@ pub fn arguments_of_given(
 ) -> Result<Vec<u8>, Fault>
     ensures { MatchResult result (λ out. (bytes : Text) × IsFormat format.now bytes
         × HasArgumentLines model bytes out.items)
-        (IsGivenFault (IsWholeFault model) format.now) }
+        (IsGivenFault (IsWholeFault Numbered model) format.now) }
 {
     let bytes = format.bytes(alloc)?;
     match argument_lines(alloc, model, bytes.as_slice()) {
@@ -139,6 +149,23 @@ pub fn canonical_of_given(
 {
     let bytes = format.bytes(alloc)?;
     match canonical_line(alloc, format.notation, model, bytes.as_slice()) {
+        Ok(out) => Ok(out),
+        Err(fault) => Err(placed_in(format, fault)),
+    }
+}
+
+/// Returns the line of `canon --whole`.
+pub fn whole_canonical_of_given(
+    alloc: Global,
+    model: Model,
+    format: &GivenFormat<'_>,
+) -> Result<Vec<u8>, Fault>
+    ensures { MatchResult result (λ out. (bytes : Text) × IsFormat format.now bytes
+        × HasWholeCanonicalLine format.now.notation model bytes out.items)
+        (IsGivenFault (IsWholeFault Unnumbered model) format.now) }
+{
+    let bytes = format.bytes(alloc)?;
+    match whole_canonical_line(alloc, format.notation, model, bytes.as_slice()) {
         Ok(out) => Ok(out),
         Err(fault) => Err(placed_in(format, fault)),
     }
@@ -179,17 +206,18 @@ pub fn printed_by_given(
     }
 }
 
-/// Whether the second of two formats that are given takes just the arguments of the first.
-pub fn fit_of_given(
+/// Answers a question about two formats of the whole language that are given.
+pub fn pair_answer_of_given(
     alloc: Global,
+    question: PairQuestion,
     models: Models,
     first: &GivenFormat<'_>,
     second: &GivenFormat<'_>,
 ) -> Result<Answer, Fault>
     ensures { MatchResult result (λ answer.
         (one other : Text) × IsFormat first.now one × IsFormat second.now other
-        × AreFitsIn models one other answer.bytes.items answer.ending)
-        (IsGivenFitFault (asked_models models) first.now second.now) }
+        × IsPairAnswerIn question models one other answer.bytes.items answer.ending)
+        (IsGivenWholePairFault (language_of question) (asked_models models) first.now second.now) }
 {
     let one = match first.bytes(alloc) {
         Ok(bytes) => bytes,
@@ -198,11 +226,11 @@ pub fn fit_of_given(
     let other = match second.bytes(alloc) {
         Ok(bytes) => bytes,
         Err(fault) => return Err(without_second(
-            refused_whole(models.first(), first, one.as_slice()),
+            refused_whole(question, models.first(), first, one.as_slice()),
             fault,
         )),
     };
-    match fit_answer(alloc, models, one.as_slice(), other.as_slice()) {
+    match pair_answer(alloc, question, models, one.as_slice(), other.as_slice()) {
         Ok(answer) => Ok(answer),
         Err(fault) => Err(placed_in_pair(first, second, fault)),
     }
@@ -263,20 +291,39 @@ fn refused(first: &GivenFormat<'_>, bytes: &[u8]) -> Option<Fault>
     }
 }
 
-fn refused_whole(model: Model, first: &GivenFormat<'_>, bytes: &[u8]) -> Option<Fault>
-    ensures { IsFormat first.now bytes.now → MatchOption result (IsPosixAccepted model bytes.now)
+// The refusal of the first of two formats of the whole language, if it is refused.
+fn refused_whole(
+    question: PairQuestion,
+    model: Model,
+    first: &GivenFormat<'_>,
+    bytes: &[u8],
+) -> Option<Fault>
+    ensures { IsFormat first.now bytes.now
+        → MatchOption result (AcceptsText (language_of question) model bytes.now)
         (λ fault. (second : GivenFormat)
-        → IsGivenPairFault (IsWholeFault model) (IsPosixAccepted model) first.now second fault) }
+        → IsGivenPairFault (IsWholeFault (language_of question) model)
+        (AcceptsText (language_of question) model) first.now second fault) }
 {
-    match arguments(model, bytes, &mut []) {
-        Ok(_) => None,
-        Err(refusal) => Some(placed_in(
+    match refusal_for(question, model, bytes) {
+        None => None,
+        Some(refusal) => Some(placed_in(
             first,
             Fault::RefusedWhole {
                 side: Some(Side::First),
                 refusal,
             },
         )),
+    }
+}
+
+// The refusal of a format of the whole language, about which something is asked.
+fn refusal_for(question: PairQuestion, model: Model, bytes: &[u8]) -> Option<SignatureRefusal>
+    ensures { MatchOption result (AcceptsText (language_of question) model bytes.now)
+        (λ refusal. RefusesText (language_of question) model bytes.now refusal.kind refusal.at) }
+{
+    match question {
+        PairQuestion::Fits => arguments(model, bytes, &mut []).err(),
+        PairQuestion::Same => check_unnumbered(model, bytes).err(),
     }
 }
 
@@ -362,8 +409,8 @@ fn canonical_line(
     Ok(with_newline(notation.write(alloc, canonical)?)?)
 }
 
-// A text with a newline after it.
-fn with_newline(mut text: Vec<u8>) -> Result<Vec<u8>, AllocError>
+/// Returns a text with a newline after it.
+pub fn with_newline(mut text: Vec<u8>) -> Result<Vec<u8>, AllocError>
     ensures { IfOk result (λ out. out.items ≡ line text.items) }
 {
     text.push(b'\n')?;

@@ -6,6 +6,8 @@ mod arguments;
 mod command;
 mod comparison;
 mod formats;
+mod help;
+mod input;
 mod laws;
 mod models;
 mod outcome;
@@ -14,6 +16,7 @@ mod run;
 mod show_lines;
 mod task;
 mod type_lines;
+mod whole;
 
 use outcome::{Outcome, report};
 use pf_values::Counted;

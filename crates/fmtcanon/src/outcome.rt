@@ -5,7 +5,7 @@ ghost use Rattle.pf_values.specs.Counting.{Writes};
 ghost use Rattle.pf_literals.specs.Kinds as literals;
 ghost use Rattle.pf_signatures.specs.Kinds as signatures;
 ghost use Rattle.pf_values.specs.RefusalKinds.{name};
-ghost use Rattle.fmtcanon.specs.Faults.{of_canonical, of_comparison, of_literal, of_signature, of_text};
+ghost use Rattle.fmtcanon.specs.Faults.{of_alike, of_canonical, of_comparison, of_literal, of_pair, of_signature, of_text};
 ghost use Rattle.fmtcanon.specs.Lines.{line};
 ghost use Rattle.fmtcanon.specs.Outcomes.{outcome_of, outcome_of_fault, status_of};
 ghost use Rattle.fmtcanon.specs.Reports.{WritesReport, fault_words, literal_words, refusal_words, side_words, report_text, whole_words};
@@ -17,9 +17,10 @@ use itoa::Buffer;
 use pf_canon::{CanonFault, Side};
 use pf_compare::CompareFault;
 use pf_literals::{LiteralFault, LiteralKind, LiteralRefusal};
-use pf_signatures::{SignatureFault, SignatureRefusal, SignatureRefusalKind};
+use pf_signatures::{FitsRefusal, SignatureFault, SignatureRefusal, SignatureRefusalKind};
 use pf_text::{Refusal, TextFault};
 use pf_values::{Counted, RefusalKind, ShortWrite, write_bytes};
+use pf_whole::WholeCompareFault;
 use std::alloc::AllocError;
 use std::io::Write;
 
@@ -245,6 +246,34 @@ impl From<SignatureFault> for Fault {
                 refusal,
             },
             SignatureFault::Memory => Fault::Memory,
+        }
+    }
+}
+
+impl From<FitsRefusal> for Fault {
+    ghost from_gives = { λ error fault. fault ≡ of_pair error };
+
+    fn from(error: FitsRefusal) -> Fault {
+        match error {
+            FitsRefusal::First(refusal) => Fault::RefusedWhole {
+                side: Some(Side::First),
+                refusal,
+            },
+            FitsRefusal::Second(refusal) => Fault::RefusedWhole {
+                side: Some(Side::Second),
+                refusal,
+            },
+        }
+    }
+}
+
+impl From<WholeCompareFault> for Fault {
+    ghost from_gives = { λ error fault. fault ≡ of_alike error };
+
+    fn from(error: WholeCompareFault) -> Fault {
+        match error {
+            WholeCompareFault::Refused(refusal) => Fault::from(refusal),
+            WholeCompareFault::Memory => Fault::Memory,
         }
     }
 }

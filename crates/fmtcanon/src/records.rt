@@ -5,9 +5,10 @@ ghost use Rattle.pf_values.specs.meaning.Text.{Text};
 ghost use Rattle.fmtcanon.specs.Conversations.{AddsReply, HasAnswered, HasCome, HasRepliedTo, HasRepliedToText, HasReplies, HasSaid, HasSaidFirst, HasStopped, HasStoppedAt, RecordsFinish, RecordsEndEarly, WritesReplies, waiting_text};
 ghost use Rattle.fmtcanon.specs.Outcomes.{status_of};
 ghost use Rattle.fmtcanon.specs.Questions.{IsAbout, formats_wanted};
-ghost use Rattle.fmtcanon.specs.Records.{IsReply, RecordsEnd, RepliesFirst, Reply, last_record, reply_bytes};
+ghost use Rattle.fmtcanon.specs.Records.{AllReplied, IsReply, RecordsEnd, RepliesFirst, Reply, last_record, reply_bytes};
 
 use crate::answer::answer_to;
+use crate::input::Input;
 use crate::outcome::{Fault, Outcome, fault_line};
 use crate::task::{Question, RecordQuestion};
 use memchr::memchr;
@@ -47,17 +48,22 @@ enum ConversationFault {
     Write(u128),
 }
 
-/// Answers each record that the reader hands out, or each two of them, where two are wanted. Before
-/// each read all replies to records that are whole have been written and flushed.
+/// Answers each record of the input, or each two of them if the question takes two formats. It may
+/// read only when each complete record has its reply, written and flushed: it knows the input to be
+/// ready then, and at no other time.
 #[inline(never)]
-pub fn answer_records<R: Read, W: Write>(
+pub fn answer_records<R: Read, W: Write, I: Input<R, W>>(
     alloc: Global,
     kind: RecordQuestion,
-    reader: &mut Counted<R>,
+    input: &mut I,
     writer: &mut Counted<W>,
 ) -> Outcome
-    ensures { RecordsEnd kind R.remaining W.contents reader.old reader.new writer.old writer.new
-        result }
+    requires ready { (left : I) (now : Counted W)
+        → AllReplied kind R.remaining W.contents (I.reader_of input.old) (I.reader_of left)
+        writer.old now
+        → I.is_ready left now }
+    ensures { RecordsEnd kind R.remaining W.contents (I.reader_of input.old)
+        (I.reader_of input.new) writer.old writer.new result }
 {
     let mut conversation = Conversation::new(alloc, kind);
     let mut block = [0u8; READ_BLOCK];
@@ -66,7 +72,7 @@ pub fn answer_records<R: Read, W: Write>(
         if let Err(count) = conversation.flush(writer) {
             return Outcome::Write(count);
         }
-        if let Some(outcome) = conversation.read_block(alloc, reader, writer, &mut block) {
+        if let Some(outcome) = conversation.read_block(alloc, input, writer, &mut block) {
             return outcome;
         }
     }
@@ -102,25 +108,29 @@ impl Conversation {
     }
 
     // Reads a block and takes it, or ends the run. Requires that all replies to what was read before
-    // have been written and flushed.
-    fn read_block<R: Read, W: Write>(
+    // have been written and flushed, and that the input is ready.
+    fn read_block<R: Read, W: Write, I: Input<R, W>>(
         &mut self,
         alloc: Global,
-        reader: &mut Counted<R>,
+        input: &mut I,
         writer: &mut Counted<W>,
         block: &mut [u8],
     ) -> Option<Outcome>
         requires none { waiting_text self.old.replies ≡ [] }
         requires flushed { is_flushed writer.old ≡ true }
+        requires ready { I.is_ready input.old writer.old }
         requires room { 0 < length block.old }
         ensures answered { (kind : RecordQuestion) (begin : Counted R) (start : Counted W)
-            → HasAnswered kind R.remaining W.contents self.old begin reader.old start writer.old
+            → HasAnswered kind R.remaining W.contents self.old begin (I.reader_of input.old) start
+            writer.old
             → MatchOption result
-            (HasAnswered kind R.remaining W.contents self.new begin reader.new start writer.new)
-            (RecordsEnd kind R.remaining W.contents begin reader.new start writer.new) }
-        ensures calls { calls_of reader.new ≡ calls_after (calls_of reader.old) }
+            (HasAnswered kind R.remaining W.contents self.new begin (I.reader_of input.new) start
+            writer.new)
+            (RecordsEnd kind R.remaining W.contents begin (I.reader_of input.new) start writer.new) }
+        ensures calls { calls_of (I.reader_of input.new)
+            ≡ calls_after (calls_of (I.reader_of input.old)) }
     {
-        match reader.read(block) {
+        match input.read_next(writer, block) {
             Ok(0) => Some(self.end(alloc, writer)),
             Ok(len) => match self.take(alloc, &block[..len], writer) {
                 Ok(()) => None,

@@ -1,36 +1,62 @@
 //! A run of the program.
-ghost use Rattle.std.specs.Prelude.{map};
+ghost use Rattle.std.specs.Prelude.{◌≡◌, Ok, map};
+ghost use Rattle.pf_values.specs.declared.counted.Counted.{Counted};
 ghost use Rattle.fmtcanon.specs.Outcomes.{outcome_of};
-ghost use Rattle.fmtcanon.specs.Runs.{AnswerEnds, ProgramEnds, WritingEnds};
+ghost use Rattle.fmtcanon.specs.Runs.{AnswerEnds, FoundEnds, MayRead, ProgramEnds, WritingEnds};
 ghost use Rattle.fmtcanon.specs.Streams.{CopyEnds};
+ghost use Rattle.fmtcanon.specs.Tasks.{Asks};
+ghost use Rattle.fmtcanon.specs.declared.task.Task.{Task};
 
 use crate::answer::{Answer, answer_to};
+use crate::input::Input;
 use crate::outcome::Outcome;
 use crate::records::answer_records;
 use crate::task::{NoTask, Question, Task, task_of};
-use pf_canon::{CopyFault, copy_canonical};
+use pf_canon::CopyFault;
 use pf_values::{Counted, Model, write_bytes};
 use std::alloc::Global;
 use std::io::{Read, Write};
 
 /// Runs the command that the words name; the program's name isn't among them. What a command reads
-/// comes from `reader`, and what it writes goes to `writer`. Its last call is a flush before
+/// comes from `input`, and what it writes goes to `writer`. Its last call is a flush before
 /// `Done`, `Same` and `Different`, by `stream` also before `Refused` and `Read`, and over records
 /// before all but `Write`. Any other refusal, and wrong words, come before the first call of the
 /// writer.
-pub fn run<R: Read, W: Write>(
+///
+/// It may read only as `MayRead` says: it knows the input to be ready then, and at no other time.
+pub fn run<R: Read, W: Write, I: Input<R, W>>(
     alloc: Global,
     words: &[&str],
-    reader: &mut Counted<R>,
+    input: &mut I,
     writer: &mut Counted<W>,
 ) -> Outcome
-    ensures { ProgramEnds R.remaining W.contents reader.old reader.new writer.old writer.new
-        (map (λ s. s.now) words.now) result }
+    requires ready { (task : Task) (left : I) (now : Counted W)
+        → Asks (map (λ s. s.now) words.now) task
+        → MayRead R.remaining W.contents (I.reader_of input.old) (I.reader_of left) writer.old now task
+        → I.is_ready left now }
+    ensures { ProgramEnds R.remaining W.contents (I.reader_of input.old) (I.reader_of input.new)
+        writer.old writer.new (map (λ s. s.now) words.now) result }
 {
-    match task_of(alloc, words) {
+    run_found(alloc, task_of(alloc, words), input, writer)
+}
+
+// Runs a task. If the words have none, the outcome is the reason as it is.
+fn run_found<R: Read, W: Write, I: Input<R, W>>(
+    alloc: Global,
+    found: Result<Task<'_>, NoTask>,
+    input: &mut I,
+    writer: &mut Counted<W>,
+) -> Outcome
+    requires ready { (task : Task) (left : I) (now : Counted W) → found ≡ Ok task
+        → MayRead R.remaining W.contents (I.reader_of input.old) (I.reader_of left) writer.old now task
+        → I.is_ready left now }
+    ensures { FoundEnds R.remaining W.contents (I.reader_of input.old) (I.reader_of input.new)
+        writer.old writer.new found.entry result }
+{
+    match found {
         Ok(Task::Answer(question)) => answer(alloc, &question, writer),
-        Ok(Task::Records(kind)) => answer_records(alloc, kind, reader, writer),
-        Ok(Task::Stream(model)) => copy(model, reader, writer),
+        Ok(Task::Records(kind)) => answer_records(alloc, kind, input, writer),
+        Ok(Task::Stream(model)) => copy(model, input, writer),
         Err(NoTask::Usage(text)) => Outcome::Usage(text),
         Err(NoTask::Memory) => Outcome::Memory,
     }
@@ -60,18 +86,19 @@ fn write_answer<W: Write>(answer: &Answer, writer: &mut Counted<W>) -> Outcome
     }
 }
 
-/// Copies the canonical text of what the reader hands out in a data model. What was written is
+/// Copies the canonical text of what the input hands out in a data model. What was written is
 /// flushed at the end, at a refusal and where a read fails; these two are reported even where that
 /// flush fails.
-pub fn copy<R: Read, W: Write>(
+pub fn copy<R: Read, W: Write, I: Input<R, W>>(
     model: Model,
-    reader: &mut Counted<R>,
+    input: &mut I,
     writer: &mut Counted<W>,
 ) -> Outcome
-    ensures { CopyEnds model R.remaining W.contents reader.old reader.new writer.old writer.new
-        result }
+    requires ready { (left : I) (now : Counted W) → I.is_ready left now }
+    ensures { CopyEnds model R.remaining W.contents (I.reader_of input.old) (I.reader_of input.new)
+        writer.old writer.new result }
 {
-    match copy_canonical(model, reader, writer) {
+    match input.copy_all(model, writer) {
         Ok(count) => match writer.flush() {
             Ok(()) => Outcome::Done,
             Err(_) => Outcome::Write(count),

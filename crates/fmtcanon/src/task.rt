@@ -5,11 +5,12 @@ ghost use Rattle.std.specs.Str.{bytes_eq};
 ghost use Rattle.clap.specs.Matches.{first_value};
 ghost use Rattle.clap.specs.Words.{found_of, kind_of, matched_of, raw_values};
 ghost use Rattle.pf_values.specs.meaning.Text.{Text};
-ghost use Rattle.fmtcanon.specs.Models.{model_in};
+ghost use Rattle.fmtcanon.specs.Models.{model_in, models_in};
 ghost use Rattle.fmtcanon.specs.Tasks.{Asks, AsksOther, IsAnsweredBy, IsAsked, IsNoTaskOf, IsNoTaskOn, IsTaskOn, Names, formats_in, is_set, notation_in, rows_in};
 
-use crate::command::{MISPLACED, definition};
+use crate::command::definition;
 use crate::formats::{GivenFormat, Notation};
+use crate::help::MISPLACED;
 use crate::models::{Models, model_of, models_of};
 use clap::error::ErrorKind;
 use clap::{ArgMatches, Error};
@@ -25,6 +26,8 @@ pub enum Question<'a> {
     Arguments(Model, GivenFormat<'a>),
     /// The canonical text of a format.
     Canon(Model, GivenFormat<'a>),
+    /// The canonical text of a format of the whole language.
+    CanonWhole(Model, GivenFormat<'a>),
     /// What a format is made of.
     Show(Model, GivenFormat<'a>),
     /// What a format prints for arguments.
@@ -54,6 +57,15 @@ pub enum Question<'a> {
         /// The other.
         second: GivenFormat<'a>,
     },
+    /// Whether two formats of the whole language are interchangeable.
+    SameWhole {
+        /// The data models.
+        models: Models,
+        /// The first format.
+        first: GivenFormat<'a>,
+        /// The second format.
+        second: GivenFormat<'a>,
+    },
 }
 
 /// What is asked about formats, whichever they are, and how they are given: they may be among the
@@ -66,12 +78,16 @@ pub enum RecordQuestion {
     Arguments(Notation, Model),
     /// The canonical text of each.
     Canon(Notation, Model),
+    /// The canonical text of each, in the whole language.
+    CanonWhole(Notation, Model),
     /// What each is made of.
     Show(Notation, Model),
     /// Of each two, whether the second takes just the arguments of the first.
     Fits(Notation, Models),
     /// Of each two, whether one may stand for the other.
     Same(Notation, Models),
+    /// Of each two formats of the whole language, whether they are interchangeable.
+    SameWhole(Notation, Models),
 }
 
 impl RecordQuestion {
@@ -103,11 +119,15 @@ impl RecordQuestion {
             RecordQuestion::Canon(notation, model) => {
                 Some(Question::Canon(model, GivenFormat::new(notation, text)))
             }
+            RecordQuestion::CanonWhole(notation, model) => {
+                Some(Question::CanonWhole(model, GivenFormat::new(notation, text)))
+            }
             RecordQuestion::Show(notation, model) => {
                 Some(Question::Show(model, GivenFormat::new(notation, text)))
             }
             RecordQuestion::Fits(_, _) => None,
             RecordQuestion::Same(_, _) => None,
+            RecordQuestion::SameWhole(_, _) => None,
         }
     }
 
@@ -122,6 +142,11 @@ impl RecordQuestion {
                 second: GivenFormat::new(notation, second),
             }),
             RecordQuestion::Same(notation, models) => Some(Question::Same {
+                models,
+                first: GivenFormat::new(notation, first),
+                second: GivenFormat::new(notation, second),
+            }),
+            RecordQuestion::SameWhole(notation, models) => Some(Question::SameWhole {
                 models,
                 first: GivenFormat::new(notation, first),
                 second: GivenFormat::new(notation, second),
@@ -206,10 +231,10 @@ fn kind_asked(name: &str, inner: &ArgMatches<'_>) -> Option<RecordQuestion>
     let model = model_of(inner);
     match name {
         "types" => Some(about_types(inner, notation, model)),
-        "canon" => Some(RecordQuestion::Canon(notation, model)),
+        "canon" => Some(about_canonical(inner, notation, model)),
         "show" => Some(RecordQuestion::Show(notation, model)),
         "fits" => Some(RecordQuestion::Fits(notation, models_of(inner))),
-        "same" => Some(RecordQuestion::Same(notation, models_of(inner))),
+        "same" => Some(about_same(inner, notation, models_of(inner))),
         _ => None,
     }
 }
@@ -223,6 +248,30 @@ fn about_types(inner: &ArgMatches<'_>, notation: Notation, model: Model) -> Reco
         RecordQuestion::Arguments(notation, model)
     } else {
         RecordQuestion::Types(notation, model)
+    }
+}
+
+// What the command about canonical texts asks: in the profile, or in the whole language.
+fn about_canonical(inner: &ArgMatches<'_>, notation: Notation, model: Model) -> RecordQuestion
+    ensures { notation ≡ notation_in (rows_in inner.now) → model ≡ model_in (rows_in inner.now)
+        → IsAsked (codes "canon") (rows_in inner.now) result }
+{
+    if is_set(inner, "whole") {
+        RecordQuestion::CanonWhole(notation, model)
+    } else {
+        RecordQuestion::Canon(notation, model)
+    }
+}
+
+// What the command that compares asks: in the profile, or in the whole language.
+fn about_same(inner: &ArgMatches<'_>, notation: Notation, models: Models) -> RecordQuestion
+    ensures { notation ≡ notation_in (rows_in inner.now) → models ≡ models_in (rows_in inner.now)
+        → IsAsked (codes "same") (rows_in inner.now) result }
+{
+    if is_set(inner, "whole") {
+        RecordQuestion::SameWhole(notation, models)
+    } else {
+        RecordQuestion::Same(notation, models)
     }
 }
 

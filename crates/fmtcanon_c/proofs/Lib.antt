@@ -2,3 +2,6 @@ pub mod CodeLemmas
 pub mod ComparingLemmas
 mod SamenessLemmas
 mod SignatureLemmas
+pub mod WholeComparingLemmas
+mod WholeLemmas
+mod HeaderLemmas

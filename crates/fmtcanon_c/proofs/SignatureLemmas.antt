@@ -1,5 +1,5 @@
 -- Two formats that don't take the same arguments, and data models in which they do.
-use Rattle.std.proofs.Common.{◌≡◌, ◌∙◌, ◌++◌, ◌∷◌, [], ◌+◌, ◌<◌, Bool, true, false, List, ℕ, suc, Some, ap, arith, drop, get_or, length, slice_get, subst, sym, take}
+use Rattle.std.proofs.Common.{◌≡◌, ◌∙◌, ◌++◌, ◌+◌, ◌<◌, Bool, true, false, List, ℕ, suc, Some, ap, arith, drop, get_or, length, slice_get, subst, sym, take}
 use Rattle.std.specs.List.{AllByRecursion}
 use Rattle.std.specs.Prelude.{◌↔◌, IsTrue}
 use Rattle.std.proofs.Math.Seq.{take-suc}

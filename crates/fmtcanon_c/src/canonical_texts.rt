@@ -103,7 +103,8 @@ fn canonical_length_in(model: Model, text: &[u8], error: &mut CError) -> i64
     }
 }
 
-fn length_code(len: u128) -> i64
+/// Returns a length as an answer, or the code of no memory if it is 2^63 or more.
+pub(crate) fn length_code(len: u128) -> i64
     ensures { IsLengthCode len result }
 {
     if len < 1 << 63 { len as i64 } else { NO_MEMORY }

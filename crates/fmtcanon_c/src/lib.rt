@@ -6,4 +6,7 @@ mod canonical_texts;
 mod comparison;
 mod directives;
 mod interface;
+mod laws;
 mod literals;
+mod whole_comparison;
+mod whole_texts;

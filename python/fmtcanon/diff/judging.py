@@ -15,7 +15,7 @@ RULES = {
     Kind.SAME.value: "The old and the new format take the same arguments and print the same bytes.",
     Kind.DIFFERENT.value: "The old and the new format take the same arguments and print other bytes.",
     Kind.TYPES.value: "The old and the new format take arguments of different types.",
-    Kind.DIRECTIVES.value: "The old and the new format have different directives that aren't compared further.",
+    Kind.DIRECTIVES.value: "The old and the new format have different directives, by their normal spelling.",
     Kind.UNJUDGED.value: "The old or the new literal is not a format that can be judged.",
 }
 # A longer format is compared without what it shares with the other.

@@ -43,7 +43,7 @@ def meaning_of(place: Place, models: Sequence[Model]) -> Tuple[Tuple[bytes, ...]
         if text is None:
             return (), why
         try:
-            found.append(library.canonical(text, model=model))
+            found.append(library.canonical(text, model))
         except Refused as refusal:
             return (), f"{refusal} of {shown(text)}"
     return tuple(found), ""

@@ -94,7 +94,7 @@ class Pairs:
     def meaning(self, text: bytes) -> Optional[Hashable]:
         """Returns what all texts of one meaning have in common, or None for a text that is no format."""
         try:
-            found = tuple(LIBRARY.canonical(text, model=it) for it in self.models)
+            found = tuple(LIBRARY.canonical(text, it) for it in self.models)
         except fmtcanon.Refused:
             return None
         return found, not self.is_posix and has_grouping(text)

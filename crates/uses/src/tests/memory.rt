@@ -1,5 +1,6 @@
 //! What the calls return when every allocation is refused.
 use exhaustion::{Exhausted, is_all_refused};
+use growths::{Call, each_is_refused};
 use pf_canon::{
     CanonBytes, CanonFault, Side, canonical_len, canonical_stream, canonical_with_room,
     is_canonical, same_stream, same_text,
@@ -299,8 +300,8 @@ fn is_right(alloc: Global, part: u8) -> Result<bool, AllocError> {
         1 => eight_types_need_none(alloc),
         2 => all_answer(alloc),
         3 => none_for_nothing(alloc),
-        4 => growths::render_vec_is_refused(alloc),
-        _ => growths::confirms_is_refused(alloc),
+        4 => each_is_refused(alloc, Call::RenderVec),
+        _ => each_is_refused(alloc, Call::Confirms),
     }
 }
 

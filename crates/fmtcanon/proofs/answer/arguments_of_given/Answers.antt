@@ -1,6 +1,7 @@
 use Rattle.std.proofs.Common.{subst, sym}
 use Rattle.fmtcanon.specs.Answers.{IsWholeFault}
 use Rattle.fmtcanon.specs.Formats.{IsFormat}
+use Rattle.fmtcanon.specs.Languages.{Numbered}
 use Rattle.fmtcanon.proofs.GivenLemmas.{whole_of_bytes, given_fault}
 use Rattle.fmtcanon.proofs.answer.arguments_of_given.Goals as goal
 
@@ -8,4 +9,4 @@ pub returns : goal.returns
 returns c =
     let bytes = c.as_slice.result.now in
     let gives = subst (IsFormat c.args.format.now) (sym c.as_slice.ensures.value) c.in_ok-bytes.ensures in
-    given_fault (IsWholeFault c.args.model) c.args.format.now bytes c.in-Err.fault c.placed_in.result (whole_of_bytes c.args.model bytes) gives c.in-Err.ensures c.placed_in.ensures
+    given_fault (IsWholeFault Numbered c.args.model) c.args.format.now bytes c.in-Err.fault c.placed_in.result (whole_of_bytes Numbered c.args.model bytes) gives c.in-Err.ensures c.placed_in.ensures

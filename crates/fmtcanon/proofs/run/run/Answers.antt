@@ -1,10 +1,13 @@
-use Rattle.std.proofs.Common.{subst, map}
-use Rattle.fmtcanon.specs.Tasks.{Asks}
-use Rattle.fmtcanon.proofs.RunLemmas.{leaves_asked}
+use Rattle.std.proofs.Common.{map}
+use Rattle.fmtcanon.proofs.RunLemmas.{asks_for, asks_of}
 use Rattle.fmtcanon.proofs.run.run.Goals as goal
 
-pub returns-in-Ok-Answer : goal.returns-in-Ok-Answer
-returns-in-Ok-Answer g c =
-    let words = map (λ s. s.now) c.args.words.now in
-    let asks = subst (Asks words) c.in-Ok-Answer.field-0-is c.in-Ok-Answer.ensures.ok in
-    leaves_asked g.R.Read.remaining g.W.Write.contents c.args.reader.now c.args.writer.now c.answer.new.writer words c.in-Ok-Answer.question asks c.answer.result c.answer.ensures
+pub run_found-requires : goal.run_found-requires
+run_found-requires g c = record {
+  ready = λ task left now e h. c.requires.ready task left now (asks_of (map (λ s. s.now) c.args.words.now) c.task_of.result task c.task_of.ensures.ok e) h;
+}
+
+pub returns : goal.returns
+returns g c =
+    let found = c.task_of.result in
+    (found, asks_for (map (λ s. s.now) c.args.words.now) found c.task_of.ensures.ok c.task_of.ensures.err, c.run_found.ensures)

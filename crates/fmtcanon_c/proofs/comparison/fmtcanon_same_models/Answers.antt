@@ -1,4 +1,4 @@
-use Rattle.std.proofs.Common.{◌≡◌, ◌∙◌, arith, inl, of_z, pos, refl, to_z}
+use Rattle.std.proofs.Common.{◌≡◌, arith, inl, of_z, pos, refl, to_z}
 use Rattle.std.specs.Int.{w64}
 use Rattle.std.proofs.lemmas.Int.{ints}
 use Rattle.fmtcanon_c.proofs.comparison.fmtcanon_same_models.Goals as goal

@@ -1,13 +1,10 @@
-//! Calls that allocate more than once, and that neither the program nor the C library shows: each with no memory, and
-//! then with a little more each time, until it succeeds.
+//! Calls that allocate more than once, and that neither the program nor the C library shows: each allocation of a call
+//! is refused in turn.
 use super::exhaustion::Exhausted;
 use pf_compare::confirms;
 use pf_render::{RenderVecFault, render_vec};
-use pf_values::{Arg, CBytes, Model};
+use pf_values::{Arg, Model};
 use std::alloc::{AllocError, Global};
-
-// The most blocks that are freed.
-const BLOCKS: usize = 4_096;
 
 // How a call ended: as with ample memory, out of memory, or otherwise.
 #[derive(Clone, Copy, PartialEq, Eq)]
@@ -21,35 +18,47 @@ fn answer_of(right: bool) -> Seen {
     if right { Seen::Answer } else { Seen::Wrong }
 }
 
-// A format with a number and a string, whose literal bytes and directives each make the vector grow.
-const FORMAT: &[u8] = b"abcdefghijklmnop%40d%%qrstuvwxyz%-50s0123456789";
+#[derive(Clone, Copy)]
+pub(super) enum Call {
+    RenderVec,
+    Confirms,
+}
 
-const PRINTED: &[u8] =
-    b"abcdefghijklmnop                                      42%qrstuvwxyzbyte                                              0123456789";
+// The literal bytes before the directives of two formats.
+const FIRST: usize = 1_100;
+
+const SECOND: usize = 4_500;
+
+// The lengths of the allocations of each call, in order. A vector that is full grows to twice its length, or to what it has
+// to hold if that is more. Each part of a directive is written alone, as spaces and then digits.
+fn lens_of(call: Call) -> &'static [usize] {
+    match call {
+        Call::RenderVec => &[1_100, 3_098, 6_196, 12_392],
+        Call::Confirms => &[1_100, 3_098, 6_196, 4_500, 9_000],
+    }
+}
 
 fn render_vec_seen(alloc: Global) -> Seen {
-    let Some(string) = CBytes::new(b"byte") else {
-        return Seen::Wrong;
-    };
-    let args = [Arg::Int(42), Arg::Str(string)];
-    match render_vec(alloc, Model::Lp64, FORMAT, &args) {
-        Ok(bytes) => answer_of(bytes.as_slice() == PRINTED),
+    let mut format = [b'x'; FIRST + 12];
+    format[FIRST..].copy_from_slice(b"%2000d%4095d");
+    match render_vec(alloc, Model::Lp64, &format, &[Arg::Int(-1), Arg::Int(42)]) {
+        Ok(bytes) => answer_of(
+            bytes.len() == FIRST + 6_095 && bytes.starts_with(b"xx") && bytes.ends_with(b" 42"),
+        ),
         Err(RenderVecFault::Memory) => Seen::Memory,
         Err(_) => Seen::Wrong,
     }
 }
 
 fn confirms_seen(alloc: Global) -> Seen {
-    match confirms(alloc, Model::Ilp32, b"%05d", b"%.5d", &[Arg::Int(-1)]) {
+    let mut first = [b'x'; FIRST + 6];
+    first[FIRST..].copy_from_slice(b"%2000d");
+    let mut second = [b'x'; SECOND + 7];
+    second[SECOND..].copy_from_slice(b"%.4000d");
+    match confirms(alloc, Model::Ilp32, &first, &second, &[Arg::Int(42)]) {
         Ok(differ) => answer_of(differ),
         Err(AllocError) => Seen::Memory,
     }
-}
-
-#[derive(Clone, Copy)]
-enum Call {
-    RenderVec,
-    Confirms,
 }
 
 fn outcome_of(alloc: Global, call: Call) -> Seen {
@@ -59,38 +68,31 @@ fn outcome_of(alloc: Global, call: Call) -> Seen {
     }
 }
 
-// Whether a call is out of memory until there is enough, and then succeeds. Each time `block` bytes more are free. It
-// must also be out of memory once `first` bytes are free, which is more than its first allocation needs.
-fn is_memory_until_it_answers(
+// A block for each length, the first one last. Between them are blocks that stay, so that two are never joined.
+fn blocks_for(
     alloc: Global,
-    call: Call,
-    block: usize,
-    first: usize,
-) -> Result<bool, AllocError> {
-    let mut reserve = Vec::with_capacity(alloc, BLOCKS)?;
-    for _ in 0..BLOCKS {
-        reserve.push(Vec::<u8>::with_capacity(alloc, block)?)?;
+    lens: &[usize],
+    between: &mut Vec<Vec<u8>>,
+) -> Result<Vec<Vec<u8>>, AllocError> {
+    let mut blocks = Vec::with_capacity(alloc, lens.len())?;
+    for len in lens.iter().rev() {
+        blocks.push(Vec::with_capacity(alloc, *len)?)?;
+        between.push(Vec::with_capacity(alloc, FIRST)?)?;
     }
+    Ok(blocks)
+}
+
+/// Whether a call is out of memory as long as only the blocks of its first allocations are free, whichever is the next,
+/// and answers once all are.
+pub(super) fn each_is_refused(alloc: Global, call: Call) -> Result<bool, AllocError> {
+    let mut between = Vec::with_capacity(alloc, lens_of(call).len())?;
+    let mut blocks = blocks_for(alloc, lens_of(call), &mut between)?;
     let _exhausted = Exhausted::new(alloc)?;
-    let mut is_refused_later = false;
-    for _ in 0..BLOCKS {
-        let has_first = Vec::<u8>::with_capacity(alloc, first).is_ok();
-        match outcome_of(alloc, call) {
-            Seen::Answer => return Ok(is_refused_later),
-            Seen::Memory => is_refused_later = is_refused_later || has_first,
-            Seen::Wrong => return Ok(false),
+    for _ in 0..blocks.len() {
+        if outcome_of(alloc, call) != Seen::Memory {
+            return Ok(false);
         }
-        drop(reserve.pop());
+        drop(blocks.pop());
     }
-    Ok(false)
-}
-
-/// Whether `render_vec` is out of memory until there is enough.
-pub(super) fn render_vec_is_refused(alloc: Global) -> Result<bool, AllocError> {
-    is_memory_until_it_answers(alloc, Call::RenderVec, 136, 100)
-}
-
-/// Whether `confirms` is out of memory until there is enough.
-pub(super) fn confirms_is_refused(alloc: Global) -> Result<bool, AllocError> {
-    is_memory_until_it_answers(alloc, Call::Confirms, 24, 24)
+    Ok(outcome_of(alloc, call) == Seen::Answer)
 }

@@ -1,4 +1,4 @@
--- Whether formats fit in one data model after the other.
+-- Questions about two formats of the whole language, in one data model after the other.
 use Rattle.std.proofs.Common.{◌≡◌, ℕ, suc, ◌+◌, ◌<◌, List, [], ◌∷◌, ◌++◌, length, get_or, take, drop, refl, sym, ap, ◌∙◌, subst, arith, Result, Ok, Err}
 use Rattle.std.specs.List.{AllByRecursion}
 use Rattle.std.specs.Prelude.{MatchOption, MatchResult, Option, None, Some}
@@ -10,17 +10,21 @@ use Rattle.pf_literals.specs.declared.faults.LiteralFault.TheVariants as literal
 use Rattle.pf_values.specs.declared.models.Model.{Model}
 use Rattle.pf_values.specs.declared.models.Model.TheVariants.{Ilp32, Llp64}
 use Rattle.pf_values.specs.meaning.Text.{Text}
-use Rattle.pf_signatures.specs.Items.{IsPosixAccepted}
 use Rattle.pf_signatures.proofs.Agreeing.{all_map, all_push}
-use Rattle.fmtcanon.specs.Answers.{IsFirstFault, IsFitFault, IsFitFaultIn, IsGivenFitFault, IsGivenPairFault, IsFaultInTexts, IsWholeFault, side_of}
+use Rattle.fmtcanon.specs.Answers.{IsFirstFault, IsGivenPairFault, IsGivenWholePairFault, IsFaultInTexts, IsWholeFault, IsWholePairFault, IsWholePairFaultIn, side_of}
 use Rattle.fmtcanon.specs.Faults.{of_literal}
 use Rattle.fmtcanon.specs.Formats.{HoldsOf, IsBytesFault, IsFormat}
+use Rattle.fmtcanon.specs.Languages.{AcceptsText, Language, language_of}
 use Rattle.fmtcanon.specs.Models.{asked_models, first_model}
+use Rattle.fmtcanon.specs.WholeAnswers.{IsPairAnswer}
+use Rattle.fmtcanon.specs.declared.answer.Ending.{Ending}
 use Rattle.fmtcanon.specs.declared.formats.GivenFormat.{GivenFormat}
 use Rattle.fmtcanon.specs.declared.models.Models.{Models}
 use Rattle.fmtcanon.specs.declared.models.Models.TheVariants.{All, Both, One}
 use Rattle.fmtcanon.specs.declared.outcome.Fault.{Fault}
-use Rattle.fmtcanon.proofs.GivenLemmas.{fit_fault}
+use Rattle.fmtcanon.specs.declared.whole.PairQuestion.{PairQuestion}
+use Rattle.fmtcanon.specs.declared.whole.PairQuestion.TheVariants.{Fits, Same}
+use Rattle.fmtcanon.proofs.GivenLemmas.{whole_pair_fault}
 
 module _ (models : List Model) (i : ℕ) (d : Model) (few : i < length models) where
   -- one more data model
@@ -42,24 +46,30 @@ module _ (models : List Model) (i : ℕ) (d : Model) (few : i < length models) w
         fault_is = is;
       }
 
--- one data model
-pub one_model : {X : Type 0} (Says : X → Type 0) (model : Model) (first second : Text) (result : Result X Fault) → MatchResult result Says (IsFitFault model first second)
-    → MatchResult result Says (IsFitFaultIn (model ∷ []) first second)
-one_model Says model first second (Ok answer) h = h
-one_model Says model first second (Err fault) h = record { before = []; model = model; after = []; split = refl; accepted = tt; fault_is = h }
+-- what is answered about is accepted
+pub accepts_both : (question : PairQuestion) (model : Model) (first second out : Text) (ending : Ending) → IsPairAnswer question model first second out ending
+    → AcceptsText (language_of question) model first × AcceptsText (language_of question) model second
+accepts_both Fits model first second out ending h = ((h.compares.types, h.compares.first_accepted), (h.compares.others, h.compares.second_accepted))
+accepts_both Same model first second out ending h = (h.is.is.first, h.is.is.second)
 
-module _ (first second : GivenFormat) where
+-- one data model
+pub one_model : {X : Type 0} (Says : X → Type 0) (language : Language) (model : Model) (first second : Text) (result : Result X Fault)
+    → MatchResult result Says (IsWholePairFault language model first second) → MatchResult result Says (IsWholePairFaultIn language (model ∷ []) first second)
+one_model Says language model first second (Ok answer) h = h
+one_model Says language model first second (Err fault) h = record { before = []; model = model; after = []; split = refl; accepted = tt; fault_is = h }
+
+module _ (language : Language) (first second : GivenFormat) where
   -- a fault of texts is one of the formats that give them
-  pub fit_faults : (one other : Text) → IsFormat first one → IsFormat second other → (models : List Model) (fault reported : Fault) → IsFitFaultIn models one other fault
-      → IsFaultInTexts first second (side_of fault) fault reported → IsGivenFitFault models first second reported
-  fit_faults one other g h models fault reported k is =
+  pub pair_faults : (one other : Text) → IsFormat first one → IsFormat second other → (models : List Model) (fault reported : Fault) → IsWholePairFaultIn language models one other fault
+      → IsFaultInTexts first second (side_of fault) fault reported → IsGivenWholePairFault language models first second reported
+  pair_faults one other g h models fault reported k is =
       record {
         before = k.before;
         model = k.model;
         after = k.after;
         split = k.split;
-        accepted = all_map _ (λ model. HoldsOf first (IsPosixAccepted model) × HoldsOf second (IsPosixAccepted model)) k.before (λ model a. ((one, g, a.0), (other, h, a.1))) k.accepted;
-        fault_is = fit_fault first second one other g h k.model fault reported k.fault_is is;
+        accepted = all_map _ (λ model. HoldsOf first (AcceptsText language model) × HoldsOf second (AcceptsText language model)) k.before (λ model a. ((one, g, a.0), (other, h, a.1))) k.accepted;
+        fault_is = whole_pair_fault first second one other g h language k.model fault reported k.fault_is is;
       }
 
   rest_of : (models : Models) → (rest : List Model) × (asked_models models ≡ first_model models ∷ rest)
@@ -68,8 +78,8 @@ module _ (first second : GivenFormat) where
   rest_of All = (Ilp32 ∷ Llp64 ∷ [], refl)
 
   -- a fault in the first data model
-  pub first_fault : (models : Models) (fault : Fault) → IsGivenPairFault (IsWholeFault (first_model models)) (IsPosixAccepted (first_model models)) first second fault
-      → IsGivenFitFault (asked_models models) first second fault
+  pub first_fault : (models : Models) (fault : Fault) → IsGivenPairFault (IsWholeFault language (first_model models)) (AcceptsText language (first_model models)) first second fault
+      → IsGivenWholePairFault language (asked_models models) first second fault
   first_fault models fault h =
       let rest = rest_of models in
       record { before = []; model = first_model models; after = rest.0; split = rest.1; accepted = tt; fault_is = h }
@@ -84,18 +94,18 @@ module _ (first second : GivenFormat) where
   literal_second IsFault Accepted (literals.Refused refusal) a h = (a, h)
   literal_second IsFault Accepted literals.Memory a h = tt
 
-  pub first_missing : (models : Models) (fault : LiteralFault) (result : Fault) → IsBytesFault first fault → result ≡ of_literal (Some sides.First) fault → IsGivenFitFault (asked_models models) first second result
+  pub first_missing : (models : Models) (fault : LiteralFault) (result : Fault) → IsBytesFault first fault → result ≡ of_literal (Some sides.First) fault → IsGivenWholePairFault language (asked_models models) first second result
   first_missing models fault result h e =
-      subst (IsGivenFitFault (asked_models models) first second) (sym e)
-      (first_fault models (of_literal (Some sides.First) fault) (literal_first (IsWholeFault (first_model models)) (IsPosixAccepted (first_model models)) fault h))
+      subst (IsGivenWholePairFault language (asked_models models) first second) (sym e)
+      (first_fault models (of_literal (Some sides.First) fault) (literal_first (IsWholeFault language (first_model models)) (AcceptsText language (first_model models)) fault h))
 
   pub second_missing : (models : Models) (model : Model) (one : Text) (refused : Option Fault) (fault : LiteralFault) (result : Fault) → model ≡ first_model models → IsFormat first one
-      → MatchOption refused (IsPosixAccepted model one) (λ f. (other : GivenFormat) → IsGivenPairFault (IsWholeFault model) (IsPosixAccepted model) first other f) → IsBytesFault second fault
-      → MatchOption refused (result ≡ of_literal (Some sides.Second) fault) (λ f. result ≡ f) → IsGivenFitFault (asked_models models) first second result
+      → MatchOption refused (AcceptsText language model one) (λ f. (other : GivenFormat) → IsGivenPairFault (IsWholeFault language model) (AcceptsText language model) first other f) → IsBytesFault second fault
+      → MatchOption refused (result ≡ of_literal (Some sides.Second) fault) (λ f. result ≡ f) → IsGivenWholePairFault language (asked_models models) first second result
   second_missing models model one None fault result m g accepted h e =
-      let holds = subst (λ x. IsPosixAccepted x one) m accepted in
-      subst (IsGivenFitFault (asked_models models) first second) (sym e)
-      (first_fault models (of_literal (Some sides.Second) fault) (literal_second (IsWholeFault (first_model models)) (IsPosixAccepted (first_model models)) fault (one, g, holds) h))
+      let holds = subst (λ x. AcceptsText language x one) m accepted in
+      subst (IsGivenWholePairFault language (asked_models models) first second) (sym e)
+      (first_fault models (of_literal (Some sides.Second) fault) (literal_second (IsWholeFault language (first_model models)) (AcceptsText language (first_model models)) fault (one, g, holds) h))
   second_missing models model one (Some f) fault result m g refused h e =
-      subst (IsGivenFitFault (asked_models models) first second) (sym e)
-      (first_fault models f (subst (λ x. IsGivenPairFault (IsWholeFault x) (IsPosixAccepted x) first second f) m (refused second)))
+      subst (IsGivenWholePairFault language (asked_models models) first second) (sym e)
+      (first_fault models f (subst (λ x. IsGivenPairFault (IsWholeFault language x) (AcceptsText language x) first second f) m (refused second)))

@@ -1,0 +1,15 @@
+use Rattle.std.proofs.Common.{◌≡◌, inr, arith, to_z, of_z}
+use Rattle.std.specs.Int.{w64}
+use Rattle.std.proofs.lemmas.Int.{ints}
+use Rattle.fmtcanon_c.proofs.WholeComparingLemmas.{not_compared, made}
+use Rattle.fmtcanon_c.proofs.whole_comparison.whole_compare_in.Goals as goal
+
+pub returns-in-Ok : goal.returns-in-Ok
+returns-in-Ok c =
+    let code : to_z w64 (of_z w64 c.put_verdict.result) ≡ c.put_verdict.result = omega (arith, ints) in
+    rw code (made c.args.model c.args.first.now c.args.second.now c.args.out.now c.args.comparison.now c.args.error.now c.put_verdict.result c.put_verdict.new.out c.put_verdict.new.comparison c.in-Ok.verdict c.in-Ok.ensures c.put_verdict.ensures)
+
+pub returns-in-Err : goal.returns-in-Err
+returns-in-Err c =
+    let code : to_z w64 (of_z w64 c.whole_fault_code.result) ≡ c.whole_fault_code.result = omega (arith, ints) in
+    rw code (inr (not_compared c.args.model c.args.first.now c.args.second.now c.args.out.now c.args.comparison.now c.args.error.now c.whole_fault_code.new.error c.whole_fault_code.result c.in-Err.fault c.in-Err.ensures c.whole_fault_code.ensures))

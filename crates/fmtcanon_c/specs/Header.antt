@@ -1,0 +1,42 @@
+-- The numbers of include/fmtcanon.h that constants of the code have. This project's own.
+use Rattle.std.specs.Prelude.{◌≡◌, ℕ, ◌+◌, ◌-◌, ◌^◌, ℤ, pos, neg_ℤ}
+use Rattle.pf_literals.specs.Kinds.{literal_kind_number}
+use Rattle.pf_literals.specs.declared.faults.LiteralKind.{LiteralKind}
+use Rattle.pf_literals.specs.declared.faults.LiteralKind.TheVariants.{NoLiteral, Unterminated, BadEscape, EscapeTooLarge, ZeroByte, Trigraph}
+use Rattle.fmtcanon_c.specs.declared.directives.TheConstants.{NO_ARGUMENT}
+use Rattle.fmtcanon_c.specs.declared.interface.TheConstants.{LITERAL_KINDS, NO_MEMORY, NO_MODEL, NO_PLACE}
+
+-- FMTCANON_ERROR_NOMEMORY
+abbrev pub error_nomemory : ℤ
+error_nomemory = neg_ℤ (pos 100)
+
+-- FMTCANON_ERROR_MODEL
+abbrev pub error_model : ℤ
+error_model = neg_ℤ (pos 101)
+
+-- FMTCANON_ERROR_NOPLACE
+abbrev pub error_noplace : ℤ
+error_noplace = neg_ℤ (pos 102)
+
+-- enum fmtcanon_literal_kind
+abbrev pub literal_kind_in_header : LiteralKind → ℕ
+literal_kind_in_header NoLiteral = 201
+literal_kind_in_header Unterminated = 202
+literal_kind_in_header BadEscape = 203
+literal_kind_in_header EscapeTooLarge = 204
+literal_kind_in_header ZeroByte = 205
+literal_kind_in_header Trigraph = 206
+
+-- the codes that are no refusal are those of the header
+pub record AreErrorsOfHeader : Type 0 where
+  pub memory : NO_MEMORY ≡ error_nomemory
+  pub model : NO_MODEL ≡ error_model
+  pub place : NO_PLACE ≡ error_noplace
+
+-- what the code makes of the number of a kind of faults of literals is its number in the header
+abbrev pub HasNumberOfHeader : LiteralKind → Type 0
+HasNumberOfHeader kind = LITERAL_KINDS + literal_kind_number kind ≡ literal_kind_in_header kind
+
+-- FMTCANON_NO_ARGUMENT, which is UINT64_MAX
+abbrev pub IsArgumentOfHeader : Type 0
+IsArgumentOfHeader = NO_ARGUMENT ≡ 2 ^ 64 - 1
