@@ -180,7 +180,7 @@ def try_git(tool, trials):
     tool.git("mv", "b.c", "c.c")
     tool.put("c.c", 'printf("%d\\n", x);\n' * 8 + 'printf("%u\\n", x);\n')
     tool.git("commit", "-qam", "third")
-    renamed = (1, "c.c:9:8: types differ at argument 0: int and unsigned int\n", SUMMARY.replace("6 places", "1 places").replace("1 same, 2 different, 2", "0 same, 0 different, 1").replace("1 not", "0 not").replace("2 literals came, 1", "0 literals came, 0"))
+    renamed = (1, "c.c:9:8: types differ at argument 0: int and unsigned int\n", SUMMARY.replace("6 places", "1 place").replace("1 same, 2 different, 2", "0 same, 0 different, 1").replace("1 not", "0 not").replace("2 literals came, 1", "0 literals came, 0"))
     for words in [["--git", "HEAD~1", "HEAD"], ["--git", "HEAD~1..HEAD"], ["--git", "HEAD~1"], ["--git", "HEAD~1", "--", "c.c", "b.c"]]:
         trials.expect(f"a file with another name: {words}", tool.run(*words), renamed)
     status, output, _ = tool.run("--git", "HEAD~2", "HEAD", "--output", "json")

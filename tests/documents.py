@@ -244,6 +244,17 @@ def try_links(trials):
         trials.expect(f"links of {document} that lead nowhere", missing, [])
 
 
+def try_contracts(trials):
+    """The page of a crate on its contracts names each public function of the crate."""
+    for page in sorted((TOP / "crates").glob("*/CALLING.md")):
+        if page.parent.name != "fmtcanon":
+            text = page.read_text(encoding="utf-8")
+            sources = [path.read_text(encoding="utf-8") for path in page.parent.glob("src/**/*.rt")]
+            names = {name for source in sources for name in re.findall(r"^ *pub (?:const )?fn (\w+)", source, flags=re.MULTILINE)}
+            missing = [name for name in names if not re.search(rf"\b{name}\b", text)]
+            trials.expect(f"public functions that CALLING.md of {page.parent.name} lacks", sorted(missing), [])
+
+
 def try_map(trials):
     """The part of docs/internals/ARCHITECTURE.md on a crate has each of its source files."""
     text = (TOP / "docs/internals/ARCHITECTURE.md").read_text(encoding="utf-8")
@@ -309,6 +320,7 @@ def main():
     trials = Trials()
     try_names(trials)
     try_links(trials)
+    try_contracts(trials)
     try_map(trials)
     try_graph(trials)
     try_callers(trials)
