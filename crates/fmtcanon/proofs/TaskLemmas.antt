@@ -6,7 +6,7 @@ use Rattle.clap.specs.Walk.{Row, first_of}
 use Rattle.pf_values.specs.meaning.Text.{Text}
 use Rattle.fmtcanon.specs.Questions.{formats_of, formats_wanted}
 use Rattle.fmtcanon.specs.Models.{model_in, models_in}
-use Rattle.fmtcanon.specs.Tasks.{Asks, AsksOther, IsAsked, IsAskedOf, IsMisplaced, IsNoTaskOf, IsNoTaskOn, IsQuestion, IsTaskOn, Names, formats_given, formats_in, is_whole, notation_in}
+use Rattle.fmtcanon.specs.Tasks.{Asks, AsksOther, IsAsked, IsAskedOf, IsNoTaskOf, IsNoTaskOn, IsQuestion, IsTaskOn, Names, formats_given, formats_in, is_whole, notation_in}
 use Rattle.fmtcanon.specs.declared.task.Question.{Question}
 use Rattle.fmtcanon.specs.declared.task.Question.TheVariants.{Types, Arguments, Canon, CanonWhole, Show, Format, Fits, Same, SameWhole}
 use Rattle.fmtcanon.specs.declared.task.RecordQuestion.{RecordQuestion}

@@ -26,7 +26,6 @@ use Rattle.fmtcanon.specs.Models.{asked_models}
 use Rattle.fmtcanon.specs.Shows.{HasShownLines}
 use Rattle.fmtcanon.specs.TypeLines.{HasTypeLines}
 use Rattle.fmtcanon.specs.WholeAnswers.{HasWholeCanonicalLine, IsPairAnswerIn}
-use Rattle.fmtcanon.specs.declared.whole.PairQuestion.{PairQuestion}
 use Rattle.fmtcanon.specs.declared.whole.PairQuestion.TheVariants as pairs
 
 -- the canonical text of an accepted format, in a notation, and a newline
