@@ -126,7 +126,7 @@ HAND_LITERALS = 27
 HAND_WHOLE = 44
 HAND_OPAQUE = 11
 # Numbers of that table that these scripts don't have.
-PLAIN_NUMBERS = [r"16 shapes", r"a record of 100 million bytes", r"\| \d+ runs and comparisons", r"after each byte \| \d+ runs", r"every 2 of", r"`parse_printf_format`"]
+PLAIN_NUMBERS = [r"16 shapes", r"a record of 100 million bytes", r"\| \d+ runs and comparisons", r"after each byte \| \d+ runs", r"every 2 of", r"spells in 2 ways", r"`parse_printf_format`"]
 NUMBER_WORDS = dict(zip("two three four five six seven eight nine ten eleven twelve thirteen fourteen fifteen sixteen seventeen eighteen".split(), range(2, 19)))
 
 
