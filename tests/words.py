@@ -3,8 +3,8 @@
 
 Usage: tests/words.py
 
-It reads the documents, the manual pages, the header, the help of the program, and the comments, docstrings and texts of the
-Python module. Its last line is 'N passed, M failed', and it exits with 1 if M isn't 0.
+It reads the documents, the manual pages, the header, the help of the program, the comments of the crates, and the comments,
+docstrings and texts of the Python module. Its last line is 'N passed, M failed', and it exits with 1 if M isn't 0.
 """
 
 import io
@@ -48,6 +48,11 @@ def words_of_python(text):
     return "\n".join(it.string.strip("rbfu\"'") for it in tokens if it.type in (tokenize.COMMENT, tokenize.STRING))
 
 
+def comments_of_rattle(text):
+    """The comments of a file of Rattle, without their marks."""
+    return "\n".join(re.findall(r"^ *//[/!]? ?(.*)$", text, re.MULTILINE))
+
+
 def plain(text):
     """A text in one line, without the marks of comments and of roff, and without spans in backticks."""
     text = re.sub(r"`[^`\n]*`", "", text)
@@ -59,6 +64,8 @@ def texts():
     """What is read for phrases, each with its name."""
     for path in [*pages(), *sorted((TOP / "man").iterdir()), *sorted((TOP / "include").iterdir()), TOP / "tests/usage.txt"]:
         yield str(path.relative_to(TOP)), path.read_text(encoding="utf-8")
+    for path in sorted(TOP.glob("crates/*/src/**/*.rt")):
+        yield str(path.relative_to(TOP)), comments_of_rattle(path.read_text(encoding="utf-8"))
     for path in sorted((TOP / "python/fmtcanon").rglob("*.py")):
         yield str(path.relative_to(TOP)), words_of_python(path.read_text(encoding="utf-8"))
 

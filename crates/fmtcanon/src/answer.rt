@@ -55,7 +55,7 @@ pub struct Answer {
     pub ending: Ending,
 }
 
-/// The answer to a question, or why there is none.
+/// Returns the answer to a question, or why it can't be answered.
 pub fn answer_to(alloc: Global, question: &Question<'_>) -> Result<Answer, Fault>
     ensures { MatchResult result
         (λ answer. IsAnswer question.now answer.bytes.items answer.ending)

@@ -22,7 +22,7 @@ pub enum UntypedArg<'a> {
 }
 
 impl<'a> UntypedArg<'a> {
-    /// The argument at a type, or `None` where it is none of the type's in this data model.
+    /// Returns the argument at a type, or `None` if it isn't one of this type in the data model.
     pub fn as_type(self, model: Model, arg_type: ArgType) -> Option<Arg<'a>>
         ensures typed { IsSome result ↔ HasType model (argument_given self.entry) arg_type }
         ensures some { IfSome result
@@ -143,7 +143,7 @@ fn read_words<'a>(alloc: Global, words: &[&'a str]) -> Result<Vec<UntypedArg<'a>
     Ok(given)
 }
 
-// The arguments at the types that are wanted, of which there are as many.
+// Returns the arguments at the types of the format, which takes just as many.
 fn at_types<'a>(
     alloc: Global,
     model: Model,

@@ -75,7 +75,7 @@ pub enum Outcome {
     Misplaced,
     /// A read failed.
     Read,
-    /// A write or the flush failed after so many bytes.
+    /// A write or the flush failed, after this number of bytes.
     Write(u128),
     /// A growth was refused.
     Memory,
@@ -110,9 +110,9 @@ impl Outcome {
         }
     }
 
-    /// The exit status: 0 where all was written, 1 for formats that differ, 2 for a refused format
-    /// or wrong literals, 3 for wrong words or arguments or a record too few, and 4 for a device that failed or want
-    /// of memory. Of records that were answered it is the greatest of theirs.
+    /// Returns the exit status: 0 if all was written, 1 if formats differ, 2 if a format is refused or
+    /// literals are wrong, 3 for a usage error, an invalid argument or an unpaired record, and 4 if a
+    /// device failed or memory was refused. Of records that were answered it is the highest of theirs.
     pub fn status(&self) -> u8
         ensures { result ≡ status_of self.now }
     {

@@ -44,7 +44,7 @@ struct Conversation {
 enum ConversationFault {
     // A growth was refused.
     Memory,
-    // A write failed after so many bytes.
+    // A write failed, after this number of bytes.
     Write(u128),
 }
 
@@ -67,7 +67,7 @@ pub fn answer_records<R: Read, W: Write, I: Input<R, W>>(
 {
     let mut conversation = Conversation::new(alloc, kind);
     let mut block = [0u8; READ_BLOCK];
-    // So many reads are never made. A reader may always have more, and each run returns.
+    // The bound is never reached. It is here because every function must be proved to return.
     for _turn in 0..u64::MAX {
         if let Err(count) = conversation.flush(writer) {
             return Outcome::Write(count);

@@ -52,7 +52,7 @@ fn push_piece(out: &mut Vec<u8>, model: Model, piece: Piece<'_>) -> Result<(), A
     }
 }
 
-// The line of a run with so many bytes.
+// Adds the line of a run of `len` bytes.
 fn push_run(out: &mut Vec<u8>, len: usize) -> Result<(), AllocError>
     ensures { IfOk result
         (λ _. out.new.items ≡ out.old.items ++ line (codes "text " ++ decimal len)) }

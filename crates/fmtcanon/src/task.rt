@@ -90,8 +90,8 @@ pub enum RecordQuestion {
 }
 
 impl RecordQuestion {
-    /// The question about a format, or about two. There is none where it is about another number of
-    /// them.
+    /// Returns the question about a format, or about two; `None` if it takes another number of
+    /// formats.
     pub fn about<'a>(self, first: &'a [u8], second: Option<&'a [u8]>) -> Option<Question<'a>>
         ensures { MatchOption result
             (length (formats_of first.now (option_map (λ s. s.now) second.entry)) ≢ formats_wanted self)
@@ -323,7 +323,7 @@ fn is_true(value: &str) -> bool
     }
 }
 
-// The question about the formats among the arguments, if there are so many as it is about.
+// Returns the question about the formats among the arguments, if it takes this number of formats.
 fn question_in<'a>(inner: &ArgMatches<'a>, kind: RecordQuestion) -> Option<Question<'a>>
     ensures { MatchOption result
         (length (formats_in (rows_in inner.now)) ≢ formats_wanted kind)
@@ -349,7 +349,7 @@ fn value_of<'a>(inner: &ArgMatches<'a>, id: &str) -> &'a str
     }
 }
 
-// The values of `ARG`, of which there may be none.
+// Returns the values of `ARG`, which may be absent.
 fn given_words<'a>(alloc: Global, inner: &ArgMatches<'a>) -> Result<Vec<&'a str>, AllocError>
     ensures { IfOk result (λ given.
         map (λ s. s.now) given.items

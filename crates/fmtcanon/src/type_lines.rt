@@ -66,7 +66,7 @@ fn lines_of_arguments(alloc: Global, types: &[ArgumentType]) -> Result<Vec<u8>, 
     Ok(out)
 }
 
-/// A type in words, as C spells it but for strings, wide characters and pointers.
+/// Returns a type in words: as C spells it, except for strings, wide characters and pointers.
 pub fn argument_name(argument_type: ArgumentType) -> &'static str
     ensures { result.now ≡ argument_name argument_type }
 {

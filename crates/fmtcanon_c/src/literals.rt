@@ -43,9 +43,9 @@ pub extern "C" fn fmtcanon_encode_literal(alloc: Global, text: &[u8], out: &mut 
     }
 }
 
-/// The place in a source where the element begins that gives the byte of this index; at the count of
-/// the bytes, the place of the last closing quote. The code of no place where there is none. It takes
-/// no memory.
+/// Returns the offset in a source at which the element begins that gives the byte with this index;
+/// for the number of bytes, the offset of the last closing quote; otherwise the code of no place. It
+/// takes no memory.
 #[unsafe(no_mangle)]
 pub extern "C" fn fmtcanon_source_offset(source: &[u8], index: u64) -> i64
     ensures { AnswersPlace source.now index result }

@@ -85,7 +85,7 @@ impl ByteTransducer {
         }
     }
 
-    /// The next byte of the canonical text, or why there is none. After a fault nothing comes.
+    /// Returns the next byte of the canonical text, or a fault. After a fault nothing comes.
     pub(crate) fn next<B: Bytes>(&mut self, bytes: &mut B) -> Option<Result<u8, StreamFault>>
         ensures steps { StepsBy B.left B.kept B.failed self.old bytes.old
             result self.new bytes.new }
@@ -128,7 +128,7 @@ impl ByteTransducer {
         self.pending.front()
     }
 
-    /// Gives so many of the bytes that are pending, or all if there are fewer.
+    /// Gives the first `count` of the bytes that are pending, or all if there are fewer.
     pub(crate) fn skip(&mut self, count: usize)
         ensures given { (model : Model) (start left : Known) (taken given : Text)
             → History model self.old start left taken given

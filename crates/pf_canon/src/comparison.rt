@@ -83,7 +83,7 @@ fn compare_verbatim(model: Model, f: &[u8], g: &[u8]) -> Option<Result<bool, (Si
     Some(Ok(false))
 }
 
-// The same of two texts that begin with so many equal bytes, which are read once.
+// Compares two texts whose first `common` bytes are equal. These are read once.
 fn same_after_common(
     model: Model,
     f: &[u8],
@@ -104,7 +104,7 @@ fn same_after_common(
     Ok(same)
 }
 
-// A walk through each of two texts that begin with so many equal bytes.
+// Returns a walk through each of two texts whose first `common` bytes are equal.
 #[inline(always)]
 fn walks_of<'a>(model: Model, f: &'a [u8], g: &'a [u8], common: usize) -> (Walk<'a>, Walk<'a>)
     requires { AreCommon f.now g.now common }
@@ -283,7 +283,7 @@ fn common_bytes(x: &[u8], y: &[u8]) -> usize
     common_from(x, y, at)
 }
 
-// The same byte by byte, where so many are known.
+// Counts the equal bytes at the front one by one, after the first `known`, which are equal.
 fn common_from(x: &[u8], y: &[u8], known: usize) -> usize
     requires { AreCommon x.now y.now known }
     ensures { AreCommon x.now y.now result }

@@ -97,7 +97,7 @@ impl Output {
     }
 }
 
-// The first of so many bytes that are all the same, a block of them at most.
+// The first of `count` equal bytes, at most a block of them.
 fn repeated(block: &[u8], count: u128) -> &[u8]
     requires { length block.now ≡ MAX_RUN }
     ensures { (byte : ℕ) → block.now ≡ replicate MAX_RUN byte
@@ -118,7 +118,7 @@ fn silent_front(silent: &[u8], at: u128) -> &[u8]
     &silent[(at % 4) as usize..]
 }
 
-// How many bytes some padding, silent directives of four bytes, and a spelling of so many bytes
+// How many bytes some padding, silent directives of four bytes, and a spelling of `spelling` bytes
 // are.
 fn whole_len(spaces: u16, zeros: u16, silents: u64, spelling: usize, trail: u16) -> u128
     ensures total { result ≡ spaces + (zeros + (4 * silents + (spelling + trail))) }
@@ -128,7 +128,7 @@ fn whole_len(spaces: u16, zeros: u16, silents: u64, spelling: usize, trail: u16)
     padding + u128::from(silents) * 4 + spelling as u128
 }
 
-/// What was settled, but for the bytes that were given.
+/// What was settled, without the bytes that were given.
 #[derive(Drop)]
 pub(crate) enum PendingOutput {
     /// Nothing.
@@ -172,7 +172,7 @@ impl PendingOutput {
         }
     }
 
-    /// Gives so many of the bytes that are pending, or all if there are fewer.
+    /// Gives the first `count` of the bytes that are pending, or all if there are fewer.
     pub(crate) fn skip(&mut self, count: usize)
         ensures { pending_text self.new ≡ drop count (pending_text self.old) }
     {

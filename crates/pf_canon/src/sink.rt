@@ -28,7 +28,7 @@ pub(crate) trait Sink {
     ghost laws: { IsSink given };
 }
 
-/// Puts one byte so many times; this is a block of it.
+/// Puts one byte `times` times; `block` is a run of it.
 #[inline(always)]
 pub(crate) fn put_repeated<S: Sink>(sink: &mut S, block: &[u8], times: u16)
     requires { length block.now ≡ MAX_RUN }
@@ -47,7 +47,7 @@ pub(crate) fn put_repeated<S: Sink>(sink: &mut S, block: &[u8], times: u16)
     sink.put(&block[..usize::from(times % BLOCK)]);
 }
 
-/// Puts so many silent directives.
+/// Puts `times` silent directives.
 #[inline(always)]
 pub(crate) fn put_silents<S: Sink>(sink: &mut S, times: u64)
     ensures { S.given sink.old sink.new (flat_map item_spelling (silents times)) }
@@ -96,7 +96,7 @@ impl<A: Allocator> TextBuffer for Vec<u8, A> {
     }
 }
 
-/// There is room for so many bytes, and none is ever taken from an allocator.
+/// There is room for `N` bytes, and an allocator is never asked for more.
 impl<const N: usize> TextBuffer for ArrayVec<u8, N> {
     ghost bytes_of = { λ v. v.items };
 

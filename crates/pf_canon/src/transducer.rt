@@ -66,8 +66,8 @@ impl Transducer {
         (transducer, len)
     }
 
-    // Takes more of a text of which so many bytes were taken, as far as it is its own canonical
-    // text, and returns how many were taken then.
+    // Takes more of a text of which `from` bytes were taken, as far as it is its own canonical text,
+    // and returns how many were taken then.
     #[inline(never)]
     fn pass_canonical(&mut self, text: &[u8], from: usize) -> usize
         requires from { from ≤ length text.now }
@@ -270,7 +270,7 @@ impl Transducer {
         }
     }
 
-    // The chunk that ends with a directive, which the scanner took as so many bytes from `at` on.
+    // The chunk that ends with a directive, which the scanner took as `len` bytes from `at` on.
     #[inline(always)]
     fn end_directive(
         &mut self,

@@ -65,7 +65,7 @@ impl<'a> Walk<'a> {
         self.output.front()
     }
 
-    /// Gives so many of the bytes that wait, or all if there are fewer.
+    /// Gives the first `count` of the bytes that wait, or all if there are fewer.
     pub(crate) fn skip(&mut self, count: usize)
         ensures given { (model : Model) (text given : Text)
             → WalkHasGiven model self.old text given

@@ -305,7 +305,7 @@ pub(crate) fn are_equal(first: &Directive, second: &Directive) -> bool
         && same_conv(first.conv(), second.conv())
 }
 
-/// Whether two directives have the same parts but for the flag ` `.
+/// Returns whether two directives have the same parts, except for the flag ` `.
 pub(crate) fn are_equal_beside_space(first: &Directive, second: &Directive) -> bool
     ensures { IsTrue result → with_space first.now ≡ with_space second.now }
 {
@@ -318,7 +318,7 @@ pub(crate) fn are_mostly_alike(first: &Directive, second: &Directive) -> bool {
     are_alike_beside_conv(first, second) && first.conv().kind() == second.conv().kind()
 }
 
-// Whether two directives have the same parts but for the flag ` ` and the conversion.
+// Returns whether two directives have the same parts, except for the flag ` ` and the conversion.
 fn are_alike_beside_conv(first: &Directive, second: &Directive) -> bool
     ensures { IsTrue result → (conv : Conv)
         → record (with_space first.now) { conv = conv } ≡ record (with_space second.now) { conv = conv } }

@@ -1,5 +1,6 @@
-//! What a directive prints of a number but for its digits: spaces, sign or prefix, and zeros; and the
-//! value that it prints, with the count of its digits. The same of one byte, and of a string of it.
+//! What a directive prints of a number, except for its digits: spaces, sign or prefix, and zeros; and
+//! the value that it prints, with the count of its digits. Also what it prints of one byte, and of a
+//! string of equal bytes.
 ghost use Rattle.std.specs.Prelude.{◌≡◌, ◌+◌, ◌<◌, ◌≤◌, ◌++◌, ℕ, ℤ, IsFalse, length, max, replicate, IsTrue, true, false};
 ghost use Rattle.std.specs.Int.Digits.{digits_of};
 ghost use Rattle.pf_values.specs.declared.models.Model.{Model};
@@ -149,9 +150,9 @@ pub(crate) enum SignOrPrefix {
     Letters(Base, bool),
 }
 
-/// A number in its field: spaces, a sign or prefix, so many digits with the zeros before them, and
-/// spaces again. A space in the place of a sign is counted among the spaces. The number has `count`
-/// digits of its own.
+/// A number in its field: spaces, a sign or prefix, digits with the zeros before them, and spaces
+/// again. A space in the place of a sign is counted among the spaces. The number has `count` digits
+/// of its own.
 #[derive(Clone, Copy)]
 pub(crate) struct Outline {
     pub(crate) spaces_before: u16,
@@ -249,7 +250,7 @@ impl Outline {
         Outline::in_field(directive, prefix, digits, counted.count, counted.value.size)
     }
 
-    // The outline of so many digits in the field of a directive.
+    // The outline of some digits in the field of a directive.
     #[inline(always)]
     fn in_field(
         directive: &Directive,
@@ -270,7 +271,7 @@ impl Outline {
         Outline::between(padding, prefix, digits, count, size, 0)
     }
 
-    // The same between so many spaces.
+    // The outline of some digits between `before` and `spaces_after` spaces.
     #[inline(always)]
     fn between(
         before: u16,
@@ -326,7 +327,7 @@ impl Outline {
     }
 }
 
-// How many digits are printed of a number with so many, behind a sign or prefix of so many bytes.
+// How many digits are printed of a number with `count`, after a sign or prefix of `prefix` bytes.
 #[inline(always)]
 fn digits_after(directive: &Directive, prefix: u16, count: u16) -> u16
     requires { count ≤ 64 }
@@ -339,7 +340,7 @@ fn digits_after(directive: &Directive, prefix: u16, count: u16) -> u16
         .max(fewest_digits(directive, count))
 }
 
-// The fewest digits that are printed of a number with so many: `#` may put a zero before them.
+// The fewest digits that are printed of a number with `count`: `#` may put a zero before them.
 #[inline(always)]
 fn fewest_digits(directive: &Directive, count: u16) -> u16
     requires { count ≤ 64 }
@@ -355,7 +356,7 @@ fn fewest_digits(directive: &Directive, count: u16) -> u16
     }
 }
 
-/// One byte repeated, in its field: spaces, the byte so many times, and spaces again.
+/// One byte repeated, in its field: spaces, a run of the byte, and spaces again.
 #[derive(Clone, Copy)]
 pub(crate) struct RunOutline {
     pub(crate) spaces_before: u16,
@@ -364,7 +365,7 @@ pub(crate) struct RunOutline {
 }
 
 impl RunOutline {
-    /// The outline of what a directive prints for a string that is one byte, so many times.
+    /// The outline of what a directive prints for a string of `count` equal bytes.
     pub(crate) fn of_string(directive: &Directive, count: u16) -> RunOutline
         requires { IsTrue (is_string directive.now.conv) }
         ensures { IsStringOutlineOf directive.now count result }
@@ -381,7 +382,7 @@ impl RunOutline {
         RunOutline::in_field(directive, 1)
     }
 
-    // A byte so many times in the field of a directive.
+    // A byte `count` times in the field of a directive.
     fn in_field(directive: &Directive, count: u16) -> RunOutline
         ensures { (byte : ℕ)
             → field directive.now (replicate count byte) ≡ run_outline_text result byte }

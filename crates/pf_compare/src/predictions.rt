@@ -39,7 +39,7 @@ pub(crate) fn predict(
     }
 }
 
-// The same for a string that is one byte, so many times.
+// Predicts whether a string of equal bytes tells the directives apart.
 fn predict_repeat(
     model: Model,
     first: &Directive,
@@ -100,7 +100,7 @@ fn runs_differ(one: &RunOutline, two: &RunOutline, byte: u8) -> Option<bool>
     Some(lie_apart(usize::from(one.count), one.spaces_before, two.spaces_before))
 }
 
-// Whether two equal texts of so many bytes lie apart, behind so many spaces each.
+// Whether two equal texts of `len` bytes lie apart, after `before` and `other` spaces.
 #[inline(always)]
 fn lie_apart(len: usize, before: u16, other: u16) -> bool
     ensures { DoLieApart len before other result }

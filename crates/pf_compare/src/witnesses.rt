@@ -234,10 +234,9 @@ pub(crate) fn foreseen_candidate(
     None
 }
 
-// How many of so many candidates are tried before it is known whether the directives print the same:
-// all where they can't or where that is cheap, and none where they are likely to, as where `+` hides
-// the flag ` `. Else 0 and 1 tell most directives apart, and -1 where the sign of a number takes the
-// place of a zero.
+// How many candidates to try before the directives are reduced: all if they can't print the same or
+// trying is cheap, none if they are likely to, for example if `+` hides the flag ` `. Otherwise 0 and
+// 1 tell most directives apart, and -1 does if the sign of a number takes the place of a zero.
 fn foreseen_count(
     first: &Directive,
     second: &Directive,

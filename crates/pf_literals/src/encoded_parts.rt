@@ -16,8 +16,7 @@ pub(crate) enum EncodedPart<'a> {
 }
 
 impl<'a> EncodedPart<'a> {
-    /// What is written for the first bytes of a text, of which there is one at least, behind a `?`
-    /// or not.
+    /// What is written for the first bytes of a text that isn't empty, after a `?` or not.
     pub(crate) fn of(after: bool, text: &'a [u8]) -> EncodedPart<'a>
         requires { 0 < length text.now }
         ensures { IsEncodedPartOf after text.now result }

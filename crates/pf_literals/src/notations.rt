@@ -32,7 +32,7 @@ impl Notation {
         }
     }
 
-    /// Whether an escape sequence of so many digits can have no more.
+    /// Whether an escape sequence of `count` digits can have no more.
     pub(crate) fn is_full(self, count: usize) -> bool
         ensures { result ≡ is_full self count }
     {

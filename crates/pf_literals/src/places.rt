@@ -5,9 +5,9 @@ ghost use Rattle.pf_literals.specs.Walks.{IsFoundPlace, PartEndsBy, part_places}
 
 use crate::cursor::{Cursor, NextPart, SourcePart};
 
-/// The place in a source where the element begins that gives the byte of this index; at the count of
-/// the bytes, the place of the last closing quote. There is none for a greater index, and where the
-/// text is no source.
+/// Returns the offset in a source at which the element begins that gives the byte with this index;
+/// for the number of bytes, the offset of the last closing quote. `None` for a greater index, and if
+/// the text is not a source.
 pub fn source_offset(source: &[u8], index: u64) -> Option<u64>
     ensures { MatchOption result (HasNoPlace source.now index) (IsPlaceOf source.now index) }
 {

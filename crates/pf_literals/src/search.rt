@@ -6,7 +6,7 @@ use std::simd::prelude::*;
 
 const LANES: usize = 16;
 
-// How many bytes are tested at a time, where there are so many.
+// How many bytes are tested at a time, if that many are left.
 const BLOCK: usize = 64;
 
 /// How many bytes at the front of a text are verbatim: themselves in a literal, read or written.

@@ -64,7 +64,7 @@ fn of_other(byte: u8) -> Spelling
     ])
 }
 
-// The letter of a byte that has a simple escape sequence, but for `'` and `?`.
+// The letter of a byte that has a simple escape sequence, except for `'` and `?`.
 fn simple_letter(byte: u8) -> Option<u8>
     ensures { result ≡ simple_letter byte }
 {

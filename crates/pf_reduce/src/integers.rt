@@ -180,8 +180,8 @@ fn sign_in_field(sign: Sign, padding: Padding, precision: u16, digits: u16) -> S
     }
 }
 
-// The greatest width of which nobody sees the side: with precision 0 the value 0 prints spaces
-// alone, and any other value at least so many bytes.
+// The greatest width at which the side makes no visible difference: with precision 0 the value 0
+// prints only spaces, and any other value at least `least` bytes.
 fn unseen_width(precision: u16, least: u16) -> u16
     ensures none { precision ≡ 0 → result ≡ least }
     ensures some { 1 ≤ precision → result ≡ 0 }

@@ -37,7 +37,7 @@ pub(crate) fn padded_core(
     }
 }
 
-/// A precision of 1 is none.
+/// Returns the precision, or `None` for 1, which is the default.
 #[inline(always)]
 pub(crate) fn kept_precision(precision: u16) -> Option<u16>
     ensures { result ≡ kept_precision precision }

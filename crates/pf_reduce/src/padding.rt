@@ -35,7 +35,7 @@ impl Padding {
         }
     }
 
-    /// A width of at most so many bytes, where no more are printed: the spaces beyond are constant.
+    /// A width of at most `most` bytes, if no more are printed: the spaces beyond are constant.
     #[inline(always)]
     pub(crate) fn with_width_at_most(self, most: u16) -> Padding
         requires { (self.spaces ≡ 0) × (self.zeros ≡ 0) × (self.trail ≡ 0) }
@@ -58,7 +58,7 @@ impl Padding {
         }
     }
 
-    /// Where at least so many bytes are printed, a width of no more is none.
+    /// If at least `least` bytes are always printed, a width up to that has no effect.
     #[inline(always)]
     pub(crate) fn without_idle_width(self, least: u16) -> Padding
         ensures { HasNoIdleWidth self least result }
@@ -78,7 +78,7 @@ impl Padding {
         !self.left && self.width > 0
     }
 
-    /// Where so many zeros are printed first, they are constant.
+    /// If `count` zeros are always printed first, they are constant.
     #[inline(always)]
     pub(crate) fn past_zeros(self, count: u16) -> Padding
         requires apart { (self.left ≡ true) ⊎ (self.width ≡ 0) ⊎ (count ≡ 0) }

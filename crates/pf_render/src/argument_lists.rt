@@ -86,7 +86,7 @@ impl ArgumentCheck {
         self.matched == self.wanted && is_of_type_at(model, args, self.matched, wanted)
     }
 
-    // Whether so many arguments are as many as the directives take, each of its type.
+    // Whether `given` arguments are as many as the directives take, each of its type.
     fn conclude(self, given: usize) -> Result<(), RenderFault>
         ensures { (model : Model) (t : Text) (args : List Arg) (types : List ArgType)
             → given ≡ length args

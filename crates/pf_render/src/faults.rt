@@ -42,7 +42,7 @@ pub enum RenderFault {
     /// the range of its type.
     #[error("argument {0} has the wrong type")]
     WrongType(u64),
-    /// The writer failed, or took none of some bytes, after so many bytes.
+    /// The writer failed, or took none of some bytes, after this number of bytes.
     #[error("write failed after {0} bytes")]
     Write(u128),
 }

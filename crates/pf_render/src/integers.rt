@@ -75,7 +75,7 @@ fn prefix(directive: &Directive, value: &Value, base: Base, capitals: bool) -> &
     }
 }
 
-// How many zeros come before so many digits.
+// How many zeros come before `count` digits.
 fn zero_count(directive: &Directive, sign_len: usize, count: usize) -> usize
     requires sign { sign_len ≤ 2 }
     requires digits { count ≤ MAX_DIGITS }
@@ -87,7 +87,7 @@ fn zero_count(directive: &Directive, sign_len: usize, count: usize) -> usize
     precision.max(fewest) - count
 }
 
-// The fewest digits that are printed of a number with so many: `#` may put a zero before them.
+// The fewest digits that are printed of a number with `count`: `#` may put a zero before them.
 fn fewest_digits(directive: &Directive, count: usize) -> usize
     requires { count ≤ MAX_DIGITS }
     ensures value { result ≡ fewest_digits directive.now count }

@@ -15,11 +15,10 @@ use crate::types::ArgumentType;
 use pf_values::Model;
 use std::alloc::{AllocError, Global};
 
-/// The types of the arguments that a format of the whole language takes in a data model (C11
-/// 7.21.6.1, paragraphs 3 to 9; POSIX fprintf on numbered arguments), of which there are `count`.
-/// The first of them, as many as `out` has room for, are put at its front, and the rest of `out` is
-/// as it was. Where the format is refused, `out` has the same length, and its contents are
-/// unspecified.
+/// Returns how many arguments a format of the whole language takes in a data model (C11 7.21.6.1,
+/// paragraphs 3 to 9; POSIX fprintf on numbered arguments). Their types, as many as `out` has room
+/// for, are put at its front, and the rest of `out` is as it was. If the format is refused, `out` has
+/// the same length, and its contents are unspecified.
 pub fn arguments(
     model: Model,
     text: &[u8],

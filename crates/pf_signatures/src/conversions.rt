@@ -86,7 +86,7 @@ pub enum Modifier {
 }
 
 impl Modifier {
-    /// Returns the letters that spell the length modifier, of which there are at most two.
+    /// Returns the letters that spell the length modifier: at most two.
     pub fn letters(self) -> &'static [u8]
         ensures { result.now ≡ modifier_letters self }
     {

@@ -83,7 +83,7 @@ impl Base {
         }
     }
 
-    /// The most digits that a number of so many bits has.
+    /// The most digits that a number of `bits` bits has.
     pub(crate) fn max_digits(self, bits: u8) -> u8
         ensures { (b : Bits) → bits ≡ bit_count b → result ≡ most_digits_in self b }
     {

@@ -86,7 +86,7 @@ pub(crate) fn type_bits(model: Model, arg_type: ArgType) -> u8
     }
 }
 
-/// Whether a number fits so many bits with its sign.
+/// Whether a number fits `bits` bits with its sign.
 pub(crate) fn fits_signed(number: i128, bits: u8) -> bool
     ensures { (b : Bits) → bits ≡ bit_count b
         → (IsTrue result ↔ FitsIn true (bit_count b) number) }
@@ -99,7 +99,7 @@ pub(crate) fn fits_signed(number: i128, bits: u8) -> bool
     }
 }
 
-/// Whether a number fits so many bits without a sign.
+/// Whether a number fits `bits` bits without a sign.
 pub(crate) fn fits_unsigned(number: i128, bits: u8) -> bool
     ensures { (b : Bits) → bits ≡ bit_count b
         → (IsTrue result ↔ FitsIn false (bit_count b) number) }

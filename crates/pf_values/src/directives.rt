@@ -67,7 +67,7 @@ impl Model for Directive {
 impl Directive {
     /// The directive of these parts, or the kind of least number that refuses them: a number above
     /// the limit, or what C11 7.21.6.1 (paragraphs 4 to 9) and POSIX leave undefined. A width of 0
-    /// is none.
+    /// stands for no width.
     pub fn new(
         flags: FlagSet,
         width: Option<u16>,
@@ -99,7 +99,7 @@ impl Directive {
     }
 
     /// The directive of parts that are known to be defined, where nothing is left to refuse. A width
-    /// of 0 is none.
+    /// of 0 stands for no width.
     #[inline(always)]
     pub fn of_defined(
         flags: FlagSet,
@@ -169,7 +169,7 @@ impl Directive {
         flags.has(Flag::Zero) && !flags.has(Flag::Minus) && self.precision.is_none()
     }
 
-    /// The precision of a number beside a sign or prefix of so many bytes: as it is given, or 1;
+    /// The precision of a number beside a sign or prefix of `front` bytes: as it is given, or 1;
     /// where the flag `0` counts, what is left of the width (C11 7.21.6.1, paragraphs 6 and 8).
     pub fn effective_precision(&self, front: u16) -> u16
         ensures value { result ≡ effective_precision self.now front }

@@ -40,7 +40,7 @@ impl Length {
         Length::T,
     ];
 
-    /// Returns the letters that spell the length modifier, of which there are at most two.
+    /// Returns the letters that spell the length modifier: at most two.
     pub fn letters(self) -> &'static [u8]
         ensures { result.now ≡ length_letters self }
     {

@@ -11,8 +11,8 @@ static SPACES: [u8; MAX_RUN] = [b' '; MAX_RUN];
 
 static ZEROS: [u8; MAX_RUN] = [b'0'; MAX_RUN];
 
-/// So many spaces (C11 7.21.6.1, paragraph 4). They are constant data, for as long as the caller
-/// likes.
+/// Returns `count` spaces (C11 7.21.6.1, paragraph 4). They are constant data, for as long as the
+/// caller likes.
 #[inline(always)]
 pub fn spaces<'a>(count: usize) -> &'a [u8]
     requires { count ≤ MAX_RUN }
@@ -21,7 +21,7 @@ pub fn spaces<'a>(count: usize) -> &'a [u8]
     &SPACES[..count]
 }
 
-/// So many digits `0` (C11 7.21.6.1, paragraphs 6 and 8).
+/// Returns `count` digits `0` (C11 7.21.6.1, paragraphs 6 and 8).
 #[inline(always)]
 pub fn zeros<'a>(count: usize) -> &'a [u8]
     requires { count ≤ MAX_RUN }

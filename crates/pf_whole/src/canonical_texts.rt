@@ -28,8 +28,8 @@ pub fn canonical(alloc: Global, model: Model, text: &[u8]) -> Result<Vec<u8>, Si
     canonical_with_room(alloc, model, text, 0)
 }
 
-/// Does the same, with room for so many bytes more behind a canonical text that isn't empty, so that
-/// what a caller appends needs no growth of its own.
+/// Returns the canonical text, with room for `more` bytes after one that isn't empty, so that what a
+/// caller appends needs no allocation of its own.
 pub fn canonical_with_room(
     alloc: Global,
     model: Model,

@@ -271,7 +271,7 @@ fn push_all(args: Vec<OwnedArg>, shown: &mut Vec<Option<OwnedArg>>) -> Result<()
     Ok(())
 }
 
-// Adds so many arguments that may be any.
+// Adds `count` arguments that may be any.
 fn push_any(count: u64, shown: &mut Vec<Option<OwnedArg>>) -> Result<(), AllocError>
     ensures { IfOk result (λ _. shown.new.items ≡ shown.old.items ++ replicate count None) }
 {

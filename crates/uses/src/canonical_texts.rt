@@ -22,7 +22,7 @@ pub fn is_tidy(model: Model, format: &[u8]) -> bool
     }
 }
 
-/// Whether the canonical text of a format fits into so many bytes. It takes no memory.
+/// Whether the canonical text of a format fits into `room` bytes. It takes no memory.
 pub fn fits(model: Model, format: &[u8], room: u128) -> bool
     ensures { IsTrue result → (c : Text) × IsCanonicalFor model format.now c × (length c ≤ room) }
 {

@@ -21,9 +21,9 @@ pub fn are_equivalent(model: Model, first: &[u8], second: &[u8]) -> Option<bool>
     }
 }
 
-/// Whether `new` may be put in the place of `old`, by their canonical texts. True only where both
-/// take the same types and print the same bytes for all arguments; so not for a refused format, nor
-/// for want of memory.
+/// Whether `new` may be put in the place of `old`, by their canonical texts. True only if both take
+/// the same types and print the same bytes for all arguments. False for a refused format, and if out
+/// of memory.
 pub fn may_replace(alloc: Global, model: Model, old: &[u8], new: &[u8]) -> bool
     ensures { IsTrue result → AreEquivalent model old.now new.now }
 {

@@ -46,7 +46,7 @@ impl<'a> Feed<'a> {
     }
 }
 
-// So many bytes, but none past the fault.
+// At most `count` bytes, up to the fault.
 fn up_to_fault(fault: Option<u64>, count: usize) -> usize
     ensures { result ≡ up_to_fault fault count }
 {
@@ -56,7 +56,7 @@ fn up_to_fault(fault: Option<u64>, count: usize) -> usize
     }
 }
 
-// Where the reader is to fail, counted from so many bytes further on.
+// Where the reader is to fail, counted from `count` bytes further on.
 fn fault_after_bytes(fault: Option<u64>, count: usize) -> Option<u64>
     ensures { result ≡ fault_after_bytes fault count }
 {

@@ -46,7 +46,7 @@ fn failures_at(first: Feed<'_>, second: Feed<'_>, side: Side) -> Option<(u64, u6
     is_named.then_some((r.failures(), s.failures()))
 }
 
-// Whether the side of a reader that fails after so many bytes is named; of two, the first.
+// Whether the side of a reader that fails after `at` bytes is named; of two, the first.
 fn is_named(step: usize, at: usize) -> bool {
     let text: &[u8] = b"ab%5dc";
     let first = failures_at(

@@ -3,7 +3,7 @@ use pf_compare::confirms;
 use pf_values::{Arg, Model};
 use std::alloc::{AllocError, Global};
 
-// So many bytes and an end.
+// `len` bytes and an end.
 fn text_that_ends(alloc: Global, len: usize, end: &[u8]) -> Result<Vec<u8>, AllocError> {
     let mut text = Vec::new(alloc);
     text.resize(len, b'a')?;
@@ -11,7 +11,7 @@ fn text_that_ends(alloc: Global, len: usize, end: &[u8]) -> Result<Vec<u8>, Allo
     Ok(text)
 }
 
-// Whether `compare` finds, after so many bytes, that `%d` prints 1 otherwise than `%5d`, and as `%i` does.
+// Whether `compare` finds, after `len` bytes, that `%d` prints 1 otherwise than `%5d`, and as `%i` does.
 fn confirms_after(alloc: Global, len: usize) -> Result<bool, AllocError> {
     let plain = text_that_ends(alloc, len, b"%d")?;
     let wide = text_that_ends(alloc, len, b"%5d")?;

@@ -5,7 +5,7 @@ use std::io::ErrorKind;
 
 const TEXT: &[u8] = b"abcdefg";
 
-// The answer, and how many calls fail, where so many of seven bytes fit.
+// The answer, and how many calls fail, if `room` of seven bytes fit.
 fn expected(room: usize) -> (Result<(), ShortWrite>, u64) {
     if room == 7 {
         (Ok(()), 0)
