@@ -1,10 +1,9 @@
--- What functions that are still to be written are to answer: canonical texts, and a comparison with the
--- arguments that it shows. This project's own: the standard compares no formats.
+-- What `canonical` and `compare` return: canonical texts, and a comparison with the arguments that it
+-- shows. This project's own: the standard compares no formats.
 --
 -- The last part has what three laws say: `calls_give_shape`, `telling_is_apart` and
--- `agreeing_is_together`. They speak of `TracesApart` and `TracesTogether`, too. No law speaks of the
--- other definitions before that part, so nothing is proved of them: not that two texts have one
--- verdict.
+-- `agreeing_is_together`. They speak of `TracesApart` and `TracesTogether`, too. That two texts have
+-- one verdict is not proved.
 use Rattle.std.specs.Prelude.{◌≡◌, ◌≢◌, ℕ, List, ◌++◌, map, length, slice_get, slice_set, Contains, Option, Some, None, ◌⊎◌, ◌↔◌, ⊤}
 use Rattle.std.specs.List.{AllZip}
 use Rattle.pf_values.specs.declared.models.Model.{Model}

@@ -53,8 +53,8 @@ pub record IsComparison (model : Model) (t u : Text) (verdict : WholeVerdict) : 
   pub is : IsWholeComparisonOf model t u (verdict_of verdict)
   pub typed : AreShownTyped model t verdict
 
--- Why there is none. Memory is wanting only where both are accepted, with equal types and calls, and are
--- not alike.
+-- Why two texts are not compared. Memory can be refused only if both are accepted, have equal types and
+-- calls, and are not alike.
 abbrev pub FaultForWholeCompare : Model → Text → Text → WholeCompareFault → Type 0
 FaultForWholeCompare model t u (Refused refusal) = FaultForWholeSame model t u refusal
 FaultForWholeCompare model t u Memory = IsWholeAccepted t × IsWholeAccepted u × (¬ AreWholeAlike model t u)
