@@ -26,6 +26,7 @@ import mutant_files  # noqa: E402
 import opaque  # noqa: E402
 import reach  # noqa: E402
 import replacing  # noqa: E402
+import rooms  # noqa: E402
 import sizes  # noqa: E402
 import turned  # noqa: E402
 from harness import TOP, Trials, fences, model_rows, section, usage_texts  # noqa: E402
@@ -99,6 +100,7 @@ def tested_counts():
     yield from limits()
     given = data_rows("records.jsonl")
     yield r"rows, (\d+) of them of a model; conversations; .* (\d+) rows", [len(given) - HAND_RECORDS, len(given)]
+    yield r"(\d+) ways to fail take turns", [len(rooms.STEPS) * len(rooms.FAULTS)]
     yield r"what gcc's programs print \| (\d+) \|", [len(changes.CHANGES)]
     left = {name for name, _, _ in replacing.LEFT}
     yield r"programs that would print something else, (\d+) of which it can't see \| (\d+) \|", [len(replacing.NOT_SEEN), len(left) + len(replacing.NOT_SEEN)]
@@ -126,7 +128,7 @@ HAND_LITERALS = 27
 HAND_WHOLE = 44
 HAND_OPAQUE = 11
 # Numbers of that table that these scripts don't have.
-PLAIN_NUMBERS = [r"16 shapes", r"a record of 100 million bytes", r"\| \d+ runs and comparisons", r"after each byte \| \d+ runs", r"every 2 of", r"spells in 2 ways", r"`parse_printf_format`"]
+PLAIN_NUMBERS = [r"16 shapes", r"a record of 100 million bytes", r"\| \d+ runs and comparisons", r"take turns \| \d+ runs", r"every 2 of", r"spells in 2 ways", r"`parse_printf_format`"]
 NUMBER_WORDS = dict(zip("two three four five six seven eight nine ten eleven twelve thirteen fourteen fifteen sixteen seventeen eighteen".split(), range(2, 19)))
 
 
