@@ -44,8 +44,8 @@ extern "C" {
 #endif
 
 /* The version of this header; fmtcanon_version() is that of the library. */
-#define FMTCANON_VERSION_MAJOR 0
-#define FMTCANON_VERSION_MINOR 2
+#define FMTCANON_VERSION_MAJOR 1
+#define FMTCANON_VERSION_MINOR 0
 #define FMTCANON_VERSION_PATCH 0
 
 /* Out of memory, or no memory could hold the answer. */
