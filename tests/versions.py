@@ -53,7 +53,10 @@ def others_in(name, text):
 
 
 def try_versions(trials):
-    trials.expect("the file VERSION has three numbers", re.fullmatch(r"\d+\.\d+\.\d+", VERSION) is not None, True)
+    has_three = re.fullmatch(r"\d+\.\d+\.\d+", VERSION) is not None
+    trials.expect("the file VERSION has three numbers", has_three, True)
+    if not has_three:
+        return
     for name, pattern in COPIES:
         found = re.search(pattern, (TOP / name).read_text(encoding="utf-8"), flags=re.MULTILINE)
         trials.expect(f"the version in {name}", found and ".".join(found.groups()), VERSION)
