@@ -234,8 +234,8 @@ int64_t fmtcanon_fits_models(const char *first, size_t first_len, const char *se
  * FMTCANON_ERROR_NOMEMORY if the length is 2^63 or more. Allocates nothing. */
 int64_t fmtcanon_whole_canonical_length(int model, const char *text, size_t len, fmtcanon_error *error);
 
-/* Returns that length, and writes the canonical text into `out` with a NUL after it. It fits if the length
- * is below `cap`. Allocates that length. */
+/* Returns the length of the canonical text of fmtcanon_whole_canonical_length(), and writes it into `out`
+ * with a NUL after it. It fits if the length is below `cap`. Allocates that length. */
 int64_t fmtcanon_whole_canonical(int model, const char *text, size_t len, char *out, size_t cap,
                                  fmtcanon_error *error);
 
