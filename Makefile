@@ -33,7 +33,7 @@ PYTHON ?= /usr/bin/env python3
 PROGRAM = crates/fmtcanon/out/fmtcanon
 
 # The file VERSION has the version; tests/versions.py compares every other copy of it. The major version names the ABI.
-VERSION := $(shell cat VERSION)
+VERSION := $(file < VERSION)
 SONAME = libfmtcanon.so.$(firstword $(subst ., ,$(VERSION)))
 # What the C library is made in: `rt ci` keeps only its own files in a crate's out/.
 C = out/c

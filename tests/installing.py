@@ -97,7 +97,7 @@ def wanted_files():
 
 def make(words, folder=TOP, path=None):
     # A make above says through these that it prints the folders that it enters.
-    environment = {name: value for name, value in os.environ.items() if name not in ("MAKEFLAGS", "MAKELEVEL", "MFLAGS")}
+    environment = {name: value for name, value in os.environ.items() if name not in ("MAKEFLAGS", "MAKELEVEL", "MFLAGS", "MAINTAINER")}
     environment["PATH"] = path or os.environ["PATH"]
     done = subprocess.run(
         ["make", "-s", *words], cwd=folder, env=environment, timeout=TIMEOUT, check=False, stdin=subprocess.DEVNULL,
@@ -239,6 +239,14 @@ def try_no_binutils(work, trials):
     trials.expect("make wheel without objdump", (status != 0, output.startswith(wanted), "Traceback" in output), (True, True, False))
 
 
+def try_no_maintainer(trials):
+    """`make deb` needs to know who makes the package, and makes none otherwise."""
+    before = sorted((TOP / "out").glob("*.deb"))
+    status, output = make(["deb"])
+    trials.expect("make deb by nobody", (status != 0, output.startswith("MAINTAINER is missing: ")), (True, True))
+    trials.expect("no package is made", sorted((TOP / "out").glob("*.deb")), before)
+
+
 def try_missing(work, trials):
     """Where a file isn't built, `make install` says which, and installs nothing."""
     tree, stage = work / "tree", work / "third"
@@ -315,6 +323,7 @@ def try_all(work, trials):
     try_places(work, trials)
     try_shadows(work, trials)
     try_no_binutils(work, trials)
+    try_no_maintainer(trials)
     try_same_archives(work, trials)
     try_archive(work, trials)
     try_page(trials)
