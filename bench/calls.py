@@ -3,7 +3,7 @@
 
 Usage: bench/calls.py PROGRAM FOLDER [FILE]
 
-FOLDER has libfmtcanon.a and libfmtcanon.so.0, as `make library` leaves them. FILE has formats, each with a zero byte
+FOLDER has libfmtcanon.a and libfmtcanon.so, as `make library` leaves them. FILE has formats, each with a zero byte
 after it; it is bench/shapes.nul where it isn't given. Each figure is the best of five. `same`, `same_models` and
 `compare` take each format beside itself. It needs gcc.
 """
@@ -51,7 +51,7 @@ def main():
         sys.exit(__doc__)
     program, folder = os.path.abspath(sys.argv[1]), Path(sys.argv[2]).resolve()
     file = Path(sys.argv[3] if sys.argv[3:] else BENCH / "shapes.nul").resolve()
-    os.environ["FMTCANON_LIBRARY"] = str(folder / "libfmtcanon.so.0")
+    os.environ["FMTCANON_LIBRARY"] = str(folder / "libfmtcanon.so")
     sys.dont_write_bytecode = True
     sys.path.insert(0, str(TOP / "python"))
     import fmtcanon
