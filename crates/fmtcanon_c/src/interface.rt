@@ -198,7 +198,7 @@ pub(crate) fn put_string(out: &mut [u8], bytes: &[u8])
 /// The version: 65,536 for each major one, 256 for each minor one, and the patch.
 #[unsafe(no_mangle)]
 pub extern "C" fn fmtcanon_version() -> u32
-    ensures { result ≡ 512 }
+    ensures { result ≡ 65536 }
 {
-    0x200
+    0x1_0000
 }

@@ -23,6 +23,18 @@ pub fn same_text(model: Model, first: &[u8], second: &[u8]) -> Result<bool, Fits
     if let Ok(same) = pf_canon::same_text(model, first, second) {
         return Ok(same);
     }
+    same_by_stretches(model, first, second)
+}
+
+/// Returns the answer of `same_text` without asking first whether the profile has one.
+pub(crate) fn same_by_stretches(
+    model: Model,
+    first: &[u8],
+    second: &[u8],
+) -> Result<bool, FitsRefusal>
+    ensures { MatchResult result (AreWholeSame model first.now second.now)
+        (FaultForWholeSame model first.now second.now) }
+{
     if let Err(refusal) = check_unnumbered(model, first) {
         return Err(FitsRefusal::First(refusal));
     }

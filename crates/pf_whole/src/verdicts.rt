@@ -12,8 +12,8 @@ ghost use Rattle.pf_whole.specs.declared.verdicts.WholeCompareFault.TheVariants.
 ghost use Rattle.pf_whole.specs.meaning.Traces.{AreWholeAlike};
 
 use crate::calls::{argument_count, first_call_difference};
-use crate::comparison::same_text;
-use pf_compare::{Comparison, OwnedArg, Verdict, neutrals_of};
+use crate::comparison::same_by_stretches;
+use pf_compare::{CompareFault, Comparison, OwnedArg, Verdict, neutrals_of};
 use pf_signatures::{FitsRefusal, fits, next_stretch};
 use pf_values::Model;
 use std::alloc::{AllocError, Global};
@@ -66,7 +66,58 @@ pub fn compare(
     ensures { MatchResult result (IsComparison model first.now second.now)
         (FaultForWholeCompare model first.now second.now) }
 {
-    match same_text(model, first, second) {
+    match pf_compare::compare(alloc, model, first, second) {
+        Ok(comparison) => verdict_of_profile(alloc, model, first, second, comparison),
+        Err(fault) => match fault {
+            CompareFault::Memory => Err(WholeCompareFault::Memory),
+            CompareFault::Refused(_, _) => compare_by_stretches(alloc, model, first, second),
+        },
+    }
+}
+
+// Returns the verdict on two formats of the profile, by their comparison.
+fn verdict_of_profile(
+    alloc: Global,
+    model: Model,
+    first: &[u8],
+    second: &[u8],
+    comparison: Comparison,
+) -> Result<WholeVerdict, WholeCompareFault>
+    requires { IsComparisonOf model first.now second.now comparison }
+    ensures { MatchResult result (IsComparison model first.now second.now)
+        (FaultForWholeCompare model first.now second.now) }
+{
+    let Comparison {
+        verdict,
+        renderings: _,
+    } = comparison;
+    match verdict {
+        Verdict::Same => Ok(WholeVerdict::Same),
+        Verdict::Types(index) => Ok(WholeVerdict::Types(index)),
+        Verdict::Args(args) => Ok(WholeVerdict::Args(all_shown(alloc, args)?)),
+    }
+}
+
+// Returns arguments that are all shown.
+fn all_shown(alloc: Global, args: Vec<OwnedArg>) -> Result<Vec<Option<OwnedArg>>, AllocError>
+    ensures { IfOk result (λ shown. shown.items ≡ map Some args.items) }
+{
+    let mut shown = Vec::with_capacity(alloc, args.len())?;
+    push_all(args, &mut shown)?;
+    Ok(shown)
+}
+
+// Compares two formats that the profile may refuse.
+fn compare_by_stretches(
+    alloc: Global,
+    model: Model,
+    first: &[u8],
+    second: &[u8],
+) -> Result<WholeVerdict, WholeCompareFault>
+    ensures { MatchResult result (IsComparison model first.now second.now)
+        (FaultForWholeCompare model first.now second.now) }
+{
+    match same_by_stretches(model, first, second) {
         Ok(true) => Ok(WholeVerdict::Same),
         Ok(false) => compare_apart(alloc, model, first, second),
         Err(refusal) => Err(WholeCompareFault::Refused(refusal)),

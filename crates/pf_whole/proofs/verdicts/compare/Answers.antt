@@ -1,10 +1,5 @@
-use Rattle.pf_whole.proofs.VerdictLemmas.{same_verdict}
+use Rattle.pf_whole.proofs.ProfileVerdicts.{profile_memory}
 use Rattle.pf_whole.proofs.verdicts.compare.Goals as goal
 
-pub returns-in-Ok-true : goal.returns-in-Ok-true
-returns-in-Ok-true c =
-    let both = c.in-Ok-true.ensures in
-    record {
-      is = same_verdict c.args.model c.args.first.now c.args.second.now both.first both.second (both.same.0 c.in-Ok-true.field-0-test);
-      typed = tt;
-    }
+pub returns-in-Memory : goal.returns-in-Memory
+returns-in-Memory c = profile_memory c.args.model c.args.first.now c.args.second.now (rw c.in-Memory.is at c.in-Err.ensures)
