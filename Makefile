@@ -10,8 +10,9 @@
 #                        DESTDIR=, where that is given. It builds nothing
 # make uninstall PREFIX= takes all of that away again
 # make dist              an archive of what `make` built, which installs without the kit
-# make deb               a Debian package of it
+# make deb MAINTAINER=   a Debian package of it, by the person who is named so: 'Name <address>'
 # make wheel             a wheel of the Python module with the library and the program inside
+#                        All three also write out/SHA256SUMS
 # make tables SOURCES= RELEASES=
 #                        what the commands say of a machine's own catalogs, of source trees with a
 #                        compile_commands.json in these folders, and of releases in pairs of folders
@@ -31,8 +32,9 @@ PYTHONDIR ?= $(shell python3 packaging/python_folder.py '$(subst ','\'',$(PREFIX
 PYTHON ?= /usr/bin/env python3
 PROGRAM = crates/fmtcanon/out/fmtcanon
 
-VERSION = 0.2.0
-SONAME = libfmtcanon.so.0
+# The file VERSION has the version; tests/versions.py compares every other copy of it. The major version names the ABI.
+VERSION := $(file < VERSION)
+SONAME = libfmtcanon.so.$(firstword $(subst ., ,$(VERSION)))
 # What the C library is made in: `rt ci` keeps only its own files in a crate's out/.
 C = out/c
 SHARED = $(C)/libfmtcanon.so.$(VERSION)
@@ -156,7 +158,7 @@ c-tools:
 	@for tool in ld ar objcopy nm; do command -v $$tool > /dev/null || \
 	    { echo "$$tool is missing: the package binutils has it"; exit 1; }; done
 
-# What the targets below take, which only `make` builds.
+# The targets below need what only `make` builds.
 built:
 	@for file in $(PROGRAM) $(C)/libfmtcanon.a $(SHARED); do test -f $$file || \
 	    { echo "$$file is missing: make builds it" >&2; exit 1; }; done
@@ -231,18 +233,24 @@ uninstall: places built
 	python3 "$(CURDIR)/packaging/folders.py" remove "$(DESTDIR)" "$$stage/made"
 
 ARCHIVE = fmtcanon-$(VERSION)-linux-x86_64
-PACKED = LICENSE README.md CHANGELOG.md SECURITY.md Makefile include python/fmtcanon python/pyproject.toml \
+PACKED = LICENSE README.md CHANGELOG.md SECURITY.md VERSION Makefile include python/fmtcanon python/pyproject.toml \
     python/README.md man completions docs examples packaging $(PROGRAM) $(C)/libfmtcanon.a $(SHARED)
+
+# The checksums of all packages of this version, which `sha256sum -c SHA256SUMS` compares.
+CHECKSUMS = @cd out && LC_ALL=C sha256sum fmtcanon[-_]$(VERSION)-*.* > SHA256SUMS.new && mv SHA256SUMS.new SHA256SUMS
 
 # The archive depends only on the names and bytes of the files.
 dist: built
 	python3 packaging/make_dist.py out/$(ARCHIVE).tar.gz $(ARCHIVE) $(PROGRAM) $(PACKED)
+	$(CHECKSUMS)
 
 deb: built
-	packaging/make_deb.sh $(VERSION) out
+	packaging/make_deb.sh out
+	$(CHECKSUMS)
 
 wheel: built
 	python3 packaging/make_wheel.py $(SHARED) $(PROGRAM) out
+	$(CHECKSUMS)
 
 tables:
 	FMTCANON_LIBRARY=$(C)/$(SONAME) python3 tests/field/catalogs.py

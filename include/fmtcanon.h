@@ -44,8 +44,8 @@ extern "C" {
 #endif
 
 /* The version of this header; fmtcanon_version() is that of the library. */
-#define FMTCANON_VERSION_MAJOR 0
-#define FMTCANON_VERSION_MINOR 2
+#define FMTCANON_VERSION_MAJOR 1
+#define FMTCANON_VERSION_MINOR 0
 #define FMTCANON_VERSION_PATCH 0
 
 /* Out of memory, or no memory could hold the answer. */
@@ -75,7 +75,8 @@ enum fmtcanon_models {
 };
 
 /* Why a format is rejected. The result is minus the kind. fmtcanon_kind_name() returns the names that
- * the program prints. The profile never yields 19 to 22, and the whole language never 5, 6 and 9 to 12. */
+ * the program prints. The profile never yields 19 to 22, and the whole language never 5 and 9 to 12. Of its
+ * calls, only those without numbered arguments, fmtcanon_whole_canonical() and its like, yield 6. */
 enum fmtcanon_kind {
     FMTCANON_NUL_BYTE = 1,             /* a NUL, which a C string can't contain */
     FMTCANON_TRUNCATED = 2,            /* the text ends inside a conversion specification */
@@ -234,8 +235,8 @@ int64_t fmtcanon_fits_models(const char *first, size_t first_len, const char *se
  * FMTCANON_ERROR_NOMEMORY if the length is 2^63 or more. Allocates nothing. */
 int64_t fmtcanon_whole_canonical_length(int model, const char *text, size_t len, fmtcanon_error *error);
 
-/* Returns that length, and writes the canonical text into `out` with a NUL after it. It fits if the length
- * is below `cap`. Allocates that length. */
+/* Returns the length of the canonical text of fmtcanon_whole_canonical_length(), and writes it into `out`
+ * with a NUL after it. It fits if the length is below `cap`. Allocates that length. */
 int64_t fmtcanon_whole_canonical(int model, const char *text, size_t len, char *out, size_t cap,
                                  fmtcanon_error *error);
 

@@ -1,16 +1,20 @@
 #!/bin/sh
 # Makes a Debian package of what `make` built, with dpkg-deb.
 #
-# Usage: make_deb.sh VERSION FOLDER
+# Usage: MAINTAINER='NAME <ADDRESS>' make_deb.sh FOLDER
 set -eu
 cd "$(dirname "$0")/.."
-version=$1-1
-package=$(realpath "$2")/fmtcanon_${version}_amd64.deb
-maintainer=${MAINTAINER:-fmtcanon maintainers <maintainers@fmtcanon.example>}
+release=$(cat VERSION)
+version=$release-1
+package=$(realpath "$1")/fmtcanon_${version}_amd64.deb
 # The time of every file in the package. The files of the tree have the time of their checkout.
 SOURCE_DATE_EPOCH=${SOURCE_DATE_EPOCH:-1767225600}
 export SOURCE_DATE_EPOCH
 
+if [ -z "${MAINTAINER-}" ]; then
+    echo "MAINTAINER is missing: who makes the package, as in make deb MAINTAINER='Name <address>'" >&2
+    exit 1
+fi
 for tool in dpkg-deb:dpkg strip:binutils gzip:gzip make:make python3:python3; do
     command -v "${tool%:*}" > /dev/null || { echo "${tool%:*} is missing: the package ${tool#*:} has it" >&2; exit 1; }
 done
@@ -37,22 +41,28 @@ gzip -9n "$stage"/usr/share/man/man*/*
 rm "$documents/LICENSE" "$documents/folders"
 mv "$documents/CHANGELOG.md" "$documents/changelog"
 printf '%s\n' "fmtcanon ($version) unstable; urgency=low" '' '  * The file changelog lists the changes.' '' \
-    " -- $maintainer  $(LC_ALL=C date -R -u -d "@$SOURCE_DATE_EPOCH")" \
+    " -- $MAINTAINER  $(LC_ALL=C date -R -u -d "@$SOURCE_DATE_EPOCH")" \
     > "$documents/changelog.Debian"
 gzip -9n "$documents/changelog" "$documents/changelog.Debian"
 
-# What lintian says of one package with the program, the library and its header, which nobody has asked Debian for.
+# What lintian says of this package, and why it is meant so.
 overrides=$stage/usr/share/lintian/overrides
 mkdir -p "$overrides"
-printf 'fmtcanon: %s\n' initial-upload-closes-no-bugs link-to-shared-library-in-wrong-package \
-    package-name-doesnt-match-sonames > "$overrides/fmtcanon"
+cat > "$overrides/fmtcanon" << 'OVERRIDES'
+# The package is not intended for Debian, so no request for it is closed.
+fmtcanon: initial-upload-closes-no-bugs
+# Program, library and header have one version and come in one small package, so it has the link to build with.
+fmtcanon: link-to-shared-library-in-wrong-package
+# The package is named after the program. Programs that are linked with the library depend on it by its shlibs file.
+fmtcanon: package-name-doesnt-match-sonames
+OVERRIDES
 
 mkdir "$stage/DEBIAN"
 cat > "$stage/DEBIAN/control" << CONTROL
 Package: fmtcanon
 Version: $version
 Architecture: amd64
-Maintainer: $maintainer
+Maintainer: $MAINTAINER
 Installed-Size: $(find "$stage/usr" -printf '%y %s\n' | awk '{ k += $1 == "f" ? int(($2 + 1023) / 1024) : 1 } END { print k }')
 Depends: libc6 (>= 2.34), python3 (>= 3.8)
 Recommends: python3-clang
@@ -66,7 +76,7 @@ Description: canonical texts of printf formats
  what a change of C source does to its formats, and fmtcanon-replace replaces
  formats in C source.
 CONTROL
-echo "libfmtcanon 0 fmtcanon (>= $1)" > "$stage/DEBIAN/shlibs"
+echo "libfmtcanon ${release%%.*} fmtcanon (>= $release)" > "$stage/DEBIAN/shlibs"
 # Python's compiled modules come and go with the package.
 cat > "$stage/DEBIAN/postinst" << 'SCRIPT'
 #!/bin/sh

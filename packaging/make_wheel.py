@@ -1,10 +1,10 @@
 #!/usr/bin/env python3
-"""Makes a wheel of the Python module with the C library and the program inside, which installs with no compiler and no network.
+"""Makes a wheel of the Python module with the C library and the program inside. It installs without a compiler or a network.
 
 Usage: make_wheel.py LIBRARY PROGRAM FOLDER
 
-LIBRARY is the shared library. What the wheel says of itself comes from python/pyproject.toml. Its name says
-which version of the GNU C library it wants: the latest that the library or the program does.
+LIBRARY is the shared library. The metadata comes from python/pyproject.toml and the file VERSION. The name says
+which version of the GNU C library the wheel needs: the latest that the library or the program needs.
 """
 
 import base64
@@ -17,7 +17,8 @@ import zipfile
 from pathlib import Path
 
 TOP = Path(__file__).resolve().parent.parent
-SONAME = "libfmtcanon.so.0"
+VERSION = (TOP / "VERSION").read_text(encoding="utf-8").strip()
+SONAME = f"libfmtcanon.so.{VERSION.split('.')[0]}"
 PROGRAM = "fmtcanon/program"
 # The oldest that a wheel can be tagged for, with the program or without.
 OLDEST_GLIBC = (2, 17)
@@ -25,7 +26,7 @@ OLDEST_GLIBC = (2, 17)
 TIME = (1980, 1, 1, 0, 0, 0)
 
 
-def wanted_glibc(*files):
+def needed_glibc(*files):
     """The version of the C library that these files need."""
     if shutil.which("objdump") is None:
         sys.exit("objdump is missing: the package binutils has it")
@@ -46,7 +47,7 @@ def project():
 def metadata(texts, lists):
     readme = (TOP / "python/README.md").read_text(encoding="utf-8")
     lines = [
-        "Metadata-Version: 2.1", f"Name: {texts['name']}", f"Version: {texts['version']}", f"Summary: {texts['description']}",
+        "Metadata-Version: 2.1", f"Name: {texts['name']}", f"Version: {VERSION}", f"Summary: {texts['description']}",
         "License: MIT", "License-File: LICENSE", f"Requires-Python: {texts['requires-python']}",
         "Description-Content-Type: text/markdown", *(f"Classifier: {one}" for one in lists["classifiers"]),
     ]
@@ -54,7 +55,7 @@ def metadata(texts, lists):
 
 
 def files_of(library, program, information, tag, texts, lists):
-    """The files of the wheel but for the record of them: names and bytes."""
+    """The files of the wheel, except their record: names and bytes."""
     for path in sorted((TOP / "python/fmtcanon").rglob("*")):
         if path.suffix == ".py" or path.name == "py.typed":
             yield str(path.relative_to(TOP / "python")), path.read_bytes()
@@ -69,8 +70,8 @@ def files_of(library, program, information, tag, texts, lists):
 
 def main(library, program, folder):
     texts, lists = project()
-    tag = "py3-none-manylinux_{}_{}_x86_64".format(*wanted_glibc(library, program))
-    name = f"fmtcanon-{texts['version']}"
+    tag = "py3-none-manylinux_{}_{}_x86_64".format(*needed_glibc(library, program))
+    name = f"fmtcanon-{VERSION}"
     information, record = f"{name}.dist-info", []
     wheel = Path(folder) / f"{name}-{tag}.whl"
     with zipfile.ZipFile(wheel, "w", zipfile.ZIP_DEFLATED) as archive:

@@ -11,7 +11,7 @@ import sys
 import tempfile
 from pathlib import Path
 
-from harness import TIMEOUT, TOP
+from harness import SONAME, TIMEOUT, TOP
 
 HEADER = 'msgid ""\nmsgstr ""\n"Content-Type: text/plain; charset=%s\\n"\n"Plural-Forms: nplurals=2; plural=%s;\\n"\n\n'
 # A message begins in this line after the header, and its first msgstr comes this many lines later.
@@ -148,7 +148,7 @@ sys.exit(status)
 def checked(folder, words, where):
     """The status, standard error, processor time in seconds and most memory in KiB of fmtcanon-po."""
     environment = {
-        **os.environ, "FMTCANON_LIBRARY": str(folder / "libfmtcanon.so.0"), "PYTHONDONTWRITEBYTECODE": "1",
+        **os.environ, "FMTCANON_LIBRARY": str(folder / SONAME), "PYTHONDONTWRITEBYTECODE": "1",
         "PYTHONPATH": str(TOP / "python"), "PYTHONIOENCODING": "utf-8",
     }
     done = subprocess.run(

@@ -14,7 +14,7 @@ import time
 from pathlib import Path
 
 import changes
-from harness import TIMEOUT, TOP, examples
+from harness import SONAME, TIMEOUT, TOP, VERSION, examples
 
 # Two files, and what is said of the second.
 OLD = """\
@@ -71,7 +71,7 @@ class Tool:
         self.work = Path(work)
         self.words = [sys.executable, "-m", "fmtcanon.diff"]
         self.environment = {
-            **os.environ, "FMTCANON_LIBRARY": str(folder / "libfmtcanon.so.0"), "FMTCANON_PROGRAM": program, "PYTHONPATH": str(TOP / "python"),
+            **os.environ, "FMTCANON_LIBRARY": str(folder / SONAME), "FMTCANON_PROGRAM": program, "PYTHONPATH": str(TOP / "python"),
             "PYTHONDONTWRITEBYTECODE": "1", "GIT_CONFIG_GLOBAL": os.devnull, "GIT_CONFIG_SYSTEM": os.devnull, "GIT_CEILING_DIRECTORIES": str(self.work.parent),
             "GIT_AUTHOR_NAME": "a", "GIT_AUTHOR_EMAIL": "a@b", "GIT_COMMITTER_NAME": "a", "GIT_COMMITTER_EMAIL": "a@b",
         }
@@ -219,7 +219,7 @@ def try_faults(tool, trials):
         trials.expect(f"fmtcanon-diff {words}: {fault}", (status, output, fault.startswith("usage: fmtcanon-diff"), said in fault.splitlines()[-1]), (2, "", True, True))
     status, output, fault = tool.run("-h")
     trials.expect("fmtcanon-diff -h", (status, output.startswith("usage: fmtcanon-diff [OPTION]... OLD NEW"), fault), (0, True, ""))
-    trials.expect("fmtcanon-diff --version", tool.run("--version"), (0, "fmtcanon 0.2.0\n", ""))
+    trials.expect("fmtcanon-diff --version", tool.run("--version"), (0, f"fmtcanon {VERSION}\n", ""))
     status, output, fault = tool.run("a.c", "folder/a.c", FMTCANON_LIBRARY="nowhere")
     trials.expect("no library", (status, output, fault.startswith("fmtcanon-diff: the library of fmtcanon isn't there: ")), (2, "", True))
     found = tool.run("a.c", "folder/a.c", FMTCANON_PROGRAM="nowhere")

@@ -1,5 +1,5 @@
 #!/usr/bin/env python3
-"""Holds the documents to the code: their names, paths, callers and numbers, and the map; and the names of definitions to each other.
+"""Checks the documents against the code: their names, paths, callers, numbers, words and versions, and the map; and that definitions have distinct names.
 
 Usage: tests/documents.py
 
@@ -30,6 +30,7 @@ import rooms  # noqa: E402
 import sizes  # noqa: E402
 import turned  # noqa: E402
 from harness import TOP, Trials, fences, model_rows, section, usage_texts  # noqa: E402
+from versions import try_versions  # noqa: E402
 from words import pages, try_words  # noqa: E402
 
 # The commands with rows of a model of the program.
@@ -331,6 +332,7 @@ def main():
     try_numbers(trials)
     reach.try_reach(trials)
     try_words(trials)
+    try_versions(trials)
     return trials.end()
 
 

@@ -8,6 +8,9 @@ from pathlib import Path
 
 TOP = Path(__file__).resolve().parent.parent
 TIMEOUT = 60
+VERSION = (TOP / "VERSION").read_text(encoding="utf-8").strip()
+# The name by which programs ask for the C library.
+SONAME = f"libfmtcanon.so.{VERSION.split('.')[0]}"
 
 
 class Trials:

@@ -3,6 +3,7 @@
 `tests/library.py` runs it. What takes lintian, a clean root or pip is in `tests/roots.py`.
 """
 
+import hashlib
 import os
 import re
 import shutil
@@ -11,7 +12,7 @@ import sys
 import tarfile
 from pathlib import Path
 
-from harness import TIMEOUT, TOP
+from harness import SONAME, TIMEOUT, TOP, VERSION
 
 HEADER = TOP / "include/fmtcanon.h"
 MODULE = "lib/python3/dist-packages/fmtcanon"
@@ -26,10 +27,10 @@ INSTALLED = {
     "include/fmtcanon.h",
     "lib/libfmtcanon.a",
     "lib/libfmtcanon.so",
-    "lib/libfmtcanon.so.0",
-    "lib/libfmtcanon.so.0.2.0",
+    f"lib/{SONAME}",
+    f"lib/libfmtcanon.so.{VERSION}",
     "lib/pkgconfig/fmtcanon.pc",
-    f"{MODULE}/libfmtcanon.so.0",
+    f"{MODULE}/{SONAME}",
     f"{MODULE}/program",
     f"{MODULE}/py.typed",
     "share/bash-completion/completions/fmtcanon",
@@ -62,8 +63,10 @@ SECTIONS = {
     ".3": ["NAME", "LIBRARY", "SYNOPSIS", "DESCRIPTION", "RETURN VALUE", "ATTRIBUTES", "EXAMPLES", "BUGS", "SEE ALSO"],
 }
 # What an archive is made of.
-TREE = ["include", "man", "packaging", "completions", "examples", "docs", "python", "LICENSE", "README.md", "CHANGELOG.md", "SECURITY.md", "Makefile"]
-BUILT = ["crates/fmtcanon/out/fmtcanon", "out/c/libfmtcanon.a", "out/c/libfmtcanon.so.0.2.0"]
+TREE = ["include", "man", "packaging", "completions", "examples", "docs", "python", "LICENSE", "README.md", "CHANGELOG.md", "SECURITY.md", "VERSION", "Makefile"]
+# Who makes the packages of these trials.
+MAINTAINER = "MAINTAINER=A Tester <tester@example.org>"
+BUILT = ["crates/fmtcanon/out/fmtcanon", "out/c/libfmtcanon.a", f"out/c/libfmtcanon.so.{VERSION}"]
 
 
 def prototypes(text):
@@ -94,7 +97,7 @@ def wanted_files():
 
 def make(words, folder=TOP, path=None):
     # A make above says through these that it prints the folders that it enters.
-    environment = {name: value for name, value in os.environ.items() if name not in ("MAKEFLAGS", "MAKELEVEL", "MFLAGS")}
+    environment = {name: value for name, value in os.environ.items() if name not in ("MAKEFLAGS", "MAKELEVEL", "MFLAGS", "MAINTAINER")}
     environment["PATH"] = path or os.environ["PATH"]
     done = subprocess.run(
         ["make", "-s", *words], cwd=folder, env=environment, timeout=TIMEOUT, check=False, stdin=subprocess.DEVNULL,
@@ -123,7 +126,7 @@ def try_install(work, trials):
     text = (prefix / "lib/pkgconfig/fmtcanon.pc").read_text()
     variables = dict(re.findall(r"^(\w+)=(.*)$", text, flags=re.MULTILINE))
     trials.expect("folders of fmtcanon.pc", variables, {"prefix": "/usr", "libdir": "/usr/lib", "includedir": "/usr/include"})
-    trials.expect("the library of the module", (prefix / MODULE / "libfmtcanon.so.0").resolve(), prefix / "lib/libfmtcanon.so.0.2.0")
+    trials.expect("the library of the module", (prefix / MODULE / SONAME).resolve(), prefix / f"lib/libfmtcanon.so.{VERSION}")
     trials.expect("the program of the module", (prefix / MODULE / "program").resolve(), prefix / "bin/fmtcanon")
     files = [file.resolve() for file in map(prefix.joinpath, files_below(prefix))]
     modes = {oct(file.stat().st_mode & 0o777) for file in files if file.parent.name != "bin"}
@@ -179,21 +182,31 @@ def spoil_tree(tree):
         file.chmod((0o700 if file.is_dir() or os.access(file, os.X_OK) else 0o600) | (0o070 if number % 2 else 0))
 
 
-def packages_of(work, target, pattern):
+def try_checksums(folder, trials):
+    """SHA256SUMS names each package in a folder, with the checksum of its bytes."""
+    packages = sorted(path for pattern in ["*.tar.gz", "*.deb", "*.whl"] for path in folder.glob(pattern) if f"-{VERSION}-" in path.name.replace("_", "-"))
+    wanted = {f"{hashlib.sha256(path.read_bytes()).hexdigest()}  {path.name}" for path in packages}
+    file = folder / "SHA256SUMS"
+    found = set(file.read_text(encoding="utf-8").splitlines()) if file.exists() else set()
+    trials.expect(f"checksums of {[path.name for path in packages]}", (len(found) > 0, sorted(found)), (True, sorted(wanted)))
+
+
+def packages_of(work, target, pattern, trials):
     """The bytes of the package that is made of the tree, and of a copy with other times and rights."""
     for name in ["tree", "spoiled"]:
         tree = work / f"{name} for {target}".replace(" ", "-")
         copy_tree(tree)
         if name == "spoiled":
             spoil_tree(tree)
-        status, output = make([target], folder=tree)
+        status, output = make([target, MAINTAINER], folder=tree)
         files = list((tree / "out").glob(pattern))
+        try_checksums(tree / "out", trials)
         yield files[0].read_bytes() if status == 0 and len(files) == 1 else output
 
 
 def try_same_archives(work, trials):
     for target, pattern in [("dist", "*.tar.gz"), ("wheel", "*.whl")]:
-        first, second = packages_of(work, target, pattern)
+        first, second = packages_of(work, target, pattern, trials)
         trials.expect(f"make {target} of files with other times and rights", (isinstance(first, bytes), first == second), (True, True))
 
 
@@ -226,12 +239,21 @@ def try_no_binutils(work, trials):
     trials.expect("make wheel without objdump", (status != 0, output.startswith(wanted), "Traceback" in output), (True, True, False))
 
 
+def try_no_maintainer(trials):
+    """`make deb` needs to know who makes the package, and makes none otherwise."""
+    before = sorted((TOP / "out").glob("*.deb"))
+    status, output = make(["deb"])
+    trials.expect("make deb by nobody", (status != 0, output.startswith("MAINTAINER is missing: ")), (True, True))
+    trials.expect("no package is made", sorted((TOP / "out").glob("*.deb")), before)
+
+
 def try_missing(work, trials):
     """Where a file isn't built, `make install` says which, and installs nothing."""
     tree, stage = work / "tree", work / "third"
     for part in ["include", "man", "packaging", "completions", "examples", "docs", "python"]:
         shutil.copytree(TOP / part, tree / part)
-    shutil.copy(TOP / "Makefile", tree)
+    for part in ["VERSION", "Makefile"]:
+        shutil.copy(TOP / part, tree)
     status, output = make(["install", f"DESTDIR={stage}", *PLACES], folder=tree)
     trials.expect("make install of nothing", (status != 0, "crates/fmtcanon/out/fmtcanon is missing: make builds it" in output), (True, True))
     trials.expect("nothing is installed", stage.exists(), False)
@@ -239,8 +261,9 @@ def try_missing(work, trials):
 
 def try_archive(work, trials):
     """The archive installs the same files, and the module in it finds its library."""
-    made = TOP / "out/fmtcanon-0.2.0-linux-x86_64.tar.gz"
+    made = TOP / f"out/fmtcanon-{VERSION}-linux-x86_64.tar.gz"
     trials.expect("make dist", make(["dist"])[0], 0)
+    try_checksums(made.parent, trials)
     with tarfile.open(made) as archive:
         archive.extractall(work / "archive")
     folders = list((work / "archive").iterdir())
@@ -273,8 +296,6 @@ def try_page(trials):
     trials.expect("constants of fmtcanon.3 that the header has not", sorted(constants - set(re.findall(r"\w+", HEADER.read_text()))), [])
     for page in (TOP / "man").iterdir():
         text = page.read_text(encoding="utf-8")
-        version = re.search(r'^\.TH \S+ [13] "\d{4}-\d\d-\d\d" "(.*?)"', text).group(1)
-        trials.expect(f"the version of {page.name}", version, "fmtcanon 0.2.0")
         missing = set(SECTIONS[page.suffix]) - set(re.findall(r"^\.SH (.*)$", text, flags=re.MULTILINE))
         trials.expect(f"sections that {page.name} lacks", sorted(missing), [])
 
@@ -302,6 +323,7 @@ def try_all(work, trials):
     try_places(work, trials)
     try_shadows(work, trials)
     try_no_binutils(work, trials)
+    try_no_maintainer(trials)
     try_same_archives(work, trials)
     try_archive(work, trials)
     try_page(trials)

@@ -19,7 +19,7 @@ sys.dont_write_bytecode = True
 sys.path.insert(0, str(Path(__file__).resolve().parent))
 
 import installing  # noqa: E402
-from harness import TIMEOUT, TOP, Trials, examples, fences, page_examples, run  # noqa: E402
+from harness import SONAME, TIMEOUT, TOP, Trials, examples, fences, page_examples, run  # noqa: E402
 
 HEADER = TOP / "include/fmtcanon.h"
 SHAPES = TOP / "bench/shapes.nul"
@@ -136,13 +136,6 @@ def try_header(trials):
     code = dict(re.findall(r"NO_(\w+): i64 = (-\d+);", (SOURCES / "interface.rt").read_text(encoding="utf-8")))
     trials.expect("errors that are no refusal", declared, {"NOMEMORY": code["MEMORY"], "MODEL": code["MODEL"], "NOPLACE": code["PLACE"]})
     try_header_laws(declared, trials)
-    version = ".".join(re.findall(r"FMTCANON_VERSION_\w+ (\d+)", header_text()))
-    latest = re.search(r"^## (\S+),", (TOP / "CHANGELOG.md").read_text(encoding="utf-8"), flags=re.MULTILINE).group(1)
-    trials.expect("the version of the header", version, latest)
-    made = re.search(r"^VERSION = (\S+)$", (TOP / "Makefile").read_text(encoding="utf-8"), flags=re.MULTILINE).group(1)
-    trials.expect("the version of the Makefile", made, latest)
-    python = re.search(r'^version = "(\S+)"$', (TOP / "python/pyproject.toml").read_text(encoding="utf-8"), flags=re.MULTILINE).group(1)
-    trials.expect("the version of the Python module", python, latest)
 
 
 def try_header_laws(errors, trials):
@@ -170,7 +163,7 @@ def try_exports(folder, trials):
         found = sorted(re.findall(r"^[0-9a-f]+ \w (\S+)$", lines_of(words)[1], flags=re.MULTILINE))
         trials.expect(f"names of {words[-1].name}", found, wanted)
     headers = lines_of(["objdump", "-p", folder / "libfmtcanon.so"])[1]
-    trials.expect("the name that programs ask for", re.findall(r"SONAME\s+(\S+)", headers), ["libfmtcanon.so.0"])
+    trials.expect("the name that programs ask for", re.findall(r"SONAME\s+(\S+)", headers), [SONAME])
     trials.expect("libraries that it wants", re.findall(r"NEEDED\s+(\S+)", headers), ["libc.so.6"])
     # The first processors of x86-64 have none of these. (They read tzcnt as bsf, which is the same but for 0.)
     code = lines_of(["objdump", "-d", "--no-show-raw-insn", folder / "libfmtcanon.so"])[1]
@@ -203,7 +196,7 @@ def try_compiler(compiler, folder, trials, work, tools=()):
 
 def load_module(program, folder):
     """The Python module, over this program and the library in the folder."""
-    os.environ["FMTCANON_LIBRARY"] = str(folder / "libfmtcanon.so.0")
+    os.environ["FMTCANON_LIBRARY"] = str(folder / SONAME)
     os.environ["FMTCANON_PROGRAM"] = program
     sys.path.insert(0, str(TOP / "python"))
     import fmtcanon
@@ -388,7 +381,7 @@ def try_documents(prefix, work, trials):
 
 def try_unit_tests(program, folder, trials):
     """The tests of the Python module, and the examples of its text."""
-    environment = {**os.environ, "FMTCANON_PROGRAM": program, "FMTCANON_LIBRARY": str(folder / "libfmtcanon.so.0"), "PYTHONDONTWRITEBYTECODE": "1"}
+    environment = {**os.environ, "FMTCANON_PROGRAM": program, "FMTCANON_LIBRARY": str(folder / SONAME), "PYTHONDONTWRITEBYTECODE": "1"}
     words = [sys.executable, "-m", "unittest", "discover", "-s", "tests", "-t", "."]
     status, lines = lines_of(words, env=environment, cwd=TOP / "python")
     if status != 0:

@@ -22,6 +22,7 @@ import roots  # noqa: E402
 from catalog_edges import try_msgfmt_edges  # noqa: E402
 from catalog_plurals import try_plurals  # noqa: E402
 from diffing import try_times  # noqa: E402
+from harness import SONAME  # noqa: E402
 from library import TIMEOUT, TOP, Trials, compile_with, lines_of, load_module, python_lines, shapes, try_compiler  # noqa: E402
 from linear import try_linear  # noqa: E402
 from literals import try_decoded, try_encoded, try_trigraphs  # noqa: E402
@@ -127,7 +128,7 @@ def try_locale(program, folder, trials):
         trials.expect("localedef makes a locale: the package locales has what it needs", status, 0)
         environment = {
             **os.environ, "LOCPATH": work, "LC_ALL": "de_DE.ISO-8859-1", "PYTHONPATH": str(TOP / "python"), "PYTHONUTF8": "0",
-            "FMTCANON_PROGRAM": program, "FMTCANON_LIBRARY": str(folder / "libfmtcanon.so.0"),
+            "FMTCANON_PROGRAM": program, "FMTCANON_LIBRARY": str(folder / SONAME),
         }
         script = "import sys, fmtcanon; print(sys.getfilesystemencoding(), fmtcanon.format('\\xe9%s', '\\xe9'), fmtcanon.show('\\xe9'))"
         wanted = "iso8859-1 b'\\xc3\\xa9\\xc3\\xa9' [Text(length=2)]\n"

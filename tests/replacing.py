@@ -15,7 +15,7 @@ import tempfile
 import time
 from pathlib import Path
 
-from harness import TIMEOUT, TOP, examples
+from harness import SONAME, TIMEOUT, TOP, examples
 
 FOLDER = TOP / "tests/rewrites"
 OLD, NEW = "%i\\n", "%d\\n"
@@ -152,7 +152,7 @@ class Tool:
         self.words = [python, TOP / "examples/replace_format.py"]
         paths = os.pathsep.join([*([modules] if modules else []), str(TOP / "python")])
         self.environment = {
-            **os.environ, "FMTCANON_LIBRARY": str(folder / "libfmtcanon.so.0"), "PYTHONPATH": paths,
+            **os.environ, "FMTCANON_LIBRARY": str(folder / SONAME), "PYTHONPATH": paths,
             "PYTHONDONTWRITEBYTECODE": "1", "LC_ALL": "C.UTF-8",
         }
 

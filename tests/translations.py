@@ -12,7 +12,7 @@ import sys
 import tempfile
 from pathlib import Path
 
-from harness import TIMEOUT, TOP
+from harness import SONAME, TIMEOUT, TOP
 
 CATALOGS = TOP / "tests/catalogs"
 # A catalog with its exit status, and what is printed of it.
@@ -165,7 +165,7 @@ def binary(messages, order):
 def check_po(folder, words, stdin=b"", where=CATALOGS):
     """The status, standard output and standard error of the command."""
     environment = {
-        **os.environ, "FMTCANON_LIBRARY": str(folder / "libfmtcanon.so.0"), "PYTHONDONTWRITEBYTECODE": "1",
+        **os.environ, "FMTCANON_LIBRARY": str(folder / SONAME), "PYTHONDONTWRITEBYTECODE": "1",
         "PYTHONPATH": str(TOP / "python"), "PYTHONIOENCODING": "utf-8",
     }
     # No package of the machine is taken.

@@ -25,7 +25,7 @@ the bytes that `os.fsencode` returns instead.
 
 The library is loaded by the first call that needs it, which raises `ImportError` if it isn't there. It is the
 one that the environment variable FMTCANON_LIBRARY names, otherwise the one next to this module, where an
-installation puts it, otherwise `libfmtcanon.so.0`, where the system looks for libraries.
+installation puts it, otherwise `libfmtcanon.so.1`, where the system looks for libraries.
 
     >>> import fmtcanon
     >>> fmtcanon.canonical("Total: %i of %u%%")
@@ -109,13 +109,14 @@ __all__ = [
 ]
 
 # The version of this module, and of the library that comes with it; version() returns that of the one that is loaded.
-__version__ = "0.2.0"
+__version__ = "1.0.0"
 
 Format = Union[str, bytes, bytearray, memoryview]
 _Text = TypeVar("_Text", str, bytes)
 
-# The versions of the library that the module is for: any patch of this one.
-_VERSION = (0, 2)
+# The library must have the same major and minor version; only the patch may be another.
+_VERSION = tuple(map(int, __version__.split(".")))[:2]
+_SONAME = f"libfmtcanon.so.{_VERSION[0]}"
 _NO_MEMORY = -100
 _NO_PLACE = -102
 _NO_ARGUMENT = 2**64 - 1
@@ -250,7 +251,7 @@ _CALLS = {
 
 
 def _library_name() -> str:
-    beside = Path(__file__).parent / "libfmtcanon.so.0"
+    beside = Path(__file__).parent / _SONAME
     return os.environ.get("FMTCANON_LIBRARY") or (str(beside) if beside.exists() else beside.name)
 
 
@@ -269,7 +270,8 @@ def _library() -> ctypes.CDLL:
         function.argtypes, function.restype = arguments, result
     found = _parts(library.fmtcanon_version())
     if found[:2] != _VERSION:
-        raise ImportError(f"{name} has the version {'.'.join(map(str, found))}, which isn't known")
+        have, need = (".".join(map(str, it)) for it in (found, _VERSION))
+        raise ImportError(f"{name} has the version {have}, and the module needs {need}")
     return library
 
 

@@ -177,7 +177,6 @@ class Calls(unittest.TestCase):
             fmtcanon.same("%d", "%d", Model.LP64)
 
     def test_version(self):
-        self.assertEqual(fmtcanon.version()[:2], (0, 2))
         self.assertEqual(fmtcanon.__version__, ".".join(map(str, fmtcanon.version())))
 
     def test_examples(self):
@@ -251,7 +250,7 @@ class Loading(unittest.TestCase):
         return done.returncode, done.stderr.decode().splitlines()[-1]
 
     def test_no_library(self):
-        status, line = self.import_with("/nothing/libfmtcanon.so.0")
+        status, line = self.import_with("/nothing/libfmtcanon.so")
         self.assertEqual(status, 1)
         self.assertIn("ImportError: the library of fmtcanon isn't there", line)
         self.assertIn("FMTCANON_LIBRARY", line)

@@ -118,7 +118,7 @@ class Answers(unittest.TestCase):
             self.assertEqual(session.close(), 2)
 
     def test_no_library(self):
-        with environment(FMTCANON_LIBRARY="/nothing/libfmtcanon.so.0"):
+        with environment(FMTCANON_LIBRARY="/nothing/libfmtcanon.so"):
             text = "import fmtcanon; print(fmtcanon.Session('canon').ask('%i').text.decode())"
             done = subprocess.run([sys.executable, "-c", text], stdout=subprocess.PIPE, check=False)
         self.assertEqual(done.stdout, b"%d\n")

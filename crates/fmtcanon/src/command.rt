@@ -145,7 +145,7 @@ fn top<'a>(alloc: Global) -> Result<Command<'a>, AllocError>
         .about(
             "Reads printf formats: canonical texts, argument types, and whether two are interchangeable",
         )
-        .version("0.2.0")
+        .version("1.0.0")
         .after_help(PROGRAM_HELP)
         .no_binary_name(true)
         .subcommand_required(true)

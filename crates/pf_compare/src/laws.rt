@@ -1,4 +1,5 @@
-//! The headline, over the definitions alone.
+//! The headline, and what it says of one format. Each law is about the definitions alone, holds in
+//! each data model, and is the contract of a function that does nothing.
 ghost use Rattle.pf_values.specs.declared.models.Model.{Model};
 ghost use Rattle.pf_values.specs.meaning.Headline.{HasOneCanonical, HaveOneMeaning};
 ghost use Rattle.pf_values.specs.meaning.Items.{IsAccepted};

@@ -237,7 +237,7 @@ module _ (t : Text) where
       found_bytes n at (omega (arith, fits, long, low))
       (λ k less. subst (λ x. is_byte2 37 0 x ≢ true) (ap (λ u. get_or u k 0) rest ∙ get_or-drop at t k 0) (none k (omega arith) less))
 
-  -- in a text that is read, the search for `%` and for a zero byte never stops at a zero byte
+  -- in a text that is read, the search for `%` and NUL never stops at a NUL
   pub nothing_found : (at : ℕ) → at < length t → get_or t at 0 ≢ 37 → Passes (is_byte2 37 0) (take (length t - at) (drop at t)) 0 → (left : Stretches)
       → ReadsWhole (drop at t) left → ⊥
   nothing_found at less other passes left h =

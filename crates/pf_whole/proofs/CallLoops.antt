@@ -67,7 +67,7 @@ next_of model t (Before items s later) rest call after h =
       calls_are = ap₂ (λ c l. c ∷ l) (ap₂ (call_at model) (sym h.index_is) parts) (ap (λ n. placed_calls model n later) (sym h.after_is));
     }
 
--- there is none
+-- no call is left
 pub no_next : (model : Model) (t : Text) (left : Stretches) (rest : Rest) → IsNextCall model t left rest None → placed_calls model rest.index left ≡ []
 no_next model t (Last items) rest h = refl
 no_next model t (Before items s later) rest h = absurd h

@@ -15,8 +15,8 @@ Checks the C formats of message catalogs.
 
 FILE is a .po or .mo file, or - for standard input. Each translated message with the flag c-format or
 possible-c-format is checked, except fuzzy and obsolete ones. The translation must take arguments of
-the same types, in the same order. A plural form and msgid must take those of msgid_plural. They may
-leave out the last arguments if they are for at most four numbers, as in 'one file'. A message must
+the same types, in the same order. A plural form and msgid must take those of msgid_plural. A form that
+is used for at most four numbers, as 'one file' is, may leave out the last arguments. A message must
 begin and end with a newline exactly if its translation does.
 
 A .mo file doesn't say which messages are C formats. Each one with a % is checked, and a fault that
@@ -29,8 +29,7 @@ EPILOG = """\
 A fault is reported on standard error, as by `msgfmt -c`: the file, the line, the reason and the
 message. Arguments are counted from 0. If only the message is not a C format, its translation can't be
 judged, which is a warning. It is a warning, too, if a translation prints an int as something else, as
-%c for %d. The last lines count the messages that were judged and that were not, and the
-faults.
+%c for %d. The last lines count the messages that were judged and that were not, and the faults.
 
 The exit status is 0 if there is no fault, 1 if there is one or a file can't be read, and 2 for a usage
 error."""

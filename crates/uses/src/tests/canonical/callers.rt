@@ -3,14 +3,14 @@ use pf_canon::{CanonFault, canonical, same_text};
 use pf_values::Model;
 use std::alloc::Global;
 
-/// Whether two formats are known to mean the same.
+/// Returns whether two formats mean the same, by their canonical texts.
 fn mean_the_same(alloc: Global, first: &[u8], second: &[u8]) -> Result<bool, CanonFault> {
     let first = canonical(alloc, Model::Lp64, first)?;
     let second = canonical(alloc, Model::Lp64, second)?;
     Ok(first.as_slice() == second.as_slice())
 }
 
-/// The same without memory. A text that is refused means the same as none.
+/// Returns whether two formats are accepted and mean the same. It allocates nothing.
 fn mean_the_same_here(first: &[u8], second: &[u8]) -> bool {
     same_text(Model::Lp64, first, second) == Ok(true)
 }
