@@ -73,6 +73,24 @@ static int64_t compare(const char *f, size_t n)
     return fmtcanon_compare(LP64, f, n, f, n, out, sizeof out, &found, &error);
 }
 
+static int64_t whole_canonical(const char *f, size_t n)
+{
+    return fmtcanon_whole_canonical(LP64, f, n, out, sizeof out, &error);
+}
+
+static int64_t whole_same(const char *f, size_t n) { return fmtcanon_whole_same(LP64, f, n, f, n, &error); }
+
+static int64_t whole_same_models(const char *f, size_t n)
+{
+    return fmtcanon_whole_same_models(f, n, f, n, &error);
+}
+
+static int64_t whole_compare(const char *f, size_t n)
+{
+    fmtcanon_comparison found;
+    return fmtcanon_whole_compare(LP64, f, n, f, n, out, sizeof out, &found, &error);
+}
+
 static int64_t parse(const char *f, size_t n)
 {
     static int found[1000];
@@ -106,7 +124,9 @@ static const struct {
 } CALLS[] = {
     {"check", check},     {"is_canonical", is_canonical}, {"canonical", canonical},
     {"types", types},     {"same", same},                 {"same_models", same_models},
-    {"compare", compare}, {"parse_printf_format", parse}, {"process", process},
+    {"compare", compare}, {"whole_canonical", whole_canonical}, {"whole_same", whole_same},
+    {"whole_same_models", whole_same_models}, {"whole_compare", whole_compare},
+    {"parse_printf_format", parse}, {"process", process},
 };
 
 static double seconds_of(int who)

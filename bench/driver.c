@@ -23,6 +23,11 @@ uint64_t bench_canonical_len(const char *text, size_t len);
 bool bench_same_text(const char *first, size_t first_len, const char *second, size_t second_len);
 bool bench_same_stream(const char *first, size_t first_len, const char *second, size_t second_len);
 uint64_t bench_compare(const char *first, size_t first_len, const char *second, size_t second_len);
+uint64_t bench_whole_canonical(const char *text, size_t len);
+bool bench_whole_is_canonical(const char *text, size_t len);
+uint64_t bench_whole_canonical_len(const char *text, size_t len);
+bool bench_whole_same_text(const char *first, size_t first_len, const char *second, size_t second_len);
+uint64_t bench_whole_compare(const char *first, size_t first_len, const char *second, size_t second_len);
 uint64_t bench_scanner(const char *text, size_t len);
 bool bench_render_two(const char *text, size_t len, int number, const char *string, size_t string_len,
                       char *out, size_t room);
@@ -36,20 +41,32 @@ static char printed[100];
 static uint64_t call_check(const char *text, size_t len) { return bench_check(text, len); }
 static uint64_t call_is_canonical(const char *text, size_t len) { return bench_is_canonical(text, len); }
 
+static uint64_t call_whole_is_canonical(const char *text, size_t len) { return bench_whole_is_canonical(text, len); }
+
+typedef bool same_call(const char *first, size_t first_len, const char *second, size_t second_len);
+typedef uint64_t compare_call(const char *first, size_t first_len, const char *second, size_t second_len);
+
 /* The text beside itself, and beside one that differs at once. */
 static uint64_t call_fits(const char *text, size_t len) { return bench_fits(text, len, text, len); }
 static uint64_t call_same(const char *text, size_t len) { return bench_same_text(text, len, text, len); }
 static uint64_t call_same_stream(const char *text, size_t len) { return bench_same_stream(text, len, text, len); }
 static uint64_t call_other(const char *text, size_t len) { return bench_same_text(text, len, "\t", 1); }
+static uint64_t call_compare(const char *text, size_t len) { return bench_compare(text, len, text, len); }
+static uint64_t call_whole_same(const char *text, size_t len) { return bench_whole_same_text(text, len, text, len); }
+static uint64_t call_whole_other(const char *text, size_t len) { return bench_whole_same_text(text, len, "\t", 1); }
+static uint64_t call_whole_compare(const char *text, size_t len) { return bench_whole_compare(text, len, text, len); }
 
 /* The text beside the one before it. */
-static uint64_t call_before(const char *text, size_t len) {
+static inline uint64_t with_before(same_call *same, const char *text, size_t len) {
     static const char *before = "";
     static size_t before_len = 0;
-    bool same = bench_same_text(before, before_len, text, len);
+    bool is_same = same(before, before_len, text, len);
     before = text, before_len = len;
-    return same;
+    return is_same;
 }
+
+static uint64_t call_before(const char *text, size_t len) { return with_before(bench_same_text, text, len); }
+static uint64_t call_whole_before(const char *text, size_t len) { return with_before(bench_whole_same_text, text, len); }
 
 /* The second text of a pair. */
 static const char *second = "";
@@ -57,22 +74,23 @@ static size_t second_len = 0;
 
 static uint64_t call_same_pair(const char *text, size_t len) { return bench_same_text(text, len, second, second_len); }
 static uint64_t call_compare_pair(const char *text, size_t len) { return bench_compare(text, len, second, second_len); }
-static uint64_t call_compare(const char *text, size_t len) { return bench_compare(text, len, text, len); }
 
-/* The text with a tab at its end; what the copy costs is counted alone, too. */
-static char longer[1 << 16];
+/* The text with a tab at its end; what the copy costs is counted alone, too. There is room for every text. */
+static char *longer;
 
 static uint64_t call_tab(const char *text, size_t len) {
-    if (len >= sizeof longer) return 0;
     memcpy(longer, text, len);
     longer[len] = '\t';
     return len + 1;
 }
 
-static uint64_t call_compare_tab(const char *text, size_t len) {
+static inline uint64_t with_tab(compare_call *compare, const char *text, size_t len) {
     size_t longer_len = call_tab(text, len);
-    return bench_compare(text, len, longer, longer_len);
+    return compare(text, len, longer, longer_len);
 }
+
+static uint64_t call_compare_tab(const char *text, size_t len) { return with_tab(bench_compare, text, len); }
+static uint64_t call_whole_compare_tab(const char *text, size_t len) { return with_tab(bench_whole_compare, text, len); }
 
 static uint64_t call_nothing(const char *text, size_t len) { return text[0] + len; }
 
@@ -127,6 +145,14 @@ static const struct {
     {"compare, a tab more", call_compare_tab},
     {"a tab more", call_tab},
     {"compare of a pair", call_compare_pair},
+    {"whole canonical", bench_whole_canonical},
+    {"whole is_canonical", call_whole_is_canonical},
+    {"whole canonical_len", bench_whole_canonical_len},
+    {"whole same_text", call_whole_same},
+    {"whole same_text, differs at once", call_whole_other},
+    {"whole same_text, unrelated", call_whole_before},
+    {"whole compare", call_whole_compare},
+    {"whole compare, a tab more", call_whole_compare_tab},
     {"parse_printf_format twice", call_parse_twice},
     {"Scanner", bench_scanner},
     {"parse_printf_format", call_parse},
@@ -178,6 +204,9 @@ int main(int argc, char **argv) {
     } else {
         stop("wrong arguments");
     }
+    /* A text's NUL leaves room for the tab. */
+    longer = malloc(total);
+    if (longer == NULL) stop("out of memory");
     while (number < sizeof CALLS / sizeof CALLS[0] && strcmp(CALLS[number].name, argv[1]) != 0) number++;
     if (number == sizeof CALLS / sizeof CALLS[0]) stop("no such call");
     uint64_t (*call)(const char *, size_t) = CALLS[number].call;

@@ -1,8 +1,9 @@
 /* What a program does that answers records by calls of the library: it reads them from standard input
- * and writes the replies of `fmtcanon canon -z` or `same -z`. And calls about string literals, made
- * many times.
+ * and writes the replies of `fmtcanon canon -z` or `same -z`, also with `--whole`. And calls about string
+ * literals, made many times.
  *
  *     records canon | records same              on records of standard input
+ *     records canon whole | records same whole  on those of the whole language
  *     records decode N | records encode N       N calls, on all of standard input
  */
 #include "fmtcanon.h"
@@ -12,6 +13,8 @@
 
 static char *record, *other, *out;
 static size_t record_room, other_room, out_room = 1 << 16;
+static __typeof__(fmtcanon_canonical) *canonical = fmtcanon_canonical;
+static __typeof__(fmtcanon_compare) *compare = fmtcanon_compare;
 
 /* One record, without its zero byte; -1 at the end. */
 static long next(char **text, size_t *room)
@@ -32,10 +35,10 @@ static void canon(void)
     long size;
     while ((size = next(&record, &record_room)) >= 0) {
         fmtcanon_error e;
-        int64_t len = fmtcanon_canonical(FMTCANON_LP64, record, (size_t)size, out, out_room, &e);
+        int64_t len = canonical(FMTCANON_LP64, record, (size_t)size, out, out_room, &e);
         if (len >= (int64_t)out_room) {
             out = realloc(out, out_room = 2 * (size_t)len);
-            len = fmtcanon_canonical(FMTCANON_LP64, record, (size_t)size, out, out_room, &e);
+            len = canonical(FMTCANON_LP64, record, (size_t)size, out, out_room, &e);
         }
         if (len < 0) {
             refuse(&e, "");
@@ -62,13 +65,15 @@ static void same(void)
     while ((size = next(&record, &record_room)) >= 0 && (more = next(&other, &other_room)) >= 0) {
         fmtcanon_error e;
         fmtcanon_comparison found;
-        int64_t len = fmtcanon_compare(FMTCANON_LP64, record, (size_t)size, other, (size_t)more, out, out_room, &found, &e);
+        int64_t len = compare(FMTCANON_LP64, record, (size_t)size, other, (size_t)more, out, out_room, &found, &e);
         if (len < 0)
             refuse(&e, e.side ? "second: " : "first: ");
         else if (found.verdict == FMTCANON_SAME)
             fwrite("0 same", 1, 7, stdout);
         else if (found.verdict == FMTCANON_TYPES)
             printf("1 types differ at argument %llu%c", (unsigned long long)found.number, 0);
+        else if (found.verdict == FMTCANON_DIRECTIVES)
+            printf("1 directives differ at argument %llu%c", (unsigned long long)found.number, 0);
         else
             put_words(len);
     }
@@ -89,6 +94,10 @@ static void calls(int decodes, long count)
 int main(int argc, char **argv)
 {
     out = malloc(out_room);
+    if (argc == 3 && !strcmp(argv[2], "whole")) {
+        canonical = fmtcanon_whole_canonical, compare = fmtcanon_whole_compare;
+        argc = 2;
+    }
     if (argc == 2 && !strcmp(argv[1], "canon"))
         canon();
     else if (argc == 2 && !strcmp(argv[1], "same"))

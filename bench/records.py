@@ -15,10 +15,13 @@ import sys
 import tempfile
 from pathlib import Path
 
+sys.dont_write_bytecode = True
+
+from formats import records as as_records, shapes, whole_shapes  # noqa: E402
+
 BENCH = Path(__file__).resolve().parent
 TOP = BENCH.parent
-SHAPES = (BENCH / "shapes.nul").read_bytes()
-COUNT = SHAPES.count(b"\0")
+SHAPES, WHOLE_SHAPES = as_records(shapes()), as_records(whole_shapes())
 MEGABYTES = [1, 100, 1000]
 # Texts of so many bytes, for calls about literals.
 SIZES = [33, 1_000, 10_000]
@@ -41,19 +44,31 @@ def cost(words, text):
     return (twice - once) / text.count(b"\0"), said
 
 
+def twins(formats):
+    """Records of each format and itself."""
+    return as_records(text for text in formats for _ in range(2))
+
+
 def records(program, driver):
-    """The table of runs over records. Under `same` each format is compared with itself, and with the one before it."""
-    formats = SHAPES.split(b"\0")[:-1]
-    twins = b"".join(text + b"\0" + text + b"\0" for text in formats)
-    texts = [("canon", "", SHAPES), ("same", ", a format and itself", twins), ("same", ", a format and the next one", SHAPES)]
-    print(f"{COUNT:,} formats as records, instructions a record:\n")
+    """The table of runs over records. Under `same` each format is compared with itself, and every other one with the next."""
+    texts = [
+        ("canon", [], "", SHAPES),
+        ("same", [], ", a format and itself", twins(shapes())),
+        ("same", [], ", a format and the next one", SHAPES),
+        ("canon", ["whole"], "", WHOLE_SHAPES),
+        ("same", ["whole"], ", a format and itself", twins(whole_shapes())),
+        ("same", ["whole"], ", a format and the next one", WHOLE_SHAPES[: WHOLE_SHAPES.rindex(b"\0", 0, -1) + 1]),
+    ]
+    print(f"{len(shapes()):,} formats as records, with `--whole` those with a directive that the profile lacks; instructions a record:\n")
     print("| Command | `fmtcanon` | A C loop over the library | Ratio |\n|---|---|---|---|")
-    for command, name, text in texts:
-        ours, said = cost([program, command, "-z"], text)
-        theirs, wanted = cost([driver, command], text)
+    for command, more, name, text in texts:
+        options = [f"--{it}" for it in more]
+        ours, said = cost([program, command, "-z", *options], text)
+        theirs, wanted = cost([driver, command, *more], text)
+        named = " ".join([command, "-z", *options])
         if said != wanted:
-            sys.exit(f"{command}{name}: the two don't write the same")
-        print(f"| `{command} -z`{name} | {ours:,.0f} | {theirs:,.0f} | {ours / theirs:.2f} |")
+            sys.exit(f"{named}{name}: the two don't write the same")
+        print(f"| `{named}`{name} | {ours:,.0f} | {theirs:,.0f} | {ours / theirs:.2f} |")
 
 
 def literals(driver):
