@@ -8,6 +8,7 @@ use Rattle.pf_values.specs.Counting.{Known, device_of, failures_of, is_flushed}
 use Rattle.pf_values.specs.meaning.Text.{Text}
 use Rattle.fmtcanon.specs.Conversations.{HasAnswered, HasCome, HasReplies, HasRepliedTo, RecordsFinish, RecordsEndEarly, waiting_text}
 use Rattle.fmtcanon.specs.Records.{AllReplied, IsRecords, RecordsEnd, ReadFails, last_record}
+use Rattle.fmtcanon.specs.declared.outcome.Fault.TheVariants as faults
 use Rattle.fmtcanon.specs.declared.outcome.Outcome.{Outcome}
 use Rattle.fmtcanon.specs.declared.outcome.Outcome.TheVariants as outcomes
 use Rattle.fmtcanon.specs.declared.task.RecordQuestion.{RecordQuestion}
@@ -18,41 +19,17 @@ use Rattle.fmtcanon.proofs.RecordTexts.{cut_none}
 module _ (kind : RecordQuestion) {R W : Type 0} (remaining : R → Known) (contents : W → Known) (reader left : Counted R) (old new : Counted W) (taken : Text) (whole : List Text) (rest : Text) (cut : IsRecords taken whole rest) (took : Consumes (remaining (device_of reader)) (remaining (device_of left)) taken) where
   -- a write failed, memory was refused
   pub left_stopped : failures_of left ≡ failures_of reader → (outcome : Outcome) → RecordsEndEarly kind contents old new (whole ++ last_record rest) outcome → RecordsEnd kind remaining contents reader left old new outcome
-  left_stopped well outcomes.Memory h = (whole, rest, h.0, h.1, (taken, cut, took), well, h.2)
+  left_stopped well (outcomes.Failed faults.Memory) h = (whole, rest, h.0, h.1, (taken, cut, took), well, h.2)
   left_stopped well (outcomes.Write count) h = (whole, rest, (taken, cut, took), well, h)
-  left_stopped well (outcomes.Answered greatest) h = absurd h
-  left_stopped well outcomes.NoSecond h = absurd h
-  left_stopped well outcomes.Done h = absurd h
-  left_stopped well outcomes.Same h = absurd h
-  left_stopped well outcomes.Different h = absurd h
-  left_stopped well (outcomes.Refused side refusal) h = absurd h
-  left_stopped well (outcomes.RefusedWhole side refusal) h = absurd h
-  left_stopped well (outcomes.BadLiteral side refusal) h = absurd h
-  left_stopped well (outcomes.BadWord index) h = absurd h
-  left_stopped well (outcomes.WrongCount wanted given) h = absurd h
-  left_stopped well (outcomes.WrongType index) h = absurd h
-  left_stopped well (outcomes.Usage text) h = absurd h
-  left_stopped well outcomes.Misplaced h = absurd h
-  left_stopped well outcomes.Read h = absurd h
+  left_stopped well _ h = absurd h
 
   -- the reader was at its end
   pub left_at_end : failures_of left ≡ failures_of reader → IsAtEnd (remaining (device_of left)) → (outcome : Outcome) → RecordsFinish kind contents old new (whole ++ last_record rest) outcome → RecordsEnd kind remaining contents reader left old new outcome
   left_at_end well end (outcomes.Answered greatest) h = (whole ++ last_record rest, (whole, rest, (taken, cut, took), end, refl), well, h)
   left_at_end well end outcomes.NoSecond h = (whole ++ last_record rest, h.0, h.1, (whole, rest, (taken, cut, took), end, refl), well, h.2, h.3)
-  left_at_end well end outcomes.Memory h = left_stopped well outcomes.Memory h
+  left_at_end well end (outcomes.Failed faults.Memory) h = left_stopped well (outcomes.Failed faults.Memory) h
   left_at_end well end (outcomes.Write count) h = left_stopped well (outcomes.Write count) h
-  left_at_end well end outcomes.Done h = absurd h
-  left_at_end well end outcomes.Same h = absurd h
-  left_at_end well end outcomes.Different h = absurd h
-  left_at_end well end (outcomes.Refused side refusal) h = absurd h
-  left_at_end well end (outcomes.RefusedWhole side refusal) h = absurd h
-  left_at_end well end (outcomes.BadLiteral side refusal) h = absurd h
-  left_at_end well end (outcomes.BadWord index) h = absurd h
-  left_at_end well end (outcomes.WrongCount wanted given) h = absurd h
-  left_at_end well end (outcomes.WrongType index) h = absurd h
-  left_at_end well end (outcomes.Usage text) h = absurd h
-  left_at_end well end outcomes.Misplaced h = absurd h
-  left_at_end well end outcomes.Read h = absurd h
+  left_at_end well end _ h = absurd h
 
   -- nothing waited, so the input is ready
   pub left_ready : failures_of left ≡ failures_of reader → (c : Conversation) → HasRepliedTo kind contents c old new whole rest → waiting_text c.replies ≡ [] → is_flushed new ≡ true → AllReplied kind remaining contents reader left old new

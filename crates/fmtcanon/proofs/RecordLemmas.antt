@@ -14,6 +14,7 @@ use Rattle.fmtcanon.specs.declared.records.Conversation.{Conversation}
 use Rattle.fmtcanon.specs.declared.records.ConversationFault.{ConversationFault}
 use Rattle.fmtcanon.specs.declared.records.ConversationFault.TheVariants.{Memory, Write}
 use Rattle.fmtcanon.specs.declared.records.Replies.{Replies}
+use Rattle.fmtcanon.specs.declared.outcome.Fault.TheVariants as faults
 use Rattle.fmtcanon.specs.declared.outcome.Outcome.{Outcome}
 use Rattle.fmtcanon.specs.declared.outcome.Outcome.TheVariants as outcomes
 use Rattle.fmtcanon.proofs.RecordTexts.{all_more}
@@ -106,22 +107,9 @@ module _ (kind : RecordQuestion) where
 
     -- to stop is one way to end
     pub stopped_at_end : (records : List Text) (outcome : Outcome) → RecordsEndEarly kind contents start now records outcome → RecordsFinish kind contents start now records outcome
-    stopped_at_end records (outcomes.Answered greatest) h = absurd h
-    stopped_at_end records outcomes.NoSecond h = absurd h
-    stopped_at_end records outcomes.Memory h = h
+    stopped_at_end records (outcomes.Failed faults.Memory) h = h
     stopped_at_end records (outcomes.Write count) h = h
-    stopped_at_end records outcomes.Done h = absurd h
-    stopped_at_end records outcomes.Same h = absurd h
-    stopped_at_end records outcomes.Different h = absurd h
-    stopped_at_end records (outcomes.Refused side refusal) h = absurd h
-    stopped_at_end records (outcomes.RefusedWhole side refusal) h = absurd h
-    stopped_at_end records (outcomes.BadLiteral side refusal) h = absurd h
-    stopped_at_end records (outcomes.BadWord index) h = absurd h
-    stopped_at_end records (outcomes.WrongCount wanted given) h = absurd h
-    stopped_at_end records (outcomes.WrongType index) h = absurd h
-    stopped_at_end records (outcomes.Usage text) h = absurd h
-    stopped_at_end records outcomes.Misplaced h = absurd h
-    stopped_at_end records outcomes.Read h = absurd h
+    stopped_at_end records _ h = absurd h
 
 -- a record that isn't empty is the last one
 pub last_some : (rest : Text) → (rest ≡ [] → ⊥) → last_record rest ≡ rest ∷ []

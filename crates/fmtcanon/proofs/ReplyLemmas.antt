@@ -66,14 +66,14 @@ said_unflushed contents start old now r replies h none kept failed =
       count_is = h.has.count;
     }
 
-module _ (kind : RecordQuestion) (formats : List Text) (sent : Text) (replies : List Reply) (old new : Replies) (h : HasReplies old sent replies) (same : new.written ≡ old.written) (question : Question) (about : IsAbout question kind formats) (said : Text) (outcome : Outcome) (says : RunWrites question said outcome) where
+module _ (kind : RecordQuestion) (formats : List Text) (sent : Text) (replies : List Reply) (old new : Replies) (h : HasReplies old sent replies) (same : new.written ≡ old.written) (question : Question) (about : IsAbout question kind formats) (said : Text) (outcome : Outcome) (says : RunWrites question said outcome) (status : ℕ) (is : status ≡ status_of outcome) where
   -- a reply was added, or none
-  pub reply_added : {E : Type 0} (r : Result (Unit {0}) E) → OnOk r (waiting_text new ≡ waiting_text old ++ reply_bytes (status_of outcome) said) → OnOk r (new.greatest ≡ max old.greatest (status_of outcome)) → OnErr r (waiting_text new ≡ waiting_text old) → OnErr r (new.greatest ≡ old.greatest)
+  pub reply_added : {E : Type 0} (r : Result (Unit {0}) E) → OnOk r (waiting_text new ≡ waiting_text old ++ reply_bytes status said) → OnOk r (new.greatest ≡ max old.greatest status) → OnErr r (waiting_text new ≡ waiting_text old) → OnErr r (new.greatest ≡ old.greatest)
       → MatchResult r (λ _. (reply : Reply) × IsReply kind reply × (reply.formats ≡ formats) × HasReplies new sent (replies ++ reply ∷ [])) (λ _. HasReplies new sent replies)
   reply_added (Ok done) bytes greatest none stays =
-      let reply : Reply = record { formats = formats; status = status_of outcome; bytes = reply_bytes (status_of outcome) said } in (
+      let reply : Reply = record { formats = formats; status = status; bytes = reply_bytes status said } in (
         reply,
-        record { question = question; about = about; said = said; outcome = outcome; says = says; status = refl; bytes = refl },
+        record { question = question; about = about; said = said; outcome = outcome; says = says; status = is; bytes = refl },
         refl,
         record {
           bytes = sym (flat_map_more (λ (r : Reply). r.bytes) [] replies reply) ∙ ap (λ t. t ++ reply.bytes) h.bytes ∙ append_assoc sent (waiting_text old) reply.bytes ∙ ap (λ t. sent ++ t) (sym bytes);

@@ -8,11 +8,10 @@ use Rattle.fmtcanon.specs.Streams.{CopyEnds}
 use Rattle.fmtcanon.specs.Records.{AllReplied, RecordsEnd}
 use Rattle.fmtcanon.specs.Tasks.{Asks, IsNoTaskOf}
 use Rattle.fmtcanon.specs.declared.answer.Ending.{Ending}
-use Rattle.fmtcanon.specs.declared.answer.Ending.TheVariants as endings
 use Rattle.fmtcanon.specs.declared.outcome.Fault.{Fault}
 use Rattle.fmtcanon.specs.declared.outcome.Fault.TheVariants as faults
 use Rattle.fmtcanon.specs.declared.outcome.Outcome.{Outcome}
-use Rattle.fmtcanon.specs.declared.outcome.Outcome.TheVariants.{Done, Same, Different, Refused, RefusedWhole, BadLiteral, BadWord, WrongCount, WrongType, Usage, Misplaced, Write, Memory}
+use Rattle.fmtcanon.specs.declared.outcome.Outcome.TheVariants.{Written, Failed, Usage, Misplaced, Write}
 use Rattle.fmtcanon.specs.declared.task.NoTask.{NoTask}
 use Rattle.fmtcanon.specs.declared.task.NoTask.TheVariants as reasons
 use Rattle.fmtcanon.specs.declared.task.Question.{Question}
@@ -48,21 +47,9 @@ module _ {W : Type 0} (contents : W → Known) (old new : Counted W) where
 
   -- what the run of a question leaves
   abbrev pub AnswerEnds : Question → Outcome → Type 0
-  AnswerEnds question Done = AnswersAll question endings.Done
-  AnswerEnds question Same = AnswersAll question endings.Same
-  AnswerEnds question Different = AnswersAll question endings.Different
+  AnswerEnds question (Written ending) = AnswersAll question ending
+  AnswerEnds question (Failed fault) = AnswersNothing question fault
   AnswerEnds question (Write count) = AnswersFirst question count
-  AnswerEnds question (Refused side refusal) =
-      AnswersNothing question (faults.Refused side refusal)
-  AnswerEnds question (RefusedWhole side refusal) =
-      AnswersNothing question (faults.RefusedWhole side refusal)
-  AnswerEnds question (BadLiteral side refusal) =
-      AnswersNothing question (faults.BadLiteral side refusal)
-  AnswerEnds question (BadWord index) = AnswersNothing question (faults.BadWord index)
-  AnswerEnds question (WrongCount wanted given) =
-      AnswersNothing question (faults.WrongCount wanted given)
-  AnswerEnds question (WrongType index) = AnswersNothing question (faults.WrongType index)
-  AnswerEnds question Memory = AnswersNothing question faults.Memory
   AnswerEnds question _ = ⊥
 
 -- neither the reader nor the writer was called
@@ -98,7 +85,7 @@ module _ {R W : Type 0} (remaining : R → Known) (contents : W → Known)
   NoTaskEnds (reasons.Usage text) outcome =
       (outcome ≡ Usage text) × CallsNeither reader left old new
   NoTaskEnds reasons.Misplaced outcome = (outcome ≡ Misplaced) × CallsNeither reader left old new
-  NoTaskEnds reasons.Memory outcome = (outcome ≡ Memory) × CallsNeither reader left old new
+  NoTaskEnds reasons.Memory outcome = (outcome ≡ Failed faults.Memory) × CallsNeither reader left old new
 
   -- what the run of a task leaves, or of none
   abbrev pub FoundEnds : Result Task NoTask → Outcome → Type 0

@@ -1,5 +1,5 @@
 //! The answer to a question.
-ghost use Rattle.std.specs.Prelude.{◌≡◌, Err, IfErr, MatchResult, Ok, IfOk, MatchOption, Some, map};
+ghost use Rattle.std.specs.Prelude.{◌≡◌, ◌≤◌, Err, IfErr, MatchResult, Ok, IfOk, MatchOption, Some, map};
 ghost use Rattle.fmtcanon.specs.Answers.{IsAnswer, IsQuestionFault, HasCanonicalLine, IsFormatFault, IsGivenFault, IsGivenPairFault, IsGivenWholePairFault, IsWholeFault, IsFaultInTexts, IsFaultInText, side_of};
 ghost use Rattle.fmtcanon.specs.declared.answer.Ending.TheVariants.{Done};
 ghost use Rattle.pf_canon.specs.declared.faults.Side.TheVariants as sides;
@@ -13,6 +13,7 @@ ghost use Rattle.fmtcanon.specs.Formats.{IsFormat};
 ghost use Rattle.fmtcanon.specs.Languages.{AcceptsText, Numbered, RefusesText, Unnumbered, language_of};
 ghost use Rattle.fmtcanon.specs.Lines.{line};
 ghost use Rattle.fmtcanon.specs.Models.{asked_models};
+ghost use Rattle.fmtcanon.specs.Outcomes.{status_of_ending};
 ghost use Rattle.fmtcanon.specs.Shows.{HasShownLines};
 ghost use Rattle.fmtcanon.specs.TypeLines.{HasTypeLines};
 ghost use Rattle.fmtcanon.specs.WholeAnswers.{HasWholeCanonicalLine, IsPairAnswerIn};
@@ -44,6 +45,19 @@ pub enum Ending {
     Same,
     /// They differ, in types or in bytes.
     Different,
+}
+
+impl Ending {
+    /// Returns the exit status of a run that ends so.
+    pub fn status(self) -> u8
+        ensures value { result ≡ status_of_ending self }
+        ensures digit { status_of_ending self ≤ 9 }
+    {
+        match self {
+            Ending::Done | Ending::Same => 0,
+            Ending::Different => 1,
+        }
+    }
 }
 
 /// What is written, and how the run ends then.

@@ -18,7 +18,7 @@ mod task;
 mod type_lines;
 mod whole;
 
-use outcome::{Outcome, report};
+use outcome::{Fault, Outcome, report};
 use pf_values::Counted;
 use run::run;
 use std::alloc::AllocError;
@@ -29,7 +29,7 @@ use std::{env, io};
 fn main(rt: HostRuntime) -> ExitCode {
     let outcome = match run_words(&rt) {
         Ok(outcome) => outcome,
-        Err(AllocError) => Outcome::Memory,
+        Err(AllocError) => Outcome::Failed(Fault::Memory),
     };
     report(&outcome, &mut Counted::new(rt.stderr()));
     ExitCode::from(outcome.status())

@@ -7,8 +7,8 @@ ghost use Rattle.pf_signatures.specs.Kinds as signatures;
 ghost use Rattle.pf_values.specs.RefusalKinds.{name};
 ghost use Rattle.fmtcanon.specs.Faults.{of_alike, of_canonical, of_comparison, of_literal, of_pair, of_signature, of_text};
 ghost use Rattle.fmtcanon.specs.Lines.{line};
-ghost use Rattle.fmtcanon.specs.Outcomes.{outcome_of, outcome_of_fault, status_of};
-ghost use Rattle.fmtcanon.specs.Reports.{WritesReport, fault_words, literal_words, refusal_words, side_words, report_text, whole_words};
+ghost use Rattle.fmtcanon.specs.Outcomes.{status_of, status_of_fault};
+ghost use Rattle.fmtcanon.specs.Reports.{WritesReport, fault_text, fault_words, literal_words, refusal_words, side_words, report_text, whole_words};
 ghost use Rattle.fmtcanon.specs.declared.outcome.Fault.TheVariants.{Memory};
 
 use crate::answer::Ending;
@@ -27,49 +27,16 @@ use std::io::Write;
 /// How a run ended.
 #[derive(Drop)]
 pub enum Outcome {
-    /// All was written.
-    Done,
-    /// The formats mean the same, or take the same arguments, and that was written.
-    Same,
-    /// They differ, in types or in bytes, and that was written.
-    Different,
-    /// A format is refused; nothing was written, but by `stream` what was settled before.
-    Refused {
-        /// Which one, where there are two.
-        side: Option<Side>,
-        /// Why, and where.
-        refusal: Refusal,
-    },
-    /// A format of the whole language is refused, and nothing was written.
-    RefusedWhole {
-        /// Which one, where there are two.
-        side: Option<Side>,
-        /// Why, and where.
-        refusal: SignatureRefusal,
-    },
-    /// The literals that give a format are wrong, and nothing was written.
-    BadLiteral {
-        /// Which format, where there are two.
-        side: Option<Side>,
-        /// What is wrong, and where.
-        refusal: LiteralRefusal,
-    },
-    /// The word of the argument with this index gives no argument, and nothing was written.
-    BadWord(u64),
-    /// There are more or fewer arguments than the format takes, and nothing was written.
-    WrongCount {
-        /// How many it takes.
-        wanted: u64,
-        /// How many there are.
-        given: u64,
-    },
-    /// The argument with this index is not of its type, and nothing was written.
-    WrongType(u64),
-    /// All records were answered; the greatest status of their answers.
+    /// All was written. If formats were compared, the ending says how they compare.
+    Written(Ending),
+    /// Nothing was written, except what `stream` had settled before, and the replies to the records
+    /// before the one for which memory was refused.
+    Failed(Fault),
+    /// All records were answered; the highest status of their answers.
     Answered(u8),
-    /// A record is left over that wants a second one, and all before it were answered.
+    /// A record is left over that needs a second one, and all before it were answered.
     NoSecond,
-    /// The words are not a command, or ask for help; this is the text of `clap`.
+    /// The arguments are not a command, or ask for help; this is the text of `clap`.
     Usage(String),
     /// Formats are missing, or given besides the option `--null`, and nothing was written.
     Misplaced,
@@ -77,39 +44,9 @@ pub enum Outcome {
     Read,
     /// A write or the flush failed, after this number of bytes.
     Write(u128),
-    /// A growth was refused.
-    Memory,
 }
 
 impl Outcome {
-    /// That of an answer which was written.
-    pub fn of_ending(ending: Ending) -> Outcome
-        ensures value { result ≡ outcome_of ending }
-        ensures digit { status_of result ≤ 9 }
-    {
-        match ending {
-            Ending::Done => Outcome::Done,
-            Ending::Same => Outcome::Same,
-            Ending::Different => Outcome::Different,
-        }
-    }
-
-    /// That of a question without an answer.
-    pub fn of_fault(fault: Fault) -> Outcome
-        ensures value { result ≡ outcome_of_fault fault }
-        ensures digit { status_of result ≤ 9 }
-    {
-        match fault {
-            Fault::Refused { side, refusal } => Outcome::Refused { side, refusal },
-            Fault::RefusedWhole { side, refusal } => Outcome::RefusedWhole { side, refusal },
-            Fault::BadLiteral { side, refusal } => Outcome::BadLiteral { side, refusal },
-            Fault::BadWord(index) => Outcome::BadWord(index),
-            Fault::WrongCount { wanted, given } => Outcome::WrongCount { wanted, given },
-            Fault::WrongType(index) => Outcome::WrongType(index),
-            Fault::Memory => Outcome::Memory,
-        }
-    }
-
     /// Returns the exit status: 0 if all was written, 1 if formats differ, 2 if a format is refused or
     /// literals are wrong, 3 for a usage error, an invalid argument or an unpaired record, and 4 if a
     /// device failed or memory was refused. Of records that were answered it is the highest of theirs.
@@ -117,19 +54,16 @@ impl Outcome {
         ensures { result ≡ status_of self.now }
     {
         match self {
-            Outcome::Done | Outcome::Same => 0,
-            Outcome::Different => 1,
-            Outcome::Refused { .. } | Outcome::RefusedWhole { .. } => 2,
-            Outcome::BadLiteral { .. } => 2,
-            Outcome::BadWord(_) | Outcome::WrongCount { .. } | Outcome::WrongType(_) => 3,
-            Outcome::NoSecond | Outcome::Usage(_) | Outcome::Misplaced => 3,
+            Outcome::Written(ending) => ending.status(),
+            Outcome::Failed(fault) => fault.status(),
             Outcome::Answered(status) => *status,
-            Outcome::Read | Outcome::Write(_) | Outcome::Memory => 4,
+            Outcome::NoSecond | Outcome::Usage(_) | Outcome::Misplaced => 3,
+            Outcome::Read | Outcome::Write(_) => 4,
         }
     }
 }
 
-/// Why a question has no answer.
+/// Why a run failed: a question has no answer, or memory was refused.
 #[derive(Clone, Copy)]
 pub enum Fault {
     /// A format is refused.
@@ -169,6 +103,18 @@ pub enum Fault {
 }
 
 impl Fault {
+    /// Returns the exit status of a run that fails with it.
+    pub fn status(&self) -> u8
+        ensures value { result ≡ status_of_fault self.now }
+        ensures digit { status_of_fault self.now ≤ 9 }
+    {
+        match self {
+            Fault::Refused { .. } | Fault::RefusedWhole { .. } | Fault::BadLiteral { .. } => 2,
+            Fault::BadWord(_) | Fault::WrongCount { .. } | Fault::WrongType(_) => 3,
+            Fault::Memory => 4,
+        }
+    }
+
     /// That of literals which give a format, the only one or this one of two.
     pub fn of_literal(side: Option<Side>, fault: LiteralFault) -> Fault
         ensures { result ≡ of_literal side fault }
@@ -296,15 +242,9 @@ fn write_report<E: Write>(outcome: &Outcome, errors: &mut Counted<E>) -> Result<
     ensures { Writes E.contents errors.old errors.new (report_text outcome.now) result }
 {
     match outcome {
-        Outcome::Done | Outcome::Same | Outcome::Different => write_bytes(errors, b""),
-        Outcome::Answered(_) => write_bytes(errors, b""),
+        Outcome::Written(_) | Outcome::Answered(_) => write_bytes(errors, b""),
+        Outcome::Failed(fault) => write_line(errors, &fault_line(fault)),
         Outcome::NoSecond => write_bytes(errors, b"a second format is wanted\n"),
-        Outcome::Refused { side, refusal } => write_line(errors, &refusal_line(*side, refusal)),
-        Outcome::RefusedWhole { side, refusal } => write_line(errors, &whole_line(*side, refusal)),
-        Outcome::BadLiteral { side, refusal } => write_line(errors, &literal_line(*side, refusal)),
-        Outcome::BadWord(index) => write_line(errors, &argument_line(*index, "not an argument")),
-        Outcome::WrongCount { wanted, given } => write_line(errors, &count_line(*wanted, *given)),
-        Outcome::WrongType(index) => write_line(errors, &argument_line(*index, "wrong type")),
         Outcome::Usage(text) => write_bytes(errors, text.as_bytes()),
         Outcome::Misplaced => write_bytes(
             errors,
@@ -312,7 +252,6 @@ fn write_report<E: Write>(outcome: &Outcome, errors: &mut Counted<E>) -> Result<
         ),
         Outcome::Read => write_bytes(errors, b"read failed\n"),
         Outcome::Write(_) => write_bytes(errors, b"write failed\n"),
-        Outcome::Memory => write_bytes(errors, b"out of memory\n"),
     }
 }
 
@@ -324,7 +263,7 @@ fn write_line<E: Write>(errors: &mut Counted<E>, line: &Line) -> Result<(), Shor
 
 /// The line of a fault.
 pub fn fault_line(fault: &Fault) -> Line
-    ensures { result.bytes ≡ report_text (outcome_of_fault fault.now) }
+    ensures { result.bytes ≡ fault_text fault.now }
 {
     match fault {
         Fault::Refused { side, refusal } => refusal_line(*side, refusal),

@@ -3,7 +3,6 @@ ghost use Rattle.std.specs.Prelude.{◌≡◌, ◌≢◌, ◌≤◌, ◌<◌, �
 ghost use Rattle.pf_values.specs.Counting.{calls_after, calls_of, is_flushed};
 ghost use Rattle.pf_values.specs.meaning.Text.{Text};
 ghost use Rattle.fmtcanon.specs.Conversations.{AddsReply, HasAnswered, HasCome, HasRepliedTo, HasRepliedToText, HasReplies, HasSaid, HasSaidFirst, HasStopped, HasStoppedAt, RecordsFinish, RecordsEndEarly, WritesReplies, waiting_text};
-ghost use Rattle.fmtcanon.specs.Outcomes.{status_of};
 ghost use Rattle.fmtcanon.specs.Questions.{IsAbout, formats_wanted};
 ghost use Rattle.fmtcanon.specs.Records.{AllReplied, IsReply, RecordsEnd, RepliesFirst, Reply, last_record, reply_bytes};
 
@@ -294,7 +293,7 @@ impl Conversation {
         match fault {
             ConversationFault::Write(count) => Outcome::Write(count),
             ConversationFault::Memory => match self.replies.flush(writer) {
-                Ok(()) => Outcome::Memory,
+                Ok(()) => Outcome::Failed(Fault::Memory),
                 Err(count) => Outcome::Write(count),
             },
         }
@@ -419,29 +418,28 @@ impl Replies {
             (λ _. HasReplies self.new sent replies) }
     {
         match answer_to(alloc, question) {
-            Ok(answer) => self.push(&Outcome::of_ending(answer.ending), &answer.bytes),
+            Ok(answer) => self.push(answer.ending.status(), &answer.bytes),
             Err(fault) => match fault {
                 Fault::Memory => Err(AllocError),
                 _ => {
                     let line = fault_line(&fault);
-                    self.push(&Outcome::of_fault(fault), line.as_str().as_bytes())
+                    self.push(fault.status(), line.as_str().as_bytes())
                 }
             },
         }
     }
 
-    // Adds the reply that says this, of a run that ends so.
-    fn push(&mut self, outcome: &Outcome, said: &[u8]) -> Result<(), AllocError>
-        requires { status_of outcome.now ≤ 9 }
+    // Adds the reply with this status that says this.
+    fn push(&mut self, status: u8, said: &[u8]) -> Result<(), AllocError>
+        requires { status ≤ 9 }
         ensures bytes { OnOk result (waiting_text self.new
-            ≡ waiting_text self.old ++ reply_bytes (status_of outcome.now) said.now) }
+            ≡ waiting_text self.old ++ reply_bytes status said.now) }
         ensures greatest { OnOk result
-            (self.new.greatest ≡ max self.old.greatest (status_of outcome.now)) }
+            (self.new.greatest ≡ max self.old.greatest status) }
         ensures written { self.new.written ≡ self.old.written }
         ensures none { OnErr result (waiting_text self.new ≡ waiting_text self.old) }
         ensures same { OnErr result (self.new.greatest ≡ self.old.greatest) }
     {
-        let status = outcome.status();
         let len = self.waiting.len();
         if push_reply(&mut self.waiting, status, said).is_err() {
             self.waiting.truncate(len);

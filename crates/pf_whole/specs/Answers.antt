@@ -1,9 +1,8 @@
 -- What `canonical` and `compare` return: canonical texts, and a comparison with the arguments that it
 -- shows. This project's own: the standard compares no formats.
 --
--- The last part has what three laws say: `calls_give_shape`, `telling_is_apart` and
--- `agreeing_is_together`. They speak of `TracesApart` and `TracesTogether`, too. That two texts have
--- one verdict is not proved.
+-- The last part has what four laws say: `one_verdict`, `calls_give_shape`, `telling_is_apart` and
+-- `agreeing_is_together`.
 use Rattle.std.specs.Prelude.{◌≡◌, ◌≢◌, ℕ, List, ◌++◌, map, length, slice_get, slice_set, Contains, Option, Some, None, ◌⊎◌, ◌↔◌, ⊤}
 use Rattle.std.specs.List.{AllZip}
 use Rattle.pf_values.specs.declared.models.Model.{Model}
@@ -117,6 +116,11 @@ pub record IsWholeComparisonOf (model : Model) (t u : Text) (verdict : WholeVerd
   pub second : IsWholeAccepted u
   pub same : (verdict ≡ Same) ↔ AreWholeAlike model t u
   pub is : IsWholeVerdict model first.stretches second.stretches verdict
+
+-- two texts have at most one verdict
+abbrev pub OneVerdict : Model → Type 0
+OneVerdict model = (t u : Text) (verdict other : WholeVerdict) → IsWholeComparisonOf model t u verdict
+    → IsWholeComparisonOf model t u other → verdict ≡ other
 
 -- Two lists of stretches have one shape: side by side, the stretches take arguments of the same types,
 -- and the opaque directives have the same normal spelling.

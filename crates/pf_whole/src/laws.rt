@@ -1,6 +1,6 @@
 //! Laws over the definitions: each is the contract of a function that does nothing.
 ghost use Rattle.pf_values.specs.declared.models.Model.{Model as ModelOf};
-ghost use Rattle.pf_whole.specs.Answers.{AgreeingIsTogether, CallsGiveShape, TellingIsApart};
+ghost use Rattle.pf_whole.specs.Answers.{AgreeingIsTogether, CallsGiveShape, OneVerdict, TellingIsApart};
 ghost use Rattle.pf_whole.specs.meaning.WholeHeadline.{WholeHeadline};
 ghost use Rattle.pf_whole.specs.Laws.{AlikeCallTheSame, AlikeIsCorresponding, CanonicalIsAlike, AlikeHaveOneCanonical, OneCanonicalIsAlike, ProfileCoincides, AlikePrintAlike, TracesOnce};
 
@@ -52,6 +52,11 @@ pub fn alike_is_corresponding()
 /// Alike texts have the same calls, each with the same first argument.
 pub fn alike_call_the_same()
     ensures { (model : ModelOf) → AlikeCallTheSame model }
+{}
+
+/// Two texts have at most one verdict. So `compare` can return no other one.
+pub fn one_verdict()
+    ensures { (model : ModelOf) → OneVerdict model }
 {}
 
 /// If two texts have equal types and equal calls, then, side by side, their stretches have equal
