@@ -29,7 +29,7 @@ make -s install DESTDIR="$stage" PREFIX=/usr LIBDIR=$libraries PYTHON=/usr/bin/p
 
 strip --strip-all --remove-section=.comment --remove-section=.note "$stage/usr/bin/fmtcanon"
 strip --strip-unneeded --remove-section=.comment --remove-section=.note "$stage$libraries"/libfmtcanon.so.*.*
-strip --strip-debug --enable-deterministic-archives "$stage$libraries/libfmtcanon.a"
+strip --strip-debug --remove-section=.comment --enable-deterministic-archives "$stage$libraries/libfmtcanon.a"
 gzip -9n "$stage"/usr/share/man/man*/*
 
 # Debian has the license and the changes under names of its own.
