@@ -49,6 +49,15 @@ FILE:6:12: same: "%d %d\\n" and "%i %d\\n"
 FILE:8:12: not judged: refused 3 Unexpected at byte 3 of "%d%!\\n"
 """
 SUMMARY = "6 places changed: 1 same, 2 different, 2 with other types, 0 with other directives, 1 not judged; 2 literals came, 1 went\n"
+# The same of the whole language: the old and the new part of each line, and what is said of it.
+WHOLE = [
+    ('printf("%d: %f\\n", n, d);', 'printf("%d: %e\\n", n, d);', 'directives differ at argument 1: "%f" and "%e"'),
+    ('printf("%" DIGITS "e\\n", d);', 'printf("%" DIGITS "e\\n", d);', 'directives differ at argument 0: "%.3e" and "%.4e"'),
+    ('printf("%.6lf: %05d\\n", d, n);', 'printf("%f: %.5d\\n", d, n);', 'different: "%.6lf: %05d\\n" and "%f: %.5d\\n" print "%f: -0001\\n" and "%f: -00001\\n" for any, -1'),
+    ('printf("%i %.6f\\n", n, d);', 'printf("%d %f\\n", n, d);', 'same: "%i %.6f\\n" and "%d %f\\n"'),
+    ('printf("%*d\\n", 5, n);', 'printf("%d%d\\n", 5, n);', 'directives differ at argument 0: "%*d" and "%d"'),
+]
+WHOLE_SUMMARY = "5 places changed: 1 same, 1 different, 0 with other types, 3 with other directives, 0 not judged; 0 literals came, 0 went\n"
 USAGE = [
     ([], "give OLD and NEW, or --git"),
     (["a.c"], "give OLD and NEW, or --git"),
@@ -156,6 +165,36 @@ def try_lines(tool, trials):
     trials.expect("a command of GitHub", (status, wanted in output.splitlines()), (1, True))
 
 
+def try_whole(tool, trials):
+    """The lines of the whole language, and the finding of other directives in each form."""
+    for name, digits, side in [("old.c", 3, 0), ("new.c", 4, 1)]:
+        lines = "".join(f"    {one[side]}\n" for one in WHOLE)
+        tool.put(name, f'#define DIGITS ".{digits}"\nvoid f(double d, int n) {{\n{lines}}}\n')
+    wanted = [f"new.c:{number}:12: {said}" for number, (_, _, said) in enumerate(WHOLE, 3)]
+    status, output, fault = tool.run("--verbose", "old.c", "new.c")
+    trials.expect("lines of the whole language", (status, output.splitlines(), fault), (1, wanted, WHOLE_SUMMARY))
+    status, output, _ = tool.run("--output", "json", "old.c", "new.c")
+    found = [json.loads(line) for line in output.splitlines()]
+    models = ["lp64", "ilp32", "llp64"]
+    finding = {
+        "file": "new.c", "line": 3, "column": 12, "end_line": 3, "end_column": 22, "kind": "directives", "level": "error", "message": WHOLE[0][2], "models": models,
+        "old": "%d: %f\n", "new": "%d: %e\n", "function": "printf", "argument": 0, "verdicts": {it: "directives" for it in models},
+        "specification": {"line": 3, "column": 17, "end_line": 3, "end_column": 19},
+    }
+    trials.expect("other directives as JSON", (status, found[:1]), (1, [finding]))
+    trials.expect("kinds as JSON", [one["kind"] for one in found], ["directives", "directives", "different", "directives"])
+    trials.expect("the text of a macro as JSON", (found[1]["old"], found[1]["new"], "specification" in found[1]), ("%.3e\n", "%.4e\n", False))
+    status, output, _ = tool.run("--output", "sarif", "old.c", "new.c")
+    [one] = json.loads(output)["runs"]
+    result = one["results"][0]
+    trials.expect("other directives in SARIF", (status, result["ruleId"], result["level"], result["message"]), (1, "directives", "error", {"text": WHOLE[0][2]}))
+    trials.expect("the rule of other directives", one["tool"]["driver"]["rules"][result["ruleIndex"]]["id"], "directives")
+    region = {"startLine": 3, "startColumn": 12, "endLine": 3, "endColumn": 22}
+    trials.expect("the place of other directives", result["locations"][0]["physicalLocation"], {"artifactLocation": {"uri": "new.c"}, "region": region})
+    status, output, _ = tool.run("--output", "github", "old.c", "new.c")
+    trials.expect("other directives for GitHub", (status, output.splitlines()[0]), (1, '::error file=new.c,line=3,col=12,endColumn=22::directives differ at argument 1: "%25f" and "%25e"'))
+
+
 def try_git(tool, trials):
     """The work tree, revisions and paths of a repository."""
     tool.put("src/a.c", OLD)
@@ -256,7 +295,7 @@ def try_diffing(program, folder, trials):
     if not shutil.which("git"):
         print(f"not run, since there is no git here: {', '.join(it.__name__ for it in with_git)}")
         with_git = []
-    for part in [try_changes, try_lines, *with_git, try_faults, try_document]:
+    for part in [try_changes, try_lines, try_whole, *with_git, try_faults, try_document]:
         with tempfile.TemporaryDirectory() as work:
             part(Tool(program, folder, os.path.realpath(work)), trials)
 

@@ -99,8 +99,9 @@ def try_second(folder, module, trials, work):
     """The library as the other compiler builds it answers the same."""
     words = compile_with(["gcc", "-std=c99"], TOP / "tests/library/answers.c", work / "second", folder / "second.a")
     trials.expect("answers.c with second.a", words, (0, ""))
-    lines = lines_of([work / "second", TOP / "bench/shapes.nul"])[1].splitlines()
-    trials.expect("second.a answers as the library", lines == list(python_lines(module, shapes())), True)
+    if words[0] == 0:
+        lines = lines_of([work / "second", TOP / "bench/shapes.nul"])[1].splitlines()
+        trials.expect("second.a answers as the library", lines == list(python_lines(module, shapes())), True)
 
 
 def try_random(folder, trials, work):

@@ -38,6 +38,7 @@ number: Tuple[int, int, int] = fmtcanon.version()
 with fmtcanon.Session("same", model=fmtcanon.Model.ILP32, literal=True, timeout=1.5) as session:
     reply: fmtcanon.Reply = session.ask("%d", "%i")
     status: int = reply.status
+asked: bytes = fmtcanon.Session("canon", model="ilp32", whole=status == 0).ask(b"%i%f").text
 try:
     fmtcanon.check("%")
 except fmtcanon.Refused as refusal:
@@ -45,7 +46,7 @@ except fmtcanon.Refused as refusal:
 """
 FAULTS = [
     'fmtcanon.canonical(5)', 'fmtcanon.Session("canon", model=1.5)', 'x: int = fmtcanon.canonical("%d")', 'fmtcanon.format("%f", 1.5)',
-    'y: str = fmtcanon.decode_literal("a")', 'fmtcanon.source_offset("a", "b")',
+    'fmtcanon.Session("canon", whole="yes")', 'fmtcanon.Session("canon", False, True)', 'y: str = fmtcanon.decode_literal("a")', 'fmtcanon.source_offset("a", "b")',
 ]
 
 

@@ -42,9 +42,9 @@ class Session:
     `ask` sends one format, or two for "fits" and "same", and returns the `Reply`. A `str` is sent in UTF-8.
 
     The options are those of the program: `model` is a `Model` or its name, for "same" and "fits" also "both" or "all";
-    `literal` means that formats are string literals of C source; `whole` asks for the whole language.
-    Opening a session runs the program once to check them, and raises `ValueError` if the program refuses
-    them, or `OSError` if it can't be run.
+    `literal` means that formats are string literals of C source; `whole`, for "canon", "types" and "same", asks
+    about the whole language. Opening a session runs the program once to check them, and raises `ValueError` if the
+    program refuses them, or `OSError` if it can't be run.
 
     `ask` raises `ValueError` or `TypeError` for arguments that are not formats, and then the session stays
     open. Every other exception closes it, `KeyboardInterrupt` too, so that no later call gets a reply to an

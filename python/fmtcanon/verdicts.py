@@ -124,7 +124,10 @@ class Library:
         return fmtcanon._argument_codes(text, model)
 
     def printed(self, text: bytes, arguments: Sequence[Argument], model: Model) -> Optional[bytes]:
-        """Returns what a format prints, or None if it can't be had. A directive out of the profile prints itself."""
+        """Returns what a format prints, or None if it can't be had.
+
+        A directive out of the profile prints its normal spelling, so that it prints the same however it is spelled.
+        """
         plain, given = profile(text, arguments, model)
         try:
             # The program takes UTF-8. All other bytes of a format print themselves.
@@ -147,7 +150,10 @@ def is_opaque(specification: bytes) -> bool:
 
 
 def profile(text: bytes, arguments: Sequence[Argument], model: Model) -> Tuple[bytes, List[Union[int, bytes]]]:
-    """Returns a format in which `%s` stands for each directive that isn't in the profile, and its arguments."""
+    """Returns a format in which `%s` replaces each directive that isn't in the profile, and its arguments.
+
+    The argument of such a `%s` is the normal spelling of the directive.
+    """
     parts: List[bytes] = []
     given: List[Union[int, bytes]] = []
     done = 0
@@ -155,7 +161,9 @@ def profile(text: bytes, arguments: Sequence[Argument], model: Model) -> Tuple[b
         spelling, argument = text[one.start : one.end], arguments[one.argument]
         is_plain = argument is not None and not is_opaque(spelling)
         parts += [text[done : one.start], spelling if is_plain else b"%s"]
-        given.append(argument if is_plain and argument is not None else spelling)
+        given.append(
+            argument if is_plain and argument is not None else fmtcanon.canonical(spelling, model=model, whole=True)
+        )
         done = one.end
     return b"".join([*parts, text[done:]]), given
 

@@ -50,6 +50,8 @@ SAID = [
 ]
 WHOLE = [
     ('"%f and %05d %p"', '"%f and %.5d %p"', "different", 'different: "%f and %05d %p" and "%f and %.5d %p" print "%f and -0001 %p" and "%f and -00001 %p" for any, -1, any'),
+    ('"%.6lf %05d"', '"%f %.5d"', "different", 'different: "%.6lf %05d" and "%f %.5d" print "%f -0001" and "%f -00001" for any, -1'),
+    ('"%.6lf %s|"', '"%f %.10s|"', "different", 'different: "%.6lf %s|" and "%f %.10s|" print "%f AAAAAAAAAAA|" and "%f AAAAAAAAAA|" for any, "AAAAAAAAAAA"'),
     ('"%d %f"', '"%d %e"', "directives", 'directives differ at argument 1: "%f" and "%e"'),
     ('"%*d %s"', '"%d%d %s"', "directives", 'directives differ at argument 0: "%*d" and "%d"'),
     ('"%*d"', '"%*i"', "same", 'same: "%*d" and "%*i"'),

@@ -1,5 +1,6 @@
 """Tests of sessions: over the program, and over a stand-in that is slow, silent or wrong."""
 
+import itertools
 import os
 import signal
 import stat
@@ -13,11 +14,20 @@ from contextlib import contextmanager
 from pathlib import Path
 
 import fmtcanon
-from fmtcanon import Model
+from fmtcanon import Model, Verdict
 
 HERE = Path(__file__).resolve().parent
 # A call that takes longer than this many seconds hangs.
 SOON = 5.0
+
+# Formats of the whole language, and texts that it rejects.
+ACCEPTED = [
+    b"", b"%%", b"%i", b"%.6f%i", b"%f%d", b"%f%05d", b"%f%.5d", b"%e%d", b"%*d", b"%d%d", b"%*i", b"%5.0s%f", b"%.0s%f", b"%lc%5c", b"%C    %c",
+    b"%zn", b"%ln", b"%n", b"%jn", b"%-08.*Lf|\xff", b"%-8.*Lf|\xff", b"%s%p", b"%.99s%p",
+]
+WHOLE = [*ACCEPTED, b"%1$d", b"%*1$d", b"%", b"%y%f", b"%4096f", b"%f%.5c"]
+SIDES = [b"first: ", b"second: "]
+
 
 
 class Interrupt(BaseException):
@@ -65,6 +75,31 @@ def interrupted_after(seconds, kind=KeyboardInterrupt):
         signal.signal(signal.SIGALRM, before)
 
 
+def of_canonical(text, model):
+    """The reply of canon that agrees with what `canonical` answers."""
+    try:
+        return 0, fmtcanon.canonical(text, model=model, whole=True)
+    except fmtcanon.Refused as refusal:
+        return 2, str(refusal).encode()
+
+
+def of_compare(first, second, model):
+    """The reply of same that agrees with what `compare` answers, which agrees with `same`."""
+    try:
+        found = fmtcanon.compare(first, second, model=model, whole=True)
+    except fmtcanon.Refused as refusal:
+        return 2, SIDES[refusal.side] + str(refusal).encode()
+    assert fmtcanon.same(first, second, model=model, whole=True) == (found.verdict is Verdict.SAME)
+    arguments = [b"any" if it is None else b"n:%d" % it if isinstance(it, int) else b"s:" + it for it in found.arguments or ()]
+    lines = {
+        Verdict.SAME: [b"same"],
+        Verdict.TYPES: [b"types differ at argument %s" % str(found.types_differ_at).encode()],
+        Verdict.DIRECTIVES: [b"directives differ at argument %s" % str(found.directives_differ_at).encode()],
+        Verdict.DIFFERENT: [b"different", *arguments],
+    }[found.verdict]
+    return int(found.verdict is not Verdict.SAME), b"\n".join(lines)
+
+
 class Answers(unittest.TestCase):
     def test_each_command(self):
         rows = [
@@ -94,6 +129,14 @@ class Answers(unittest.TestCase):
             ("canon", {"whole": True}, ["%1$d"], (2, b"refused 6 Numbered at byte 2")),
             ("same", {"whole": True}, ["%f%05d", "%f%.5d"], (1, b"different\nany\nn:-1")),
             ("same", {"whole": True, "model": "both"}, ["%f", "%e"], (1, b"lp64\ndirectives differ at argument 0\nilp32\ndirectives differ at argument 0")),
+            ("same", {"whole": True, "model": "all"}, ["%zn", "%ln"], (1, b"lp64\nsame\nilp32\ntypes differ at argument 0\nllp64\ntypes differ at argument 0")),
+            ("same", {"whole": True, "literal": True}, [r'"\45f%i"', '"%.6f" "%d"'], (0, b"same")),
+            ("same", {"whole": True, "literal": True}, ['"%f"', r'"\t%1$f"'], (2, b"second: refused 6 Numbered at byte 5")),
+            ("same", {"whole": True}, ["%*d", "%d%d"], (1, b"directives differ at argument 0")),
+            ("same", {"whole": True}, ["%5.0s%f", "%.0s%f"], (1, b"different\ns:\nany")),
+            ("canon", {"whole": True}, [b"\xff%C%i"], (0, b"\xff%lc%d")),
+            ("canon", {"whole": True, "literal": True}, [r'"%i\t%.6lf"'], (0, rb'"%d\t%f"')),
+            ("canon", {"whole": False}, ["%f"], (2, b"refused 9 Float at byte 1")),
             ("canon", {"literal": True}, [r'"\t%i"'], (0, rb'"\t%d"')),
             ("canon", {"literal": True}, ["%i"], (2, b"literal 1 NoLiteral at byte 0")),
             ("show", {"literal": True}, ['"%d"'], (0, b"directive %d: int: 0 0 %d 0")),
@@ -107,6 +150,20 @@ class Answers(unittest.TestCase):
         for command, options, formats, wanted in rows:
             with fmtcanon.Session(command, **options) as session:
                 self.assertEqual(session.ask(*formats), wanted)
+
+    def test_whole_as_the_functions(self):
+        """A session of the whole language answers as the functions of the module do, which ask the library."""
+        for model in Model:
+            with fmtcanon.Session("canon", model=model, whole=True) as canon, fmtcanon.Session("same", model=model, whole=True) as same:
+                for text in WHOLE:
+                    self.assertEqual(canon.ask(text), of_canonical(text, model), (model, text))
+                for pair in itertools.product(WHOLE, WHOLE):
+                    self.assertEqual(same.ask(*pair), of_compare(*pair, model), (model, pair))
+        with fmtcanon.Session("same", model="all", whole=True) as same:
+            for pair in itertools.product(ACCEPTED, ACCEPTED):
+                lines = same.ask(*pair).text.split(b"\n")
+                found = [model for model in Model if lines[lines.index(model.name.lower().encode()) + 1] == b"same"]
+                self.assertEqual(found, fmtcanon.same_in(*pair, whole=True), pair)
 
     def test_many_and_long(self):
         with fmtcanon.Session("canon", model="ilp32") as session:

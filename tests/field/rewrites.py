@@ -4,7 +4,7 @@
 Usage: tests/field/rewrites.py DIR
 
 DIR has a `compile_commands.json`; its files are changed. Each place that the library accepts and that has another spelling, as
-%i for %d and %-s for %s, is replaced if fmtcanon-replace judges so, with --attribute. The assembler of each changed unit must
+%i for %d, %lf for %f and %-s for %s, is replaced if fmtcanon-replace judges so, with --attribute. The assembler of each changed unit must
 stay the same, with each string by its canonical text. It needs the module fmtcanon with its library, and libclang.
 """
 
@@ -30,8 +30,9 @@ from sources import is_accepted  # noqa: E402
 
 # What a format may be instead: each pattern is tried in turn, once.
 SPELLINGS = [
-    (rb"(?<!%)%((?:%%)*[-+ #0']*\d*(?:\.\d*)?[hljzt]*)d", rb"%\1i"),
-    (rb"(?<!%)%((?:%%)*)([hljzt]*[uxXoc]|s)", rb"%\1-\2"),
+    (rb"(?<!%)%((?:%%)*[-+ #0']*(?:\d+|\*)?(?:\.(?:\d*|\*))?[hljzt]*)d", rb"%\1i"),
+    (rb"(?<!%)%((?:%%)*[-+ #0']*(?:\d+|\*)?(?:\.(?:\d*|\*))?)([fFeEgGaA])", rb"%\1l\2"),
+    (rb"(?<!%)%((?:%%)*)([hljzt]*[uxXocp]|s)", rb"%\1-\2"),
     (rb"%i", b"%d"),
 ]
 
@@ -40,7 +41,7 @@ def other_spelling(text):
     """Returns another format that means the same in all data models, or None."""
     for pattern, by in SPELLINGS:
         new = re.sub(pattern, by, text, count=1)
-        if new != text and is_accepted(text) and len(fmtcanon.same_in(text, new)) == len(fmtcanon.Model):
+        if new != text and is_accepted(text) and len(fmtcanon.same_in(text, new, whole=True)) == len(fmtcanon.Model):
             return new
     return None
 
@@ -51,8 +52,8 @@ STRING_SECTIONS = re.compile(rb'^\t\.(?:align \d+|section\t\.rodata.*|text|previ
 
 
 def meant(text):
-    """Returns the canonical text of a string, or the string if it is no accepted format."""
-    return fmtcanon.canonical(text) if is_accepted(text) else text
+    """Returns the canonical text of a string, or the string if it is not an accepted format."""
+    return fmtcanon.canonical(text, whole=True) if is_accepted(text) else text
 
 
 def assembler(command):

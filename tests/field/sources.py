@@ -44,8 +44,9 @@ def plain(why):
 
 
 def is_accepted(text):
+    """Returns whether a text is a format of the whole language that can be compared."""
     try:
-        fmtcanon.check(text)
+        fmtcanon.canonical(text, whole=True)
     except fmtcanon.Refused:
         return False
     return True

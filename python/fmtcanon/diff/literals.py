@@ -114,9 +114,10 @@ class Place:
 
     @property
     def rest(self) -> bytes:
-        """What follows in the statement, without white space."""
+        """What follows in the statement, or in the definition of a macro, without white space."""
         following = self.source.plain[self.end : self.end + REST]
-        return b"".join(following.partition(b";")[0].split())
+        end = b"\n" if self.call.function.startswith(b"#") else b";"
+        return b"".join(following.partition(end)[0].split())
 
     def span(self) -> Tuple[Position, Position]:
         """Returns the position of the first quote, and that after the last part."""
