@@ -124,20 +124,20 @@ define TRIALS
 	python3 tests/rows.py $(PROGRAM) $(C)
 	python3 tests/canonical_rows.py $(PROGRAM) $(C)
 	python3 tests/devices.py $(PROGRAM)
-	python3 tests/rooms.py $(PROGRAM)
+	python3 tests/short_streams.py $(PROGRAM)
 	python3 tests/records.py $(PROGRAM)
 	python3 tests/memory.py $(PROGRAM)
 	python3 tests/sizes.py $(PROGRAM) $(C)
 	python3 tests/library.py $(PROGRAM) $(C)
 	python3 tests/literals.py $(PROGRAM) $(C)
-	python3 tests/arguments.py $(PROGRAM) $(C)
+	python3 tests/whole_types.py $(PROGRAM) $(C)
 	python3 tests/opaque.py $(PROGRAM) $(C)
-	python3 tests/examples.py $(PROGRAM) $(C)
+	python3 tests/python_commands.py $(PROGRAM) $(C)
 endef
 
 check-more: program library $(C)/second.a
-	python3 tests/more.py $(PROGRAM) $(C)
-	python3 tests/rooms.py --each $(PROGRAM)
+	python3 tests/outside_tools.py $(PROGRAM) $(C)
+	python3 tests/short_streams.py --each $(PROGRAM)
 
 mutants: tools
 	python3 tests/mutants_test.py

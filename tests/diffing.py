@@ -1,6 +1,6 @@
 """Tries fmtcanon-diff: on changes with the verdicts written down by hand, on files, folders and git, and on what can't be read.
 
-`tests/examples.py` runs it; `tests/more.py` tries its time.
+`tests/python_commands.py` runs it; `tests/outside_tools.py` tries its time.
 """
 
 import json

@@ -11,7 +11,7 @@ import sys
 
 sys.dont_write_bytecode = True
 
-from harness import SONAME, TOP, VERSION, Trials  # noqa: E402
+from harness import SONAME, TOP, VERSION, main  # noqa: E402
 
 # Where the version must be. The parts of a pattern are those of the version.
 COPIES = [
@@ -68,13 +68,9 @@ def try_versions(trials):
         trials.expect(f"other versions in {name}", others_in(name, text), [])
 
 
-def main():
-    if len(sys.argv) != 1:
-        sys.exit(__doc__)
-    trials = Trials()
+def try_all(trials):
     try_versions(trials)
-    return trials.end()
 
 
 if __name__ == "__main__":
-    sys.exit(main())
+    main(__doc__, try_all)
