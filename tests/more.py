@@ -21,12 +21,13 @@ sys.path.insert(0, str(Path(__file__).resolve().parent))
 import roots  # noqa: E402
 from catalog_edges import try_msgfmt_edges  # noqa: E402
 from catalog_plurals import try_plurals  # noqa: E402
-from diffing import try_times  # noqa: E402
+from diffing import try_pairs, try_times  # noqa: E402
 from harness import SONAME  # noqa: E402
 from library import TIMEOUT, TOP, Trials, compile_with, lines_of, load_module, python_lines, shapes, try_compiler  # noqa: E402
 from linear import try_linear  # noqa: E402
 from literals import try_decoded, try_encoded, try_trigraphs  # noqa: E402
 from models import try_models  # noqa: E402
+from opaque import argument_of  # noqa: E402
 from recipes import try_recipes  # noqa: E402
 from replacing import try_replacing  # noqa: E402
 from translations import try_msgfmt  # noqa: E402
@@ -190,6 +191,7 @@ def main():
     try_annotations(tools, trials)
     try_locale(os.path.abspath(sys.argv[1]), folder, trials)
     try_libclang(folder, trials)
+    try_pairs(os.path.abspath(sys.argv[1]), folder, argument_of, trials)
     try_times(os.path.abspath(sys.argv[1]), folder, trials)
     try_recipes(os.path.abspath(sys.argv[1]), folder, tools, trials)
     try_shells(tools, trials)
