@@ -20,12 +20,13 @@ sys.path.insert(0, str(Path(__file__).resolve().parent))
 import packages  # noqa: E402
 from catalog_edges import try_msgfmt_edges  # noqa: E402
 from catalog_plurals import try_plurals  # noqa: E402
-from diffing import try_times  # noqa: E402
+from diffing import try_pairs, try_times  # noqa: E402
 from harness import SONAME, main  # noqa: E402
 from library import TOP, compile_with, lines_of, load_module, python_lines, shapes, try_compiler  # noqa: E402
 from linear import try_linear  # noqa: E402
 from literals import try_decoded, try_encoded, try_trigraphs  # noqa: E402
 from models import try_models  # noqa: E402
+from opaque import argument_of  # noqa: E402
 from recipes import try_recipes  # noqa: E402
 from replacing import try_replacing  # noqa: E402
 from translations import try_msgfmt  # noqa: E402
@@ -185,6 +186,7 @@ def try_all(program, folder, trials):
     try_annotations(tools, trials)
     try_locale(program, folder, trials)
     try_libclang(folder, trials)
+    try_pairs(program, folder, argument_of, trials)
     try_times(program, folder, trials)
     try_recipes(program, folder, tools, trials)
     try_shells(tools, trials)
