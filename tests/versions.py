@@ -26,7 +26,7 @@ COPIES = [
 ]
 # What a call of the library returns, in its contract and in its body: 65,536 times the major version, 256 times the
 # minor version, plus the patch.
-CALL = r"fn fmtcanon_version\(\) -> u32\n    ensures \{ result ≡ (\d+) \}\n\{\n    0x([0-9a-f]+)\n\}"
+CALL = r"fn fmtcanon_version\(\) -> u32\n    ensures \{ result ≡ (\d+) \}\n\{\n    0x([0-9a-f_]+)\n\}"
 LIBRARY = r"libfmtcanon\.so\.\d+(?:\.\d+)*"
 NAMED = r"fmtcanon[ _-]v?(\d+\.\d+(?:\.\d+)*)"
 NUMBER = r"(?<![\w.])\d+\.\d+\.\d+(?!\.?\w)"
