@@ -10,7 +10,7 @@
  * precisions are at most 4095.
  *
  * The data model. The meaning of a format depends on it: `%zu` is `%lu` in LP64, `%u` in ILP32 and
- * `%llu` in LLP64. `model` is an enum fmtcanon_model: that of the machine on which the format is used,
+ * `%llu` in LLP64. `model` is an enum fmtcanon_model, for the machine on which the format is used,
  * wherever the library runs. Which formats of the profile are accepted is the same in all. In the whole
  * language, a numbered argument can have two types in one data model and one type in another.
  *
@@ -43,7 +43,7 @@
 extern "C" {
 #endif
 
-/* The version of this header; fmtcanon_version() is that of the library. */
+/* The version of this header. fmtcanon_version() returns the version of the library. */
 #define FMTCANON_VERSION_MAJOR 1
 #define FMTCANON_VERSION_MINOR 0
 #define FMTCANON_VERSION_PATCH 0
@@ -143,7 +143,7 @@ typedef struct fmtcanon_directive {
     uint64_t end;                /* the offset after its conversion */
     uint64_t argument;           /* the argument that it converts */
     uint64_t width_argument;     /* the argument of a `*` width, or FMTCANON_NO_ARGUMENT */
-    uint64_t precision_argument; /* that of a `*` precision, or FMTCANON_NO_ARGUMENT */
+    uint64_t precision_argument; /* the argument of a `*` precision, or FMTCANON_NO_ARGUMENT */
     uint64_t kind;               /* the type of the argument that it converts, an enum fmtcanon_type */
 } fmtcanon_directive;
 

@@ -8,14 +8,13 @@ and it exits with 1 if M isn't 0.
 """
 
 import itertools
-import os
 import sys
 from pathlib import Path
 
 sys.dont_write_bytecode = True
 sys.path.insert(0, str(Path(__file__).resolve().parent))
 
-from harness import Trials, run  # noqa: E402
+from harness import main, run  # noqa: E402
 from library import load_module  # noqa: E402
 from rows import LENGTHS, LONGEST_WORD, answer, called, refusal_of, rows_of, type_of, verdict_of  # noqa: E402
 
@@ -178,19 +177,15 @@ def by_letter(table):
     return {letter: row for letters, row in table.items() for letter in letters}
 
 
-def main():
-    if len(sys.argv) != 3:
-        sys.exit(__doc__)
-    program, folder = os.path.abspath(sys.argv[1]), Path(sys.argv[2]).resolve()
-    module, trials = load_module(program, folder), Trials()
+def try_all(program, folder, trials):
+    module = load_module(program, folder)
     try_canonical_texts(program, module, trials)
     try_settled(program, trials)
     try_steps(program, module, trials)
     try_every_two_texts(module, trials)
     try_differences(module, trials)
     try_models(program, trials)
-    return trials.end()
 
 
 if __name__ == "__main__":
-    sys.exit(main())
+    main(__doc__, try_all)

@@ -1,6 +1,6 @@
 """Catalogs that are hard to read or to judge, for fmtcanon-po, and what msgfmt says of them.
 
-`tests/examples.py` tries fmtcanon-po on them, and `tests/more.py` compares with msgfmt.
+`tests/python_commands.py` tries fmtcanon-po on them, and `tests/outside_tools.py` compares with msgfmt.
 """
 
 import os

@@ -1,6 +1,6 @@
 """Compares fmtcanon-po with msgfmt on messages with plural forms, under many rules and ranges.
 
-`tests/more.py` runs it. The messages are made by a generator with a fixed seed.
+`tests/outside_tools.py` runs it. The messages are made by a generator with a fixed seed.
 """
 
 import io

@@ -25,7 +25,7 @@ from pathlib import Path
 sys.dont_write_bytecode = True
 sys.path.insert(0, str(Path(__file__).resolve().parent))
 
-from harness import TIMEOUT, TOP, Trials, run  # noqa: E402
+from harness import TIMEOUT, TOP, main, run  # noqa: E402
 
 WRITE_FAILED = (4, b"write failed\n")
 READ_FAILED = (4, b"read failed\n")
@@ -489,11 +489,7 @@ def try_files(program, trials):
         trials.expect(f"it stops reading where a write fails: {end}", end < len(rest), True)
 
 
-def main():
-    if len(sys.argv) != 2:
-        sys.exit(__doc__)
-    program = os.path.abspath(sys.argv[1])
-    trials = Trials()
+def try_all(program, trials):
     try_outputs(program, trials)
     try_rooms(program, trials)
     try_errors(program, trials)
@@ -505,8 +501,7 @@ def main():
     try_replies(program, trials)
     try_bytes(program, trials)
     try_files(program, trials)
-    return trials.end()
 
 
 if __name__ == "__main__":
-    sys.exit(main())
+    main(__doc__, try_all)

@@ -1,10 +1,11 @@
 """Tries fmtcanon-diff: on changes with the verdicts written down by hand, on files, folders and git, and on what can't be read.
 
-`tests/examples.py` runs it; `tests/more.py` tries its time.
+`tests/python_commands.py` runs it; `tests/outside_tools.py` tries its time, and pairs from a generator.
 """
 
 import json
 import os
+import random
 import resource
 import shutil
 import subprocess
@@ -14,6 +15,7 @@ import time
 from pathlib import Path
 
 import changes
+from compiled_formats import Trial, alike_pairs, kinds_of, literal, opaque, part, printed as said_of, spelled, unlike_pairs
 from harness import SONAME, TIMEOUT, TOP, VERSION, examples
 
 # Two files, and what is said of the second.
@@ -70,6 +72,8 @@ USAGE = [
 ]
 # The seconds that a tree of a million lines with a thousand changed files, and a line of ten million bytes, may take.
 TREE_SECONDS, LINE_SECONDS = 60, 10
+# How many pairs of each kind are tried, and how many of their lists of arguments must be shortened.
+PAIRS, SHORTENED = 200, 50
 FILES, LINES_OF_FILE, LONG_LINE = 1_000, 1_000, 10_000_000
 
 
@@ -306,6 +310,47 @@ def timed(tool, *words):
     found = tool.run(*words)
     after = resource.getrusage(resource.RUSAGE_CHILDREN)
     return found, time.monotonic() - began, after.ru_utime - before.ru_utime
+
+
+def string_pairs(count):
+    """Yields pairs that print another number of bytes of a string, next to directives that are spelled in several ways, with the kinds of the arguments."""
+    chosen = random.Random(62)
+    for _ in range(count):
+        parts = [*(part(chosen) for _ in range(chosen.randrange(3))), opaque(chosen)]
+        number = chosen.randrange(9, 90)
+        ends = [f"%.{number}s|", chosen.choice(["%s|", f"%.{number + chosen.randrange(1, 40)}s|"])]
+        chosen.shuffle(ends)
+        yield (*(spelled(chosen, parts) + it for it in ends), [*kinds_of(parts), "string"])
+
+
+def try_pairs(program, folder, argument_of, trials):
+    """Pairs of the whole language have the verdict that they are made for; for the shortened arguments gcc's program prints other bytes."""
+    from fmtcanon import Model
+    from fmtcanon.verdicts import Library, shortened
+
+    unlike = [*unlike_pairs(PAIRS), *string_pairs(PAIRS)]
+    pairs = [*((*it, ["same"]) for it in alike_pairs(PAIRS)), *((*it, ["different"]) for it in unlike)]
+    with tempfile.TemporaryDirectory() as work:
+        tool = Tool(program, folder, os.path.realpath(work))
+        for number, pair in enumerate(pairs):
+            for side, text in zip(["old", "new"], pair):
+                tool.put(f"{side}/{number:03}.c", f"f({literal(text)}, x);")
+        _, output, _ = tool.run("--verbose", "--model", "lp64", "--output", "json", "old", "new")
+        found = [json.loads(line) for line in output.splitlines()]
+        for number, (first, second, _, wanted) in enumerate(pairs):
+            kinds = [one["kind"] for one in found if one["file"] == f"new/{number:03}.c"]
+            trials.expect(f"fmtcanon-diff of {first!r} and {second!r}", kinds, [] if first == second else wanted)
+        library, given, count = Library(), [], 0
+        for first, second, kinds in unlike:
+            arguments = library.verdict(first.encode(), second.encode(), Model.LP64).arguments
+            short = shortened(library, first.encode(), second.encode(), arguments, Model.LP64)
+            count += short != arguments
+            given.append(Trial(first, second, tuple(map(argument_of, short, kinds))))
+        trials.expect("arguments that are shortened", count >= SHORTENED, True)
+        said = said_of(given, tool.work, "C.UTF-8", 5 * TIMEOUT)
+        trials.expect("arguments that are tried", len(said), len(unlike))
+        for one, mark in zip(given, said):
+            trials.expect(f"other bytes for shortened arguments: {one}", mark, "#")
 
 
 def try_times(program, folder, trials):

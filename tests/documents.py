@@ -15,7 +15,7 @@ from pathlib import Path
 sys.dont_write_bytecode = True
 sys.path.insert(0, str(Path(__file__).resolve().parent))
 
-import arguments  # noqa: E402
+import whole_types  # noqa: E402
 import changes  # noqa: E402
 import definition_names  # noqa: E402
 import library  # noqa: E402
@@ -26,10 +26,10 @@ import mutant_files  # noqa: E402
 import opaque  # noqa: E402
 import reach  # noqa: E402
 import replacing  # noqa: E402
-import rooms  # noqa: E402
+import short_streams  # noqa: E402
 import sizes  # noqa: E402
-import turned  # noqa: E402
-from harness import TOP, Trials, fences, model_rows, section, usage_texts  # noqa: E402
+import unedited  # noqa: E402
+from harness import TOP, fences, main, model_rows, section, usage_texts  # noqa: E402
 from versions import try_versions  # noqa: E402
 from words import pages, try_words  # noqa: E402
 
@@ -39,7 +39,7 @@ MODEL_COMMANDS = ["canon", "same", "format", "show", "stream", "types"]
 # placeholders.
 FOREIGN_NAMES = set("""
     cents errno intmax_t ptrdiff_t strerror uintmax_t I64
-    xargs git sort msgfmt pipefail SOURCE_DATE_EPOCH fix plant PKG_CONFIG_PATH PYTHONPATH ldconfig apt pip pkg config cflags libs pkgconfig sudo iconv
+    xargs git sort msgfmt pipefail SOURCE_DATE_EPOCH fix plant PKG_CONFIG_PATH PYTHONPATH ldconfig pkg config cflags libs pkgconfig sudo iconv
     axiom axioms
     AllocFailed WHAT logic dac8208d650f15bf ed8637e01fc3206ec782c5daf8d913b1fcd4ddf4efb850537416d13256281534 the_type write_all
     NAME PATH allow holes lemma is_left_justified expect assert_eq tidy XDG_CACHE_HOME
@@ -93,15 +93,15 @@ def tested_counts():
     yield r"rows, (\d+) of them of a model \| (\d+) \|", [len(given) - HAND_LITERALS, len(given)]
     yield r"(\d+) of them random; the literals of texts \| (\d+) sources, (\d+) texts", [literals.COUNT, sum(1 for _ in literals.sources()), sum(1 for _ in literals.texts())]
     whole = data_rows("whole.jsonl")
-    formats = [len(whole) - HAND_WHOLE, len(arguments.SILENT), len(whole), sum(1 for _ in arguments.formats())]
+    formats = [len(whole) - HAND_WHOLE, len(whole_types.SILENT), len(whole), sum(1 for _ in whole_types.formats())]
     yield r"rows, (\d+) of them of a model; formats compared with gcc, which accepts (\d+) pairs silently.* (\d+) rows, (\d+) formats", formats
     given = data_rows("opaque.jsonl")
     yield r"rows, (\d+) of them of a model; pairs that .* for (\d+) lists of arguments \| (\d+) rows, (\d+) and (\d+) pairs", [len(given) - HAND_OPAQUE, opaque.LISTS, len(given), opaque.PAIRS, opaque.UNLIKE]
-    yield r"a regular expression \| (\d+) formats", [arguments.RANDOM]
+    yield r"a regular expression \| (\d+) formats", [whole_types.RANDOM]
     yield from limits()
     given = data_rows("records.jsonl")
     yield r"rows, (\d+) of them of a model; conversations; .* (\d+) rows", [len(given) - HAND_RECORDS, len(given)]
-    yield r"(\d+) ways to fail take turns", [len(rooms.STEPS) * len(rooms.FAULTS)]
+    yield r"(\d+) ways to fail take turns", [len(short_streams.STEPS) * len(short_streams.FAULTS)]
     yield r"what gcc's programs print \| (\d+) \|", [len(changes.CHANGES)]
     left = {name for name, _, _ in replacing.LEFT}
     yield r"programs that would print something else, (\d+) of which it can't see \| (\d+) \|", [len(replacing.NOT_SEEN), len(left) + len(replacing.NOT_SEEN)]
@@ -288,9 +288,9 @@ def try_graph(trials):
 
 def try_edits(trials):
     """A mutant changes each public function, except a few that are listed with a reason."""
-    missing, needless = turned.all_unturned()
+    missing, needless = unedited.all_unedited()
     trials.expect("public functions that no mutant changes", missing, [])
-    trials.expect("exceptions of tests/turned.py that a mutant changes", needless, [])
+    trials.expect("exceptions of tests/unedited.py that a mutant changes", needless, [])
 
 
 def try_definitions(trials):
@@ -317,10 +317,7 @@ def try_callers(trials):
                 trials.expect(f"{document}: the code has this: {item[:60]}", found, True)
 
 
-def main():
-    if len(sys.argv) != 1:
-        sys.exit(__doc__)
-    trials = Trials()
+def try_all(trials):
     try_names(trials)
     try_links(trials)
     try_contracts(trials)
@@ -333,8 +330,7 @@ def main():
     reach.try_reach(trials)
     try_words(trials)
     try_versions(trials)
-    return trials.end()
 
 
 if __name__ == "__main__":
-    sys.exit(main())
+    main(__doc__, try_all)

@@ -1,9 +1,12 @@
 """What the trials share: a count of what was tried, a run of the program, and rows of the repository's files."""
 
+import argparse
+import inspect
 import json
 import re
 import shlex
 import subprocess
+import sys
 from pathlib import Path
 
 TOP = Path(__file__).resolve().parent.parent
@@ -31,6 +34,25 @@ class Trials:
         """Prints how many passed and failed, and returns the status to exit with."""
         print(f"{self.passed} passed, {self.failed} failed")
         return 1 if self.failed else 0
+
+
+def main(text, try_all):
+    """Runs a script that `text` describes: calls `try_all` with a count, and exits with 1 if a check failed.
+
+    The command line gives the program and the folder of the C library, if `try_all` takes them. A parameter that is False is a flag.
+    """
+    parser = argparse.ArgumentParser(usage=argparse.SUPPRESS, description=text, formatter_class=argparse.RawDescriptionHelpFormatter)
+    for name, parameter in inspect.signature(try_all).parameters.items():
+        if parameter.default is False:
+            parser.add_argument(f"--{name}", action="store_true", help=argparse.SUPPRESS)
+        elif name != "trials":
+            parser.add_argument(name, type=lambda it: Path(it).resolve(), help=argparse.SUPPRESS)
+    given = vars(parser.parse_args())
+    if "program" in given:
+        given["program"] = str(given["program"])
+    trials = Trials()
+    try_all(trials=trials, **given)
+    sys.exit(trials.end())
 
 
 def run(program, words, stdin=b"", **devices):

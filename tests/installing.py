@@ -1,6 +1,6 @@
 """Tries `make install`, `make uninstall` and `make dist`, with no prover at hand, and the manual page of the library.
 
-`tests/library.py` runs it. What takes lintian, a clean root or pip is in `tests/roots.py`.
+`tests/library.py` runs it. What takes lintian, a clean root or pip is in `tests/packages.py`.
 """
 
 import hashlib

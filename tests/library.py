@@ -19,7 +19,7 @@ sys.dont_write_bytecode = True
 sys.path.insert(0, str(Path(__file__).resolve().parent))
 
 import installing  # noqa: E402
-from harness import SONAME, TIMEOUT, TOP, Trials, examples, fences, page_examples, run  # noqa: E402
+from harness import SONAME, TIMEOUT, TOP, examples, fences, main, page_examples, run  # noqa: E402
 
 HEADER = TOP / "include/fmtcanon.h"
 SHAPES = TOP / "bench/shapes.nul"
@@ -389,11 +389,7 @@ def try_unit_tests(program, folder, trials):
     trials.expect("the tests of the Python module", status, 0)
 
 
-def main():
-    if len(sys.argv) != 3:
-        sys.exit(__doc__)
-    program, folder = os.path.abspath(sys.argv[1]), Path(sys.argv[2]).resolve()
-    trials = Trials()
+def try_all(program, folder, trials):
     try_header(trials)
     try_exports(folder, trials)
     module = load_module(program, folder)
@@ -410,8 +406,7 @@ def main():
         prefix = installing.try_all(work, trials)
         try_documents(prefix, work, trials)
     try_unit_tests(program, folder, trials)
-    return trials.end()
 
 
 if __name__ == "__main__":
-    sys.exit(main())
+    main(__doc__, try_all)

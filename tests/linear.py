@@ -1,4 +1,4 @@
-"""Counts instructions at two sizes, for `tests/more.py`: what the calls and commands take is linear in the length.
+"""Counts instructions at two sizes, for `tests/outside_tools.py`: what the calls and commands take is linear in the length.
 
 The instructions of a call are counted inside of it alone, those of a command over the whole run. From one size to another
 that is four times as large they may grow a little more than four times. What grows with the square grows sixteen times.

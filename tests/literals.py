@@ -18,7 +18,7 @@ from pathlib import Path
 sys.dont_write_bytecode = True
 sys.path.insert(0, str(Path(__file__).resolve().parent))
 
-from harness import TIMEOUT, Trials, run  # noqa: E402
+from harness import TIMEOUT, main, run  # noqa: E402
 from library import load_module  # noqa: E402
 from rows import rows_of  # noqa: E402
 
@@ -200,8 +200,7 @@ def try_sources(module, trials):
     trials.expect("a literal of all bytes is read back", decoded(module, module.encode_literal(text)), text)
 
 
-def main():
-    program, folder, trials = sys.argv[1], Path(sys.argv[2]).resolve(), Trials()
+def try_all(program, folder, trials):
     module = load_module(program, folder)
     with tempfile.TemporaryDirectory() as name:
         try_decoded(module, ["gcc"], trials, Path(name))
@@ -210,8 +209,7 @@ def main():
     try_places(module, trials)
     try_sources(module, trials)
     try_program(program, module, trials)
-    return trials.end()
 
 
 if __name__ == "__main__":
-    sys.exit(main())
+    main(__doc__, try_all)

@@ -26,7 +26,7 @@ sys.path.insert(0, str(Path(__file__).resolve().parent))
 
 from conversations import CONVERSATIONS, fronts_of, name_of as name_of_all, sent_of  # noqa: E402
 from devices import ANSWERED, NOT_ASKED, REFUSED, WRONG, library_of, name_of  # noqa: E402
-from harness import TIMEOUT, TOP, Trials, run  # noqa: E402
+from harness import TIMEOUT, TOP, main, run  # noqa: E402
 
 OUT_OF_MEMORY = (4, b"out of memory\n")
 # The records or pairs of two runs, and how many KiB more than the first the second may hold.
@@ -210,15 +210,10 @@ def try_long_conversation(program, trials):
     trials.expect(f"they take {most} KiB", most <= MOST_HELD, True)
 
 
-def main():
-    if len(sys.argv) != 2:
-        sys.exit(__doc__)
-    program = os.path.abspath(sys.argv[1])
-    trials = Trials()
+def try_all(program, trials):
     for part in [try_spaces, try_growths, try_record_growths, try_held, try_long_conversation]:
         part(program, trials)
-    return trials.end()
 
 
 if __name__ == "__main__":
-    sys.exit(main())
+    main(__doc__, try_all)

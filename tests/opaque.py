@@ -19,7 +19,7 @@ sys.dont_write_bytecode = True
 sys.path.insert(0, str(Path(__file__).resolve().parent))
 
 from compiled_formats import PRINTED, VALUES, Trial, alike_pairs, literal, printed, unlike_pairs  # noqa: E402
-from harness import TIMEOUT, Trials  # noqa: E402
+from harness import TIMEOUT, main  # noqa: E402
 from library import load_module, same_answer  # noqa: E402
 from rows import rows_of  # noqa: E402
 
@@ -164,14 +164,12 @@ def try_compiled(module, trials, work):
             trials.expect(f"{locale}: different {one}", mark, "#")
 
 
-def main():
-    program, folder, trials = sys.argv[1], Path(sys.argv[2]).resolve(), Trials()
+def try_all(program, folder, trials):
     module = load_module(program, folder)
     try_rows(module, trials)
     with tempfile.TemporaryDirectory() as work:
         try_compiled(module, trials, Path(work))
-    return trials.end()
 
 
 if __name__ == "__main__":
-    sys.exit(main())
+    main(__doc__, try_all)

@@ -25,7 +25,7 @@ from pathlib import Path
 sys.dont_write_bytecode = True
 sys.path.insert(0, str(Path(__file__).resolve().parent))
 
-from harness import TOP, Trials  # noqa: E402
+from harness import TOP, main  # noqa: E402
 
 FOLDER = "Rattle.pf_values.specs.meaning"
 # The functions whose contracts are the headline, and what a refusal says.
@@ -260,14 +260,10 @@ def try_refusals(trials):
     trials.expect("constants of the code in a refusal that acceptance doesn't use", constants, set())
 
 
-def main():
-    if len(sys.argv) != 1:
-        sys.exit(__doc__)
-    trials = Trials()
+def try_all(trials):
     try_reach(trials)
     try_refusals(trials)
-    return trials.end()
 
 
 if __name__ == "__main__":
-    sys.exit(main())
+    main(__doc__, try_all)

@@ -1,6 +1,6 @@
 """Tries what projects copy from here: the hooks of pre-commit and of git, the GitHub workflow, and what meson and CMake run.
 
-`tests/more.py` runs it. No network is used: of a hook or a workflow the commands are run.
+`tests/outside_tools.py` runs it. No network is used: of a hook or a workflow the commands are run.
 """
 
 import os

@@ -18,7 +18,7 @@ sys.path.insert(0, str(Path(__file__).resolve().parent))
 
 from conversations import CONVERSATIONS, fronts_of, name_of, sent_of  # noqa: E402
 from devices import READ_FAILED, SOON, WRITE_FAILED, blocks, calls_of, library_of  # noqa: E402
-from harness import TIMEOUT, Trials, run  # noqa: E402
+from harness import TIMEOUT, main, run  # noqa: E402
 
 TIMES = 1_000
 MANY = 1_000_000
@@ -154,18 +154,13 @@ def try_devices(program, trials):
         trials.expect(f"canon -z of {step} bytes at a time", got, (WHOLE, 2))
 
 
-def main():
-    if len(sys.argv) != 2:
-        sys.exit(__doc__)
-    program = os.path.abspath(sys.argv[1])
-    trials = Trials()
+def try_all(program, trials):
     try_conversation(program, trials)
     try_many(program, trials)
     try_calls(program, trials)
     try_ends(program, trials)
     try_devices(program, trials)
-    return trials.end()
 
 
 if __name__ == "__main__":
-    sys.exit(main())
+    main(__doc__, try_all)

@@ -1,6 +1,6 @@
 """Tries fmtcanon-replace: programs that are compiled and run before and after, and files that it must leave.
 
-It needs libclang, so `tests/more.py` runs it with a Python that has that. `tests/examples.py` tries what the command says
+It needs libclang, so `tests/outside_tools.py` runs it with a Python that has that. `tests/python_commands.py` tries what the command says
 without it; the parts that need no compiler are in python/tests/test_replace.py.
 """
 

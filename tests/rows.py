@@ -10,7 +10,6 @@ from. The last line is 'N passed, M failed', and it exits with 1 where M isn't 0
 import ctypes
 import itertools
 import json
-import os
 import re
 import sys
 from pathlib import Path
@@ -19,7 +18,7 @@ sys.dont_write_bytecode = True
 sys.path.insert(0, str(Path(__file__).resolve().parent))
 
 from library import load_module  # noqa: E402
-from harness import TOP, Trials, run  # noqa: E402
+from harness import TOP, main, run  # noqa: E402
 
 ROWS = TOP / "tests/rows"
 MODELS = ["lp64", "ilp32", "llp64"]
@@ -57,7 +56,7 @@ def printed(program, model, format, words):
 
 def try_commands(program, trials):
     """Each run ends, writes and reports as its row says."""
-    for row in rows_of("commands.jsonl"):
+    for row in rows_of("worked.jsonl"):
         wanted = (row["status"], row["stdout"].encode("latin-1"), row["stderr"].encode())
         trials.expect(row["words"], run(program, row["words"]), wanted)
 
@@ -571,11 +570,8 @@ def try_calls(module, trials):
         trials.expect(f"{row['call']} {row['model']} {row['texts']}", called(module, row), wanted)
 
 
-def main():
-    if len(sys.argv) != 3:
-        sys.exit(__doc__)
-    program, folder = os.path.abspath(sys.argv[1]), Path(sys.argv[2]).resolve()
-    module, trials = load_module(program, folder), Trials()
+def try_all(program, folder, trials):
+    module = load_module(program, folder)
     try_commands(program, trials)
     try_streams(program, trials, "records.jsonl")
     try_streams(program, trials, "literals.jsonl")
@@ -604,8 +600,7 @@ def main():
     try_many_directives(program, trials)
     try_many_arguments(program, trials)
     try_calls(module, trials)
-    return trials.end()
 
 
 if __name__ == "__main__":
-    sys.exit(main())
+    main(__doc__, try_all)

@@ -21,7 +21,7 @@ from pathlib import Path
 sys.dont_write_bytecode = True
 sys.path.insert(0, str(Path(__file__).resolve().parent))
 
-from harness import TIMEOUT, TOP, Trials, run  # noqa: E402
+from harness import TIMEOUT, TOP, main, run  # noqa: E402
 from library import WRAPPED, compile_with  # noqa: E402
 
 # A run may take this many times the seconds of a processor that its row has.
@@ -167,17 +167,12 @@ def try_record(program, trials):
     trials.expect(f"a record of {LONG_RECORD} bytes", got, (b"0 ", LONG_RECORD, b"\0", 0))
 
 
-def main():
-    if len(sys.argv) != 3:
-        sys.exit(__doc__)
-    program, folder = os.path.abspath(sys.argv[1]), Path(sys.argv[2]).resolve()
-    trials = Trials()
+def try_all(program, folder, trials):
     try_runs(program, trials)
     try_words(program, trials)
     try_record(program, trials)
     try_calls(folder, trials)
-    return trials.end()
 
 
 if __name__ == "__main__":
-    sys.exit(main())
+    main(__doc__, try_all)

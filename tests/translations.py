@@ -1,6 +1,6 @@
 """Tries fmtcanon-po on the catalogs of tests/catalogs.
 
-`tests/examples.py` runs it, with no tool of gettext; `tests/more.py` compares it with msgfmt.
+`tests/python_commands.py` runs it, with no tool of gettext; `tests/outside_tools.py` compares it with msgfmt.
 """
 
 import json

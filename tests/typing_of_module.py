@@ -1,6 +1,6 @@
 """Tries the annotations of the Python module: mypy in strict mode over the package, and over a program that uses it.
 
-`tests/more.py` runs it.
+`tests/outside_tools.py` runs it.
 """
 
 import os

@@ -11,7 +11,7 @@ import sys
 
 sys.dont_write_bytecode = True
 
-from harness import SONAME, TOP, VERSION, Trials  # noqa: E402
+from harness import SONAME, TOP, VERSION, main  # noqa: E402
 
 # Where the version must be. The parts of a pattern are those of the version.
 COPIES = [
@@ -26,7 +26,7 @@ COPIES = [
 ]
 # What a call of the library returns, in its contract and in its body: 65,536 times the major version, 256 times the
 # minor version, plus the patch.
-CALL = r"fn fmtcanon_version\(\) -> u32\n    ensures \{ result ≡ (\d+) \}\n\{\n    0x([0-9a-f]+)\n\}"
+CALL = r"fn fmtcanon_version\(\) -> u32\n    ensures \{ result ≡ (\d+) \}\n\{\n    0x([0-9a-f_]+)\n\}"
 LIBRARY = r"libfmtcanon\.so\.\d+(?:\.\d+)*"
 NAMED = r"fmtcanon[ _-]v?(\d+\.\d+(?:\.\d+)*)"
 NUMBER = r"(?<![\w.])\d+\.\d+\.\d+(?!\.?\w)"
@@ -68,13 +68,9 @@ def try_versions(trials):
         trials.expect(f"other versions in {name}", others_in(name, text), [])
 
 
-def main():
-    if len(sys.argv) != 1:
-        sys.exit(__doc__)
-    trials = Trials()
+def try_all(trials):
     try_versions(trials)
-    return trials.end()
 
 
 if __name__ == "__main__":
-    sys.exit(main())
+    main(__doc__, try_all)

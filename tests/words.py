@@ -16,7 +16,7 @@ from pathlib import Path
 sys.dont_write_bytecode = True
 sys.path.insert(0, str(Path(__file__).resolve().parent))
 
-from harness import TOP, Trials  # noqa: E402
+from harness import TOP, main  # noqa: E402
 
 # Phrases that a reader would stumble over, or read in another sense.
 PHRASES = [
@@ -95,13 +95,9 @@ def try_words(trials):
         trials.expect(f"{name} has at most {limit} words and {MARGIN} %: {count}", count * 100 <= limit * (100 + MARGIN), True)
 
 
-def main():
-    if len(sys.argv) != 1:
-        sys.exit(__doc__)
-    trials = Trials()
+def try_all(trials):
     try_words(trials)
-    return trials.end()
 
 
 if __name__ == "__main__":
-    sys.exit(main())
+    main(__doc__, try_all)

@@ -243,11 +243,11 @@ class Refusals(unittest.TestCase):
 
 
 class Loading(unittest.TestCase):
-    def import_with(self, library):
+    def import_with(self, library, before="pass"):
         environment = {**os.environ, "FMTCANON_LIBRARY": library, "LC_ALL": "C.UTF-8"}
-        words = [sys.executable, "-c", "import fmtcanon; fmtcanon.check('')"]
+        words = [sys.executable, "-c", f"import fmtcanon; {before}; fmtcanon.check('')"]
         done = subprocess.run(words, env=environment, stderr=subprocess.PIPE, check=False)
-        return done.returncode, done.stderr.decode().splitlines()[-1]
+        return done.returncode, done.stderr.decode().rstrip("\n").rpartition("\n")[2]
 
     def test_no_library(self):
         status, line = self.import_with("/nothing/libfmtcanon.so")
@@ -259,6 +259,16 @@ class Loading(unittest.TestCase):
         status, line = self.import_with("libc.so.6")
         self.assertEqual(status, 1)
         self.assertIn("ImportError: libc.so.6 is another library", line)
+
+    def test_another_version(self):
+        major, minor, patch = fmtcanon.version()
+        library = fmtcanon._library_name()
+        for other, passes in [((major, minor), True), ((major, minor + 1), False), ((major + 1, minor), False)]:
+            with self.subTest(other=other):
+                status, line = self.import_with(library, f"fmtcanon._VERSION = {other}")
+                self.assertEqual(status, 0 if passes else 1)
+                if not passes:
+                    self.assertIn(f"has the version {major}.{minor}.{patch}, and the module needs {other[0]}.{other[1]}", line)
 
 
 class Running(unittest.TestCase):

@@ -1,4 +1,4 @@
-//! Printing into writers with too little room, which then fail in each way. `tests/rooms.py` prints the rows of
+//! Printing into writers with too little room, which then fail in each way. `tests/short_streams.py` prints the rows of
 //! `tests/rows` into such rooms.
 use super::directive_of;
 use pf_render::{RenderFault, render, render_one};

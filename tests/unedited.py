@@ -1,7 +1,7 @@
 #!/usr/bin/env python3
 """Lists the public functions that no mutant changes.
 
-Usage: tests/turned.py
+Usage: tests/unedited.py
 
 A public function of a library is one that its root hands out, a method of a type that it hands out, or a method of a
 trait that such a type has. Those of the program are the ones that its modules hand one another, and those of the C library
@@ -18,6 +18,7 @@ sys.dont_write_bytecode = True
 sys.path.insert(0, str(Path(__file__).resolve().parent))
 
 import rattle_functions  # noqa: E402
+from harness import main  # noqa: E402
 from mutant_files import pairs_in, places_of  # noqa: E402
 from sources import TOP  # noqa: E402
 
@@ -107,22 +108,17 @@ def unturned(crate):
     return [name for name, is_turned in found.items() if not is_turned]
 
 
-def all_unturned():
+def all_unedited():
     """Returns those of all crates, without the exceptions; and the exceptions that a mutant changes."""
     found = [it for crate in sorted((TOP / "crates").iterdir()) for it in unturned(crate)]
     return [it for it in found if it not in EXCEPTIONS], sorted(set(EXCEPTIONS) - set(found))
 
 
-def main():
-    missing, needless = all_unturned()
-    for it in missing:
-        print(f"{it}: no mutant changes its body")
-    for it in needless:
-        print(f"{it}: is listed as an exception, and a mutant changes it")
-    failed = len(missing) + len(needless)
-    print(f"{1 if not failed else 0} passed, {failed} failed")
-    return 1 if failed else 0
+def try_all(trials):
+    missing, needless = all_unedited()
+    trials.expect("public functions whose body no mutant changes", missing, [])
+    trials.expect("exceptions that a mutant changes", needless, [])
 
 
 if __name__ == "__main__":
-    sys.exit(main())
+    main(__doc__, try_all)

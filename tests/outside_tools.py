@@ -1,7 +1,7 @@
 #!/usr/bin/env python3
 """Tries the C library and the examples with tools that the gate doesn't want.
 
-Usage: tests/more.py PROGRAM FOLDER
+Usage: tests/outside_tools.py PROGRAM FOLDER
 
 FOLDER has libfmtcanon.a, libfmtcanon.so and second.a, as `make check-more` leaves them. A tool that is missing is a failure that
 names the package that has it; the others are tried all the same. Its last line is 'N passed, M failed', and it exits
@@ -10,7 +10,6 @@ with 1 where M isn't 0.
 
 import os
 import shutil
-import subprocess
 import sys
 import tempfile
 from pathlib import Path
@@ -18,15 +17,16 @@ from pathlib import Path
 sys.dont_write_bytecode = True
 sys.path.insert(0, str(Path(__file__).resolve().parent))
 
-import roots  # noqa: E402
+import packages  # noqa: E402
 from catalog_edges import try_msgfmt_edges  # noqa: E402
 from catalog_plurals import try_plurals  # noqa: E402
-from diffing import try_times  # noqa: E402
-from harness import SONAME  # noqa: E402
-from library import TIMEOUT, TOP, Trials, compile_with, lines_of, load_module, python_lines, shapes, try_compiler  # noqa: E402
+from diffing import try_pairs, try_times  # noqa: E402
+from harness import SONAME, main  # noqa: E402
+from library import TOP, compile_with, lines_of, load_module, python_lines, shapes, try_compiler  # noqa: E402
 from linear import try_linear  # noqa: E402
 from literals import try_decoded, try_encoded, try_trigraphs  # noqa: E402
 from models import try_models  # noqa: E402
+from opaque import argument_of  # noqa: E402
 from recipes import try_recipes  # noqa: E402
 from replacing import try_replacing  # noqa: E402
 from translations import try_msgfmt  # noqa: E402
@@ -172,30 +172,26 @@ def try_shells(tools, trials):
             trials.expect(f"mandoc finds nothing in {page.name}", lines_of(["mandoc", "-Tlint", page]), (0, ""))
 
 
-def main():
-    if len(sys.argv) != 3:
-        sys.exit(__doc__)
-    folder = Path(sys.argv[2]).resolve()
-    trials = Trials()
+def try_all(program, folder, trials):
     tools = Tools(trials)
-    module = load_module(os.path.abspath(sys.argv[1]), folder)
+    module = load_module(program, folder)
     with tempfile.TemporaryDirectory() as work:
         try_compilers(folder, tools, module, trials, Path(work))
         try_valgrind(folder, tools, module, trials, Path(work))
         try_second(folder, module, trials, Path(work))
         try_random(folder, trials, Path(work))
-        try_linear(os.path.abspath(sys.argv[1]), folder, tools, trials, Path(work))
-        try_models(os.path.abspath(sys.argv[1]), tools, trials, Path(work))
+        try_linear(program, folder, tools, trials, Path(work))
+        try_models(program, tools, trials, Path(work))
     try_gettext(folder, tools, module, trials)
     try_annotations(tools, trials)
-    try_locale(os.path.abspath(sys.argv[1]), folder, trials)
+    try_locale(program, folder, trials)
     try_libclang(folder, trials)
-    try_times(os.path.abspath(sys.argv[1]), folder, trials)
-    try_recipes(os.path.abspath(sys.argv[1]), folder, tools, trials)
+    try_pairs(program, folder, argument_of, trials)
+    try_times(program, folder, trials)
+    try_recipes(program, folder, tools, trials)
     try_shells(tools, trials)
-    roots.try_all(os.path.abspath(sys.argv[1]), tools, trials)
-    return trials.end()
+    packages.try_all(program, tools, trials)
 
 
 if __name__ == "__main__":
-    sys.exit(main())
+    main(__doc__, try_all)

@@ -1,13 +1,12 @@
 #!/usr/bin/env python3
 """Tries fmtcanon-diff (diffing.py), fmtcanon-replace (replacing.py), fmtcanon-po (translations.py, catalog_edges.py), and the manual page and the completions against the program's help.
 
-Usage: tests/examples.py PROGRAM FOLDER
+Usage: tests/python_commands.py PROGRAM FOLDER
 
 FOLDER has libfmtcanon.so, as `make library` leaves it. It needs a Linux system with gcc. Its last line is
 'N passed, M failed', and it exits with 1 where M isn't 0.
 """
 
-import os
 import re
 import subprocess
 import sys
@@ -19,7 +18,7 @@ sys.path.insert(0, str(Path(__file__).resolve().parent))
 import installing  # noqa: E402
 from catalog_edges import try_edges  # noqa: E402
 from diffing import try_diffing  # noqa: E402
-from harness import TIMEOUT, TOP, Trials, run  # noqa: E402
+from harness import TIMEOUT, TOP, main, run  # noqa: E402
 from replacing import try_without_libclang  # noqa: E402
 from translations import try_catalogs  # noqa: E402
 
@@ -168,11 +167,7 @@ def try_completions(program, trials):
             trials.expect(f"zsh: {argument} of {name}", is_there, True)
 
 
-def main():
-    if len(sys.argv) != 3:
-        sys.exit(__doc__)
-    program, folder = os.path.abspath(sys.argv[1]), Path(sys.argv[2]).resolve()
-    trials = Trials()
+def try_all(program, folder, trials):
     try_without_libclang(folder, trials)
     try_diffing(program, folder, trials)
     try_catalogs(folder, trials)
@@ -180,8 +175,7 @@ def main():
     try_page(program, trials)
     try_completions(program, trials)
     try_command_completions(trials)
-    return trials.end()
 
 
 if __name__ == "__main__":
-    sys.exit(main())
+    main(__doc__, try_all)

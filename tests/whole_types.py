@@ -1,7 +1,7 @@
 #!/usr/bin/env python3
 """Holds the types of arguments in the whole language to `parse_printf_format` of the GNU C library, and to gcc's warnings.
 
-Usage: tests/arguments.py PROGRAM FOLDER
+Usage: tests/whole_types.py PROGRAM FOLDER
 
 FOLDER has libfmtcanon.so, as `make library` leaves it. It needs gcc, and the GNU C library that Python runs on. Its last
 line is 'N passed, M failed', and it exits with 1 where M isn't 0.
@@ -24,7 +24,7 @@ from pathlib import Path
 sys.dont_write_bytecode = True
 sys.path.insert(0, str(Path(__file__).resolve().parent))
 
-from harness import TIMEOUT, Trials  # noqa: E402
+from harness import TIMEOUT, main  # noqa: E402
 from library import load_module, shapes  # noqa: E402
 
 INTEGER_LENGTHS = ["", "hh", "h", "l", "ll", "j", "z", "t"]
@@ -272,8 +272,7 @@ def try_hostile(module, trials):
         trials.expect(f"{text[:10]}..", found, (name, byte))
 
 
-def main():
-    program, folder, trials = sys.argv[1], Path(sys.argv[2]).resolve(), Trials()
+def try_all(program, folder, trials):
     module = load_module(program, folder)
     try_lengths(module, trials)
     try_hostile(module, trials)
@@ -281,8 +280,7 @@ def main():
     try_parsed(module, ctypes.CDLL("libc.so.6"), trials)
     with tempfile.TemporaryDirectory() as name:
         try_compiled(module, trials, Path(name))
-    return trials.end()
 
 
 if __name__ == "__main__":
-    sys.exit(main())
+    main(__doc__, try_all)

@@ -1,9 +1,9 @@
 #!/usr/bin/env python3
 """Tries the built program over standard streams that fail in the middle.
 
-Usage: tests/rooms.py [--each] PROGRAM
+Usage: tests/short_streams.py [--each] PROGRAM
 
-Standard output takes some bytes and then fails: each answer of commands.jsonl, whole.jsonl, opaque.jsonl, literals.jsonl
+Standard output takes some bytes and then fails: each answer of worked.jsonl, whole.jsonl, opaque.jsonl, literals.jsonl
 and written.jsonl in tests/rows/, each canonical text, what `stream` settles before a refusal, what formats print, and replies to records go out in each
 room that is too small for them. What the C library prints goes into one room for each text. Standard input hands out some bytes and then fails, or ends there: formats and records are cut after each byte. The streams
 are those of tests/narrow.c. How many bytes they move a call, and the error, take turns from run to run; with --each
@@ -25,7 +25,7 @@ sys.path.insert(0, str(Path(__file__).resolve().parent))
 
 from conversations import CONVERSATIONS, fronts_of, sent_of  # noqa: E402
 from devices import READ_FAILED, WRITE_FAILED, library_of  # noqa: E402
-from harness import Trials, run  # noqa: E402
+from harness import main, run  # noqa: E402
 from rows import fields_of, rows_of, takes_unsigned, values  # noqa: E402
 
 STEPS = [1, 2, 3, 7, 4096]
@@ -72,7 +72,7 @@ def try_rooms(narrow, words, stdin, text):
 
 def try_answers(narrow):
     """The answers of the commands, and what `stream` settles of a text and of a directive."""
-    given = [row for name in ["commands", "whole", "opaque", "literals"] for row in rows_of(f"{name}.jsonl")]
+    given = [row for name in ["worked", "whole", "opaque", "literals"] for row in rows_of(f"{name}.jsonl")]
     rows = [(row["words"], row.get("stdin", "").encode("latin-1"), row["stdout"], row["status"]) for row in given if row["status"] < 2]
     texts = [row for name in ["written", "cut_directives", "canonical_formats"] for row in rows_of(f"{name}.jsonl")]
     rows += [(["stream"], text.encode("latin-1"), canonical, 0) for text, canonical in texts]
@@ -179,16 +179,11 @@ def try_records(narrow):
                 narrow.expect(words, text, (READ_FAILED[0], whole, READ_FAILED[1]), FEED=length)
 
 
-def main():
-    tries_each = "--each" in sys.argv
-    words = [it for it in sys.argv[1:] if it != "--each"]
-    if len(words) != 1:
-        sys.exit(__doc__)
-    trials = Trials()
+def try_all(program, trials, each=False):
     with tempfile.TemporaryDirectory() as work:
         library, is_made = library_of("narrow", work)
         trials.expect("narrow.c", is_made, True)
-        narrow = Narrow(os.path.abspath(words[0]), library, trials, tries_each)
+        narrow = Narrow(program, library, trials, each)
         try_answers(narrow)
         try_long_answers(narrow)
         try_refusals(narrow)
@@ -198,8 +193,7 @@ def main():
         try_fronts(narrow)
         try_records(narrow)
         narrow.end()
-    return trials.end()
 
 
 if __name__ == "__main__":
-    sys.exit(main())
+    main(__doc__, try_all)

@@ -1,7 +1,7 @@
 """Tries what is made to be handed on, where nothing of this machine is at hand: the Debian package and the
 archive in a root made by debootstrap, and the wheel in an environment of its own.
 
-`tests/more.py` runs it. It needs dpkg-deb, lintian, debootstrap and the rights of root, and pip.
+`tests/outside_tools.py` runs it. It needs dpkg-deb, lintian, debootstrap and the rights of root, and pip.
 """
 
 import os
