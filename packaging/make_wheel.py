@@ -1,10 +1,11 @@
 #!/usr/bin/env python3
-"""Makes a wheel of the Python module with the C library and the program inside. It installs without a compiler or a network.
+"""Makes a wheel of the Python module with the C library and the program inside. It installs without a compiler or a
+network.
 
 Usage: make_wheel.py LIBRARY PROGRAM FOLDER
 
-LIBRARY is the shared library. The metadata comes from python/pyproject.toml and the file VERSION. The name says
-which version of the GNU C library the wheel needs: the latest that the library or the program needs.
+LIBRARY is the shared library. The metadata comes from python/pyproject.toml and the file VERSION. The name says which
+version of the GNU C library the wheel needs: the latest that the library or the program needs.
 """
 
 import base64
@@ -40,16 +41,25 @@ def project():
     """The tables of python/pyproject.toml that are lines of names and texts, and its lists of texts."""
     text = (TOP / "python/pyproject.toml").read_text(encoding="utf-8")
     texts = dict(re.findall(r'^([\w-]+) = "(.*)"$', text, flags=re.MULTILINE))
-    lists = {name: re.findall(r'"([^"]*)"', inside) for name, inside in re.findall(r"^([\w-]+) = \[(.*?)\]$", text, flags=re.DOTALL | re.MULTILINE)}
+    lists = {
+        name: re.findall(r'"([^"]*)"', inside)
+        for name, inside in re.findall(r"^([\w-]+) = \[(.*?)\]$", text, flags=re.DOTALL | re.MULTILINE)
+    }
     return texts, lists
 
 
 def metadata(texts, lists):
     readme = (TOP / "python/README.md").read_text(encoding="utf-8")
     lines = [
-        "Metadata-Version: 2.1", f"Name: {texts['name']}", f"Version: {VERSION}", f"Summary: {texts['description']}",
-        "License: MIT", "License-File: LICENSE", f"Requires-Python: {texts['requires-python']}",
-        "Description-Content-Type: text/markdown", *(f"Classifier: {one}" for one in lists["classifiers"]),
+        "Metadata-Version: 2.1",
+        f"Name: {texts['name']}",
+        f"Version: {VERSION}",
+        f"Summary: {texts['description']}",
+        "License: MIT",
+        "License-File: LICENSE",
+        f"Requires-Python: {texts['requires-python']}",
+        "Description-Content-Type: text/markdown",
+        *(f"Classifier: {one}" for one in lists["classifiers"]),
     ]
     return "\n".join(lines) + "\n\n" + readme
 

@@ -3,8 +3,8 @@
 
 Usage: tests/canonical_rows.py PROGRAM FOLDER
 
-FOLDER has libfmtcanon.so, as `make library` leaves it. The rows are in tests/rows. The last line is 'N passed, M failed',
-and it exits with 1 if M isn't 0.
+FOLDER has libfmtcanon.so, as `make library` leaves it. The rows are in tests/rows. The last line is 'N passed, M
+failed', and it exits with 1 if M isn't 0.
 """
 
 import itertools
@@ -47,14 +47,23 @@ def try_canonical(program, module, trials, name, format, text):
     found = [answer_or_refusal(module, module.canonical, format, model=model), text]
     if isinstance(text, str):
         found[1] = module.canonical(text, model=model)
-        trials.expect(f"the library on the canonical text of {shown_name}", module.is_canonical(text, model=model), True)
-    found += [answer_or_refusal(module, module.is_canonical, format, model=model), canonical_length(module, model, format)]
+        trials.expect(
+            f"the library on the canonical text of {shown_name}", module.is_canonical(text, model=model), True
+        )
+    found += [
+        answer_or_refusal(module, module.is_canonical, format, model=model),
+        canonical_length(module, model, format),
+    ]
     trials.expect(f"the library on {shown_name}", found == wanted, True)
     runs = [run(program, ["stream", "--model", name], format.encode())]
     if "\0" not in format and len(format) < LONGEST_WORD:
         runs.append(answer(program, "canon", name, format))
     for (status, stdout, stderr), end in zip(runs, ["", "\n"]):
-        is_right = (status, stdout, stderr) == (0, (text + end).encode(), b"") if isinstance(text, str) else refusal_of((status, stdout, stderr)) == text
+        is_right = (
+            (status, stdout, stderr) == (0, (text + end).encode(), b"")
+            if isinstance(text, str)
+            else refusal_of((status, stdout, stderr)) == text
+        )
         trials.expect(f"the program on {shown_name}", is_right, True)
 
 
@@ -100,14 +109,20 @@ def try_steps(program, module, trials):
         trials.expect(f"the library on {name}", same_or_refusal(module, first, second), wanted)
         found = verdict_of(program, "lp64", first, second)
         if isinstance(wanted, bool):
-            trials.expect(f"the program on {name}", [found == "same", found.startswith(("types", "different"))], [wanted, not wanted])
+            trials.expect(
+                f"the program on {name}",
+                [found == "same", found.startswith(("types", "different"))],
+                [wanted, not wanted],
+            )
         else:
             side, kind, at = wanted
             trials.expect(f"the program on {name}", found, f"{['first', 'second'][side]} {kind} {at}")
 
 
 def try_every_two_texts(module, trials):
-    """Of every two accepted texts just those are the same that have one canonical text; a refusal is that of the first refused one."""
+    """Of every two accepted texts just those are the same that have one canonical text; a refusal is that of the first
+    refused one.
+    """
     formats, refused = rows_of("canonical_formats.jsonl"), rows_of("settled.jsonl")
     for (first, text), (second, other) in itertools.product(formats, repeat=2):
         trials.expect(f"{first} and {second}", same_or_refusal(module, first, second), text == other)
@@ -119,10 +134,12 @@ def try_every_two_texts(module, trials):
 
 
 def try_differences(module, trials):
-    """Texts that differ at one byte, or of which one ends, are told apart, wherever it stands; and of two refusals the first is answered."""
+    """Texts that differ at one byte, or of which one ends, are told apart, wherever it stands; and of two refusals the
+    first is answered.
+    """
     (row,) = rows_of("differences.jsonl")
     text, items, spellings = row["text"], row["items"], row["spellings"]
-    replaced = [text[:at] + "#" + text[at + 1:] for at in range(len(text))]
+    replaced = [text[:at] + "#" + text[at + 1 :] for at in range(len(text))]
     trials.expect("a mark for each byte", len(items), len(text))
     # Literal bytes before them, since several bytes are compared at once.
     for front in ["x" * count for count in (0, 1, 14, 15, 16, 33)]:
@@ -130,7 +147,10 @@ def try_differences(module, trials):
             trials.expect(f"{front}{first} and {second}", same_or_refusal(module, front + first, front + second), True)
         for (at, mark), first in itertools.product(enumerate(items), spellings):
             for second in (replaced[at], text[:at]):
-                found = [same_or_refusal(module, front + first, front + second), same_or_refusal(module, front + second, front + first)]
+                found = [
+                    same_or_refusal(module, front + first, front + second),
+                    same_or_refusal(module, front + second, front + first),
+                ]
                 is_right = found == [False, False] if mark == "^" else are_refused_from(found, len(front) + at)
                 trials.expect(f"{front}{first} and {second}", is_right, True)
     # The first text ends at one byte, and another one is replaced in the second.
@@ -156,7 +176,9 @@ def canonical(program, model, format):
 
 
 def try_models(program, trials):
-    """Each conversion under each modifier takes its type, has its canonical text, and fills a field up to its digits."""
+    """Each conversion under each modifier takes its type, has its canonical text, and fills a field up to its
+    digits.
+    """
     for row in rows_of("models.jsonl"):
         model, types, most_digits = row["model"], by_letter(row["types"]), by_letter(row["digits"])
         for conversion, (at, length) in itertools.product("diuoxXb", enumerate(LENGTHS)):
@@ -169,7 +191,9 @@ def try_models(program, trials):
             trials.expect(f"{model} canon %200{given}", canonical(program, model, f"%200{given}"), wanted)
         for conversion, kind in {"c": "int", "s": "string"}.items():
             trials.expect(f"{model} types of %{conversion}", type_of(program, model, f"%{conversion}"), kind)
-            trials.expect(f"{model} canon %{conversion}", canonical(program, model, f"%{conversion}"), f"%{conversion}\n")
+            trials.expect(
+                f"{model} canon %{conversion}", canonical(program, model, f"%{conversion}"), f"%{conversion}\n"
+            )
 
 
 def by_letter(table):

@@ -64,7 +64,12 @@ PAIRS = [
     ("#, c-format", "%<PRIu64>", "%1$<PRIx64> %1$<PRIu64>", False),
     ("#, c-format", "%<PRIu64>", "%<PRIu6>", True),
     ("#, c-format", "%d", "%<NAME>", True),
-    ("#, c-format", "%<PRIuLEAST8> %<PRIdFAST16> %<PRIiPTR> %<PRIXMAX>", "%<PRIoLEAST8> %<PRIiFAST16> %<PRIdPTR> %<PRIuMAX>", False),
+    (
+        "#, c-format",
+        "%<PRIuLEAST8> %<PRIdFAST16> %<PRIiPTR> %<PRIXMAX>",
+        "%<PRIoLEAST8> %<PRIiFAST16> %<PRIdPTR> %<PRIuMAX>",
+        False,
+    ),
     # What isn't accepted as a message isn't judged.
     ("#, c-format", "%<NAME>", "%s", False),
     ("#, c-format", "%y", "%s", False),
@@ -92,7 +97,17 @@ CHANGED = [
     ("%*d", "%d %d", "argument 0 otherwise: as a width or precision, and as a number"),
 ]
 # Types that are equal under other spellings.
-UNCHANGED = [("%d", "%i"), ("%x", "%u"), ("%X", "%o"), ("%f", "%e"), ("%lc", "%C"), ("%ld", "%li"), ("%hd", "%hi"), ("%<PRId64>", "%<PRIi64>"), ("%<PRIu64>", "%<PRIx64>")]
+UNCHANGED = [
+    ("%d", "%i"),
+    ("%x", "%u"),
+    ("%X", "%o"),
+    ("%f", "%e"),
+    ("%lc", "%C"),
+    ("%ld", "%li"),
+    ("%hd", "%hi"),
+    ("%<PRId64>", "%<PRIi64>"),
+    ("%<PRIu64>", "%<PRIx64>"),
+]
 # How many numbers a form is for, and whether it may leave an argument out.
 FORMS = [
     ("n>=3", "", False),
@@ -112,7 +127,25 @@ FORMS = [
     ("n>=5", ", range: 0.." + "9" * 5000, True),
     ("n==5000 || n>=5000 && n<=6000", ", range: 5000..5001", False),
 ]
-NO_RULES = ["n" + "+n" * 10_000, "n +", "(n", "n)", "n ? 1", "n : 1", "1 n", "!", "n !", "", "n = 1", "m", "1/0", "n ? 1 : 2 : 3", "n ? 1 ? 2 : 3", "()", "n ? : 1"]
+NO_RULES = [
+    "n" + "+n" * 10_000,
+    "n +",
+    "(n",
+    "n)",
+    "n ? 1",
+    "n : 1",
+    "1 n",
+    "!",
+    "n !",
+    "",
+    "n = 1",
+    "m",
+    "1/0",
+    "n ? 1 : 2 : 3",
+    "n ? 1 ? 2 : 3",
+    "()",
+    "n ? : 1",
+]
 # A charset, and letters in it that are not ASCII.
 CHARSETS = [
     ("VISCII", b"\xe5i"),
@@ -131,7 +164,23 @@ CHARSETS = [
     ("BIG5", b"\xa5\x5c"),
     ("GBK", b"\x81\x5c"),
 ]
-NOT_READ = ["UTF-7", "UTF-16", "UTF-16LE", "UTF-32", "NOSUCH", "unicode_escape", "idna", "punycode", "hex", "rot13", "undefined", "EBCDIC-US", "x" * 5000, "UTF-8//IGNORE", ""]
+NOT_READ = [
+    "UTF-7",
+    "UTF-16",
+    "UTF-16LE",
+    "UTF-32",
+    "NOSUCH",
+    "unicode_escape",
+    "idna",
+    "punycode",
+    "hex",
+    "rot13",
+    "undefined",
+    "EBCDIC-US",
+    "x" * 5000,
+    "UTF-8//IGNORE",
+    "",
+]
 
 
 # It ends with a line on standard output that has the most memory in KiB and the processor time in seconds. What wait4
@@ -148,12 +197,20 @@ sys.exit(status)
 def checked(folder, words, where):
     """The status, standard error, processor time in seconds and most memory in KiB of fmtcanon-po."""
     environment = {
-        **os.environ, "FMTCANON_LIBRARY": str(folder / SONAME), "PYTHONDONTWRITEBYTECODE": "1",
-        "PYTHONPATH": str(TOP / "python"), "PYTHONIOENCODING": "utf-8",
+        **os.environ,
+        "FMTCANON_LIBRARY": str(folder / SONAME),
+        "PYTHONDONTWRITEBYTECODE": "1",
+        "PYTHONPATH": str(TOP / "python"),
+        "PYTHONIOENCODING": "utf-8",
     }
     done = subprocess.run(
-        [sys.executable, "-S", "-c", MEASURED, *words], cwd=where, env=environment, stdout=subprocess.PIPE,
-        stderr=subprocess.PIPE, timeout=10 * TIMEOUT, check=False,
+        [sys.executable, "-S", "-c", MEASURED, *words],
+        cwd=where,
+        env=environment,
+        stdout=subprocess.PIPE,
+        stderr=subprocess.PIPE,
+        timeout=10 * TIMEOUT,
+        check=False,
     )
     memory, seconds = done.stdout.decode().split() or (0, 0)
     return done.returncode, done.stderr.decode(errors="replace"), float(seconds), int(memory)
@@ -178,13 +235,18 @@ def fault_lines(report):
 
 def pairs_catalog():
     # Each message has another text, so that none is there twice.
-    messages = [message(flags, f"{number}: {msgid}", f"{number}: {msgstr}") for number, (flags, msgid, msgstr, _) in enumerate(PAIRS)]
+    messages = [
+        message(flags, f"{number}: {msgid}", f"{number}: {msgstr}")
+        for number, (flags, msgid, msgstr, _) in enumerate(PAIRS)
+    ]
     text, lines = catalog(messages)
     return text, [line for line, row in zip(lines, PAIRS) if row[3]]
 
 
 def forms_text(plural, flags, forms=("few", "%d")):
-    text = f'#, c-format{flags}\nmsgid "%d"\nmsgid_plural "%d"\n' + "".join(f'msgstr[{at}] "{form}"\n' for at, form in enumerate(forms))
+    text = f'#, c-format{flags}\nmsgid "%d"\nmsgid_plural "%d"\n' + "".join(
+        f'msgstr[{at}] "{form}"\n' for at, form in enumerate(forms)
+    )
     return HEADER % ("UTF-8", plural) + text
 
 
@@ -197,51 +259,107 @@ def try_judged(folder, work, trials):
     for msgid, msgstr, reason in STRICTER:
         file.write_text(catalog([message("#, c-format", msgid, msgstr)])[0])
         status, report, *_ = checked(folder, ["--strict", "a.po"], work)
-        trials.expect(f"{msgid} as {msgstr} is a fault: {reason}", (status, len(fault_lines(report)), "1 message judged" in report), (1, 1, True))
+        trials.expect(
+            f"{msgid} as {msgstr} is a fault: {reason}",
+            (status, len(fault_lines(report)), "1 message judged" in report),
+            (1, 1, True),
+        )
     for msgid, msgstr, change in CHANGED:
         file.write_text(catalog([message("#, c-format", msgid, msgstr)])[0])
         status, report, *_ = checked(folder, ["--strict", "a.po"], work)
-        found = (status, "warning: 'msgid' and 'msgstr' use " + change in report, "1 message judged, 0 not judged" in report)
+        found = (
+            status,
+            "warning: 'msgid' and 'msgstr' use " + change in report,
+            "1 message judged, 0 not judged" in report,
+        )
         trials.expect(f"{msgid} as {msgstr} is a warning", found, (0, True, True))
     for msgid, msgstr in UNCHANGED:
         file.write_text(catalog([message("#, c-format", msgid, msgstr)])[0])
-        trials.expect(f"{msgid} as {msgstr} is right", checked(folder, ["--strict", "a.po"], work)[:2], (0, "1 message judged, 0 not judged\n"))
+        trials.expect(
+            f"{msgid} as {msgstr} is right",
+            checked(folder, ["--strict", "a.po"], work)[:2],
+            (0, "1 message judged, 0 not judged\n"),
+        )
     for plural, flags, is_fault in FORMS:
         file.write_text(forms_text(plural, flags))
         status, report, *_ = checked(folder, ["a.po"], work)
-        trials.expect(f"the form of {plural[-20:]} with {flags[:20]}", (status, report.count("does not match"), "judged" in report), (is_fault, is_fault, True))
-    file.write_text((HEADER % ("UTF-8", "n != 1")) + '#, c-format\nmsgid "%d"\nmsgid_plural "%d %c"\nmsgstr[0] "%d"\nmsgstr[1] "%d %c"\n')
-    trials.expect("an argument that is left out is not changed", checked(folder, ["--strict", "a.po"], work)[:2], (0, "1 message judged, 0 not judged\n"))
+        trials.expect(
+            f"the form of {plural[-20:]} with {flags[:20]}",
+            (status, report.count("does not match"), "judged" in report),
+            (is_fault, is_fault, True),
+        )
+    file.write_text(
+        (HEADER % ("UTF-8", "n != 1"))
+        + '#, c-format\nmsgid "%d"\nmsgid_plural "%d %c"\nmsgstr[0] "%d"\nmsgstr[1] "%d %c"\n'
+    )
+    trials.expect(
+        "an argument that is left out is not changed",
+        checked(folder, ["--strict", "a.po"], work)[:2],
+        (0, "1 message judged, 0 not judged\n"),
+    )
     for plural in NO_RULES:
         file.write_text(forms_text(plural, ""))
         status, report, *_ = checked(folder, ["a.po"], work)
-        trials.expect(f"no expression: {plural[:20]}", (status, report.startswith("a.po:0: it can't be read: ")), (1, True))
+        trials.expect(
+            f"no expression: {plural[:20]}", (status, report.startswith("a.po:0: it can't be read: ")), (1, True)
+        )
 
 
 def try_charsets(folder, work, trials):
     """The charset is that of the header entry, and is read, or is said not to be."""
     file = work / "a.po"
     for charset, letters in CHARSETS:
-        text = catalog([message("#, c-format", "%d", "LETTERS %s"), message("#, c-format", "a %d", "LETTERS %d")], charset)[0]
+        text = catalog(
+            [message("#, c-format", "%d", "LETTERS %s"), message("#, c-format", "a %d", "LETTERS %d")], charset
+        )[0]
         file.write_bytes(text.encode().replace(b"LETTERS", letters))
         status, report, *_ = checked(folder, ["a.po"], work)
-        trials.expect(f"a catalog in {charset}", (status, fault_lines(report), "2 messages judged" in report), (1, [FIRST + 2], True))
+        trials.expect(
+            f"a catalog in {charset}",
+            (status, fault_lines(report), "2 messages judged" in report),
+            (1, [FIRST + 2], True),
+        )
         trials.expect(f"no fault in reading {charset}", "can't be read" in report, False)
     for charset in NOT_READ:
         file.write_text(catalog([message("#, c-format", "%d", "+2AA- %s")], charset)[0])
         status, report, *_ = checked(folder, ["a.po"], work)
-        found = (status, report.startswith("a.po:0: it can't be read: ") and "not read" in report, "Traceback" in report)
+        found = (
+            status,
+            report.startswith("a.po:0: it can't be read: ") and "not read" in report,
+            "Traceback" in report,
+        )
         trials.expect(f"a catalog in {charset[:20]}", found, (1, True, False))
     # No comment, no message and no context names the charset.
-    for front in ["# charset=ISO-8859-1\n", '#~ msgid ""\n#~ msgstr "charset=NOSUCH"\n\n', 'msgctxt "x"\nmsgid ""\nmsgstr "charset=NOSUCH"\n\n', 'msgid "charset=KOI8-R"\nmsgstr "x"\n\n']:
-        file.write_bytes((front + HEADER % ("UTF-8", "n != 1")).encode() + b'#, c-format\nmsgid "%d"\nmsgstr "\xc3\xa9 %s"\n')
+    for front in [
+        "# charset=ISO-8859-1\n",
+        '#~ msgid ""\n#~ msgstr "charset=NOSUCH"\n\n',
+        'msgctxt "x"\nmsgid ""\nmsgstr "charset=NOSUCH"\n\n',
+        'msgid "charset=KOI8-R"\nmsgstr "x"\n\n',
+    ]:
+        file.write_bytes(
+            (front + HEADER % ("UTF-8", "n != 1")).encode() + b'#, c-format\nmsgid "%d"\nmsgstr "\xc3\xa9 %s"\n'
+        )
         status, report, *_ = checked(folder, ["a.po"], work)
-        trials.expect(f"the charset after {front!r}", (status, report.count("int and string"), "read" in report), (1, 1, False))
+        trials.expect(
+            f"the charset after {front!r}", (status, report.count("int and string"), "read" in report), (1, 1, False)
+        )
     for bad in [b"\xff", b"\xed\xa0\x80", rb"\355\240\200", rb"\xff", b"\xc3"]:
-        file.write_bytes((HEADER % ("UTF-8", "n != 1")).encode() + b'#, c-format\nmsgid "%d"\nmsgstr "' + bad + b'%s"\n')
+        file.write_bytes(
+            (HEADER % ("UTF-8", "n != 1")).encode() + b'#, c-format\nmsgid "%d"\nmsgstr "' + bad + b'%s"\n'
+        )
         status, report, *_ = checked(folder, ["a.po"], work)
-        trials.expect(f"bytes that are not UTF-8: {bad!r}", (status, report.startswith("a.po:8: it can't be read: 'utf"), "Traceback" in report), (1, True, False))
-    file.write_bytes((HEADER % ("ISO-8859-1", "n != 1")).encode() + rb'#, c-format' + b"\nmsgid \"%d\"\nmsgstr \"\xe9" + rb'\351\45s"' + b"\n")
+        trials.expect(
+            f"bytes that are not UTF-8: {bad!r}",
+            (status, report.startswith("a.po:8: it can't be read: 'utf"), "Traceback" in report),
+            (1, True, False),
+        )
+    file.write_bytes(
+        (HEADER % ("ISO-8859-1", "n != 1")).encode()
+        + rb"#, c-format"
+        + b'\nmsgid "%d"\nmsgstr "\xe9'
+        + rb'\351\45s"'
+        + b"\n"
+    )
     trials.expect("escapes in another charset", fault_lines(checked(folder, ["a.po"], work)[1]), [FIRST + 2])
 
 
@@ -249,7 +367,9 @@ def overlapping(count, size):
     """A .mo file in which each message is the same long string."""
     start = 28 + 16 * count
     table = struct.pack("<II", 2, start) + struct.pack("<II", size, start) * (count - 1)
-    return struct.pack("<7I", 0x950412DE, 0, count, 28, 28 + 8 * count, 0, start) + table * 2 + b"%d" * (size // 2) + b"\0"
+    return (
+        struct.pack("<7I", 0x950412DE, 0, count, 28, 28 + 8 * count, 0, start) + table * 2 + b"%d" * (size // 2) + b"\0"
+    )
 
 
 def try_sizes(folder, work, trials):
@@ -267,14 +387,28 @@ def try_sizes(folder, work, trials):
     for name, msgid, msgstr, most in runs:
         file.write_text(catalog([message("#, c-format", msgid, msgstr)])[0])
         status, report, seconds, _ = checked(folder, ["a.po"], work)
-        trials.expect(f"{name}: {seconds:.1f} seconds, at most {most}", (seconds <= most, "1 message judged" in report or "1 not judged" in report), (True, True))
+        trials.expect(
+            f"{name}: {seconds:.1f} seconds, at most {most}",
+            (seconds <= most, "1 message judged" in report or "1 not judged" in report),
+            (True, True),
+        )
     # Letters of which a message is made, its megabytes, and the memory that it may take.
-    texts = [("x", 20, 400), ("\u0436", 20, 400), ("x\U0001f600" + "y" * 100, 20, 400), ("\\n", 2, 60), ('a"\n"', 2, 60)]
+    texts = [
+        ("x", 20, 400),
+        ("\u0436", 20, 400),
+        ("x\U0001f600" + "y" * 100, 20, 400),
+        ("\\n", 2, 60),
+        ('a"\n"', 2, 60),
+    ]
     for letters, size, most in texts:
         text = letters * (size * 1_000_000 // len(letters.encode()))
         file.write_text(catalog([message("#, c-format", "%d" + text, "%s" + text)])[0], encoding="utf-8")
         status, report, _, memory = checked(folder, ["a.po"], work)
-        trials.expect(f"{size} MB of {letters[:2]!r}: {memory} KiB", (status, memory < most * 1000, "int and string" in report), (1, True, True))
+        trials.expect(
+            f"{size} MB of {letters[:2]!r}: {memory} KiB",
+            (status, memory < most * 1000, "int and string" in report),
+            (1, True, True),
+        )
     (work / "a.mo").write_bytes(overlapping(60_000, 1_000_000))
     status, report, seconds, memory = checked(folder, ["a.mo"], work)
     found = (status, report.startswith("a.mo:0: it can't be read: its strings overlap"), seconds < 5, memory < 200_000)
@@ -294,7 +428,9 @@ def try_edges(folder, trials):
 def msgfmt_lines(file):
     """The lines in which msgfmt finds a fault of a format."""
     environment = {**os.environ, "LC_ALL": "C", "LANGUAGE": ""}
-    done = subprocess.run(["msgfmt", "-c", "-o", os.devnull, file], env=environment, check=False, timeout=TIMEOUT, stderr=subprocess.PIPE)
+    done = subprocess.run(
+        ["msgfmt", "-c", "-o", os.devnull, file], env=environment, check=False, timeout=TIMEOUT, stderr=subprocess.PIPE
+    )
     words = r"^[^:\n]+:(\d+): [^\n]*(?:format specifications|types of|valid C format)"
     return sorted({int(line) for line in re.findall(words, done.stderr.decode(errors="replace"), flags=re.MULTILINE)})
 
@@ -305,8 +441,16 @@ def try_msgfmt_edges(trials):
         file = Path(work) / "a.po"
         text, lines = pairs_catalog()
         file.write_text(text)
-        trials.expect("msgfmt: lines with faults", msgfmt_lines(file), [line for line in lines if r"\000" not in text.split("\n")[line - 1]])
-        for rows, is_fault in [(STRICTER, False), ([row for row in CHANGED if "*" not in row[0]], True), (UNCHANGED, False)]:
+        trials.expect(
+            "msgfmt: lines with faults",
+            msgfmt_lines(file),
+            [line for line in lines if r"\000" not in text.split("\n")[line - 1]],
+        )
+        for rows, is_fault in [
+            (STRICTER, False),
+            ([row for row in CHANGED if "*" not in row[0]], True),
+            (UNCHANGED, False),
+        ]:
             for msgid, msgstr, *_ in rows:
                 file.write_text(catalog([message("#, c-format", msgid, msgstr)])[0])
                 trials.expect(f"msgfmt: {msgid} as {msgstr}", bool(msgfmt_lines(file)), is_fault)

@@ -14,13 +14,24 @@ SEED = 7
 MESSAGES = 700
 # The number of forms, and the expression.
 RULES = [
-    (2, "n != 1"), (2, "n>1"), (2, "n<4?0:1"), (2, "n<5?0:1"), (2, "n>=996 && n<=1000"), (2, "n>=997&&n<=1000"), (2, "!(n-3)"), (5, "n*n%5"),
-    (3, "n/400"), (2, "n<=2-3"), (3, "n==1 ? 0 : n==0 || (n%100>0 && n%100<20) ? 1 : 2"),
+    (2, "n != 1"),
+    (2, "n>1"),
+    (2, "n<4?0:1"),
+    (2, "n<5?0:1"),
+    (2, "n>=996 && n<=1000"),
+    (2, "n>=997&&n<=1000"),
+    (2, "!(n-3)"),
+    (5, "n*n%5"),
+    (3, "n/400"),
+    (2, "n<=2-3"),
+    (3, "n==1 ? 0 : n==0 || (n%100>0 && n%100<20) ? 1 : 2"),
     (3, "n%10==1 && n%100!=11 ? 0 : n%10>=2 && n%10<=4 && (n%100<10 || n%100>=20) ? 1 : 2"),
     (4, "n%100==1 ? 0 : n%100==2 ? 1 : n%100==3 || n%100==4 ? 2 : 3"),
     (6, "n==0 ? 0 : n==1 ? 1 : n==2 ? 2 : n%100>=3 && n%100<=10 ? 3 : n%100>=11 ? 4 : 5"),
 ]
-HEADER = 'msgid ""\nmsgstr ""\n"Content-Type: text/plain; charset=UTF-8\\n"\n"Plural-Forms: nplurals=%d; plural=%s;\\n"\n\n'
+HEADER = (
+    'msgid ""\nmsgstr ""\n"Content-Type: text/plain; charset=UTF-8\\n"\n"Plural-Forms: nplurals=%d; plural=%s;\\n"\n\n'
+)
 TEXTS = ["%d", "x", "%d %s", "%s %d", "%2$s %1$d", "%1$d", "%s", "%m %d", "%d%%"]
 
 
@@ -48,7 +59,9 @@ def try_plurals(module, trials):
     generator = random.Random(SEED)
     for count, rule in RULES:
         text, report = catalog(generator, count, rule), io.StringIO()
-        Checker(lambda it, out=report: print(as_msgfmt(it), file=out), list(module.Model)).check_data("a.po", text.encode())
+        Checker(lambda it, out=report: print(as_msgfmt(it), file=out), list(module.Model)).check_data(
+            "a.po", text.encode()
+        )
         with tempfile.TemporaryDirectory() as work:
             file = Path(work) / "a.po"
             file.write_text(text)

@@ -1,8 +1,9 @@
-"""Changes of C source, each with the verdict on it, written down by hand: what `tests/diffing.py` has fmtcanon-diff judge.
+"""Changes of C source, each with the verdict on it, written down by hand: what `tests/diffing.py` has fmtcanon-diff
+judge.
 
-A change is a line with its kind, the old and the new source of a function's body, and the verdicts: nothing if no place is to be
-judged, otherwise the kind of each finding in order. What is printed differently is compiled, with the values that are declared in
-FRONT. Sources in bytes are whole files.
+A change is a line with its kind, the old and the new source of a function's body, and the verdicts: nothing if no place
+is to be judged, otherwise the kind of each finding in order. What is printed differently is compiled, with the values
+that are declared in FRONT. Sources in bytes are whole files.
 """
 
 FRONT = """\
@@ -67,15 +68,45 @@ CHANGES = [
     ("%e for %f", 'printf("%d %f\\n", n, d);', 'printf("%d %e\\n", n, d);', DIRECTIVES),
     ("a width next to %p", 'printf("%5d %p\\n", n, (void *)0);', 'printf("%6d %p\\n", n, (void *)0);', DIFFERENT),
     ("words next to %f", 'printf("%f km\\n", d);', 'printf("%f miles\\n", d);', WORDS),
-    ("a default precision next to other spellings", 'printf("%i %.6f|%05u\\n", n, d, u);', 'printf("%d %f|%.5u\\n", n, d, u);', SAME),
-    ("padding as words next to %p", 'printf("%5c %p\\n", 65, (void *)0);', 'printf("    %c %p\\n", 65, (void *)0);', SAME),
+    (
+        "a default precision next to other spellings",
+        'printf("%i %.6f|%05u\\n", n, d, u);',
+        'printf("%d %f|%.5u\\n", n, d, u);',
+        SAME,
+    ),
+    (
+        "padding as words next to %p",
+        'printf("%5c %p\\n", 65, (void *)0);',
+        'printf("    %c %p\\n", 65, (void *)0);',
+        SAME,
+    ),
     ("%S for %ls", 'printf("%S\\n", L"ab");', 'printf("%ls\\n", L"ab");', SAME),
     ("two specifications for one with *", 'printf("%*d\\n", 5, n);', 'printf("%d%d\\n", 5, n);', DIRECTIVES),
     ("the flag 0 of %f", 'printf("%08.2f\\n", d);', 'printf("%8.2f\\n", d);', DIRECTIVES),
-    ("a precision of %e in a macro of the file", '\n#define DIGITS ".3"\nprintf("%" DIGITS "e\\n", d);', '\n#define DIGITS ".4"\nprintf("%" DIGITS "e\\n", d);', DIRECTIVES),
-    ("a whole %e in a macro of the file", '\n#define METRES "%.3e m"\nprintf(METRES "\\n", d);', '\n#define METRES "%.4e m"\nprintf(METRES "\\n", d);', DIRECTIVES * 2),
-    ("a zero flag for a precision next to %f", 'printf("%.6lf %05d\\n", d, n);', 'printf("%f %.5d\\n", d, n);', DIFFERENT),
-    ("a precision of a string next to %f", 'printf("%.6lf %s|\\n", d, "ten letters");', 'printf("%f %.10s|\\n", d, "ten letters");', DIFFERENT),
+    (
+        "a precision of %e in a macro of the file",
+        '\n#define DIGITS ".3"\nprintf("%" DIGITS "e\\n", d);',
+        '\n#define DIGITS ".4"\nprintf("%" DIGITS "e\\n", d);',
+        DIRECTIVES,
+    ),
+    (
+        "a whole %e in a macro of the file",
+        '\n#define METRES "%.3e m"\nprintf(METRES "\\n", d);',
+        '\n#define METRES "%.4e m"\nprintf(METRES "\\n", d);',
+        DIRECTIVES * 2,
+    ),
+    (
+        "a zero flag for a precision next to %f",
+        'printf("%.6lf %05d\\n", d, n);',
+        'printf("%f %.5d\\n", d, n);',
+        DIFFERENT,
+    ),
+    (
+        "a precision of a string next to %f",
+        'printf("%.6lf %s|\\n", d, "ten letters");',
+        'printf("%f %.10s|\\n", d, "ten letters");',
+        DIFFERENT,
+    ),
     ("a directive among other words", 'printf("%f of %d\\n", d, n);', 'printf("of %f %d\\n", d, n);', WORDS),
     ("%Lf for %f", 'printf("%f\\n", d);', 'printf("%Lf\\n", (long double)d);', TYPES),
     ("%ln for %jn", 'intmax_t at; printf("a%jn\\n", &at);', 'long at; printf("a%ln\\n", &at);', TYPES),
@@ -85,27 +116,67 @@ CHANGES = [
     ("PRIu32 for %u", 'printf("%u\\n", u);', 'printf("%" PRIu32 "\\n", u);', SAME),
     ("PRIx64 for PRIX64", 'printf("%" PRIX64 "\\n", big + 3);', 'printf("%" PRIx64 "\\n", big + 3);', DIFFERENT),
     ("PRIdPTR for %zd", 'printf("%zd\\n", (ptrdiff_t)1);', 'printf("%" PRIdPTR "\\n", (intptr_t)1);', SAME),
-    ("a macro of the file", '\n#define SIZE "zu"\nprintf("%" SIZE "\\n", size + 5);', '\n#define SIZE "zx"\nprintf("%" SIZE "\\n", size + 5);', DIFFERENT),
+    (
+        "a macro of the file",
+        '\n#define SIZE "zu"\nprintf("%" SIZE "\\n", size + 5);',
+        '\n#define SIZE "zx"\nprintf("%" SIZE "\\n", size + 5);',
+        DIFFERENT,
+    ),
     ("a format moved into a macro", 'printf("%d\\n", n);', '\n#define FORMAT "%d\\n"\nprintf(FORMAT, n);', SAME),
-    ("a format moved into a macro, and changed", 'printf("%5d\\n", n);', '\n#define FORMAT "%d\\n"\nprintf(FORMAT, n);', DIFFERENT),
+    (
+        "a format moved into a macro, and changed",
+        'printf("%5d\\n", n);',
+        '\n#define FORMAT "%d\\n"\nprintf(FORMAT, n);',
+        DIFFERENT,
+    ),
     ("a macro that isn't known", 'printf("%d" SUFFIX, n);', 'printf("%i" SUFFIX, n);', UNJUDGED),
     # The shape of literals.
-    ("a literal that is split", 'printf("%d of %d\\n", n, count);', 'printf("%d of "\n       "%d\\n", n, count);', SAME),
-    ("a literal that is split, and changed", 'printf("%d of %d\\n", n, count);', 'printf("%d of "\n       "%3d\\n", n, count);', DIFFERENT),
+    (
+        "a literal that is split",
+        'printf("%d of %d\\n", n, count);',
+        'printf("%d of "\n       "%d\\n", n, count);',
+        SAME,
+    ),
+    (
+        "a literal that is split, and changed",
+        'printf("%d of %d\\n", n, count);',
+        'printf("%d of "\n       "%3d\\n", n, count);',
+        DIFFERENT,
+    ),
     ("literals that are joined", 'printf("a" "%d" "\\n", n);', 'printf("a%d\\n", n);', SAME),
     ("a line that is spliced", 'printf("%d\\n", n);', 'printf("%\\\nd\\n", n);', []),
     # What is around a place.
-    ("a line that moved", 'count++;\nprintf("%d moved\\n", n);\nn--;\nl++;', 'printf("%d moved\\n", n);\ncount++;\nn--;\nl++;', []),
-    ("a line that moved, and changed", 'count++;\nprintf("%d moved\\n", n);\nn--;\nl++;', 'printf("%4d moved\\n", n);\ncount++;\nn--;\nl++;', DIFFERENT),
+    (
+        "a line that moved",
+        'count++;\nprintf("%d moved\\n", n);\nn--;\nl++;',
+        'printf("%d moved\\n", n);\ncount++;\nn--;\nl++;',
+        [],
+    ),
+    (
+        "a line that moved, and changed",
+        'count++;\nprintf("%d moved\\n", n);\nn--;\nl++;',
+        'printf("%4d moved\\n", n);\ncount++;\nn--;\nl++;',
+        DIFFERENT,
+    ),
     ("a variable by another name", 'int a = 5;\nprintf("%d\\n", a);', 'int total = 5;\nprintf("%d\\n", total);', []),
-    ("a variable by another name, and a respelled format", 'int a = 5;\nprintf("%d\\n", a);', 'int total = 5;\nprintf("%i\\n", total);', SAME),
+    (
+        "a variable by another name, and a respelled format",
+        'int a = 5;\nprintf("%d\\n", a);',
+        'int total = 5;\nprintf("%i\\n", total);',
+        SAME,
+    ),
     ("a new call", 'printf("%d\\n", n);', 'printf("%d\\n", n);\nprintf("%s is new\\n", name);', []),
     ("a call that went", 'printf("%s went\\n", name);\nprintf("%d\\n", n);', 'printf("%d\\n", n);', []),
     ("a comment", 'printf("%d\\n", n); /* "%s" */', 'printf("%d\\n", n); /* "%x" */', []),
     ("only white space", 'if (n)\n  printf("%d\\n", n);', 'if (n) {\n\tprintf( "%d\\n" , n );\n}', []),
     ("puts", 'puts("100%d");', 'puts("100%s");', []),
     ("a message", 'printf(_("%d files\\n"), count);', 'printf(_("%3d files\\n"), count);', DIFFERENT),
-    ("a plural form", 'printf(ngettext("%d file\\n", "%d files\\n", count), count);', 'printf(ngettext("%d file\\n", "%i files\\n", count), count);', SAME),
+    (
+        "a plural form",
+        'printf(ngettext("%d file\\n", "%d files\\n", count), count);',
+        'printf(ngettext("%d file\\n", "%i files\\n", count), count);',
+        SAME,
+    ),
     # Words.
     ("other words", 'printf("%d files\\n", count);', 'printf("%d file names\\n", count);', WORDS),
     ("%% that went", 'printf("%d%%\\n", count);', 'printf("%d\\n", count);', WORDS),
@@ -115,8 +186,28 @@ CHANGES = [
     # Files of other kinds.
     ("a raw string", 'printf(R"(%d\n)", n);', 'printf(R"(%4d\n)", n);', DIFFERENT),
     ("a wide string", 'wprintf(L"%d", n);', 'wprintf(L"%u", n);', UNJUDGED),
-    ("the ends of lines", b'void f(void) {\r\n printf("%d\\n", n);\r\n}\r\n', b'void f(void) {\n printf("%d\\n", n);\n}\n', []),
-    ("the ends of lines, and a format", b'void f(void) {\r\n printf("%d" \\\r\n"\\n", n);\r\n}\r\n', b'void f(void) {\n printf("%i\\n", n);\n}\n', SAME),
-    ("Latin-1", b'/* \xe9 */ void f(void) { printf("\xe9t\xe9 %d", n); }', b'/* \xe9 */ void f(void) { printf("\xe9t\xe9 %i", n); }', SAME),
-    ("Latin-1 and UTF-8", b'void f(void) { printf("\xe9 %d", n); }', 'void f(void) { printf("é %d", n); }'.encode(), WORDS),
+    (
+        "the ends of lines",
+        b'void f(void) {\r\n printf("%d\\n", n);\r\n}\r\n',
+        b'void f(void) {\n printf("%d\\n", n);\n}\n',
+        [],
+    ),
+    (
+        "the ends of lines, and a format",
+        b'void f(void) {\r\n printf("%d" \\\r\n"\\n", n);\r\n}\r\n',
+        b'void f(void) {\n printf("%i\\n", n);\n}\n',
+        SAME,
+    ),
+    (
+        "Latin-1",
+        b'/* \xe9 */ void f(void) { printf("\xe9t\xe9 %d", n); }',
+        b'/* \xe9 */ void f(void) { printf("\xe9t\xe9 %i", n); }',
+        SAME,
+    ),
+    (
+        "Latin-1 and UTF-8",
+        b'void f(void) { printf("\xe9 %d", n); }',
+        'void f(void) { printf("é %d", n); }'.encode(),
+        WORDS,
+    ),
 ]

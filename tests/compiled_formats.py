@@ -1,4 +1,5 @@
-"""Pairs of formats of the whole language from a fixed generator, and a program of C that prints each pair for some arguments.
+"""Pairs of formats of the whole language from a fixed generator, and a program of C that prints each pair for some
+arguments.
 
 How a specification may be respelled is what C11 7.21.6.1 and POSIX say of its parts, written down here by hand.
 """
@@ -13,8 +14,18 @@ IN_A_FUNCTION = 50
 FLOATING, INTEGERS = "fFeEgGaA", "diuoxX"
 # The length modifiers of integers and of n, and the kind of their arguments in LP64: j, z and t name `long`.
 LENGTHS = {"": "int", "hh": "int", "h": "int", "l": "long", "ll": "long long", "j": "long", "z": "long", "t": "long"}
-COUNTS = {"": "n_int", "hh": "n_char", "h": "n_short", "l": "n_long", "ll": "n_long_long", "j": "n_long", "z": "n_long", "t": "n_long"}
-# Arguments by their kind: some that a list of them takes at random, and one that prints something whatever is around it.
+COUNTS = {
+    "": "n_int",
+    "hh": "n_char",
+    "h": "n_short",
+    "l": "n_long",
+    "ll": "n_long_long",
+    "j": "n_long",
+    "z": "n_long",
+    "t": "n_long",
+}
+# Arguments by their kind: some that a list of them takes at random, and one that prints something whatever is around
+# it.
 VALUES = {
     "star": ["-7", "0", "3", "11"],
     "int": ["-1", "0", "65", "INT_MIN"],
@@ -32,24 +43,56 @@ VALUES = {
     **{kind: [f"&counts->{kind}"] for kind in ["n_char", "n_short", "n_int", "n_long", "n_long_long"]},
 }
 PRINTED = {
-    "star": "3", "int": "65", "unsigned": "65u", "long": "65L", "unsigned long": "65ul", "long long": "65LL", "unsigned long long": "65ull",
-    "string": '"ab"', "double": "1.5", "long double": "1.5L", "wide character": "L'a'", "wide string": 'L"ab"', "pointer": "(void *)0x1234",
+    "star": "3",
+    "int": "65",
+    "unsigned": "65u",
+    "long": "65L",
+    "unsigned long": "65ul",
+    "long long": "65LL",
+    "unsigned long long": "65ull",
+    "string": '"ab"',
+    "double": "1.5",
+    "long double": "1.5L",
+    "wide character": "L'a'",
+    "wide string": 'L"ab"',
+    "pointer": "(void *)0x1234",
 }
 # Directives of the profile that print alike, and some that don't, with the kinds of their arguments.
 ALIKE = [
-    (["%d", "%i", "%-d", "%.1i"], ["int"]), (["%5c", "    %c"], ["int"]), (["%05u", "%.5u", "%0005u"], ["unsigned"]), (["%#o", "0%.0o"], ["unsigned"]),
-    (["%-+8d|", "%+-8i|", "%0-+8d|"], ["int"]), (["%zd", "%ld", "%jd", "%ti"], ["long"]), (["%s", "%-s"], ["string"]), (["%lx", "%zx"], ["unsigned long"]),
-    (["%.0s"], ["string"]), (["%5.3d", "%05.3i"], ["int"]), (["%%"], []), (["%+llu", "%llu"], ["unsigned long long"]),
+    (["%d", "%i", "%-d", "%.1i"], ["int"]),
+    (["%5c", "    %c"], ["int"]),
+    (["%05u", "%.5u", "%0005u"], ["unsigned"]),
+    (["%#o", "0%.0o"], ["unsigned"]),
+    (["%-+8d|", "%+-8i|", "%0-+8d|"], ["int"]),
+    (["%zd", "%ld", "%jd", "%ti"], ["long"]),
+    (["%s", "%-s"], ["string"]),
+    (["%lx", "%zx"], ["unsigned long"]),
+    (["%.0s"], ["string"]),
+    (["%5.3d", "%05.3i"], ["int"]),
+    (["%%"], []),
+    (["%+llu", "%llu"], ["unsigned long long"]),
 ]
 UNLIKE = [
-    ("%d", "%+d", "int"), ("%05d", "%.5d", "int"), ("%d", "%5d", "int"), ("%s", "%.1s", "string"), ("%c", "%hhd", "int"), ("%u", "%x", "unsigned"),
-    ("%lx", "%lX", "unsigned long"), ("%5s", "%-5s", "string"), ("%hd", "%d", "int"), ("%5.0s", "%.0s", "string"), ("%.0d", "%d", "int"), ("%ld", "% ld", "long"),
+    ("%d", "%+d", "int"),
+    ("%05d", "%.5d", "int"),
+    ("%d", "%5d", "int"),
+    ("%s", "%.1s", "string"),
+    ("%c", "%hhd", "int"),
+    ("%u", "%x", "unsigned"),
+    ("%lx", "%lX", "unsigned long"),
+    ("%5s", "%-5s", "string"),
+    ("%hd", "%d", "int"),
+    ("%5.0s", "%.0s", "string"),
+    ("%.0d", "%d", "int"),
+    ("%ld", "% ld", "long"),
 ]
 LITERALS = ["x", "a b", "\u00e9", "%% ", "100%%", "(", "\n"]
 
 
 class Part(NamedTuple):
-    """A part of a format: ways to spell it, the kinds of its arguments, and whether it is a directive that prints something."""
+    """A part of a format: ways to spell it, the kinds of its arguments, and whether it is a directive that prints
+    something.
+    """
 
     spellings: Tuple[str, ...]
     kinds: Tuple[str, ...] = ()
@@ -61,7 +104,9 @@ def amount(chosen, most):
 
 
 def respelled_flags(chosen, flags, conversion, width, precision):
-    """The flags of a specification with this spelling of its precision, with some that have no effect, in any order, some twice."""
+    """The flags of a specification with this spelling of its precision, with some that have no effect, in any order,
+    some twice.
+    """
     is_number = conversion in INTEGERS or conversion in FLOATING
     is_signed = conversion in "di" or conversion in FLOATING or conversion == "p"
     idle = []
@@ -191,7 +236,9 @@ def alike_pairs(count):
 
 
 def unlike_pairs(count):
-    """Yields pairs of formats with equal types and calls that print other bytes for some arguments, with the kinds of these."""
+    """Yields pairs of formats with equal types and calls that print other bytes for some arguments, with the kinds of
+    these.
+    """
     chosen = random.Random(61)
     for _ in range(count):
         parts = [part(chosen) for _ in range(chosen.randrange(4))]
@@ -207,12 +254,17 @@ def unlike_pairs(count):
             one, other = [Part(("x",)), seen], [seen, Part(("x",))]
         else:
             one, other = [seen], [seen, Part((chosen.choice(LITERALS),))]
-        yield spelled(chosen, parts[:at] + one + parts[at:]), spelled(chosen, parts[:at] + other + parts[at:]), kinds_of(parts[:at] + one + parts[at:])
+        yield spelled(chosen, parts[:at] + one + parts[at:]), spelled(
+            chosen, parts[:at] + other + parts[at:]
+        ), kinds_of(parts[:at] + one + parts[at:])
 
 
 def literal(text):
     """A string literal of C."""
-    plain = (chr(it) if it < 127 and (chr(it).isalnum() or chr(it) in " %.*-+#'|(") else f"\\{it:03o}" for it in text.encode())
+    plain = (
+        chr(it) if it < 127 and (chr(it).isalnum() or chr(it) in " %.*-+#'|(") else f"\\{it:03o}"
+        for it in text.encode()
+    )
     return f'"{"".join(plain)}"'
 
 
@@ -277,4 +329,6 @@ def printed(trials, work, locale, timeout):
         source.write_text(source_of(trials))
         subprocess.run(["gcc", "-std=gnu11", "-O0", "-w", "-o", program, source, "-lm"], check=True, timeout=timeout)
     environment = {"LC_ALL": locale}
-    return subprocess.run([program], check=True, timeout=timeout, env=environment, stdout=subprocess.PIPE).stdout.decode()
+    return subprocess.run(
+        [program], check=True, timeout=timeout, env=environment, stdout=subprocess.PIPE
+    ).stdout.decode()

@@ -3,11 +3,11 @@
 
 Usage: tests/devices.py PROGRAM
 
-Standard output: closed; the device that is always full; a pipe whose reader has left, before or after the first
-bytes; a pipe that is full and doesn't wait; a directory; standard error closed or full beside it. Standard input, for
-`stream`: closed; a directory; opened for writing; a pipe that doesn't wait and has nothing; one byte at a time; a
-pipe that stays open; a terminal; a file. For the other commands: a pipe that stays open, which they don't read. How many reads
-and writes there are.
+Standard output: closed; the device that is always full; a pipe whose reader has left, before or after the first bytes;
+a pipe that is full and doesn't wait; a directory; standard error closed or full beside it. Standard input, for
+`stream`: closed; a directory; opened for writing; a pipe that doesn't wait and has nothing; one byte at a time; a pipe
+that stays open; a terminal; a file. For the other commands: a pipe that stays open, which they don't read. How many
+reads and writes there are.
 
 No run is ended by a signal, none exits with 0 or 1 with bytes missing, and nothing is written for a refused format.
 
@@ -44,12 +44,22 @@ ANSWERED = [
     (["same", "%05d", "%.5d"], b"", 1, b"different\nn:-1\n"),
     (["same", "%05d%05d", "%.5d%.5d"], b"", 1, b"different\nn:-1\nn:0\n"),
     (["same", "%s", "%.4095s"], b"", 1, b"different\ns:" + b"A" * 4096 + b"\n"),
-    (["same", "--model", "all", "%zu", "%lu"], b"", 1, b"lp64\nsame\nilp32\ntypes differ at argument 0\nllp64\ntypes differ at argument 0\n"),
+    (
+        ["same", "--model", "all", "%zu", "%lu"],
+        b"",
+        1,
+        b"lp64\nsame\nilp32\ntypes differ at argument 0\nllp64\ntypes differ at argument 0\n",
+    ),
     (["same", "--literal", '"%d"', '"\\x25" "i"'], b"", 0, b"same\n"),
     (["fits", "%s of %d", "%2$d/%1$s"], b"", 0, b"fits\n"),
     (["fits", "%d%s", "%d%.2f"], b"", 1, b"types differ at argument 1\n"),
     (["fits", "--literal", '"%d"', '"\\x25" "i"'], b"", 0, b"fits\n"),
-    (["fits", "--model", "all", "%zu", "%lu"], b"", 1, b"lp64\nfits\nilp32\ntypes differ at argument 0\nllp64\ntypes differ at argument 0\n"),
+    (
+        ["fits", "--model", "all", "%zu", "%lu"],
+        b"",
+        1,
+        b"lp64\nfits\nilp32\ntypes differ at argument 0\nllp64\ntypes differ at argument 0\n",
+    ),
     (["types", "--whole", "%2$s of %1$*3$.2f"], b"", 0, b"double\nstring\nint\n"),
     (["types", "--whole", "%d" * LONG * 10], b"", 0, b"int\n" * LONG * 10),
     (["types", "--whole", "--literal", '"%Lf" "%ls"'], b"", 0, b"long double\nwide string\n"),
@@ -60,7 +70,12 @@ ANSWERED = [
     (["same", "--whole", "%.6f%i", "%f%d"], b"", 0, b"same\n"),
     (["same", "--whole", "%f%05d%p", "%f%.5d%p"], b"", 1, b"different\nany\nn:-1\nany\n"),
     (["same", "--whole", "%d%f", "%d%e"], b"", 1, b"directives differ at argument 1\n"),
-    (["same", "--whole", "--model", "all", "%zn", "%ln"], b"", 1, b"lp64\nsame\nilp32\ntypes differ at argument 0\nllp64\ntypes differ at argument 0\n"),
+    (
+        ["same", "--whole", "--model", "all", "%zn", "%ln"],
+        b"",
+        1,
+        b"lp64\nsame\nilp32\ntypes differ at argument 0\nllp64\ntypes differ at argument 0\n",
+    ),
     (["same", "--whole", "--literal", '"%f"', '"\\x25" "lf"'], b"", 0, b"same\n"),
     (["canon", "--literal", '"\\x25" "i\\t%%"'], b"", 0, b'"%d\\t%%"\n'),
     (["show", "--literal", '"x" "%%"'], b"", 0, b"text 1\npercent\n"),
@@ -71,7 +86,12 @@ ANSWERED = [
 ]
 # They write nothing, so that no device is asked for anything.
 EMPTY = [["types", "%%"], ["show", ""], ["format", "%.0s", "s:abc"], ["stream"]]
-EMPTY += [["types", "--whole", "%%"], ["types", "--literal", '"" "%%"'], ["show", "--literal", '""'], ["format", "--literal", '"%.0s"', "s:abc"]]
+EMPTY += [
+    ["types", "--whole", "%%"],
+    ["types", "--literal", '"" "%%"'],
+    ["show", "--literal", '""'],
+    ["format", "--literal", '"%.0s"', "s:abc"],
+]
 UNEXPECTED = b"refused 3 Unexpected at byte 1\n"
 NO_ESCAPE = b"literal 3 BadEscape at byte 1\n"
 REFUSED = [
@@ -301,7 +321,8 @@ def try_idle(program, trials):
     trials.expect("stream of a refused text, an open pipe", run_idle(program, ["stream"], text), (2, settled, line))
     front = b"x" * 1000
     trials.expect(
-        "stream of a refused text with more after it, an open pipe", run_idle(program, ["stream"], front + b"%y" + front),
+        "stream of a refused text with more after it, an open pipe",
+        run_idle(program, ["stream"], front + b"%y" + front),
         (2, front, b"refused 3 Unexpected at byte 1001\n"),
     )
 
@@ -315,7 +336,14 @@ def try_terminal(program, trials):
         termios.tcsetattr(slave, termios.TCSANOW, modes)
         os.write(master, sent)
         try:
-            done = subprocess.run([program, "stream"], stdin=slave, stdout=subprocess.PIPE, stderr=subprocess.PIPE, timeout=SOON, check=False)
+            done = subprocess.run(
+                [program, "stream"],
+                stdin=slave,
+                stdout=subprocess.PIPE,
+                stderr=subprocess.PIPE,
+                timeout=SOON,
+                check=False,
+            )
             got = (done.returncode, done.stdout, done.stderr)
         except subprocess.TimeoutExpired:
             got = "it waits"
@@ -333,7 +361,15 @@ def calls_of(program, words, text, work, stdin=None, stdout=subprocess.PIPE, **l
     notes.write_text("")
     environment = {**os.environ, "LD_PRELOAD": str(Path(work) / "calls.so"), "CALLS": str(notes), **limits}
     source = {"input": text} if stdin is None else {"stdin": stdin}
-    subprocess.run([program, *words], env=environment, stdout=stdout, stderr=subprocess.PIPE, timeout=TIMEOUT, check=False, **source)
+    subprocess.run(
+        [program, *words],
+        env=environment,
+        stdout=stdout,
+        stderr=subprocess.PIPE,
+        timeout=TIMEOUT,
+        check=False,
+        **source,
+    )
     calls = [line.split() for line in notes.read_text().splitlines()]
     return [[tuple(map(int, numbers)) for name, *numbers in calls if name == kind] for kind in ("read", "write")]
 
@@ -350,7 +386,9 @@ def blocks(size):
 
 
 def try_calls(program, trials):
-    """An answer is one write, and of `stream` as few as it has blocks, none of them empty; nothing but `stream` reads."""
+    """An answer is one write, and of `stream` as few as it has blocks, none of them empty; nothing but `stream`
+    reads.
+    """
     with tempfile.TemporaryDirectory() as work:
         trials.expect("calls.c", library_of("calls", work)[1], True)
         for words, stdin, _, text in ANSWERED:
@@ -369,7 +407,9 @@ def try_calls(program, trials):
         for words, _ in [*REFUSED, *NOT_ASKED]:
             reads, writes = calls_of(program, words, b"", work)
             is_report = [stream == 2 and asked == moved > 0 for stream, asked, moved in writes]
-            trials.expect(f"{name_of(words)}: no read, and one write, which is the report", (reads, is_report), ([], [True]))
+            trials.expect(
+                f"{name_of(words)}: no read, and one write, which is the report", (reads, is_report), ([], [True])
+            )
         for size in SIZES:
             reads, writes = calls_of(program, ["stream"], b"x" * size, work)
             trials.expect(f"stream of {size} bytes: writes", [one[0] for one in writes], [1] * blocks(size))
@@ -383,7 +423,11 @@ def try_calls(program, trials):
 
 def try_failed_calls(program, work, trials):
     """After a write that fails there is one more at most, that of what waits, then the report; and no read."""
-    for words, stdin in [(["stream"], LONG_FORMAT.encode()), (["canon", LONG_FORMAT], b""), (["canon", "-z"], b"%4095d\0" * LONG)]:
+    for words, stdin in [
+        (["stream"], LONG_FORMAT.encode()),
+        (["canon", LONG_FORMAT], b""),
+        (["canon", "-z"], b"%4095d\0" * LONG),
+    ]:
         with open("/dev/full", "wb") as full:
             reads, writes = calls_of(program, words, stdin, work, stdout=full)
         streams = [stream for stream, _, _ in writes]
@@ -408,7 +452,12 @@ def try_replies(program, trials):
 def run_from(program, stdin, closed=(), stderr=subprocess.PIPE):
     """The status, standard output and standard error of `stream` over this file descriptor."""
     done = subprocess.run(
-        [program, "stream"], stdin=stdin, stdout=subprocess.PIPE, stderr=stderr, timeout=TIMEOUT, check=False,
+        [program, "stream"],
+        stdin=stdin,
+        stdout=subprocess.PIPE,
+        stderr=stderr,
+        timeout=TIMEOUT,
+        check=False,
         preexec_fn=closing(closed),
     )
     return done.returncode, done.stdout, done.stderr
@@ -451,12 +500,16 @@ def try_bytes(program, trials):
 
 
 def stream_between(program, source, target):
-    done = subprocess.run([program, "stream"], stdin=source, stdout=target, stderr=subprocess.PIPE, timeout=TIMEOUT, check=False)
+    done = subprocess.run(
+        [program, "stream"], stdin=source, stdout=target, stderr=subprocess.PIPE, timeout=TIMEOUT, check=False
+    )
     return done.returncode, done.stderr
 
 
 def run_between_files(program, text, front):
-    """`stream` from a file into a file that has a front: its status and line, the second file, and the place in the first."""
+    """`stream` from a file into a file that has a front: its status and line, the second file, and the place in the
+    first.
+    """
     with tempfile.TemporaryFile() as source, tempfile.TemporaryFile() as target:
         source.write(text)
         source.seek(0)
@@ -480,7 +533,9 @@ def try_files(program, trials):
         status, line, found, end = run_between_files(program, before + text + rest, b"before")
         wanted = (2, b"refused 3 Unexpected at byte %d\n" % place, b"before" + before + out)
         trials.expect(f"stream of a file that is refused at byte {place}", (status, line, found), wanted)
-        trials.expect(f"what is read of a file that is refused at byte {place}: {end}", place < end <= place + BLOCK, True)
+        trials.expect(
+            f"what is read of a file that is refused at byte {place}: {end}", place < end <= place + BLOCK, True
+        )
     with tempfile.TemporaryFile() as source, open("/dev/full", "wb") as full:
         source.write(rest)
         source.seek(0)

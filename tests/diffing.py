@@ -1,4 +1,5 @@
-"""Tries fmtcanon-diff: on changes with the verdicts written down by hand, on files, folders and git, and on what can't be read.
+"""Tries fmtcanon-diff: on changes with the verdicts written down by hand, on files, folders and git, and on what can't
+be read.
 
 `tests/python_commands.py` runs it; `tests/outside_tools.py` tries its time, and pairs from a generator.
 """
@@ -15,7 +16,17 @@ import time
 from pathlib import Path
 
 import changes
-from compiled_formats import Trial, alike_pairs, kinds_of, literal, opaque, part, printed as said_of, spelled, unlike_pairs
+from compiled_formats import (
+    Trial,
+    alike_pairs,
+    kinds_of,
+    literal,
+    opaque,
+    part,
+    printed as said_of,
+    spelled,
+    unlike_pairs,
+)
 from harness import SONAME, TIMEOUT, TOP, VERSION, examples
 
 # Two files, and what is said of the second.
@@ -54,8 +65,16 @@ SUMMARY = "6 places changed: 1 same, 2 different, 2 with other types, 0 with oth
 # The same of the whole language: the old and the new part of each line, and what is said of it.
 WHOLE = [
     ('printf("%d: %f\\n", n, d);', 'printf("%d: %e\\n", n, d);', 'directives differ at argument 1: "%f" and "%e"'),
-    ('printf("%" DIGITS "e\\n", d);', 'printf("%" DIGITS "e\\n", d);', 'directives differ at argument 0: "%.3e" and "%.4e"'),
-    ('printf("%.6lf: %05d\\n", d, n);', 'printf("%f: %.5d\\n", d, n);', 'different: "%.6lf: %05d\\n" and "%f: %.5d\\n" print "%f: -0001\\n" and "%f: -00001\\n" for any, -1'),
+    (
+        'printf("%" DIGITS "e\\n", d);',
+        'printf("%" DIGITS "e\\n", d);',
+        'directives differ at argument 0: "%.3e" and "%.4e"',
+    ),
+    (
+        'printf("%.6lf: %05d\\n", d, n);',
+        'printf("%f: %.5d\\n", d, n);',
+        'different: "%.6lf: %05d\\n" and "%f: %.5d\\n" print "%f: -0001\\n" and "%f: -00001\\n" for any, -1',
+    ),
     ('printf("%i %.6f\\n", n, d);', 'printf("%d %f\\n", n, d);', 'same: "%i %.6f\\n" and "%d %f\\n"'),
     ('printf("%*d\\n", 5, n);', 'printf("%d%d\\n", 5, n);', 'directives differ at argument 0: "%*d" and "%d"'),
 ]
@@ -84,16 +103,35 @@ class Tool:
         self.work = Path(work)
         self.words = [sys.executable, "-m", "fmtcanon.diff"]
         self.environment = {
-            **os.environ, "FMTCANON_LIBRARY": str(folder / SONAME), "FMTCANON_PROGRAM": program, "PYTHONPATH": str(TOP / "python"),
-            "PYTHONDONTWRITEBYTECODE": "1", "GIT_CONFIG_GLOBAL": os.devnull, "GIT_CONFIG_SYSTEM": os.devnull, "GIT_CEILING_DIRECTORIES": str(self.work.parent),
-            "GIT_AUTHOR_NAME": "a", "GIT_AUTHOR_EMAIL": "a@b", "GIT_COMMITTER_NAME": "a", "GIT_COMMITTER_EMAIL": "a@b",
+            **os.environ,
+            "FMTCANON_LIBRARY": str(folder / SONAME),
+            "FMTCANON_PROGRAM": program,
+            "PYTHONPATH": str(TOP / "python"),
+            "PYTHONDONTWRITEBYTECODE": "1",
+            "GIT_CONFIG_GLOBAL": os.devnull,
+            "GIT_CONFIG_SYSTEM": os.devnull,
+            "GIT_CEILING_DIRECTORIES": str(self.work.parent),
+            "GIT_AUTHOR_NAME": "a",
+            "GIT_AUTHOR_EMAIL": "a@b",
+            "GIT_COMMITTER_NAME": "a",
+            "GIT_COMMITTER_EMAIL": "a@b",
         }
 
     def run(self, *words, where=".", **names):
         done = subprocess.run(
-            [*self.words, *words], cwd=self.work / where, env={**self.environment, **names}, timeout=10 * TIMEOUT, check=False, stdin=subprocess.DEVNULL, capture_output=True
+            [*self.words, *words],
+            cwd=self.work / where,
+            env={**self.environment, **names},
+            timeout=10 * TIMEOUT,
+            check=False,
+            stdin=subprocess.DEVNULL,
+            capture_output=True,
         )
-        return done.returncode, done.stdout.decode(errors="surrogateescape"), done.stderr.decode(errors="surrogateescape")
+        return (
+            done.returncode,
+            done.stdout.decode(errors="surrogateescape"),
+            done.stderr.decode(errors="surrogateescape"),
+        )
 
     def put(self, name, text):
         file = self.work / name
@@ -102,7 +140,9 @@ class Tool:
         return file
 
     def git(self, *words):
-        return subprocess.run(["git", *words], cwd=self.work, env=self.environment, check=True, timeout=TIMEOUT, stdout=subprocess.PIPE).stdout.decode()
+        return subprocess.run(
+            ["git", *words], cwd=self.work, env=self.environment, check=True, timeout=TIMEOUT, stdout=subprocess.PIPE
+        ).stdout.decode()
 
 
 def program_of(body):
@@ -126,13 +166,25 @@ def try_changes(tool, trials):
     status, output, _ = tool.run("--verbose", "--output", "json", "old", "new")
     found = [json.loads(line) for line in output.splitlines()]
     trials.expect("the status of all changes", status, 1)
-    trials.expect("keys of a finding", [one for one in found if not {"file", "line", "column", "kind", "level", "message", "models", "old", "new"} <= set(one)], [])
+    trials.expect(
+        "keys of a finding",
+        [
+            one
+            for one in found
+            if not {"file", "line", "column", "kind", "level", "message", "models", "old", "new"} <= set(one)
+        ],
+        [],
+    )
     for number, (name, old, new, wanted) in enumerate(changes.CHANGES):
         kinds = ["words" if one.get("words") else one["kind"] for one in found if one["file"] == f"new/{number:02}.c"]
         trials.expect(f"{name}: {old!r} and {new!r}", kinds, wanted)
         if wanted in (changes.DIFFERENT, changes.WORDS) and isinstance(old, str):
             outputs = [printed(tool.work, program_of(one)) for one in (old, new)]
-            trials.expect(f"{name}: what is printed: {outputs}", outputs[0] != outputs[1] and b"error" not in b"".join(outputs), True)
+            trials.expect(
+                f"{name}: what is printed: {outputs}",
+                outputs[0] != outputs[1] and b"error" not in b"".join(outputs),
+                True,
+            )
         if wanted == changes.SAME and isinstance(old, str):
             trials.expect(f"{name}: what is printed", *[printed(tool.work, program_of(one)) for one in (old, new)])
 
@@ -145,25 +197,44 @@ def try_lines(tool, trials):
     tool.put("new/text.txt", 'f("a");')
     plain = "".join(line for line in LINES.splitlines(keepends=True) if ": same: " not in line)
     for words, file, lines, more in [
-        (["old/src/a.c", "new/src/a.c"], "new/src/a.c", plain, 0), (["--verbose", "old/src/a.c", "new/src/a.c"], "new/src/a.c", LINES, 0),
-        (["old", "new"], "new/src/a.c", plain, 1), (["--model=all", "old", "new/"], "new/src/a.c", plain, 1), (["--jobs", "1", "--", "old", "new"], "new/src/a.c", plain, 1),
+        (["old/src/a.c", "new/src/a.c"], "new/src/a.c", plain, 0),
+        (["--verbose", "old/src/a.c", "new/src/a.c"], "new/src/a.c", LINES, 0),
+        (["old", "new"], "new/src/a.c", plain, 1),
+        (["--model=all", "old", "new/"], "new/src/a.c", plain, 1),
+        (["--jobs", "1", "--", "old", "new"], "new/src/a.c", plain, 1),
     ]:
         wanted = (1, lines.replace("FILE", file), SUMMARY.replace("1 went", f"{1 + more} went"))
         trials.expect(f"fmtcanon-diff {words}", tool.run(*words), wanted)
     trials.expect("two files that are equal", tool.run("old/src/a.c", "old/src/a.c"), (0, "", ""))
     status, output, _ = tool.run("--model", "lp64", "--verbose", "old", "new")
-    trials.expect("--model lp64", (status, 'new/src/a.c:4:12: same: "%td\\n" and "%ld\\n"\n' in output, "only" in output), (1, True, False))
+    trials.expect(
+        "--model lp64",
+        (status, 'new/src/a.c:4:12: same: "%td\\n" and "%ld\\n"\n' in output, "only" in output),
+        (1, True, False),
+    )
     tool.put("c.c", 'printf("%d\\n", x);')
     tool.put("d.c", 'printf("%i\\n", x);')
     trials.expect("what is the same", tool.run("c.c", "d.c")[:2], (0, ""))
     tool.put("d.c", 'printf("%d %y\\n", x);')
-    trials.expect("what isn't judged", tool.run("c.c", "d.c")[:2], (0, 'd.c:1:8: not judged: refused 3 Unexpected at byte 4 of "%d %y\\n"\n'))
+    trials.expect(
+        "what isn't judged",
+        tool.run("c.c", "d.c")[:2],
+        (0, 'd.c:1:8: not judged: refused 3 Unexpected at byte 4 of "%d %y\\n"\n'),
+    )
     status, output, _ = tool.run("--output", "sarif", "--verbose", "old", "new")
     log = json.loads(output)
     results = log["runs"][0]["results"]
-    trials.expect("the log of SARIF", (status, log["version"], [one["ruleId"] for one in results]), (1, "2.1.0", ["different", "types", "types", "different", "same", "unjudged"]))
+    trials.expect(
+        "the log of SARIF",
+        (status, log["version"], [one["ruleId"] for one in results]),
+        (1, "2.1.0", ["different", "types", "types", "different", "same", "unjudged"]),
+    )
     region = {"startLine": 6, "startColumn": 12, "endLine": 7, "endColumn": 18}
-    trials.expect("a region of it", results[4]["locations"][0]["physicalLocation"], {"artifactLocation": {"uri": "new/src/a.c"}, "region": region})
+    trials.expect(
+        "a region of it",
+        results[4]["locations"][0]["physicalLocation"],
+        {"artifactLocation": {"uri": "new/src/a.c"}, "region": region},
+    )
     status, output, _ = tool.run("--output", "github", "old", "new")
     wanted = "::error file=new/src/a.c,line=3,col=12,endColumn=25::types differ at argument 1: unsigned long and int"
     trials.expect("a command of GitHub", (status, wanted in output.splitlines()), (1, True))
@@ -181,22 +252,54 @@ def try_whole(tool, trials):
     found = [json.loads(line) for line in output.splitlines()]
     models = ["lp64", "ilp32", "llp64"]
     finding = {
-        "file": "new.c", "line": 3, "column": 12, "end_line": 3, "end_column": 22, "kind": "directives", "level": "error", "message": WHOLE[0][2], "models": models,
-        "old": "%d: %f\n", "new": "%d: %e\n", "function": "printf", "argument": 0, "verdicts": {it: "directives" for it in models},
+        "file": "new.c",
+        "line": 3,
+        "column": 12,
+        "end_line": 3,
+        "end_column": 22,
+        "kind": "directives",
+        "level": "error",
+        "message": WHOLE[0][2],
+        "models": models,
+        "old": "%d: %f\n",
+        "new": "%d: %e\n",
+        "function": "printf",
+        "argument": 0,
+        "verdicts": {it: "directives" for it in models},
         "specification": {"line": 3, "column": 17, "end_line": 3, "end_column": 19},
     }
     trials.expect("other directives as JSON", (status, found[:1]), (1, [finding]))
-    trials.expect("kinds as JSON", [one["kind"] for one in found], ["directives", "directives", "different", "directives"])
-    trials.expect("the text of a macro as JSON", (found[1]["old"], found[1]["new"], "specification" in found[1]), ("%.3e\n", "%.4e\n", False))
+    trials.expect(
+        "kinds as JSON", [one["kind"] for one in found], ["directives", "directives", "different", "directives"]
+    )
+    trials.expect(
+        "the text of a macro as JSON",
+        (found[1]["old"], found[1]["new"], "specification" in found[1]),
+        ("%.3e\n", "%.4e\n", False),
+    )
     status, output, _ = tool.run("--output", "sarif", "old.c", "new.c")
     [one] = json.loads(output)["runs"]
     result = one["results"][0]
-    trials.expect("other directives in SARIF", (status, result["ruleId"], result["level"], result["message"]), (1, "directives", "error", {"text": WHOLE[0][2]}))
-    trials.expect("the rule of other directives", one["tool"]["driver"]["rules"][result["ruleIndex"]]["id"], "directives")
+    trials.expect(
+        "other directives in SARIF",
+        (status, result["ruleId"], result["level"], result["message"]),
+        (1, "directives", "error", {"text": WHOLE[0][2]}),
+    )
+    trials.expect(
+        "the rule of other directives", one["tool"]["driver"]["rules"][result["ruleIndex"]]["id"], "directives"
+    )
     region = {"startLine": 3, "startColumn": 12, "endLine": 3, "endColumn": 22}
-    trials.expect("the place of other directives", result["locations"][0]["physicalLocation"], {"artifactLocation": {"uri": "new.c"}, "region": region})
+    trials.expect(
+        "the place of other directives",
+        result["locations"][0]["physicalLocation"],
+        {"artifactLocation": {"uri": "new.c"}, "region": region},
+    )
     status, output, _ = tool.run("--output", "github", "old.c", "new.c")
-    trials.expect("other directives for GitHub", (status, output.splitlines()[0]), (1, '::error file=new.c,line=3,col=12,endColumn=22::directives differ at argument 1: "%25f" and "%25e"'))
+    trials.expect(
+        "other directives for GitHub",
+        (status, output.splitlines()[0]),
+        (1, '::error file=new.c,line=3,col=12,endColumn=22::directives differ at argument 1: "%25f" and "%25e"'),
+    )
 
 
 def try_git(tool, trials):
@@ -223,8 +326,20 @@ def try_git(tool, trials):
     tool.git("mv", "b.c", "c.c")
     tool.put("c.c", 'printf("%d\\n", x);\n' * 8 + 'printf("%u\\n", x);\n')
     tool.git("commit", "-qam", "third")
-    renamed = (1, "c.c:9:8: types differ at argument 0: int and unsigned int\n", SUMMARY.replace("6 places", "1 place").replace("1 same, 2 different, 2", "0 same, 0 different, 1").replace("1 not", "0 not").replace("2 literals came, 1", "0 literals came, 0"))
-    for words in [["--git", "HEAD~1", "HEAD"], ["--git", "HEAD~1..HEAD"], ["--git", "HEAD~1"], ["--git", "HEAD~1", "--", "c.c", "b.c"]]:
+    renamed = (
+        1,
+        "c.c:9:8: types differ at argument 0: int and unsigned int\n",
+        SUMMARY.replace("6 places", "1 place")
+        .replace("1 same, 2 different, 2", "0 same, 0 different, 1")
+        .replace("1 not", "0 not")
+        .replace("2 literals came, 1", "0 literals came, 0"),
+    )
+    for words in [
+        ["--git", "HEAD~1", "HEAD"],
+        ["--git", "HEAD~1..HEAD"],
+        ["--git", "HEAD~1"],
+        ["--git", "HEAD~1", "--", "c.c", "b.c"],
+    ]:
         trials.expect(f"a file with another name: {words}", tool.run(*words), renamed)
     status, output, _ = tool.run("--git", "HEAD~2", "HEAD", "--output", "json")
     trials.expect("two commits", (status, len(output.splitlines())), (1, 6))
@@ -239,10 +354,23 @@ def try_git(tool, trials):
     trials.expect("many files", (status, output.splitlines()), (1, wanted))
     tool.git("checkout", "-q", "many")
     (tool.work / "c.c").unlink()
-    trials.expect("a file that went", tool.run("--git"), (0, "", "0 places changed: 0 same, 0 different, 0 with other types, 0 with other directives, 0 not judged; 0 literals came, 9 went\n"))
-    for words, said in [(["--git", "nowhere"], "git: there is no revision nowhere"), (["--git", "--", "../outside"], "git: ")]:
+    trials.expect(
+        "a file that went",
+        tool.run("--git"),
+        (
+            0,
+            "",
+            "0 places changed: 0 same, 0 different, 0 with other types, 0 with other directives, 0 not judged; 0 literals came, 9 went\n",
+        ),
+    )
+    for words, said in [
+        (["--git", "nowhere"], "git: there is no revision nowhere"),
+        (["--git", "--", "../outside"], "git: "),
+    ]:
         status, output, fault = tool.run(*words)
-        trials.expect(f"fmtcanon-diff {words}", (status, output, fault.startswith(f"fmtcanon-diff: {said}")), (2, "", True))
+        trials.expect(
+            f"fmtcanon-diff {words}", (status, output, fault.startswith(f"fmtcanon-diff: {said}")), (2, "", True)
+        )
 
 
 def try_faults(tool, trials):
@@ -251,20 +379,38 @@ def try_faults(tool, trials):
     tool.put("b.c", b'printf("%u", x);\0')
     tool.put("folder/a.c", 'printf("%u", x);')
     for words, said in [
-        (["a.c", "b.c"], "b.c: it is a binary file"), (["a.c", "nothing.c"], "nothing.c: No such file or directory"), (["a.c", "folder"], "a.c and folder: one is a folder, and the other is a file"),
+        (["a.c", "b.c"], "b.c: it is a binary file"),
+        (["a.c", "nothing.c"], "nothing.c: No such file or directory"),
+        (["a.c", "folder"], "a.c and folder: one is a folder, and the other is a file"),
     ]:
         status, output, fault = tool.run(*words)
-        trials.expect(f"fmtcanon-diff {words}", (status, output, fault.startswith(f"fmtcanon-diff: {said}"), fault.count("\n")), (2, "", True, 1))
+        trials.expect(
+            f"fmtcanon-diff {words}",
+            (status, output, fault.startswith(f"fmtcanon-diff: {said}"), fault.count("\n")),
+            (2, "", True, 1),
+        )
     found = tool.run("--git", PATH=str(tool.work))
     trials.expect("no git", found, (2, "", "fmtcanon-diff: git can't be run: No such file or directory\n"))
     for words, said in USAGE:
         status, output, fault = tool.run(*words)
-        trials.expect(f"fmtcanon-diff {words}: {fault}", (status, output, fault.startswith("usage: fmtcanon-diff"), said in fault.splitlines()[-1]), (2, "", True, True))
+        trials.expect(
+            f"fmtcanon-diff {words}: {fault}",
+            (status, output, fault.startswith("usage: fmtcanon-diff"), said in fault.splitlines()[-1]),
+            (2, "", True, True),
+        )
     status, output, fault = tool.run("-h")
-    trials.expect("fmtcanon-diff -h", (status, output.startswith("usage: fmtcanon-diff [OPTION]... OLD NEW"), fault), (0, True, ""))
+    trials.expect(
+        "fmtcanon-diff -h",
+        (status, output.startswith("usage: fmtcanon-diff [OPTION]... OLD NEW"), fault),
+        (0, True, ""),
+    )
     trials.expect("fmtcanon-diff --version", tool.run("--version"), (0, f"fmtcanon {VERSION}\n", ""))
     status, output, fault = tool.run("a.c", "folder/a.c", FMTCANON_LIBRARY="nowhere")
-    trials.expect("no library", (status, output, fault.startswith("fmtcanon-diff: the library of fmtcanon isn't there: ")), (2, "", True))
+    trials.expect(
+        "no library",
+        (status, output, fault.startswith("fmtcanon-diff: the library of fmtcanon isn't there: ")),
+        (2, "", True),
+    )
     found = tool.run("a.c", "folder/a.c", FMTCANON_PROGRAM="nowhere")
     trials.expect("no program", found[:2], (1, "folder/a.c:1:8: types differ at argument 0: int and unsigned int\n"))
     # One file that can't be read doesn't hide what is found in another.
@@ -273,11 +419,21 @@ def try_faults(tool, trials):
     tool.put("new/a.c", 'printf("%u", x);')
     tool.put("new/b.c", "\0")
     status, output, fault = tool.run("old", "new")
-    trials.expect("a binary file in a folder", (status, output, fault.splitlines()[0]), (2, "new/a.c:1:8: types differ at argument 0: int and unsigned int\n", "fmtcanon-diff: new/b.c: it is a binary file"))
+    trials.expect(
+        "a binary file in a folder",
+        (status, output, fault.splitlines()[0]),
+        (
+            2,
+            "new/a.c:1:8: types differ at argument 0: int and unsigned int\n",
+            "fmtcanon-diff: new/b.c: it is a binary file",
+        ),
+    )
     # Root may read any file, except through a link that leads in a circle.
     (tool.work / "circle.c").symlink_to("circle.c")
     status, output, fault = tool.run("a.c", "circle.c")
-    trials.expect("a file that can't be read", (status, output, fault.startswith("fmtcanon-diff: circle.c: ")), (2, "", True))
+    trials.expect(
+        "a file that can't be read", (status, output, fault.startswith("fmtcanon-diff: circle.c: ")), (2, "", True)
+    )
 
 
 def try_document(tool, trials):
@@ -285,13 +441,25 @@ def try_document(tool, trials):
     script = f"fmtcanon-diff() {{ '{sys.executable}' -m fmtcanon.diff \"$@\"; }}\n"
     for command, output in examples(TOP / "docs/REFACTORING.md", "What a change does"):
         words = ["bash", "-c", script + command]
-        done = subprocess.run(words, cwd=tool.work, env=tool.environment, check=False, stdout=subprocess.PIPE, stderr=subprocess.STDOUT, timeout=TIMEOUT)
+        done = subprocess.run(
+            words,
+            cwd=tool.work,
+            env=tool.environment,
+            check=False,
+            stdout=subprocess.PIPE,
+            stderr=subprocess.STDOUT,
+            timeout=TIMEOUT,
+        )
         trials.expect(f"docs/REFACTORING.md: {command}", done.stdout.decode(), "".join(f"{line}\n" for line in output))
 
 
 def try_no_repository(tool, trials):
     status, output, fault = tool.run("--git")
-    trials.expect("no repository", (status, output, fault.startswith("fmtcanon-diff: git: not a git repository"), fault.count("\n")), (2, "", True, 1))
+    trials.expect(
+        "no repository",
+        (status, output, fault.startswith("fmtcanon-diff: git: not a git repository"), fault.count("\n")),
+        (2, "", True, 1),
+    )
 
 
 def try_diffing(program, folder, trials):
@@ -313,7 +481,9 @@ def timed(tool, *words):
 
 
 def string_pairs(count):
-    """Yields pairs that print another number of bytes of a string, next to directives that are spelled in several ways, with the kinds of the arguments."""
+    """Yields pairs that print another number of bytes of a string, next to directives that are spelled in several ways,
+    with the kinds of the arguments.
+    """
     chosen = random.Random(62)
     for _ in range(count):
         parts = [*(part(chosen) for _ in range(chosen.randrange(3))), opaque(chosen)]
@@ -324,7 +494,9 @@ def string_pairs(count):
 
 
 def try_pairs(program, folder, argument_of, trials):
-    """Pairs of the whole language have the verdict that they are made for; for the shortened arguments gcc's program prints other bytes."""
+    """Pairs of the whole language have the verdict that they are made for; for the shortened arguments gcc's program
+    prints other bytes.
+    """
     from fmtcanon import Model
     from fmtcanon.verdicts import Library, shortened
 
@@ -357,20 +529,31 @@ def try_times(program, folder, trials):
     """A tree of a million lines with a thousand changed files, and lines of ten million bytes."""
     with tempfile.TemporaryDirectory() as work:
         tool = Tool(program, folder, os.path.realpath(work))
-        body = "".join(f'    if (x > {n}) printf("line %d of {n}: %s\\n", x + {n}, "text"); /* a comment */\n' for n in range(LINES_OF_FILE - 2))
+        body = "".join(
+            f'    if (x > {n}) printf("line %d of {n}: %s\\n", x + {n}, "text"); /* a comment */\n'
+            for n in range(LINES_OF_FILE - 2)
+        )
         for number in range(FILES):
             tool.put(f"old/{number}.c", f"void f(int x) {{\n{body}}}\n")
             tool.put(f"new/{number}.c", f"void f(int x) {{\n{body}}}\n".replace("%d of 500:", "%5d of 500:"))
         (status, output, _), seconds, of_processors = timed(tool, "old", "new")
-        print(f"{FILES * LINES_OF_FILE} lines with {FILES} changed files: {seconds:.1f} s, {of_processors:.1f} s of processors")
+        print(
+            f"{FILES * LINES_OF_FILE} lines with {FILES} changed files: {seconds:.1f} s, {of_processors:.1f} s of processors"
+        )
         trials.expect("a tree", (status, len(output.splitlines())), (1, FILES))
         trials.expect(f"a tree in {TREE_SECONDS} seconds", seconds < TREE_SECONDS, True)
         for name, unit in [("one literal", "x%d"), ("words", "a b c ")]:
             for side, more in [("old.c", "%05d"), ("new.c", "%.5d")]:
                 tool.put(side, f'f("{unit * (LONG_LINE // len(unit))}{more}");')
             (status, output, _), seconds, _ = timed(tool, "old.c", "new.c")
-            trials.expect(f"a line of 10 MB, {name}: {output[:300]}", (status, output.startswith("new.c:1:3: "), len(output) < 400), (1, True, True))
-            trials.expect(f"a line of 10 MB, {name}, in {LINE_SECONDS} seconds: {seconds:.1f}", seconds < LINE_SECONDS, True)
+            trials.expect(
+                f"a line of 10 MB, {name}: {output[:300]}",
+                (status, output.startswith("new.c:1:3: "), len(output) < 400),
+                (1, True, True),
+            )
+            trials.expect(
+                f"a line of 10 MB, {name}, in {LINE_SECONDS} seconds: {seconds:.1f}", seconds < LINE_SECONDS, True
+            )
         calls = 'f("%d", 1); ' * (LONG_LINE // 12)
         tool.put("old.c", calls + 'f("%05d", 1);' + calls[: LONG_LINE // 3])
         tool.put("new.c", calls + 'f("%.5d", 1);' + calls[: LONG_LINE // 3])

@@ -1,5 +1,6 @@
 #!/usr/bin/env python3
-"""Checks the documents against the code: their names, paths, callers, numbers, words and versions, and the map; and that definitions have distinct names.
+"""Checks the documents against the code: their names, paths, callers, numbers, words and versions, and the map; and
+that definitions have distinct names.
 
 Usage: tests/documents.py
 
@@ -37,21 +38,41 @@ from words import pages, try_words  # noqa: E402
 MODEL_COMMANDS = ["canon", "same", "format", "show", "stream", "types"]
 # Names in the documents that are none of this repository's: of C and its library, of other tools and of the kit, and
 # placeholders.
-FOREIGN_NAMES = set("""
+FOREIGN_NAMES = set(
+    """
     cents errno intmax_t ptrdiff_t strerror uintmax_t I64
     xargs git sort msgfmt pipefail SOURCE_DATE_EPOCH fix plant PKG_CONFIG_PATH PYTHONPATH ldconfig pkg config cflags libs pkgconfig sudo iconv
     axiom axioms
     AllocFailed WHAT logic dac8208d650f15bf ed8637e01fc3206ec782c5daf8d913b1fcd4ddf4efb850537416d13256281534 the_type write_all
     NAME PATH allow holes lemma is_left_justified expect assert_eq tidy XDG_CACHE_HOME
-""".split())
+""".split()
+)
 # Folders whose files are the code that names are looked up in.
-CODE = ["tests/*.py", "crates/*/src/**/*.rt", "crates/*/specs/**/*.antt", "crates/*/proofs/**/*.antt", "bench/**/*", "include/*", "python/**/*.py", "examples/*", "crates.txt", "Makefile", "HANDLES"]
+CODE = [
+    "tests/*.py",
+    "crates/*/src/**/*.rt",
+    "crates/*/specs/**/*.antt",
+    "crates/*/proofs/**/*.antt",
+    "bench/**/*",
+    "include/*",
+    "python/**/*.py",
+    "examples/*",
+    "crates.txt",
+    "Makefile",
+    "HANDLES",
+]
 
 
 def data_rows(name):
-    """The rows of a file of tests/rows: lines of JSON after the one that says where they come from, or a text's lines."""
+    """The rows of a file of tests/rows: lines of JSON after the one that says where they come from, or a text's
+    lines.
+    """
     lines = (TOP / "tests/rows" / name).read_text(encoding="utf-8").splitlines()
-    return [json.loads(line) for line in lines[1:]] if name.endswith(".jsonl") else [line for line in lines if not line.startswith("#")]
+    return (
+        [json.loads(line) for line in lines[1:]]
+        if name.endswith(".jsonl")
+        else [line for line in lines if not line.startswith("#")]
+    )
 
 
 def data_count(name):
@@ -74,29 +95,60 @@ def pairs_of(count):
 
 
 def tested_counts():
-    """What the table of docs/VERIFICATION.md says is tested: patterns of its numbers, each with the numbers that the files give."""
+    """What the table of docs/VERIFICATION.md says is tested: patterns of its numbers, each with the numbers that the
+    files give.
+    """
     texts = data_count("grid.txt") + data_count("long.txt")
     shapes = data_count("shapes.txt")
     sizes = grid_sizes(True) + grid_sizes(False)
     yield r"(\d+) refusals \|", [data_count("refused.jsonl")]
-    yield r"for 16 shapes and (5) values, and by `b` for (\d+) shapes and (6) values \| (\d+) and (\d+) texts", [5, shapes, 6, 5 * texts, 6 * shapes]
-    yield r"other programs' test suites, and worked rows \| (\d+) and (\d+) \|", [data_count("vectors.txt"), data_count("numbers.txt")]
+    yield r"for 16 shapes and (5) values, and by `b` for (\d+) shapes and (6) values \| (\d+) and (\d+) texts", [
+        5,
+        shapes,
+        6,
+        5 * texts,
+        6 * shapes,
+    ]
+    yield r"other programs' test suites, and worked rows \| (\d+) and (\d+) \|", [
+        data_count("vectors.txt"),
+        data_count("numbers.txt"),
+    ]
     yield r"for up to (\d+) numbers \| (\d+) \|", [numbers_of_int(), data_count("reductions.jsonl")]
-    yield r"rows of whole formats \| (\d+) and (\d+) \|", [data_count("canonical_formats.jsonl"), data_count("formats.jsonl")]
+    yield r"rows of whole formats \| (\d+) and (\d+) \|", [
+        data_count("canonical_formats.jsonl"),
+        data_count("formats.jsonl"),
+    ]
     commands = [row["words"][0] for row in model_rows()]
     for command in MODEL_COMMANDS:
         yield rf"(\d+) of `{command}`", [commands.count(command)]
-    yield r"every 2 of (\d+) of int and of (\d+) of other types.* (\d+) pairs", [sum(grid_sizes(True)), sum(grid_sizes(False)), sum(map(pairs_of, sizes))]
-    yield r"every 2 of (\d+) formats, and pairs of a model \| (\d+) pairs", [data_count("canonical_pairs.jsonl"), data_count("verdicts.jsonl")]
+    yield r"every 2 of (\d+) of int and of (\d+) of other types.* (\d+) pairs", [
+        sum(grid_sizes(True)),
+        sum(grid_sizes(False)),
+        sum(map(pairs_of, sizes)),
+    ]
+    yield r"every 2 of (\d+) formats, and pairs of a model \| (\d+) pairs", [
+        data_count("canonical_pairs.jsonl"),
+        data_count("verdicts.jsonl"),
+    ]
     yield r"help and (\d+) errors", [sum("error:" in text for _, text in usage_texts())]
     given = data_rows("literals.jsonl")
     yield r"rows, (\d+) of them of a model \| (\d+) \|", [len(given) - HAND_LITERALS, len(given)]
-    yield r"(\d+) of them random; the literals of texts \| (\d+) sources, (\d+) texts", [literals.COUNT, sum(1 for _ in literals.sources()), sum(1 for _ in literals.texts())]
+    yield r"(\d+) of them random; the literals of texts \| (\d+) sources, (\d+) texts", [
+        literals.COUNT,
+        sum(1 for _ in literals.sources()),
+        sum(1 for _ in literals.texts()),
+    ]
     whole = data_rows("whole.jsonl")
     formats = [len(whole) - HAND_WHOLE, len(whole_types.SILENT), len(whole), sum(1 for _ in whole_types.formats())]
     yield r"rows, (\d+) of them of a model; formats compared with gcc, which accepts (\d+) pairs silently.* (\d+) rows, (\d+) formats", formats
     given = data_rows("opaque.jsonl")
-    yield r"rows, (\d+) of them of a model; pairs that .* for (\d+) lists of arguments \| (\d+) rows, (\d+) and (\d+) pairs", [len(given) - HAND_OPAQUE, opaque.LISTS, len(given), opaque.PAIRS, opaque.UNLIKE]
+    yield r"rows, (\d+) of them of a model; pairs that .* for (\d+) lists of arguments \| (\d+) rows, (\d+) and (\d+) pairs", [
+        len(given) - HAND_OPAQUE,
+        opaque.LISTS,
+        len(given),
+        opaque.PAIRS,
+        opaque.UNLIKE,
+    ]
     yield r"a regular expression \| (\d+) formats", [whole_types.RANDOM]
     yield from limits()
     given = data_rows("records.jsonl")
@@ -104,7 +156,10 @@ def tested_counts():
     yield r"(\d+) ways to fail take turns", [len(short_streams.STEPS) * len(short_streams.FAULTS)]
     yield r"what gcc's programs print \| (\d+) \|", [len(changes.CHANGES)]
     left = {name for name, _, _ in replacing.LEFT}
-    yield r"programs that would print something else, (\d+) of which it can't see \| (\d+) \|", [len(replacing.NOT_SEEN), len(left) + len(replacing.NOT_SEEN)]
+    yield r"programs that would print something else, (\d+) of which it can't see \| (\d+) \|", [
+        len(replacing.NOT_SEEN),
+        len(left) + len(replacing.NOT_SEEN),
+    ]
 
 
 def limits():
@@ -112,15 +167,27 @@ def limits():
     yield r"resident size over (\d+) and over (\d+) records", [memory.MANY, memory.FEW]
     large = sum(count == sizes.LARGE for _, count, _ in sizes.CALLS)
     yield r"(\d+) directives, (\d+) arguments, and texts of (\d+) million bytes through (\d+) C calls, each within (\d+) times", [
-        sizes.DIRECTIVES, sizes.ARGUMENTS, 2 * sizes.LARGE // 1_000_000, large, sizes.TIMES
+        sizes.DIRECTIVES,
+        sizes.ARGUMENTS,
+        2 * sizes.LARGE // 1_000_000,
+        large,
+        sizes.TIMES,
     ]
     calls, runs = {name for name, _, _ in sizes.CALLS}, list(linear.runs(1))
     growth = [linear.SIZES[1] // linear.SIZES[0], linear.PERCENT // 10]
     yield r"of (\d+) runs of C calls and (\d+) runs of the program, over (\d+) and (\d+) items, grow at most (\d+)\.(\d+) times \| (\d+) runs", [
-        len(calls), len(runs), *linear.SIZES, *growth, len(calls) + len(runs)
+        len(calls),
+        len(runs),
+        *linear.SIZES,
+        *growth,
+        len(calls) + len(runs),
     ]
     _, pairs, _, sizes_of_room = library.OUTCOMES
-    yield r"with (\d+) pairs of texts and (\d+) sizes of room, .* (\d+) calls", [pairs, sizes_of_room, math.prod(library.OUTCOMES)]
+    yield r"with (\d+) pairs of texts and (\d+) sizes of room, .* (\d+) calls", [
+        pairs,
+        sizes_of_room,
+        math.prod(library.OUTCOMES),
+    ]
 
 
 # The rows that were worked out by hand, which come first.
@@ -129,8 +196,21 @@ HAND_LITERALS = 27
 HAND_WHOLE = 44
 HAND_OPAQUE = 11
 # Numbers of that table that these scripts don't have.
-PLAIN_NUMBERS = [r"16 shapes", r"a record of 100 million bytes", r"\| \d+ runs and comparisons", r"take turns \| \d+ runs", r"every 2 of", r"spells in 2 ways", r"`parse_printf_format`"]
-NUMBER_WORDS = dict(zip("two three four five six seven eight nine ten eleven twelve thirteen fourteen fifteen sixteen seventeen eighteen".split(), range(2, 19)))
+PLAIN_NUMBERS = [
+    r"16 shapes",
+    r"a record of 100 million bytes",
+    r"\| \d+ runs and comparisons",
+    r"take turns \| \d+ runs",
+    r"every 2 of",
+    r"spells in 2 ways",
+    r"`parse_printf_format`",
+]
+NUMBER_WORDS = dict(
+    zip(
+        "two three four five six seven eight nine ten eleven twelve thirteen fourteen fifteen sixteen seventeen eighteen".split(),
+        range(2, 19),
+    )
+)
 
 
 def with_digits(text):
@@ -151,7 +231,11 @@ def try_numbers(trials):
     for pattern in PLAIN_NUMBERS:
         for found in re.finditer(pattern, tested):
             checked.update(found.start() + number.start() for number in re.finditer(r"\d+", found.group()))
-    unchecked = [tested[max(0, number.start() - 20):number.end() + 20] for number in re.finditer(r"\d+", tested) if number.start() not in checked]
+    unchecked = [
+        tested[max(0, number.start() - 20) : number.end() + 20]
+        for number in re.finditer(r"\d+", tested)
+        if number.start() not in checked
+    ]
     trials.expect("numbers of that part of docs/VERIFICATION.md that nothing checks", unchecked, [])
     try_sizes(trials)
     contributing = (TOP / "docs/CONTRIBUTING.md").read_text(encoding="utf-8")
@@ -160,7 +244,9 @@ def try_numbers(trials):
         sources = (TOP / "crates" / crate / "src").rglob("*.rt")
         tests = sum(source.read_text(encoding="utf-8").count("#[test]\n") for source in sources)
         mutants = len(mutant_files.pairs_in(TOP / "crates" / crate))
-        trials.expect(f"tests and mutants of {crate} in CONTRIBUTING.md", found and found.groups(), (str(tests), str(mutants)))
+        trials.expect(
+            f"tests and mutants of {crate} in CONTRIBUTING.md", found and found.groups(), (str(tests), str(mutants))
+        )
     try_mutant(trials, contributing)
 
 
@@ -173,13 +259,27 @@ def lines_of(pattern, without="/uses/src/tests"):
 def try_sizes(trials):
     """The numbers of callers, of functions of C and of lines in docs/VERIFICATION.md; those of lines within a tenth."""
     text = with_digits((TOP / "docs/VERIFICATION.md").read_text(encoding="utf-8"))
-    callers = [name for path in (TOP / "crates/uses/src").glob("*.rt") for name in re.findall(r"^pub fn (\w+)", path.read_text(encoding="utf-8"), re.MULTILINE)]
-    wrappers = re.findall(r"^WITH_OPTIONAL_ERROR\(", (TOP / "library/optional_error.c").read_text(encoding="utf-8"), re.MULTILINE)
+    callers = [
+        name
+        for path in (TOP / "crates/uses/src").glob("*.rt")
+        for name in re.findall(r"^pub fn (\w+)", path.read_text(encoding="utf-8"), re.MULTILINE)
+    ]
+    wrappers = re.findall(
+        r"^WITH_OPTIONAL_ERROR\(", (TOP / "library/optional_error.c").read_text(encoding="utf-8"), re.MULTILINE
+    )
     for pattern, count in [(r"has (\d+) callers", len(callers)), (r"the (\d+) C functions of", len(wrappers))]:
         found = re.search(pattern, text)
         trials.expect(f"docs/VERIFICATION.md: {pattern}", found and int(found.group(1)), count)
-    tests = lines_of("crates/uses/src/tests/**/*.rt", "no such file") + lines_of("crates/uses/src/tests.rt", "no such file")
-    counts = [lines_of("crates/*/src/**/*.rt"), lines_of("crates/*/specs/**/*.antt"), lines_of("crates/*/proofs/**/*.antt"), lines_of("python/fmtcanon/**/*.py"), tests]
+    tests = lines_of("crates/uses/src/tests/**/*.rt", "no such file") + lines_of(
+        "crates/uses/src/tests.rt", "no such file"
+    )
+    counts = [
+        lines_of("crates/*/src/**/*.rt"),
+        lines_of("crates/*/specs/**/*.antt"),
+        lines_of("crates/*/proofs/**/*.antt"),
+        lines_of("python/fmtcanon/**/*.py"),
+        tests,
+    ]
     pattern = r"About (\d+) lines of Rattle with their contracts, (\d+) lines of definitions, (\d+) lines of proofs, (\d+) lines of Python, and (\d+) lines of tests"
     found = re.search(pattern, text)
     near = found and [abs(int(number) - count) * 10 <= count for number, count in zip(found.groups(), counts)]
@@ -187,11 +287,19 @@ def try_sizes(trials):
 
 
 def try_mutant(trials, contributing):
-    """The mutant that docs/CONTRIBUTING.md shows is one of the crate that it names, and its commands name that mutant."""
+    """The mutant that docs/CONTRIBUTING.md shows is one of the crate that it names, and its commands name that
+    mutant.
+    """
     [(crate, name)] = set(re.findall(r"^    python3 tests/mutants.py (\w+) +(\w+-[\w-]+) ", contributing, re.MULTILINE))
-    [block] = [it.group() for it in re.finditer(r"(?:^    \w+: .*\n|^\n)+", contributing, re.MULTILINE) if "    mutant: " in it.group()]
+    [block] = [
+        it.group()
+        for it in re.finditer(r"(?:^    \w+: .*\n|^\n)+", contributing, re.MULTILINE)
+        if "    mutant: " in it.group()
+    ]
     shown = mutant_files.read_pairs(re.sub(r"^    ", "", block, flags=re.MULTILINE))
-    trials.expect("the mutant of docs/CONTRIBUTING.md", shown, {name: mutant_files.pairs_in(TOP / "crates" / crate).get(name)})
+    trials.expect(
+        "the mutant of docs/CONTRIBUTING.md", shown, {name: mutant_files.pairs_in(TOP / "crates" / crate).get(name)}
+    )
 
 
 def documents():
@@ -233,8 +341,16 @@ def try_names(trials):
         names |= {name for name in re.findall(r"\b[A-Za-z_]\w\w+", blocks) if re.search(r"_|[a-z][A-Z]", name)}
         foreign -= names
         trials.expect(f"names of {document} that the code has not", sorted(names - known), [])
-        named = {span.rstrip("/") for span in spans if re.fullmatch(r"\.?[\w-]+(/[\w.+-]+)+/?|[\w-]+\.(rt|antt|md|py|c|txt|jsonl)", span)}
-        missing = [span for span in named if "/out/" not in f"/{span}" and not any(path.endswith("/" + span) for _, path in paths)]
+        named = {
+            span.rstrip("/")
+            for span in spans
+            if re.fullmatch(r"\.?[\w-]+(/[\w.+-]+)+/?|[\w-]+\.(rt|antt|md|py|c|txt|jsonl)", span)
+        }
+        missing = [
+            span
+            for span in named
+            if "/out/" not in f"/{span}" and not any(path.endswith("/" + span) for _, path in paths)
+        ]
         trials.expect(f"paths of {document} that are not there", sorted(missing), [])
     trials.expect("foreign names that no document has", sorted(foreign), [])
 
@@ -242,7 +358,10 @@ def try_names(trials):
 def try_links(trials):
     """Each link from a document to a file leads to one."""
     for document, text in documents():
-        links = re.findall(r"\]\(([^)#:\s]+)(?:#[^)]*)?\)", re.sub(r"^(```.*?^```|    .*?)$|`[^`\n]*`", "", text, flags=re.DOTALL | re.MULTILINE))
+        links = re.findall(
+            r"\]\(([^)#:\s]+)(?:#[^)]*)?\)",
+            re.sub(r"^(```.*?^```|    .*?)$|`[^`\n]*`", "", text, flags=re.DOTALL | re.MULTILINE),
+        )
         missing = [link for link in links if not (TOP / document).parent.joinpath(link).exists()]
         trials.expect(f"links of {document} that lead nowhere", missing, [])
 
@@ -253,7 +372,11 @@ def try_contracts(trials):
         if page.parent.name != "fmtcanon":
             text = page.read_text(encoding="utf-8")
             sources = [path.read_text(encoding="utf-8") for path in page.parent.glob("src/**/*.rt")]
-            names = {name for source in sources for name in re.findall(r"^ *pub (?:const )?fn (\w+)", source, flags=re.MULTILINE)}
+            names = {
+                name
+                for source in sources
+                for name in re.findall(r"^ *pub (?:const )?fn (\w+)", source, flags=re.MULTILINE)
+            }
             missing = [name for name in names if not re.search(rf"\b{name}\b", text)]
             trials.expect(f"public functions that CALLING.md of {page.parent.name} lacks", sorted(missing), [])
 
@@ -275,7 +398,9 @@ def crate_rows():
         name, _, needs = line.partition(":")
         needs = needs.split()
         ours = [it for it in needs if (TOP / "crates" / it).is_dir()]
-        cells = [", ".join(f"`{it}`" for it in part) or "nothing" for part in (ours, [it for it in needs if it not in ours])]
+        cells = [
+            ", ".join(f"`{it}`" for it in part) or "nothing" for part in (ours, [it for it in needs if it not in ours])
+        ]
         yield f"| `{name.split()[0]}` | {cells[0]} | {cells[1]} |"
 
 
@@ -296,8 +421,16 @@ def try_edits(trials):
 def try_definitions(trials):
     """No name is defined in the specs/ of two crates, but for a few with a reason each."""
     found = definition_names.clashes()
-    trials.expect("names that definitions of two crates have", {name: found[name] for name in sorted(found.keys() - definition_names.EXCEPTIONS.keys())}, {})
-    trials.expect("exceptions of tests/definition_names.py that are none", sorted(definition_names.EXCEPTIONS.keys() - found.keys()), [])
+    trials.expect(
+        "names that definitions of two crates have",
+        {name: found[name] for name in sorted(found.keys() - definition_names.EXCEPTIONS.keys())},
+        {},
+    )
+    trials.expect(
+        "exceptions of tests/definition_names.py that are none",
+        sorted(definition_names.EXCEPTIONS.keys() - found.keys()),
+        [],
+    )
 
 
 def plain_code(text):

@@ -39,9 +39,12 @@ class Trials:
 def main(text, try_all):
     """Runs a script that `text` describes: calls `try_all` with a count, and exits with 1 if a check failed.
 
-    The command line gives the program and the folder of the C library, if `try_all` takes them. A parameter that is False is a flag.
+    The command line gives the program and the folder of the C library, if `try_all` takes them. A parameter that is
+    False is a flag.
     """
-    parser = argparse.ArgumentParser(usage=argparse.SUPPRESS, description=text, formatter_class=argparse.RawDescriptionHelpFormatter)
+    parser = argparse.ArgumentParser(
+        usage=argparse.SUPPRESS, description=text, formatter_class=argparse.RawDescriptionHelpFormatter
+    )
     for name, parameter in inspect.signature(try_all).parameters.items():
         if parameter.default is False:
             parser.add_argument(f"--{name}", action="store_true", help=argparse.SUPPRESS)
@@ -74,7 +77,9 @@ def section(document, heading):
 
 
 def examples(document, heading=None):
-    """The commands in indented blocks of a document, or of its part below a heading: each a line that begins with '$ ', with the lines that follow it."""
+    """The commands in indented blocks of a document, or of its part below a heading: each a line that begins with '$ ',
+    with the lines that follow it.
+    """
     command, output = None, []
     text = section(document, heading) if heading else document.read_text(encoding="utf-8")
     for line in text.splitlines() + [""]:
@@ -90,10 +95,14 @@ def examples(document, heading=None):
 
 
 def page_examples(page):
-    """The commands in the EXAMPLES of a manual page, each a line that begins with '$ ', with the lines that follow it."""
+    """The commands in the EXAMPLES of a manual page, each a line that begins with '$ ', with the lines that follow
+    it.
+    """
     text = page.read_text(encoding="utf-8")
     block = re.search(r"^\.SH EXAMPLES\n\.EX\n(.*?)^\.EE$", text, flags=re.DOTALL | re.MULTILINE).group(1)
-    for example in re.split(r"^\$ ", block.replace("\\(aq", "'").replace("\\-", "-").replace("\\e", "\\"), flags=re.MULTILINE)[1:]:
+    for example in re.split(
+        r"^\$ ", block.replace("\\(aq", "'").replace("\\-", "-").replace("\\e", "\\"), flags=re.MULTILINE
+    )[1:]:
         command, _, output = example.partition("\n")
         yield command, output.splitlines()
 

@@ -54,8 +54,18 @@ INSTALLED = {
 PLACES = ["PREFIX=/usr", "PYTHONDIR=/usr/lib/python3/dist-packages"]
 # Folders that can't be passed through a shell, or that would be below the current one.
 REFUSED = [
-    "PREFIX=/opt/my tools", "PREFIX=opt", "PREFIX=", "PREFIX=/it's", "PREFIX=/$$(touch hacked)", "PREFIX=/a;b", "PREFIX=/opt/../etc",
-    "DESTDIR=stage", "DESTDIR=/tmp/my stage", "BINDIR=bin", "PYTHONDIR=/my modules", "DOCDIR=/a&b",
+    "PREFIX=/opt/my tools",
+    "PREFIX=opt",
+    "PREFIX=",
+    "PREFIX=/it's",
+    "PREFIX=/$$(touch hacked)",
+    "PREFIX=/a;b",
+    "PREFIX=/opt/../etc",
+    "DESTDIR=stage",
+    "DESTDIR=/tmp/my stage",
+    "BINDIR=bin",
+    "PYTHONDIR=/my modules",
+    "DOCDIR=/a&b",
 ]
 # The sections that each manual page has.
 SECTIONS = {
@@ -63,7 +73,21 @@ SECTIONS = {
     ".3": ["NAME", "LIBRARY", "SYNOPSIS", "DESCRIPTION", "RETURN VALUE", "ATTRIBUTES", "EXAMPLES", "BUGS", "SEE ALSO"],
 }
 # What an archive is made of.
-TREE = ["include", "man", "packaging", "completions", "examples", "docs", "python", "LICENSE", "README.md", "CHANGELOG.md", "SECURITY.md", "VERSION", "Makefile"]
+TREE = [
+    "include",
+    "man",
+    "packaging",
+    "completions",
+    "examples",
+    "docs",
+    "python",
+    "LICENSE",
+    "README.md",
+    "CHANGELOG.md",
+    "SECURITY.md",
+    "VERSION",
+    "Makefile",
+]
 # Who makes the packages of these trials.
 MAINTAINER = "MAINTAINER=A Tester <tester@example.org>"
 BUILT = ["crates/fmtcanon/out/fmtcanon", "out/c/libfmtcanon.a", f"out/c/libfmtcanon.so.{VERSION}"]
@@ -97,11 +121,21 @@ def wanted_files():
 
 def make(words, folder=TOP, path=None):
     # A make above says through these that it prints the folders that it enters.
-    environment = {name: value for name, value in os.environ.items() if name not in ("MAKEFLAGS", "MAKELEVEL", "MFLAGS", "MAINTAINER")}
+    environment = {
+        name: value
+        for name, value in os.environ.items()
+        if name not in ("MAKEFLAGS", "MAKELEVEL", "MFLAGS", "MAINTAINER")
+    }
     environment["PATH"] = path or os.environ["PATH"]
     done = subprocess.run(
-        ["make", "-s", *words], cwd=folder, env=environment, timeout=TIMEOUT, check=False, stdin=subprocess.DEVNULL,
-        stdout=subprocess.PIPE, stderr=subprocess.STDOUT,
+        ["make", "-s", *words],
+        cwd=folder,
+        env=environment,
+        timeout=TIMEOUT,
+        check=False,
+        stdin=subprocess.DEVNULL,
+        stdout=subprocess.PIPE,
+        stderr=subprocess.STDOUT,
     )
     return done.returncode, done.stdout.decode()
 
@@ -125,8 +159,12 @@ def try_install(work, trials):
     trials.expect("the installation builds nothing", (work / "built").exists(), False)
     text = (prefix / "lib/pkgconfig/fmtcanon.pc").read_text()
     variables = dict(re.findall(r"^(\w+)=(.*)$", text, flags=re.MULTILINE))
-    trials.expect("folders of fmtcanon.pc", variables, {"prefix": "/usr", "libdir": "/usr/lib", "includedir": "/usr/include"})
-    trials.expect("the library of the module", (prefix / MODULE / SONAME).resolve(), prefix / f"lib/libfmtcanon.so.{VERSION}")
+    trials.expect(
+        "folders of fmtcanon.pc", variables, {"prefix": "/usr", "libdir": "/usr/lib", "includedir": "/usr/include"}
+    )
+    trials.expect(
+        "the library of the module", (prefix / MODULE / SONAME).resolve(), prefix / f"lib/libfmtcanon.so.{VERSION}"
+    )
     trials.expect("the program of the module", (prefix / MODULE / "program").resolve(), prefix / "bin/fmtcanon")
     files = [file.resolve() for file in map(prefix.joinpath, files_below(prefix))]
     modes = {oct(file.stat().st_mode & 0o777) for file in files if file.parent.name != "bin"}
@@ -158,9 +196,15 @@ def try_places(work, trials):
     before = sorted(tree.rglob("*"))
     for target in ["install", "uninstall"]:
         for word in REFUSED:
-            status, output = make([target, *([] if word.startswith("DESTDIR") else [f"DESTDIR={work}/fifth"]), word], folder=tree)
+            status, output = make(
+                [target, *([] if word.startswith("DESTDIR") else [f"DESTDIR={work}/fifth"]), word], folder=tree
+            )
             name = word[: word.index("=")]
-            trials.expect(f"make {target} {word}", (status != 0, output.startswith(f"{name}={word[len(name) + 1:].replace('$$', '$')}: the folder must")), (True, True))
+            trials.expect(
+                f"make {target} {word}",
+                (status != 0, output.startswith(f"{name}={word[len(name) + 1:].replace('$$', '$')}: the folder must")),
+                (True, True),
+            )
     trials.expect("nothing is made", (sorted(tree.rglob("*")) == before, (work / "fifth").exists()), (True, False))
 
 
@@ -169,7 +213,9 @@ def copy_tree(tree):
     tree.mkdir()
     for part in TREE:
         skip = shutil.ignore_patterns("__pycache__", ".mypy_cache")
-        (shutil.copytree if (TOP / part).is_dir() else shutil.copy)(TOP / part, tree / part, **({"ignore": skip} if (TOP / part).is_dir() else {}))
+        (shutil.copytree if (TOP / part).is_dir() else shutil.copy)(
+            TOP / part, tree / part, **({"ignore": skip} if (TOP / part).is_dir() else {})
+        )
     for part in BUILT:
         (tree / part).parent.mkdir(parents=True, exist_ok=True)
         shutil.copy(TOP / part, tree / part)
@@ -184,11 +230,18 @@ def spoil_tree(tree):
 
 def try_checksums(folder, trials):
     """SHA256SUMS names each package in a folder, with the checksum of its bytes."""
-    packages = sorted(path for pattern in ["*.tar.gz", "*.deb", "*.whl"] for path in folder.glob(pattern) if f"-{VERSION}-" in path.name.replace("_", "-"))
+    packages = sorted(
+        path
+        for pattern in ["*.tar.gz", "*.deb", "*.whl"]
+        for path in folder.glob(pattern)
+        if f"-{VERSION}-" in path.name.replace("_", "-")
+    )
     wanted = {f"{hashlib.sha256(path.read_bytes()).hexdigest()}  {path.name}" for path in packages}
     file = folder / "SHA256SUMS"
     found = set(file.read_text(encoding="utf-8").splitlines()) if file.exists() else set()
-    trials.expect(f"checksums of {[path.name for path in packages]}", (len(found) > 0, sorted(found)), (True, sorted(wanted)))
+    trials.expect(
+        f"checksums of {[path.name for path in packages]}", (len(found) > 0, sorted(found)), (True, sorted(wanted))
+    )
 
 
 def packages_of(work, target, pattern, trials):
@@ -207,7 +260,11 @@ def packages_of(work, target, pattern, trials):
 def try_same_archives(work, trials):
     for target, pattern in [("dist", "*.tar.gz"), ("wheel", "*.whl")]:
         first, second = packages_of(work, target, pattern, trials)
-        trials.expect(f"make {target} of files with other times and rights", (isinstance(first, bytes), first == second), (True, True))
+        trials.expect(
+            f"make {target} of files with other times and rights",
+            (isinstance(first, bytes), first == second),
+            (True, True),
+        )
 
 
 def try_shadows(work, trials):
@@ -218,11 +275,19 @@ def try_shadows(work, trials):
     for folder in [home / "bin", modules]:
         for name in ["os", "json", "re", "struct", "typing", "enum", "ctypes", "codecs"]:
             (folder / f"{name}.py").write_text("raise SystemExit('another module')\n")
-    environment = {name: value for name, value in os.environ.items() if name not in ("FMTCANON_LIBRARY", "FMTCANON_PROGRAM", "PYTHONPATH")}
+    environment = {
+        name: value
+        for name, value in os.environ.items()
+        if name not in ("FMTCANON_LIBRARY", "FMTCANON_PROGRAM", "PYTHONPATH")
+    }
     for name in COMMANDS:
         done = subprocess.run(
-            [home / "bin" / f"fmtcanon-{name}", "--help"], env={**environment, "PYTHONDONTWRITEBYTECODE": "1"}, check=False,
-            timeout=TIMEOUT, stdout=subprocess.PIPE, stderr=subprocess.PIPE,
+            [home / "bin" / f"fmtcanon-{name}", "--help"],
+            env={**environment, "PYTHONDONTWRITEBYTECODE": "1"},
+            check=False,
+            timeout=TIMEOUT,
+            stdout=subprocess.PIPE,
+            stderr=subprocess.PIPE,
         )
         trials.expect(f"fmtcanon-{name} with files of other names beside it", (done.returncode, done.stderr), (0, b""))
 
@@ -236,7 +301,11 @@ def try_no_binutils(work, trials):
     (tools / "python3").symlink_to(sys.executable)
     status, output = make(["wheel"], path=str(tools))
     wanted = "objdump is missing: the package binutils has it\n"
-    trials.expect("make wheel without objdump", (status != 0, output.startswith(wanted), "Traceback" in output), (True, True, False))
+    trials.expect(
+        "make wheel without objdump",
+        (status != 0, output.startswith(wanted), "Traceback" in output),
+        (True, True, False),
+    )
 
 
 def try_no_maintainer(trials):
@@ -255,7 +324,11 @@ def try_missing(work, trials):
     for part in ["VERSION", "Makefile"]:
         shutil.copy(TOP / part, tree)
     status, output = make(["install", f"DESTDIR={stage}", *PLACES], folder=tree)
-    trials.expect("make install of nothing", (status != 0, "crates/fmtcanon/out/fmtcanon is missing: make builds it" in output), (True, True))
+    trials.expect(
+        "make install of nothing",
+        (status != 0, "crates/fmtcanon/out/fmtcanon is missing: make builds it" in output),
+        (True, True),
+    )
     trials.expect("nothing is installed", stage.exists(), False)
 
 
@@ -268,7 +341,9 @@ def try_archive(work, trials):
         archive.extractall(work / "archive")
     folders = list((work / "archive").iterdir())
     stage = work / "fourth"
-    trials.expect("make install of the archive", make(["install", f"DESTDIR={stage}", *PLACES], folder=folders[0])[0], 0)
+    trials.expect(
+        "make install of the archive", make(["install", f"DESTDIR={stage}", *PLACES], folder=folders[0])[0], 0
+    )
     trials.expect("its files", sorted(files_below(stage / "usr") ^ wanted_files()), [])
     module = stage / "usr/lib/python3/dist-packages"
     environment = {**os.environ, "PYTHONPATH": str(module), "PYTHONDONTWRITEBYTECODE": "1"}
@@ -280,7 +355,11 @@ def try_archive(work, trials):
     for name in COMMANDS:
         words = [stage / "usr/bin" / f"fmtcanon-{name}", "--help"]
         done = subprocess.run(words, env=environment, check=False, timeout=TIMEOUT, stdout=subprocess.PIPE)
-        trials.expect(f"fmtcanon-{name} --help", (done.returncode, f"usage: fmtcanon-{name}".encode() in done.stdout.lower()), (0, True))
+        trials.expect(
+            f"fmtcanon-{name} --help",
+            (done.returncode, f"usage: fmtcanon-{name}".encode() in done.stdout.lower()),
+            (0, True),
+        )
 
 
 def try_page(trials):
@@ -293,7 +372,11 @@ def try_page(trials):
     trials.expect("names of fmtcanon.3", name.replace("\n", " ").split(", "), calls())
     trials.expect("calls of fmtcanon.3", re.findall(r"^\.TP\n\.B (fmtcanon_\w+)$", page, flags=re.MULTILINE), calls())
     constants = set(re.findall(r"FMTCANON_\w+", page))
-    trials.expect("constants of fmtcanon.3 that the header has not", sorted(constants - set(re.findall(r"\w+", HEADER.read_text()))), [])
+    trials.expect(
+        "constants of fmtcanon.3 that the header has not",
+        sorted(constants - set(re.findall(r"\w+", HEADER.read_text()))),
+        [],
+    )
     for page in (TOP / "man").iterdir():
         text = page.read_text(encoding="utf-8")
         missing = set(SECTIONS[page.suffix]) - set(re.findall(r"^\.SH (.*)$", text, flags=re.MULTILINE))
@@ -303,7 +386,14 @@ def try_page(trials):
 def options_of(name):
     """Returns the options that the help of a command lists, each with its argument."""
     environment = {**os.environ, "PYTHONPATH": str(TOP / "python"), "PYTHONDONTWRITEBYTECODE": "1"}
-    done = subprocess.run([sys.executable, "-m", f"fmtcanon.{name}", "--help"], env=environment, check=False, timeout=TIMEOUT, capture_output=True, encoding="utf-8")
+    done = subprocess.run(
+        [sys.executable, "-m", f"fmtcanon.{name}", "--help"],
+        env=environment,
+        check=False,
+        timeout=TIMEOUT,
+        capture_output=True,
+        encoding="utf-8",
+    )
     return re.findall(r"^  (?:-h, )?(--?[\w-]+(?: [A-Z:]+)?)(?:  +|$)", done.stdout, flags=re.MULTILINE)
 
 
@@ -312,7 +402,10 @@ def try_command_pages(trials):
     for name in COMMANDS:
         page = (TOP / f"man/fmtcanon-{name}.1").read_text(encoding="utf-8").replace("\\-", "-")
         section = page[page.index(".SH OPTIONS") : page.index(".SH EXIT STATUS")]
-        tags = [" ".join(tag.replace('"', "").split()) for tag in re.findall(r"^\.TP\n\.BI? (.*)$", section, flags=re.MULTILINE)]
+        tags = [
+            " ".join(tag.replace('"', "").split())
+            for tag in re.findall(r"^\.TP\n\.BI? (.*)$", section, flags=re.MULTILINE)
+        ]
         trials.expect(f"options of fmtcanon-{name}.1", sorted(tags), sorted(options_of(name)))
 
 

@@ -92,11 +92,17 @@ def try_header(trials):
     """The functions, numbers and structures of the header are those of the code."""
     calls = {name: call for name, call in header_calls()}
     # The header says which buffers hold text.
-    plain = {name: (result, [kind.replace("unsigned ", "") for kind in kinds]) for name, (result, kinds) in calls.items()}
+    plain = {
+        name: (result, [kind.replace("unsigned ", "") for kind in kinds]) for name, (result, kinds) in calls.items()
+    }
     trials.expect("functions of the header", plain, dict(source_calls()))
     kinds = source_numbers("pf_values/src/refusals.rt", r"RefusalKind::(\w+) => (\d+),", {})
     whole = source_numbers("pf_signatures/src/refusals.rt", r"SignatureRefusalKind::(\w+) => (\d+),", {})
-    trials.expect("kinds that both languages have", {name: kinds[name] for name in whole if name in kinds}, {name: whole[name] for name in whole if name in kinds})
+    trials.expect(
+        "kinds that both languages have",
+        {name: kinds[name] for name in whole if name in kinds},
+        {name: whole[name] for name in whole if name in kinds},
+    )
     trials.expect("kinds of refusals", header_numbers("fmtcanon_kind"), {**kinds, **whole})
     text = (SOURCES / "interface.rt").read_text(encoding="utf-8")
     front = int(re.search(r"LITERAL_KINDS: u32 = (\d+);", text).group(1))
@@ -119,11 +125,14 @@ def try_header(trials):
     sets = {**sets, "IN_NEITHER": 0, "IN_BOTH": sets["IN_LP64"] + sets["IN_ILP32"], "IN_ALL": sum(sets.values())}
     trials.expect("sets of data models", header_numbers("fmtcanon_models"), sets)
     verdicts = source_numbers("fmtcanon_c/src/comparison.rt", r"Verdict::(\w+)[^=]*=> \((\d+),", {"Args": "DIFFERENT"})
-    whole = source_numbers("fmtcanon_c/src/whole_comparison.rt", r"Verdict::(\w+)[^=]*=> \((\d+),", {"Args": "DIFFERENT"})
+    whole = source_numbers(
+        "fmtcanon_c/src/whole_comparison.rt", r"Verdict::(\w+)[^=]*=> \((\d+),", {"Args": "DIFFERENT"}
+    )
     trials.expect("verdicts that both languages have", {name: whole[name] for name in verdicts}, verdicts)
     trials.expect("verdicts", header_numbers("fmtcanon_verdict"), whole)
     structs = [
-        ("fmtcanon_error", "interface", "CError"), ("fmtcanon_comparison", "comparison", "CComparison"),
+        ("fmtcanon_error", "interface", "CError"),
+        ("fmtcanon_comparison", "comparison", "CComparison"),
         ("fmtcanon_directive", "directives", "CDirective"),
     ]
     for name, source, struct in structs:
@@ -134,14 +143,21 @@ def try_header(trials):
         trials.expect(f"fields of {name}", re.findall(r"(\w+) (\w+);", fields), wanted)
     declared = dict(re.findall(r"FMTCANON_ERROR_(\w+) \((-\d+)\)", header_text()))
     code = dict(re.findall(r"NO_(\w+): i64 = (-\d+);", (SOURCES / "interface.rt").read_text(encoding="utf-8")))
-    trials.expect("errors that are no refusal", declared, {"NOMEMORY": code["MEMORY"], "MODEL": code["MODEL"], "NOPLACE": code["PLACE"]})
+    trials.expect(
+        "errors that are no refusal",
+        declared,
+        {"NOMEMORY": code["MEMORY"], "MODEL": code["MODEL"], "NOPLACE": code["PLACE"]},
+    )
     try_header_laws(declared, trials)
 
 
 def try_header_laws(errors, trials):
     """The numbers for which `laws.rt` has laws are those of the header, and no error and no kind is left out."""
     text = LAWS.read_text(encoding="utf-8")
-    laws = {name.upper(): f"-{number}" for name, number in re.findall(r"^error_(\w+) = neg_ℤ \(pos (\d+)\)$", text, flags=re.MULTILINE)}
+    laws = {
+        name.upper(): f"-{number}"
+        for name, number in re.findall(r"^error_(\w+) = neg_ℤ \(pos (\d+)\)$", text, flags=re.MULTILINE)
+    }
     trials.expect("errors in the laws", laws, errors)
     kinds = re.findall(r"^literal_kind_in_header (\w+) = (\d+)$", text, flags=re.MULTILINE)
     numbers = {re.sub(r"(?<!^)(?=[A-Z])", "_", name).upper(): int(number) for name, number in kinds}
@@ -159,7 +175,10 @@ def lines_of(words, **options):
 def try_exports(folder, trials):
     """The library gives its functions and no other name, and wants nothing but the C library."""
     wanted = sorted(name for name, _ in header_calls())
-    for words in [["nm", "-D", "--defined-only", folder / "libfmtcanon.so"], ["nm", "-g", "--defined-only", folder / "libfmtcanon.a"]]:
+    for words in [
+        ["nm", "-D", "--defined-only", folder / "libfmtcanon.so"],
+        ["nm", "-g", "--defined-only", folder / "libfmtcanon.a"],
+    ]:
         found = sorted(re.findall(r"^[0-9a-f]+ \w (\S+)$", lines_of(words)[1], flags=re.MULTILINE))
         trials.expect(f"names of {words[-1].name}", found, wanted)
     headers = lines_of(["objdump", "-p", folder / "libfmtcanon.so"])[1]
@@ -183,12 +202,20 @@ def try_compiler(compiler, folder, trials, work, tools=()):
     source = TOP / "tests/library"
     trials.expect(f"{name}: edges.c", compile_with(compiler, source / "edges.c", edges, archive, *WRAPPED), (0, ""))
     trials.expect(f"{name}: answers.c", compile_with(compiler, source / "answers.c", answers, archive), (0, ""))
-    trials.expect(f"{name}: outcomes.c", compile_with(compiler, source / "outcomes.c", outcomes, archive, *WRAPPED), (0, ""))
+    trials.expect(
+        f"{name}: outcomes.c", compile_with(compiler, source / "outcomes.c", outcomes, archive, *WRAPPED), (0, "")
+    )
     trials.expect(f"{name}: whole.c", compile_with(compiler, source / "whole.c", whole, archive, "-pthread"), (0, ""))
     if not tools:
-        trials.expect(f"{name}: the whole language", lines_of([whole]), (0, "the whole language is as the header says\n"))
+        trials.expect(
+            f"{name}: the whole language", lines_of([whole]), (0, "the whole language is as the header says\n")
+        )
         trials.expect(f"{name}: the edges", lines_of([edges]), (0, "the edges are as the header says\n"))
-        trials.expect(f"{name}: the outcomes", lines_of([outcomes]), (0, "calls {}, pairs of texts {}, data models {}, rooms {}\n".format(*OUTCOMES)))
+        trials.expect(
+            f"{name}: the outcomes",
+            lines_of([outcomes]),
+            (0, "calls {}, pairs of texts {}, data models {}, rooms {}\n".format(*OUTCOMES)),
+        )
     status, lines = lines_of([*tools, answers, SHAPES])
     trials.expect(f"{name}: answers", status, 0)
     return lines.splitlines()
@@ -256,7 +283,9 @@ def same_answer(module, formats, models, whole=False):
     names = [f"{model.name.lower()}\n".encode() if models[1:] else b"" for model in models]
     are_same = [lines == b"same\n" for lines in answers]
     found = module.same_in(*formats, whole=whole)
-    if are_same != [model in found for model in models] or are_same != [module.same(*formats, model=model, whole=whole) for model in models]:
+    if are_same != [model in found for model in models] or are_same != [
+        module.same(*formats, model=model, whole=whole) for model in models
+    ]:
         return "compare, same and same_in differ"
     return 0 if all(are_same) else 1, b"".join(name + lines for name, lines in zip(names, answers)), b""
 
@@ -276,7 +305,11 @@ def program_answer(module, command, formats, models):
                 return "the whole language differs"
             return 0, canonical + b"\n", b""
         if command == "show":
-            return 0, "".join(shown_line(module, piece) for piece in module.show(formats[0], model=models[0])).encode(), b""
+            return (
+                0,
+                "".join(shown_line(module, piece) for piece in module.show(formats[0], model=models[0])).encode(),
+                b"",
+            )
         if command == "format":
             return 0, module.format(formats[0], *map(argument_of, formats[1:]), model=models[0]), b""
         return 0, "".join(f"{TYPES[kind - 1]}\n" for kind in module.types(formats[0], model=models[0])).encode(), b""
@@ -317,7 +350,9 @@ def try_program_rows(module, trials):
         row = json.loads(line)
         command, *words = row["words"]
         # An int and bytes spell no word that isn't an argument.
-        unspelled = row["status"] == 3 and (command != "format" or "argument" not in row["stderr"] or "not an" in row["stderr"])
+        unspelled = row["status"] == 3 and (
+            command != "format" or "argument" not in row["stderr"] or "not an" in row["stderr"]
+        )
         if command == "stream" or unspelled or row.get("stderr") is None:
             continue
         name = words.pop(words.index("--model") + 1) if "--model" in words else "lp64"
@@ -329,7 +364,11 @@ def try_program_rows(module, trials):
         found[name] += 1
         commands[command] = commands.get(command, 0) + 1
     trials.expect("rows of each data model", min(found.values()) > 5, True)
-    trials.expect("commands with rows", sorted(name for name, count in commands.items() if count > 20), ["canon", "format", "same", "show", "types"])
+    trials.expect(
+        "commands with rows",
+        sorted(name for name, count in commands.items() if count > 20),
+        ["canon", "format", "same", "show", "types"],
+    )
 
 
 def try_program(program, module, trials):
@@ -342,7 +381,24 @@ def try_program(program, module, trials):
         for command, words in [("canon", [one]), ("types", [one]), ("same", [one, other])]:
             wanted = program_answer(module, command, words, [model])
             trials.expect(f"{command} {name} {words}", run(program, [command, *name, "--", *words]), wanted)
-    refused = [b"%", b"%y", b"%5%", b"%*d", b"%1$d", b"%4096d", b"%.4096d", b"%f", b"%p", b"%n", b"%ls", b"%#d", b"%0s", b"%'x", b"%.3c", b"%hs"]
+    refused = [
+        b"%",
+        b"%y",
+        b"%5%",
+        b"%*d",
+        b"%1$d",
+        b"%4096d",
+        b"%.4096d",
+        b"%f",
+        b"%p",
+        b"%n",
+        b"%ls",
+        b"%#d",
+        b"%0s",
+        b"%'x",
+        b"%.3c",
+        b"%hs",
+    ]
     for one in refused:
         try:
             module.check(one)
@@ -356,8 +412,14 @@ def try_documents(prefix, work, trials):
     """Each command of DOCUMENTS prints what the page shows below it, with the library installed."""
     (work / "canon.c").write_bytes((TOP / "examples/canon.c").read_bytes())
     environment = {
-        **os.environ, "LC_ALL": "C.UTF-8", "CPATH": str(prefix / "include"), "LIBRARY_PATH": str(prefix / "lib"),
-        "LD_LIBRARY_PATH": str(prefix / "lib"), "PKG_CONFIG_LIBDIR": str(prefix / "lib/pkgconfig"), "PYTHONPATH": str(prefix / "lib/python3/dist-packages"), "PYTHONDONTWRITEBYTECODE": "1",
+        **os.environ,
+        "LC_ALL": "C.UTF-8",
+        "CPATH": str(prefix / "include"),
+        "LIBRARY_PATH": str(prefix / "lib"),
+        "LD_LIBRARY_PATH": str(prefix / "lib"),
+        "PKG_CONFIG_LIBDIR": str(prefix / "lib/pkgconfig"),
+        "PYTHONPATH": str(prefix / "lib/python3/dist-packages"),
+        "PYTHONDONTWRITEBYTECODE": "1",
     }
     for name in ["FMTCANON_LIBRARY", "FMTCANON_PROGRAM"]:
         environment.pop(name, None)
@@ -371,7 +433,16 @@ def try_documents(prefix, work, trials):
         trials.expect(f"{name} has examples", found > 0, True)
     for name in PAGES:
         for command, output in page_examples(TOP / "man" / name):
-            done = subprocess.run(["bash", "-c", command], env=environment, cwd=work, check=False, stdin=subprocess.DEVNULL, stdout=subprocess.PIPE, stderr=subprocess.STDOUT, timeout=TIMEOUT)
+            done = subprocess.run(
+                ["bash", "-c", command],
+                env=environment,
+                cwd=work,
+                check=False,
+                stdin=subprocess.DEVNULL,
+                stdout=subprocess.PIPE,
+                stderr=subprocess.STDOUT,
+                timeout=TIMEOUT,
+            )
             trials.expect(f"{name}: {command}", done.stdout.decode().splitlines(), output)
     source = " ".join((TOP / "examples/canon.c").read_text(encoding="utf-8").split())
     for language, block in fences((TOP / "docs/C.md").read_text(encoding="utf-8")):
@@ -381,7 +452,12 @@ def try_documents(prefix, work, trials):
 
 def try_unit_tests(program, folder, trials):
     """The tests of the Python module, and the examples of its text."""
-    environment = {**os.environ, "FMTCANON_PROGRAM": program, "FMTCANON_LIBRARY": str(folder / SONAME), "PYTHONDONTWRITEBYTECODE": "1"}
+    environment = {
+        **os.environ,
+        "FMTCANON_PROGRAM": program,
+        "FMTCANON_LIBRARY": str(folder / SONAME),
+        "PYTHONDONTWRITEBYTECODE": "1",
+    }
     words = [sys.executable, "-m", "unittest", "discover", "-s", "tests", "-t", "."]
     status, lines = lines_of(words, env=environment, cwd=TOP / "python")
     if status != 0:
@@ -393,7 +469,13 @@ def try_all(program, folder, trials):
     try_header(trials)
     try_exports(folder, trials)
     module = load_module(program, folder)
-    enums = [(module.Kind, "kind"), (module.Model, "model"), (module.Type, "type"), (module.Verdict, "verdict"), (module.LiteralKind, "literal_kind")]
+    enums = [
+        (module.Kind, "kind"),
+        (module.Model, "model"),
+        (module.Type, "type"),
+        (module.Verdict, "verdict"),
+        (module.LiteralKind, "literal_kind"),
+    ]
     for enum, kind in enums:
         kind = f"fmtcanon_{kind}"
         trials.expect(f"{kind} of the Python module", {one.name: int(one) for one in enum}, header_numbers(kind))

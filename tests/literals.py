@@ -1,10 +1,11 @@
 #!/usr/bin/env python3
-"""Holds string literals of C source to a C compiler: the bytes of sources, and that what is encoded is compiled to just the text.
+"""Holds string literals of C source to a C compiler: the bytes of sources, and that what is encoded is compiled to just
+the text.
 
 Usage: tests/literals.py PROGRAM FOLDER
 
-FOLDER has libfmtcanon.so, as `make library` leaves it. It needs gcc. Its last line is 'N passed, M failed', and it exits
-with 1 where M isn't 0.
+FOLDER has libfmtcanon.so, as `make library` leaves it. It needs gcc. Its last line is 'N passed, M failed', and it
+exits with 1 where M isn't 0.
 """
 
 import os
@@ -75,10 +76,22 @@ def sources():
             yield b'"' + bytes([byte]) + b'"'
     for letter in SIMPLE:
         yield b'"\\' + bytes([letter]) + b'"'
-    yield from [b'""', b'"" ""', b' "\\x4" "1" ', b'"\\1" "1"', b'"\\3777"', b'"?" "?="', b'"\\?\\?="', b'"?\\?="', b'"\\001"']
+    yield from [
+        b'""',
+        b'"" ""',
+        b' "\\x4" "1" ',
+        b'"\\1" "1"',
+        b'"\\3777"',
+        b'"?" "?="',
+        b'"\\?\\?="',
+        b'"?\\?="',
+        b'"\\001"',
+    ]
     rng, found = random.Random(SEED), 0
     while found < COUNT:
-        literals = [b'"' + b"".join(element(rng) for _ in range(rng.randrange(12))) + b'"' for _ in range(rng.randrange(1, 4))]
+        literals = [
+            b'"' + b"".join(element(rng) for _ in range(rng.randrange(12))) + b'"' for _ in range(rng.randrange(1, 4))
+        ]
         if all(map(is_one, literals)):
             found += 1
             parts = [rng.choice(WHITE) + literal for literal in literals]
@@ -93,12 +106,15 @@ def texts():
     yield bytes(range(1, 256))
     rng = random.Random(SEED + 1)
     for _ in range(COUNT):
-        some = rng.choice([bytes(range(1, 256)), b"?=/'()!<>-?", b"\\\"\n\t\r01789abf", b"%d s\x01\x7f\x80\xff"])
+        some = rng.choice([bytes(range(1, 256)), b"?=/'()!<>-?", b'\\"\n\t\r01789abf', b"%d s\x01\x7f\x80\xff"])
         yield bytes(rng.choice(some) for _ in range(rng.randrange(40)))
 
 
 def compiled(compiler, sources, work):
-    """What a compiler makes of each of some sources, and what it says. A text in UTF-8 or not is taken byte for byte."""
+    """What a compiler makes of each of some sources, and what it says.
+
+    A text in UTF-8 or not is taken byte for byte.
+    """
     lines = ["#include <stdio.h>", "#define ONE(s) fwrite(s, 1, sizeof(s), stdout)", "int main(void)", "{"]
     program = "\n".join(lines).encode() + b"\n"
     for source in sources:
@@ -107,7 +123,13 @@ def compiled(compiler, sources, work):
     file = work / "literals.c"
     file.write_bytes(program + b"    return 0;\n}\n")
     made = work / "literals"
-    done = subprocess.run([*compiler, file, "-o", made], timeout=10 * TIMEOUT, check=False, capture_output=True, env={**os.environ, "LC_ALL": "C"})
+    done = subprocess.run(
+        [*compiler, file, "-o", made],
+        timeout=10 * TIMEOUT,
+        check=False,
+        capture_output=True,
+        env={**os.environ, "LC_ALL": "C"},
+    )
     if done.returncode:
         return None, done.stderr.decode("utf-8", "replace")
     printed = subprocess.run([made], timeout=TIMEOUT, check=True, stdout=subprocess.PIPE).stdout
@@ -132,7 +154,11 @@ def try_decoded(module, compiler, trials, work):
 
 def try_trigraphs(module, compiler, trials, work):
     """A source with a trigraph, also after a backslash, is refused at its first `?`: compilers read it in two ways."""
-    listed = [(b'"a' + front + b"??" + bytes([third]) + b'n"', 2 + len(front)) for front in [b"", b"\\", b"?", b"\\?"] for third in THIRDS]
+    listed = [
+        (b'"a' + front + b"??" + bytes([third]) + b'n"', 2 + len(front))
+        for front in [b"", b"\\", b"?", b"\\?"]
+        for third in THIRDS
+    ]
     both = [compiled([*compiler, standard, "-w"], [source for source, _ in listed], work)[0] for standard in STANDARDS]
     for (source, place), *found in zip(listed, *both):
         trials.expect(f"{source!r} is read in two ways", found[0] != found[1], True)

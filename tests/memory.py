@@ -5,11 +5,11 @@ Usage: tests/memory.py PROGRAM
 
 Address spaces: each command in spaces that grow by a page at a time, until it answers. Allocations: each allocation of
 each command refused, one a run, and each of a run over records. What is held: over few records and over many of each
-command, and in a conversation with a gigabyte of replies. A program that leaks 64 bytes a record is measured the same way,
-and has to be found.
+command, and in a conversation with a gigabyte of replies. A program that leaks 64 bytes a record is measured the same
+way, and has to be found.
 
-A space may be too small for the system to start the program, which it then kills, or its loader ends it: the sizes
-are printed. It needs a Linux system with gcc. Its last line is 'N passed, M failed', and it exits with 1 where M isn't 0.
+A space may be too small for the system to start the program, which it then kills, or its loader ends it: the sizes are
+printed. It needs a Linux system with gcc. Its last line is 'N passed, M failed', and it exits with 1 where M isn't 0.
 """
 
 import os
@@ -100,7 +100,9 @@ def growth_ends(program, words, stdin, library, answer, count):
     for flags in [{}, {"ALL": "1"}]:
         environment = {**os.environ, "LD_PRELOAD": library, **flags}
         with ThreadPoolExecutor(os.cpu_count()) as pool:
-            runs = pool.map(lambda number: run(program, words, stdin, env={**environment, "GROWTH": str(number)}), range(count + 1))
+            runs = pool.map(
+                lambda number: run(program, words, stdin, env={**environment, "GROWTH": str(number)}), range(count + 1)
+            )
         yield [names.get(got, "otherwise") for got in runs]
 
 
@@ -123,7 +125,11 @@ def try_growths(program, trials):
             trials.expect(f"{name_of(words)}, no growth refused", got == answer, True)
             count = len(notes.read_text())
             one, all_after = growth_ends(program, words, stdin, library, answer, count)
-            trials.expect(f"{name_of(words)}: each of {count} growths and all after it", all_after, ["out of memory"] * count + ["as ever"])
+            trials.expect(
+                f"{name_of(words)}: each of {count} growths and all after it",
+                all_after,
+                ["out of memory"] * count + ["as ever"],
+            )
             trials.expect(f"{name_of(words)}: another end of one refused", {"otherwise"} & set(one), set())
             if (words, answer[0]) not in NOT_ASKED:
                 trials.expect(f"{name_of(words)}: refused and not reported", one[:-1].count("as ever"), 1)
@@ -137,7 +143,9 @@ def count_growths(program, words, stdin, library, notes):
 
 
 def try_record_growths(program, trials):
-    """Where an allocation is refused, all replies to the records before the one that it is for are out, and no part of another."""
+    """Where an allocation is refused, all replies to the records before the one that it is for are out, and no part of
+    another.
+    """
     with tempfile.TemporaryDirectory() as work:
         library, is_made = library_of("growths", work)
         trials.expect("growths.c", is_made, True)
@@ -145,16 +153,27 @@ def try_record_growths(program, trials):
         for words, turns, _ in CONVERSATIONS:
             stdin, fronts = sent_of(turns), fronts_of(turns)
             # How many allocations there are up to the reply to each record.
-            counts = [count_growths(program, words, sent_of(turns[:count]), library, notes) for count in range(len(turns) + 1)]
+            counts = [
+                count_growths(program, words, sent_of(turns[:count]), library, notes) for count in range(len(turns) + 1)
+            ]
             trials.expect(f"{name_of_all(words)}: a record takes memory: {counts}", counts[0] < counts[-1], True)
             for number in range(counts[-1]):
                 wanted = (*OUT_OF_MEMORY, fronts[max(bisect_right(counts, number) - 1, 0)])
                 for flags in [{"ALL": "1"}, {}] if number >= counts[0] else [{"ALL": "1"}]:
                     environment = {**os.environ, "LD_PRELOAD": library, "GROWTH": str(number), **flags}
                     status, stdout, stderr = run(program, words, stdin, env=environment)
-                    trials.expect(f"{name_of_all(words)}: allocation {number} refused, {flags}", (status, stderr, stdout), wanted)
-        counts = [count_growths(program, ["canon", "-z"], text, library, notes) for text in [b"y\0", b"y" * LONG_RECORD + b"\0"]]
-        trials.expect(f"allocations for a record of a byte, and of {LONG_RECORD}: {counts}", counts[1] <= counts[0] + FEW_ALLOCATIONS, True)
+                    trials.expect(
+                        f"{name_of_all(words)}: allocation {number} refused, {flags}", (status, stderr, stdout), wanted
+                    )
+        counts = [
+            count_growths(program, ["canon", "-z"], text, library, notes)
+            for text in [b"y\0", b"y" * LONG_RECORD + b"\0"]
+        ]
+        trials.expect(
+            f"allocations for a record of a byte, and of {LONG_RECORD}: {counts}",
+            counts[1] <= counts[0] + FEW_ALLOCATIONS,
+            True,
+        )
 
 
 def compiled(name, work):
@@ -171,7 +190,9 @@ def held_over(held, program, words, text):
         source.write(text)
         source.seek(0)
         words = [held, notes, program, *words]
-        done = subprocess.run(words, stdin=source, stdout=subprocess.DEVNULL, stderr=subprocess.PIPE, timeout=TIMEOUT, check=False)
+        done = subprocess.run(
+            words, stdin=source, stdout=subprocess.DEVNULL, stderr=subprocess.PIPE, timeout=TIMEOUT, check=False
+        )
     return done.returncode, int(notes.read_text())
 
 
@@ -188,10 +209,16 @@ def try_held(program, trials):
         held, leaking = compiled("held", work), compiled("leaking", work)
         for words, is_found in [([], True), (["none"], False)]:
             found, runs = grows(held, leaking, words, [(b"\0", b"0 \0")])
-            trials.expect(f"a program that holds what it takes is found: {runs}", (found, [one[0] for one in runs]), (is_found, [0, 0]))
+            trials.expect(
+                f"a program that holds what it takes is found: {runs}",
+                (found, [one[0] for one in runs]),
+                (is_found, [0, 0]),
+            )
         for words, turns, status in CONVERSATIONS:
             found, runs = grows(held, program, words, turns)
-            trials.expect(f"memory over {name_of_all(words)}: {runs}", (found, [one[0] for one in runs]), (False, [status] * 2))
+            trials.expect(
+                f"memory over {name_of_all(words)}: {runs}", (found, [one[0] for one in runs]), (False, [status] * 2)
+            )
 
 
 def try_long_conversation(program, trials):
@@ -201,7 +228,9 @@ def try_long_conversation(program, trials):
         held, notes = compiled("held", work), Path(work) / "notes"
         source.write((b"%4095d" * TEXTS + b"\0") * REPLIES)
         source.seek(0)
-        with subprocess.Popen([held, notes, program, "canon", "-z"], stdin=source, stdout=subprocess.PIPE, bufsize=1 << 20) as process:
+        with subprocess.Popen(
+            [held, notes, program, "canon", "-z"], stdin=source, stdout=subprocess.PIPE, bufsize=1 << 20
+        ) as process:
             wrong = sum(process.stdout.read(len(reply)) != reply for _ in range(REPLIES))
             got = (wrong, process.stdout.read(), process.wait(TIMEOUT))
         most = int(notes.read_text())

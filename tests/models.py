@@ -31,18 +31,18 @@ def asserts_of(program, model, length, named, conversion):
     spelled = run(program, ["types", "--model", model, "--", format])[1].decode().strip()
     # A narrow argument is promoted to int (C11 6.3.1.1, paragraph 2).
     value = f"(({named})0 + 0)" if length in ("h", "hh") else f"({named})0"
-    yield f"_Static_assert(_Generic({value}, {spelled}: 1, default: 0), \"{format} takes {spelled}\");"
+    yield f'_Static_assert(_Generic({value}, {spelled}: 1, default: 0), "{format} takes {spelled}");'
     core = run(program, ["canon", "--model", model, "--", f"%{WIDE}{length}{conversion}"])[1].decode().strip()
     digits = int("".join(filter(str.isdigit, core))) - (conversion == "d")
     greatest = f"(({named})-1 > 0 ? ({named})-1 : ({named})((1ULL << (8 * sizeof({named}) - 1)) - 1))"
     least_wide = 10 ** (digits - 1)
-    yield f"_Static_assert({greatest} >= {least_wide}ULL, \"{format} prints {digits} digits\");"
+    yield f'_Static_assert({greatest} >= {least_wide}ULL, "{format} prints {digits} digits");'
     if digits < 20:
-        yield f"_Static_assert({greatest} < {10 ** digits}ULL, \"{format} prints no more than {digits} digits\");"
+        yield f'_Static_assert({greatest} < {10 ** digits}ULL, "{format} prints no more than {digits} digits");'
     if length not in ("h", "hh"):
         bits = next(bits for bits in (64, 32) if accepts(program, model, format, 2 ** (bits - (conversion == "d")) - 1))
         beyond = accepts(program, model, format, 2 ** (bits - (conversion == "d")))
-        yield f"_Static_assert(sizeof({named}) == {bits // 8} && !{int(beyond)}, \"{format} has {bits} bits\");"
+        yield f'_Static_assert(sizeof({named}) == {bits // 8} && !{int(beyond)}, "{format} has {bits} bits");'
 
 
 def try_models(program, tools, trials, work):
@@ -59,7 +59,10 @@ def try_models(program, tools, trials, work):
         source.write_text("\n".join(lines) + "\n")
         done = subprocess.run(
             ["clang", "-std=c11", "-Wall", "-Werror", "-fsyntax-only", "-target", target, source],
-            stdout=subprocess.PIPE, stderr=subprocess.STDOUT, timeout=TIMEOUT, check=False,
+            stdout=subprocess.PIPE,
+            stderr=subprocess.STDOUT,
+            timeout=TIMEOUT,
+            check=False,
         )
         trials.expect(f"{model} and {target}", (done.returncode, done.stdout.decode()), (0, ""))
         trials.expect(f"assertions of {model}", len(lines) > 40, True)

@@ -3,11 +3,11 @@
 
 Usage: tests/opaque.py PROGRAM FOLDER
 
-FOLDER has libfmtcanon.so, as `make library` leaves it. It needs gcc, the GNU C library and its locale C.UTF-8. Its last line is
-'N passed, M failed', and it exits with 1 where M isn't 0.
+FOLDER has libfmtcanon.so, as `make library` leaves it. It needs gcc, the GNU C library and its locale C.UTF-8. Its last
+line is 'N passed, M failed', and it exits with 1 where M isn't 0.
 
-Alike formats must print equal bytes and store equal counts for all arguments that are tried, and formats that are compared as
-different other bytes for the arguments that the comparison gives.
+Alike formats must print equal bytes and store equal counts for all arguments that are tried, and formats that are
+compared as different other bytes for the arguments that the comparison gives.
 """
 
 import random
@@ -38,7 +38,9 @@ class Asked:
         several = {"both": [module.Model.LP64, module.Model.ILP32], "all": list(module.Model)}
         self.models = several[name] if name in several else [module.Model[name.upper()]]
         self.is_literal, self.is_records = "--literal" in rest, "-z" in rest or "--null" in rest
-        self.formats = [it.encode() for it in rest if it not in ("--model", "--literal", "--whole", "--null", "-z", "--")]
+        self.formats = [
+            it.encode() for it in rest if it not in ("--model", "--literal", "--whole", "--null", "-z", "--")
+        ]
 
     def answer(self, formats):
         """The status and the two streams, as the command has them for these formats."""
@@ -111,7 +113,11 @@ def try_rows(module, trials):
         asked = Asked(module, row["words"])
         commands.append(asked.command)
         found = asked.records(row["stdin"].encode("latin-1")) if asked.is_records else asked.answer(asked.formats)
-        trials.expect(f"the module: {row['words']}", found, (row["status"], row["stdout"].encode("latin-1"), row["stderr"].encode()))
+        trials.expect(
+            f"the module: {row['words']}",
+            found,
+            (row["status"], row["stdout"].encode("latin-1"), row["stderr"].encode()),
+        )
     trials.expect("rows of each command", min(commands.count(it) for it in FORMATS) > 10, True)
 
 
@@ -119,7 +125,9 @@ def alike_trials(module, trials):
     """Pairs that the library must call the same, each with some lists of arguments."""
     chosen = random.Random(62)
     for first, second, kinds in alike_pairs(PAIRS):
-        trials.expect(f"alike: {first!r} and {second!r}", module.compare(first, second, whole=True).verdict, module.Verdict.SAME)
+        trials.expect(
+            f"alike: {first!r} and {second!r}", module.compare(first, second, whole=True).verdict, module.Verdict.SAME
+        )
         one, other = (module.canonical(it, whole=True) for it in (first, second))
         trials.expect(f"canonical: {first!r} and {second!r}", (one, module.canonical(one, whole=True)), (other, one))
         for _ in range(LISTS):

@@ -3,9 +3,9 @@
 
 Usage: tests/outside_tools.py PROGRAM FOLDER
 
-FOLDER has libfmtcanon.a, libfmtcanon.so and second.a, as `make check-more` leaves them. A tool that is missing is a failure that
-names the package that has it; the others are tried all the same. Its last line is 'N passed, M failed', and it exits
-with 1 where M isn't 0.
+FOLDER has libfmtcanon.a, libfmtcanon.so and second.a, as `make check-more` leaves them. A tool that is missing is a
+failure that names the package that has it; the others are tried all the same. Its last line is 'N passed, M failed',
+and it exits with 1 where M isn't 0.
 """
 
 import os
@@ -44,7 +44,11 @@ FISH = [
     (" format -- %d ", []),
     (" canon -- --m", []),
 ]
-FISH_COMMANDS = [("-diff --model l", ["llp64", "lp64"]), ("-replace --list", ["--list", "--list-functions"]), ("-po --output=s", ["--output=sarif"])]
+FISH_COMMANDS = [
+    ("-diff --model l", ["llp64", "lp64"]),
+    ("-replace --list", ["--list", "--list-functions"]),
+    ("-po --output=s", ["--output=sarif"]),
+]
 
 
 class Tools:
@@ -78,7 +82,9 @@ def try_compilers(folder, tools, module, trials, work):
         for part in [try_decoded, try_trigraphs, try_encoded]:
             part(module, ["clang", "-Wno-invalid-source-encoding"], trials, work)
     source = work / "header.cpp"
-    source.write_text('#include "fmtcanon.h"\nint main() { fmtcanon_error e; return (int)fmtcanon_is_canonical(FMTCANON_ILP32, "%ld", 3, &e) - 1; }\n')
+    source.write_text(
+        '#include "fmtcanon.h"\nint main() { fmtcanon_error e; return (int)fmtcanon_is_canonical(FMTCANON_ILP32, "%ld", 3, &e) - 1; }\n'
+    )
     for compiler, package in [("g++", "g++"), ("clang++", "clang")]:
         if tools.has(compiler, package):
             for standard in ["c++11", "c++17"]:
@@ -125,15 +131,28 @@ def try_gettext(folder, tools, module, trials):
 def try_locale(program, folder, trials):
     """In a locale whose encoding is ISO-8859-1, the module passes the same bytes."""
     with tempfile.TemporaryDirectory() as work:
-        status = lines_of(["localedef", "-i", "de_DE", "-f", "ISO-8859-1", f"{work}/de_DE.ISO-8859-1"])[0] if shutil.which("localedef") else 1
+        status = (
+            lines_of(["localedef", "-i", "de_DE", "-f", "ISO-8859-1", f"{work}/de_DE.ISO-8859-1"])[0]
+            if shutil.which("localedef")
+            else 1
+        )
         trials.expect("localedef makes a locale: the package locales has what it needs", status, 0)
         environment = {
-            **os.environ, "LOCPATH": work, "LC_ALL": "de_DE.ISO-8859-1", "PYTHONPATH": str(TOP / "python"), "PYTHONUTF8": "0",
-            "FMTCANON_PROGRAM": program, "FMTCANON_LIBRARY": str(folder / SONAME),
+            **os.environ,
+            "LOCPATH": work,
+            "LC_ALL": "de_DE.ISO-8859-1",
+            "PYTHONPATH": str(TOP / "python"),
+            "PYTHONUTF8": "0",
+            "FMTCANON_PROGRAM": program,
+            "FMTCANON_LIBRARY": str(folder / SONAME),
         }
         script = "import sys, fmtcanon; print(sys.getfilesystemencoding(), fmtcanon.format('\\xe9%s', '\\xe9'), fmtcanon.show('\\xe9'))"
         wanted = "iso8859-1 b'\\xc3\\xa9\\xc3\\xa9' [Text(length=2)]\n"
-        trials.expect("format and show in ISO-8859-1", lines_of([sys.executable, "-c", script], env=environment, cwd=work), (0, wanted))
+        trials.expect(
+            "format and show in ISO-8859-1",
+            lines_of([sys.executable, "-c", script], env=environment, cwd=work),
+            (0, wanted),
+        )
 
 
 def python_with(module):
@@ -162,8 +181,14 @@ def try_shells(tools, trials):
             file = TOP / f"completions/{name}.fish"
             trials.expect(f"fish reads {name}.fish", lines_of(["fish", "-n", file]), (0, ""))
             for words, wanted in rows:
-                status, output = lines_of(["fish", "--no-config", "-c", f"source {file}; complete -C 'fmtcanon{words}'"])
-                trials.expect(f"fish: fmtcanon{words}", (status, [line.split("\t")[0] for line in output.splitlines()]), (0, wanted))
+                status, output = lines_of(
+                    ["fish", "--no-config", "-c", f"source {file}; complete -C 'fmtcanon{words}'"]
+                )
+                trials.expect(
+                    f"fish: fmtcanon{words}",
+                    (status, [line.split("\t")[0] for line in output.splitlines()]),
+                    (0, wanted),
+                )
     if tools.has("groff", "groff"):
         for page in sorted((TOP / "man").iterdir()):
             trials.expect(f"groff reads {page.name}", lines_of(["groff", "-man", "-ww", "-z", page]), (0, ""))

@@ -22,11 +22,14 @@ CHROOT = shutil.which("chroot") or "/usr/sbin/chroot"
 # What is tried of an installation, each with what it prints.
 TRIED = [
     ("fmtcanon canon 'Total: %i of %u%%'", "Total: %d of %u%%\n"),
-    ("python3 -c 'import fmtcanon; print(fmtcanon.same(\"%5c\", \"    %c\"))'", "True\n"),
+    ('python3 -c \'import fmtcanon; print(fmtcanon.same("%5c", "    %c"))\'', "True\n"),
     ("fmtcanon-po --strict right.po 2>&1", "2 messages judged, 0 not judged\n"),
     ("fmtcanon-po wrong.po > faults 2>&1; echo $?", "1\n"),
-    ("fmtcanon-diff size.c other.c 2> counts; echo $?", "other.c:2:32: same in lp64 only: \"%zu\" and \"%lu\"\n1\n"),
-    ("fmtcanon-replace %zu %lu size.c || true", "size.c:2:32: left: in ILP32 the types differ at argument 0; in LLP64 the types differ at argument 0\n"),
+    ("fmtcanon-diff size.c other.c 2> counts; echo $?", 'other.c:2:32: same in lp64 only: "%zu" and "%lu"\n1\n'),
+    (
+        "fmtcanon-replace %zu %lu size.c || true",
+        "size.c:2:32: left: in ILP32 the types differ at argument 0; in LLP64 the types differ at argument 0\n",
+    ),
     ("fmtcanon-replace --model lp64 %zu %lu size.c", "size.c:2:32: replaced\n"),
     ("cc -std=c99 -o canon canon.c $(pkg-config --cflags --libs fmtcanon) && ./canon %05u", "%.5u\n"),
 ]
@@ -35,7 +38,15 @@ SIZE_C = '#include <stdio.h>\nint main(void) { return printf("%zu", sizeof(int))
 
 def shell(words, **options):
     """The status and all that is printed."""
-    done = subprocess.run(words, stdin=subprocess.DEVNULL, stdout=subprocess.PIPE, stderr=subprocess.STDOUT, timeout=900, check=False, **options)
+    done = subprocess.run(
+        words,
+        stdin=subprocess.DEVNULL,
+        stdout=subprocess.PIPE,
+        stderr=subprocess.STDOUT,
+        timeout=900,
+        check=False,
+        **options,
+    )
     return done.returncode, done.stdout.decode(errors="replace")
 
 
@@ -58,7 +69,10 @@ def try_commands(where, inside, trials):
     """Each command prints what it should in a root, as a user would call it."""
     put_samples(inside / "work")
     for command, wanted in TRIED:
-        got = shell([CHROOT, inside, "/bin/sh", "-c", f"cd /work && {command}"], env={"PATH": "/usr/local/bin:/usr/bin:/bin", "LC_ALL": "C.UTF-8"})
+        got = shell(
+            [CHROOT, inside, "/bin/sh", "-c", f"cd /work && {command}"],
+            env={"PATH": "/usr/local/bin:/usr/bin:/bin", "LC_ALL": "C.UTF-8"},
+        )
         trials.expect(f"{where}: {command}", got, (0, wanted))
 
 
@@ -82,7 +96,15 @@ def try_archive(root, trials):
     shell(["tar", "-xzf", ARCHIVE, "-C", root / "root"])
     folder = f"/root/fmtcanon-{VERSION}-linux-x86_64"
     for target in ["install", "uninstall"]:
-        status, output = shell([CHROOT, root, "/bin/sh", "-c", f"cd {folder} && make {target}" + (" && ldconfig" if target == "install" else "")])
+        status, output = shell(
+            [
+                CHROOT,
+                root,
+                "/bin/sh",
+                "-c",
+                f"cd {folder} && make {target}" + (" && ldconfig" if target == "install" else ""),
+            ]
+        )
         trials.expect(f"make {target} in the archive: {output if status else ''}", status, 0)
         if target == "install":
             try_commands("the archive", root, trials)
@@ -114,7 +136,9 @@ def try_same_packages(tools, trials):
     if tools.has("dpkg-deb", "dpkg"):
         with tempfile.TemporaryDirectory() as work:
             first, second = installing.packages_of(Path(work), "deb", "*.deb", trials)
-        trials.expect("make deb of files with other times and rights", (isinstance(first, bytes), first == second), (True, True))
+        trials.expect(
+            "make deb of files with other times and rights", (isinstance(first, bytes), first == second), (True, True)
+        )
 
 
 def try_wheel(trials):
@@ -134,17 +158,33 @@ def try_wheel(trials):
         trials.expect(f"pip install of the wheel: {output}", status, 0)
         script = "import fmtcanon, importlib.metadata as m; print(fmtcanon.canonical('%i'), fmtcanon.format('%05d', 7), *fmtcanon.show('%%'), fmtcanon.__version__, m.version('fmtcanon'), m.metadata('fmtcanon')['License'])"
         wanted = (0, f"%d b'00007' Percent(spelling='%%') {VERSION} {VERSION} MIT\n")
-        trials.expect("the module of the wheel", shell([folder / "python", "-c", script], env=environment, cwd=work), wanted)
+        trials.expect(
+            "the module of the wheel", shell([folder / "python", "-c", script], env=environment, cwd=work), wanted
+        )
         put_samples(Path(work))
         output = shell([folder / "fmtcanon-po", "right.po"], env=environment, cwd=work)
         trials.expect("fmtcanon-po of the wheel", output, (0, "2 messages judged, 0 not judged\n"))
-        output = shell([folder / "fmtcanon-diff", "--model", "lp64", "--verbose", "size.c", "other.c"], env=environment, cwd=work)
-        trials.expect("fmtcanon-diff of the wheel", (output[0], output[1].splitlines()[0]), (0, 'other.c:2:32: same: "%zu" and "%lu"'))
-        output = shell([folder / "fmtcanon-replace", "--model", "lp64", "%zu", "%lu", "size.c"], env=environment, cwd=work)
+        output = shell(
+            [folder / "fmtcanon-diff", "--model", "lp64", "--verbose", "size.c", "other.c"], env=environment, cwd=work
+        )
+        trials.expect(
+            "fmtcanon-diff of the wheel",
+            (output[0], output[1].splitlines()[0]),
+            (0, 'other.c:2:32: same: "%zu" and "%lu"'),
+        )
+        output = shell(
+            [folder / "fmtcanon-replace", "--model", "lp64", "%zu", "%lu", "size.c"], env=environment, cwd=work
+        )
         # pip has no libclang of this name, and the environment sees none of the system's modules.
-        trials.expect("fmtcanon-replace of the wheel", output, (2, "fmtcanon-replace: libclang is missing: the package python3-clang has it\n"))
+        trials.expect(
+            "fmtcanon-replace of the wheel",
+            output,
+            (2, "fmtcanon-replace: libclang is missing: the package python3-clang has it\n"),
+        )
         for command in [[folder / "fmtcanon"], [folder / "python", "-m", "fmtcanon"]]:
-            trials.expect(f"{command} of the wheel", shell([*command, "canon", "%i"], env=environment, cwd=work), (0, "%d\n"))
+            trials.expect(
+                f"{command} of the wheel", shell([*command, "canon", "%i"], env=environment, cwd=work), (0, "%d\n")
+            )
         status, output = shell([folder / "pip", "check"], env=environment, cwd=work)
         trials.expect(f"pip check: {output}", status, 0)
 

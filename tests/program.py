@@ -19,8 +19,12 @@ from harness import TIMEOUT, TOP, VERSION, examples, main, model_rows, run, usag
 
 # The documents, or their parts below a heading, whose examples need the program alone.
 DOCUMENTS = [
-    ("README.md", None), ("docs/CHEATSHEET.md", None), ("docs/USING.md", None), ("docs/REFUSALS.md", None),
-    ("docs/TRANSLATIONS.md", "Check one translation"), ("docs/REFACTORING.md", "One question"),
+    ("README.md", None),
+    ("docs/CHEATSHEET.md", None),
+    ("docs/USING.md", None),
+    ("docs/REFUSALS.md", None),
+    ("docs/TRANSLATIONS.md", "Check one translation"),
+    ("docs/REFACTORING.md", "One question"),
 ]
 
 
@@ -53,8 +57,14 @@ def try_examples(program, trials):
         for command, output in examples(TOP / name, heading):
             found += 1
             done = subprocess.run(
-                ["bash", "-c", command], timeout=TIMEOUT, check=False, env=environment, cwd=TOP,
-                stdin=subprocess.DEVNULL, stdout=subprocess.PIPE, stderr=subprocess.STDOUT,
+                ["bash", "-c", command],
+                timeout=TIMEOUT,
+                check=False,
+                env=environment,
+                cwd=TOP,
+                stdin=subprocess.DEVNULL,
+                stdout=subprocess.PIPE,
+                stderr=subprocess.STDOUT,
             )
             got = done.stdout.decode()
             wanted = "\n".join(output) + "\n" if output else ""
@@ -66,8 +76,12 @@ def try_examples(program, trials):
 def try_first_command(trials):
     """The first command of the README, which proves nothing, prints what the README says."""
     readme = (TOP / "README.md").read_text(encoding="utf-8")
-    [(command, line)] = re.findall(r"^    (cd \S+ && rt try -- .*)\n\n.*prints `(.*)` in about a minute", readme, re.MULTILINE)
-    done = subprocess.run(["bash", "-c", command], cwd=TOP, capture_output=True, encoding="utf-8", timeout=10 * TIMEOUT, check=False)
+    [(command, line)] = re.findall(
+        r"^    (cd \S+ && rt try -- .*)\n\n.*prints `(.*)` in about a minute", readme, re.MULTILINE
+    )
+    done = subprocess.run(
+        ["bash", "-c", command], cwd=TOP, capture_output=True, encoding="utf-8", timeout=10 * TIMEOUT, check=False
+    )
     trials.expect(command, (done.stdout, done.stderr.rpartition(" ")[2]), (f"{line}\n", "proved=no\n"))
 
 
@@ -87,7 +101,9 @@ LITERAL_KINDS = ["NoLiteral", "Unterminated", "BadEscape", "EscapeTooLarge", "Ze
 
 
 def literal_rows():
-    """The rows of REFUSALS.md on string literals: the literal, the number and the place of its fault, and what to write instead."""
+    """The rows of REFUSALS.md on string literals: the literal, the number and the place of its fault, and what to write
+    instead.
+    """
     part = (TOP / "docs/REFUSALS.md").read_text(encoding="utf-8").split(LITERALS)[1]
     return re.findall(r"^\| `(.+?)` \| (\d) at (\d+) \| `(.+?)` \|", part, flags=re.MULTILINE)
 
@@ -95,7 +111,9 @@ def literal_rows():
 def try_literals(program, trials):
     """Each row of REFUSALS.md on string literals is a fault there, and the one to write instead is accepted."""
     rows = literal_rows()
-    trials.expect("kinds of faults of literals in REFUSALS.md", sorted({int(row[1]) for row in rows}), list(range(1, 7)))
+    trials.expect(
+        "kinds of faults of literals in REFUSALS.md", sorted({int(row[1]) for row in rows}), list(range(1, 7))
+    )
     for literal, number, at, instead in rows:
         line = f"literal {number} {LITERAL_KINDS[int(number) - 1]} at byte {at}\n".encode()
         trials.expect(f"canon --literal {literal}", run(program, ["canon", "--literal", "--", literal]), (2, b"", line))
@@ -112,7 +130,11 @@ def try_whole(program, trials):
     for format, number, at, instead in rows:
         status, stdout, stderr = run(program, ["types", "--whole", "--", format])
         refusal = re.fullmatch(rb"refused (\d+) \w+ at byte (\d+)\n", stderr)
-        trials.expect(f"types --whole {format}", (status, stdout, refusal and refusal.groups()), (2, b"", (number.encode(), at.encode())))
+        trials.expect(
+            f"types --whole {format}",
+            (status, stdout, refusal and refusal.groups()),
+            (2, b"", (number.encode(), at.encode())),
+        )
         status, _, stderr = run(program, ["types", "--whole", "--", instead])
         trials.expect(f"{instead} is accepted, in the place of {format}", (status, stderr), (0, b""))
 
@@ -123,7 +145,9 @@ def refusal_rows():
     for line in text.splitlines():
         if not line.startswith("| ") or line.startswith(("| Format ", "| No. ")):
             continue
-        kind, row = re.search(r"^\| (\d+) \| (\w+) \|", line), re.search(r" `([^`]+)` \| (\d+) at (\d+) \| `([^`]+)` \|", line)
+        kind, row = re.search(r"^\| (\d+) \| (\w+) \|", line), re.search(
+            r" `([^`]+)` \| (\d+) at (\d+) \| `([^`]+)` \|", line
+        )
         if row is None:
             raise ValueError(f"no example in the row {line!r}")
         formats = [cell.replace("\\0", "\0").encode() for cell in (row.group(1), row.group(4))]
@@ -167,22 +191,30 @@ def try_sizes(program, trials):
     for count in [255, 256, 300, 20_000]:
         format, arguments = "%d" * count, ["n:1"] * (count - 1)
         line = f"argument count: wanted {count}, given {count - 1}\n".encode()
-        trials.expect(f"{count - 1} arguments for {count}", run(program, ["format", format, *arguments]), (3, b"", line))
+        trials.expect(
+            f"{count - 1} arguments for {count}", run(program, ["format", format, *arguments]), (3, b"", line)
+        )
         line = f"argument {count - 1}: not an argument\n".encode()
         trials.expect(f"a wrong word {count}", run(program, ["format", format, *arguments, "5"]), (3, b"", line))
         line = f"argument {count - 1}: wrong type\n".encode()
         trials.expect(f"a wrong type {count}", run(program, ["format", format, *arguments, "s:"]), (3, b"", line))
         line = f"types differ at argument {count}\n".encode()
-        trials.expect(f"types that differ at {count}", run(program, ["same", format + "%d", format + "%s"]), (1, line, b""))
+        trials.expect(
+            f"types that differ at {count}", run(program, ["same", format + "%d", format + "%s"]), (1, line, b"")
+        )
     greatest = (1 << 64) - 1
     answer = f"different\nn:{greatest}\n".encode()
     trials.expect("the greatest number", run(program, ["same", "%lx", "%lu"]), (1, answer, b""))
     trials.expect("the same, printed", run(program, ["format", "%lx", f"n:{greatest}"]), (0, b"f" * 16, b""))
     trials.expect("one more", run(program, ["format", "%lx", f"n:{greatest + 1}"])[0], 3)
     text = (b" " * 4084 + b"%11d") * 1000
-    trials.expect("a canonical text of four million bytes", run(program, ["canon", "%4095d" * 1000]), (0, text + b"\n", b""))
+    trials.expect(
+        "a canonical text of four million bytes", run(program, ["canon", "%4095d" * 1000]), (0, text + b"\n", b"")
+    )
     trials.expect("the same by stream", run(program, ["stream"], b"%4095d" * 1000), (0, text, b""))
-    trials.expect("four million bytes by stream", run(program, ["stream"], b"%i%%x!" * 700_000), (0, b"%d%%x!" * 700_000, b""))
+    trials.expect(
+        "four million bytes by stream", run(program, ["stream"], b"%i%%x!" * 700_000), (0, b"%d%%x!" * 700_000, b"")
+    )
 
 
 def try_devices(program, trials):
@@ -198,16 +230,24 @@ def try_devices(program, trials):
         os.close(writer)
         trials.expect(f"{words} to a pipe that nobody reads", (status, stderr), (4, b"write failed\n"))
         quoted = " ".join(f"'{word}'" for word in words)
-        done = subprocess.run(["bash", "-c", f"'{program}' {quoted} >&-"], stderr=subprocess.PIPE, timeout=TIMEOUT, check=False)
+        done = subprocess.run(
+            ["bash", "-c", f"'{program}' {quoted} >&-"], stderr=subprocess.PIPE, timeout=TIMEOUT, check=False
+        )
         trials.expect(f"{words} with standard output closed", (done.returncode, done.stderr), (4, b"write failed\n"))
-        done = subprocess.run(["bash", "-c", f"'{program}' {quoted} 2>&- <&-"], stdout=subprocess.PIPE, timeout=TIMEOUT, check=False)
+        done = subprocess.run(
+            ["bash", "-c", f"'{program}' {quoted} 2>&- <&-"], stdout=subprocess.PIPE, timeout=TIMEOUT, check=False
+        )
         trials.expect(f"{words} with the other two closed", done.returncode, 0)
 
 
 def try_count(trials):
     """docs/VERIFICATION.md says how many trials there are. This is the last of all, and counts itself."""
     found = re.search(r"([\d,]+) runs and comparisons", (TOP / "docs/VERIFICATION.md").read_text(encoding="utf-8"))
-    trials.expect("trials in docs/VERIFICATION.md", found and int(found.group(1).replace(",", "")), trials.passed + trials.failed + 1)
+    trials.expect(
+        "trials in docs/VERIFICATION.md",
+        found and int(found.group(1).replace(",", "")),
+        trials.passed + trials.failed + 1,
+    )
 
 
 def try_all(program, trials):

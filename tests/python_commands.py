@@ -1,10 +1,11 @@
 #!/usr/bin/env python3
-"""Tries fmtcanon-diff (diffing.py), fmtcanon-replace (replacing.py), fmtcanon-po (translations.py, catalog_edges.py), and the manual page and the completions against the program's help.
+"""Tries fmtcanon-diff (diffing.py), fmtcanon-replace (replacing.py), fmtcanon-po (translations.py, catalog_edges.py),
+and the manual page and the completions against the program's help.
 
 Usage: tests/python_commands.py PROGRAM FOLDER
 
-FOLDER has libfmtcanon.so, as `make library` leaves it. It needs a Linux system with gcc. Its last line is
-'N passed, M failed', and it exits with 1 where M isn't 0.
+FOLDER has libfmtcanon.so, as `make library` leaves it. It needs a Linux system with gcc. Its last line is 'N passed, M
+failed', and it exits with 1 where M isn't 0.
 """
 
 import re
@@ -21,6 +22,7 @@ from diffing import try_diffing  # noqa: E402
 from harness import TIMEOUT, TOP, main, run  # noqa: E402
 from replacing import try_without_libclang  # noqa: E402
 from translations import try_catalogs  # noqa: E402
+
 
 def help_of(program, words):
     """The parts of a help text: the lines of usage, commands, arguments, options, examples and statuses."""
@@ -57,7 +59,9 @@ def model_values(help_parts):
 
 
 def try_page(program, trials):
-    """The manual page has the commands, arguments, options with their values, statuses and kinds that the program has."""
+    """The manual page has the commands, arguments, options with their values, statuses and kinds that the program
+    has.
+    """
     page = (TOP / "man/fmtcanon.1").read_text(encoding="utf-8")
     top = help_of(program, [])
     commands = [name for name, _ in top["Commands"]]
@@ -71,13 +75,35 @@ def try_page(program, trials):
     trials.expect("values that same and fits take", model_values(helps["fits"]), model_values(helps["same"]))
     section = page[page.index(".SH OPTIONS") : page.index(".SH EXIT STATUS")]
     for value in model_values(helps["same"]):
-        trials.expect(f"--model {value} in the manual page", re.search(rf"^\.BR? {value}\b", section, flags=re.MULTILINE) is not None, True)
+        trials.expect(
+            f"--model {value} in the manual page",
+            re.search(rf"^\.BR? {value}\b", section, flags=re.MULTILINE) is not None,
+            True,
+        )
     options = re.split(r"^\.TP\n", section, flags=re.MULTILINE)
     for option in ["literal", "null", "whole"]:
-        found = {name for name in commands if re.search(rf"\b{name}\b", next(it for it in options if f"\\-\\-{option}" in it.splitlines()[0]).split(":\n")[0])}
-        trials.expect(f"commands with --{option} in the manual page", found, {name for name in commands if any(f"--{option}" in it for it, _ in helps[name]["Options"])})
-    trials.expect("statuses of the manual page", list(page_tags(page, "EXIT STATUS")), [status for status, _ in top["Exit status"]])
-    kinds = re.findall(r"^ +FMTCANON_(\w+) = (\d+),? ", (TOP / "include/fmtcanon.h").read_text(encoding="utf-8").split("enum fmtcanon_kind {")[1].split("}")[0], flags=re.MULTILINE)
+        found = {
+            name
+            for name in commands
+            if re.search(
+                rf"\b{name}\b", next(it for it in options if f"\\-\\-{option}" in it.splitlines()[0]).split(":\n")[0]
+            )
+        }
+        trials.expect(
+            f"commands with --{option} in the manual page",
+            found,
+            {name for name in commands if any(f"--{option}" in it for it, _ in helps[name]["Options"])},
+        )
+    trials.expect(
+        "statuses of the manual page",
+        list(page_tags(page, "EXIT STATUS")),
+        [status for status, _ in top["Exit status"]],
+    )
+    kinds = re.findall(
+        r"^ +FMTCANON_(\w+) = (\d+),? ",
+        (TOP / "include/fmtcanon.h").read_text(encoding="utf-8").split("enum fmtcanon_kind {")[1].split("}")[0],
+        flags=re.MULTILINE,
+    )
     names = [f"{number} {name.title().replace('_', '')}" for name, number in kinds]
     trials.expect("kinds of the manual page", list(page_tags(page, "REFUSALS")), names)
     version = re.search(r'^\.TH .* "(fmtcanon \S+)"', page, flags=re.MULTILINE).group(1)
@@ -88,7 +114,9 @@ def completed(words):
     """What bash completes after these words, the last of which is begun."""
     script = 'source "$0"; COMP_WORDS=("$@"); COMP_CWORD=$(($# - 1)); _fmtcanon; printf "%s\\n" "${COMPREPLY[@]}"'
     file = TOP / "completions/fmtcanon.bash"
-    done = subprocess.run(["bash", "-c", script, file, "fmtcanon", *words], stdout=subprocess.PIPE, timeout=TIMEOUT, check=True)
+    done = subprocess.run(
+        ["bash", "-c", script, file, "fmtcanon", *words], stdout=subprocess.PIPE, timeout=TIMEOUT, check=True
+    )
     return done.stdout.decode().split()
 
 
@@ -101,22 +129,34 @@ def completed_command(name, words):
 
 def try_command_completions(trials):
     """The completions of the commands that are written in Python have the options of their help."""
-    zsh, fish = ((TOP / f"completions/{name}").read_text(encoding="utf-8") for name in ["_fmtcanon-commands", "fmtcanon-commands.fish"])
+    zsh, fish = (
+        (TOP / f"completions/{name}").read_text(encoding="utf-8")
+        for name in ["_fmtcanon-commands", "fmtcanon-commands.fish"]
+    )
     for name in installing.COMMANDS:
         options = [one.split()[0] for one in installing.options_of(name)]
         listed = sorted({"-h", *options})
         command = f"fmtcanon-{name}"
         trials.expect(f"bash: {command} -", sorted(completed_command(command, ["-"])), listed)
-        trials.expect(f"bash: {command} --model", completed_command(command, ["--model", ""]), ["lp64", "ilp32", "llp64", "both", "all"])
+        trials.expect(
+            f"bash: {command} --model",
+            completed_command(command, ["--model", ""]),
+            ["lp64", "ilp32", "llp64", "both", "all"],
+        )
         trials.expect(f"bash: {command} --output=s", completed_command(command, ["--output", "=", "s"]), ["sarif"])
-        trials.expect(f"bash: {command} --output=j in one word", completed_command(command, ["--output=j"]), ["--output=json"])
+        trials.expect(
+            f"bash: {command} --output=j in one word", completed_command(command, ["--output=j"]), ["--output=json"]
+        )
         trials.expect(f"bash: {command} --", completed_command(command, ["--", "-"]), [])
         case = re.search(rf"^    {command}\)\n(.*?);;$", zsh, flags=re.DOTALL | re.MULTILINE).group(1)
         common = zsh[: zsh.index("case $service")]
         found = re.findall(r"(?<![\w-])(--?[a-z][a-z-]*)(?=[+=]|\[|,|})", common + case)
         trials.expect(f"zsh: {command}", sorted(set(found)), listed)
         found = set()
-        for block, commands in [(it[1], it[0].split()) for it in re.findall(r"^for command in (.*?)\n(.*?)^end$", fish, flags=re.DOTALL | re.MULTILINE)]:
+        for block, commands in [
+            (it[1], it[0].split())
+            for it in re.findall(r"^for command in (.*?)\n(.*?)^end$", fish, flags=re.DOTALL | re.MULTILINE)
+        ]:
             found |= set(fish_options(block, r"\$command")) if command in commands else set()
         trials.expect(f"fish: {command}", sorted(found | set(fish_options(fish, command))), listed)
 
@@ -148,7 +188,9 @@ def try_completions(program, trials):
             trials.expect(f"bash: {name} {words}", completed([name, *words]), [])
         trials.expect(f"bash: {name} -", completed([name, "-"]), one)
         trials.expect(f"bash: {name} and a format", completed([name, ""]), [])
-        trials.expect(f"bash: {name} and what follows", completed([name, "%d", ""]), ["n:", "s:"] if name == "format" else [])
+        trials.expect(
+            f"bash: {name} and what follows", completed([name, "%d", ""]), ["n:", "s:"] if name == "format" else []
+        )
     words = ["bash", "-c", 'source "$0"; complete -p fmtcanon', TOP / "completions/fmtcanon.bash"]
     output = subprocess.run(words, stdout=subprocess.PIPE, timeout=TIMEOUT, check=True).stdout.decode()
     trials.expect("bash: a space follows a command", output, "complete -F _fmtcanon fmtcanon\n")

@@ -3,15 +3,15 @@
 
 Usage: tests/reach.py
 
-It begins with the names in the contracts of STARTS, and goes from each definition to those that it names. What it reaches has
-to be in FOLDER, and what is there has to be reached. It checks docs/DEFINITIONS.md against that: how many lines the folder has,
-and which types and constants of the code and words of the library the definitions use.
+It begins with the names in the contracts of STARTS, and goes from each definition to those that it names. What it
+reaches has to be in FOLDER, and what is there has to be reached. It checks docs/DEFINITIONS.md against that: how many
+lines the folder has, and which types and constants of the code and words of the library the definitions use.
 
-It does the same for the headline of the whole language, with WHOLE_STARTS and WHOLE_FOLDER. That headline also depends on
-definitions of FOLDER, and on those of other crates that docs/DEFINITIONS.md lists.
+It does the same for the headline of the whole language, with WHOLE_STARTS and WHOLE_FOLDER. That headline also depends
+on definitions of FOLDER, and on those of other crates that docs/DEFINITIONS.md lists.
 
-A refusal in the whole language depends on the states of an automaton. What REFUSALS reach, and neither ACCEPTED nor FOLDER has,
-must be what a table of docs/DEFINITIONS.md lists.
+A refusal in the whole language depends on the states of an automaton. What REFUSALS reach, and neither ACCEPTED nor
+FOLDER has, must be what a table of docs/DEFINITIONS.md lists.
 
 Its last line is 'N passed, M failed', and it exits with 1 where M isn't 0.
 """
@@ -30,13 +30,18 @@ from harness import TOP, main  # noqa: E402
 FOLDER = "Rattle.pf_values.specs.meaning"
 # The functions whose contracts are the headline, and what a refusal says.
 STARTS = [("pf_compare/src/laws.rt", "headline"), ("pf_text/src/pieces.rt", "check")]
-# The same for the headline of the whole language, and the crate of which it uses definitions that lie in no such folder.
+# The same for the headline of the whole language, and the crate of which it uses definitions that lie in no such
+# folder.
 WHOLE_FOLDER = "Rattle.pf_whole.specs.meaning"
 WHOLE_STARTS = [("pf_whole/src/laws.rt", "headline")]
 LOWER = "Rattle.pf_signatures.specs"
-# The words for a refusal in the whole language, each with the function whose contract has it; and the words for acceptance.
+# The words for a refusal in the whole language, each with the function whose contract has it; and the words for
+# acceptance.
 REFUSALS = [(f"{LOWER}.Refusals", "IsPosixRefusedAt"), (f"{LOWER}.Unnumbered", "IsWholeRefusedAt")]
-REFUSED_BY = [("pf_signatures/src/argument_types.rt", "arguments"), ("pf_signatures/src/unnumbered.rt", "check_unnumbered")]
+REFUSED_BY = [
+    ("pf_signatures/src/argument_types.rt", "arguments"),
+    ("pf_signatures/src/unnumbered.rt", "check_unnumbered"),
+]
 ACCEPTED = [(f"{LOWER}.Items", "HasArguments"), (f"{LOWER}.Stretches", "IsWholeAccepted")]
 NAME = r"[^\W\d]\w*"
 # An import: of names of a module, or of a module by another name.
@@ -158,14 +163,18 @@ def reached_from(names):
 def all_there(folder):
     """The definitions of a folder."""
     top = file_of(folder).with_suffix("")
-    paths = [f"{folder}.{file.relative_to(top).with_suffix('')}".replace("/", ".") for file in sorted(top.rglob("*.antt"))]
+    paths = [
+        f"{folder}.{file.relative_to(top).with_suffix('')}".replace("/", ".") for file in sorted(top.rglob("*.antt"))
+    ]
     return {(path, name) for path in paths for name in module_of(path).texts}
 
 
 def lines_there(folder):
     """How many lines a folder has, and how many without comments, imports and empty lines."""
     texts = [file.read_text(encoding="utf-8") for file in file_of(folder).with_suffix("").rglob("*.antt")]
-    plain = [line for text in texts for line in imports_of(without_comments(text), Module()).splitlines() if line.strip()]
+    plain = [
+        line for text in texts for line in imports_of(without_comments(text), Module()).splitlines() if line.strip()
+    ]
     return [sum(text.count("\n") for text in texts), len(plain)]
 
 
@@ -173,7 +182,11 @@ def of_code(others):
     """The types and the constants of the code among these names, without the variants of the types."""
     found = {(path, name) for path, name in others if ".specs.declared." in path}
     constants = {name for path, name in found if path.endswith(".TheConstants")}
-    types = {path.removesuffix(".TheVariants").rpartition(".")[2] for path, name in found if not path.endswith(".TheConstants")}
+    types = {
+        path.removesuffix(".TheVariants").rpartition(".")[2]
+        for path, name in found
+        if not path.endswith(".TheConstants")
+    }
     return types, constants
 
 
@@ -209,8 +222,14 @@ def try_reach(trials):
     types, constants = of_code(others)
     trials.expect("types of the code in docs/DEFINITIONS.md", listed(text, "Of the code they use the types "), types)
     trials.expect("constants of the code in docs/DEFINITIONS.md", listed(text, "They use the constants "), constants)
-    trials.expect("words of the library in docs/DEFINITIONS.md", listed(text, "Of the library they use "), of_library(others))
-    trials.expect("lines in docs/DEFINITIONS.md", counted(text, "All that the headline and a rejection depend on"), lines_there(FOLDER))
+    trials.expect(
+        "words of the library in docs/DEFINITIONS.md", listed(text, "Of the library they use "), of_library(others)
+    )
+    trials.expect(
+        "lines in docs/DEFINITIONS.md",
+        counted(text, "All that the headline and a rejection depend on"),
+        lines_there(FOLDER),
+    )
     try_whole(trials, text, others)
 
 
@@ -219,21 +238,41 @@ def try_whole(trials, text, known):
     found, others = reached(WHOLE_STARTS)
     there, below = all_there(WHOLE_FOLDER), all_there(FOLDER)
     lower = {(path, name) for path, name in found if path.startswith(LOWER + ".")}
-    trials.expect(f"definitions of {WHOLE_FOLDER} that the headline of the whole language doesn't depend on", in_words(there - found), [])
-    trials.expect(f"definitions that it depends on, outside of {WHOLE_FOLDER}, {FOLDER} and {LOWER}", in_words(found - there - below - lower), [])
+    trials.expect(
+        f"definitions of {WHOLE_FOLDER} that the headline of the whole language doesn't depend on",
+        in_words(there - found),
+        [],
+    )
+    trials.expect(
+        f"definitions that it depends on, outside of {WHOLE_FOLDER}, {FOLDER} and {LOWER}",
+        in_words(found - there - below - lower),
+        [],
+    )
     names = {name for _, name in lower}
-    trials.expect(f"definitions of {LOWER} that it depends on, in docs/DEFINITIONS.md", listed(text, "Of `pf_signatures` they use the definitions "), names)
+    trials.expect(
+        f"definitions of {LOWER} that it depends on, in docs/DEFINITIONS.md",
+        listed(text, "Of `pf_signatures` they use the definitions "),
+        names,
+    )
     types, constants = of_code(others - known)
     trials.expect("more types of the code in docs/DEFINITIONS.md", listed(text, "They also use the types "), types)
     trials.expect("constants of the code that the first headline doesn't use", constants, set())
     trials.expect("words of the library that the first headline doesn't use", of_library(others - known), set())
-    trials.expect("lines of the whole language in docs/DEFINITIONS.md", counted(text, "What the headline of the whole language depends on"), lines_there(WHOLE_FOLDER))
+    trials.expect(
+        "lines of the whole language in docs/DEFINITIONS.md",
+        counted(text, "What the headline of the whole language depends on"),
+        lines_there(WHOLE_FOLDER),
+    )
 
 
 def table_after(text, heading):
     """The names of the definitions in the first column of the table that begins so, below a heading."""
     section = re.search(rf"^### {re.escape(heading)}$(.*?)^##", text, flags=re.DOTALL | re.MULTILINE)
-    table = re.search(r"^\| Definition \| Says \|\n\|---\|---\|\n((?:\|.*\n)+)", section[1], flags=re.MULTILINE) if section else None
+    table = (
+        re.search(r"^\| Definition \| Says \|\n\|---\|---\|\n((?:\|.*\n)+)", section[1], flags=re.MULTILINE)
+        if section
+        else None
+    )
     cells = [line.split("|")[1] for line in table[1].splitlines()] if table else []
     # A name in parentheses is that of a file or of a crate.
     return [name for cell in cells for name in re.findall(rf"`({NAME})[^`]*`", re.sub(r"\([^)]*\)", "", cell))]
@@ -252,11 +291,19 @@ def try_refusals(trials):
         trials.expect(f"the contract of {function} has {word[1]}", word in contract(file, function), True)
     (refused, others), (accepted, known) = reached_from(REFUSALS), reached_from(ACCEPTED)
     own = {(path, name) for path, name in refused - accepted if not path.startswith(FOLDER + ".")}
-    trials.expect("definitions of a refusal in docs/DEFINITIONS.md", sorted(table_after(text, "Words of a refusal")), sorted(name for _, name in own))
+    trials.expect(
+        "definitions of a refusal in docs/DEFINITIONS.md",
+        sorted(table_after(text, "Words of a refusal")),
+        sorted(name for _, name in own),
+    )
     states = [name for name, data in module_of(f"{LOWER}.Stages").types.items() if data == "PosixState" != name]
     trials.expect("states in docs/DEFINITIONS.md", states_in(text), states)
     types, constants = of_code(others - known)
-    trials.expect("types of the code in a refusal", listed(text, "Of the code these definitions use the types "), types - of_code(known)[0])
+    trials.expect(
+        "types of the code in a refusal",
+        listed(text, "Of the code these definitions use the types "),
+        types - of_code(known)[0],
+    )
     trials.expect("constants of the code in a refusal that acceptance doesn't use", constants, set())
 
 

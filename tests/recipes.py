@@ -1,4 +1,5 @@
-"""Tries what projects copy from here: the hooks of pre-commit and of git, the GitHub workflow, and what meson and CMake run.
+"""Tries what projects copy from here: the hooks of pre-commit and of git, the GitHub workflow, and what meson and CMake
+run.
 
 `tests/outside_tools.py` runs it. No network is used: of a hook or a workflow the commands are run.
 """
@@ -30,7 +31,15 @@ def installed(tool):
 
 def shell(tool, words, **more):
     done = subprocess.run(
-        words, cwd=tool.work, env=tool.environment, check=False, timeout=TIMEOUT, stdin=subprocess.DEVNULL, stdout=subprocess.PIPE, stderr=subprocess.STDOUT, **more
+        words,
+        cwd=tool.work,
+        env=tool.environment,
+        check=False,
+        timeout=TIMEOUT,
+        stdin=subprocess.DEVNULL,
+        stdout=subprocess.PIPE,
+        stderr=subprocess.STDOUT,
+        **more,
     )
     return done.returncode, done.stdout.decode()
 
@@ -38,17 +47,27 @@ def shell(tool, words, **more):
 def try_hook(tool, trials):
     """The hook lets a commit pass that changes no output, and the first one."""
     shutil.copy(CI / "pre-commit", tool.work / ".git/hooks/pre-commit")
-    for text, message, passes in [(OLD, "the first commit", True), (RESPELLED, "respelled", True), (CHANGED, "changed", False)]:
+    for text, message, passes in [
+        (OLD, "the first commit", True),
+        (RESPELLED, "respelled", True),
+        (CHANGED, "changed", False),
+    ]:
         tool.put("src.c", text)
         tool.git("add", "src.c")
         status, output = shell(tool, ["git", "commit", "-qm", message])
-        trials.expect(f"the hook of git, {message}: {output}", (status == 0, LINE.replace("%05d", "%0005d") in output), (passes, not passes))
+        trials.expect(
+            f"the hook of git, {message}: {output}",
+            (status == 0, LINE.replace("%05d", "%0005d") in output),
+            (passes, not passes),
+        )
     trials.expect("without the hook", shell(tool, ["git", "commit", "-qnm", "changed"])[0], 0)
 
 
 def entries(file):
     """The entries of the hooks of pre-commit, by their id."""
-    return dict(re.findall(r"^- id: (\S+)\n(?:  .*\n)*?  entry: (.*)$", file.read_text(encoding="utf-8"), flags=re.MULTILINE))
+    return dict(
+        re.findall(r"^- id: (\S+)\n(?:  .*\n)*?  entry: (.*)$", file.read_text(encoding="utf-8"), flags=re.MULTILINE)
+    )
 
 
 def try_entries(tool, trials):
@@ -57,14 +76,18 @@ def try_entries(tool, trials):
     trials.expect("hooks of pre-commit", sorted(found), ["fmtcanon-diff", "fmtcanon-po"])
     tool.put("src.c", OLD)
     status, output = shell(tool, found["fmtcanon-diff"], shell=True)
-    trials.expect("the hook fmtcanon-diff", (status, 'src.c:3:12: different: "%.5d\\n" and "%05d\\n"' in output), (1, True))
+    trials.expect(
+        "the hook fmtcanon-diff", (status, 'src.c:3:12: different: "%.5d\\n" and "%05d\\n"' in output), (1, True)
+    )
     status, output = shell(tool, f"{found['fmtcanon-po']} po/de.po", shell=True)
     trials.expect("the hook fmtcanon-po", (status, output), (0, "1 message judged, 0 not judged\n"))
 
 
 def try_workflow(tool, trials):
     """The command of the workflow, on a branch."""
-    [command] = re.findall(r"^ *- run: (fmtcanon-.*)$", (CI / "workflow.yml").read_text(encoding="utf-8"), flags=re.MULTILINE)
+    [command] = re.findall(
+        r"^ *- run: (fmtcanon-.*)$", (CI / "workflow.yml").read_text(encoding="utf-8"), flags=re.MULTILINE
+    )
     tool.git("branch", "origin/main", "HEAD~1")
     tool.environment["GITHUB_BASE_REF"] = "main"
     status, output = shell(tool, command, shell=True)
@@ -73,14 +96,22 @@ def try_workflow(tool, trials):
 
 def try_build(tool, name, tools, steps, trials):
     """The target of a build system fails where the output changes, and its test of catalogs passes."""
-    if not all(tools.has(*it) for it in {"meson": [("meson", "meson"), ("ninja", "ninja-build")], "cmake": [("cmake", "cmake"), ("make", "make")]}[name]):
+    if not all(
+        tools.has(*it)
+        for it in {
+            "meson": [("meson", "meson"), ("ninja", "ninja-build")],
+            "cmake": [("cmake", "cmake"), ("make", "make")],
+        }[name]
+    ):
         return
     setup, target, check = steps
     trials.expect(f"{name}: {setup}", shell(tool, setup)[0], 0)
     for text, passes in [(CHANGED, True), (OLD, False)]:
         tool.put("src.c", text)
         status, output = shell(tool, target)
-        trials.expect(f"{name}: {target}: {output}", (status == 0, "src.c:3:12: different" in output), (passes, not passes))
+        trials.expect(
+            f"{name}: {target}: {output}", (status == 0, "src.c:3:12: different" in output), (passes, not passes)
+        )
     status, output = shell(tool, check)
     trials.expect(f"{name}: {check}: {output}", status, 0)
 
@@ -90,13 +121,30 @@ def try_recipes(program, folder, tools, trials):
         tool = Tool(program, folder, os.path.realpath(work))
         installed(tool)
         tool.git("init", "-q")
-        tool.put("po/de.po", 'msgid ""\nmsgstr "Content-Type: text/plain; charset=UTF-8\\n"\n\n#, c-format\nmsgid "%d"\nmsgstr "%i"\n')
+        tool.put(
+            "po/de.po",
+            'msgid ""\nmsgstr "Content-Type: text/plain; charset=UTF-8\\n"\n\n#, c-format\nmsgid "%d"\nmsgstr "%i"\n',
+        )
         for name in ["meson.build", "CMakeLists.txt"]:
             shutil.copy(CI / name, tool.work)
         try_hook(tool, trials)
         try_entries(tool, trials)
         try_workflow(tool, trials)
-        try_build(tool, "meson", tools, [["meson", "setup", "build"], ["meson", "compile", "-C", "build", "formats"], ["meson", "test", "-C", "build"]], trials)
+        try_build(
+            tool,
+            "meson",
+            tools,
+            [
+                ["meson", "setup", "build"],
+                ["meson", "compile", "-C", "build", "formats"],
+                ["meson", "test", "-C", "build"],
+            ],
+            trials,
+        )
         build = str(Path("made"))
-        steps = [["cmake", "-B", build], ["cmake", "--build", build, "--target", "formats"], ["sh", "-c", f"cd {build} && ctest"]]
+        steps = [
+            ["cmake", "-B", build],
+            ["cmake", "--build", build, "--target", "formats"],
+            ["sh", "-c", f"cd {build} && ctest"],
+        ]
         try_build(tool, "cmake", tools, steps, trials)

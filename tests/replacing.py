@@ -1,7 +1,7 @@
 """Tries fmtcanon-replace: programs that are compiled and run before and after, and files that it must leave.
 
-It needs libclang, so `tests/outside_tools.py` runs it with a Python that has that. `tests/python_commands.py` tries what the command says
-without it; the parts that need no compiler are in python/tests/test_replace.py.
+It needs libclang, so `tests/outside_tools.py` runs it with a Python that has that. `tests/python_commands.py` tries
+what the command says without it; the parts that need no compiler are in python/tests/test_replace.py.
 """
 
 import json
@@ -19,7 +19,8 @@ from harness import SONAME, TIMEOUT, TOP, examples
 
 FOLDER = TOP / "tests/rewrites"
 OLD, NEW = "%i\\n", "%d\\n"
-# Programs in tests/rewrites/ that print something else if the place is replaced, and what is said of them. A second row of
+# Programs in tests/rewrites/ that print something else if the place is replaced, and what is said of them. A second row
+# of
 # a file has other words.
 LEFT = [
     ("asm-label.c", [], "left: an asm names printf"),
@@ -48,13 +49,20 @@ LEFT = [
 # Programs in which the place is replaced although another text is printed then: nothing in the file shows it.
 NOT_SEEN = [("function-key.c", ["--function", "once:0"]), ("other-file.c", []), ("wrap.c", [])]
 # What a compiler needs to build a program.
-LINKED = {"fmt-library.cpp": ["-lfmt"], "spdlog.cpp": ["-DSPDLOG_COMPILED_LIB", "-DSPDLOG_FMT_EXTERNAL", "-lspdlog", "-lfmt"]}
+LINKED = {
+    "fmt-library.cpp": ["-lfmt"],
+    "spdlog.cpp": ["-DSPDLOG_COMPILED_LIB", "-DSPDLOG_FMT_EXTERNAL", "-lspdlog", "-lfmt"],
+}
 # Bodies of main, or whole programs, in which the place is the format of a call of the C library; each with flags of the
 # compiler and what is said, where that isn't that one place is replaced.
 CALLS = {
     "plain": ('printf("%i\\n", 5);', [], None),
     "in a condition": ('if (printf("%i\\n", 5) < 0) return 1;', [], None),
-    "of a fortified header": ('char out[9]; snprintf(out, sizeof out, "%i\\n", 5); fputs(out, stdout); printf("%i\\n", 6);', ["-O2", "-D_FORTIFY_SOURCE=2"], None),
+    "of a fortified header": (
+        'char out[9]; snprintf(out, sizeof out, "%i\\n", 5); fputs(out, stdout); printf("%i\\n", 6);',
+        ["-O2", "-D_FORTIFY_SOURCE=2"],
+        None,
+    ),
     "of fprintf": ('fprintf(stdout, ("%i\\n"), 5);', [], None),
     "as an argument of a macro": ("#define TWICE(x) x; x\n", 'TWICE(printf("%i\\n", 5));', [], None),
 }
@@ -70,23 +78,63 @@ SOURCES = [
     ("", 'printf(stdout ? "%i\\n" : "", 1);', [], "left: it isn't the whole argument of a call"),
     ("", 'printf("%i\\n" + 0, 1);', [], "left: it isn't the whole argument of a call"),
     ("", '/* printf("%i\\n", 1); */', [], ""),
-    ("#define X \"x\"", 'printf(X "%i\\n", 1);', [], "left: it isn't the whole argument of a call"),
+    ('#define X "x"', 'printf(X "%i\\n", 1);', [], "left: it isn't the whole argument of a call"),
     ("#define STR(x) #x", 'puts(STR("%i\\n"));', [], "left: a macro makes other text of it"),
     ("#define TWO(f) printf(f, 1); puts(f)", 'TWO("%i\\n");', [], "left: it is an argument of puts, which isn't known"),
     ("#define TWO(f) printf(f, 1); printf(f, 2)", 'TWO("%i\\n");', [], "replaced"),
     ("#define TWO(f) printf(f, 1); (void)f[0]", 'TWO("%i\\n");', [], "left: a macro uses it for something else, too"),
     ("#define CHECK(f) _Static_assert(sizeof f > 1, f); printf(f, 1)", 'CHECK("%i\\n");', [], "replaced"),
-    ("#include <stdlib.h>\n#define DIE(s, f) ((void)sizeof(struct { _Static_assert(s + 1, #f); int x; }), printf(f, s))", 'DIE(EXIT_FAILURE, "%i\\n");', [], "replaced"),
-    ("char *gettext(const char *); ", 'printf(gettext("%i\\n"), 1);', [], "left: it is a key for translators, an argument of gettext"),
-    ("char *gettext(const char *);\n#define _(x) gettext(x)", 'printf(_("%i\\n"), 1);', [], "left: it is a key for translators, an argument of gettext"),
-    ("void say(const char *, ...) __attribute__((format(printf, 1, 2)));", 'say("%i\\n", 1);', [], "left: it is an argument of say, which isn't known"),
-    ("void say(const char *, ...) __attribute__((format(printf, 1, 2)));", 'say("%i\\n", 1);', ["--attribute"], "replaced"),
-    ("void say(int, const char *, ...) __attribute__((__format__(__printf__, 2, 3)));", 'say(1, "%i\\n", 1);', ["--attribute"], "replaced"),
-    ("void say(const char *, ...) __attribute__((format(scanf, 1, 2)));", 'say("%i\\n", 1);', ["--attribute"], "left: it is an argument of say, which isn't known"),
+    (
+        "#include <stdlib.h>\n#define DIE(s, f) ((void)sizeof(struct { _Static_assert(s + 1, #f); int x; }), printf(f, s))",
+        'DIE(EXIT_FAILURE, "%i\\n");',
+        [],
+        "replaced",
+    ),
+    (
+        "char *gettext(const char *); ",
+        'printf(gettext("%i\\n"), 1);',
+        [],
+        "left: it is a key for translators, an argument of gettext",
+    ),
+    (
+        "char *gettext(const char *);\n#define _(x) gettext(x)",
+        'printf(_("%i\\n"), 1);',
+        [],
+        "left: it is a key for translators, an argument of gettext",
+    ),
+    (
+        "void say(const char *, ...) __attribute__((format(printf, 1, 2)));",
+        'say("%i\\n", 1);',
+        [],
+        "left: it is an argument of say, which isn't known",
+    ),
+    (
+        "void say(const char *, ...) __attribute__((format(printf, 1, 2)));",
+        'say("%i\\n", 1);',
+        ["--attribute"],
+        "replaced",
+    ),
+    (
+        "void say(int, const char *, ...) __attribute__((__format__(__printf__, 2, 3)));",
+        'say(1, "%i\\n", 1);',
+        ["--attribute"],
+        "replaced",
+    ),
+    (
+        "void say(const char *, ...) __attribute__((format(scanf, 1, 2)));",
+        'say("%i\\n", 1);',
+        ["--attribute"],
+        "left: it is an argument of say, which isn't known",
+    ),
     ("void say(int, const char *, ...);", 'say(1, "%i\\n", 1);', ["--function", "say:1"], "replaced"),
     ("", 'say("%i\\n", 1);', [], "left: it is an argument of say, which isn't known"),
     ("int printf(const char *, ...);", 'printf("%i\\n", 1);', [], "left: printf is declared in a.c, too"),
-    ("static int f(void) { extern int printf(const char *, ...); return printf != 0; }", 'printf("%i\\n", 1);', [], "left: printf is declared in a.c, too"),
+    (
+        "static int f(void) { extern int printf(const char *, ...); return printf != 0; }",
+        'printf("%i\\n", 1);',
+        [],
+        "left: printf is declared in a.c, too",
+    ),
     ("#ifdef ON", 'printf("%i\\n", 1);\n}\nvoid h(void) {\n#endif', [], None),
     ("#ifdef ON", 'printf("%i\\n", 1);\n}\nvoid h(void) {\n#endif', ["--flag=-DON"], "replaced"),
     ("#line 7", 'printf("%i\\n", 1);', [], None),
@@ -102,8 +150,14 @@ DIFFERENCES = [
     (["--model", "ilp32", "%zx", "%u"], "left: the two print different bytes for 4294967295"),
     (["--model", "lp64", "%zu", "%lu"], "replaced"),
     (["--model", "ilp32", "%zd", "%d"], "replaced"),
-    (["%'i", "%d"], "left: the flag ' groups digits, except in the POSIX locale: --posix-locale says that it prints there"),
-    (["%i", "%'d"], "left: the flag ' groups digits, except in the POSIX locale: --posix-locale says that it prints there"),
+    (
+        ["%'i", "%d"],
+        "left: the flag ' groups digits, except in the POSIX locale: --posix-locale says that it prints there",
+    ),
+    (
+        ["%i", "%'d"],
+        "left: the flag ' groups digits, except in the POSIX locale: --posix-locale says that it prints there",
+    ),
     (["%%'%i", "%%'%d"], "replaced"),
     (["--posix-locale", "%'i", "%d"], "replaced"),
     (["%i: %.2f\\n", "%d: %.2f\\n"], "replaced"),
@@ -114,7 +168,10 @@ DIFFERENCES = [
     (["%f%05d", "%f%.5d"], "left: the two print different bytes for any, -1"),
     (["%f", "%Lf"], "left: the types differ at argument 0"),
     (["%jn%f", "%ln%f"], "left: in ILP32 the types differ at argument 0; in LLP64 the types differ at argument 0"),
-    (["%'f", "%f"], "left: the flag ' groups digits, except in the POSIX locale: --posix-locale says that it prints there"),
+    (
+        ["%'f", "%f"],
+        "left: the flag ' groups digits, except in the POSIX locale: --posix-locale says that it prints there",
+    ),
     (["--posix-locale", "%'f", "%f"], "replaced"),
 ]
 USAGE = [
@@ -152,8 +209,11 @@ class Tool:
         self.words = [python, TOP / "examples/replace_format.py"]
         paths = os.pathsep.join([*([modules] if modules else []), str(TOP / "python")])
         self.environment = {
-            **os.environ, "FMTCANON_LIBRARY": str(folder / SONAME), "PYTHONPATH": paths,
-            "PYTHONDONTWRITEBYTECODE": "1", "LC_ALL": "C.UTF-8",
+            **os.environ,
+            "FMTCANON_LIBRARY": str(folder / SONAME),
+            "PYTHONPATH": paths,
+            "PYTHONDONTWRITEBYTECODE": "1",
+            "LC_ALL": "C.UTF-8",
         }
 
     def run(self, words):
@@ -162,8 +222,19 @@ class Tool:
         return status, re.sub(r"^(.*?:\d+):\d+: ", r"\1: ", output, flags=re.MULTILINE), fault
 
     def run_with_columns(self, words):
-        done = subprocess.run([*self.words, *words], cwd=self.work, env=self.environment, timeout=10 * TIMEOUT, check=False, capture_output=True)
-        return done.returncode, done.stdout.decode(errors="surrogateescape"), done.stderr.decode(errors="surrogateescape")
+        done = subprocess.run(
+            [*self.words, *words],
+            cwd=self.work,
+            env=self.environment,
+            timeout=10 * TIMEOUT,
+            check=False,
+            capture_output=True,
+        )
+        return (
+            done.returncode,
+            done.stdout.decode(errors="surrogateescape"),
+            done.stderr.decode(errors="surrogateescape"),
+        )
 
     def put(self, name, text):
         """Writes a file, and returns its path."""
@@ -175,7 +246,13 @@ class Tool:
     def printed(self, name, words=()):
         """Returns what a program prints, and its status."""
         compiler = "g++" if name.endswith(".cpp") else "gcc"
-        built = subprocess.run([compiler, "-w", "-o", "program", name, *words], cwd=self.work, check=False, timeout=TIMEOUT, capture_output=True)
+        built = subprocess.run(
+            [compiler, "-w", "-o", "program", name, *words],
+            cwd=self.work,
+            check=False,
+            timeout=TIMEOUT,
+            capture_output=True,
+        )
         if built.returncode:
             return "not compiled", built.stderr.decode()
         done = subprocess.run(["./program"], cwd=self.work, check=False, timeout=TIMEOUT, capture_output=True)
@@ -200,7 +277,9 @@ def try_left(tool, trials):
         trials.expect(f"{name} isn't seen", ("replaced" in report, fault), (True, ""))
     tool.put("part.inc", 'printf("%i\\n", 1);\n')
     found = tool.run([OLD, NEW, "part.inc", "fragment.c"])
-    trials.expect("a part of a file", found, (1, "part.inc: left: a header, or a part of a file, isn't compiled by itself\n", ""))
+    trials.expect(
+        "a part of a file", found, (1, "part.inc: left: a header, or a part of a file, isn't compiled by itself\n", "")
+    )
 
 
 def try_calls(tool, trials):
@@ -211,10 +290,16 @@ def try_calls(tool, trials):
         for compiler in ["gcc", "clang"]:
             tool.put("a.c", source)
             before = tool.printed("a.c", flags)
-            database = [{"directory": str(tool.work), "file": "a.c", "arguments": [compiler, *flags, "-c", "a.c", "-o", "a.o"]}]
+            database = [
+                {"directory": str(tool.work), "file": "a.c", "arguments": [compiler, *flags, "-c", "a.c", "-o", "a.o"]}
+            ]
             tool.put("compile_commands.json", json.dumps(database))
             found = tool.run(["-p", ".", OLD, NEW, "a.c"])
-            trials.expect(f"a call {name}, {compiler}", found, (0, "".join(f"a.c:{2 + front.count(chr(10))}: replaced\n" for _ in range(body.count("%i"))), ""))
+            trials.expect(
+                f"a call {name}, {compiler}",
+                found,
+                (0, "".join(f"a.c:{2 + front.count(chr(10))}: replaced\n" for _ in range(body.count("%i"))), ""),
+            )
             trials.expect(f"a call {name}: the source", (tool.work / "a.c").read_text(), source.replace("%i", "%d"))
             trials.expect(f"a call {name}: what it prints", tool.printed("a.c", flags), before)
     (tool.work / "compile_commands.json").unlink()
@@ -236,35 +321,80 @@ def try_sources(tool, trials):
             continue
         trials.expect(f"{body}: the source", after, lines)
         trials.expect(f"{body} {words}", (status, fault), (0 if said == "" else 1, ""))
-        trials.expect(f"{body} {words}: {report}", said is None and "left: " in report or said == "" == report or bool(said) and report.endswith(f" {said}\n"), True)
+        trials.expect(
+            f"{body} {words}: {report}",
+            said is None and "left: " in report or said == "" == report or bool(said) and report.endswith(f" {said}\n"),
+            True,
+        )
 
 
 def try_differences(tool, trials):
     for words, said in DIFFERENCES:
         source = '#include <stdio.h>\nvoid g(void) { printf("' + words[-2] + '", 1); }\n'
         tool.put("a.c", source)
-        trials.expect(f"replace {words}", tool.run([*words, "a.c"]), (0 if said == "replaced" else 1, f"a.c:2: {said}\n", ""))
+        trials.expect(
+            f"replace {words}", tool.run([*words, "a.c"]), (0 if said == "replaced" else 1, f"a.c:2: {said}\n", "")
+        )
 
 
 def try_commands(tool, trials):
-    """Compile commands: relative names, several for one file, none, what is written, and a file that is given by a link."""
+    """Compile commands: relative names, several for one file, none, what is written, and a file that is given by a
+    link.
+    """
     tool.put("src/inc/x.h", "#include <stdio.h>\n")
-    tool.put("src/a.c", '#include "x.h"\n#ifdef A\nvoid f(void) { printf("%i\\n", 1); }\n#else\n#define printf(...) puts(#__VA_ARGS__)\nvoid f(void) { printf("%i\\n", 1); }\n#endif\n')
-    tool.put("src/b.c", '#include "x.h"\n#ifdef A\n#undef A\n#define A(x) x\n#else\n#define A(x) puts(#x)\n#endif\nvoid f(void) { A(printf("%i\\n", 1)); }\n')
+    tool.put(
+        "src/a.c",
+        '#include "x.h"\n#ifdef A\nvoid f(void) { printf("%i\\n", 1); }\n#else\n#define printf(...) puts(#__VA_ARGS__)\nvoid f(void) { printf("%i\\n", 1); }\n#endif\n',
+    )
+    tool.put(
+        "src/b.c",
+        '#include "x.h"\n#ifdef A\n#undef A\n#define A(x) x\n#else\n#define A(x) puts(#x)\n#endif\nvoid f(void) { A(printf("%i\\n", 1)); }\n',
+    )
     tool.put("src/none.c", 'int x = 1; // printf("%i\\n", 1);\nvoid f(void) { printf("%i\\n", 1); }\n')
     commands = []
     for name in ["a.c", "b.c"]:
         for flags in [["-DA"], []]:
-            commands.append({"directory": str(tool.work / "src"), "file": name, "arguments": ["ccache", "cc", *flags, "-Iinc", "-MD", "-MF", "x.d", "-save-temps", "-c", "-o", "x.o", name]})
+            commands.append(
+                {
+                    "directory": str(tool.work / "src"),
+                    "file": name,
+                    "arguments": [
+                        "ccache",
+                        "cc",
+                        *flags,
+                        "-Iinc",
+                        "-MD",
+                        "-MF",
+                        "x.d",
+                        "-save-temps",
+                        "-c",
+                        "-o",
+                        "x.o",
+                        name,
+                    ],
+                }
+            )
     tool.put("compile_commands.json", json.dumps(commands))
     report = "src/a.c:3: replaced\nsrc/a.c:6: left: a macro makes other text of it\nsrc/b.c:8: left: a macro makes other text of it\nsrc/none.c: left: compile_commands.json has no command for it\n"
-    trials.expect("several commands", tool.run(["-p", ".", OLD, NEW, "src/a.c", "src/b.c", "src/none.c"]), (1, report, ""))
+    trials.expect(
+        "several commands", tool.run(["-p", ".", OLD, NEW, "src/a.c", "src/b.c", "src/none.c"]), (1, report, "")
+    )
     trials.expect("nothing else is written", sorted(os.listdir(tool.work / "src")), ["a.c", "b.c", "inc", "none.c"])
     status, report, fault = tool.run(["-p", ".", OLD, NEW])
-    trials.expect("all files of the database", (status, report.replace(f"{tool.work}/", ""), fault), (1, "src/a.c:6: left: a macro makes other text of it\nsrc/b.c:8: left: a macro makes other text of it\n", ""))
-    tool.put("compile_commands.json", json.dumps([{**commands[0], "arguments": ["cc", "-Wl,--wrap=printf", "-c", "a.c"]}]))
+    trials.expect(
+        "all files of the database",
+        (status, report.replace(f"{tool.work}/", ""), fault),
+        (1, "src/a.c:6: left: a macro makes other text of it\nsrc/b.c:8: left: a macro makes other text of it\n", ""),
+    )
+    tool.put(
+        "compile_commands.json", json.dumps([{**commands[0], "arguments": ["cc", "-Wl,--wrap=printf", "-c", "a.c"]}])
+    )
     tool.put("src/a.c", '#include <stdio.h>\nvoid f(void) { printf("%i\\n", 1); }\n')
-    trials.expect("a command that wraps", tool.run(["-p", ".", OLD, NEW, "src/a.c"]), (1, "src/a.c: left: its compile command has -Wl,--wrap=printf\n", ""))
+    trials.expect(
+        "a command that wraps",
+        tool.run(["-p", ".", OLD, NEW, "src/a.c"]),
+        (1, "src/a.c: left: its compile command has -Wl,--wrap=printf\n", ""),
+    )
     (tool.work / "compile_commands.json").unlink()
 
 
@@ -278,12 +408,20 @@ def try_files(tool, trials):
     trials.expect("a link", tool.run([OLD, NEW, "link.c"]), (0, "link.c:2: replaced\n", ""))
     trials.expect("what it links to", ('"%d' in file.read_text(), (tool.work / "link.c").is_symlink()), (True, True))
     os.link(tool.put("hard.c", PLAIN), tool.work / "other.c")
-    trials.expect("a hard link", tool.run([OLD, NEW, "hard.c"]), (1, "hard.c: left: it has hard links, which would be torn apart\n", ""))
+    trials.expect(
+        "a hard link",
+        tool.run([OLD, NEW, "hard.c"]),
+        (1, "hard.c: left: it has hard links, which would be torn apart\n", ""),
+    )
     tool.put("locked.c", PLAIN).chmod(0o444)
-    trials.expect("a file that is read-only", tool.run([OLD, NEW, "locked.c"]), (1, "locked.c: left: it is read-only\n", ""))
+    trials.expect(
+        "a file that is read-only", tool.run([OLD, NEW, "locked.c"]), (1, "locked.c: left: it is read-only\n", "")
+    )
     tool.put("mode.c", PLAIN).chmod(0o640)
     os.chown(tool.work / "mode.c", os.getuid(), os.getgid())
-    trials.expect("rights", (tool.run([OLD, NEW, "mode.c"])[0], (tool.work / "mode.c").stat().st_mode & 0o7777), (0, 0o640))
+    trials.expect(
+        "rights", (tool.run([OLD, NEW, "mode.c"])[0], (tool.work / "mode.c").stat().st_mode & 0o7777), (0, 0o640)
+    )
     tool.put("again.c", PLAIN)
     found = tool.run([OLD, NEW, "nothing.c", "again.c"])
     trials.expect("after an error", found, (2, "again.c:2: replaced\n", "nothing.c: No such file or directory\n"))
@@ -294,14 +432,27 @@ def try_files(tool, trials):
     trials.expect("a name that isn't UTF-8", found, (0, os.fsdecode(name) + ":2: replaced\n", ""))
     tool.put("wrong.c", f"{PLAIN}int x = ;\n")
     status, report, _ = tool.run([OLD, NEW, "wrong.c"])
-    trials.expect("a file with an error", (status, report.startswith("wrong.c: left: libclang can't parse it: wrong.c:3: ")), (1, True))
+    trials.expect(
+        "a file with an error",
+        (status, report.startswith("wrong.c: left: libclang can't parse it: wrong.c:3: ")),
+        (1, True),
+    )
     tool.put("lost.c", f'#include "nowhere.h"\n{PLAIN}')
     status, report, _ = tool.run([OLD, NEW, "lost.c"])
-    trials.expect("a header that isn't there", (status, "left: its compiler can't preprocess it: " in report), (1, True))
+    trials.expect(
+        "a header that isn't there", (status, "left: its compiler can't preprocess it: " in report), (1, True)
+    )
     os.utime(tool.put("time.c", f"{PLAIN}const char *t = __TIMESTAMP__;\n"), (0, 0))
     status, report, _ = tool.run([OLD, NEW, "time.c"])
-    trials.expect("a file that has its own time", (status, report), (1, "time.c: left: its compiler reads it otherwise once literals are replaced\n"))
-    for source in ["const char *t = __DATE__ __TIME__, *f = __FILE__; int n = __LINE__ + __COUNTER__;\n", "#include <assert.h>\nvoid a(int x) { assert(x); }\n"]:
+    trials.expect(
+        "a file that has its own time",
+        (status, report),
+        (1, "time.c: left: its compiler reads it otherwise once literals are replaced\n"),
+    )
+    for source in [
+        "const char *t = __DATE__ __TIME__, *f = __FILE__; int n = __LINE__ + __COUNTER__;\n",
+        "#include <assert.h>\nvoid a(int x) { assert(x); }\n",
+    ]:
         tool.put("line.c", source + PLAIN)
         trials.expect(f"a file with {source[:30]}", tool.run([OLD, NEW, "line.c"])[0], 0)
 
@@ -318,9 +469,19 @@ def try_signals(tool, trials):
     tool.put("slow", SLOW.format(work=tool.work)).chmod(0o755)
     for number in [signal.SIGINT, signal.SIGTERM, signal.SIGHUP]:
         file = tool.put("slow.c", PLAIN)
-        tool.put("compile_commands.json", json.dumps([{"directory": str(tool.work), "file": "slow.c", "arguments": ["./slow", "-c", "slow.c"]}]))
+        tool.put(
+            "compile_commands.json",
+            json.dumps([{"directory": str(tool.work), "file": "slow.c", "arguments": ["./slow", "-c", "slow.c"]}]),
+        )
         (tool.work / "running").unlink(missing_ok=True)
-        running = subprocess.Popen([*tool.words, "-p", ".", OLD, NEW, "slow.c"], cwd=tool.work, env=tool.environment, stdout=subprocess.DEVNULL, stderr=subprocess.DEVNULL, start_new_session=True)
+        running = subprocess.Popen(
+            [*tool.words, "-p", ".", OLD, NEW, "slow.c"],
+            cwd=tool.work,
+            env=tool.environment,
+            stdout=subprocess.DEVNULL,
+            stderr=subprocess.DEVNULL,
+            start_new_session=True,
+        )
         for _ in range(100 * TIMEOUT):
             if (tool.work / "running").exists() or running.poll() is not None:
                 break
@@ -336,7 +497,11 @@ def try_sizes(tool, trials):
     """The time and the memory are linear in the length of a line and of a literal."""
     call = ' printf("%i" "\\n", 1 / 2) ;'
     for name, source, count in [
-        ("a long line", f"#include <stdio.h>\nint main(void) {{ {call * (LONG_LINE // len(call))} }}\n", LONG_LINE // len(call)),
+        (
+            "a long line",
+            f"#include <stdio.h>\nint main(void) {{ {call * (LONG_LINE // len(call))} }}\n",
+            LONG_LINE // len(call),
+        ),
         ("a long literal", PLAIN + 'const char *x = "' + "x" * 10_000_000 + '";\n', 1),
     ]:
         tool.put("a.c", source)
@@ -381,8 +546,11 @@ tree/in/b.h:2:59: not judged: the macro OWN is part of it
 FUNCTIONS = "printf:0: known, 5 places\nsay:0: not known, 2 places\nfprintf:1: known, 1 place\n"
 # Files of pairs that can't be used, and what is said of them.
 WRONG_PAIRS = [
-    ("%i\n", "pairs:1: it isn't two formats"), ("%i\t%d\t%u\n", "pairs:1: it isn't two formats"), ('%i\t"\n', "pairs:1: it isn't two formats"),
-    ("%i\t%d\n\n%i\t%u\n", "pairs:3: the old format has another new one before"), ("%i\t%d\n%y\t%d\n", 'OLD is refused 3 Unexpected at byte 1 of "%y"'),
+    ("%i\n", "pairs:1: it isn't two formats"),
+    ("%i\t%d\t%u\n", "pairs:1: it isn't two formats"),
+    ('%i\t"\n', "pairs:1: it isn't two formats"),
+    ("%i\t%d\n\n%i\t%u\n", "pairs:3: the old format has another new one before"),
+    ("%i\t%d\n%y\t%d\n", 'OLD is refused 3 Unexpected at byte 1 of "%y"'),
 ]
 WRONG_COMMANDS = ["", "{", "[1]", "null", '[{"directory": 5}]', "\0"]
 
@@ -393,11 +561,23 @@ def try_trees(tool, trials):
         tool.put(name, text)
     trials.expect("the list of a tree", tool.run_with_columns(["--list", "tree"]), (0, LISTED, ""))
     trials.expect("the functions of a tree", tool.run(["--list-functions", "tree"]), (0, FUNCTIONS, ""))
-    trials.expect("a function that is given", "say:0: known, 2 places" in tool.run(["--list-functions", "--function", "say:0", "tree"])[1], True)
+    trials.expect(
+        "a function that is given",
+        "say:0: known, 2 places" in tool.run(["--list-functions", "--function", "say:0", "tree"])[1],
+        True,
+    )
     status, known, _ = tool.run(["--list-functions"])
-    trials.expect("the functions that are known", (status, {"printf:0: known", "fprintf:1: known", "syslog:1: known"} <= set(known.splitlines())), (0, True))
+    trials.expect(
+        "the functions that are known",
+        (status, {"printf:0: known", "fprintf:1: known", "syslog:1: known"} <= set(known.splitlines())),
+        (0, True),
+    )
     found = [json.loads(line) for line in tool.run(["--list", "--output", "json", "tree/a.c"])[1].splitlines()]
-    trials.expect("the list as JSON", [(one["kind"], one["line"], one["column"], one["format"], one["canonical"]) for one in found], [("format", 2, 42, "%5c|", "    %c|"), ("format", 2, 23, "%i\n", "%d\n")])
+    trials.expect(
+        "the list as JSON",
+        [(one["kind"], one["line"], one["column"], one["format"], one["canonical"]) for one in found],
+        [("format", 2, 42, "%5c|", "    %c|"), ("format", 2, 23, "%i\n", "%d\n")],
+    )
     tool.put("pairs", "%i\\n\t%d\\n\n%5c|\t    %c|\n")
     for words in [["--diff"], ["--dry-run"]]:
         status, output, fault = tool.run_with_columns([*words, "--pairs", "pairs", "tree"])
@@ -406,30 +586,62 @@ def try_trees(tool, trials):
         trials.expect(f"a file after {words}", (tool.work / "tree/a.c").read_text(), TREE["tree/a.c"])
         if words == ["--diff"]:
             patch = output
-    trials.expect("a run with --output github", tool.run(["--output", "github", "--dry-run", OLD, NEW, "tree/a.c"]), (0, "::notice file=tree/a.c,line=2,col=23,endColumn=29::replaced\n", ""))
+    trials.expect(
+        "a run with --output github",
+        tool.run(["--output", "github", "--dry-run", OLD, NEW, "tree/a.c"]),
+        (0, "::notice file=tree/a.c,line=2,col=23,endColumn=29::replaced\n", ""),
+    )
     found = [json.loads(line) for line in tool.run(["--output", "json", "--pairs", "pairs", "tree"])[1].splitlines()]
-    wanted = [("tree/a.c", 2, 23, "replaced", "note", "%i\n", "%d\n"), ("tree/a.c", 2, 42, "replaced", "note", "%5c|", "    %c|"), ("tree/in/b.c", 2, 23, "left", "warning", "%-i\n", None)]
-    trials.expect("pairs as JSON", [(*(one[it] for it in ["file", "line", "column", "kind", "level", "old"]), one.get("new")) for one in found], wanted)
+    wanted = [
+        ("tree/a.c", 2, 23, "replaced", "note", "%i\n", "%d\n"),
+        ("tree/a.c", 2, 42, "replaced", "note", "%5c|", "    %c|"),
+        ("tree/in/b.c", 2, 23, "left", "warning", "%-i\n", None),
+    ]
+    trials.expect(
+        "pairs as JSON",
+        [(*(one[it] for it in ["file", "line", "column", "kind", "level", "old"]), one.get("new")) for one in found],
+        wanted,
+    )
     after = (tool.work / "tree/a.c").read_text()
     trials.expect("a file after pairs", after, TREE["tree/a.c"].replace("%i", "%d").replace("%5c", "    %c"))
     tool.put("tree/a.c", TREE["tree/a.c"])
-    done = subprocess.run(["patch", "-p0"], input=patch.encode(), cwd=tool.work, check=False, capture_output=True, timeout=TIMEOUT)
-    trials.expect("patch applies what --diff prints", (done.returncode, (tool.work / "tree/a.c").read_text()), (0, after))
+    done = subprocess.run(
+        ["patch", "-p0"], input=patch.encode(), cwd=tool.work, check=False, capture_output=True, timeout=TIMEOUT
+    )
+    trials.expect(
+        "patch applies what --diff prints", (done.returncode, (tool.work / "tree/a.c").read_text()), (0, after)
+    )
     for text, line in WRONG_PAIRS:
         tool.put("pairs", text)
         status, report, fault = tool.run(["--pairs", "pairs", "tree"])
-        trials.expect(f"a file of pairs {text!r}: {fault}", (status, report, line in fault, "Traceback" in fault), (2, "", True, False))
+        trials.expect(
+            f"a file of pairs {text!r}: {fault}",
+            (status, report, line in fault, "Traceback" in fault),
+            (2, "", True, False),
+        )
     for text in WRONG_COMMANDS:
         tool.put("compile_commands.json", text)
         status, report, fault = tool.run(["-p", ".", OLD, NEW])
-        trials.expect(f"compile commands {text!r}: {fault}", (status, report, "compile_commands.json" in fault, "Traceback" in fault), (2, "", True, False))
+        trials.expect(
+            f"compile commands {text!r}: {fault}",
+            (status, report, "compile_commands.json" in fault, "Traceback" in fault),
+            (2, "", True, False),
+        )
 
 
 def try_document(tool, trials):
     """Each command of that part of docs/REFACTORING.md prints what is shown below it."""
     script = f"fmtcanon-replace() {{ '{tool.words[0]}' '{tool.words[1]}' \"$@\"; }}\n"
     for command, output in examples(TOP / "docs/REFACTORING.md", "Replacing a format"):
-        done = subprocess.run(["bash", "-c", script + command], cwd=tool.work, env=tool.environment, check=False, stdout=subprocess.PIPE, stderr=subprocess.STDOUT, timeout=TIMEOUT)
+        done = subprocess.run(
+            ["bash", "-c", script + command],
+            cwd=tool.work,
+            env=tool.environment,
+            check=False,
+            stdout=subprocess.PIPE,
+            stderr=subprocess.STDOUT,
+            timeout=TIMEOUT,
+        )
         trials.expect(f"docs/REFACTORING.md: {command}", done.stdout.decode(), "".join(f"{line}\n" for line in output))
 
 
@@ -446,11 +658,24 @@ def try_without_libclang(folder, trials):
 
 def try_replacing(folder, python, trials):
     """All of it, with a Python that has libclang."""
-    for part in [try_left, try_calls, try_sources, try_differences, try_commands, try_files, try_trees, try_signals, try_sizes, try_document]:
+    for part in [
+        try_left,
+        try_calls,
+        try_sources,
+        try_differences,
+        try_commands,
+        try_files,
+        try_trees,
+        try_signals,
+        try_sizes,
+        try_document,
+    ]:
         with tempfile.TemporaryDirectory() as work:
             tool = Tool(folder, os.path.realpath(work), python)
             part(tool, trials)
-            trials.expect(f"{part.__name__}: stand-ins that are left", [it.name for it in tool.work.rglob(".fmtcanon-*")], [])
+            trials.expect(
+                f"{part.__name__}: stand-ins that are left", [it.name for it in tool.work.rglob(".fmtcanon-*")], []
+            )
     with tempfile.TemporaryDirectory() as work:
         tool = Tool(folder, work, python)
         tool.put("a.c", PLAIN)

@@ -66,14 +66,16 @@ def try_streams(program, trials, name):
     for row in rows_of(name):
         status, stdout, stderr = run(program, row["words"], row.get("stdin", "").encode("latin-1"))
         wanted_err = stderr if row["stderr"] is None else row["stderr"].encode()
-        trials.expect(row["words"], (status, stdout, stderr), (row["status"], row["stdout"].encode("latin-1"), wanted_err))
+        trials.expect(
+            row["words"], (status, stdout, stderr), (row["status"], row["stdout"].encode("latin-1"), wanted_err)
+        )
 
 
 def try_usages(program, trials):
     """Help and faults of the words go to standard error alone."""
     for words, begins in rows_of("usages.jsonl"):
         status, stdout, stderr = run(program, words)
-        trials.expect(words, (status, stdout, stderr[:len(begins)]), (3, b"", begins.encode()))
+        trials.expect(words, (status, stdout, stderr[: len(begins)]), (3, b"", begins.encode()))
 
 
 # The reader: by the bytes of standard input, by the pieces of a word, and by a call of the library.
@@ -117,7 +119,9 @@ def byte_answers(row, everywhere):
     """What each of the 256 bytes does after the front of a row: the refusal, or None, of the front with that byte."""
     front = row["front"]
     for byte in map(chr, range(256)):
-        kinds = [int(kind) for rows in (row["refused"], everywhere) for kind, letters in rows.items() if byte in letters]
+        kinds = [
+            int(kind) for rows in (row["refused"], everywhere) for kind, letters in rows.items() if byte in letters
+        ]
         if byte in row["goes_on"]:
             # The text ends in the middle of an item.
             yield byte, [2, len(front) + 1]
@@ -184,7 +188,8 @@ def try_texts(program, trials, model, format, numbers, texts):
     trials.expect(f"{model} {format} of {words}", printed(program, model, whole, words), "\n".join(texts).encode())
 
 
-# The modifiers under which another data model prints what LP64 prints under this one, but for those that name other bits there.
+# The modifiers under which another data model prints what LP64 prints under this one, but for those that name other
+# bits there.
 ALIKE = {
     "ilp32": {"": ["", "l", "z", "t"], "hh": ["hh"], "h": ["h"], "ll": ["ll", "j"], "j": ["ll", "j"]},
     "llp64": {"": ["", "l"], "hh": ["hh"], "h": ["h"], "ll": ["ll", "j", "z", "t"], "j": ["ll", "j", "z", "t"]},
@@ -192,7 +197,9 @@ ALIKE = {
 
 
 def whole_text(field, byte):
-    """A text in which the longest run of a byte is given by its length: what comes before, how often, what comes after."""
+    """A text in which the longest run of a byte is given by its length: what comes before, how often, what comes
+    after.
+    """
     head, count, tail = field.split("~")
     return head + byte * int(count) + tail
 
@@ -232,7 +239,9 @@ def try_long_formats(program, trials):
     text = "abcdefgh" * 12_500
     strings = {"%s": text, "%4095s": text, "%.4095s": text[:4095], "%-4095.4094s": text[:4094] + " "}
     for format, wanted in strings.items():
-        trials.expect(f"{format} of a long string", printed(program, "lp64", format, ["s:" + text]) == wanted.encode(), True)
+        trials.expect(
+            f"{format} of a long string", printed(program, "lp64", format, ["s:" + text]) == wanted.encode(), True
+        )
     rows = [
         ("%4095c%-4095c", ["n:65", "n:66"], " " * 4094 + "AB" + " " * 4094),
         ("%d,%s;" * 500, ["n:-7", "s:x"] * 500, "-7,x;" * 500),
@@ -240,14 +249,18 @@ def try_long_formats(program, trials):
         ("abcdefghi\n" * 13_000, [], "abcdefghi\n" * 13_000),
     ]
     for format, words, wanted in rows:
-        trials.expect(f"{format[:20]}.. is printed whole", printed(program, "lp64", format, words) == wanted.encode(), True)
+        trials.expect(
+            f"{format[:20]}.. is printed whole", printed(program, "lp64", format, words) == wanted.encode(), True
+        )
 
 
 # What directives are reduced to.
 
 
 def shown(program, model, formats):
-    """What each directive of a list is reduced to: its spelling, spaces, zeros, core and trail, by few runs of `show`."""
+    """What each directive of a list is reduced to: its spelling, spaces, zeros, core and trail, by few runs of
+    `show`.
+    """
     texts, size = [[]], 0
     for format in formats:
         size += len(format)
@@ -299,7 +312,8 @@ def try_cores(program, module, trials):
         trials.expect(f"{model}: cores that are no core of their own", moved, [])
         number = module.Model[model.upper()]
         wrong = [
-            format for format, row in reduced.items()
+            format
+            for format, row in reduced.items()
             if module.is_canonical(format, model=number) != (row == (format, 0, 0, format, 0))
         ]
         trials.expect(f"{model}: directives that are canonical and no core, or the other way round", wrong, [])
@@ -346,7 +360,9 @@ def try_reductions(program, trials):
             # Every number of the int candidates fits a long of 32 bits.
             kind = type_of(program, model, format)
             words = candidate_words(model, "int" if kind == "long" and model != "lp64" else kind)
-            parts = [b" " * spaces + b"0" * zeros + text + b" " * trail for text in texts_of(program, model, core, words)]
+            parts = [
+                b" " * spaces + b"0" * zeros + text + b" " * trail for text in texts_of(program, model, core, words)
+            ]
             trials.expect(f"{model} {format} and {core}", texts_of(program, model, format, words), parts)
 
 
@@ -415,7 +431,9 @@ def try_comparisons(program, module, trials):
     for model, first, second, verdict, last, renderings in rows_of("comparisons.jsonl"):
         expected = " ".join(filter(None, [verdict, last]))
         found = re.sub(r"^different.* ", "different ", verdict_of(program, model, first, second))
-        trials.expect(f"{model} {first} {second}", [found, compared(module, model, first, second)[2]], [expected, renderings])
+        trials.expect(
+            f"{model} {first} {second}", [found, compared(module, model, first, second)[2]], [expected, renderings]
+        )
 
 
 def try_long_comparisons(module, trials):
@@ -454,8 +472,11 @@ def grid_of(program, model, kind):
             widths = [*grid_numbers(digits, [1, 2]), longest + 1, longest + 2]
             wanted = "" if precision is None else f".{precision}"
             near = [str(width) for width in dict.fromkeys(widths) if width <= GREATEST]
-            given += [one for one in directives(["", *near], [wanted]) if one.endswith(f"{wanted}{length}{conversion}")
-                      and length_of(one) == length and one[-1] == conversion]
+            given += [
+                one
+                for one in directives(["", *near], [wanted])
+                if one.endswith(f"{wanted}{length}{conversion}") and length_of(one) == length and one[-1] == conversion
+            ]
     reduced = dict(zip(given, shown(program, model, given)))
     return [format for format, row in reduced.items() if row == (format, 0, 0, format, 0) and row[3] != "%.0s"]
 
@@ -499,14 +520,24 @@ def sizes(most):
 
 
 def try_literal_sizes(program, trials):
-    """Each command answers for a text of literal bytes; one that no word can hold goes through `stream` and as a record."""
+    """Each command answers for a text of literal bytes; one that no word can hold goes through `stream` and as a
+    record.
+    """
     for size in sizes(20):
         text = (b"abb" * (size // 3 + 1))[:size]
         shown_line = b"text %d\n" % size if size else b""
         runs = [(["stream"], text, text), (["canon", "-z"], text + b"\0", b"0 " + text + b"\0")]
         if size + len("s:") < LONGEST_WORD:
-            runs += [(["canon", text], b"", text + b"\n"), (["types", text], b"", b""), (["show", text], b"", shown_line)]
-            runs += [(["format", text], b"", text), (["format", "%s", b"s:" + text], b"", text), (["same", text, text], b"", b"same\n")]
+            runs += [
+                (["canon", text], b"", text + b"\n"),
+                (["types", text], b"", b""),
+                (["show", text], b"", shown_line),
+            ]
+            runs += [
+                (["format", text], b"", text),
+                (["format", "%s", b"s:" + text], b"", text),
+                (["same", text, text], b"", b"same\n"),
+            ]
         for words, stdin, wanted in runs:
             trials.expect(f"{words[0]} of {size} bytes", run(program, words, stdin) == (0, wanted, b""), True)
 
@@ -557,7 +588,7 @@ def called(module, row):
     result = getattr(module._library(), f"fmtcanon_{call}")(*words)
     return {
         "result": result,
-        "out": out.raw[:len(row["out"])].decode("latin-1"),
+        "out": out.raw[: len(row["out"])].decode("latin-1"),
         "error": [error.at, error.kind, error.side],
         "comparison": [found.number, found.verdict],
     }

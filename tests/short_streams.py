@@ -4,10 +4,11 @@
 Usage: tests/short_streams.py [--each] PROGRAM
 
 Standard output takes some bytes and then fails: each answer of worked.jsonl, whole.jsonl, opaque.jsonl, literals.jsonl
-and written.jsonl in tests/rows/, each canonical text, what `stream` settles before a refusal, what formats print, and replies to records go out in each
-room that is too small for them. What the C library prints goes into one room for each text. Standard input hands out some bytes and then fails, or ends there: formats and records are cut after each byte. The streams
-are those of tests/narrow.c. How many bytes they move a call, and the error, take turns from run to run; with --each
-every run is made with each of them.
+and written.jsonl in tests/rows/, each canonical text, what `stream` settles before a refusal, what formats print, and
+replies to records go out in each room that is too small for them. What the C library prints goes into one room for each
+text. Standard input hands out some bytes and then fails, or ends there: formats and records are cut after each byte.
+The streams are those of tests/narrow.c. How many bytes they move a call, and the error, take turns from run to run;
+with --each every run is made with each of them.
 
 It needs a Linux system with gcc. Its last line is 'N passed, M failed', and it exits with 1 where M isn't 0.
 """
@@ -73,7 +74,11 @@ def try_rooms(narrow, words, stdin, text):
 def try_answers(narrow):
     """The answers of the commands, and what `stream` settles of a text and of a directive."""
     given = [row for name in ["worked", "whole", "opaque", "literals"] for row in rows_of(f"{name}.jsonl")]
-    rows = [(row["words"], row.get("stdin", "").encode("latin-1"), row["stdout"], row["status"]) for row in given if row["status"] < 2]
+    rows = [
+        (row["words"], row.get("stdin", "").encode("latin-1"), row["stdout"], row["status"])
+        for row in given
+        if row["status"] < 2
+    ]
     texts = [row for name in ["written", "cut_directives", "canonical_formats"] for row in rows_of(f"{name}.jsonl")]
     rows += [(["stream"], text.encode("latin-1"), canonical, 0) for text, canonical in texts]
     for words, stdin, text, status in rows:
@@ -114,7 +119,11 @@ def try_two_faults(narrow):
 
 def try_formats(narrow):
     """What formats print, in each room that is too small, and in one that isn't."""
-    rows = [(format, [f"n:{number}"], text) for name in ["numbers.txt", "vectors.txt"] for format, number, text in fields_of(name)]
+    rows = [
+        (format, [f"n:{number}"], text)
+        for name in ["numbers.txt", "vectors.txt"]
+        for format, number, text in fields_of(name)
+    ]
     for format, words, text in [*rows, *rows_of("formats.jsonl")]:
         words, whole = ["format", "--", format, *words], text.encode()
         try_rooms(narrow, words, b"", whole)

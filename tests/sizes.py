@@ -3,10 +3,10 @@
 
 Usage: tests/sizes.py PROGRAM FOLDER
 
-FOLDER has libfmtcanon.a, as `make library` leaves it. Each run may take fifty times what it took when its row was written:
-a run whose time grows with the square of the length takes more, and one on a slow machine takes less. All answers are worked out
-from the lengths. It needs a Linux system with gcc. Its last line is 'N passed, M failed', and it exits with 1 where M
-isn't 0.
+FOLDER has libfmtcanon.a, as `make library` leaves it. Each run may take fifty times what it took when its row was
+written: a run whose time grows with the square of the length takes more, and one on a slow machine takes less. All
+answers are worked out from the lengths. It needs a Linux system with gcc. Its last line is 'N passed, M failed', and it
+exits with 1 where M isn't 0.
 """
 
 import math
@@ -37,13 +37,31 @@ WORD = ((1 << 17) - 1) // 2
 MOST_ROOM = 6 << 20
 # Rows of tests/library/sizes.c: the number of units, and the seconds that it took.
 CALLS = [
-    ("check", DIRECTIVES, 0.01), ("refused", DIRECTIVES, 0.03), ("is_canonical", DIRECTIVES, 0.01), ("canonical_length", DIRECTIVES, 0.03),
-    ("canonical", DIRECTIVES, 0.05), ("types", ARGUMENTS, 0.02), ("same", DIRECTIVES, 0.4), ("compare", DIRECTIVES, 0.1),
-    ("compare_last", FIRST_EQUAL, 0.06), ("arguments", ARGUMENTS, 0.02), ("fits", ARGUMENTS, 0.04),
-    ("whole_canonical", DIRECTIVES, 0.3), ("whole_same", DIRECTIVES, 1.2), ("whole_compare_last", FIRST_EQUAL, 0.06),
-    ("decode_literal", ESCAPES, 0.06), ("encode_literal", ESCAPES, 0.04), ("source_offset", ESCAPES, 0.04),
-    ("check", LARGE, 0.1), ("is_canonical", LARGE, 0.3), ("types", LARGE, 0.3), ("arguments", LARGE, 0.4), ("fits", LARGE, 0.8),
-    ("decode_literal", LARGE, 0.8), ("encode_literal", LARGE, 0.6), ("source_offset", LARGE, 0.6),
+    ("check", DIRECTIVES, 0.01),
+    ("refused", DIRECTIVES, 0.03),
+    ("is_canonical", DIRECTIVES, 0.01),
+    ("canonical_length", DIRECTIVES, 0.03),
+    ("canonical", DIRECTIVES, 0.05),
+    ("types", ARGUMENTS, 0.02),
+    ("same", DIRECTIVES, 0.4),
+    ("compare", DIRECTIVES, 0.1),
+    ("compare_last", FIRST_EQUAL, 0.06),
+    ("arguments", ARGUMENTS, 0.02),
+    ("fits", ARGUMENTS, 0.04),
+    ("whole_canonical", DIRECTIVES, 0.3),
+    ("whole_same", DIRECTIVES, 1.2),
+    ("whole_compare_last", FIRST_EQUAL, 0.06),
+    ("decode_literal", ESCAPES, 0.06),
+    ("encode_literal", ESCAPES, 0.04),
+    ("source_offset", ESCAPES, 0.04),
+    ("check", LARGE, 0.1),
+    ("is_canonical", LARGE, 0.3),
+    ("types", LARGE, 0.3),
+    ("arguments", LARGE, 0.4),
+    ("fits", LARGE, 0.8),
+    ("decode_literal", LARGE, 0.8),
+    ("encode_literal", LARGE, 0.6),
+    ("source_offset", LARGE, 0.6),
 ]
 
 
@@ -62,14 +80,23 @@ def of_directives():
     many = b"%d" * ARGUMENTS
     yield ["stream"], respelled, (0, normal), 0.03
     yield ["canon", "-z"], records(respelled), (0, records(b"0 " + normal)), 0.05
-    yield ["show", "-z"], records(respelled), (0, records(b"0 " + b"\n".join([b"directive %i: int: 0 0 %d 0"] * DIRECTIVES))), 0.08
+    yield ["show", "-z"], records(respelled), (
+        0,
+        records(b"0 " + b"\n".join([b"directive %i: int: 0 0 %d 0"] * DIRECTIVES)),
+    ), 0.08
     yield ["same", "-z"], records(respelled, normal), (0, records(b"0 same")), 0.05
-    yield ["same", "-z", "--model", "all"], records(respelled, normal), (0, records(b"0 lp64\nsame\nilp32\nsame\nllp64\nsame")), 0.15
+    yield ["same", "-z", "--model", "all"], records(respelled, normal), (
+        0,
+        records(b"0 lp64\nsame\nilp32\nsame\nllp64\nsame"),
+    ), 0.15
     types = records(b"0 " + b"\n".join([b"int"] * ARGUMENTS))
     yield ["types", "-z"], records(many), (0, types), 0.03
     yield ["types", "-z", "--whole"], records(many), (0, types), 0.03
     yield ["fits", "-z"], records(many + b"%f", many + b"%f"), (0, records(b"0 fits")), 0.05
-    yield ["fits", "-z", "--model", "all"], records(many, many), (0, records(b"0 lp64\nfits\nilp32\nfits\nllp64\nfits")), 0.15
+    yield ["fits", "-z", "--model", "all"], records(many, many), (
+        0,
+        records(b"0 lp64\nfits\nilp32\nfits\nllp64\nfits"),
+    ), 0.15
     line = b"1 types differ at argument %d" % ARGUMENTS
     yield ["fits", "-z"], records(many + b"%f", many + b"%s"), (1, records(line)), 0.05
     yield ["same", "-z"], records(many + b"%d", many + b"%s"), (1, records(line)), 0.05
@@ -83,7 +110,10 @@ def of_arguments():
     given = ["n:0"] * (FIRST_EQUAL - 1)
     yield ["format", front + "%5d", *given, "n:-1"], b"", (0, b"0" * (FIRST_EQUAL - 1) + b"   -1"), 0.05
     yield ["format", front + "%5d", *given, "s:x"], b"", (3, b""), 0.05
-    yield ["format", "%d" * WORD, *(f"n:{at % 10}" for at in range(WORD))], b"", (0, "".join(str(at % 10) for at in range(WORD)).encode()), 0.1
+    yield ["format", "%d" * WORD, *(f"n:{at % 10}" for at in range(WORD))], b"", (
+        0,
+        "".join(str(at % 10) for at in range(WORD)).encode(),
+    ), 0.1
 
 
 def of_escapes():
@@ -91,11 +121,20 @@ def of_escapes():
     tabs, numbers, plain = literal(b"\\t"), literal(b"\\11"), b"2 %s at byte %d"
     last = 2 * ESCAPES + 1
     yield ["canon", "-z", "--literal"], records(numbers), (0, records(b"0 " + tabs)), 0.08
-    yield ["canon", "-z", "--literal"], records(literal(b"\\t", b"\\q")), (2, records(plain % (b"literal 3 BadEscape", last))), 0.05
+    yield ["canon", "-z", "--literal"], records(literal(b"\\t", b"\\q")), (
+        2,
+        records(plain % (b"literal 3 BadEscape", last)),
+    ), 0.05
     yield ["show", "-z", "--literal"], records(tabs), (0, records(b"0 text %d" % ESCAPES)), 0.05
-    yield ["types", "-z", "--literal"], records(literal(b"\\t", b"%y")), (2, records(plain % (b"refused 3 Unexpected", last + 1))), 0.05
+    yield ["types", "-z", "--literal"], records(literal(b"\\t", b"%y")), (
+        2,
+        records(plain % (b"refused 3 Unexpected", last + 1)),
+    ), 0.05
     wrong = literal(b"\\t", b"%5n")
-    yield ["types", "-z", "--whole", "--literal"], records(wrong), (2, records(plain % (b"refused 19 CountUndefined", last + 2))), 0.05
+    yield ["types", "-z", "--whole", "--literal"], records(wrong), (
+        2,
+        records(plain % (b"refused 19 CountUndefined", last + 2)),
+    ), 0.05
     for command, yes in [("same", b"same"), ("fits", b"fits")]:
         yield [command, "-z", "--literal"], records(numbers, tabs), (0, records(b"0 " + yes)), 0.05
     line = plain % (b"second: refused 3 Unexpected", last + 1)
@@ -124,7 +163,9 @@ def try_calls(folder, trials):
     """Long texts through each call of the C library, some of 40 million bytes."""
     with tempfile.TemporaryDirectory() as work:
         program = f"{work}/sizes"
-        words = compile_with(["gcc", "-std=c99", "-O1"], TOP / "tests/library/sizes.c", program, folder / "libfmtcanon.a", *WRAPPED)
+        words = compile_with(
+            ["gcc", "-std=c99", "-O1"], TOP / "tests/library/sizes.c", program, folder / "libfmtcanon.a", *WRAPPED
+        )
         trials.expect("sizes.c", words, (0, ""))
         names = run(program, [])[1].decode().split()
         trials.expect("rows of sizes.c", sorted(names), sorted({name for name, _, _ in CALLS}))
@@ -153,7 +194,9 @@ def send(pipe, parts):
 
 def try_record(program, trials):
     """A record that is four times as long as the longest one elsewhere."""
-    with subprocess.Popen([program, "canon", "-z"], stdin=subprocess.PIPE, stdout=subprocess.PIPE, bufsize=0) as process:
+    with subprocess.Popen(
+        [program, "canon", "-z"], stdin=subprocess.PIPE, stdout=subprocess.PIPE, bufsize=0
+    ) as process:
         piece = b"y" * PIECE
         count, rest = divmod(LONG_RECORD, PIECE)
 

@@ -45,14 +45,27 @@ except fmtcanon.Refused as refusal:
     kind: fmtcanon.Kind = refusal.kind
 """
 FAULTS = [
-    'fmtcanon.canonical(5)', 'fmtcanon.Session("canon", model=1.5)', 'x: int = fmtcanon.canonical("%d")', 'fmtcanon.format("%f", 1.5)',
-    'fmtcanon.Session("canon", whole="yes")', 'fmtcanon.Session("canon", False, True)', 'y: str = fmtcanon.decode_literal("a")', 'fmtcanon.source_offset("a", "b")',
+    "fmtcanon.canonical(5)",
+    'fmtcanon.Session("canon", model=1.5)',
+    'x: int = fmtcanon.canonical("%d")',
+    'fmtcanon.format("%f", 1.5)',
+    'fmtcanon.Session("canon", whole="yes")',
+    'fmtcanon.Session("canon", False, True)',
+    'y: str = fmtcanon.decode_literal("a")',
+    'fmtcanon.source_offset("a", "b")',
 ]
 
 
 def mypy(python, words, work):
     environment = {**os.environ, "MYPYPATH": str(TOP / "python"), "MYPY_CACHE_DIR": str(work / "cache")}
-    done = subprocess.run([*python, "--strict", *words], cwd=work, env=environment, check=False, stdout=subprocess.PIPE, stderr=subprocess.STDOUT)
+    done = subprocess.run(
+        [*python, "--strict", *words],
+        cwd=work,
+        env=environment,
+        check=False,
+        stdout=subprocess.PIPE,
+        stderr=subprocess.STDOUT,
+    )
     return done.returncode, done.stdout.decode()
 
 
@@ -66,9 +79,15 @@ def try_annotations(tools, trials):
         for fault in ["", *FAULTS]:
             (work / "program.py").write_text(PROGRAM + fault + "\n")
             status, output = mypy(["mypy"], ["program.py"], work)
-            trials.expect(f"mypy of a program with {fault!r}: {output if bool(fault) != bool(status) else ''}", status, 1 if fault else 0)
+            trials.expect(
+                f"mypy of a program with {fault!r}: {output if bool(fault) != bool(status) else ''}",
+                status,
+                1 if fault else 0,
+            )
     public = subprocess.run(
         [sys.executable, "-c", "import fmtcanon; print(*(name for name in dir(fmtcanon) if name[0] != '_'))"],
-        env={**os.environ, "PYTHONPATH": str(TOP / "python")}, check=False, stdout=subprocess.PIPE,
+        env={**os.environ, "PYTHONPATH": str(TOP / "python")},
+        check=False,
+        stdout=subprocess.PIPE,
     )
     trials.expect("the module can be imported", public.returncode, 0)

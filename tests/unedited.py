@@ -4,8 +4,8 @@
 Usage: tests/unedited.py
 
 A public function of a library is one that its root hands out, a method of a type that it hands out, or a method of a
-trait that such a type has. Those of the program are the ones that its modules hand one another, and those of the C library
-the ones that C calls.
+trait that such a type has. Those of the program are the ones that its modules hand one another, and those of the C
+library the ones that C calls.
 
 Its last line is 'N passed, M failed', and it exits with 1 where M isn't 0.
 """

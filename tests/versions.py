@@ -22,7 +22,10 @@ COPIES = [
     ("tests/rows/usages.jsonl", r'^\[\["--version"\], "fmtcanon (.*)\\n"\]$'),
     ("tests/usage.txt", r"^\$ --version\nfmtcanon (.*)$"),
     ("tests/usage.txt", r"^\$ -V\nfmtcanon (.*)$"),
-    *((f"man/{path.name}", r'^\.TH \S+ [13] "\d{4}-\d\d-\d\d" "fmtcanon (.*?)"') for path in sorted((TOP / "man").iterdir())),
+    *(
+        (f"man/{path.name}", r'^\.TH \S+ [13] "\d{4}-\d\d-\d\d" "fmtcanon (.*?)"')
+        for path in sorted((TOP / "man").iterdir())
+    ),
 ]
 # What a call of the library returns, in its contract and in its body: 65,536 times the major version, 256 times the
 # minor version, plus the patch.
@@ -48,7 +51,9 @@ def texts():
 def others_in(name, text):
     """The versions in a text that are not this one, and the names of other libraries."""
     libraries = {it for it in re.findall(LIBRARY, text) if it not in (SONAME, f"libfmtcanon.so.{VERSION}")}
-    numbers = set(re.findall(NAMED, text)) | ({it for it in re.findall(NUMBER, text) if not re.fullmatch(OTHER, it)} if name not in RELEASES else set())
+    numbers = set(re.findall(NAMED, text)) | (
+        {it for it in re.findall(NUMBER, text) if not re.fullmatch(OTHER, it)} if name not in RELEASES else set()
+    )
     return sorted(libraries | numbers - {VERSION})
 
 

@@ -1,13 +1,15 @@
 #!/usr/bin/env python3
-"""Holds the types of arguments in the whole language to `parse_printf_format` of the GNU C library, and to gcc's warnings.
+"""Holds the types of arguments in the whole language to `parse_printf_format` of the GNU C library, and to gcc's
+warnings.
 
 Usage: tests/whole_types.py PROGRAM FOLDER
 
-FOLDER has libfmtcanon.so, as `make library` leaves it. It needs gcc, and the GNU C library that Python runs on. Its last
-line is 'N passed, M failed', and it exits with 1 where M isn't 0.
+FOLDER has libfmtcanon.so, as `make library` leaves it. It needs gcc, and the GNU C library that Python runs on. Its
+last line is 'N passed, M failed', and it exits with 1 where M isn't 0.
 
-`parse_printf_format` says how many arguments there are, where each is, and its kind; it knows no signs, takes `ll` for `l`
-and `%lc` for `%c`, and gives each pointer of `%n` one code. What is left is gcc's, whose warnings know all of a type.
+`parse_printf_format` says how many arguments there are, where each is, and its kind; it knows no signs, takes `ll` for
+`l` and `%lc` for `%c`, and gives each pointer of `%n` one code. What is left is gcc's, whose warnings know all of a
+type.
 
 Where each specification is, and which arguments it takes, is compared with what a regular expression finds.
 """
@@ -81,7 +83,8 @@ NAMED = {
 WARNINGS = ["-Wformat", "-Wformat-signedness"]
 # With these two options gcc warns of pointers of another type for `p`, and knows `wchar_t *` from `int *`.
 PEDANTIC, SHORT = ["-Wpedantic"], ["-fshort-wchar"]
-# The type of a specification, and another type of which gcc doesn't warn there: one type of C by two names, and pointers
+# The type of a specification, and another type of which gcc doesn't warn there: one type of C by two names, and
+# pointers
 # to characters for one another. `parse_printf_format` tells these apart, except `unsigned int` for `%lc`.
 SILENT = {("UINT", "WIDE_CHAR"), ("WIDE_CHAR", "UINT"), ("STRING", "POINTER_TO_SCHAR")}
 SILENT |= {("POINTER_TO_VOID", "STRING"), ("POINTER_TO_VOID", "POINTER_TO_SCHAR")}
@@ -96,8 +99,30 @@ SPECIFICATION = re.compile(
 )
 # What random formats are made of, and how many there are.
 PARTS = [
-    b"%", b"%%", b"*", b".", b".*", b"1$", b"2$", b"*1$", b"*2$", b"5", b"0", b"-", b"#", b"l", b"h", b"L", b"z", b"d", b"lu",
-    b"s", b"f", b"n", b"p", b"a ",
+    b"%",
+    b"%%",
+    b"*",
+    b".",
+    b".*",
+    b"1$",
+    b"2$",
+    b"*1$",
+    b"*2$",
+    b"5",
+    b"0",
+    b"-",
+    b"#",
+    b"l",
+    b"h",
+    b"L",
+    b"z",
+    b"d",
+    b"lu",
+    b"s",
+    b"f",
+    b"n",
+    b"p",
+    b"a ",
 ]
 IN_ORDER = [b"%d", b"%*d", b"%.*f", b"%*.*s", b"%-5.3lu", b"%%", b"%n", b"x", b".*%c", b"%lc", b"%+.e", b"%0*zx"]
 BY_NUMBER = [b"%2$s", b"%1$d", b"%2$*1$s", b"%1$.*1$i", b"%3$*1$.*1$x", b"%%", b"x.*", b"%2$.3s"]
@@ -241,7 +266,9 @@ def try_directives(module, trials):
     for kind, texts in [("real", shapes()), ("random", random_formats())]:
         for at, format in enumerate(texts):
             model = module.Model(at % 3)
-            wanted = directives_or_refusal(module, lambda format, model: found_directives(module, format, model), format, model)
+            wanted = directives_or_refusal(
+                module, lambda format, model: found_directives(module, format, model), format, model
+            )
             found = directives_or_refusal(module, module.directives, format, model)
             accepted[kind] += isinstance(wanted, list) and wanted != []
             if found != wanted:

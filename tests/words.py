@@ -3,8 +3,9 @@
 
 Usage: tests/words.py
 
-It reads the documents, the manual pages, the header, the help of the program, the comments of the crates, and the comments,
-docstrings and texts of the Python module. Its last line is 'N passed, M failed', and it exits with 1 if M isn't 0.
+It reads the documents, the manual pages, the header, the help of the program, the comments of the crates, and the
+comments, docstrings and texts of the Python module. Its last line is 'N passed, M failed', and it exits with 1 if M
+isn't 0.
 """
 
 import io
@@ -20,17 +21,44 @@ from harness import TOP, main  # noqa: E402
 
 # Phrases that a reader would stumble over, or read in another sense.
 PHRASES = [
-    "so many", "hangs on", "goes by", "want of", "wants to be", "but for", "in a hundred", "anew", "dearer", "stands after", "is none",
-    "of which there", "the short of it", "by chance",
+    "so many",
+    "hangs on",
+    "goes by",
+    "want of",
+    "wants to be",
+    "but for",
+    "in a hundred",
+    "anew",
+    "dearer",
+    "stands after",
+    "is none",
+    "of which there",
+    "the short of it",
+    "by chance",
 ]
 # All pages on the contracts of crates together.
 CALLING = "crates/*/CALLING.md"
 # How many words each page may have, and how many percent more are let pass.
 LIMITS = {
-    "README.md": 900, "docs/INSTALL.md": 400, "docs/CHEATSHEET.md": 400, "docs/USING.md": 2000, "docs/TRANSLATIONS.md": 1100,
-    "docs/REFACTORING.md": 1100, "docs/REFUSALS.md": 1500, "docs/C.md": 900, "docs/PYTHON.md": 900, "docs/VERIFICATION.md": 2200,
-    "docs/DEFINITIONS.md": 4500, "docs/PERFORMANCE.md": 900, "docs/internals/ARCHITECTURE.md": 2800, "docs/internals/DECISIONS.md": 2200,
-    "docs/internals/PROOF_NOTES.md": 3600, "docs/CONTRIBUTING.md": 1000, "SECURITY.md": 120, "CHANGELOG.md": 400, CALLING: 8500,
+    "README.md": 900,
+    "docs/INSTALL.md": 400,
+    "docs/CHEATSHEET.md": 400,
+    "docs/USING.md": 2000,
+    "docs/TRANSLATIONS.md": 1100,
+    "docs/REFACTORING.md": 1100,
+    "docs/REFUSALS.md": 1500,
+    "docs/C.md": 900,
+    "docs/PYTHON.md": 900,
+    "docs/VERIFICATION.md": 2200,
+    "docs/DEFINITIONS.md": 4500,
+    "docs/PERFORMANCE.md": 900,
+    "docs/internals/ARCHITECTURE.md": 2800,
+    "docs/internals/DECISIONS.md": 2200,
+    "docs/internals/PROOF_NOTES.md": 3600,
+    "docs/CONTRIBUTING.md": 1000,
+    "SECURITY.md": 120,
+    "CHANGELOG.md": 400,
+    CALLING: 8500,
 }
 MARGIN = 10
 
@@ -62,7 +90,12 @@ def plain(text):
 
 def texts():
     """What is read for phrases, each with its name."""
-    for path in [*pages(), *sorted((TOP / "man").iterdir()), *sorted((TOP / "include").iterdir()), TOP / "tests/usage.txt"]:
+    for path in [
+        *pages(),
+        *sorted((TOP / "man").iterdir()),
+        *sorted((TOP / "include").iterdir()),
+        TOP / "tests/usage.txt",
+    ]:
         yield str(path.relative_to(TOP)), path.read_text(encoding="utf-8")
     for path in sorted(TOP.glob("crates/*/src/**/*.rt")):
         yield str(path.relative_to(TOP)), comments_of_rattle(path.read_text(encoding="utf-8"))
@@ -73,7 +106,9 @@ def texts():
 def phrases_in(text):
     """The phrases that a text has, in the order of PHRASES."""
     line = plain(text)
-    return [phrase for phrase in PHRASES if re.search(rf"(?<![\w-])[{phrase[0]}{phrase[0].upper()}]{phrase[1:]}\b", line)]
+    return [
+        phrase for phrase in PHRASES if re.search(rf"(?<![\w-])[{phrase[0]}{phrase[0].upper()}]{phrase[1:]}\b", line)
+    ]
 
 
 def words_in(paths):
@@ -92,7 +127,9 @@ def try_words(trials):
         trials.expect(f"phrases of {name} that are not used here", phrases_in(text), [])
     for name in sorted({limit_of(path) for path in pages()} - {None}):
         limit, count = LIMITS.get(name, 0), words_in(path for path in pages() if limit_of(path) == name)
-        trials.expect(f"{name} has at most {limit} words and {MARGIN} %: {count}", count * 100 <= limit * (100 + MARGIN), True)
+        trials.expect(
+            f"{name} has at most {limit} words and {MARGIN} %: {count}", count * 100 <= limit * (100 + MARGIN), True
+        )
 
 
 def try_all(trials):

@@ -394,7 +394,8 @@ def _models(found: int) -> List[Model]:
 
 
 def directives(format: Format, *, model: DataModel = Model.LP64) -> List[DirectiveSpan]:
-    """Returns the conversion specifications of a format of the whole language, in the order of the text, without `%%`.
+    """Returns the conversion specifications of a format of the whole language, in the order of the text, without
+    `%%`.
     """
     text, error = _bytes(format), _Error()
     # Each has a percent sign.

@@ -73,11 +73,18 @@ class Conversation:
             if left <= 0:
                 raise TimeoutError(f"the program did not reply within {timeout} seconds")
             # A child of the program may keep the streams open after the program's end.
-            if not self._wait(left, is_sending=len(rest) > 0) and self.process.poll() is not None and not self._wait(0, False):
+            if (
+                not self._wait(left, is_sending=len(rest) > 0)
+                and self.process.poll() is not None
+                and not self._wait(0, False)
+            ):
                 return None
 
     def _wait(self, seconds: float, is_sending: bool) -> bool:
-        """Waits until standard output can be read or, if asked, input can be sent. Keeps standard error from filling up."""
+        """Waits until standard output can be read or, if asked, input can be sent.
+
+        Keeps standard error from filling up.
+        """
         if is_sending:
             self._selector.register(self._input, selectors.EVENT_WRITE)
         try:
@@ -107,7 +114,7 @@ class Conversation:
     def _send(self, rest: memoryview) -> memoryview:
         """Sends what standard input has room for, and returns the rest."""
         try:
-            return rest[self._input.send(rest, socket.MSG_NOSIGNAL):] if len(rest) else rest
+            return rest[self._input.send(rest, socket.MSG_NOSIGNAL) :] if len(rest) else rest
         except BlockingIOError:
             return rest
         except (BrokenPipeError, ConnectionResetError):

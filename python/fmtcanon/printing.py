@@ -121,7 +121,7 @@ def _piece(line: str) -> Shown:
     if line == "percent":
         return Percent()
     if line.startswith("text "):
-        return Text(int(line[len("text "):]))
+        return Text(int(line[len("text ") :]))
     found = _DIRECTIVE.fullmatch(line)
     if found is None:
         raise Failed(0, line)

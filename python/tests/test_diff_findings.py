@@ -1,4 +1,6 @@
-"""Tests of what fmtcanon-diff says of a pair, and of the forms in which findings are printed: python3 -m unittest, in the folder above."""
+"""Tests of what fmtcanon-diff says of a pair, and of the forms in which findings are printed: python3 -m unittest, in
+the folder above.
+"""
 
 import io
 import json
@@ -25,12 +27,24 @@ def finding(old, new, models=ALL, call="f(%s, x);"):
 
 # The literals of an old and a new place, the kind and the message, and the data models in which that holds.
 SAID = [
-    ('"%05d"', '"%.5d"', "different", 'different: "%05d" and "%.5d" print "-0001" and "-00001" for -1', "lp64 ilp32 llp64"),
+    (
+        '"%05d"',
+        '"%.5d"',
+        "different",
+        'different: "%05d" and "%.5d" print "-0001" and "-00001" for -1',
+        "lp64 ilp32 llp64",
+    ),
     ('"%s %lu"', '"%s %d"', "types", "types differ at argument 1: unsigned long and int", "lp64 ilp32 llp64"),
     ('"%td"', '"%ld"', "types", 'same in lp64 only: "%td" and "%ld"', "ilp32 llp64"),
     ('"%zx"', '"%x"', "types", 'same in ilp32 only: "%zx" and "%x"', "lp64 llp64"),
     ('"%jd"', '"%lld"', "types", 'same in ilp32 and llp64 only: "%jd" and "%lld"', "lp64"),
-    ('"%d files"', '"%d file names"', "different", 'the words differ: "%d files" and "%d file names"', "lp64 ilp32 llp64"),
+    (
+        '"%d files"',
+        '"%d file names"',
+        "different",
+        'the words differ: "%d files" and "%d file names"',
+        "lp64 ilp32 llp64",
+    ),
     ('"%d%%"', '"%d %%"', "different", 'the words differ: "%d%%" and "%d %%"', "lp64 ilp32 llp64"),
     ('"%d"', '"%i"', "same", 'same: "%d" and "%i"', "lp64 ilp32 llp64"),
     ('"%d" "\\n"', '"%\\x69\\12"', "same", 'same: "%d\\n" and "%i\\n"', "lp64 ilp32 llp64"),
@@ -43,15 +57,42 @@ SAID = [
     ('"%d"', '"%d" X', "unjudged", "not judged: the macro X is part of it", "lp64 ilp32 llp64"),
     ('"%d"', '"%\\q"', "unjudged", "not judged: literal 3 BadEscape at byte 2", "lp64 ilp32 llp64"),
     ('"%1$d"', '"%1$s"', "types", "types differ at argument 0: int and string", "lp64 ilp32 llp64"),
-    ('"%s: %d"', '"%.3s: %d"', "different", 'different: "%s: %d" and "%.3s: %d" print "AAAA: 0" and "AAA: 0" for "AAAA", 0', "lp64 ilp32 llp64"),
-    ('"%ld items"', '"%td pieces"', "different", 'the words differ: "%ld items" and "%td pieces"; types differ in ilp32 and llp64', "lp64 ilp32 llp64"),
+    (
+        '"%s: %d"',
+        '"%.3s: %d"',
+        "different",
+        'different: "%s: %d" and "%.3s: %d" print "AAAA: 0" and "AAA: 0" for "AAAA", 0',
+        "lp64 ilp32 llp64",
+    ),
+    (
+        '"%ld items"',
+        '"%td pieces"',
+        "different",
+        'the words differ: "%ld items" and "%td pieces"; types differ in ilp32 and llp64',
+        "lp64 ilp32 llp64",
+    ),
     ('"%d\u00a0m"', '"%d m"', "different", 'the words differ: "%d\\xa0m" and "%d m"', "lp64 ilp32 llp64"),
     ('"%c"', '"%hhd"', "different", 'different: "%c" and "%hhd" print "\\000" and "0" for 0', "lp64 ilp32 llp64"),
 ]
 WHOLE = [
-    ('"%f and %05d %p"', '"%f and %.5d %p"', "different", 'different: "%f and %05d %p" and "%f and %.5d %p" print "%f and -0001 %p" and "%f and -00001 %p" for any, -1, any'),
-    ('"%.6lf %05d"', '"%f %.5d"', "different", 'different: "%.6lf %05d" and "%f %.5d" print "%f -0001" and "%f -00001" for any, -1'),
-    ('"%.6lf %s|"', '"%f %.10s|"', "different", 'different: "%.6lf %s|" and "%f %.10s|" print "%f AAAAAAAAAAA|" and "%f AAAAAAAAAA|" for any, "AAAAAAAAAAA"'),
+    (
+        '"%f and %05d %p"',
+        '"%f and %.5d %p"',
+        "different",
+        'different: "%f and %05d %p" and "%f and %.5d %p" print "%f and -0001 %p" and "%f and -00001 %p" for any, -1, any',
+    ),
+    (
+        '"%.6lf %05d"',
+        '"%f %.5d"',
+        "different",
+        'different: "%.6lf %05d" and "%f %.5d" print "%f -0001" and "%f -00001" for any, -1',
+    ),
+    (
+        '"%.6lf %s|"',
+        '"%f %.10s|"',
+        "different",
+        'different: "%.6lf %s|" and "%f %.10s|" print "%f AAAAAAAAAAA|" and "%f AAAAAAAAAA|" for any, "AAAAAAAAAAA"',
+    ),
     ('"%d %f"', '"%d %e"', "directives", 'directives differ at argument 1: "%f" and "%e"'),
     ('"%*d %s"', '"%d%d %s"', "directives", 'directives differ at argument 0: "%*d" and "%d"'),
     ('"%*d"', '"%*i"', "same", 'same: "%*d" and "%*i"'),
@@ -62,7 +103,18 @@ WHOLE = [
     ('"%jn"', '"%ln"', "types", 'same in lp64 only: "%jn" and "%ln"'),
     ('"%2$s %1$f"', '"%2$s  %1$f"', "unjudged", 'not judged: refused 6 Numbered at byte 2 of "%2$s %1$f"'),
 ]
-FOUND = Finding("a b.c", 3, 7, "types", ERROR, 'types: 100% "%d", a', (3, 12), ("%d", "%s"), ("lp64", "llp64"), {"old": "%d", "new": "%s"})
+FOUND = Finding(
+    "a b.c",
+    3,
+    7,
+    "types",
+    ERROR,
+    'types: 100% "%d", a',
+    (3, 12),
+    ("%d", "%s"),
+    ("lp64", "llp64"),
+    {"old": "%d", "new": "%s"},
+)
 
 
 def printed(output, *findings):
@@ -79,7 +131,10 @@ class Judging(unittest.TestCase):
         for old, new, kind, message, models in SAID:
             found = finding(old, new)
             self.assertEqual((found.kind, found.message, " ".join(found.models)), (kind, message, models), (old, new))
-            self.assertEqual((found.line, found.column, "words" in found.details), (1, 4 if new[0] == "L" else 3, message.startswith("the words")))
+            self.assertEqual(
+                (found.line, found.column, "words" in found.details),
+                (1, 4 if new[0] == "L" else 3, message.startswith("the words")),
+            )
 
     def test_whole_language(self):
         for old, new, kind, message in WHOLE:
@@ -89,30 +144,49 @@ class Judging(unittest.TestCase):
     def test_models(self):
         self.assertEqual(finding('"%td"', '"%ld"', models=[Model.LP64]).message, 'same: "%td" and "%ld"')
         found = finding('"%td"', '"%ld"', models=[Model.ILP32, Model.LLP64])
-        self.assertEqual((found.message, found.models), ("types differ at argument 0: int and long", ("ilp32", "llp64")))
-        self.assertEqual(finding('"%td"', '"%ld"').details["verdicts"], {"lp64": "same", "ilp32": "types", "llp64": "types"})
+        self.assertEqual(
+            (found.message, found.models), ("types differ at argument 0: int and long", ("ilp32", "llp64"))
+        )
+        self.assertEqual(
+            finding('"%td"', '"%ld"').details["verdicts"], {"lp64": "same", "ilp32": "types", "llp64": "types"}
+        )
 
     def test_levels(self):
-        for kind, level in [(("%d", "%i"), NOTE), (("%d", "%u"), ERROR), (("%d", "%x"), ERROR), (("%d", "%y"), WARNING)]:
+        for kind, level in [
+            (("%d", "%i"), NOTE),
+            (("%d", "%u"), ERROR),
+            (("%d", "%x"), ERROR),
+            (("%d", "%y"), WARNING),
+        ]:
             self.assertEqual(finding(*[f'"{it}"' for it in kind]).level, level)
 
     def test_details(self):
         found = finding('"%d" "\\n"', '"%" PRIu64', call="fprintf(stderr, %s)")
-        self.assertEqual({it: found.details[it] for it in ["old", "new", "function", "argument"]}, {"old": "%d\n", "new": "%lu", "function": "fprintf", "argument": 1})
+        self.assertEqual(
+            {it: found.details[it] for it in ["old", "new", "function", "argument"]},
+            {"old": "%d\n", "new": "%lu", "function": "fprintf", "argument": 1},
+        )
         self.assertEqual((found.formats, found.end), (("%d\n", "%lu"), (1, 27)))
         self.assertEqual(finding('"%d" "\\n"', '"%d" X').details["new"], '"%d" X')
 
     def test_specification(self):
         """Where the specification is that takes the argument at which the types differ."""
         for old, new, wanted in [
-            ('"%s %lu"', '"%s %d"', (1, 7, 1, 9)), ('"\\t%s" "%lu"', '"\\t%s" /* "%" */\n  u8"\\x25i"', (2, 6, 2, 11)), ('"%d"', '"none"', None),
-            ('"%" PRIu64', '"%" PRIu32', None), ('"%5.*d"', '"%5.*s"', (1, 4, 1, 9)),
+            ('"%s %lu"', '"%s %d"', (1, 7, 1, 9)),
+            ('"\\t%s" "%lu"', '"\\t%s" /* "%" */\n  u8"\\x25i"', (2, 6, 2, 11)),
+            ('"%d"', '"none"', None),
+            ('"%" PRIu64', '"%" PRIu32', None),
+            ('"%5.*d"', '"%5.*s"', (1, 4, 1, 9)),
         ]:
             at = finding(old, new).details.get("specification")
-            self.assertEqual(at and tuple(at[it] for it in ["line", "column", "end_line", "end_column"]), wanted, (old, new))
+            self.assertEqual(
+                at and tuple(at[it] for it in ["line", "column", "end_line", "end_column"]), wanted, (old, new)
+            )
 
     def test_short(self):
-        """A long text shows where the two begin to differ, and a long string is as short as the difference lets it be."""
+        """A long text shows where the two begin to differ, and a long string is as short as the difference lets it
+        be.
+        """
         words = "word " * 100
         found = finding(f'"{words}%05d{words}"', f'"{words}%.5d{words}"').message
         self.assertLess(len(found), 400)
@@ -128,8 +202,13 @@ class Judging(unittest.TestCase):
     def test_narrowed(self):
         """What two formats share is cut off at the ends of specifications."""
         for old, new, wanted in [
-            (b"x%05d|", b"x%.5d|", (1, 1)), (b"%5d", b"%5d", (3, 0)), (b"%d%d%u", b"%d%i%u", (2, 0)), (b"a%lld", b"a%ld", (1, 0)),
-            (b"%%%d.", b"%%%%d.", (0, 1)), (b"5%d", b"%d", (0, 0)), (b"%s: %d of %d\n", b"%s: %x of %d\n", (3, 5)),
+            (b"x%05d|", b"x%.5d|", (1, 1)),
+            (b"%5d", b"%5d", (3, 0)),
+            (b"%d%d%u", b"%d%i%u", (2, 0)),
+            (b"a%lld", b"a%ld", (1, 0)),
+            (b"%%%d.", b"%%%%d.", (0, 1)),
+            (b"5%d", b"%d", (0, 0)),
+            (b"%s: %d of %d\n", b"%s: %x of %d\n", (3, 5)),
         ]:
             self.assertEqual(narrowed(old, new), wanted, (old, new))
 
@@ -137,15 +216,26 @@ class Judging(unittest.TestCase):
         """A long format is judged as a short one is."""
         for front, back in [("%d x" * 5_000, ""), ("", "%s y" * 5_000), ("%d x" * 3_000, "%d x" * 3_000)]:
             for old, new, kind, at in [
-                ("%05d", "%.5d", "different", None), ("%d", "%i", "same", None), ("%d", "%u", "types", 0), ("%d", "%d%d", "types", None),
-                ("a", "b", "different", None), ("%d", "%y", "unjudged", None),
+                ("%05d", "%.5d", "different", None),
+                ("%d", "%i", "same", None),
+                ("%d", "%u", "types", 0),
+                ("%d", "%d%d", "types", None),
+                ("a", "b", "different", None),
+                ("%d", "%y", "unjudged", None),
             ]:
                 found = finding(f'"{front}{old} {back}"', f'"{front}{new} {back}"')
-                self.assertEqual((found.kind, len(found.message) < 300, found.details.get("words", False)), (kind, True, old == "a"), (front[:4], back[:4], old, new, found.message))
+                self.assertEqual(
+                    (found.kind, len(found.message) < 300, found.details.get("words", False)),
+                    (kind, True, old == "a"),
+                    (front[:4], back[:4], old, new, found.message),
+                )
                 if at is not None:
                     self.assertIn(f"at argument {front.count('%')}: int and unsigned int", found.message)
                 if old == "%05d":
-                    self.assertIn(' print "-0001" and "-00001" for -1', found.message.replace("-0001 ", "-0001").replace("-00001 ", "-00001"))
+                    self.assertIn(
+                        ' print "-0001" and "-00001" for -1',
+                        found.message.replace("-0001 ", "-0001").replace("-00001 ", "-00001"),
+                    )
 
     def test_long_of_whole_language(self):
         front = "%d x" * 5_000
@@ -156,7 +246,10 @@ class Judging(unittest.TestCase):
         """Formats may have bytes that aren't UTF-8."""
         sources = [Source(b'f("\xe9 ' + it + b'", x)') for it in (b"%05d", b"%.5d")]
         [pair] = paired(*sources).changed
-        self.assertEqual(judge(Library(), "a.c", pair, ALL).message, 'different: "\\xe9 %05d" and "\\xe9 %.5d" print "\\xe9 -0001" and "\\xe9 -00001" for -1')
+        self.assertEqual(
+            judge(Library(), "a.c", pair, ALL).message,
+            'different: "\\xe9 %05d" and "\\xe9 %.5d" print "\\xe9 -0001" and "\\xe9 -00001" for -1',
+        )
 
     def test_specifications(self):
         self.assertEqual(specifications(b"a %d%% %-5.*s b"), b"%d%-5.*s")
@@ -177,15 +270,43 @@ class Forms(unittest.TestCase):
 
     def test_json(self):
         lines = printed("json", FOUND, Finding("b.c", 0, None, "unjudged", WARNING, "x")).splitlines()
-        wanted = {"file": "a b.c", "line": 3, "column": 7, "end_line": 3, "end_column": 12, "kind": "types", "level": "error", "message": 'types: 100% "%d", a', "models": ["lp64", "llp64"], "old": "%d", "new": "%s"}
+        wanted = {
+            "file": "a b.c",
+            "line": 3,
+            "column": 7,
+            "end_line": 3,
+            "end_column": 12,
+            "kind": "types",
+            "level": "error",
+            "message": 'types: 100% "%d", a',
+            "models": ["lp64", "llp64"],
+            "old": "%d",
+            "new": "%s",
+        }
         self.assertEqual(json.loads(lines[0]), wanted)
-        self.assertEqual(json.loads(lines[1]), {"file": "b.c", "line": 0, "column": None, "kind": "unjudged", "level": "warning", "message": "x", "models": []})
+        self.assertEqual(
+            json.loads(lines[1]),
+            {
+                "file": "b.c",
+                "line": 0,
+                "column": None,
+                "kind": "unjudged",
+                "level": "warning",
+                "message": "x",
+                "models": [],
+            },
+        )
 
     def test_github(self):
-        self.assertEqual(printed("github", FOUND), '::error file=a b.c,line=3,col=7,endColumn=12::types: 100%25 "%25d", a\n')
+        self.assertEqual(
+            printed("github", FOUND), '::error file=a b.c,line=3,col=7,endColumn=12::types: 100%25 "%25d", a\n'
+        )
         wanted = "::warning file=a%2Cb%3A.c::x%0Ay%25\n"
         self.assertEqual(printed("github", Finding("a,b:.c", 0, None, "unjudged", WARNING, "x\ny%")), wanted)
-        self.assertEqual(printed("github", Finding("a", 1, 2, "same", NOTE, "x", (2, 1))), "::notice file=a,line=1,col=2,endLine=2::x\n")
+        self.assertEqual(
+            printed("github", Finding("a", 1, 2, "same", NOTE, "x", (2, 1))),
+            "::notice file=a,line=1,col=2,endLine=2::x\n",
+        )
 
     def test_sarif(self):
         """The facts of the schema of SARIF 2.1.0 that concern what is printed."""
@@ -207,7 +328,13 @@ class Forms(unittest.TestCase):
             self.assertIn(result["level"], ["none", "note", "warning", "error"])
             self.assertEqual(set(result["message"]), {"text"})
         first, second = [it["locations"][0]["physicalLocation"] for it in run["results"]]
-        self.assertEqual(first, {"artifactLocation": {"uri": "a%20b.c"}, "region": {"startLine": 3, "startColumn": 7, "endLine": 3, "endColumn": 12}})
+        self.assertEqual(
+            first,
+            {
+                "artifactLocation": {"uri": "a%20b.c"},
+                "region": {"startLine": 3, "startColumn": 7, "endLine": 3, "endColumn": 12},
+            },
+        )
         self.assertEqual(second, {"artifactLocation": {"uri": "file:///x/%25.c"}})
         self.assertEqual(json.loads(printed("sarif"))["runs"][0]["results"], [])
 

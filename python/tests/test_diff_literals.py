@@ -12,18 +12,44 @@ from fmtcanon.diff.pairing import matching, paired
 # A source, and of each place the line and column of its quote, its call and its bytes in LP64, or why there are none.
 READ = [
     (b'printf("%d");', [((1, 8), (b"printf", 0, 0), b"%d")]),
-    (b'fprintf(f,\n  "a" /* b */\n  "%d", g(x), "c");', [((2, 3), (b"fprintf", 1, 0), b"a%d"), ((3, 15), (b"fprintf", 3, 0), b"c")]),
+    (
+        b'fprintf(f,\n  "a" /* b */\n  "%d", g(x), "c");',
+        [((2, 3), (b"fprintf", 1, 0), b"a%d"), ((3, 15), (b"fprintf", 3, 0), b"c")],
+    ),
     (b'f("a\\\n%d");\ng("b");', [((1, 3), (b"f", 0, 0), b"a%d"), ((3, 3), (b"g", 0, 0), b"b")]),
     (b'f(\\\r\n"a\\\r\nb" "c");\r\n  g("d")', [((2, 1), (b"f", 0, 0), b"abc"), ((4, 5), (b"g", 0, 0), b"d")]),
     (b'printf(_("%d"), x)', [((1, 10), (b"printf", 0, 0), b"%d")]),
-    (b'printf(ngettext("one", "%d", n), n)', [((1, 17), (b"printf", 0, 0), b"one"), ((1, 24), (b"printf", 0, 1), b"%d")]),
+    (
+        b'printf(ngettext("one", "%d", n), n)',
+        [((1, 17), (b"printf", 0, 0), b"one"), ((1, 24), (b"printf", 0, 1), b"%d")],
+    ),
     (b'printf(("%d"), x); x = ("a");', [((1, 9), (b"printf", 0, 0), b"%d"), ((1, 25), (b"", 0, 0), b"a")]),
-    (b'if (f("a")) return "b"; else "c";', [((1, 7), (b"f", 0, 0), b"a"), ((1, 20), (b"", 0, 0), b"b"), ((1, 30), (b"", 0, 0), b"c")]),
+    (
+        b'if (f("a")) return "b"; else "c";',
+        [((1, 7), (b"f", 0, 0), b"a"), ((1, 20), (b"", 0, 0), b"b"), ((1, 30), (b"", 0, 0), b"c")],
+    ),
     (b'f("%" PRIu64 "\\n")', [((1, 3), (b"f", 0, 0), b"%lu\n")]),
     (b'f(PRIu64 "x")', [((1, 10), (b"f", 0, 0), b"lux")]),
-    (b'#define F "%d" "\\n"\nf(F, 1); f("x" F);', [((1, 11), (b"#define F", 0, 0), b"%d\n"), ((2, 3), (b"f", 0, 0), b"%d\n"), ((2, 12), (b"f", 0, 0), b"x%d\n")]),
-    (b'#define Z "zu"\n#define F "%" Z\nf(F)', [((1, 11), (b"#define Z", 0, 0), b"zu"), ((2, 11), (b"#define F", 0, 0), b"%zu"), ((3, 3), (b"f", 0, 0), b"%zu")]),
-    (b'#define F "%d"\n#define F "%u"\nf("a" F)', [((1, 11), (b"#define F", 0, 0), b"%d"), ((2, 11), (b"#define F", 0, 0), b"%u"), ((3, 3), (b"f", 0, 0), "the macro F is part of it")]),
+    (
+        b'#define F "%d" "\\n"\nf(F, 1); f("x" F);',
+        [((1, 11), (b"#define F", 0, 0), b"%d\n"), ((2, 3), (b"f", 0, 0), b"%d\n"), ((2, 12), (b"f", 0, 0), b"x%d\n")],
+    ),
+    (
+        b'#define Z "zu"\n#define F "%" Z\nf(F)',
+        [
+            ((1, 11), (b"#define Z", 0, 0), b"zu"),
+            ((2, 11), (b"#define F", 0, 0), b"%zu"),
+            ((3, 3), (b"f", 0, 0), b"%zu"),
+        ],
+    ),
+    (
+        b'#define F "%d"\n#define F "%u"\nf("a" F)',
+        [
+            ((1, 11), (b"#define F", 0, 0), b"%d"),
+            ((2, 11), (b"#define F", 0, 0), b"%u"),
+            ((3, 3), (b"f", 0, 0), "the macro F is part of it"),
+        ],
+    ),
     (b'f("a" X);', [((1, 3), (b"f", 0, 0), "the macro X is part of it")]),
     (b'f(X "a");', [((1, 5), (b"f", 0, 0), "the macro X is part of it")]),
     (b'f(L"%d", u8"%u")', [((1, 4), (b"f", 0, 0), "a wide string literal"), ((1, 12), (b"f", 1, 0), b"%u")]),
@@ -33,7 +59,10 @@ READ = [
     (b'// "a"\n/* "b" */ "c" \'"\' \'\\\'\' "d"', [((2, 11), (b"", 0, 0), b"c"), ((2, 24), (b"", 0, 0), b"d")]),
     (b'#include "a.h"\n#error don\'t "x\n#if "y"\nf("b")', [((4, 3), (b"f", 0, 0), b"b")]),
     (b'f("a"\n#ifdef X\n"b"\n#endif\n)', [((1, 3), (b"f", 0, 0), b"a"), ((3, 1), (b"f", 0, 0), b"b")]),
-    (b'#define L(f, ...) p("x " f, \\\n  __VA_ARGS__)\ng("a")', [((1, 21), (b"p", 0, 0), "the macro f is part of it"), ((3, 3), (b"g", 0, 0), b"a")]),
+    (
+        b'#define L(f, ...) p("x " f, \\\n  __VA_ARGS__)\ng("a")',
+        [((1, 21), (b"p", 0, 0), "the macro f is part of it"), ((3, 3), (b"g", 0, 0), b"a")],
+    ),
     (b'#define OPEN(x) f(x\ng("a")', [((2, 3), (b"g", 0, 0), b"a")]),
     (b'asm volatile ("b" : "=r"(x))', [((1, 15), (b"volatile", 0, 0), b"b"), ((1, 21), (b"volatile", 0, 0), b"=r")]),
     ('f("é", "%d")'.encode(), [((1, 3), (b"f", 0, 0), "é".encode()), ((1, 8), (b"f", 1, 0), b"%d")]),
@@ -46,21 +75,87 @@ READ = [
 PAIRED = [
     ("equal", b'f("%d");', b' f ( "%d" ) ;', [], (0, 0)),
     ("a split literal", b'f("ab");', b'f("a" "b");', [(b"ab", b"ab")], (0, 0)),
-    ("moved in a list of likes", b'f("%d\\n", a);\nf("%d\\n", b);\nf("%u\\n", c);\n', b'f("%d\\n", b);\nf("%lu\\n", c);\n', [(b"%u\n", b"%lu\n")], (0, 1)),
-    ("a lone bracket between", b'if (x)\n{\n f("%d a");\n}\ng("%d b");\n', b'if (y)\n g("%u b");\nelse\n{\n f("%u a");\n}\n', [(b"%d b", b"%u b"), (b"%d a", b"%u a")], (0, 0)),
-    ("a block that moved", b'a1;\nb1;\nf("%d one");\nc1;\nd1;\n', b'f("%u one");\na1;\nb1;\nc1;\nd1;\n', [(b"%d one", b"%u one")], (0, 0)),
+    (
+        "moved in a list of likes",
+        b'f("%d\\n", a);\nf("%d\\n", b);\nf("%u\\n", c);\n',
+        b'f("%d\\n", b);\nf("%lu\\n", c);\n',
+        [(b"%u\n", b"%lu\n")],
+        (0, 1),
+    ),
+    (
+        "a lone bracket between",
+        b'if (x)\n{\n f("%d a");\n}\ng("%d b");\n',
+        b'if (y)\n g("%u b");\nelse\n{\n f("%u a");\n}\n',
+        [(b"%d b", b"%u b"), (b"%d a", b"%u a")],
+        (0, 0),
+    ),
+    (
+        "a block that moved",
+        b'a1;\nb1;\nf("%d one");\nc1;\nd1;\n',
+        b'f("%u one");\na1;\nb1;\nc1;\nd1;\n',
+        [(b"%d one", b"%u one")],
+        (0, 0),
+    ),
     ("another call", b'f("%d");', b'g("%u");', [], (1, 1)),
-    ("the same words in another call", b'f("%d files", x);', b'g(out, "%u files", x);', [(b"%d files", b"%u files")], (0, 0)),
-    ("the same words, told apart by what follows", b'f("%d x", a);\nf("%ld x", b);\n', b'f("%lu x", b);\n', [(b"%ld x", b"%lu x")], (0, 1)),
+    (
+        "the same words in another call",
+        b'f("%d files", x);',
+        b'g(out, "%u files", x);',
+        [(b"%d files", b"%u files")],
+        (0, 0),
+    ),
+    (
+        "the same words, told apart by what follows",
+        b'f("%d x", a);\nf("%ld x", b);\n',
+        b'f("%lu x", b);\n',
+        [(b"%ld x", b"%lu x")],
+        (0, 1),
+    ),
     ("the same words twice", b'f("%d files", x);', b'g("%u files", x); h("%u files", x);', [], (2, 1)),
-    ("a rewritten text in place", b'f("%d old", x, y);', b'f("completely %u different", x, y);', [(b"%d old", b"completely %u different")], (0, 0)),
+    (
+        "a rewritten text in place",
+        b'f("%d old", x, y);',
+        b'f("completely %u different", x, y);',
+        [(b"%d old", b"completely %u different")],
+        (0, 0),
+    ),
     ("escapes", b'f("\\x74\\x61\\x62 %d", x);\ng();', b'f("tab %i", y);\nh();', [(b"tab %d", b"tab %i")], (0, 0)),
-    ("a macro's definition", b'#define Z "zu"\nf("%" Z);\n', b'#define Z "u"\nf("%" Z);\n', [(b"zu", b"u"), (b"%zu", b"%u")], (0, 0)),
-    ("a macro's definition far above", b'#define Z "zu"\na();\nb();\nf("%" Z);\nc();\n', b'#define Z "u"\na();\nb();\nf("%" Z);\nc();\n', [(b"zu", b"u"), (b"%zu", b"%u")], (0, 0)),
-    ("arguments that come last", b'f("%d", x); g();', b'f("%d and then %s here", x, y); h();', [(b"%d", b"%d and then %s here")], (0, 0)),
-    ("brackets that moved", b'f("one", x);\n}\naa();\nf("red", y);\nelse\nbb();\n', b'}\nf("quite %d other", x);\naa();\nelse\nf("%d blue cars", y);\nbb();\n', [(b"one", b"quite %d other"), (b"red", b"%d blue cars")], (0, 0)),
+    (
+        "a macro's definition",
+        b'#define Z "zu"\nf("%" Z);\n',
+        b'#define Z "u"\nf("%" Z);\n',
+        [(b"zu", b"u"), (b"%zu", b"%u")],
+        (0, 0),
+    ),
+    (
+        "a macro's definition far above",
+        b'#define Z "zu"\na();\nb();\nf("%" Z);\nc();\n',
+        b'#define Z "u"\na();\nb();\nf("%" Z);\nc();\n',
+        [(b"zu", b"u"), (b"%zu", b"%u")],
+        (0, 0),
+    ),
+    (
+        "arguments that come last",
+        b'f("%d", x); g();',
+        b'f("%d and then %s here", x, y); h();',
+        [(b"%d", b"%d and then %s here")],
+        (0, 0),
+    ),
+    (
+        "brackets that moved",
+        b'f("one", x);\n}\naa();\nf("red", y);\nelse\nbb();\n',
+        b'}\nf("quite %d other", x);\naa();\nelse\nf("%d blue cars", y);\nbb();\n',
+        [(b"one", b"quite %d other"), (b"red", b"%d blue cars")],
+        (0, 0),
+    ),
     ("a macro alone", b'#define F "%zu"\nf(F);\n', b'#define F "%u"\nf(F);\n', [(b"%zu", b"%u")], (0, 0)),
-    ("a format moved into a macro", b'f("%d\\n", x);\n', b'#define F "%d\\n"\nf(F, x);\n', [(b"%d\n", b"%d\n")], (1, 0)),
+    (
+        "a format moved into a macro",
+        b'f("%d\\n", x);\n',
+        b'#define F "%d\\n"\nf(F, x);\n',
+        [(b"%d\n", b"%d\n")],
+        (1, 0),
+    ),
     ("a file that is new", b"", b'f("%d"); g("a");', [], (2, 0)),
 ]
 
@@ -82,16 +177,41 @@ class Reading(unittest.TestCase):
 
     def test_macros(self):
         names = {
-            b"PRIu64": [b"lu", b"llu", b"llu"], b"PRIdMAX": [b"ld", b"lld", b"lld"], b"PRIxPTR": [b"lx", b"x", b"llx"], b"PRId32": [b"d"] * 3,
-            b"PRIu8": [b"u"] * 3, b"PRIoLEAST16": [b"o"] * 3, b"PRIiFAST32": [b"li", b"i", b"i"], b"PRIXFAST8": [b"X"] * 3, b"PRIuFAST64": [b"lu", b"llu", b"llu"],
-            b"PRIu65": [None] * 3, b"SCNu64": [None] * 3,
+            b"PRIu64": [b"lu", b"llu", b"llu"],
+            b"PRIdMAX": [b"ld", b"lld", b"lld"],
+            b"PRIxPTR": [b"lx", b"x", b"llx"],
+            b"PRId32": [b"d"] * 3,
+            b"PRIu8": [b"u"] * 3,
+            b"PRIoLEAST16": [b"o"] * 3,
+            b"PRIiFAST32": [b"li", b"i", b"i"],
+            b"PRIXFAST8": [b"X"] * 3,
+            b"PRIuFAST64": [b"lu", b"llu", b"llu"],
+            b"PRIu65": [None] * 3,
+            b"SCNu64": [None] * 3,
         }
         for name, wanted in names.items():
             self.assertEqual([expansion(name, it) for it in Model], wanted, name)
 
     def test_time(self):
         """Texts that a pattern could match in many ways take linear time."""
-        units = [b"f(1); ", b"a ", b'"a" ', b"/* ", b"'a ", b"#a ", b"1'", b"a", b"1", b" ", b"#define a b", b'R"(x ', b'"\\n', b"(((", b"f", b"\\\n"]
+        units = [
+            b"f(1); ",
+            b"a ",
+            b'"a" ',
+            b"/* ",
+            b"'a ",
+            b"#a ",
+            b"1'",
+            b"a",
+            b"1",
+            b" ",
+            b"#define a b",
+            b'R"(x ',
+            b'"\\n',
+            b"(((",
+            b"f",
+            b"\\\n",
+        ]
         began = time.process_time()
         for unit in units:
             for text in [unit * (40_000 // len(unit)), b"#define " + unit * (40_000 // len(unit))]:
@@ -104,9 +224,17 @@ class Judged(unittest.TestCase):
     def test_what_is_judged(self):
         """Only what has a specification on either side, and may be a format."""
         for old, new, wanted in [
-            (b'f("%d")', b'f("x")', True), (b'f("x")', b'f("%d")', True), (b'f("x")', b'f("y")', False), (b'f("%%")', b'f("%% ")', False), (b'f("%%")', b'f("%")', True),
-            (b'f("\\x25i")', b'f("x")', True), (b'f(L"%d")', b'f("x")', True), (b'puts("%d")', b'puts("%u")', False), (b'fputs(_("%d"), f)', b'fputs(_("%u"), f)', False),
-            (b'__asm__ volatile ("%0" : )', b'__asm__ volatile ("%1" : )', False), (b'f(PRIu64)', b'f(PRId64)', False),
+            (b'f("%d")', b'f("x")', True),
+            (b'f("x")', b'f("%d")', True),
+            (b'f("x")', b'f("y")', False),
+            (b'f("%%")', b'f("%% ")', False),
+            (b'f("%%")', b'f("%")', True),
+            (b'f("\\x25i")', b'f("x")', True),
+            (b'f(L"%d")', b'f("x")', True),
+            (b'puts("%d")', b'puts("%u")', False),
+            (b'fputs(_("%d"), f)', b'fputs(_("%u"), f)', False),
+            (b'__asm__ volatile ("%0" : )', b'__asm__ volatile ("%1" : )', False),
+            (b"f(PRIu64)", b"f(PRId64)", False),
         ]:
             places = [Source(it).read().places for it in (old, new)]
             self.assertEqual(bool(places[0]) and is_judged(places[0][0], places[1][0]), wanted, (old, new))
@@ -115,8 +243,12 @@ class Judged(unittest.TestCase):
 class Pairing(unittest.TestCase):
     def test_blocks(self):
         for first, second, wanted in [
-            ("", "", []), ("abc", "abc", [(0, 0, 3)]), ("abcd", "abxd", [(0, 0, 2), (3, 3, 1)]), ("xay", "zbaw", [(1, 2, 1)]),
-            ("aabb", "bbaa", [(0, 2, 2)]), ("pqrst", "prqst", [(0, 0, 1), (1, 2, 1), (3, 3, 2)]),
+            ("", "", []),
+            ("abc", "abc", [(0, 0, 3)]),
+            ("abcd", "abxd", [(0, 0, 2), (3, 3, 1)]),
+            ("xay", "zbaw", [(1, 2, 1)]),
+            ("aabb", "bbaa", [(0, 2, 2)]),
+            ("pqrst", "prqst", [(0, 0, 1), (1, 2, 1), (3, 3, 2)]),
         ]:
             found = matching(first, second)
             joined = "".join(first[a : a + size] for a, _, size in found)
@@ -135,11 +267,15 @@ class Pairing(unittest.TestCase):
         line = b'f("%d\\n", x);\n'
         found = paired(Source(line * 8_000), Source(line * 3_000 + b'f("%u\\n", x);\n' + line * 4_999))
         self.assertEqual((len(found.changed), found.came, found.went), (1, 0, 0))
-        found = paired(Source(line.rstrip() * 8_000), Source(line.rstrip() * 3_000 + b'f("%u\\n", x);' + line.rstrip() * 4_999))
+        found = paired(
+            Source(line.rstrip() * 8_000), Source(line.rstrip() * 3_000 + b'f("%u\\n", x);' + line.rstrip() * 4_999)
+        )
         self.assertEqual((len(found.changed), found.came, found.went), (1, 0, 0))
         found = paired(Source(b'f("' + b"%d " * 500_000 + b'");'), Source(b'f("' + b"%d " * 499_999 + b'%u ");'))
         self.assertEqual((len(found.changed), found.came, found.went), (1, 0, 0))
-        found = paired(Source(line * 2_000 + b'g("a");\nh();\n' * 2_000), Source(b'g("a");\nh();\n' * 2_000 + line * 2_000))
+        found = paired(
+            Source(line * 2_000 + b'g("a");\nh();\n' * 2_000), Source(b'g("a");\nh();\n' * 2_000 + line * 2_000)
+        )
         self.assertLess(time.process_time() - began, 20)
 
 

@@ -268,7 +268,9 @@ class Loading(unittest.TestCase):
                 status, line = self.import_with(library, f"fmtcanon._VERSION = {other}")
                 self.assertEqual(status, 0 if passes else 1)
                 if not passes:
-                    self.assertIn(f"has the version {major}.{minor}.{patch}, and the module needs {other[0]}.{other[1]}", line)
+                    self.assertIn(
+                        f"has the version {major}.{minor}.{patch}, and the module needs {other[0]}.{other[1]}", line
+                    )
 
 
 class Running(unittest.TestCase):

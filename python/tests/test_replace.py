@@ -24,7 +24,7 @@ FOUND = [
     (b'/* "a" */ // "b" \\\n "c"\n "d"', [b"d"]),
     (b'L"a" u8"b" u"c" U"d" R"x("e")x" "f"', [b"f"]),
     (b'R"("a")" u8R"--("b"))--" "c"', [b"c"]),
-    (b"1'000 \"a\" 0x1p+3", [b"a"]),
+    (b'1\'000 "a" 0x1p+3', [b"a"]),
     (b'"\\q" "a', []),
     (b'"a\\0b"', []),
     (b'"??=" "a\\??="', []),
@@ -103,7 +103,9 @@ class Preprocessed(unittest.TestCase):
         self.assertEqual(Tokens(b'R"x(a\nb)x"\nc').lines, [1, 3])
 
     def test_static_assertions(self):
-        self.assertEqual(Tokens(b'a _Static_assert((1), "x(") ; static_assert(f(2)); b').words, [b"a", b";", b";", b"b"])
+        self.assertEqual(
+            Tokens(b'a _Static_assert((1), "x(") ; static_assert(f(2)); b').words, [b"a", b";", b";", b"b"]
+        )
 
     def test_common_front(self):
         first = b'# 1 "a.h"\nint x;\n# 2 "a.c"\nf("a");\n'
@@ -128,10 +130,14 @@ class Doubts(unittest.TestCase):
         b'void f(void) { asm volatile("call " "printf"); }',
         b'void f(void) { __asm__("\\160rintf"); }',
         b'int x; asm("");',
-        b"void f(void) {} asm (\"\");",
+        b'void f(void) {} asm ("");',
         b"int main() { register_printf_specifier(1, 0, 0); }",
     ]
-    FINE = [b'void f(void) { asm volatile("nop" : : "r"(1)); }', b"void xprintf(const char *);", b'void f(void) { g("asm(printf)"); }']
+    FINE = [
+        b'void f(void) { asm volatile("nop" : : "r"(1)); }',
+        b"void xprintf(const char *);",
+        b'void f(void) { g("asm(printf)"); }',
+    ]
 
     def test_words(self):
         for text in self.LEFT:
@@ -146,7 +152,16 @@ class Doubts(unittest.TestCase):
         self.assertLess(time.process_time() - began, 5)
 
     def test_line_directives(self):
-        for number, (text, wanted) in enumerate([("#line 1\n", True), ("  # 1 \"x\" 3\n", True), ("/* x */ %: line 4\n", True), ("#de\\\nfine line\n", False), ("#li\\\nne 4\n", True), ("x # 1\n", False)]):
+        for number, (text, wanted) in enumerate(
+            [
+                ("#line 1\n", True),
+                ('  # 1 "x" 3\n', True),
+                ("/* x */ %: line 4\n", True),
+                ("#de\\\nfine line\n", False),
+                ("#li\\\nne 4\n", True),
+                ("x # 1\n", False),
+            ]
+        ):
             with tempfile.NamedTemporaryFile("w", suffix=".c") as file:
                 file.write(text)
                 file.flush()
@@ -158,11 +173,24 @@ class Commands(unittest.TestCase):
         return CompileCommand("/", os.path.realpath("/a/b.c"), words)
 
     def test_kept(self):
-        words, at = self.command("gcc", "-O2", "-DX", "-c", "-o", "b.o", "a/b.c", "-MD", "-MF", "b.d", "-Wp,-MD,x", "-save-temps=obj", "-dD").preprocessing()
+        words, at = self.command(
+            "gcc", "-O2", "-DX", "-c", "-o", "b.o", "a/b.c", "-MD", "-MF", "b.d", "-Wp,-MD,x", "-save-temps=obj", "-dD"
+        ).preprocessing()
         self.assertEqual((words, at), (["gcc", "-O2", "-DX", "a/b.c", "-E", "-w"], 3))
 
     def test_unclear(self):
-        for word in ["-Wl,--wrap=printf", "-fexec-charset=latin1", "-finput-charset=LATIN1", "@more", "-traditional-cpp", "-fplugin=x.so", "-specs=x", "--specs=x", "-B/x", "-wrapper"]:
+        for word in [
+            "-Wl,--wrap=printf",
+            "-fexec-charset=latin1",
+            "-finput-charset=LATIN1",
+            "@more",
+            "-traditional-cpp",
+            "-fplugin=x.so",
+            "-specs=x",
+            "--specs=x",
+            "-B/x",
+            "-wrapper",
+        ]:
             with self.assertRaises(Left, msg=word):
                 self.command("gcc", word, "-c", "a/b.c").preprocessing()
         self.command("gcc", "-fexec-charset=UTF-8", "-c", "a/b.c").preprocessing()
@@ -172,7 +200,15 @@ class Commands(unittest.TestCase):
             self.command("gcc", "-c", "a/c.c").preprocessing()
 
     def test_sources(self):
-        for name, wanted in [("a.c", True), ("a.cc", True), ("a.C", True), ("a.h", False), ("a.inc", False), ("a.c.in", False), ("c", False)]:
+        for name, wanted in [
+            ("a.c", True),
+            ("a.cc", True),
+            ("a.C", True),
+            ("a.h", False),
+            ("a.inc", False),
+            ("a.c.in", False),
+            ("c", False),
+        ]:
             self.assertEqual(bool(SOURCES.fullmatch(name)), wanted, name)
 
 

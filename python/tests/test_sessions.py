@@ -22,12 +22,32 @@ SOON = 5.0
 
 # Formats of the whole language, and texts that it rejects.
 ACCEPTED = [
-    b"", b"%%", b"%i", b"%.6f%i", b"%f%d", b"%f%05d", b"%f%.5d", b"%e%d", b"%*d", b"%d%d", b"%*i", b"%5.0s%f", b"%.0s%f", b"%lc%5c", b"%C    %c",
-    b"%zn", b"%ln", b"%n", b"%jn", b"%-08.*Lf|\xff", b"%-8.*Lf|\xff", b"%s%p", b"%.99s%p",
+    b"",
+    b"%%",
+    b"%i",
+    b"%.6f%i",
+    b"%f%d",
+    b"%f%05d",
+    b"%f%.5d",
+    b"%e%d",
+    b"%*d",
+    b"%d%d",
+    b"%*i",
+    b"%5.0s%f",
+    b"%.0s%f",
+    b"%lc%5c",
+    b"%C    %c",
+    b"%zn",
+    b"%ln",
+    b"%n",
+    b"%jn",
+    b"%-08.*Lf|\xff",
+    b"%-8.*Lf|\xff",
+    b"%s%p",
+    b"%.99s%p",
 ]
 WHOLE = [*ACCEPTED, b"%1$d", b"%*1$d", b"%", b"%y%f", b"%4096f", b"%f%.5c"]
 SIDES = [b"first: ", b"second: "]
-
 
 
 class Interrupt(BaseException):
@@ -53,7 +73,9 @@ def fake(behaviour):
     """The program is the stand-in, which behaves this way."""
     with tempfile.TemporaryDirectory() as work:
         program = Path(work) / "program"
-        program.write_text(f"#!{sys.executable}\nimport runpy\nrunpy.run_path({str(HERE / 'fake_program.py')!r}, run_name='__main__')\n")
+        program.write_text(
+            f"#!{sys.executable}\nimport runpy\nrunpy.run_path({str(HERE / 'fake_program.py')!r}, run_name='__main__')\n"
+        )
         program.chmod(program.stat().st_mode | stat.S_IXUSR)
         with environment(FMTCANON_PROGRAM=str(program), FAKE=behaviour):
             yield
@@ -90,7 +112,9 @@ def of_compare(first, second, model):
     except fmtcanon.Refused as refusal:
         return 2, SIDES[refusal.side] + str(refusal).encode()
     assert fmtcanon.same(first, second, model=model, whole=True) == (found.verdict is Verdict.SAME)
-    arguments = [b"any" if it is None else b"n:%d" % it if isinstance(it, int) else b"s:" + it for it in found.arguments or ()]
+    arguments = [
+        b"any" if it is None else b"n:%d" % it if isinstance(it, int) else b"s:" + it for it in found.arguments or ()
+    ]
     lines = {
         Verdict.SAME: [b"same"],
         Verdict.TYPES: [b"types differ at argument %s" % str(found.types_differ_at).encode()],
@@ -128,10 +152,25 @@ class Answers(unittest.TestCase):
             ("canon", {"whole": True, "model": "ilp32"}, ["%zn"], (0, b"%n")),
             ("canon", {"whole": True}, ["%1$d"], (2, b"refused 6 Numbered at byte 2")),
             ("same", {"whole": True}, ["%f%05d", "%f%.5d"], (1, b"different\nany\nn:-1")),
-            ("same", {"whole": True, "model": "both"}, ["%f", "%e"], (1, b"lp64\ndirectives differ at argument 0\nilp32\ndirectives differ at argument 0")),
-            ("same", {"whole": True, "model": "all"}, ["%zn", "%ln"], (1, b"lp64\nsame\nilp32\ntypes differ at argument 0\nllp64\ntypes differ at argument 0")),
+            (
+                "same",
+                {"whole": True, "model": "both"},
+                ["%f", "%e"],
+                (1, b"lp64\ndirectives differ at argument 0\nilp32\ndirectives differ at argument 0"),
+            ),
+            (
+                "same",
+                {"whole": True, "model": "all"},
+                ["%zn", "%ln"],
+                (1, b"lp64\nsame\nilp32\ntypes differ at argument 0\nllp64\ntypes differ at argument 0"),
+            ),
             ("same", {"whole": True, "literal": True}, [r'"\45f%i"', '"%.6f" "%d"'], (0, b"same")),
-            ("same", {"whole": True, "literal": True}, ['"%f"', r'"\t%1$f"'], (2, b"second: refused 6 Numbered at byte 5")),
+            (
+                "same",
+                {"whole": True, "literal": True},
+                ['"%f"', r'"\t%1$f"'],
+                (2, b"second: refused 6 Numbered at byte 5"),
+            ),
             ("same", {"whole": True}, ["%*d", "%d%d"], (1, b"directives differ at argument 0")),
             ("same", {"whole": True}, ["%5.0s%f", "%.0s%f"], (1, b"different\ns:\nany")),
             ("canon", {"whole": True}, [b"\xff%C%i"], (0, b"\xff%lc%d")),
@@ -154,7 +193,9 @@ class Answers(unittest.TestCase):
     def test_whole_as_the_functions(self):
         """A session of the whole language answers as the functions of the module do, which ask the library."""
         for model in Model:
-            with fmtcanon.Session("canon", model=model, whole=True) as canon, fmtcanon.Session("same", model=model, whole=True) as same:
+            with fmtcanon.Session("canon", model=model, whole=True) as canon, fmtcanon.Session(
+                "same", model=model, whole=True
+            ) as same:
                 for text in WHOLE:
                     self.assertEqual(canon.ask(text), of_canonical(text, model), (model, text))
                 for pair in itertools.product(WHOLE, WHOLE):

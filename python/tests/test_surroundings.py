@@ -17,8 +17,13 @@ ASCII = {"LC_ALL": "C", "PYTHONUTF8": "0", "PYTHONCOERCECLOCALE": "0"}
 def python(words, stdin=b"", **names):
     """The status and the streams of this Python with these arguments, in an environment with these names."""
     return subprocess.run(
-        [sys.executable, "-B", *words], input=stdin, env={**os.environ, **names}, stdout=subprocess.PIPE,
-        stderr=subprocess.PIPE, check=False, timeout=60,
+        [sys.executable, "-B", *words],
+        input=stdin,
+        env={**os.environ, **names},
+        stdout=subprocess.PIPE,
+        stderr=subprocess.PIPE,
+        check=False,
+        timeout=60,
     )
 
 
@@ -99,7 +104,9 @@ class Command(unittest.TestCase):
             command.chmod(0o755)
             folder = str(Path(fmtcanon.__file__).parent.parent)
             environment = {"PATH": work, "PYTHONPATH": folder, "PYTHONDONTWRITEBYTECODE": "1"}
-            done = subprocess.run([str(command), "canon", "%i"], env=environment, stderr=subprocess.PIPE, timeout=20, check=False)
+            done = subprocess.run(
+                [str(command), "canon", "%i"], env=environment, stderr=subprocess.PIPE, timeout=20, check=False
+            )
         self.assertEqual(done.returncode, 127)
         self.assertIn(b"can't be found", done.stderr)
 

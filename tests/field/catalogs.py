@@ -27,7 +27,9 @@ from fmtcanon.po.checking import Checker  # noqa: E402
 from fmtcanon.po.command import as_msgfmt  # noqa: E402
 
 ENVIRONMENT = {**os.environ, "LC_ALL": "C", "LANGUAGE": ""}
-FAULT = re.compile(r"^[^\n]*?:(\d+): (?!warning)(.*(?:format specifications|types of|valid C format|do not both).*)", re.MULTILINE)
+FAULT = re.compile(
+    r"^[^\n]*?:(\d+): (?!warning)(.*(?:format specifications|types of|valid C format|do not both).*)", re.MULTILINE
+)
 WARNING = re.compile(r"^[^\n]*?:(\d+): warning: (.*)", re.MULTILINE)
 ROWS = [
     ("catalogs", "Catalogs"),

@@ -4,10 +4,9 @@
 Usage: tests/field/mutations.py [--list] [COUNT]
 
 COUNT messages, 40,000 by default, are formats of bench/shapes.nul and a list of the whole language, a fifth of them
-after one edit. Each translation is
-its message after one to three edits of its specifications, made by a generator with a fixed seed. Both tools read the same catalog. --list prints each
-message on which the two disagree, with its class, to standard error. It needs gettext, and the module fmtcanon with
-its library.
+after one edit. Each translation is its message after one to three edits of its specifications, made by a generator with
+a fixed seed. Both tools read the same catalog. --list prints each message on which the two disagree, with its class, to
+standard error. It needs gettext, and the module fmtcanon with its library.
 """
 
 import io
@@ -38,8 +37,32 @@ LENGTHS = ["", "", "hh", "h", "l", "ll", "j", "z", "t", "L", "q", "Z"]
 FLAGS = list("-+ #0'I")
 # Formats with what bench/shapes.nul lacks.
 WHOLE = [
-    "%.2f of %s", "%5.1f%%", "%e or %G", "%Lf", "%a", "%*d", "%-*s|", "%.*s: %d", "%*.*f", "%p", "%p at %s", "%lc", "%ls", "%C%S", "%n", "%hhn",
-    "%2$s of %1$d", "%1$*2$d", "%3$s %1$s %2$lu", "%1$.2f %2$s %1$.1f", "%<PRIu64> bytes", "%s: %<PRId64> of %<PRIuMAX>", "%m", "%s: %m", "%'d", "%'.2f",
+    "%.2f of %s",
+    "%5.1f%%",
+    "%e or %G",
+    "%Lf",
+    "%a",
+    "%*d",
+    "%-*s|",
+    "%.*s: %d",
+    "%*.*f",
+    "%p",
+    "%p at %s",
+    "%lc",
+    "%ls",
+    "%C%S",
+    "%n",
+    "%hhn",
+    "%2$s of %1$d",
+    "%1$*2$d",
+    "%3$s %1$s %2$lu",
+    "%1$.2f %2$s %1$.1f",
+    "%<PRIu64> bytes",
+    "%s: %<PRId64> of %<PRIuMAX>",
+    "%m",
+    "%s: %m",
+    "%'d",
+    "%'.2f",
 ]
 MACROS = ["<PRId64>", "<PRIi64>", "<PRIu64>", "<PRIx64>", "<PRIdMAX>", "<PRIxPTR>"]
 
@@ -58,7 +81,11 @@ def conversion(random, text):
 
 
 def length(random, text):
-    return replaced(random, text, lambda one: re.sub(r"(hh|h|ll|l|[jztLqZ])?(.)$", lambda end: random.choice(LENGTHS) + end.group(2), one))
+    return replaced(
+        random,
+        text,
+        lambda one: re.sub(r"(hh|h|ll|l|[jztLqZ])?(.)$", lambda end: random.choice(LENGTHS) + end.group(2), one),
+    )
 
 
 def flag(random, text):
@@ -66,7 +93,9 @@ def flag(random, text):
 
 
 def width(random, text):
-    return replaced(random, text, lambda one: "%" + random.choice(["5", "*", ".3", ".*", "12.4", ".", "5000", "05"]) + one[-1])
+    return replaced(
+        random, text, lambda one: "%" + random.choice(["5", "*", ".3", ".*", "12.4", ".", "5000", "05"]) + one[-1]
+    )
 
 
 def macro(random, text):
@@ -149,7 +178,12 @@ def catalog(messages):
 def by_line(report):
     found = {}
     for line, words in re.findall(r"^[^:\n]+:(\d+): ([^\n]*)", report, flags=re.MULTILINE):
-        if "format specifications" in words or "types of" in words or "valid C format" in words or words.startswith("warning"):
+        if (
+            "format specifications" in words
+            or "types of" in words
+            or "valid C format" in words
+            or words.startswith("warning")
+        ):
             found.setdefault(int(line), []).append(words)
     return found
 
@@ -160,7 +194,9 @@ def reports(text):
         file = Path(work) / "a.po"
         file.write_text(text, encoding="utf-8")
         environment = {**os.environ, "LC_ALL": "C", "LANGUAGE": ""}
-        done = subprocess.run(["msgfmt", "-c", "-o", os.devnull, str(file)], env=environment, check=False, stderr=subprocess.PIPE)
+        done = subprocess.run(
+            ["msgfmt", "-c", "-o", os.devnull, str(file)], env=environment, check=False, stderr=subprocess.PIPE
+        )
         ours = io.StringIO()
         Checker(lambda it: print(as_msgfmt(it), file=ours), list(fmtcanon.Model)).check_data("a.po", file.read_bytes())
     return by_line(ours.getvalue()), by_line(done.stderr.decode(errors="replace"))

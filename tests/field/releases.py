@@ -3,8 +3,8 @@
 
 Usage: tests/field/releases.py OLD NEW [OLD NEW]..
 
-Each OLD and NEW are folders with two releases of one package. With --list it prints what is found instead. It needs the module
-fmtcanon with its library, and the program.
+Each OLD and NEW are folders with two releases of one package. With --list it prints what is found instead. It needs the
+module fmtcanon with its library, and the program.
 """
 
 import os
@@ -22,7 +22,20 @@ from fmtcanon.diff.trees import changes_of  # noqa: E402
 from fmtcanon.findings import as_text  # noqa: E402
 
 COLUMNS = ["places", "judged", "same", "words", "different", "types", "directives", "unjudged", "came", "went"]
-HEADS = ["Releases", "Places changed", "Judged", "Same", "Only words differ", "Different", "Other types", "Other directives", "Not judged", "Came", "Went", "Seconds"]
+HEADS = [
+    "Releases",
+    "Places changed",
+    "Judged",
+    "Same",
+    "Only words differ",
+    "Different",
+    "Other types",
+    "Other directives",
+    "Not judged",
+    "Came",
+    "Went",
+    "Seconds",
+]
 
 
 def surveyed(old, new, is_listed):
@@ -50,7 +63,12 @@ def main(words):
         counts = surveyed(old, new, is_listed)
         if not is_listed:
             cells = [f"{counts[it]:,}" for it in COLUMNS]
-            print(f"| {Path(old).name}, {Path(new).name} | " + " | ".join([*cells, f"{time.monotonic() - began:.0f}"]) + " |", flush=True)
+            print(
+                f"| {Path(old).name}, {Path(new).name} | "
+                + " | ".join([*cells, f"{time.monotonic() - began:.0f}"])
+                + " |",
+                flush=True,
+            )
 
 
 if __name__ == "__main__":

@@ -3,9 +3,10 @@
 
 Usage: tests/field/rewrites.py DIR
 
-DIR has a `compile_commands.json`; its files are changed. Each place that the library accepts and that has another spelling, as
-%i for %d, %lf for %f and %-s for %s, is replaced if fmtcanon-replace judges so, with --attribute. The assembler of each changed unit must
-stay the same, with each string by its canonical text. It needs the module fmtcanon with its library, and libclang.
+DIR has a `compile_commands.json`; its files are changed. Each place that the library accepts and that has another
+spelling, as %i for %d, %lf for %f and %-s for %s, is replaced if fmtcanon-replace judges so, with --attribute. The
+assembler of each changed unit must stay the same, with each string by its canonical text. It needs the module fmtcanon
+with its library, and libclang.
 """
 
 import codecs
@@ -46,9 +47,9 @@ def other_spelling(text):
     return None
 
 
-STRING_DATA = re.compile(rb'^(\.LC\d+):\n((?:\t\.(?:string|ascii)\t.*\n)+)', re.MULTILINE)
+STRING_DATA = re.compile(rb"^(\.LC\d+):\n((?:\t\.(?:string|ascii)\t.*\n)+)", re.MULTILINE)
 # Where strings lie depends on their length.
-STRING_SECTIONS = re.compile(rb'^\t\.(?:align \d+|section\t\.rodata.*|text|previous)\n', re.MULTILINE)
+STRING_SECTIONS = re.compile(rb"^\t\.(?:align \d+|section\t\.rodata.*|text|previous)\n", re.MULTILINE)
 
 
 def meant(text):
@@ -60,7 +61,9 @@ def assembler(command):
     """Returns the assembler of a unit, in which each string is named by what it means."""
     words, _ = command.preprocessing()
     environment = {**os.environ, "SOURCE_DATE_EPOCH": "0"}
-    done = subprocess.run([*words[:-2], "-g0", "-S", "-o", "-"], cwd=command.folder, capture_output=True, check=True, env=environment)
+    done = subprocess.run(
+        [*words[:-2], "-g0", "-S", "-o", "-"], cwd=command.folder, capture_output=True, check=True, env=environment
+    )
     strings = {}
     for label, lines in STRING_DATA.findall(done.stdout):
         text = b"".join(codecs.escape_decode(it[1:-1])[0] for it in re.findall(rb'"(?:[^"\\]|\\.)*"', lines))
@@ -91,13 +94,19 @@ def rewritten(path, commands):
     if not done:
         return counts, []
     after = [assembler(command) for command in commands]
-    return counts + Counter(replaced=done, units=len(commands)), [path for one, other in zip(before, after) if one != other]
+    return counts + Counter(replaced=done, units=len(commands)), [
+        path for one, other in zip(before, after) if one != other
+    ]
 
 
 def main(words):
     if len(words) != 1:
         sys.exit(__doc__)
-    database = {path: commands for path, commands in commands_in(words[0]).items() if SOURCES.fullmatch(path) and os.path.exists(path)}
+    database = {
+        path: commands
+        for path, commands in commands_in(words[0]).items()
+        if SOURCES.fullmatch(path) and os.path.exists(path)
+    }
     total, different = Counter(), []
     with ProcessPoolExecutor() as pool:
         for counts, paths in pool.map(rewritten, database.keys(), database.values()):

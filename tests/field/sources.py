@@ -4,8 +4,8 @@
 Usage: tests/field/sources.py DIR..
 
 Each DIR has a `compile_commands.json`. A place is one or more string literals side by side with a `%`. Of each that the
-library accepts it is asked whether it would be replaced by itself, with --attribute. No file is changed. It needs the module
-fmtcanon with its library, and libclang.
+library accepts it is asked whether it would be replaced by itself, with --attribute. No file is changed. It needs the
+module fmtcanon with its library, and libclang.
 """
 
 import os
@@ -74,17 +74,31 @@ def main(folders):
         sys.exit(__doc__)
     total = Counter()
     for folder in folders:
-        database = {path: commands for path, commands in commands_in(folder).items() if SOURCES.fullmatch(path) and os.path.exists(path)}
+        database = {
+            path: commands
+            for path, commands in commands_in(folder).items()
+            if SOURCES.fullmatch(path) and os.path.exists(path)
+        }
         with ProcessPoolExecutor() as pool:
             for counts in pool.map(surveyed, database.keys(), database.values()):
                 total.update(counts)
     keys = sum(count for key, count in total.items() if isinstance(key, tuple) and key[1] == TRANSLATORS)
     print("| Of the source | |\n|---|---|")
-    rows = [("files", "Files"), ("files left", "Files that are left as a whole"), ("places", "Places with a `%`"), ("accepted", "Places that are accepted"), ("replaced", "Of these replaced")]
+    rows = [
+        ("files", "Files"),
+        ("files left", "Files that are left as a whole"),
+        ("places", "Places with a `%`"),
+        ("accepted", "Places that are accepted"),
+        ("replaced", "Of these replaced"),
+    ]
     for key, text in rows:
         print(f"| {text} | {total[key]:,} |")
-    print(f"| Of those that are no keys for translators, % | {100 * total['replaced'] // max(total['accepted'] - keys, 1)} |")
-    for (_, why), count in sorted(((key, n) for key, n in total.items() if isinstance(key, tuple)), key=lambda one: -one[1]):
+    print(
+        f"| Of those that are no keys for translators, % | {100 * total['replaced'] // max(total['accepted'] - keys, 1)} |"
+    )
+    for (_, why), count in sorted(
+        ((key, n) for key, n in total.items() if isinstance(key, tuple)), key=lambda one: -one[1]
+    ):
         print(f"| Left: {why} | {count:,} |")
 
 

@@ -86,7 +86,9 @@ def converted(data: bytes, source: str, target: str) -> bytes:
     library.iconv.argtypes = [ctypes.c_void_p, ctypes.c_void_p, size, ctypes.c_void_p, size]
     descriptor = library.iconv_open(target.encode(), source.encode())
     if descriptor == FAILED:
-        raise Unknown(f"the charset {target if source == 'UTF-8' else source} is not read, because iconv doesn't know it")
+        raise Unknown(
+            f"the charset {target if source == 'UTF-8' else source} is not read, because iconv doesn't know it"
+        )
     try:
         return by_descriptor(library, descriptor, data, source)
     finally:

@@ -96,7 +96,10 @@ class Format:
             raise fmtcanon.Refused(refusal.kind, refusal.name, self.place_of(refusal.byte)) from None
 
     def two_types(self) -> Optional[str]:
-        """Says which argument two macros, or a macro and a conversion, give different types. The library sees no macros."""
+        """Says which argument two macros, or a macro and a conversion, give different types.
+
+        The library sees no macros.
+        """
         found: Dict[int, Optional[bytes]] = {}
         for use in self.uses() if b"<" in self.text else ():
             other = found.setdefault(use.argument, use.macro)
@@ -171,4 +174,3 @@ def shown_type(code: int, macro: Optional[bytes]) -> str:
 
 def shown_kinds(kinds: int) -> str:
     return " and ".join(name for bit, name in KINDS.items() if kinds & bit)
-

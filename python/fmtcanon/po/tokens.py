@@ -71,7 +71,10 @@ def end_of_string(text: bytes, at: int, line: int) -> int:
 
 
 def unquoted(string: bytes, charset: Optional[Charset], line: int) -> bytes:
-    """Returns the bytes that a string stands for, in UTF-8. An escape by number is a byte in the charset of the file."""
+    """Returns the bytes that a string stands for, in UTF-8.
+
+    An escape by number is a byte in the charset of the file.
+    """
     if b"\\" not in string:
         return string
     # Bytes by their number are bytes of a charset, not of UTF-8, so what is round them is converted to it and back.

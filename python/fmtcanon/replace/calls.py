@@ -15,8 +15,16 @@ from .libclang import cindex
 
 # What the headers of gcc have and an older clang hasn't.
 SHIMS = [
-    "-D_Float128=__float128", "-D_Float64x=long double", "-D_Float64=double", "-D_Float32x=double", "-D_Float32=float",
-    "-D__malloc__(...)=__malloc__", "-D__gnu_printf__=__printf__", "-Dgnu_printf=printf", "-D__builtin_va_arg_pack()=0", "-D__builtin_va_arg_pack_len()=0",
+    "-D_Float128=__float128",
+    "-D_Float64x=long double",
+    "-D_Float64=double",
+    "-D_Float32x=double",
+    "-D_Float32=float",
+    "-D__malloc__(...)=__malloc__",
+    "-D__gnu_printf__=__printf__",
+    "-Dgnu_printf=printf",
+    "-D__builtin_va_arg_pack()=0",
+    "-D__builtin_va_arg_pack_len()=0",
 ]
 FLAGS = ["-undef", "-nostdinc", "-w", "-ferror-limit=0", "-fdouble-square-bracket-attributes"]
 FORMAT_ATTRIBUTE = re.compile(r"format\w*\s*\(\s*(?:__)?(?:gnu_)?printf(?:__)?\s*,\s*(\d+)")
@@ -43,11 +51,17 @@ class Marker:
 
     def numbers(self, word: bytes) -> List[int]:
         """Returns the numbers of the places whose markers are in a token."""
-        return [int(it) for it in re.findall(f"fmtcanon_{self.tag}_(\\d+)_".encode(), word)] if b"fmtcanon_" in word else []
+        return (
+            [int(it) for it in re.findall(f"fmtcanon_{self.tag}_(\\d+)_".encode(), word)]
+            if b"fmtcanon_" in word
+            else []
+        )
 
 
 def as_utf8(text: bytes) -> bytes:
-    """Returns preprocessed text for libclang, which takes UTF-8: other bytes, which are in literals, comments and names alone, become `_`."""
+    """Returns preprocessed text for libclang, which takes UTF-8: other bytes, which are in literals, comments and names
+    alone, become `_`.
+    """
     try:
         text.decode()
         return text
@@ -83,15 +97,23 @@ class Calls:
     def parsed(self) -> Any:
         """Returns the translation unit, which has no error outside of the compiler's own headers."""
         language = "-xc++" if self.command.is_cxx() else "-xc"
-        kept = [it.replace("gnu23", "gnu2x").replace("c23", "c2x") for it in self.command.words if it.startswith(("-std=", "-m32", "-mx32", "-funsigned-char"))]
+        kept = [
+            it.replace("gnu23", "gnu2x").replace("c23", "c2x")
+            for it in self.command.words
+            if it.startswith(("-std=", "-m32", "-mx32", "-funsigned-char"))
+        ]
         try:
-            unit = cindex.Index.create().parse("/unit", args=[language, *FLAGS, *kept, *SHIMS], unsaved_files=[("/unit", self.text.decode())])
+            unit = cindex.Index.create().parse(
+                "/unit", args=[language, *FLAGS, *kept, *SHIMS], unsaved_files=[("/unit", self.text.decode())]
+            )
         except (cindex.LibclangError, cindex.TranslationUnitLoadError) as error:
             raise Left(f"libclang: {error}") from error
         for found in unit.diagnostics:
             file = self.file_of(found.location)
             if found.severity >= ERROR and not file.startswith(self.folders):
-                raise Left(f"libclang can't parse it: {os.path.basename(file)}:{self.line_of(found.location)}: {found.spelling}")
+                raise Left(
+                    f"libclang can't parse it: {os.path.basename(file)}:{self.line_of(found.location)}: {found.spelling}"
+                )
         return unit
 
     def presumed(self, location: Any) -> Any:
@@ -163,7 +185,11 @@ class Calls:
     def why_unknown(self, function: Any, name: str, index: int) -> Optional[str]:
         """Returns why an argument isn't the format of a known function, or None."""
         if function is None or function.kind.name != "FUNCTION_DECL":
-            return f"it is an argument of {name or 'a pointer'}, which is no function" if function is not None else f"the function {name or 'that is called'} isn't declared"
+            return (
+                f"it is an argument of {name or 'a pointer'}, which is no function"
+                if function is not None
+                else f"the function {name or 'that is called'} isn't declared"
+            )
         key = (function.hash, index)
         if key not in self.reasons:
             self.reasons[key] = self.why_unknown_function(function, name, index)
@@ -204,7 +230,9 @@ class Calls:
         return None
 
     def why_left(self, number: int, count: int) -> Optional[str]:
-        """Returns why the place of this number is left, whose marker is in the text so often; None if each is the format of a known function."""
+        """Returns why the place of this number is left, whose marker is in the text so often; None if each is the
+        format of a known function.
+        """
         if number in self.why:
             return self.why[number]
         names = self.uses.get(number, [])

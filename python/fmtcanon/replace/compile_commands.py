@@ -1,4 +1,6 @@
-"""How a file is compiled: its compile commands, what the compiler's preprocessor makes of it, and the compiler's own headers."""
+"""How a file is compiled: its compile commands, what the compiler's preprocessor makes of it, and the compiler's own
+headers.
+"""
 
 import os
 import re
@@ -15,7 +17,10 @@ DROPPED = ("-c", "-S", "-E", "-P", "--", "-pipe", "-fdirectives-only")
 DROPPED_WITH_WORD = ("-o", "-MF", "-MT", "-MQ", "-dumpbase", "-dumpdir")
 DROPPED_FRONTS = ("-o", "-M", "-Wp,-M", "-save-temps", "-d")
 # Words with which a file isn't what its preprocessed text says, or with which that text can't be had again.
-UNCLEAR = re.compile(r".*--(?:wrap|defsym)\b|@|-traditional-cpp|-fplugin|-?-specs|-wrapper|-B|-f(?:exec|input|wide-exec)-charset=(?!utf-?8$)", re.IGNORECASE)
+UNCLEAR = re.compile(
+    r".*--(?:wrap|defsym)\b|@|-traditional-cpp|-fplugin|-?-specs|-wrapper|-B|-f(?:exec|input|wide-exec)-charset=(?!utf-?8$)",
+    re.IGNORECASE,
+)
 CACHES = ("ccache", "sccache", "distcc")
 SOURCES = re.compile(r".*\.(?:c|cc|cp|cpp|cxx|c\+\+|C|CPP)")
 
@@ -52,7 +57,9 @@ class CompileCommand:
         return not word.startswith("-") and os.path.realpath(os.path.join(self.folder, word)) == self.file
 
     def preprocessed(self, stand_in: str = "") -> bytes:
-        """Returns what the compiler's preprocessor makes of the file, or of a stand-in beside it, with the file's own name in place of that one's."""
+        """Returns what the compiler's preprocessor makes of the file, or of a stand-in beside it, with the file's own
+        name in place of that one's.
+        """
         words, at = self.preprocessing()
         name, own = os.path.basename(words[at]), os.path.dirname(words[at])
         if stand_in:
@@ -62,21 +69,36 @@ class CompileCommand:
         # So that __DATE__ and __TIME__ stay the same.
         environment = {**os.environ, "SOURCE_DATE_EPOCH": "0"}
         try:
-            done = subprocess.run(words, cwd=self.folder, env=environment, stdin=subprocess.DEVNULL, capture_output=True, check=False)
+            done = subprocess.run(
+                words, cwd=self.folder, env=environment, stdin=subprocess.DEVNULL, capture_output=True, check=False
+            )
         except OSError as error:
             raise Left(f"its compiler can't be run: {error}") from error
         if done.returncode:
             said = done.stderr.decode(errors="replace").strip().split("\n")[0]
             raise Left(f"its compiler can't preprocess it: {said}")
-        return done.stdout.replace(os.fsencode(os.path.basename(stand_in)), os.fsencode(name)) if stand_in else done.stdout
+        return (
+            done.stdout.replace(os.fsencode(os.path.basename(stand_in)), os.fsencode(name)) if stand_in else done.stdout
+        )
 
     def is_cxx(self) -> bool:
         """Returns whether the file is compiled as C++."""
-        return not self.file.endswith(".c") or os.path.basename(self.words[0]).split("-")[0].endswith("++") or "-xc++" in self.words or "c++" in self.words
+        return (
+            not self.file.endswith(".c")
+            or os.path.basename(self.words[0]).split("-")[0].endswith("++")
+            or "-xc++" in self.words
+            or "c++" in self.words
+        )
 
     def system_folders(self) -> Tuple[str, ...]:
-        """Returns the folders of the compiler's own headers: not those that a command or the environment adds, nor those of local packages."""
-        kept = [it for it in self.words[1:] if it.startswith(("--sysroot", "-m32", "-m64", "-mx32", "--target", "-nostd", "-stdlib"))]
+        """Returns the folders of the compiler's own headers: not those that a command or the environment adds, nor
+        those of local packages.
+        """
+        kept = [
+            it
+            for it in self.words[1:]
+            if it.startswith(("--sysroot", "-m32", "-m64", "-mx32", "--target", "-nostd", "-stdlib"))
+        ]
         return folders_of((self.words[0], *kept, "-x", "c++" if self.is_cxx() else "c"), self.folder)
 
 
@@ -88,7 +110,9 @@ def folders_of(words: Tuple[str, ...], folder: str) -> Tuple[str, ...]:
     """Returns the folders that a compiler searches by itself, asked once."""
     with FOLDERS_LOCK:
         if (words, folder) not in FOLDERS:
-            environment = {key: value for key, value in os.environ.items() if key != "CPATH" and not key.endswith("_INCLUDE_PATH")}
+            environment = {
+                key: value for key, value in os.environ.items() if key != "CPATH" and not key.endswith("_INCLUDE_PATH")
+            }
             how: Dict[str, Any] = {"cwd": folder, "env": {**environment, "LC_ALL": "C"}, "stdin": subprocess.DEVNULL}
             try:
                 done = subprocess.run([*words, "-E", "-v", os.devnull], capture_output=True, check=False, **how)

@@ -1,4 +1,6 @@
-"""What makes it doubtful that a name of the C library means its function: found in preprocessed text, whatever libclang says of it."""
+"""What makes it doubtful that a name of the C library means its function: found in preprocessed text, whatever libclang
+says of it.
+"""
 
 import functools
 import os
@@ -20,20 +22,26 @@ ASM = (b"asm", b"__asm", b"__asm__")
 
 
 def marked_lines(text: bytes, folder: str) -> Iterator[Tuple[bytes, str, bool]]:
-    """Yields each line of preprocessed text with the path of the file that it is from; for a line marker its file, and whether it enters that."""
+    """Yields each line of preprocessed text with the path of the file that it is from; for a line marker its file, and
+    whether it enters that.
+    """
     file, files = "", {}
     for line in text.split(b"\n"):
         marker = MARKER.match(line)
         if marker:
             if marker[1] not in files:
                 name = decoded(b'"' + marker[1] + b'"')
-                files[marker[1]] = os.path.realpath(os.path.join(folder, os.fsdecode(marker[1] if name is None else name)))
+                files[marker[1]] = os.path.realpath(
+                    os.path.join(folder, os.fsdecode(marker[1] if name is None else name))
+                )
             file = files[marker[1]]
         yield line, file, bool(marker) and b" 1" in (marker[2] if marker else b"")
 
 
 def project_part(command: CompileCommand, text: bytes) -> Tuple[bytes, Set[str]]:
-    """Returns the lines of preprocessed text that aren't from the compiler's own headers, and the files that these are from."""
+    """Returns the lines of preprocessed text that aren't from the compiler's own headers, and the files that these are
+    from.
+    """
     folders = tuple(f"{it}/" for it in command.system_folders())
     parts, files, own = [], set(), os.stat(command.file)
     for line, file, enters in marked_lines(text, command.folder):
@@ -53,7 +61,9 @@ def has_line_directive(file: str, _time: int) -> bool:
 
 
 def check(command: CompileCommand, text: bytes) -> None:
-    """Raises Left if something in preprocessed text could make a known name mean another function, or hide where it is declared."""
+    """Raises Left if something in preprocessed text could make a known name mean another function, or hide where it is
+    declared.
+    """
     mine, files = project_part(command, text)
     for file in sorted(files):
         if has_line_directive(file, os.stat(file).st_mtime_ns):
@@ -66,7 +76,9 @@ def check(command: CompileCommand, text: bytes) -> None:
 
 
 def check_words(text: bytes) -> None:
-    """Raises Left for a word that lets a program change what printf prints, or an asm that could name a function of the C library."""
+    """Raises Left for a word that lets a program change what printf prints, or an asm that could name a function of the
+    C library.
+    """
     before, braces = b";", 0
     found = PREPROCESSED.finditer(text)
     for token in found:

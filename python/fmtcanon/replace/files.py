@@ -34,7 +34,9 @@ class Change:
 
 
 class Seen(NamedTuple):
-    """What a compile command makes of a file: the front that doesn't change, the tokens after it, and these with places for their literals."""
+    """What a compile command makes of a file: the front that doesn't change, the tokens after it, and these with places
+    for their literals.
+    """
 
     front: bytes
     tokens: Tokens
@@ -60,7 +62,9 @@ class File:
         self.found = os.stat(path)
 
     def replace(self, commands: Sequence[CompileCommand], is_dry: bool) -> None:
-        """Replaces what is right by all compile commands of the file, unless the run is dry; notes for each other place why it is left."""
+        """Replaces what is right by all compile commands of the file, unless the run is dry; notes for each other place
+        why it is left.
+        """
         self.check_rights()
         with self.stand_in() as stand_in:
             seen = [self.judge(command, stand_in) for command in commands]
@@ -77,7 +81,9 @@ class File:
 
     @contextmanager
     def stand_in(self) -> Iterator[str]:
-        """Gives the path of an empty file beside this one, with an ending that compilers take alike; it is removed unless it was renamed."""
+        """Gives the path of an empty file beside this one, with an ending that compilers take alike; it is removed
+        unless it was renamed.
+        """
         folder, name = os.path.split(self.path)
         handle, stand_in = tempfile.mkstemp(prefix=".fmtcanon-", suffix="-" + name, dir=folder)
         os.close(handle)
@@ -109,14 +115,19 @@ class File:
             change.why_left = change.why_left or (calls and calls.why_left(number, count)) or ""
         return Seen(text[:front], before, pieces)
 
-    def marked(self, command: CompileCommand, before: bytes, stand_in: str, marker: Marker) -> Tuple[bytes, int, List[Piece]]:
+    def marked(
+        self, command: CompileCommand, before: bytes, stand_in: str, marker: Marker
+    ) -> Tuple[bytes, int, List[Piece]]:
         """Returns what the preprocessor makes of the file with markers for places.
 
-        With it, the length of the front that it shares with the text before, and the tokens after that, with the number of a
-        place for its marker. A place whose marker becomes a part of another token is left, and keeps its literals.
+        With it, the length of the front that it shares with the text before, and the tokens after that, with the number
+        of a place for its marker. A place whose marker becomes a part of another token is left, and keeps its literals.
         """
         while True:
-            sources = [it.place.source if it.why_left else marker.literal(number) + b"\n" * it.place.source.count(b"\n") for number, it in enumerate(self.changes)]
+            sources = [
+                it.place.source if it.why_left else marker.literal(number) + b"\n" * it.place.source.count(b"\n")
+                for number, it in enumerate(self.changes)
+            ]
             self.write_stand_in(stand_in, sources)
             text = command.preprocessed(stand_in)
             front = common_front(before, text)
@@ -132,7 +143,9 @@ class File:
                 return text, front, pieces
 
     def check_result(self, before: "Seen", text: bytes) -> None:
-        """Raises Left unless the tokens are the same as before, on the same lines, except for the literals that were replaced, each at its place."""
+        """Raises Left unless the tokens are the same as before, on the same lines, except for the literals that were
+        replaced, each at its place.
+        """
         new = [old if it.why_left else literals_of(it.source) for it, old in zip(self.changes, self.old)]
         if not text.startswith(before.front):
             raise Left("the check of the result failed: its compiler reads other headers")
@@ -152,10 +165,15 @@ class File:
             raise Left("its folder can't be written to")
 
     def put_in_place(self, stand_in: str) -> None:
-        """Renames the stand-in, which is what was checked, onto the file, with the file's owner and rights, unless the file has changed."""
+        """Renames the stand-in, which is what was checked, onto the file, with the file's owner and rights, unless the
+        file has changed.
+        """
         now = os.stat(self.path)
         with open(self.path, "rb") as stream:
-            is_same = stream.read() == self.source and (now.st_ino, now.st_mtime_ns) == (self.found.st_ino, self.found.st_mtime_ns)
+            is_same = stream.read() == self.source and (now.st_ino, now.st_mtime_ns) == (
+                self.found.st_ino,
+                self.found.st_mtime_ns,
+            )
         if not is_same:
             raise Left("it was changed meanwhile")
         try:

@@ -12,7 +12,9 @@ SYSLOG = r"(?:sys/)?syslog\.h|bits/syslog(?:-ldbl)?\.h"
 
 @dataclass(frozen=True)
 class Known:
-    """A function: the index of its format, how many parameters it has, whether more arguments follow, and its headers."""
+    """A function: the index of its format, how many parameters it has, whether more arguments follow, and its
+    headers.
+    """
 
     index: int
     parameters: int
@@ -22,13 +24,30 @@ class Known:
 
 # The index of the format, and the number of parameters.
 PLAIN = [
-    (STDIO, "printf", 0, 1), (STDIO, "vprintf", 0, 2), (STDIO, "fprintf", 1, 2), (STDIO, "vfprintf", 1, 3),
-    (STDIO, "dprintf", 1, 2), (STDIO, "vdprintf", 1, 3), (STDIO, "sprintf", 1, 2), (STDIO, "vsprintf", 1, 3),
-    (STDIO, "snprintf", 2, 3), (STDIO, "vsnprintf", 2, 4), (STDIO, "asprintf", 1, 2), (STDIO, "vasprintf", 1, 3),
-    (ERR, "warn", 0, 1), (ERR, "warnx", 0, 1), (ERR, "vwarn", 0, 2), (ERR, "vwarnx", 0, 2),
-    (ERR, "err", 1, 2), (ERR, "errx", 1, 2), (ERR, "verr", 1, 3), (ERR, "verrx", 1, 3),
-    (ERROR, "error", 2, 3), (ERROR, "error_at_line", 4, 5),
-    (SYSLOG, "syslog", 1, 2), (SYSLOG, "vsyslog", 1, 3),
+    (STDIO, "printf", 0, 1),
+    (STDIO, "vprintf", 0, 2),
+    (STDIO, "fprintf", 1, 2),
+    (STDIO, "vfprintf", 1, 3),
+    (STDIO, "dprintf", 1, 2),
+    (STDIO, "vdprintf", 1, 3),
+    (STDIO, "sprintf", 1, 2),
+    (STDIO, "vsprintf", 1, 3),
+    (STDIO, "snprintf", 2, 3),
+    (STDIO, "vsnprintf", 2, 4),
+    (STDIO, "asprintf", 1, 2),
+    (STDIO, "vasprintf", 1, 3),
+    (ERR, "warn", 0, 1),
+    (ERR, "warnx", 0, 1),
+    (ERR, "vwarn", 0, 2),
+    (ERR, "vwarnx", 0, 2),
+    (ERR, "err", 1, 2),
+    (ERR, "errx", 1, 2),
+    (ERR, "verr", 1, 3),
+    (ERR, "verrx", 1, 3),
+    (ERROR, "error", 2, 3),
+    (ERROR, "error_at_line", 4, 5),
+    (SYSLOG, "syslog", 1, 2),
+    (SYSLOG, "vsyslog", 1, 3),
 ]
 # With _FORTIFY_SOURCE clang's calls go to functions with these names, which have a flag before the format, and those
 # that write to a buffer its size as well.

@@ -63,9 +63,7 @@ def add_calls(made: Parser) -> None:
     attribute = "functions with the attribute format(printf, m, n) are known"
     made.add_argument("--attribute", action="store_true", help=attribute)
     function = "NAME prints its argument INDEX, counted from 0, as printf does"
-    made.add_argument(
-        "--function", action="append", default=[], type=function_of, metavar="NAME:INDEX", help=function
-    )
+    made.add_argument("--function", action="append", default=[], type=function_of, metavar="NAME:INDEX", help=function)
 
 
 def add_modes(made: Parser) -> None:
@@ -77,8 +75,7 @@ def add_modes(made: Parser) -> None:
         ("--list", "print all formats of the files, grouped by their meaning, and change no file"),
         (
             "--list-functions",
-            "print the functions that take the formats of the files, "
-            "or without files those whose formats are known",
+            "print the functions that take the formats of the files, " "or without files those whose formats are known",
         ),
     ]:
         made.add_argument(option, action="store_true", help=text)

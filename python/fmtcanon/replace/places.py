@@ -66,12 +66,18 @@ Edit = Tuple[int, int, int, int]
 
 
 def edits_between(old: bytes, new: bytes) -> Iterator[List[Edit]]:
-    """Yields ways to make one text of the other: lists of ranges of the old text, with the ranges of the new that replace them."""
+    """Yields ways to make one text of the other: lists of ranges of the old text, with the ranges of the new that
+    replace them.
+    """
     front = shared_front(old, new)
     back = shared_back(old, new, front)
     if max(len(old), len(new)) - front - back <= LONGEST:
-        matcher = difflib.SequenceMatcher(None, old[front : len(old) - back], new[front : len(new) - back], autojunk=False)
-        found = [(a + front, b + front, c + front, d + front) for tag, a, b, c, d in matcher.get_opcodes() if tag != "equal"]
+        matcher = difflib.SequenceMatcher(
+            None, old[front : len(old) - back], new[front : len(new) - back], autojunk=False
+        )
+        found = [
+            (a + front, b + front, c + front, d + front) for tag, a, b, c, d in matcher.get_opcodes() if tag != "equal"
+        ]
         yield found
     for before, after in [(0, 0), (1, 0), (0, 1), (1, 1)]:
         start, end = max(front - before, 0), max(back - after, 0)
@@ -90,7 +96,9 @@ def respelled(place: Place, new: bytes) -> Optional[bytes]:
     if len(spans) != len(place.text):
         return None
     for edits in edits_between(place.text, new):
-        source = edited(place.source, [range_of(spans, offsets, edit) for edit in edits], [new[edit[2] : edit[3]] for edit in edits])
+        source = edited(
+            place.source, [range_of(spans, offsets, edit) for edit in edits], [new[edit[2] : edit[3]] for edit in edits]
+        )
         if source is not None and source.count(b"\n") == place.source.count(b"\n") and decoded(source) == new:
             return source
     return None

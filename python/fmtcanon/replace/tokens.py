@@ -13,15 +13,44 @@ NAME = rb"[A-Za-z_$\x80-\xff][\w$\x80-\xff]*"
 # Each comment matches in one way only, so that a search that fails takes linear time.
 COMMENT = rb"/\*[^*]*\*+(?:[^/*][^*]*\*+)*/|//(?:[^\\\n]|\\[\s\S])*(?=\n|\Z)"
 GAP = rb"(?:[ \t\n\v\f\r]|\\\r?\n|" + COMMENT + rb")*"
-# Adjacent literals are one. A raw string or one with a prefix is not a literal here. Nothing depends on this reader: what
+# Adjacent literals are one. A raw string or one with a prefix is not a literal here. Nothing depends on this reader:
+# what
 # it takes for a literal is confirmed by the compiler's own preprocessor.
 SOURCE = re.compile(
-    COMMENT + rb"|" + RAW + rb"|(?:u8|[uUL])" + STRING + rb"|(?P<literals>" + STRING + rb"(?:" + GAP + STRING + rb")*)|" + CHARACTER + rb"|" + NUMBER + rb"|" + NAME + rb"|[\s\S]"
+    COMMENT
+    + rb"|"
+    + RAW
+    + rb"|(?:u8|[uUL])"
+    + STRING
+    + rb"|(?P<literals>"
+    + STRING
+    + rb"(?:"
+    + GAP
+    + STRING
+    + rb")*)|"
+    + CHARACTER
+    + rb"|"
+    + NUMBER
+    + rb"|"
+    + NAME
+    + rb"|[\s\S]"
 )
 SPLICE = re.compile(rb"\\\r?\n")
 LINE_MARKER = rb"^# \d+ \"[^\n]*"
 PREPROCESSED = re.compile(
-    rb"(?P<marker>" + LINE_MARKER + rb")|(?P<string>" + RAW + rb"|(?:u8|[uUL])?" + STRING + rb")|" + CHARACTER + rb"|" + NUMBER + rb"|" + NAME + rb"|[^\s]",
+    rb"(?P<marker>"
+    + LINE_MARKER
+    + rb")|(?P<string>"
+    + RAW
+    + rb"|(?:u8|[uUL])?"
+    + STRING
+    + rb")|"
+    + CHARACTER
+    + rb"|"
+    + NUMBER
+    + rb"|"
+    + NAME
+    + rb"|[^\s]",
     re.MULTILINE,
 )
 # The same in one line, without raw strings.
@@ -30,10 +59,11 @@ STATIC_ASSERTION = (b"_Static_assert", b"static_assert")
 
 
 def common_front(first: bytes, second: bytes) -> int:
-    """Returns how long the front is that two preprocessed texts share, up to a line marker after a statement or a declaration.
+    """Returns how long the front is that two preprocessed texts share, up to a line marker after a statement or a
+    declaration.
 
-    So neither a token nor a static assertion is cut. Most of a text is its headers, which come first. A raw string may have
-    what looks like a marker, so then it is 0.
+    So neither a token nor a static assertion is cut. Most of a text is its headers, which come first. A raw string may
+    have what looks like a marker, so then it is 0.
     """
     if MAY_BE_RAW.search(first):
         return 0
@@ -50,8 +80,8 @@ def common_front(first: bytes, second: bytes) -> int:
 class Tokens:
     """The tokens of preprocessed text, with the line of the text that each is in.
 
-    Line markers are no tokens, and static assertions are left out: they have no effect but at compile time, and may have the
-    text of a literal in them.
+    Line markers are no tokens, and static assertions are left out: they have no effect but at compile time, and may
+    have the text of a literal in them.
     """
 
     def __init__(self, text: bytes) -> None:
@@ -102,14 +132,17 @@ def without_splices(text: bytes) -> bytes:
 
 
 def plain_literals(source: bytes) -> Tuple[bytes, Sequence[int]]:
-    """Returns string literals with one space for what is between them and without spliced lines, and the offset in the source of each byte.
+    """Returns string literals with one space for what is between them and without spliced lines, and the offset in the
+    source of each byte.
 
     The last offset is that of the end.
     """
     if re.fullmatch(STRING, source) and not SPLICE.search(source):
         return source, range(len(source) + 1)
     plain, offsets = bytearray(), []
-    for found in re.finditer(rb"(?P<string>" + STRING + rb")|" + rb"(?:[ \t\n\v\f\r]|\\\r?\n|" + COMMENT + rb")+", source):
+    for found in re.finditer(
+        rb"(?P<string>" + STRING + rb")|" + rb"(?:[ \t\n\v\f\r]|\\\r?\n|" + COMMENT + rb")+", source
+    ):
         if found["string"] is None:
             plain += b" "
             offsets.append(found.start())
