@@ -3,10 +3,10 @@
 
 Usage: bench/calls.py PROGRAM FOLDER [FILE]
 
-FOLDER has libfmtcanon.a and libfmtcanon.so, as `make library` leaves them. FILE has formats, each terminated by NUL. Without
-it the calls of the profile are counted over bench/shapes.nul, and those of the whole language over the same formats with one
-directive each that the profile lacks. Each figure is the best of five. `same`, `same_models` and `compare` take each format
-and itself. It needs gcc.
+FOLDER has libfmtcanon.a and libfmtcanon.so, as `make library` leaves them. FILE has formats, each terminated by NUL.
+Without it the calls of the profile are counted over bench/shapes.nul, and those of the whole language over the same
+formats with one directive each that the profile lacks. Each figure is the best of five. `same`, `same_models` and
+`compare` take each format and itself. It needs gcc.
 """
 
 import os
@@ -30,7 +30,9 @@ PAIRS = {"same", "same_models", "compare"}
 
 
 def rate_in_c(driver, call, file, words=()):
-    found = [subprocess.run([driver, call, file, *words], stdout=subprocess.PIPE, check=True).stdout for _ in range(TIMES)]
+    found = [
+        subprocess.run([driver, call, file, *words], stdout=subprocess.PIPE, check=True).stdout for _ in range(TIMES)
+    ]
     return max(map(int, found))
 
 
@@ -74,7 +76,16 @@ def main():
 
     with tempfile.TemporaryDirectory() as work:
         driver, file = Path(work) / "calls", Path(work) / "formats"
-        words = ["gcc", "-std=gnu11", "-Wall", "-Wextra", "-O2", f"-I{TOP / 'include'}", BENCH / "calls.c", folder / "libfmtcanon.a"]
+        words = [
+            "gcc",
+            "-std=gnu11",
+            "-Wall",
+            "-Wextra",
+            "-O2",
+            f"-I{TOP / 'include'}",
+            BENCH / "calls.c",
+            folder / "libfmtcanon.a",
+        ]
         subprocess.run([*words, "-o", driver], check=True)
         print("| Call | From C | From Python |\n|---|---|---|")
         for call in WHOLE_CALLS:
@@ -84,7 +95,9 @@ def main():
         print(f"| `parse_printf_format` | {shown(rate_in_c(driver, 'parse_printf_format', file))} | |")
         for command in ["canon", "types"]:
             words = [program, command, "--"]
-            print(f"| a process of `{command}` each | {shown(rate_in_c(driver, 'process', file, words))} | |", flush=True)
+            print(
+                f"| a process of `{command}` each | {shown(rate_in_c(driver, 'process', file, words))} | |", flush=True
+            )
 
 
 if __name__ == "__main__":

@@ -1,4 +1,5 @@
-"""The formats that the bench counts over: shapes of real programs, and the same with directives that the profile lacks."""
+"""The formats that the bench counts over: shapes of real programs, and the same with directives that the profile lacks.
+"""
 
 import re
 from pathlib import Path
@@ -16,8 +17,8 @@ def shapes():
 
 
 def whole_shapes():
-    """The same shapes, each with one of its directives replaced by one that the profile lacks: the first, the second and so
-    on in turn. Shapes without directives are left out."""
+    """The same shapes, each with one of its directives replaced by one that the profile lacks: the first, the second
+    and so on in turn. Shapes without directives are left out."""
     found = []
     for text in shapes():
         places = [it.span() for it in DIRECTIVE.finditer(text) if it.group() != b"%%"]

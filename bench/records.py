@@ -32,7 +32,9 @@ ENVIRONMENT = {**os.environ, "GLIBC_TUNABLES": "glibc.cpu.x86_rep_movsb_threshol
 def counted(words, text):
     """The instructions of a whole process over this standard input, and what it writes."""
     words = ["valgrind", "--tool=callgrind", "--callgrind-out-file=/dev/null", *words]
-    done = subprocess.run(words, input=text, stdout=subprocess.PIPE, stderr=subprocess.PIPE, check=False, env=ENVIRONMENT)
+    done = subprocess.run(
+        words, input=text, stdout=subprocess.PIPE, stderr=subprocess.PIPE, check=False, env=ENVIRONMENT
+    )
     return int(re.search(rb"Collected : (\d+)", done.stderr).group(1)), done.stdout
 
 
@@ -50,7 +52,10 @@ def twins(formats):
 
 
 def records(program, driver):
-    """The table of runs over records. Under `same` each format is compared with itself, and every other one with the next."""
+    """The table of runs over records.
+
+    Under `same` each format is compared with itself, and every other one with the next.
+    """
     texts = [
         ("canon", [], "", SHAPES),
         ("same", [], ", a format and itself", twins(shapes())),
@@ -59,7 +64,9 @@ def records(program, driver):
         ("same", ["whole"], ", a format and itself", twins(whole_shapes())),
         ("same", ["whole"], ", a format and the next one", WHOLE_SHAPES[: WHOLE_SHAPES.rindex(b"\0", 0, -1) + 1]),
     ]
-    print(f"{len(shapes()):,} formats as records, with `--whole` those with a directive that the profile lacks; instructions a record:\n")
+    print(
+        f"{len(shapes()):,} formats as records, with `--whole` those with a directive that the profile lacks; instructions a record:\n"
+    )
     print("| Command | `fmtcanon` | A C loop over the library | Ratio |\n|---|---|---|---|")
     for command, more, name, text in texts:
         options = [f"--{it}" for it in more]

@@ -79,7 +79,10 @@ def instructions(program, loop):
     print("| Text | `stream`, instructions a byte | C loop |\n|---|---|---|")
     for name, part in TEXTS.items():
         block = part * (1_000_000 // len(part))
-        each = [(counted(command, 2 * block) - counted(command, block)) / len(block) for command in ([program, "stream"], [loop])]
+        each = [
+            (counted(command, 2 * block) - counted(command, block)) / len(block)
+            for command in ([program, "stream"], [loop])
+        ]
         print(f"| {name} | " + " | ".join(f"{one:.1f}" for one in each) + " |")
 
 
