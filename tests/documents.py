@@ -36,8 +36,8 @@ from words import pages, try_words  # noqa: E402
 
 # The commands with rows of a model of the program.
 MODEL_COMMANDS = ["canon", "same", "format", "show", "stream", "types"]
-# Names in the documents that are none of this repository's: of C and its library, of other tools and of the kit, and
-# placeholders.
+# Names in the documents that are not names of this repository: those of C and its library, of other tools and of the
+# kit, and placeholders.
 FOREIGN_NAMES = set(
     """
     cents errno intmax_t ptrdiff_t strerror uintmax_t I64
@@ -427,7 +427,7 @@ def try_definitions(trials):
         {},
     )
     trials.expect(
-        "exceptions of tests/definition_names.py that are none",
+        "exceptions of tests/definition_names.py that are not needed",
         sorted(definition_names.EXCEPTIONS.keys() - found.keys()),
         [],
     )

@@ -29,8 +29,8 @@ use std::io::Write;
 pub enum Outcome {
     /// All was written. If formats were compared, the ending says how they compare.
     Written(Ending),
-    /// Nothing was written, except what `stream` had settled before, and the replies to the records
-    /// before the one for which memory was refused.
+    /// There is no answer, or memory was refused. Nothing was written, except what `stream` had
+    /// settled before, and over records the replies to the first of them.
     Failed(Fault),
     /// All records were answered; the highest status of their answers.
     Answered(u8),
