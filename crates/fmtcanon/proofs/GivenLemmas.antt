@@ -1,27 +1,31 @@
 -- What holds of the bytes of a format that is given.
-use Rattle.std.proofs.Common.{◌≡◌, ℕ, ◌≤◌, List, ◌∷◌, ◌++◌, Option, None, Some, ap, arith, length, length-append, subst, sym, unwrap_or}
+use Rattle.std.proofs.Common.{◌≡◌, ℕ, ◌≤◌, List, ◌∷◌, ◌++◌, Option, None, Some, ap, arith, length, length-append, map, subst, sym, unwrap_or}
 use Rattle.std.specs.Prelude.{MatchOption, ⊤}
 use Rattle.pf_canon.specs.declared.faults.Side.TheVariants as sides
 use Rattle.pf_literals.specs.Answers.{HasNoPlace, IsPlaceOf}
 use Rattle.pf_literals.specs.Sources.{IsSourceOf}
 use Rattle.pf_literals.proofs.HasPlaceLemmas.{has_place}
+use Rattle.pf_signatures.specs.declared.refusals.SignatureRefusal.{SignatureRefusal}
 use Rattle.pf_signatures.specs.declared.refusals.SignatureRefusalKind.{SignatureRefusalKind}
 use Rattle.pf_signatures.specs.declared.refusals.SignatureRefusalKind.TheVariants as kinds
 use Rattle.pf_signatures.specs.Refusals.{IsPosixRefusedAt}
 use Rattle.pf_signatures.specs.Unnumbered.{IsNumberedAt, IsWholeRefusedAt}
+use Rattle.pf_text.specs.declared.scanner.Refusal.{Refusal}
 use Rattle.pf_values.specs.declared.models.Model.{Model}
 use Rattle.pf_values.specs.declared.refusals.RefusalKind.{RefusalKind}
-use Rattle.pf_values.specs.meaning.Items.{IsAccepted}
 use Rattle.pf_values.specs.meaning.Refusals.{IsRefusedAt}
 use Rattle.pf_values.specs.meaning.Text.{Text, dollar, percent}
-use Rattle.fmtcanon.specs.Languages.{AcceptsText, Language, Numbered, RefusesText, Unnumbered}
-use Rattle.fmtcanon.specs.Answers.{IsFormatFault, IsPairFault, IsGivenFault, IsGivenPairFault, IsWholeFault, IsWholePairFault, IsFaultInTexts, IsFaultInText, side_of}
+use Rattle.fmtcanon.specs.Languages.{Language, Profile, Numbered, RefusesInProfile, RefusesText, Unnumbered}
+use Rattle.fmtcanon.specs.Answers.{IsFormatFault, IsPairFault, IsGivenFault, IsGivenPairFault, IsOneFault, IsRefusalOfFirst, IsFaultInTexts, IsFaultInText, side_of}
 use Rattle.fmtcanon.specs.FormatArguments.{IsArgumentFault}
 use Rattle.fmtcanon.specs.Formats.{HoldsFormat, IsFormat, IsPlaceInText}
+use Rattle.fmtcanon.specs.Questions.{language_of_format}
 use Rattle.fmtcanon.specs.declared.outcome.Fault.{Fault}
 use Rattle.fmtcanon.specs.declared.outcome.Fault.TheVariants.{Refused, RefusedWhole, BadLiteral, BadWord, WrongCount, WrongType, Memory}
 use Rattle.fmtcanon.specs.declared.formats.GivenFormat.{GivenFormat}
 use Rattle.fmtcanon.specs.declared.formats.Notation.TheVariants.{Literals}
+use Rattle.fmtcanon.specs.declared.questions.OneQuestion.{OneQuestion}
+use Rattle.fmtcanon.specs.declared.questions.OneQuestion.TheVariants.{Any, Printed}
 
 refused_within : (bytes : Text) (kind : RefusalKind) (at : ℕ) → IsRefusedAt bytes kind at → at ≤ length bytes
 refused_within bytes kind at h =
@@ -48,10 +52,6 @@ numbered_within bytes at h =
 unnumbered_within : (model : Model) (bytes : Text) (kind : SignatureRefusalKind) (at : ℕ) → IsWholeRefusedAt model bytes kind at → at ≤ length bytes
 unnumbered_within model bytes kinds.Numbered at h = numbered_within bytes at h.0
 unnumbered_within model bytes kind at h = posix_within model bytes kind at h.0
-
-whole_within : (language : Language) (model : Model) (bytes : Text) (kind : SignatureRefusalKind) (at : ℕ) → RefusesText language model bytes kind at → at ≤ length bytes
-whole_within Numbered model bytes kind at h = posix_within model bytes kind at h
-whole_within Unnumbered model bytes kind at h = unnumbered_within model bytes kind at h
 
 place_there : (text bytes : Text) (index : ℕ) (found : Option ℕ) → MatchOption found (HasNoPlace text index) (IsPlaceOf text index) → IsSourceOf text bytes → index ≤ length bytes
     → IsPlaceOf text index (unwrap_or found index)
@@ -94,27 +94,33 @@ given_fault IsFault given bytes (WrongCount wanted had) reported of gives h is =
 given_fault IsFault given bytes (WrongType index) reported of gives h is = subst (IsGivenFault IsFault given) (sym is) (bytes, gives, h)
 given_fault IsFault given bytes Memory reported of gives h is = subst (IsGivenFault IsFault given) (sym is) tt
 
-pub format_of_bytes : (bytes : Text) (fault : Fault) → IsFormatFault bytes fault → IsOfBytes bytes fault
-format_of_bytes bytes (Refused None refusal) h = refused_within bytes refusal.kind refusal.at h
-format_of_bytes bytes (Refused (Some side) refusal) h = h
-format_of_bytes bytes (RefusedWhole side refusal) h = absurd h
-format_of_bytes bytes (BadLiteral side refusal) h = h
-format_of_bytes bytes (BadWord index) h = tt
-format_of_bytes bytes (WrongCount wanted given) h = tt
-format_of_bytes bytes (WrongType index) h = tt
-format_of_bytes bytes Memory h = tt
+-- in each language a refusal is within the bytes
+refusal_within : (language : Language) (bytes : Text) (refusal : Refusal) → RefusesInProfile language bytes refusal
+    → refusal.at ≤ length bytes
+refusal_within Profile bytes refusal h = refused_within bytes refusal.kind refusal.at h
+refusal_within Numbered bytes refusal h = absurd h
+refusal_within Unnumbered bytes refusal h = absurd h
 
-pub whole_of_bytes : (language : Language) (model : Model) (bytes : Text) (fault : Fault) → IsWholeFault language model bytes fault → IsOfBytes bytes fault
-whole_of_bytes language model bytes (Refused side refusal) h = absurd h
-whole_of_bytes language model bytes (RefusedWhole None refusal) h = whole_within language model bytes refusal.kind refusal.at h
-whole_of_bytes language model bytes (RefusedWhole (Some side) refusal) h = h
-whole_of_bytes language model bytes (BadLiteral side refusal) h = h
-whole_of_bytes language model bytes (BadWord index) h = tt
-whole_of_bytes language model bytes (WrongCount wanted given) h = tt
-whole_of_bytes language model bytes (WrongType index) h = tt
-whole_of_bytes language model bytes Memory h = tt
+whole_within : (language : Language) (model : Model) (bytes : Text) (refusal : SignatureRefusal)
+    → RefusesText language model bytes refusal → refusal.at ≤ length bytes
+whole_within Profile model bytes refusal h = absurd h
+whole_within Numbered model bytes refusal h = posix_within model bytes refusal.kind refusal.at h
+whole_within Unnumbered model bytes refusal h = unnumbered_within model bytes refusal.kind refusal.at h
 
-pub arguments_of_bytes : (model : Model) (words : List Text) (bytes : Text) (fault : Fault) → IsArgumentFault model bytes words fault → IsOfBytes bytes fault
+format_of_bytes : (language : Language) (model : Model) (bytes : Text) (fault : Fault)
+    → IsFormatFault language model bytes fault → IsOfBytes bytes fault
+format_of_bytes language model bytes (Refused None refusal) h = refusal_within language bytes refusal h
+format_of_bytes language model bytes (Refused (Some side) refusal) h = h
+format_of_bytes language model bytes (RefusedWhole None refusal) h = whole_within language model bytes refusal h
+format_of_bytes language model bytes (RefusedWhole (Some side) refusal) h = h
+format_of_bytes language model bytes (BadLiteral side refusal) h = h
+format_of_bytes language model bytes (BadWord index) h = tt
+format_of_bytes language model bytes (WrongCount wanted given) h = tt
+format_of_bytes language model bytes (WrongType index) h = tt
+format_of_bytes language model bytes Memory h = tt
+
+arguments_of_bytes : (model : Model) (words : List Text) (bytes : Text) (fault : Fault)
+    → IsArgumentFault model bytes words fault → IsOfBytes bytes fault
 arguments_of_bytes model words bytes (Refused None refusal) h = refused_within bytes refusal.kind refusal.at h
 arguments_of_bytes model words bytes (Refused (Some side) refusal) h = h
 arguments_of_bytes model words bytes (RefusedWhole side refusal) h = absurd h
@@ -124,32 +130,75 @@ arguments_of_bytes model words bytes (WrongCount wanted given) h = tt
 arguments_of_bytes model words bytes (WrongType index) h = tt
 arguments_of_bytes model words bytes Memory h = tt
 
-module _ (first second : GivenFormat) (one other : Text) (g : IsFormat first one) (h : IsFormat second other) where
-  -- why two formats of the profile have no answer, at the place in the text
-  pub pair_fault : (fault reported : Fault) → IsPairFault one other fault → IsFaultInTexts first second (side_of fault) fault reported → IsGivenPairFault IsFormatFault IsAccepted first second reported
-  pair_fault (Refused None refusal) reported hinders is = absurd hinders
-  pair_fault (Refused (Some sides.First) refusal) reported hinders (at, is, of_place) =
-      subst (IsGivenPairFault IsFormatFault IsAccepted first second) (sym is) (record { bytes = one; gives = g; at = refusal.at; holds = hinders; place_is = of_place one g (refused_within one refusal.kind refusal.at hinders) })
-  pair_fault (Refused (Some sides.Second) refusal) reported hinders (at, is, of_place) =
-      subst (IsGivenPairFault IsFormatFault IsAccepted first second) (sym is) ((one, g, hinders.0), record { bytes = other; gives = h; at = refusal.at; holds = hinders.1; place_is = of_place other h (refused_within other refusal.kind refusal.at hinders.1) })
-  pair_fault (RefusedWhole side refusal) reported hinders is = absurd hinders
-  pair_fault (BadLiteral side refusal) reported hinders is = absurd hinders
-  pair_fault (BadWord index) reported hinders is = absurd hinders
-  pair_fault (WrongCount wanted given) reported hinders is = absurd hinders
-  pair_fault (WrongType index) reported hinders is = absurd hinders
-  pair_fault Memory reported hinders is = subst (IsGivenPairFault IsFormatFault IsAccepted first second) (sym is) tt
+-- no fault of a question about bytes is one of literals
+pub one_of_bytes : (question : OneQuestion) (model : Model) (bytes : Text) (fault : Fault)
+    → IsOneFault question model bytes fault → IsOfBytes bytes fault
+one_of_bytes (Any question) model bytes fault h = format_of_bytes (language_of_format question) model bytes fault h
+one_of_bytes (Printed words) model bytes fault h = arguments_of_bytes model (map (λ s. s.now) words.items) bytes fault h
 
-  -- why two formats of the whole language have none
-  pub whole_pair_fault : (language : Language) (model : Model) (fault reported : Fault) → IsWholePairFault language model one other fault → IsFaultInTexts first second (side_of fault) fault reported
-      → IsGivenPairFault (IsWholeFault language model) (AcceptsText language model) first second reported
-  whole_pair_fault language model (RefusedWhole None refusal) reported hinders is = absurd hinders
-  whole_pair_fault language model (RefusedWhole (Some sides.First) refusal) reported hinders (at, is, of_place) =
-      subst (IsGivenPairFault (IsWholeFault language model) (AcceptsText language model) first second) (sym is) (record { bytes = one; gives = g; at = refusal.at; holds = hinders; place_is = of_place one g (whole_within language model one refusal.kind refusal.at hinders) })
-  whole_pair_fault language model (RefusedWhole (Some sides.Second) refusal) reported hinders (at, is, of_place) =
-      subst (IsGivenPairFault (IsWholeFault language model) (AcceptsText language model) first second) (sym is) ((one, g, hinders.0), record { bytes = other; gives = h; at = refusal.at; holds = hinders.1; place_is = of_place other h (whole_within language model other refusal.kind refusal.at hinders.1) })
-  whole_pair_fault language model (Refused side refusal) reported hinders is = absurd hinders
-  whole_pair_fault language model (BadLiteral side refusal) reported hinders is = absurd hinders
-  whole_pair_fault language model (BadWord index) reported hinders is = absurd hinders
-  whole_pair_fault language model (WrongCount wanted given) reported hinders is = absurd hinders
-  whole_pair_fault language model (WrongType index) reported hinders is = absurd hinders
-  whole_pair_fault language model Memory reported hinders is = subst (IsGivenPairFault (IsWholeFault language model) (AcceptsText language model) first second) (sym is) tt
+module _ (language : Language) (model : Model) (first second : GivenFormat) (one : Text) (g : IsFormat first one) where
+  -- the refusal of the first of two formats, at the place in the text
+  pub first_refused : (fault reported : Fault) → IsRefusalOfFirst language model one fault → IsFaultInText first fault reported
+      → IsGivenPairFault language model first second reported
+  first_refused (Refused None refusal) reported h is = absurd h
+  first_refused (Refused (Some sides.First) refusal) reported h (at, is, of_place) =
+      subst (IsGivenPairFault language model first second) (sym is) (record {
+        bytes = one;
+        gives = g;
+        at = refusal.at;
+        holds = h;
+        place_is = of_place one g (refusal_within language one refusal h);
+      })
+  first_refused (Refused (Some sides.Second) refusal) reported h is = absurd h
+  first_refused (RefusedWhole None refusal) reported h is = absurd h
+  first_refused (RefusedWhole (Some sides.First) refusal) reported h (at, is, of_place) =
+      subst (IsGivenPairFault language model first second) (sym is) (record {
+        bytes = one;
+        gives = g;
+        at = refusal.at;
+        holds = h;
+        place_is = of_place one g (whole_within language model one refusal h);
+      })
+  first_refused (RefusedWhole (Some sides.Second) refusal) reported h is = absurd h
+  first_refused (BadLiteral side refusal) reported h is = absurd h
+  first_refused (BadWord index) reported h is = absurd h
+  first_refused (WrongCount wanted given) reported h is = absurd h
+  first_refused (WrongType index) reported h is = absurd h
+  first_refused Memory reported h is = absurd h
+
+  -- why two formats have no answer
+  pub pair_fault : (other : Text) → IsFormat second other → (fault reported : Fault) → IsPairFault language model one other fault
+      → IsFaultInTexts first second (side_of fault) fault reported → IsGivenPairFault language model first second reported
+  pair_fault other h (Refused None refusal) reported hinders is = absurd hinders
+  pair_fault other h (Refused (Some sides.First) refusal) reported hinders is =
+      first_refused (Refused (Some sides.First) refusal) reported hinders is
+  pair_fault other h (Refused (Some sides.Second) refusal) reported hinders (at, is, of_place) =
+      subst (IsGivenPairFault language model first second) (sym is) (
+        (one, g, hinders.0),
+        record {
+          bytes = other;
+          gives = h;
+          at = refusal.at;
+          holds = hinders.1;
+          place_is = of_place other h (refusal_within language other refusal hinders.1);
+        },
+      )
+  pair_fault other h (RefusedWhole None refusal) reported hinders is = absurd hinders
+  pair_fault other h (RefusedWhole (Some sides.First) refusal) reported hinders is =
+      first_refused (RefusedWhole (Some sides.First) refusal) reported hinders is
+  pair_fault other h (RefusedWhole (Some sides.Second) refusal) reported hinders (at, is, of_place) =
+      subst (IsGivenPairFault language model first second) (sym is) (
+        (one, g, hinders.0),
+        record {
+          bytes = other;
+          gives = h;
+          at = refusal.at;
+          holds = hinders.1;
+          place_is = of_place other h (whole_within language model other refusal hinders.1);
+        },
+      )
+  pair_fault other h (BadLiteral side refusal) reported hinders is = absurd hinders
+  pair_fault other h (BadWord index) reported hinders is = absurd hinders
+  pair_fault other h (WrongCount wanted given) reported hinders is = absurd hinders
+  pair_fault other h (WrongType index) reported hinders is = absurd hinders
+  pair_fault other h Memory reported hinders is = subst (IsGivenPairFault language model first second) (sym is) tt

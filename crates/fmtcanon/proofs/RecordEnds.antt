@@ -11,20 +11,20 @@ use Rattle.fmtcanon.specs.Records.{AllReplied, IsRecords, RecordsEnd, ReadFails,
 use Rattle.fmtcanon.specs.declared.outcome.Fault.TheVariants as faults
 use Rattle.fmtcanon.specs.declared.outcome.Outcome.{Outcome}
 use Rattle.fmtcanon.specs.declared.outcome.Outcome.TheVariants as outcomes
-use Rattle.fmtcanon.specs.declared.task.RecordQuestion.{RecordQuestion}
+use Rattle.fmtcanon.specs.declared.questions.RecordQuestion.{RecordQuestion}
 use Rattle.fmtcanon.specs.declared.records.Conversation.{Conversation}
 use Rattle.fmtcanon.proofs.RecordLemmas.{out_all}
 use Rattle.fmtcanon.proofs.RecordTexts.{cut_none}
 
-module _ (kind : RecordQuestion) {R W : Type 0} (remaining : R → Known) (contents : W → Known) (reader left : Counted R) (old new : Counted W) (taken : Text) (whole : List Text) (rest : Text) (cut : IsRecords taken whole rest) (took : Consumes (remaining (device_of reader)) (remaining (device_of left)) taken) where
+module _ (asked : RecordQuestion) {R W : Type 0} (remaining : R → Known) (contents : W → Known) (reader left : Counted R) (old new : Counted W) (taken : Text) (whole : List Text) (rest : Text) (cut : IsRecords taken whole rest) (took : Consumes (remaining (device_of reader)) (remaining (device_of left)) taken) where
   -- a write failed, memory was refused
-  pub left_stopped : failures_of left ≡ failures_of reader → (outcome : Outcome) → RecordsEndEarly kind contents old new (whole ++ last_record rest) outcome → RecordsEnd kind remaining contents reader left old new outcome
+  pub left_stopped : failures_of left ≡ failures_of reader → (outcome : Outcome) → RecordsEndEarly asked contents old new (whole ++ last_record rest) outcome → RecordsEnd asked remaining contents reader left old new outcome
   left_stopped well (outcomes.Failed faults.Memory) h = (whole, rest, h.0, h.1, (taken, cut, took), well, h.2)
   left_stopped well (outcomes.Write count) h = (whole, rest, (taken, cut, took), well, h)
   left_stopped well _ h = absurd h
 
   -- the reader was at its end
-  pub left_at_end : failures_of left ≡ failures_of reader → IsAtEnd (remaining (device_of left)) → (outcome : Outcome) → RecordsFinish kind contents old new (whole ++ last_record rest) outcome → RecordsEnd kind remaining contents reader left old new outcome
+  pub left_at_end : failures_of left ≡ failures_of reader → IsAtEnd (remaining (device_of left)) → (outcome : Outcome) → RecordsFinish asked contents old new (whole ++ last_record rest) outcome → RecordsEnd asked remaining contents reader left old new outcome
   left_at_end well end (outcomes.Answered greatest) h = (whole ++ last_record rest, (whole, rest, (taken, cut, took), end, refl), well, h)
   left_at_end well end outcomes.NoSecond h = (whole ++ last_record rest, h.0, h.1, (whole, rest, (taken, cut, took), end, refl), well, h.2, h.3)
   left_at_end well end (outcomes.Failed faults.Memory) h = left_stopped well (outcomes.Failed faults.Memory) h
@@ -32,18 +32,18 @@ module _ (kind : RecordQuestion) {R W : Type 0} (remaining : R → Known) (conte
   left_at_end well end _ h = absurd h
 
   -- nothing waited, so the input is ready
-  pub left_ready : failures_of left ≡ failures_of reader → (c : Conversation) → HasRepliedTo kind contents c old new whole rest → waiting_text c.replies ≡ [] → is_flushed new ≡ true → AllReplied kind remaining contents reader left old new
+  pub left_ready : failures_of left ≡ failures_of reader → (c : Conversation) → HasRepliedTo asked contents c old new whole rest → waiting_text c.replies ≡ [] → is_flushed new ≡ true → AllReplied asked remaining contents reader left old new
   left_ready well c h none flushed =
-      (whole, rest, h.first, c.replies.greatest, (taken, cut, took), well, h.come.few, out_all kind contents old new whole h.replies h.first h.are c.replies c.replies.greatest h.said none flushed refl)
+      (whole, rest, h.first, c.replies.greatest, (taken, cut, took), well, h.come.few, out_all asked contents old new whole h.replies h.first h.are c.replies c.replies.greatest h.said none flushed refl)
 
   -- a read failed, and nothing waited
-  pub left_read : ReadFails kind remaining contents reader left old new → (c : Conversation) → HasRepliedTo kind contents c old new whole rest → waiting_text c.replies ≡ [] → is_flushed new ≡ true → RecordsEnd kind remaining contents reader left old new outcomes.Read
+  pub left_read : ReadFails asked remaining contents reader left old new → (c : Conversation) → HasRepliedTo asked contents c old new whole rest → waiting_text c.replies ≡ [] → is_flushed new ≡ true → RecordsEnd asked remaining contents reader left old new outcomes.Read
   left_read fails c h none flushed =
-      (whole, rest, h.first, c.replies.greatest, (taken, cut, took), fails, h.come.few, out_all kind contents old new whole h.replies h.first h.are c.replies c.replies.greatest h.said none flushed refl)
+      (whole, rest, h.first, c.replies.greatest, (taken, cut, took), fails, h.come.few, out_all asked contents old new whole h.replies h.first h.are c.replies c.replies.greatest h.said none flushed refl)
 
 -- nothing has been taken, and nothing has come
-pub at_start : (kind : RecordQuestion) {R W : Type 0} (remaining : R → Known) (contents : W → Known) (begin : Counted R) (start : Counted W) (c : Conversation) → HasCome c.coming kind [] [] → HasReplies c.replies [] [] → HasAnswered kind remaining contents c begin begin start start
-at_start kind remaining contents begin start c come none = record {
+pub at_start : (asked : RecordQuestion) {R W : Type 0} (remaining : R → Known) (contents : W → Known) (begin : Counted R) (start : Counted W) (c : Conversation) → HasCome c.coming asked [] [] → HasReplies c.replies [] [] → HasAnswered asked remaining contents c begin begin start start
+at_start asked remaining contents begin start c come none = record {
   taken = [];
   took = Consumes-nil _;
   well = refl;

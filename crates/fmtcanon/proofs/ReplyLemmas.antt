@@ -14,8 +14,8 @@ use Rattle.fmtcanon.specs.Outcomes.{status_of}
 use Rattle.fmtcanon.specs.Questions.{IsAbout}
 use Rattle.fmtcanon.specs.Records.{IsReply, Reply, RunWrites, replies_text, reply_bytes}
 use Rattle.fmtcanon.specs.declared.outcome.Outcome.{Outcome}
-use Rattle.fmtcanon.specs.declared.task.Question.{Question}
-use Rattle.fmtcanon.specs.declared.task.RecordQuestion.{RecordQuestion}
+use Rattle.fmtcanon.specs.declared.questions.Question.{Question}
+use Rattle.fmtcanon.specs.declared.questions.RecordQuestion.{RecordQuestion}
 use Rattle.fmtcanon.specs.declared.records.Replies.{Replies}
 
 -- a count that stays at a bound goes on from one that did
@@ -66,10 +66,10 @@ said_unflushed contents start old now r replies h none kept failed =
       count_is = h.has.count;
     }
 
-module _ (kind : RecordQuestion) (formats : List Text) (sent : Text) (replies : List Reply) (old new : Replies) (h : HasReplies old sent replies) (same : new.written ≡ old.written) (question : Question) (about : IsAbout question kind formats) (said : Text) (outcome : Outcome) (says : RunWrites question said outcome) (status : ℕ) (is : status ≡ status_of outcome) where
+module _ (asked : RecordQuestion) (formats : List Text) (sent : Text) (replies : List Reply) (old new : Replies) (h : HasReplies old sent replies) (same : new.written ≡ old.written) (question : Question) (about : IsAbout question asked formats) (said : Text) (outcome : Outcome) (says : RunWrites question said outcome) (status : ℕ) (is : status ≡ status_of outcome) where
   -- a reply was added, or none
   pub reply_added : {E : Type 0} (r : Result (Unit {0}) E) → OnOk r (waiting_text new ≡ waiting_text old ++ reply_bytes status said) → OnOk r (new.greatest ≡ max old.greatest status) → OnErr r (waiting_text new ≡ waiting_text old) → OnErr r (new.greatest ≡ old.greatest)
-      → MatchResult r (λ _. (reply : Reply) × IsReply kind reply × (reply.formats ≡ formats) × HasReplies new sent (replies ++ reply ∷ [])) (λ _. HasReplies new sent replies)
+      → MatchResult r (λ _. (reply : Reply) × IsReply asked reply × (reply.formats ≡ formats) × HasReplies new sent (replies ++ reply ∷ [])) (λ _. HasReplies new sent replies)
   reply_added (Ok done) bytes greatest none stays =
       let reply : Reply = record { formats = formats; status = status; bytes = reply_bytes status said } in (
         reply,

@@ -2,8 +2,6 @@
 use Rattle.std.specs.Prelude.{◌≡◌, ℕ, ◌≤◌, List, ◌∷◌, ◌++◌, length, Option, None, Some, map, ⊤}
 use Rattle.std.specs.List.{AllByRecursion}
 use Rattle.pf_values.specs.declared.models.Model.{Model}
-use Rattle.pf_values.specs.meaning.Items.{IsAccepted}
-use Rattle.pf_values.specs.meaning.Refusals.{IsRefusedAt}
 use Rattle.pf_values.specs.meaning.Text.{Text}
 use Rattle.pf_canon.specs.Answers.{IsCanonicalFor}
 use Rattle.pf_canon.specs.declared.faults.Side.{Side}
@@ -12,21 +10,25 @@ use Rattle.fmtcanon.specs.declared.answer.Ending.{Ending}
 use Rattle.fmtcanon.specs.declared.answer.Ending.TheVariants as endings
 use Rattle.fmtcanon.specs.declared.outcome.Fault.{Fault}
 use Rattle.fmtcanon.specs.declared.outcome.Fault.TheVariants.{Refused, RefusedWhole, BadLiteral, BadWord, WrongCount, WrongType, Memory}
-use Rattle.fmtcanon.specs.declared.task.Question.{Question}
-use Rattle.fmtcanon.specs.declared.task.Question.TheVariants.{Types, Arguments, Canon, CanonWhole, Show, Format, Fits, Same, SameWhole}
-use Rattle.fmtcanon.specs.ArgumentLines.{HasArgumentLines}
-use Rattle.fmtcanon.specs.Comparisons.{IsComparisonIn}
-use Rattle.fmtcanon.specs.FormatArguments.{IsArgumentFault, IsPrinted}
 use Rattle.fmtcanon.specs.declared.formats.GivenFormat.{GivenFormat}
 use Rattle.fmtcanon.specs.declared.formats.Notation.{Notation}
+use Rattle.fmtcanon.specs.declared.questions.FormatQuestion.{FormatQuestion}
+use Rattle.fmtcanon.specs.declared.questions.FormatQuestion.TheVariants.{Types, WholeTypes, Canonical, WholeCanonical, Parts}
+use Rattle.fmtcanon.specs.declared.questions.OneQuestion.{OneQuestion}
+use Rattle.fmtcanon.specs.declared.questions.OneQuestion.TheVariants.{Any, Printed}
+use Rattle.fmtcanon.specs.declared.questions.Question.{Question}
+use Rattle.fmtcanon.specs.declared.questions.Question.TheVariants.{One, Two}
+use Rattle.fmtcanon.specs.ArgumentLines.{HasArgumentLines}
+use Rattle.fmtcanon.specs.FormatArguments.{IsArgumentFault, IsPrinted}
 use Rattle.fmtcanon.specs.Formats.{HoldsAt, HoldsOf, IsFormat, IsNoFormat, IsPlaceInText, written_in}
-use Rattle.fmtcanon.specs.Languages.{Language, Numbered, Unnumbered, AcceptsText, RefusesText, language_of}
+use Rattle.fmtcanon.specs.Languages.{Language, AcceptsText, RefusesInProfile, RefusesText}
 use Rattle.fmtcanon.specs.Lines.{line}
 use Rattle.fmtcanon.specs.Models.{asked_models}
+use Rattle.fmtcanon.specs.PairAnswers.{IsPairAnswerIn}
+use Rattle.fmtcanon.specs.Questions.{language_of, language_of_format}
 use Rattle.fmtcanon.specs.Shows.{HasShownLines}
 use Rattle.fmtcanon.specs.TypeLines.{HasTypeLines}
-use Rattle.fmtcanon.specs.WholeAnswers.{HasWholeCanonicalLine, IsPairAnswerIn}
-use Rattle.fmtcanon.specs.declared.whole.PairQuestion.TheVariants as pairs
+use Rattle.fmtcanon.specs.WholeAnswers.{HasWholeCanonicalLine}
 
 -- the canonical text of an accepted format, in a notation, and a newline
 abbrev pub HasCanonicalLine : Notation → Model → Text → Text → Type 0
@@ -34,60 +36,56 @@ HasCanonicalLine notation model format out =
     (canonical : Text) × IsCanonicalFor model format canonical
     × (out ≡ line (written_in notation canonical))
 
+-- what is answered about the bytes of a format, whatever it is
+abbrev pub HasAnswer : FormatQuestion → Notation → Model → Text → Text → Type 0
+HasAnswer Types notation model bytes out = HasTypeLines model bytes out
+HasAnswer WholeTypes notation model bytes out = HasArgumentLines model bytes out
+HasAnswer Canonical notation model bytes out = HasCanonicalLine notation model bytes out
+HasAnswer WholeCanonical notation model bytes out = HasWholeCanonicalLine notation model bytes out
+HasAnswer Parts notation model bytes out = HasShownLines model bytes out
+
+-- what is answered about the bytes of one format
+abbrev pub HasOneAnswer : OneQuestion → Notation → Model → Text → Text → Type 0
+HasOneAnswer (Any question) notation model bytes out = HasAnswer question notation model bytes out
+HasOneAnswer (Printed words) notation model bytes out =
+    IsPrinted model bytes (map (λ s. s.now) words.items) out
+
 -- These bytes answer a question, and a run that writes them all ends so.
 abbrev pub IsAnswer : Question → Text → Ending → Type 0
-IsAnswer (Types model format) out ending = (bytes : Text) × IsFormat format bytes
-    × HasTypeLines model bytes out × (ending ≡ endings.Done)
-IsAnswer (Arguments model format) out ending = (bytes : Text) × IsFormat format bytes
-    × HasArgumentLines model bytes out × (ending ≡ endings.Done)
-IsAnswer (Canon model format) out ending = (bytes : Text) × IsFormat format bytes
-    × HasCanonicalLine format.notation model bytes out × (ending ≡ endings.Done)
-IsAnswer (CanonWhole model format) out ending = (bytes : Text) × IsFormat format bytes
-    × HasWholeCanonicalLine format.notation model bytes out × (ending ≡ endings.Done)
-IsAnswer (Show model format) out ending = (bytes : Text) × IsFormat format bytes
-    × HasShownLines model bytes out × (ending ≡ endings.Done)
-IsAnswer (Format model format words) out ending = (bytes : Text) × IsFormat format bytes
-    × IsPrinted model bytes (map (λ s. s.now) words.items) out × (ending ≡ endings.Done)
-IsAnswer (Fits models first second) out ending =
-    (one other : Text) × IsFormat first one × IsFormat second other
-    × IsPairAnswerIn pairs.Fits models one other out ending
-IsAnswer (Same models first second) out ending =
-    (one other : Text) × IsFormat first one × IsFormat second other
-    × IsComparisonIn models one other out ending
-IsAnswer (SameWhole models first second) out ending =
-    (one other : Text) × IsFormat first one × IsFormat second other
-    × IsPairAnswerIn pairs.Same models one other out ending
+IsAnswer (One question model format) out ending = (bytes : Text) × IsFormat format bytes
+    × HasOneAnswer question format.notation model bytes out × (ending ≡ endings.Done)
+IsAnswer (Two question models first second) out ending = (first_bytes second_bytes : Text)
+    × IsFormat first first_bytes × IsFormat second second_bytes
+    × IsPairAnswerIn question models first_bytes second_bytes out ending
 
--- why the bytes of a format have no answer: they are refused, or memory wants
-abbrev pub IsFormatFault : Text → Fault → Type 0
-IsFormatFault format (Refused None refusal) = IsRefusedAt format refusal.kind refusal.at
-IsFormatFault format Memory = ⊤
-IsFormatFault format _ = ⊥
+-- why the bytes of a format have no answer: they are refused, or memory was
+abbrev pub IsFormatFault : Language → Model → Text → Fault → Type 0
+IsFormatFault language model format (Refused None refusal) = RefusesInProfile language format refusal
+IsFormatFault language model format (RefusedWhole None refusal) =
+    RefusesText language model format refusal
+IsFormatFault language model format Memory = ⊤
+IsFormatFault language model format _ = ⊥
 
--- why two have none: the refusal of the first, else of the second
-abbrev pub IsPairFault : Text → Text → Fault → Type 0
-IsPairFault first second (Refused (Some sides.First) refusal) =
-    IsRefusedAt first refusal.kind refusal.at
-IsPairFault first second (Refused (Some sides.Second) refusal) =
-    IsAccepted first × IsRefusedAt second refusal.kind refusal.at
-IsPairFault first second Memory = ⊤
-IsPairFault first second _ = ⊥
-
--- why the bytes of a format of the whole language have no answer
-abbrev pub IsWholeFault : Language → Model → Text → Fault → Type 0
-IsWholeFault language model format (RefusedWhole None refusal) =
-    RefusesText language model format refusal.kind refusal.at
-IsWholeFault language model format Memory = ⊤
-IsWholeFault language model format _ = ⊥
+-- the refusal of the first of two
+abbrev pub IsRefusalOfFirst : Language → Model → Text → Fault → Type 0
+IsRefusalOfFirst language model first (Refused (Some sides.First) refusal) =
+    RefusesInProfile language first refusal
+IsRefusalOfFirst language model first (RefusedWhole (Some sides.First) refusal) =
+    RefusesText language model first refusal
+IsRefusalOfFirst language model first _ = ⊥
 
 -- why two have none: the refusal of the first, otherwise of the second
-abbrev pub IsWholePairFault : Language → Model → Text → Text → Fault → Type 0
-IsWholePairFault language model first second (RefusedWhole (Some sides.First) refusal) =
-    RefusesText language model first refusal.kind refusal.at
-IsWholePairFault language model first second (RefusedWhole (Some sides.Second) refusal) =
-    AcceptsText language model first × RefusesText language model second refusal.kind refusal.at
-IsWholePairFault language model first second Memory = ⊤
-IsWholePairFault language model first second _ = ⊥
+abbrev pub IsPairFault : Language → Model → Text → Text → Fault → Type 0
+IsPairFault language model first second (Refused (Some sides.First) refusal) =
+    RefusesInProfile language first refusal
+IsPairFault language model first second (Refused (Some sides.Second) refusal) =
+    AcceptsText language model first × RefusesInProfile language second refusal
+IsPairFault language model first second (RefusedWhole (Some sides.First) refusal) =
+    RefusesText language model first refusal
+IsPairFault language model first second (RefusedWhole (Some sides.Second) refusal) =
+    AcceptsText language model first × RefusesText language model second refusal
+IsPairFault language model first second Memory = ⊤
+IsPairFault language model first second _ = ⊥
 
 -- a fault in the first of some data models that has one
 pub record IsFirstFault (models : List Model) (Accepts : Model → Type 0)
@@ -100,10 +98,10 @@ pub record IsFirstFault (models : List Model) (Accepts : Model → Type 0)
   pub fault_is : IsFault model fault
 
 -- why two texts have no answer in some data models
-abbrev pub IsWholePairFaultIn : Language → List Model → Text → Text → Fault → Type 0
-IsWholePairFaultIn language models first second = IsFirstFault models
+abbrev pub IsPairFaultIn : Language → List Model → Text → Text → Fault → Type 0
+IsPairFaultIn language models first second = IsFirstFault models
     (λ model. AcceptsText language model first × AcceptsText language model second)
-    (λ model. IsWholePairFault language model first second)
+    (λ model. IsPairFault language model first second)
 
 -- Why a format that is given has none, by why its bytes have none: a refusal is reported at its place in
 -- the text.
@@ -123,47 +121,45 @@ IsGivenFault IsFault given (WrongType index) =
     HoldsOf given (λ bytes. IsFault bytes (WrongType index))
 IsGivenFault IsFault given Memory = ⊤
 
--- Why two that are given have none: what is wrong with the first, else with the second, where the
+-- Why two that are given have none: what is wrong with the first, otherwise with the second, if the
 -- first is accepted.
-abbrev pub IsGivenPairFault : (Text → Fault → Type 0) → (Text → Type 0) → GivenFormat → GivenFormat
-    → Fault → Type 0
-IsGivenPairFault IsFault Accepted first second (Refused (Some sides.First) refusal) =
-    IsGivenFault IsFault first (Refused None refusal)
-IsGivenPairFault IsFault Accepted first second (Refused (Some sides.Second) refusal) =
-    HoldsOf first Accepted × IsGivenFault IsFault second (Refused None refusal)
-IsGivenPairFault IsFault Accepted first second (RefusedWhole (Some sides.First) refusal) =
-    IsGivenFault IsFault first (RefusedWhole None refusal)
-IsGivenPairFault IsFault Accepted first second (RefusedWhole (Some sides.Second) refusal) =
-    HoldsOf first Accepted × IsGivenFault IsFault second (RefusedWhole None refusal)
-IsGivenPairFault IsFault Accepted first second (BadLiteral (Some sides.First) refusal) =
+abbrev pub IsGivenPairFault : Language → Model → GivenFormat → GivenFormat → Fault → Type 0
+IsGivenPairFault language model first second (Refused (Some sides.First) refusal) =
+    IsGivenFault (IsFormatFault language model) first (Refused None refusal)
+IsGivenPairFault language model first second (Refused (Some sides.Second) refusal) =
+    HoldsOf first (AcceptsText language model)
+    × IsGivenFault (IsFormatFault language model) second (Refused None refusal)
+IsGivenPairFault language model first second (RefusedWhole (Some sides.First) refusal) =
+    IsGivenFault (IsFormatFault language model) first (RefusedWhole None refusal)
+IsGivenPairFault language model first second (RefusedWhole (Some sides.Second) refusal) =
+    HoldsOf first (AcceptsText language model)
+    × IsGivenFault (IsFormatFault language model) second (RefusedWhole None refusal)
+IsGivenPairFault language model first second (BadLiteral (Some sides.First) refusal) =
     IsNoFormat first refusal
-IsGivenPairFault IsFault Accepted first second (BadLiteral (Some sides.Second) refusal) =
-    HoldsOf first Accepted × IsNoFormat second refusal
-IsGivenPairFault IsFault Accepted first second Memory = ⊤
-IsGivenPairFault IsFault Accepted first second _ = ⊥
+IsGivenPairFault language model first second (BadLiteral (Some sides.Second) refusal) =
+    HoldsOf first (AcceptsText language model) × IsNoFormat second refusal
+IsGivenPairFault language model first second Memory = ⊤
+IsGivenPairFault language model first second _ = ⊥
 
--- why two of the whole language have none in some data models
-abbrev pub IsGivenWholePairFault : Language → List Model → GivenFormat → GivenFormat → Fault → Type 0
-IsGivenWholePairFault language models first second = IsFirstFault models
+-- why two that are given have none in some data models
+abbrev pub IsGivenPairFaultIn : Language → List Model → GivenFormat → GivenFormat → Fault → Type 0
+IsGivenPairFaultIn language models first second = IsFirstFault models
     (λ model. HoldsOf first (AcceptsText language model) × HoldsOf second (AcceptsText language model))
-    (λ model. IsGivenPairFault (IsWholeFault language model) (AcceptsText language model) first second)
+    (λ model. IsGivenPairFault language model first second)
+
+-- why the bytes of a format have no answer to what is asked about them
+abbrev pub IsOneFault : OneQuestion → Model → Text → Fault → Type 0
+IsOneFault (Any question) model bytes fault =
+    IsFormatFault (language_of_format question) model bytes fault
+IsOneFault (Printed words) model bytes fault =
+    IsArgumentFault model bytes (map (λ s. s.now) words.items) fault
 
 -- why a question has none
 abbrev pub IsQuestionFault : Question → Fault → Type 0
-IsQuestionFault (Types model format) fault = IsGivenFault IsFormatFault format fault
-IsQuestionFault (Arguments model format) fault = IsGivenFault (IsWholeFault Numbered model) format fault
-IsQuestionFault (Canon model format) fault = IsGivenFault IsFormatFault format fault
-IsQuestionFault (CanonWhole model format) fault =
-    IsGivenFault (IsWholeFault Unnumbered model) format fault
-IsQuestionFault (Show model format) fault = IsGivenFault IsFormatFault format fault
-IsQuestionFault (Format model format words) fault =
-    IsGivenFault (λ bytes. IsArgumentFault model bytes (map (λ s. s.now) words.items)) format fault
-IsQuestionFault (Fits models first second) fault =
-    IsGivenWholePairFault (language_of pairs.Fits) (asked_models models) first second fault
-IsQuestionFault (Same models first second) fault =
-    IsGivenPairFault IsFormatFault IsAccepted first second fault
-IsQuestionFault (SameWhole models first second) fault =
-    IsGivenWholePairFault (language_of pairs.Same) (asked_models models) first second fault
+IsQuestionFault (One question model format) fault =
+    IsGivenFault (IsOneFault question model) format fault
+IsQuestionFault (Two question models first second) fault =
+    IsGivenPairFaultIn (language_of question) (asked_models models) first second fault
 
 -- the side that is refused
 abbrev pub side_of : Fault → Option Side
@@ -192,7 +188,7 @@ IsFaultInText given (WrongCount wanted had) reported = reported ≡ WrongCount w
 IsFaultInText given (WrongType index) reported = reported ≡ WrongType index
 IsFaultInText given Memory reported = reported ≡ Memory
 
--- the same of two formats, by the side that is refused
+-- a refusal of the bytes of two formats is reported by the side that is refused
 abbrev pub IsFaultInTexts : GivenFormat → GivenFormat → Option Side → Fault → Fault → Type 0
 IsFaultInTexts first second (Some sides.Second) fault reported = IsFaultInText second fault reported
 IsFaultInTexts first second (Some sides.First) fault reported = IsFaultInText first fault reported

@@ -10,7 +10,7 @@ use Rattle.fmtcanon.specs.Records.{AreReplies, IsRecords, IsReply, RepliesAll, R
 use Rattle.fmtcanon.specs.declared.outcome.Outcome.{Outcome}
 use Rattle.fmtcanon.specs.declared.outcome.Fault.TheVariants as faults
 use Rattle.fmtcanon.specs.declared.outcome.Outcome.TheVariants as outcomes
-use Rattle.fmtcanon.specs.declared.task.RecordQuestion.{RecordQuestion}
+use Rattle.fmtcanon.specs.declared.questions.RecordQuestion.{RecordQuestion}
 use Rattle.fmtcanon.specs.declared.records.Coming.{Coming}
 use Rattle.fmtcanon.specs.declared.records.Conversation.{Conversation}
 use Rattle.fmtcanon.specs.declared.records.Replies.{Replies}
@@ -50,30 +50,30 @@ first_of false text = []
 first_of true text = text ∷ []
 
 -- This has come of a question: the first format, where two are wanted, and the rest of a record.
-pub record HasCome (c : Coming) (kind : RecordQuestion) (first : List Text) (rest : Text)
+pub record HasCome (c : Coming) (asked : RecordQuestion) (first : List Text) (rest : Text)
     : Type 0 where
-  pub kind_is : c.kind ≡ kind
-  pub few : length first < formats_wanted kind
+  pub asked_is : c.asked ≡ asked
+  pub few : length first < formats_wanted asked
   pub first_is : first ≡ first_of c.has_first c.first.items
   pub part_is : rest ≡ c.part.items
 
-module _ (kind : RecordQuestion) {W : Type 0} (contents : W → Known) where
+module _ (asked : RecordQuestion) {W : Type 0} (contents : W → Known) where
   -- Replies were made to these whole records, and a rest has come after them.
   pub record HasRepliedTo (c : Conversation) (start now : Counted W) (whole : List Text) (rest : Text)
       : Type 0 where
     pub first : List Text
     pub replies : List Reply
-    pub are : AreReplies kind whole replies first
-    pub come : HasCome c.coming kind first rest
+    pub are : AreReplies asked whole replies first
+    pub come : HasCome c.coming asked first rest
     pub said : HasSaid contents c.replies start now replies
 
   -- Replies were made to the first of some records, and then memory was refused, or a write failed.
   abbrev pub HasStopped : Conversation → Counted W → Counted W → List Text → ConversationFault → Type 0
   HasStopped c start now records Memory =
-      (replies : List Reply) × (others : List Text) × AreReplies kind records replies others
+      (replies : List Reply) × (others : List Text) × AreReplies asked records replies others
       × HasSaid contents c.replies start now replies
   HasStopped c start now records (Write count) =
-      (replies : List Reply) × (others : List Text) × AreReplies kind records replies others
+      (replies : List Reply) × (others : List Text) × AreReplies asked records replies others
       × HasSaidFirst contents start now replies count
 
   -- the same of what was taken
@@ -86,7 +86,7 @@ module _ (kind : RecordQuestion) {W : Type 0} (contents : W → Known) where
       (whole : List Text) × (rest : Text) × IsRecords taken whole rest
       × HasStopped c start now (whole ++ last_record rest) stop
 
-module _ (kind : RecordQuestion) {R W : Type 0} (remaining : R → Known) (contents : W → Known) where
+module _ (asked : RecordQuestion) {R W : Type 0} (remaining : R → Known) (contents : W → Known) where
   -- The conversation has taken all that the reader has handed out since `begin`, and made the
   -- replies to the records that are whole in it. No read failed.
   pub record HasAnswered (c : Conversation) (begin left : Counted R) (start now : Counted W)
@@ -94,17 +94,17 @@ module _ (kind : RecordQuestion) {R W : Type 0} (remaining : R → Known) (conte
     pub taken : Text
     pub took : Consumes (remaining (device_of begin)) (remaining (device_of left)) taken
     pub well : failures_of left ≡ failures_of begin
-    pub replied : HasRepliedToText kind contents c start now taken
+    pub replied : HasRepliedToText asked contents c start now taken
 
 -- whether the reply to these formats was added: all was, they are too few, or memory was refused
 abbrev pub AddsReply : RecordQuestion → List Text → Text → List Reply → Replies → Replies
     → Result Bool AllocError → Type 0
-AddsReply kind formats sent replies old new (Ok true) =
-    (reply : Reply) × IsReply kind reply × (reply.formats ≡ formats)
+AddsReply asked formats sent replies old new (Ok true) =
+    (reply : Reply) × IsReply asked reply × (reply.formats ≡ formats)
     × HasReplies new sent (replies ++ reply ∷ [])
-AddsReply kind formats sent replies old new (Ok false) =
-    (length formats < formats_wanted kind) × (new ≡ old)
-AddsReply kind formats sent replies old new (Err e) = HasReplies new sent replies
+AddsReply asked formats sent replies old new (Ok false) =
+    (length formats < formats_wanted asked) × (new ≡ old)
+AddsReply asked formats sent replies old new (Err e) = HasReplies new sent replies
 
 module _ {W : Type 0} (contents : W → Known) where
   -- a write of replies that wait, or of none
@@ -115,21 +115,21 @@ module _ {W : Type 0} (contents : W → Known) where
   WritesReplies r start now replies (Err (Write count)) =
       HasSaidFirst contents start now replies count
 
-module _ (kind : RecordQuestion) {W : Type 0} (contents : W → Known) (old new : Counted W) where
+module _ (asked : RecordQuestion) {W : Type 0} (contents : W → Known) (old new : Counted W) where
   -- what is written where it ends early, of replies to the first of these records
   abbrev pub RecordsEndEarly : List Text → Outcome → Type 0
   RecordsEndEarly records (outcomes.Failed faults.Memory) =
       (others : List Text) × (greatest : ℕ)
-      × RepliesAll kind contents old new records others greatest
+      × RepliesAll asked contents old new records others greatest
   RecordsEndEarly records (outcomes.Write count) =
-      RepliesFirst kind contents old new records count
+      RepliesFirst asked contents old new records count
   RecordsEndEarly records outcome = ⊥
 
   -- what is written at the end, of these records
   abbrev pub RecordsFinish : List Text → Outcome → Type 0
   RecordsFinish records (outcomes.Answered greatest) =
-      RepliesAll kind contents old new records [] greatest
+      RepliesAll asked contents old new records [] greatest
   RecordsFinish records outcomes.NoSecond =
-      (first : Text) × (greatest : ℕ) × (1 < formats_wanted kind)
-      × RepliesAll kind contents old new records (first ∷ []) greatest
+      (first : Text) × (greatest : ℕ) × (1 < formats_wanted asked)
+      × RepliesAll asked contents old new records (first ∷ []) greatest
   RecordsFinish records outcome = RecordsEndEarly records outcome

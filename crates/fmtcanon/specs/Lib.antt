@@ -2,6 +2,8 @@ pub mod Lines
 pub mod Models
 pub mod Words
 pub mod Formats
+pub mod Options
+pub mod Languages
 pub mod Questions
 pub mod Tasks
 pub mod Faults
@@ -12,8 +14,8 @@ pub mod ArgumentWords
 pub mod UntypedArgs
 pub mod FormatArguments
 pub mod Comparisons
-pub mod Languages
 pub mod WholeAnswers
+pub mod PairAnswers
 pub mod Answers
 pub mod Outcomes
 pub mod Reports

@@ -14,8 +14,8 @@ use Rattle.fmtcanon.specs.declared.outcome.Fault.{Fault}
 use Rattle.fmtcanon.specs.declared.outcome.Fault.TheVariants as faults
 use Rattle.fmtcanon.specs.declared.outcome.Outcome.{Outcome}
 use Rattle.fmtcanon.specs.declared.outcome.Outcome.TheVariants.{Written, Failed, Answered, NoSecond, Read, Write}
-use Rattle.fmtcanon.specs.declared.task.Question.{Question}
-use Rattle.fmtcanon.specs.declared.task.RecordQuestion.{RecordQuestion}
+use Rattle.fmtcanon.specs.declared.questions.Question.{Question}
+use Rattle.fmtcanon.specs.declared.questions.RecordQuestion.{RecordQuestion}
 
 -- a text has no zero byte
 abbrev pub IsBare : Text → Type 0
@@ -51,9 +51,9 @@ pub record Reply : Type 0 where
   pub bytes : Text
 
 -- This is a reply to what is asked about its formats.
-pub record IsReply (kind : RecordQuestion) (reply : Reply) : Type 0 where
+pub record IsReply (asked : RecordQuestion) (reply : Reply) : Type 0 where
   pub question : Question
-  pub about : IsAbout question kind reply.formats
+  pub about : IsAbout question asked reply.formats
   pub said : Text
   pub outcome : Outcome
   pub says : RunWrites question said outcome
@@ -69,16 +69,16 @@ abbrev pub greatest_of : List Reply → ℕ
 greatest_of replies = fold (λ greatest r. max greatest r.status) 0 replies
 
 -- These are the replies to the first of some records, in order, and the others have none.
-pub record AreReplies (kind : RecordQuestion) (records : List Text) (replies : List Reply)
+pub record AreReplies (asked : RecordQuestion) (records : List Text) (replies : List Reply)
     (others : List Text) : Type 0 where
-  pub each : AllByRecursion (IsReply kind) replies
+  pub each : AllByRecursion (IsReply asked) replies
   pub to : records ≡ flat_map (λ r. r.formats) replies ++ others
 
-module _ (kind : RecordQuestion) {W : Type 0} (contents : W → Known) (old new : Counted W) where
+module _ (asked : RecordQuestion) {W : Type 0} (contents : W → Known) (old new : Counted W) where
   -- The replies to all records but the others went out, and were flushed.
   pub record RepliesAll (records others : List Text) (greatest : ℕ) : Type 0 where
     pub replies : List Reply
-    pub are : AreReplies kind records replies others
+    pub are : AreReplies asked records replies others
     pub greatest_is : greatest ≡ greatest_of replies
     pub writes : WritesAll contents old new (replies_text replies)
     pub flushed : is_flushed new ≡ true
@@ -88,12 +88,12 @@ module _ (kind : RecordQuestion) {W : Type 0} (contents : W → Known) (old new 
   pub record RepliesFirst (records : List Text) (count : ℕ) : Type 0 where
     pub replies : List Reply
     pub others : List Text
-    pub are : AreReplies kind records replies others
+    pub are : AreReplies asked records replies others
     pub written : ℕ
     pub writes : WritesFirst contents old new (replies_text replies) written
     pub count_is : count ≡ min written (2 ^ 128 - 1)
 
-module _ (kind : RecordQuestion) {R W : Type 0} (remaining : R → Known) (contents : W → Known)
+module _ (asked : RecordQuestion) {R W : Type 0} (remaining : R → Known) (contents : W → Known)
     (reader left : Counted R) (old new : Counted W) where
   -- the reader handed out these whole records, and a rest after them
   abbrev pub HandsOut : List Text → Text → Type 0
@@ -120,28 +120,28 @@ module _ (kind : RecordQuestion) {R W : Type 0} (remaining : R → Known) (conte
   abbrev pub AllReplied : Type 0
   AllReplied =
       (whole : List Text) × (rest : Text) × (first : List Text) × (greatest : ℕ)
-      × HandsOut whole rest × ReadWell × (length first < formats_wanted kind)
-      × RepliesAll kind contents old new whole first greatest
+      × HandsOut whole rest × ReadWell × (length first < formats_wanted asked)
+      × RepliesAll asked contents old new whole first greatest
 
   -- What a run over records leaves. At Read each whole record has its reply, but one that wants a
   -- second. At Memory the first of them have theirs: for which one it was wanted, this doesn't say.
   abbrev pub RecordsEnd : Outcome → Type 0
   RecordsEnd (Answered greatest) =
       (records : List Text) × HandsOutAll records × ReadWell
-      × RepliesAll kind contents old new records [] greatest
+      × RepliesAll asked contents old new records [] greatest
   RecordsEnd NoSecond =
       (records : List Text) × (first : Text) × (greatest : ℕ) × HandsOutAll records × ReadWell
-      × (1 < formats_wanted kind)
-      × RepliesAll kind contents old new records (first ∷ []) greatest
+      × (1 < formats_wanted asked)
+      × RepliesAll asked contents old new records (first ∷ []) greatest
   RecordsEnd Read =
       (whole : List Text) × (rest : Text) × (first : List Text) × (greatest : ℕ)
-      × HandsOut whole rest × ReadFails × (length first < formats_wanted kind)
-      × RepliesAll kind contents old new whole first greatest
+      × HandsOut whole rest × ReadFails × (length first < formats_wanted asked)
+      × RepliesAll asked contents old new whole first greatest
   RecordsEnd (Failed faults.Memory) =
       (whole : List Text) × (rest : Text) × (others : List Text) × (greatest : ℕ)
       × HandsOut whole rest × ReadWell
-      × RepliesAll kind contents old new (whole ++ last_record rest) others greatest
+      × RepliesAll asked contents old new (whole ++ last_record rest) others greatest
   RecordsEnd (Write count) =
       (whole : List Text) × (rest : Text) × HandsOut whole rest × ReadWell
-      × RepliesFirst kind contents old new (whole ++ last_record rest) count
+      × RepliesFirst asked contents old new (whole ++ last_record rest) count
   RecordsEnd _ = ⊥

@@ -14,7 +14,7 @@ use Rattle.fmtcanon.specs.declared.outcome.Outcome.{Outcome}
 use Rattle.fmtcanon.specs.declared.outcome.Outcome.TheVariants.{Written, Failed, Usage, Misplaced, Write}
 use Rattle.fmtcanon.specs.declared.task.NoTask.{NoTask}
 use Rattle.fmtcanon.specs.declared.task.NoTask.TheVariants as reasons
-use Rattle.fmtcanon.specs.declared.task.Question.{Question}
+use Rattle.fmtcanon.specs.declared.questions.Question.{Question}
 use Rattle.fmtcanon.specs.declared.task.Task.{Task}
 use Rattle.fmtcanon.specs.declared.task.Task.TheVariants.{Answer, Records, Stream}
 
@@ -67,7 +67,7 @@ module _ {R W : Type 0} (remaining : R → Known) (contents : W → Known)
   -- at any time, and for a question never.
   abbrev pub MayRead : Task → Type 0
   MayRead (Answer question) = ⊥
-  MayRead (Records kind) = AllReplied kind remaining contents reader left old new
+  MayRead (Records asked) = AllReplied asked remaining contents reader left old new
   MayRead (Stream model) = ⊤
 
   -- What the run of a task leaves. A question leaves the reader as it was. Out of memory, it writes
@@ -75,8 +75,8 @@ module _ {R W : Type 0} (remaining : R → Known) (contents : W → Known)
   abbrev pub TaskEnds : Task → Outcome → Type 0
   TaskEnds (Answer question) outcome =
       AnswerEnds contents old new question outcome × (left ≡ reader)
-  TaskEnds (Records kind) outcome =
-      RecordsEnd kind remaining contents reader left old new outcome
+  TaskEnds (Records asked) outcome =
+      RecordsEnd asked remaining contents reader left old new outcome
   TaskEnds (Stream model) outcome =
       CopyEnds model remaining contents reader left old new outcome
 

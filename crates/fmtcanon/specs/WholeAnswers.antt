@@ -9,12 +9,8 @@ use Rattle.pf_whole.specs.declared.verdicts.WholeVerdict.{WholeVerdict}
 use Rattle.pf_whole.specs.declared.verdicts.WholeVerdict.TheVariants.{Same, Types, Directives, Args}
 use Rattle.fmtcanon.specs.declared.answer.Ending.{Ending}
 use Rattle.fmtcanon.specs.declared.answer.Ending.TheVariants as endings
-use Rattle.fmtcanon.specs.declared.whole.PairQuestion.{PairQuestion}
-use Rattle.fmtcanon.specs.declared.whole.PairQuestion.TheVariants as pairs
 use Rattle.fmtcanon.specs.declared.formats.Notation.{Notation}
-use Rattle.fmtcanon.specs.declared.models.Models.{Models}
-use Rattle.fmtcanon.specs.ArgumentLines.{IsFitAnswer}
-use Rattle.fmtcanon.specs.Comparisons.{IsAnswerIn, argument_line}
+use Rattle.fmtcanon.specs.Comparisons.{argument_line}
 use Rattle.fmtcanon.specs.Formats.{written_in}
 use Rattle.fmtcanon.specs.Lines.{line}
 
@@ -50,13 +46,3 @@ pub record IsAlikeAnswer (model : Model) (first second out : Text) (ending : End
   pub is : IsComparison model first second verdict
   pub lines : out ≡ whole_verdict_lines verdict
   pub ends : ending ≡ whole_ending_of verdict
-
--- the answer to a question about two formats, in a data model
-abbrev pub IsPairAnswer : PairQuestion → Model → Text → Text → Text → Ending → Type 0
-IsPairAnswer pairs.Fits model first second = IsFitAnswer model first second
-IsPairAnswer pairs.Same model first second = IsAlikeAnswer model first second
-
--- the answer in the data models that are asked for
-abbrev pub IsPairAnswerIn : PairQuestion → Models → Text → Text → Text → Ending → Type 0
-IsPairAnswerIn question models first second =
-    IsAnswerIn (λ model. IsPairAnswer question model first second) models

@@ -10,8 +10,8 @@ use Rattle.clap.specs.declared.builder.action.ArgAction.TheVariants.{SetTrue}
 use Rattle.clap.specs.declared.builder.value_parser.ValueParser.{ValueParser}
 use Rattle.clap.specs.declared.builder.value_parser.ValueParser.TheVariants.{Names}
 use Rattle.pf_values.specs.meaning.Text.{Text}
-use Rattle.fmtcanon.specs.declared.command.Arguments.{Arguments}
-use Rattle.fmtcanon.specs.declared.command.Arguments.TheVariants.{Nothing, Records, WholeRecords, Pairs, WholePairs, Format}
+use Rattle.fmtcanon.specs.declared.command.Shape.{Shape}
+use Rattle.fmtcanon.specs.declared.command.Shape.TheVariants.{Nothing, Records, WholeRecords, Pairs, WholePairs, Format}
 use Rattle.fmtcanon.specs.declared.command.Row.{Row}
 use Rattle.fmtcanon.specs.Models.{model_names, model_names_or_more}
 
@@ -43,7 +43,7 @@ literal_option = record (new_rule (codes "literal")) {
 abbrev pub on_literals : Text → ValueParser → App
 on_literals name models = with_rule (on_nothing name models) literal_option
 
--- the same with the argument F
+-- and with the argument F
 abbrev pub on_format : Text → ValueParser → App
 on_format name models = with_rule (on_literals name models) (wanted (codes "F"))
 
@@ -60,7 +60,7 @@ abbrev pub on_records : Text → ValueParser → App
 on_records name models =
     with_rule (with_rule (on_literals name models) null_option) (new_rule (codes "F"))
 
--- the same with the argument G, which may be left out, too
+-- and with the argument G, which may be left out, too
 abbrev pub on_pairs : Text → ValueParser → App
 on_pairs name models = with_rule (on_records name models) (new_rule (codes "G"))
 
@@ -78,13 +78,13 @@ any_arguments = record (new_rule (codes "ARG")) {
 }
 
 -- a subcommand that takes these arguments
-abbrev pub on_arguments : Arguments → Text → ValueParser → App
-on_arguments Nothing name models = on_nothing name models
-on_arguments Records name models = on_records name models
-on_arguments WholeRecords name models = with_rule (on_records name models) whole_option
-on_arguments Pairs name models = on_pairs name models
-on_arguments WholePairs name models = with_rule (on_pairs name models) whole_option
-on_arguments Format name models = with_rule (on_format name models) any_arguments
+abbrev pub on_shape : Shape → Text → ValueParser → App
+on_shape Nothing name models = on_nothing name models
+on_shape Records name models = on_records name models
+on_shape WholeRecords name models = with_rule (on_records name models) whole_option
+on_shape Pairs name models = on_pairs name models
+on_shape WholePairs name models = with_rule (on_pairs name models) whole_option
+on_shape Format name models = with_rule (on_format name models) any_arguments
 
 -- The words come without the program's name, a subcommand is wanted, and `--version` is answered
 -- beside `--help`.
@@ -99,12 +99,12 @@ top_app = on_top (λ s. record s {
 -- a command: its name, which arguments it takes, and how clap tests the names of data models
 pub record CommandRow : Type 0 where
   pub name : Text
-  pub arguments : Arguments
+  pub shape : Shape
   pub models : ValueParser
 
 -- the subcommand of a row
 abbrev pub row_app : CommandRow → App
-row_app row = on_arguments row.arguments row.name row.models
+row_app row = on_shape row.shape row.name row.models
 
 -- the command with one more
 abbrev pub with_command : App → CommandRow → App
@@ -113,13 +113,13 @@ with_command app row = with_subcommand app (row_app row).top
 -- the commands, by how clap tests the name of one data model, and that of one or more
 abbrev pub command_rows : ValueParser → ValueParser → List CommandRow
 command_rows one more =
-    record { name = codes "types"; arguments = WholeRecords; models = one }
-    ∷ record { name = codes "canon"; arguments = WholeRecords; models = one }
-    ∷ record { name = codes "show"; arguments = Records; models = one }
-    ∷ record { name = codes "format"; arguments = Format; models = one }
-    ∷ record { name = codes "same"; arguments = WholePairs; models = more }
-    ∷ record { name = codes "fits"; arguments = Pairs; models = more }
-    ∷ record { name = codes "stream"; arguments = Nothing; models = one }
+    record { name = codes "types"; shape = WholeRecords; models = one }
+    ∷ record { name = codes "canon"; shape = WholeRecords; models = one }
+    ∷ record { name = codes "show"; shape = Records; models = one }
+    ∷ record { name = codes "format"; shape = Format; models = one }
+    ∷ record { name = codes "same"; shape = WholePairs; models = more }
+    ∷ record { name = codes "fits"; shape = Pairs; models = more }
+    ∷ record { name = codes "stream"; shape = Nothing; models = one }
     ∷ []
 
 -- the command with all of them
@@ -128,7 +128,7 @@ the_command one more = fold with_command top_app (command_rows one more)
 
 -- the row that the code has of a command
 abbrev pub row_of : Row → CommandRow
-row_of r = record { name = r.name.now; arguments = r.arguments; models = Names r.models }
+row_of r = record { name = r.name.now; shape = r.shape; models = Names r.models }
 
 abbrev pub with_row : App → Row → App
 with_row app r = with_command app (row_of r)

@@ -1,33 +1,30 @@
 //! The answer to a question.
 ghost use Rattle.std.specs.Prelude.{◌≡◌, ◌≤◌, Err, IfErr, MatchResult, Ok, IfOk, MatchOption, Some, map};
-ghost use Rattle.fmtcanon.specs.Answers.{IsAnswer, IsQuestionFault, HasCanonicalLine, IsFormatFault, IsGivenFault, IsGivenPairFault, IsGivenWholePairFault, IsWholeFault, IsFaultInTexts, IsFaultInText, side_of};
+ghost use Rattle.fmtcanon.specs.Answers.{IsAnswer, IsQuestionFault, HasAnswer, HasCanonicalLine, HasOneAnswer, IsFormatFault, IsGivenFault, IsGivenPairFault, IsGivenPairFaultIn, IsFaultInTexts, IsFaultInText, IsOneFault, IsRefusalOfFirst, side_of};
 ghost use Rattle.fmtcanon.specs.declared.answer.Ending.TheVariants.{Done};
+ghost use Rattle.fmtcanon.specs.declared.outcome.Fault.TheVariants.{RefusedWhole};
 ghost use Rattle.pf_canon.specs.declared.faults.Side.TheVariants as sides;
-ghost use Rattle.pf_values.specs.meaning.Items.{IsAccepted};
 ghost use Rattle.pf_values.specs.meaning.Text.{Text};
-ghost use Rattle.fmtcanon.specs.ArgumentLines.{HasArgumentLines};
-ghost use Rattle.fmtcanon.specs.Comparisons.{IsComparisonIn};
 ghost use Rattle.fmtcanon.specs.Faults.{of_literal};
 ghost use Rattle.fmtcanon.specs.FormatArguments.{IsArgumentFault, IsPrinted};
 ghost use Rattle.fmtcanon.specs.Formats.{IsFormat};
-ghost use Rattle.fmtcanon.specs.Languages.{AcceptsText, Numbered, RefusesText, Unnumbered, language_of};
+ghost use Rattle.fmtcanon.specs.Languages.{AcceptsText, Profile};
 ghost use Rattle.fmtcanon.specs.Lines.{line};
 ghost use Rattle.fmtcanon.specs.Models.{asked_models};
 ghost use Rattle.fmtcanon.specs.Outcomes.{status_of_ending};
-ghost use Rattle.fmtcanon.specs.Shows.{HasShownLines};
-ghost use Rattle.fmtcanon.specs.TypeLines.{HasTypeLines};
-ghost use Rattle.fmtcanon.specs.WholeAnswers.{HasWholeCanonicalLine, IsPairAnswerIn};
+ghost use Rattle.fmtcanon.specs.PairAnswers.{IsPairAnswerIn};
+ghost use Rattle.fmtcanon.specs.Questions.{language_of, language_of_format};
 ghost use Rattle.fmtcanon.specs.declared.formats.GivenFormat.{GivenFormat};
 
 use crate::arguments::arguments_for;
-use crate::comparison::comparison_answer;
 use crate::formats::{GivenFormat, Notation};
 use crate::models::Models;
 use crate::outcome::Fault;
+use crate::pairs::pair_answer;
+use crate::questions::{FormatQuestion, OneQuestion, PairQuestion, Question};
 use crate::show_lines::show_lines;
-use crate::task::Question;
-use crate::type_lines::{argument_lines, type_lines};
-use crate::whole::{PairQuestion, pair_answer, whole_canonical_line};
+use crate::type_lines::{type_lines, whole_type_lines};
+use crate::whole::whole_canonical_line;
 use pf_canon::{Side, canonical_with_room};
 use pf_literals::LiteralFault;
 use pf_render::{RenderVecFault, render_vec};
@@ -76,33 +73,12 @@ pub fn answer_to(alloc: Global, question: &Question<'_>) -> Result<Answer, Fault
         (IsQuestionFault question.now) }
 {
     match question {
-        Question::Types(model, format) => done(types_of_given(alloc, *model, format)),
-        Question::Arguments(model, format) => done(arguments_of_given(alloc, *model, format)),
-        Question::Canon(model, format) => done(canonical_of_given(alloc, *model, format)),
-        Question::CanonWhole(model, format) => {
-            done(whole_canonical_of_given(alloc, *model, format))
+        Question::One(asked, model, format) => {
+            done(answer_about_one(alloc, asked, *model, format))
         }
-        Question::Show(model, format) => done(parts_of_given(alloc, *model, format)),
-        Question::Format {
-            model,
-            format,
-            words,
-        } => done(printed_by_given(alloc, *model, format, words)),
-        Question::Fits {
-            models,
-            first,
-            second,
-        } => pair_answer_of_given(alloc, PairQuestion::Fits, *models, first, second),
-        Question::Same {
-            models,
-            first,
-            second,
-        } => comparison_of_given(alloc, *models, first, second),
-        Question::SameWhole {
-            models,
-            first,
-            second,
-        } => pair_answer_of_given(alloc, PairQuestion::Same, *models, first, second),
+        Question::Two(asked, models, first, second) => {
+            answer_about_two(alloc, *asked, *models, first, second)
+        }
     }
 }
 
@@ -117,160 +93,92 @@ fn done(bytes: Result<Vec<u8>, Fault>) -> Result<Answer, Fault>
     })
 }
 
-/// The lines of `types` for a format that is given.
-pub fn types_of_given(
+/// Answers a question about one format that is given.
+pub fn answer_about_one(
     alloc: Global,
+    asked: &OneQuestion<'_>,
     model: Model,
     format: &GivenFormat<'_>,
 ) -> Result<Vec<u8>, Fault>
     ensures { MatchResult result (λ out. (bytes : Text) × IsFormat format.now bytes
-        × HasTypeLines model bytes out.items)
-        (IsGivenFault IsFormatFault format.now) }
+        × HasOneAnswer asked.now format.now.notation model bytes out.items)
+        (IsGivenFault (IsOneFault asked.now model) format.now) }
 {
     let bytes = format.bytes(alloc)?;
-    match type_lines(alloc, model, bytes.as_slice()) {
+    match answer_about_bytes(alloc, asked, format.notation, model, bytes.as_slice()) {
         Ok(out) => Ok(out),
         Err(fault) => Err(placed_in(format, fault)),
     }
 }
 
-/// Those of `types --whole`.
-pub fn arguments_of_given(
+// Answers a question about the bytes of a format.
+fn answer_about_bytes(
     alloc: Global,
+    asked: &OneQuestion<'_>,
+    notation: Notation,
     model: Model,
-    format: &GivenFormat<'_>,
+    bytes: &[u8],
 ) -> Result<Vec<u8>, Fault>
-    ensures { MatchResult result (λ out. (bytes : Text) × IsFormat format.now bytes
-        × HasArgumentLines model bytes out.items)
-        (IsGivenFault (IsWholeFault Numbered model) format.now) }
+    ensures { MatchResult result (λ out. HasOneAnswer asked.now notation model bytes.now out.items)
+        (IsOneFault asked.now model bytes.now) }
 {
-    let bytes = format.bytes(alloc)?;
-    match argument_lines(alloc, model, bytes.as_slice()) {
-        Ok(out) => Ok(out),
-        Err(fault) => Err(placed_in(format, fault)),
+    match asked {
+        OneQuestion::Any(asked) => lines_about(alloc, *asked, notation, model, bytes),
+        OneQuestion::Printed(words) => print_format(alloc, model, bytes, words),
     }
 }
 
-/// The line of `canon`.
-pub fn canonical_of_given(
+// Answers what may be asked about any format.
+fn lines_about(
     alloc: Global,
+    asked: FormatQuestion,
+    notation: Notation,
     model: Model,
-    format: &GivenFormat<'_>,
+    bytes: &[u8],
 ) -> Result<Vec<u8>, Fault>
-    ensures { MatchResult result (λ out. (bytes : Text) × IsFormat format.now bytes
-        × HasCanonicalLine format.now.notation model bytes out.items)
-        (IsGivenFault IsFormatFault format.now) }
+    ensures { MatchResult result (λ out. HasAnswer asked notation model bytes.now out.items)
+        (IsFormatFault (language_of_format asked) model bytes.now) }
 {
-    let bytes = format.bytes(alloc)?;
-    match canonical_line(alloc, format.notation, model, bytes.as_slice()) {
-        Ok(out) => Ok(out),
-        Err(fault) => Err(placed_in(format, fault)),
+    match asked {
+        FormatQuestion::Types => type_lines(alloc, model, bytes),
+        FormatQuestion::WholeTypes => whole_type_lines(alloc, model, bytes),
+        FormatQuestion::Canonical => canonical_line(alloc, notation, model, bytes),
+        FormatQuestion::WholeCanonical => whole_canonical_line(alloc, notation, model, bytes),
+        FormatQuestion::Parts => show_lines(alloc, model, bytes),
     }
 }
 
-/// Returns the line of `canon --whole`.
-pub fn whole_canonical_of_given(
+/// Answers a question about two formats that are given.
+pub fn answer_about_two(
     alloc: Global,
-    model: Model,
-    format: &GivenFormat<'_>,
-) -> Result<Vec<u8>, Fault>
-    ensures { MatchResult result (λ out. (bytes : Text) × IsFormat format.now bytes
-        × HasWholeCanonicalLine format.now.notation model bytes out.items)
-        (IsGivenFault (IsWholeFault Unnumbered model) format.now) }
-{
-    let bytes = format.bytes(alloc)?;
-    match whole_canonical_line(alloc, format.notation, model, bytes.as_slice()) {
-        Ok(out) => Ok(out),
-        Err(fault) => Err(placed_in(format, fault)),
-    }
-}
-
-/// The lines of `show`.
-pub fn parts_of_given(
-    alloc: Global,
-    model: Model,
-    format: &GivenFormat<'_>,
-) -> Result<Vec<u8>, Fault>
-    ensures { MatchResult result (λ out. (bytes : Text) × IsFormat format.now bytes
-        × HasShownLines model bytes out.items)
-        (IsGivenFault IsFormatFault format.now) }
-{
-    let bytes = format.bytes(alloc)?;
-    match show_lines(alloc, model, bytes.as_slice()) {
-        Ok(out) => Ok(out),
-        Err(fault) => Err(placed_in(format, fault)),
-    }
-}
-
-/// What such a format prints for the arguments that words give.
-pub fn printed_by_given(
-    alloc: Global,
-    model: Model,
-    format: &GivenFormat<'_>,
-    words: &[&str],
-) -> Result<Vec<u8>, Fault>
-    ensures { MatchResult result (λ out. (bytes : Text) × IsFormat format.now bytes
-        × IsPrinted model bytes (map (λ s. s.now) words.now) out.items)
-        (IsGivenFault (λ bytes. IsArgumentFault model bytes (map (λ s. s.now) words.now)) format.now) }
-{
-    let bytes = format.bytes(alloc)?;
-    match print_format(alloc, model, bytes.as_slice(), words) {
-        Ok(out) => Ok(out),
-        Err(fault) => Err(placed_in(format, fault)),
-    }
-}
-
-/// Answers a question about two formats of the whole language that are given.
-pub fn pair_answer_of_given(
-    alloc: Global,
-    question: PairQuestion,
+    asked: PairQuestion,
     models: Models,
     first: &GivenFormat<'_>,
     second: &GivenFormat<'_>,
 ) -> Result<Answer, Fault>
-    ensures { MatchResult result (λ answer.
-        (one other : Text) × IsFormat first.now one × IsFormat second.now other
-        × IsPairAnswerIn question models one other answer.bytes.items answer.ending)
-        (IsGivenWholePairFault (language_of question) (asked_models models) first.now second.now) }
+    ensures { MatchResult result (λ answer. (first_bytes second_bytes : Text)
+        × IsFormat first.now first_bytes × IsFormat second.now second_bytes
+        × IsPairAnswerIn asked models first_bytes second_bytes answer.bytes.items answer.ending)
+        (IsGivenPairFaultIn (language_of asked) (asked_models models) first.now second.now) }
 {
-    let one = match first.bytes(alloc) {
+    let first_bytes = match first.bytes(alloc) {
         Ok(bytes) => bytes,
         Err(fault) => return Err(Fault::of_literal(Some(Side::First), fault)),
     };
-    let other = match second.bytes(alloc) {
+    let second_bytes = match second.bytes(alloc) {
         Ok(bytes) => bytes,
         Err(fault) => return Err(without_second(
-            refused_whole(question, models.first(), first, one.as_slice()),
+            refused(asked, models.first(), first, first_bytes.as_slice()),
             fault,
         )),
     };
-    match pair_answer(alloc, question, models, one.as_slice(), other.as_slice()) {
-        Ok(answer) => Ok(answer),
-        Err(fault) => Err(placed_in_pair(first, second, fault)),
-    }
-}
-
-/// Whether one of them may stand for the other.
-pub fn comparison_of_given(
-    alloc: Global,
-    models: Models,
-    first: &GivenFormat<'_>,
-    second: &GivenFormat<'_>,
-) -> Result<Answer, Fault>
-    ensures { MatchResult result (λ answer.
-        (one other : Text) × IsFormat first.now one × IsFormat second.now other
-        × IsComparisonIn models one other answer.bytes.items answer.ending)
-        (IsGivenPairFault IsFormatFault IsAccepted first.now second.now) }
-{
-    let one = match first.bytes(alloc) {
-        Ok(bytes) => bytes,
-        Err(fault) => return Err(Fault::of_literal(Some(Side::First), fault)),
-    };
-    let other = match second.bytes(alloc) {
-        Ok(bytes) => bytes,
-        Err(fault) => return Err(without_second(refused(first, one.as_slice()), fault)),
-    };
-    match comparison_answer(alloc, models, one.as_slice(), other.as_slice()) {
+    match pair_answer(
+        alloc,
+        asked,
+        models,
+        first_bytes.as_slice(),
+        second_bytes.as_slice(),
+    ) {
         Ok(answer) => Ok(answer),
         Err(fault) => Err(placed_in_pair(first, second, fault)),
     }
@@ -288,56 +196,53 @@ fn without_second(first_refused: Option<Fault>, fault: LiteralFault) -> Fault
 }
 
 // The refusal of the first of two formats, if it is refused.
-fn refused(first: &GivenFormat<'_>, bytes: &[u8]) -> Option<Fault>
-    ensures { IsFormat first.now bytes.now → MatchOption result (IsAccepted bytes.now)
-        (λ fault. (second : GivenFormat)
-        → IsGivenPairFault IsFormatFault IsAccepted first.now second fault) }
-{
-    match check(bytes) {
-        Ok(()) => None,
-        Err(refusal) => Some(placed_in(
-            first,
-            Fault::Refused {
-                side: Some(Side::First),
-                refusal,
-            },
-        )),
-    }
-}
-
-// The refusal of the first of two formats of the whole language, if it is refused.
-fn refused_whole(
-    question: PairQuestion,
+fn refused(
+    asked: PairQuestion,
     model: Model,
     first: &GivenFormat<'_>,
     bytes: &[u8],
 ) -> Option<Fault>
     ensures { IsFormat first.now bytes.now
-        → MatchOption result (AcceptsText (language_of question) model bytes.now)
+        → MatchOption result (AcceptsText (language_of asked) model bytes.now)
         (λ fault. (second : GivenFormat)
-        → IsGivenPairFault (IsWholeFault (language_of question) model)
-        (AcceptsText (language_of question) model) first.now second fault) }
+        → IsGivenPairFault (language_of asked) model first.now second fault) }
 {
-    match refusal_for(question, model, bytes) {
+    match refusal_of_first(asked, model, bytes) {
         None => None,
-        Some(refusal) => Some(placed_in(
-            first,
-            Fault::RefusedWhole {
-                side: Some(Side::First),
-                refusal,
-            },
-        )),
+        Some(fault) => Some(placed_in(first, fault)),
     }
 }
 
-// The refusal of a format of the whole language, about which something is asked.
-fn refusal_for(question: PairQuestion, model: Model, bytes: &[u8]) -> Option<SignatureRefusal>
-    ensures { MatchOption result (AcceptsText (language_of question) model bytes.now)
-        (λ refusal. RefusesText (language_of question) model bytes.now refusal.kind refusal.at) }
+// The refusal of the bytes of the first of two formats.
+fn refusal_of_first(asked: PairQuestion, model: Model, bytes: &[u8]) -> Option<Fault>
+    ensures { MatchOption result (AcceptsText (language_of asked) model bytes.now)
+        (IsRefusalOfFirst (language_of asked) model bytes.now) }
 {
-    match question {
-        PairQuestion::Fits => arguments(model, bytes, &mut []).err(),
-        PairQuestion::Same => check_unnumbered(model, bytes).err(),
+    match asked {
+        PairQuestion::Fits => match arguments(model, bytes, &mut []) {
+            Ok(_) => None,
+            Err(refusal) => Some(first_refused_whole(refusal)),
+        },
+        PairQuestion::Same => match check(bytes) {
+            Ok(()) => None,
+            Err(refusal) => Some(Fault::Refused {
+                side: Some(Side::First),
+                refusal,
+            }),
+        },
+        PairQuestion::WholeSame => match check_unnumbered(model, bytes) {
+            Ok(()) => None,
+            Err(refusal) => Some(first_refused_whole(refusal)),
+        },
+    }
+}
+
+fn first_refused_whole(refusal: SignatureRefusal) -> Fault
+    ensures { result ≡ RefusedWhole (Some sides.First) refusal }
+{
+    Fault::RefusedWhole {
+        side: Some(Side::First),
+        refusal,
     }
 }
 
@@ -416,7 +321,7 @@ fn canonical_line(
     format: &[u8],
 ) -> Result<Vec<u8>, Fault>
     ensures { MatchResult result (λ out. HasCanonicalLine notation model format.now out.items)
-        (IsFormatFault format.now) }
+        (IsFormatFault Profile model format.now) }
 {
     // With room for the newline, so that it needs no growth of its own.
     let canonical = canonical_with_room(alloc, model, format, 1)?;

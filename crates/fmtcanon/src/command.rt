@@ -1,22 +1,18 @@
-//! The definition of the command for `clap`.
-ghost use Rattle.std.specs.Prelude.{◌≡◌, IfOk, false};
+//! The commands for `clap`, each with its help.
+ghost use Rattle.std.specs.Prelude.{◌≡◌, IfOk};
 ghost use Rattle.std.specs.List.{fold};
-ghost use Rattle.clap.specs.Simple.{with_rule};
 ghost use Rattle.clap.specs.Words.{app_of};
-ghost use Rattle.clap.specs.declared.builder.command.Command.TheViews.{out-Command as fields_of};
 ghost use Rattle.clap.specs.declared.builder.value_parser.ValueParser.TheVariants.{Names};
-ghost use Rattle.fmtcanon.specs.Words.{IsCommand, any_arguments, on_format, on_literals, on_nothing, on_pairs, on_records, row_app, row_of, the_command, top_app, whole_option, with_row};
+ghost use Rattle.fmtcanon.specs.Words.{IsCommand, the_command, top_app, with_row};
 
-use crate::help::{
-    CANON_HELP, FITS_HELP, FORMAT_HELP, PROGRAM_HELP, SAME_HELP, SHOW_HELP, STREAM_HELP, TYPES_HELP,
-};
 use crate::models::{NAMES, NAMES_OR_MORE};
-use clap::{Arg, ArgAction, Command};
+use crate::subcommands::subcommand;
+use clap::Command;
 use std::alloc::{AllocError, Global};
 
 /// Which arguments a command takes. Each takes the option `--model`.
 #[derive(Clone, Copy)]
-pub enum Arguments {
+pub enum Shape {
     /// No others.
     Nothing,
     /// A format, or records.
@@ -34,11 +30,16 @@ pub enum Arguments {
 /// A command: its name, a sentence about it, the text below its help, and what it takes.
 #[derive(Clone, Copy)]
 pub struct Row<'a> {
-    name: &'a str,
-    about: &'a str,
-    below: &'a str,
-    arguments: Arguments,
-    models: &'a [&'a str],
+    /// Its name.
+    pub name: &'a str,
+    /// A sentence about it.
+    pub about: &'a str,
+    /// The text below its help.
+    pub below: &'a str,
+    /// What it takes.
+    pub shape: Shape,
+    /// The names of data models that `--model` accepts.
+    pub models: &'a [&'a str],
 }
 
 /// The command, as `clap` sees it.
@@ -62,49 +63,49 @@ fn definition_with<'a>(
             name: "types",
             about: "Prints the type of each argument of a format, one per line",
             below: TYPES_HELP,
-            arguments: Arguments::WholeRecords,
+            shape: Shape::WholeRecords,
             models: one,
         },
         Row {
             name: "canon",
             about: "Prints the canonical text, which all formats of the same meaning share",
             below: CANON_HELP,
-            arguments: Arguments::WholeRecords,
+            shape: Shape::WholeRecords,
             models: one,
         },
         Row {
             name: "show",
             about: "Prints the parts of a format, and what its directives are reduced to",
             below: SHOW_HELP,
-            arguments: Arguments::Records,
+            shape: Shape::Records,
             models: one,
         },
         Row {
             name: "format",
             about: "Prints what printf prints for a format and arguments",
             below: FORMAT_HELP,
-            arguments: Arguments::Format,
+            shape: Shape::Format,
             models: one,
         },
         Row {
             name: "same",
             about: "Says whether two formats are interchangeable, and if not, how they differ",
             below: SAME_HELP,
-            arguments: Arguments::WholePairs,
+            shape: Shape::WholePairs,
             models: more,
         },
         Row {
             name: "fits",
             about: "Says whether one format takes the arguments of another, as a translation must",
             below: FITS_HELP,
-            arguments: Arguments::Pairs,
+            shape: Shape::Pairs,
             models: more,
         },
         Row {
             name: "stream",
             about: "Prints the canonical text of standard input",
             below: STREAM_HELP,
-            arguments: Arguments::Nothing,
+            shape: Shape::Nothing,
             models: one,
         },
     ];
@@ -120,21 +121,6 @@ fn with_subcommands<'a>(alloc: Global, rows: &[Row<'a>]) -> Result<Command<'a>, 
         command = command.subcommand(subcommand(alloc, row)?)?;
     }
     Ok(command)
-}
-
-// The subcommand of a row.
-fn subcommand<'a>(alloc: Global, row: &Row<'a>) -> Result<Command<'a>, AllocError>
-    ensures { IfOk result (λ command. (app_of command ≡ row_app (row_of row.now))
-        × ((fields_of command).has_globals ≡ false)) }
-{
-    match row.arguments {
-        Arguments::Nothing => on_nothing(alloc, row),
-        Arguments::Records => on_records(alloc, row),
-        Arguments::WholeRecords => taking_whole(alloc, on_records(alloc, row)?),
-        Arguments::Pairs => on_pairs(alloc, row),
-        Arguments::WholePairs => taking_whole(alloc, on_pairs(alloc, row)?),
-        Arguments::Format => taking_arguments(alloc, on_format(alloc, row)?),
-    }
 }
 
 // The command without its subcommands.
@@ -153,91 +139,146 @@ fn top<'a>(alloc: Global) -> Result<Command<'a>, AllocError>
         .bin_name("fmtcanon")
 }
 
-// A subcommand with the option `--model`, which takes the names of the row.
-fn on_nothing<'a>(alloc: Global, row: &Row<'a>) -> Result<Command<'a>, AllocError>
-    ensures { IfOk result
-        (λ command. (app_of command ≡ on_nothing (row_of row.now).name (row_of row.now).models)
-        × ((fields_of command).has_globals ≡ false)) }
-{
-    let option = Arg::new(alloc, "model")
-        .long("model")
-        .value_name("MODEL")
-        .default_value("lp64")
-        .value_parser(row.models)
-        .help("The data model");
-    Command::new(alloc, row.name)
-        .about(row.about)
-        .after_help(row.below)
-        .arg(option)
-}
+// Below the help of the program.
+const PROGRAM_HELP: &str = "\
+Example:
+  fmtcanon same '%5c' '    %c'
 
-// A subcommand with the options `--model` and `--literal`.
-fn on_literals<'a>(alloc: Global, row: &Row<'a>) -> Result<Command<'a>, AllocError>
-    ensures { IfOk result
-        (λ command. (app_of command ≡ on_literals (row_of row.now).name (row_of row.now).models)
-        × ((fields_of command).has_globals ≡ false)) }
-{
-    let option = Arg::new(alloc, "literal")
-        .long("literal")
-        .action(ArgAction::SetTrue)
-        .help("Formats are string literals of C source, with their quotes");
-    on_nothing(alloc, row)?.arg(option)
-}
+If a format starts with `-`, put `--` before it: fmtcanon canon -- '-%i'
 
-// A subcommand with these options and a format.
-fn on_format<'a>(alloc: Global, row: &Row<'a>) -> Result<Command<'a>, AllocError>
-    ensures { IfOk result
-        (λ command. (app_of command ≡ on_format (row_of row.now).name (row_of row.now).models)
-        × ((fields_of command).has_globals ≡ false)) }
-{
-    let format = Arg::new(alloc, "F").required(true).help("A printf format");
-    on_literals(alloc, row)?.arg(format)
-}
+Exit status:
+  0  success; same: the formats are interchangeable; fits: the types agree
+  1  same: the types or the bytes differ; fits: the types differ
+  2  a format is rejected
+  3  usage error, invalid argument, or an unpaired record; also --help and --version
+  4  a read or write failed, or out of memory
 
-// A subcommand with a format or the option `--null`; `task` checks that exactly one is given.
-fn on_records<'a>(alloc: Global, row: &Row<'a>) -> Result<Command<'a>, AllocError>
-    ensures { IfOk result
-        (λ command. (app_of command ≡ on_records (row_of row.now).name (row_of row.now).models)
-        × ((fields_of command).has_globals ≡ false)) }
-{
-    let null = Arg::new(alloc, "null")
-        .long("null")
-        .short('z')
-        .action(ArgAction::SetTrue)
-        .help("Reads formats from standard input, each terminated by NUL");
-    let format = Arg::new(alloc, "F").help("A printf format");
-    on_literals(alloc, row)?.arg(null)?.arg(format)
-}
+The manual page fmtcanon(1) and docs/REFUSALS.md list the reasons for a rejection, and what to write
+instead.";
 
-// A subcommand with two formats, or with the option `--null`.
-fn on_pairs<'a>(alloc: Global, row: &Row<'a>) -> Result<Command<'a>, AllocError>
-    ensures { IfOk result
-        (λ command. (app_of command ≡ on_pairs (row_of row.now).name (row_of row.now).models)
-        × ((fields_of command).has_globals ≡ false)) }
-{
-    let format = Arg::new(alloc, "G").help("Another printf format");
-    on_records(alloc, row)?.arg(format)
-}
+// Below the help of `types`.
+const TYPES_HELP: &str = "\
+Example:
+  fmtcanon types '%s: %u files'
+  fmtcanon types --whole '%2$s of %1$.2f'
+  printf '%s\\0' %i %5c | fmtcanon types --null
 
-// Adds the option `--whole`.
-fn taking_whole<'a>(alloc: Global, command: Command<'a>) -> Result<Command<'a>, AllocError>
-    requires { (fields_of command).has_globals ≡ false }
-    ensures { IfOk result (λ c. (app_of c ≡ with_rule (app_of command.entry) whole_option)
-        × ((fields_of c).has_globals ≡ false)) }
-{
-    let option = Arg::new(alloc, "whole")
-        .long("whole")
-        .action(ArgAction::SetTrue)
-        .help("Accepts the whole language of printf");
-    command.arg(option)
-}
+If a format starts with `-`, put `--` before it: fmtcanon types -- '-%i'
 
-// Adds any number of arguments.
-fn taking_arguments<'a>(alloc: Global, command: Command<'a>) -> Result<Command<'a>, AllocError>
-    requires { (fields_of command).has_globals ≡ false }
-    ensures { IfOk result (λ c. (app_of c ≡ with_rule (app_of command.entry) any_arguments)
-        × ((fields_of c).has_globals ≡ false)) }
-{
-    let help = "An argument: `n:` and a decimal number, or `s:` and a string";
-    command.arg(Arg::new(alloc, "ARG").num_args(0..).help(help))
-}
+--whole accepts `*`, floating conversions, wide characters, %p, %n and numbered arguments, too.
+
+With --null, formats are read from standard input, each terminated by NUL. Each reply is a status
+digit, a space, the output or the error line, and NUL. The exit status is the highest of them.
+
+Exit status: 0 success, 2 rejected, 3 usage error, 4 a write failed or out of memory
+The manual page fmtcanon(1) and docs/REFUSALS.md list the reasons for a rejection, and what to write
+instead.";
+
+// Below the help of `canon`.
+const CANON_HELP: &str = "\
+Example:
+  fmtcanon canon 'Total: %i of %u%%'
+  fmtcanon canon --literal '\"Total:\\t%i\" \"\\n\"'
+  fmtcanon canon --whole '%i: %-08.6lf'
+  printf '%s\\0' %i %5c | fmtcanon canon --null
+
+If a format starts with `-`, put `--` before it: fmtcanon canon -- '-%i'
+
+--whole accepts `*`, floating conversions, wide characters, %p and %n, too, but no numbered arguments.
+
+With --null, formats are read from standard input, each terminated by NUL. Each reply is a status
+digit, a space, the output or the error line, and NUL. The exit status is the highest of them.
+
+Exit status: 0 success, 2 rejected, 3 usage error, 4 a write failed or out of memory
+The manual page fmtcanon(1) and docs/REFUSALS.md list the reasons for a rejection, and what to write
+instead.";
+
+// Below the help of `show`.
+const SHOW_HELP: &str = "\
+Example:
+  fmtcanon show 'x%20d%%'
+  printf '%s\\0' %i %5c | fmtcanon show --null
+
+If a format starts with `-`, put `--` before it: fmtcanon show -- '-%i'
+
+A line `directive F: TYPE: SPACES ZEROS CORE TRAIL` means: for every argument, F prints that many
+spaces, that many zeros, what CORE prints, and that many spaces.
+
+With --null, formats are read from standard input, each terminated by NUL. Each reply is a status
+digit, a space, the output or the error line, and NUL. The exit status is the highest of them.
+
+Exit status: 0 success, 2 rejected, 3 usage error, 4 a write failed or out of memory
+The manual page fmtcanon(1) and docs/REFUSALS.md list the reasons for a rejection, and what to write
+instead.";
+
+// Below the help of `format`.
+const FORMAT_HELP: &str = "\
+Example:
+  fmtcanon format '%-8s|%+05d' s:ab n:-42
+
+If a format starts with `-`, put `--` before it: fmtcanon format -- '-%i' n:5
+A negative number is n:-5, and needs no `--`.
+
+Exit status: 0 success, 2 rejected, 3 usage error or invalid argument, 4 a write failed or out of
+memory
+The manual page fmtcanon(1) and docs/REFUSALS.md list the reasons for a rejection, and what to write
+instead.";
+
+// Below the help of `same`.
+const SAME_HELP: &str = "\
+Example:
+  fmtcanon same '%05d' '%.5d'
+  fmtcanon same --model both '%zu' '%lu'
+  fmtcanon same --whole '%.6f%%%i' '%f%%%d'
+  printf '%s\\0' %i %d %5c %-5c | fmtcanon same --null
+
+If a format starts with `-`, put `--` before it: fmtcanon same -- '-%i' '-%d'
+
+If the bytes differ, it prints arguments that show it, one per line, as `format` takes them. Arguments
+count from 0.
+
+--whole accepts `*`, floating conversions, wide characters, %p and %n, too, but no numbered arguments.
+What these print depends on the C library. So `directives differ` says where only one of the formats
+has such a directive, and `any` is an argument of one of them.
+
+With --null, pairs of formats are read from standard input, each format terminated by NUL. Each reply
+is a status digit, a space, the output or the error line, and NUL. The exit status is the highest of
+them.
+
+Exit status: 0 same, 1 different, 2 one of them is rejected, 3 usage error or an unpaired record, 4 a
+read or write failed or out of memory
+The manual page fmtcanon(1) and docs/REFUSALS.md list the reasons for a rejection, and what to write
+instead.";
+
+// Below the help of `fits`.
+const FITS_HELP: &str = "\
+Example:
+  fmtcanon fits '%s of %d' '%2$d/%1$s'
+  fmtcanon fits --model all %zu %lu
+  printf '%s\\0' %d %i %.2f %d | fmtcanon fits --null
+
+If a format starts with `-`, put `--` before it: fmtcanon fits -- '-%d' '-%i'
+
+It accepts the whole language, and compares the types of arguments only. `same` also compares the
+bytes.
+
+With --null, pairs of formats are read from standard input, each format terminated by NUL. Each reply
+is a status digit, a space, the output or the error line, and NUL. The exit status is the highest of
+them.
+
+Exit status: 0 fits, 1 the types differ, 2 one of them is rejected, 3 usage error or an unpaired
+record, 4 a read or write failed or out of memory
+The manual page fmtcanon(1) and docs/REFUSALS.md list the reasons for a rejection, and what to write
+instead.";
+
+// Below the help of `stream`.
+const STREAM_HELP: &str = "\
+Example:
+  printf %s 'Total: %i' | fmtcanon stream
+
+It writes as it reads, so bytes may already be on standard output when the format is rejected. A
+format that starts with `-` needs no `--`.
+
+Exit status: 0 success, 2 rejected, 3 usage error, 4 a read or write failed or out of memory
+The manual page fmtcanon(1) and docs/REFUSALS.md list the reasons for a rejection, and what to write
+instead.";

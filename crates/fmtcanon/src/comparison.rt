@@ -1,83 +1,28 @@
-//! Two formats compared, as lines.
-ghost use Rattle.std.specs.Prelude.{◌≡◌, ◌<◌, ◌++◌, IfOk, MatchResult, codes, decimal, flat_map};
+//! Two formats of the profile compared, as lines.
+ghost use Rattle.std.specs.Prelude.{◌≡◌, ◌++◌, IfOk, MatchResult, codes, decimal, flat_map};
 ghost use Rattle.fmtcanon.specs.Answers.{IsPairFault};
-ghost use Rattle.fmtcanon.specs.Comparisons.{IsAnswerInEach, IsComparisonAnswer, IsComparisonIn, argument_line, ending_of, ending_with, verdict_lines};
+ghost use Rattle.fmtcanon.specs.Comparisons.{IsComparisonAnswer, argument_line, ending_of, verdict_lines};
+ghost use Rattle.fmtcanon.specs.Languages.{Profile};
 ghost use Rattle.fmtcanon.specs.Lines.{line};
 
 use crate::answer::{Answer, Ending};
-use crate::models::{Models, name_of};
 use crate::outcome::Fault;
 use crate::show_lines::push_decimal;
 use pf_compare::{OwnedArg, Verdict, compare};
 use pf_values::Model;
 use std::alloc::{AllocError, Global};
 
-/// Whether two formats mean the same in a data model; else where their types differ, or arguments
-/// for which they print different bytes, each as the word that gives it. In more than one, each
-/// verdict comes below the name of its model.
-pub fn comparison_answer(
+/// Says whether two formats are interchangeable in a data model; otherwise where their types differ,
+/// or arguments for which they print different bytes, each as the word that gives it.
+pub fn comparison_in(
     alloc: Global,
-    models: Models,
+    model: Model,
     first: &[u8],
     second: &[u8],
 ) -> Result<Answer, Fault>
-    ensures { MatchResult result
-        (λ answer. IsComparisonIn models first.now second.now answer.bytes.items answer.ending)
-        (IsPairFault first.now second.now) }
-{
-    match models {
-        Models::One(model) => answer_in(alloc, model, first, second),
-        Models::Both => answer_in_each(alloc, &Model::ALL[..2], first, second),
-        Models::All => answer_in_each(alloc, &Model::ALL, first, second),
-    }
-}
-
-fn answer_in_each(
-    alloc: Global,
-    models: &[Model],
-    first: &[u8],
-    second: &[u8],
-) -> Result<Answer, Fault>
-    ensures { MatchResult result
-        (λ answer. IsAnswerInEach (λ model. IsComparisonAnswer model first.now second.now)
-        models.now answer.bytes.items answer.ending)
-        (IsPairFault first.now second.now) }
-{
-    let mut bytes = Vec::new(alloc);
-    let mut ending = Ending::Same;
-    for model in models {
-        let answer = answer_in(alloc, *model, first, second)?;
-        push_verdict(&mut bytes, name_of(*model), &answer.bytes)?;
-        ending = ending_with(ending, answer.ending);
-    }
-    Ok(Answer { bytes, ending })
-}
-
-/// Adds the name of a data model, and the lines of the verdict in it.
-pub fn push_verdict(out: &mut Vec<u8>, name: &str, lines: &[u8]) -> Result<(), AllocError>
-    ensures { IfOk result (λ _. out.new.items ≡ out.old.items ++ line name.now ++ lines.now) }
-{
-    out.extend_from_slice(name.as_bytes())?;
-    out.push(b'\n')?;
-    out.extend_from_slice(lines)?;
-    Ok(())
-}
-
-/// Returns how a run ends with one verdict more: formats are the same if they are in each data model.
-pub fn ending_with(ending: Ending, others: Ending) -> Ending
-    ensures { result ≡ ending_with ending others }
-{
-    match ending {
-        Ending::Same => others,
-        Ending::Done => Ending::Done,
-        Ending::Different => Ending::Different,
-    }
-}
-
-fn answer_in(alloc: Global, model: Model, first: &[u8], second: &[u8]) -> Result<Answer, Fault>
     ensures { MatchResult result
         (λ answer. IsComparisonAnswer model first.now second.now answer.bytes.items answer.ending)
-        (IsPairFault first.now second.now) }
+        (IsPairFault Profile model first.now second.now) }
 {
     let comparison = compare(alloc, model, first, second)?;
     let bytes = verdict_lines(alloc, &comparison.verdict)?;
@@ -103,11 +48,11 @@ fn verdict_lines(alloc: Global, verdict: &Verdict) -> Result<Vec<u8>, AllocError
     match verdict {
         Verdict::Same => Vec::from_slice(alloc, b"same\n"),
         Verdict::Types(index) => types_line(alloc, *index),
-        Verdict::Args(args) => argument_lines(alloc, args),
+        Verdict::Args(args) => witness_lines(alloc, args),
     }
 }
 
-fn argument_lines(alloc: Global, args: &[OwnedArg]) -> Result<Vec<u8>, AllocError>
+fn witness_lines(alloc: Global, args: &[OwnedArg]) -> Result<Vec<u8>, AllocError>
     ensures { IfOk result
         (λ out. out.items ≡ line (codes "different") ++ flat_map argument_line args.now) }
 {

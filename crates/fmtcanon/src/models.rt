@@ -1,7 +1,7 @@
 //! The data models that the option `--model` names.
 ghost use Rattle.std.specs.Prelude.{◌≡◌};
 ghost use Rattle.fmtcanon.specs.Models.{first_model, model_in, model_name, model_named, models_in, models_named};
-ghost use Rattle.fmtcanon.specs.Tasks.{rows_in};
+ghost use Rattle.fmtcanon.specs.Options.{rows_in};
 
 use clap::ArgMatches;
 use pf_values::Model;
@@ -9,7 +9,7 @@ use pf_values::Model;
 /// The names of the data models, in the order of `Model::ALL`.
 pub const NAMES: &[&str] = &["lp64", "ilp32", "llp64"];
 
-/// The same, and the names of the first two together and of all.
+/// The names of the data models, of the first two together, and of all.
 pub const NAMES_OR_MORE: &[&str] = &["lp64", "ilp32", "llp64", "both", "all"];
 
 /// The data models in which two formats are compared.

@@ -9,7 +9,7 @@ ghost use Rattle.fmtcanon.specs.Records.{AllReplied, IsReply, RecordsEnd, Replie
 use crate::answer::answer_to;
 use crate::input::Input;
 use crate::outcome::{Fault, Outcome, fault_line};
-use crate::task::{Question, RecordQuestion};
+use crate::questions::{Question, RecordQuestion};
 use memchr::memchr;
 use pf_values::{Counted, write_bytes};
 use std::alloc::{AllocError, Global};
@@ -25,7 +25,7 @@ const REPLY_BLOCK: usize = 65_536;
 // What has come of the next question: the first format, where two are wanted, and a part of a record.
 #[derive(Drop)]
 struct Coming {
-    kind: RecordQuestion,
+    asked: RecordQuestion,
     part: Vec<u8>,
     first: Vec<u8>,
     has_first: bool,
@@ -53,18 +53,18 @@ enum ConversationFault {
 #[inline(never)]
 pub fn answer_records<R: Read, W: Write, I: Input<R, W>>(
     alloc: Global,
-    kind: RecordQuestion,
+    asked: RecordQuestion,
     input: &mut I,
     writer: &mut Counted<W>,
 ) -> Outcome
     requires ready { (left : I) (now : Counted W)
-        → AllReplied kind R.remaining W.contents (I.reader_of input.old) (I.reader_of left)
+        → AllReplied asked R.remaining W.contents (I.reader_of input.old) (I.reader_of left)
         writer.old now
         → I.is_ready left now }
-    ensures { RecordsEnd kind R.remaining W.contents (I.reader_of input.old)
+    ensures { RecordsEnd asked R.remaining W.contents (I.reader_of input.old)
         (I.reader_of input.new) writer.old writer.new result }
 {
-    let mut conversation = Conversation::new(alloc, kind);
+    let mut conversation = Conversation::new(alloc, asked);
     let mut block = [0u8; READ_BLOCK];
     // The bound is never reached. It is here because every function must be proved to return.
     for _turn in 0..u64::MAX {
@@ -82,24 +82,24 @@ pub fn answer_records<R: Read, W: Write, I: Input<R, W>>(
 }
 
 impl Conversation {
-    fn new(alloc: Global, kind: RecordQuestion) -> Conversation
-        ensures come { HasCome result.coming kind [] [] }
+    fn new(alloc: Global, asked: RecordQuestion) -> Conversation
+        ensures come { HasCome result.coming asked [] [] }
         ensures none { HasReplies result.replies [] [] }
     {
         Conversation {
-            coming: Coming::new(alloc, kind),
+            coming: Coming::new(alloc, asked),
             replies: Replies::new(alloc),
         }
     }
 
     // Writes the replies that wait, and flushes.
     fn flush<W: Write>(&mut self, writer: &mut Counted<W>) -> Result<(), u128>
-        ensures said { (kind : RecordQuestion) (start : Counted W) (whole : List Text)
+        ensures said { (asked : RecordQuestion) (start : Counted W) (whole : List Text)
             (rest : Text)
-            → HasRepliedTo kind W.contents self.old start writer.old whole rest
+            → HasRepliedTo asked W.contents self.old start writer.old whole rest
             → MatchResult result
-            (λ _. HasRepliedTo kind W.contents self.new start writer.new whole rest)
-            (RepliesFirst kind W.contents start writer.new (whole ++ last_record rest)) }
+            (λ _. HasRepliedTo asked W.contents self.new start writer.new whole rest)
+            (RepliesFirst asked W.contents start writer.new (whole ++ last_record rest)) }
         ensures none { OnOk result (waiting_text self.new.replies ≡ []) }
         ensures flushed { OnOk result (is_flushed writer.new ≡ true) }
     {
@@ -119,13 +119,13 @@ impl Conversation {
         requires flushed { is_flushed writer.old ≡ true }
         requires ready { I.is_ready input.old writer.old }
         requires room { 0 < length block.old }
-        ensures answered { (kind : RecordQuestion) (begin : Counted R) (start : Counted W)
-            → HasAnswered kind R.remaining W.contents self.old begin (I.reader_of input.old) start
+        ensures answered { (asked : RecordQuestion) (begin : Counted R) (start : Counted W)
+            → HasAnswered asked R.remaining W.contents self.old begin (I.reader_of input.old) start
             writer.old
             → MatchOption result
-            (HasAnswered kind R.remaining W.contents self.new begin (I.reader_of input.new) start
+            (HasAnswered asked R.remaining W.contents self.new begin (I.reader_of input.new) start
             writer.new)
-            (RecordsEnd kind R.remaining W.contents begin (I.reader_of input.new) start writer.new) }
+            (RecordsEnd asked R.remaining W.contents begin (I.reader_of input.new) start writer.new) }
         ensures calls { calls_of (I.reader_of input.new)
             ≡ calls_after (calls_of (I.reader_of input.old)) }
     {
@@ -146,11 +146,11 @@ impl Conversation {
         block: &[u8],
         writer: &mut Counted<W>,
     ) -> Result<(), ConversationFault>
-        ensures { (kind : RecordQuestion) (start : Counted W) (taken : Text)
-            → HasRepliedToText kind W.contents self.old start writer.old taken
+        ensures { (asked : RecordQuestion) (start : Counted W) (taken : Text)
+            → HasRepliedToText asked W.contents self.old start writer.old taken
             → MatchResult result
-            (λ _. HasRepliedToText kind W.contents self.new start writer.new (taken ++ block.now))
-            (HasStoppedAt kind W.contents self.new start writer.new (taken ++ block.now)) }
+            (λ _. HasRepliedToText asked W.contents self.new start writer.new (taken ++ block.now))
+            (HasStoppedAt asked W.contents self.new start writer.new (taken ++ block.now)) }
     {
         let mut at = 0;
         while let Some(len) = memchr(0, &block[at..]) {
@@ -172,12 +172,12 @@ impl Conversation {
         bytes: &[u8],
         writer: &mut Counted<W>,
     ) -> Result<(), ConversationFault>
-        ensures { (kind : RecordQuestion) (start : Counted W) (whole : List Text) (rest : Text)
-            → HasRepliedTo kind W.contents self.old start writer.old whole rest
+        ensures { (asked : RecordQuestion) (start : Counted W) (whole : List Text) (rest : Text)
+            → HasRepliedTo asked W.contents self.old start writer.old whole rest
             → MatchResult result
-            (λ _. HasRepliedTo kind W.contents self.new start writer.new
+            (λ _. HasRepliedTo asked W.contents self.new start writer.new
             (whole ++ (rest ++ bytes.now) ∷ []) [])
-            (HasStopped kind W.contents self.new start writer.new
+            (HasStopped asked W.contents self.new start writer.new
             (whole ++ (rest ++ bytes.now) ∷ [])) }
     {
         match self.coming.extend(bytes) {
@@ -192,11 +192,11 @@ impl Conversation {
         alloc: Global,
         writer: &mut Counted<W>,
     ) -> Result<(), ConversationFault>
-        ensures { (kind : RecordQuestion) (start : Counted W) (whole : List Text) (rest : Text)
-            → HasRepliedTo kind W.contents self.old start writer.old whole rest
+        ensures { (asked : RecordQuestion) (start : Counted W) (whole : List Text) (rest : Text)
+            → HasRepliedTo asked W.contents self.old start writer.old whole rest
             → MatchResult result
-            (λ _. HasRepliedTo kind W.contents self.new start writer.new (whole ++ rest ∷ []) [])
-            (HasStopped kind W.contents self.new start writer.new (whole ++ rest ∷ [])) }
+            (λ _. HasRepliedTo asked W.contents self.new start writer.new (whole ++ rest ∷ []) [])
+            (HasStopped asked W.contents self.new start writer.new (whole ++ rest ∷ [])) }
     {
         match self.answer(alloc) {
             Ok(false) => {
@@ -214,11 +214,11 @@ impl Conversation {
     // Whether all of a question has come, which is answered then.
     fn answer(&mut self, alloc: Global) -> Result<bool, AllocError>
         ensures coming { self.new.coming ≡ self.old.coming }
-        ensures said { (kind : RecordQuestion) (first : List Text) (rest sent : Text)
+        ensures said { (asked : RecordQuestion) (first : List Text) (rest sent : Text)
             (replies : List Reply)
-            → HasCome self.old.coming kind first rest
+            → HasCome self.old.coming asked first rest
             → HasReplies self.old.replies sent replies
-            → AddsReply kind (first ++ rest ∷ []) sent replies self.old.replies self.new.replies
+            → AddsReply asked (first ++ rest ∷ []) sent replies self.old.replies self.new.replies
             result }
     {
         match self.coming.question() {
@@ -241,9 +241,9 @@ impl Conversation {
 
     // The end of what was read.
     fn end<W: Write>(&mut self, alloc: Global, writer: &mut Counted<W>) -> Outcome
-        ensures { (kind : RecordQuestion) (start : Counted W) (whole : List Text) (rest : Text)
-            → HasRepliedTo kind W.contents self.old start writer.old whole rest
-            → RecordsFinish kind W.contents start writer.new (whole ++ last_record rest) result }
+        ensures { (asked : RecordQuestion) (start : Counted W) (whole : List Text) (rest : Text)
+            → HasRepliedTo asked W.contents self.old start writer.old whole rest
+            → RecordsFinish asked W.contents start writer.new (whole ++ last_record rest) result }
     {
         match self.end_last(alloc, writer) {
             Ok(()) => self.finish(writer),
@@ -257,11 +257,11 @@ impl Conversation {
         alloc: Global,
         writer: &mut Counted<W>,
     ) -> Result<(), ConversationFault>
-        ensures { (kind : RecordQuestion) (start : Counted W) (whole : List Text) (rest : Text)
-            → HasRepliedTo kind W.contents self.old start writer.old whole rest
+        ensures { (asked : RecordQuestion) (start : Counted W) (whole : List Text) (rest : Text)
+            → HasRepliedTo asked W.contents self.old start writer.old whole rest
             → MatchResult result
-            (λ _. HasRepliedTo kind W.contents self.new start writer.new (whole ++ last_record rest) [])
-            (HasStopped kind W.contents self.new start writer.new (whole ++ last_record rest)) }
+            (λ _. HasRepliedTo asked W.contents self.new start writer.new (whole ++ last_record rest) [])
+            (HasStopped asked W.contents self.new start writer.new (whole ++ last_record rest)) }
     {
         if !self.coming.has_part() {
             return Ok(());
@@ -271,9 +271,9 @@ impl Conversation {
 
     // All records are whole, and have their replies.
     fn finish<W: Write>(&mut self, writer: &mut Counted<W>) -> Outcome
-        ensures { (kind : RecordQuestion) (start : Counted W) (whole : List Text)
-            → HasRepliedTo kind W.contents self.old start writer.old whole []
-            → RecordsFinish kind W.contents start writer.new whole result }
+        ensures { (asked : RecordQuestion) (start : Counted W) (whole : List Text)
+            → HasRepliedTo asked W.contents self.old start writer.old whole []
+            → RecordsFinish asked W.contents start writer.new whole result }
     {
         if let Err(count) = self.replies.flush(writer) {
             return Outcome::Write(count);
@@ -286,9 +286,9 @@ impl Conversation {
 
     // Where memory was refused, the replies that wait still go out.
     fn break_off<W: Write>(&mut self, fault: ConversationFault, writer: &mut Counted<W>) -> Outcome
-        ensures { (kind : RecordQuestion) (start : Counted W) (records : List Text)
-            → HasStopped kind W.contents self.old start writer.old records fault
-            → RecordsEndEarly kind W.contents start writer.new records result }
+        ensures { (asked : RecordQuestion) (start : Counted W) (records : List Text)
+            → HasStopped asked W.contents self.old start writer.old records fault
+            → RecordsEndEarly asked W.contents start writer.new records result }
     {
         match fault {
             ConversationFault::Write(count) => Outcome::Write(count),
@@ -302,9 +302,9 @@ impl Conversation {
 
 // Adds the reply to a question.
 fn added(alloc: Global, question: Question<'_>, replies: &mut Replies) -> Result<bool, AllocError>
-    ensures { (kind : RecordQuestion) (formats : List Text) (sent : Text) (had : List Reply)
-        → IsAbout question.entry kind formats → HasReplies replies.old sent had
-        → AddsReply kind formats sent had replies.old replies.new result }
+    ensures { (asked : RecordQuestion) (formats : List Text) (sent : Text) (had : List Reply)
+        → IsAbout question.entry asked formats → HasReplies replies.old sent had
+        → AddsReply asked formats sent had replies.old replies.new result }
 {
     match replies.add(alloc, &question) {
         Ok(()) => Ok(true),
@@ -314,11 +314,11 @@ fn added(alloc: Global, question: Question<'_>, replies: &mut Replies) -> Result
 
 impl Coming {
     // Nothing has come.
-    fn new(alloc: Global, kind: RecordQuestion) -> Coming
-        ensures { HasCome result kind [] [] }
+    fn new(alloc: Global, asked: RecordQuestion) -> Coming
+        ensures { HasCome result asked [] [] }
     {
         Coming {
-            kind,
+            asked,
             part: Vec::new(alloc),
             first: Vec::new(alloc),
             has_first: false,
@@ -327,33 +327,33 @@ impl Coming {
 
     // Bytes of a record.
     fn extend(&mut self, bytes: &[u8]) -> Result<(), AllocError>
-        ensures { (kind : RecordQuestion) (first : List Text) (rest : Text)
-            → HasCome self.old kind first rest
-            → OnOk result (HasCome self.new kind first (rest ++ bytes.now)) }
+        ensures { (asked : RecordQuestion) (first : List Text) (rest : Text)
+            → HasCome self.old asked first rest
+            → OnOk result (HasCome self.new asked first (rest ++ bytes.now)) }
     {
         self.part.extend_from_slice(bytes)
     }
 
     // The question, if all is there of it once the record is whole.
     fn question(&self) -> Option<Question<'_>>
-        ensures { (kind : RecordQuestion) (first : List Text) (rest : Text)
-            → HasCome self.now kind first rest
-            → MatchOption result (length (first ++ rest ∷ []) < formats_wanted kind)
-            (λ question. IsAbout question kind (first ++ rest ∷ [])) }
+        ensures { (asked : RecordQuestion) (first : List Text) (rest : Text)
+            → HasCome self.now asked first rest
+            → MatchOption result (length (first ++ rest ∷ []) < formats_wanted asked)
+            (λ question. IsAbout question asked (first ++ rest ∷ [])) }
     {
         if self.has_first {
-            self.kind.about(&self.first, Some(&self.part))
+            self.asked.about(&self.first, Some(&self.part))
         } else {
-            self.kind.about(&self.part, None)
+            self.asked.about(&self.part, None)
         }
     }
 
     // The record is whole, and the first of two.
     fn keep_first(&mut self)
-        ensures { (kind : RecordQuestion) (first : List Text) (rest : Text)
-            → HasCome self.old kind first rest
-            → length (first ++ rest ∷ []) < formats_wanted kind
-            → HasCome self.new kind (first ++ rest ∷ []) [] }
+        ensures { (asked : RecordQuestion) (first : List Text) (rest : Text)
+            → HasCome self.old asked first rest
+            → length (first ++ rest ∷ []) < formats_wanted asked
+            → HasCome self.new asked (first ++ rest ∷ []) [] }
     {
         mem::swap(&mut self.first, &mut self.part);
         self.part.clear();
@@ -362,8 +362,8 @@ impl Coming {
 
     // The question was answered. The memory is kept.
     fn clear(&mut self)
-        ensures { (kind : RecordQuestion) (first : List Text) (rest : Text)
-            → HasCome self.old kind first rest → HasCome self.new kind [] [] }
+        ensures { (asked : RecordQuestion) (first : List Text) (rest : Text)
+            → HasCome self.old asked first rest → HasCome self.new asked [] [] }
     {
         self.part.clear();
         self.has_first = false;
@@ -371,8 +371,8 @@ impl Coming {
 
     // Whether a part of a record has come.
     fn has_part(&self) -> bool
-        ensures { (kind : RecordQuestion) (first : List Text) (rest : Text)
-            → HasCome self.now kind first rest → MatchBool result (rest ≢ []) (rest ≡ []) }
+        ensures { (asked : RecordQuestion) (first : List Text) (rest : Text)
+            → HasCome self.now asked first rest → MatchBool result (rest ≢ []) (rest ≡ []) }
     {
         !self.part.is_empty()
     }
@@ -409,11 +409,11 @@ impl Replies {
 
     // Adds the reply to a question. Where a growth is refused, nothing is added.
     fn add(&mut self, alloc: Global, question: &Question<'_>) -> Result<(), AllocError>
-        ensures { (kind : RecordQuestion) (formats : List Text) (sent : Text)
+        ensures { (asked : RecordQuestion) (formats : List Text) (sent : Text)
             (replies : List Reply)
-            → IsAbout question.now kind formats → HasReplies self.old sent replies
+            → IsAbout question.now asked formats → HasReplies self.old sent replies
             → MatchResult result
-            (λ _. (reply : Reply) × IsReply kind reply × (reply.formats ≡ formats)
+            (λ _. (reply : Reply) × IsReply asked reply × (reply.formats ≡ formats)
             × HasReplies self.new sent (replies ++ reply ∷ []))
             (λ _. HasReplies self.new sent replies) }
     {

@@ -10,8 +10,9 @@ ghost use Rattle.fmtcanon.specs.declared.task.Task.{Task};
 use crate::answer::{Answer, Ending, answer_to};
 use crate::input::Input;
 use crate::outcome::{Fault, Outcome};
+use crate::questions::Question;
 use crate::records::answer_records;
-use crate::task::{NoTask, Question, Task, task_of};
+use crate::task::{NoTask, Task, task_of};
 use pf_canon::CopyFault;
 use pf_values::{Counted, Model, write_bytes};
 use std::alloc::Global;
@@ -54,7 +55,7 @@ fn run_found<R: Read, W: Write, I: Input<R, W>>(
 {
     match found {
         Ok(Task::Answer(question)) => answer(alloc, &question, writer),
-        Ok(Task::Records(kind)) => answer_records(alloc, kind, input, writer),
+        Ok(Task::Records(asked)) => answer_records(alloc, asked, input, writer),
         Ok(Task::Stream(model)) => copy(model, input, writer),
         Err(NoTask::Usage(text)) => Outcome::Usage(text),
         Err(NoTask::Misplaced) => Outcome::Misplaced,

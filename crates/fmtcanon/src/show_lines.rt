@@ -6,6 +6,7 @@ ghost use Rattle.pf_values.specs.meaning.DataModel.{arg_type};
 ghost use Rattle.pf_values.specs.meaning.Spelling.{spelling_of};
 ghost use Rattle.pf_values.specs.meaning.Text.{Text};
 ghost use Rattle.fmtcanon.specs.Answers.{IsFormatFault};
+ghost use Rattle.fmtcanon.specs.Languages.{Profile};
 ghost use Rattle.fmtcanon.specs.Lines.{line};
 ghost use Rattle.fmtcanon.specs.Shows.{HasShownLines, IsLineOf, reduced_line, reduced_text, shown_of};
 ghost use Rattle.fmtcanon.specs.TypeLines.{type_name};
@@ -22,7 +23,7 @@ use std::alloc::{AllocError, Global};
 /// or its refusal.
 pub fn show_lines(alloc: Global, model: Model, format: &[u8]) -> Result<Vec<u8>, Fault>
     ensures { MatchResult result (λ out. HasShownLines model format.now out.items)
-        (IsFormatFault format.now) }
+        (IsFormatFault Profile model format.now) }
 {
     let mut out = Vec::new(alloc);
     for piece in Pieces::new(format) {

@@ -1,7 +1,7 @@
 //! The types of a format's arguments, a line for each: in the profile, and in the whole language.
 ghost use Rattle.std.specs.Prelude.{◌≡◌, IfOk, MatchResult, flat_map};
-ghost use Rattle.fmtcanon.specs.Answers.{IsFormatFault, IsWholeFault};
-ghost use Rattle.fmtcanon.specs.Languages.{Numbered};
+ghost use Rattle.fmtcanon.specs.Answers.{IsFormatFault};
+ghost use Rattle.fmtcanon.specs.Languages.{Numbered, Profile};
 ghost use Rattle.fmtcanon.specs.ArgumentLines.{HasArgumentLines, argument_line, argument_name};
 ghost use Rattle.fmtcanon.specs.TypeLines.{HasTypeLines, type_line, type_name};
 
@@ -14,7 +14,7 @@ use std::alloc::{AllocError, Global};
 /// A line for each argument of a format in a data model, or its refusal.
 pub fn type_lines(alloc: Global, model: Model, format: &[u8]) -> Result<Vec<u8>, Fault>
     ensures { MatchResult result (λ out. HasTypeLines model format.now out.items)
-        (IsFormatFault format.now) }
+        (IsFormatFault Profile model format.now) }
 {
     let types = signature(alloc, model, format)?;
     Ok(lines_of_types(alloc, types.as_slice())?)
@@ -47,9 +47,9 @@ pub fn type_name(arg_type: ArgType) -> &'static str
 }
 
 /// A line for each argument of a format of the whole language in a data model, or its refusal.
-pub fn argument_lines(alloc: Global, model: Model, format: &[u8]) -> Result<Vec<u8>, Fault>
+pub fn whole_type_lines(alloc: Global, model: Model, format: &[u8]) -> Result<Vec<u8>, Fault>
     ensures { MatchResult result (λ out. HasArgumentLines model format.now out.items)
-        (IsWholeFault Numbered model format.now) }
+        (IsFormatFault Numbered model format.now) }
 {
     let types = arguments_vec(alloc, model, format)?;
     Ok(lines_of_arguments(alloc, &types)?)

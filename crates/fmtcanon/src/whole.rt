@@ -1,17 +1,14 @@
 //! Answers about formats of the whole language: their canonical texts, and how two of them compare.
 ghost use Rattle.std.specs.Prelude.{◌≡◌, ◌++◌, IfOk, MatchResult, codes, decimal, flat_map};
-ghost use Rattle.fmtcanon.specs.Answers.{IsWholeFault, IsWholePairFault, IsWholePairFaultIn};
+ghost use Rattle.fmtcanon.specs.Answers.{IsFormatFault, IsPairFault};
 ghost use Rattle.fmtcanon.specs.ArgumentLines.{IsFitAnswer, fit_ending, fit_line};
-ghost use Rattle.fmtcanon.specs.Comparisons.{IsAnswerInEach};
-ghost use Rattle.fmtcanon.specs.Languages.{Numbered, Unnumbered, language_of};
+ghost use Rattle.fmtcanon.specs.Languages.{Numbered, Unnumbered};
 ghost use Rattle.fmtcanon.specs.Lines.{line};
-ghost use Rattle.fmtcanon.specs.Models.{asked_models};
-ghost use Rattle.fmtcanon.specs.WholeAnswers.{HasWholeCanonicalLine, IsAlikeAnswer, IsPairAnswer, IsPairAnswerIn, shown_line, whole_ending_of, whole_verdict_lines};
+ghost use Rattle.fmtcanon.specs.WholeAnswers.{HasWholeCanonicalLine, IsAlikeAnswer, shown_line, whole_ending_of, whole_verdict_lines};
 
 use crate::answer::{Answer, Ending, with_newline};
-use crate::comparison::{ending_with, push_verdict, types_line};
+use crate::comparison::types_line;
 use crate::formats::Notation;
-use crate::models::{Models, name_of};
 use crate::outcome::Fault;
 use crate::show_lines::push_decimal;
 use pf_compare::OwnedArg;
@@ -19,15 +16,6 @@ use pf_signatures::fits;
 use pf_values::Model;
 use pf_whole::{WholeVerdict, canonical_with_room, compare};
 use std::alloc::{AllocError, Global};
-
-/// What is asked about two formats of the whole language.
-#[derive(Clone, Copy)]
-pub enum PairQuestion {
-    /// Whether the second takes just the arguments of the first. Arguments may have numbers.
-    Fits,
-    /// Whether they are interchangeable. Arguments have no numbers.
-    Same,
-}
 
 /// Returns the line of `canon --whole`: the canonical text of a format in a notation, and a newline.
 pub fn whole_canonical_line(
@@ -37,78 +25,19 @@ pub fn whole_canonical_line(
     format: &[u8],
 ) -> Result<Vec<u8>, Fault>
     ensures { MatchResult result (λ out. HasWholeCanonicalLine notation model format.now out.items)
-        (IsWholeFault Unnumbered model format.now) }
+        (IsFormatFault Unnumbered model format.now) }
 {
     // With room for the newline, so that it needs no growth of its own.
     let canonical = canonical_with_room(alloc, model, format, 1)?;
     Ok(with_newline(notation.write(alloc, canonical)?)?)
 }
 
-/// Answers a question about two formats in the data models that are asked for. In more than one, each
-/// answer comes below the name of its model.
-pub fn pair_answer(
-    alloc: Global,
-    question: PairQuestion,
-    models: Models,
-    first: &[u8],
-    second: &[u8],
-) -> Result<Answer, Fault>
-    ensures { MatchResult result
-        (λ answer. IsPairAnswerIn question models first.now second.now answer.bytes.items answer.ending)
-        (IsWholePairFaultIn (language_of question) (asked_models models) first.now second.now) }
-{
-    match models {
-        Models::One(model) => pair_answer_in(alloc, question, model, first, second),
-        Models::Both => pair_answer_in_each(alloc, question, &Model::ALL[..2], first, second),
-        Models::All => pair_answer_in_each(alloc, question, &Model::ALL, first, second),
-    }
-}
-
-fn pair_answer_in_each(
-    alloc: Global,
-    question: PairQuestion,
-    models: &[Model],
-    first: &[u8],
-    second: &[u8],
-) -> Result<Answer, Fault>
-    ensures { MatchResult result
-        (λ answer. IsAnswerInEach (λ model. IsPairAnswer question model first.now second.now)
-        models.now answer.bytes.items answer.ending)
-        (IsWholePairFaultIn (language_of question) models.now first.now second.now) }
-{
-    let mut bytes = Vec::new(alloc);
-    let mut ending = Ending::Same;
-    for model in models {
-        let answer = pair_answer_in(alloc, question, *model, first, second)?;
-        push_verdict(&mut bytes, name_of(*model), &answer.bytes)?;
-        ending = ending_with(ending, answer.ending);
-    }
-    Ok(Answer { bytes, ending })
-}
-
-fn pair_answer_in(
-    alloc: Global,
-    question: PairQuestion,
-    model: Model,
-    first: &[u8],
-    second: &[u8],
-) -> Result<Answer, Fault>
-    ensures { MatchResult result
-        (λ answer. IsPairAnswer question model first.now second.now answer.bytes.items answer.ending)
-        (IsWholePairFault (language_of question) model first.now second.now) }
-{
-    match question {
-        PairQuestion::Fits => fit_in(alloc, model, first, second),
-        PairQuestion::Same => alike_in(alloc, model, first, second),
-    }
-}
-
-// Says whether the second format takes just the arguments of the first; otherwise the least index at
-// which they differ.
-fn fit_in(alloc: Global, model: Model, first: &[u8], second: &[u8]) -> Result<Answer, Fault>
+/// Says whether the second format takes just the arguments of the first; otherwise the first index at
+/// which they differ.
+pub fn fit_in(alloc: Global, model: Model, first: &[u8], second: &[u8]) -> Result<Answer, Fault>
     ensures { MatchResult result
         (λ answer. IsFitAnswer model first.now second.now answer.bytes.items answer.ending)
-        (IsWholePairFault Numbered model first.now second.now) }
+        (IsPairFault Numbered model first.now second.now) }
 {
     let index = fits(model, first, second)?;
     Ok(Answer {
@@ -135,12 +64,12 @@ fn fit_ending(index: Option<u64>) -> Ending
     }
 }
 
-// Says whether two formats are interchangeable; otherwise where their types or their calls differ, or
-// arguments for which they print different bytes.
-fn alike_in(alloc: Global, model: Model, first: &[u8], second: &[u8]) -> Result<Answer, Fault>
+/// Says whether two formats are interchangeable; otherwise where their types or their calls differ, or
+/// arguments for which they print different bytes.
+pub fn alike_in(alloc: Global, model: Model, first: &[u8], second: &[u8]) -> Result<Answer, Fault>
     ensures { MatchResult result
         (λ answer. IsAlikeAnswer model first.now second.now answer.bytes.items answer.ending)
-        (IsWholePairFault Unnumbered model first.now second.now) }
+        (IsPairFault Unnumbered model first.now second.now) }
 {
     let verdict = compare(alloc, model, first, second)?;
     let bytes = whole_verdict_lines(alloc, &verdict)?;

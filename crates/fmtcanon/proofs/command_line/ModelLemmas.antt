@@ -5,7 +5,7 @@ use Rattle.clap.specs.Walk.{Text, first_of}
 use Rattle.clap.specs.declared.parser.matches.ArgMatches.{ArgMatches}
 use Rattle.clap.proofs.WalkLemmas.{first_value-rows}
 use Rattle.fmtcanon.specs.Models.{model_in, model_of_value, models_in, models_of_value}
-use Rattle.fmtcanon.specs.Tasks.{rows_in}
+use Rattle.fmtcanon.specs.Options.{rows_in}
 
 -- what is made of the first value of an argument
 pub value_of_row : {A : Type 0} (f : Option Text → A) (id : Text) (inner : ArgMatches) (found o : Option (Bor Text)) → option_map (λ s. s.now) found ≡ first_value (found_of inner) id

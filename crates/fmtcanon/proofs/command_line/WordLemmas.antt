@@ -1,6 +1,9 @@
 -- What clap's definition of the command says of the words that it takes.
-use Rattle.std.proofs.Common.{◌≡◌, ◌∙◌, List, [], ◌∷◌, Bool, true, false, Option, Some, None, is_some, codes, refl, sym, ap, subst, find, cond, option_map, unwrap_or}
-use Rattle.std.specs.List.{AllByRecursion, list_all}
+use Rattle.std.proofs.Common.{◌≡◌, ◌≢◌, ◌∙◌, List, [], ◌∷◌, Bool, true, false, Option, Some, None, is_some, codes, refl, sym, ap, subst, find, cond, option_map, unwrap_or}
+use Rattle.std.specs.List.{AllByRecursion, list_all, list_any}
+use Rattle.std.specs.Prelude.{◌&&◌, ◌||◌}
+use Rattle.std.specs.Str.{bytes_eq}
+use Rattle.std.proofs.lemmas.Slice.Eq.{bytes_eq-Decides}
 use Rattle.clap.specs.Walk.{Row, Text, first_of, nothing_held, walk, answers_to}
 use Rattle.clap.specs.Simple.{App, Shape, argument_words, built, entered, is_simple, label_of, names_of, rows_at, subcommand_of}
 use Rattle.clap.specs.Faults.{fault_of, is_simple_and_free}
@@ -51,10 +54,39 @@ module _ (P : Text → Type 0) where
       found (λ s. answers_to p.0 (label_of s)) p.1 (built a).subs q (subst (AllByRecursion (λ s. P s.name)) (sym same) each) e
 
 -- what holds of the name of each subcommand holds of the name that is asked for
-pub at_asked : (P : Text → Type 0) (app : App) (words : List Text) (name : Text) (rows : List Row) → ((one both : ValueParser) → AtEach one both P) → IsCommand app
+at_asked : (P : Text → Type 0) (app : App) (words : List Text) (name : Text) (rows : List Row) → ((one both : ValueParser) → AtEach one both P) → IsCommand app
     → subcommand_of app words ≡ Some (name, rows) → P name
 at_asked P app words name rows each h e =
     at_entered P _ app (ap (λ a. (built a).subs) h.is) (walk (built app).top.rules (names_of (built app)) nothing_held (argument_words app words)).stopped (name, rows) (each _ _) e
+
+all_pass : {X : Type 0} (p : X → Bool) (xs : List X) → list_all p xs ≡ true → AllByRecursion (λ x. p x ≡ true) xs
+all_pass p [] h = tt
+all_pass p (x ∷ xs) h = go (p x) refl h (all_pass p xs)
+  where
+    go : (b : Bool) → p x ≡ b → (b && list_all p xs) ≡ true → (list_all p xs ≡ true → AllByRecursion (λ x. p x ≡ true) xs)
+        → (p x ≡ true) × AllByRecursion (λ x. p x ≡ true) xs
+    go true e h others = (e, others h)
+    go false e h others = absurd (cc)
+
+is_other : (name : Text) (names : List Text) → AllByRecursion (λ other. name ≢ other) names → list_any (bytes_eq name) names ≡ true → ⊥
+is_other name [] others h = absurd (cc)
+is_other name (n ∷ names) others h = go (bytes_eq name n) refl h (is_other name names others.1)
+  where
+    go : (b : Bool) → bytes_eq name n ≡ b → (b || list_any (bytes_eq name) names) ≡ true → (list_any (bytes_eq name) names ≡ true → ⊥) → ⊥
+    go true e h none = others.0 ((bytes_eq-Decides name n).0 e)
+    go false e h none = none h
+
+-- each subcommand has one of these names
+abbrev pub AreNames : List Text → Type 0
+AreNames names = (one both : ValueParser) → list_all (λ s. list_any (bytes_eq s.name) names) (built (the_command one both)).subs ≡ true
+
+-- so the name that is asked for is one of them
+pub is_one_of : (names words : List Text) (name : Text) (rows : List Row) → AreNames names → Names words name rows
+    → AllByRecursion (λ other. name ≢ other) names → ⊥
+is_one_of names words name rows are h others =
+    is_other name names others
+    (at_asked (λ n. list_any (bytes_eq n) names ≡ true) h.app words name rows
+    (λ one both. all_pass (λ (s : Shape). list_any (bytes_eq s.name) names) _ (are one both)) h.is_command h.named)
 
 -- where no fault is found, a subcommand is named
 pub subcommand_given : (app : App) (words : List Text) → IsCommand app → fault_of app words ≡ [] → is_some (subcommand_of app words) ≡ true

@@ -7,5 +7,5 @@ use Rattle.fmtcanon.proofs.records.answer_records.Given as goal
 abbrev pub invariant-loop-turn : goal.invariant-loop-turn
 invariant-loop-turn g l = record {
   calls : l._turn ≤ calls_of (g.I.Input.reader_of l.input);
-  at : HasAnswered l.fn.kind g.R.Read.remaining g.W.Write.contents l.conversation (g.I.Input.reader_of l.fn.input) (g.I.Input.reader_of l.input) l.fn.writer l.writer;
+  at : HasAnswered l.fn.asked g.R.Read.remaining g.W.Write.contents l.conversation (g.I.Input.reader_of l.fn.input) (g.I.Input.reader_of l.input) l.fn.writer l.writer;
 }

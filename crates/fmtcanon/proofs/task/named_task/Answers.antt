@@ -1,12 +1,14 @@
-use Rattle.std.proofs.Common.{◌≡◌, ◌∙◌, List, [], Some, ap, is_some, option_map, refl, subst, sym, true, unwrap_or}
+use Rattle.std.proofs.Common.{◌≡◌, ◌∙◌, List, [], ◌∷◌, Some, ap, codes, is_some, option_map, refl, subst, sym, true, unwrap_or}
 use Rattle.clap.specs.Matches.{first_value, found_of, matched_of, raw_values}
 use Rattle.clap.specs.Walk.{Text}
 use Rattle.clap.specs.declared.parser.matches.ArgMatches.{ArgMatches}
 use Rattle.clap.proofs.WalkLemmas.{first_value-rows, raw_values-rows}
-use Rattle.fmtcanon.specs.Tasks.{HasAllValues, HasValue, Names, rows_in}
+use Rattle.fmtcanon.specs.Options.{rows_in}
+use Rattle.fmtcanon.specs.Questions.{question_names}
+use Rattle.fmtcanon.specs.Tasks.{HasAllValues, HasValue, Names}
 use Rattle.fmtcanon.specs.Words.{the_command}
-use Rattle.fmtcanon.proofs.command_line.WordLemmas.{IsWanted, at_asked, format_wants, value_given}
-use Rattle.fmtcanon.proofs.TaskLemmas.{asks_if, lacks_if, other_than}
+use Rattle.fmtcanon.proofs.command_line.WordLemmas.{AreNames, IsWanted, format_wants, is_one_of, value_given}
+use Rattle.fmtcanon.proofs.TaskLemmas.{asks_if, lacks_if}
 use Rattle.fmtcanon.proofs.task.named_task.Goals as goal
 
 -- the argument that the command wants is there
@@ -23,14 +25,19 @@ values inner id texts e = e ∙ ap (λ o. unwrap_or o []) (raw_values-rows (foun
 pub value_of-requires : goal.value_of-requires
 value_of-requires c = let names = c.requires in present names.0 _ _ _ c.args.inner.now names.1 c.in-format.is format_wants
 
-pub unreachable-requires : goal.unreachable-requires
+abbrev names_known : List Text
+names_known = codes "format" ∷ codes "stream" ∷ question_names
+
+each_named : AreNames names_known
 unfolding the_command
+each_named one both = refl
+
+pub unreachable-requires : goal.unreachable-requires
 unreachable-requires c =
     let names = c.requires in
-    let name = c.args.name.now in
-    let kinds = other_than name (rows_in c.args.inner.now) c.in_default.ensures in
     let other = c.in_default-name in
-    at_asked (λ n. name ≡ n → ⊥) names.1.app names.0 name _ (λ one more. (kinds.0, (kinds.1, (kinds.2, (other.not-format, (kinds.4, (kinds.3, (other.not-stream, tt)))))))) names.1.is_command names.1.named refl
+    is_one_of names_known names.0 c.args.name.now (rows_in c.args.inner.now) each_named names.1
+    (other.not-format, (other.not-stream, c.in_default.ensures))
 
 pub returns-in-Some : goal.returns-in-Some
 returns-in-Some c = record {

@@ -11,7 +11,8 @@ use Rattle.clap.specs.declared.error.kind.ErrorKind.TheVariants as kind
 use Rattle.clap.specs.declared.parser.matches.ArgMatches.{ArgMatches}
 use Rattle.clap.specs.declared.parser.matches.ArgMatches.TheViews.{out-ArgMatches}
 use Rattle.fmtcanon.specs.Words.{IsCommand}
-use Rattle.fmtcanon.specs.Tasks.{IsAnsweredBy, IsNoTaskOf, Names, rows_in}
+use Rattle.fmtcanon.specs.Options.{rows_in}
+use Rattle.fmtcanon.specs.Tasks.{IsAnsweredBy, IsNoTaskOf, Names}
 use Rattle.fmtcanon.specs.declared.task.NoTask.{NoTask}
 use Rattle.fmtcanon.specs.declared.task.NoTask.TheVariants.{Usage, Misplaced, Memory}
 use Rattle.fmtcanon.proofs.command_line.WordLemmas.{free_command, simple_command, subcommand_given}

@@ -6,13 +6,13 @@ use Rattle.fmtcanon.proofs.records.Conversation.break_off.Goals as goal
 pub returns-in-Ok : goal.returns-in-Ok
 returns-in-Ok g c =
     let k = g.W.Write.contents in
-    λ kind start records h.
-    let at = subst (HasStopped kind k c.args.self.now start c.args.writer.now records) c.in-Memory.is h in
-    (at.1, c.flush.new.self.greatest, out_all kind k start _ records at.0 at.1 at.2 c.flush.new.self _ (c.in-Ok.ensures.said start at.0 at.3) c.in-Ok.ensures.none c.in-Ok.ensures.flushed refl)
+    λ asked start records h.
+    let at = subst (HasStopped asked k c.args.self.now start c.args.writer.now records) c.in-Memory.is h in
+    (at.1, c.flush.new.self.greatest, out_all asked k start _ records at.0 at.1 at.2 c.flush.new.self _ (c.in-Ok.ensures.said start at.0 at.3) c.in-Ok.ensures.none c.in-Ok.ensures.flushed refl)
 
 pub returns-in-Err : goal.returns-in-Err
 returns-in-Err g c =
     let k = g.W.Write.contents in
-    λ kind start records h.
-    let at = subst (HasStopped kind k c.args.self.now start c.args.writer.now records) c.in-Memory.is h in
-    out_first kind k start _ records at.0 at.1 at.2 c.in-Err.count (c.in-Err.ensures.said start at.0 at.3)
+    λ asked start records h.
+    let at = subst (HasStopped asked k c.args.self.now start c.args.writer.now records) c.in-Memory.is h in
+    out_first asked k start _ records at.0 at.1 at.2 c.in-Err.count (c.in-Err.ensures.said start at.0 at.3)

@@ -5,4 +5,4 @@ use Rattle.fmtcanon.proofs.records.Conversation.end.Goals as goal
 
 pub returns-in-Err : goal.returns-in-Err
 returns-in-Err g c =
-    λ kind start whole rest h. stopped_at_end kind g.W.Write.contents start _ (whole ++ last_record rest) c.break_off.result (c.break_off.ensures kind start (whole ++ last_record rest) (c.in-Err.ensures kind start whole rest h))
+    λ asked start whole rest h. stopped_at_end asked g.W.Write.contents start _ (whole ++ last_record rest) c.break_off.result (c.break_off.ensures asked start (whole ++ last_record rest) (c.in-Err.ensures asked start whole rest h))

@@ -5,10 +5,10 @@ use Rattle.fmtcanon.proofs.RecordLemmas.{last_none, last_some}
 use Rattle.fmtcanon.proofs.records.Conversation.end_last.Goals as goal
 
 pub returns-then-not-has_part : goal.returns-then-not-has_part
-returns-then-not-has_part g c = λ kind start whole rest h. last_none kind g.W.Write.contents c.args.self.now start c.args.writer.now whole rest (c.if-not-has_part.ensures kind h.first rest h.come) h
+returns-then-not-has_part g c = λ asked start whole rest h. last_none asked g.W.Write.contents c.args.self.now start c.args.writer.now whole rest (c.if-not-has_part.ensures asked h.first rest h.come) h
 
 pub returns : goal.returns
 returns g c =
     let k = g.W.Write.contents in
     let new = c.end_record.new in
-    λ kind start whole rest h. subst (λ last. MatchResult c.end_record.result (λ _. HasRepliedTo kind k new.self start new.writer (whole ++ last) []) (HasStopped kind k new.self start new.writer (whole ++ last))) (sym (last_some rest (c.if-not-has_part.ensures kind h.first rest h.come))) (c.end_record.ensures kind start whole rest h)
+    λ asked start whole rest h. subst (λ last. MatchResult c.end_record.result (λ _. HasRepliedTo asked k new.self start new.writer (whole ++ last) []) (HasStopped asked k new.self start new.writer (whole ++ last))) (sym (last_some rest (c.if-not-has_part.ensures asked h.first rest h.come))) (c.end_record.ensures asked start whole rest h)

@@ -10,31 +10,31 @@ use Rattle.fmtcanon.proofs.records.Conversation.read_block.Goals as goal
 pub returns-in-Ok-eq0-clause-answered : goal.returns-in-Ok-eq0-clause-answered
 returns-in-Ok-eq0-clause-answered g c =
     let some : 0 < length c.read_next.new.block = search rules in
-    λ kind begin start h.
+    λ asked begin start h.
     let text = h.replied in
     let end = read_end _ _ _ h.taken c.read_next.new.block c.in-Ok-eq0.field-0 (search rules) some h.took c.in-Ok-eq0.ensures.bytes in
-    left_at_end kind g.R.Read.remaining g.W.Write.contents begin (g.I.Input.reader_of c.read_next.new.self) start c.end.new.writer h.taken text.0 text.1 text.2 end.0 (c.in-Ok-eq0.ensures.failures ∙ h.well) end.1 c.end.result (c.end.ensures kind start text.0 text.1 text.3)
+    left_at_end asked g.R.Read.remaining g.W.Write.contents begin (g.I.Input.reader_of c.read_next.new.self) start c.end.new.writer h.taken text.0 text.1 text.2 end.0 (c.in-Ok-eq0.ensures.failures ∙ h.well) end.1 c.end.result (c.end.ensures asked start text.0 text.1 text.3)
 
 pub returns-in-Ok-take-clause-answered : goal.returns-in-Ok-take-clause-answered
 returns-in-Ok-take-clause-answered g c =
     let part = take c.in-Ok.len c.read_next.new.block in
-    λ kind begin start h. record {
+    λ asked begin start h. record {
       taken = h.taken ++ part;
       took = Consumes-trans _ _ _ h.taken part h.took c.in-Ok.ensures.bytes.0;
       well = c.in-Ok.ensures.failures ∙ h.well;
-      replied = c.in-Ok-take.ensures kind start h.taken h.replied;
+      replied = c.in-Ok-take.ensures asked start h.taken h.replied;
     }
 
 pub returns-in-Err-take-clause-answered : goal.returns-in-Err-take-clause-answered
 returns-in-Err-take-clause-answered g c =
     let part = take c.in-Ok.len c.read_next.new.block in
-    λ kind begin start h.
-    let stopped = c.in-Err-take.ensures kind start h.taken h.replied in
-    left_stopped kind g.R.Read.remaining g.W.Write.contents begin (g.I.Input.reader_of c.read_next.new.self) start c.break_off.new.writer (h.taken ++ part) stopped.0 stopped.1 stopped.2 (Consumes-trans _ _ _ h.taken part h.took c.in-Ok.ensures.bytes.0) (c.in-Ok.ensures.failures ∙ h.well) c.break_off.result (c.break_off.ensures kind start (stopped.0 ++ last_record stopped.1) stopped.3)
+    λ asked begin start h.
+    let stopped = c.in-Err-take.ensures asked start h.taken h.replied in
+    left_stopped asked g.R.Read.remaining g.W.Write.contents begin (g.I.Input.reader_of c.read_next.new.self) start c.break_off.new.writer (h.taken ++ part) stopped.0 stopped.1 stopped.2 (Consumes-trans _ _ _ h.taken part h.took c.in-Ok.ensures.bytes.0) (c.in-Ok.ensures.failures ∙ h.well) c.break_off.result (c.break_off.ensures asked start (stopped.0 ++ last_record stopped.1) stopped.3)
 
 pub returns-in-Err-clause-answered : goal.returns-in-Err-clause-answered
 returns-in-Err-clause-answered g c =
-    λ kind begin start h.
+    λ asked begin start h.
     let text = h.replied in
     let failed = subst (λ n. failures_of (g.I.Input.reader_of c.read_next.new.self) ≡ failures_after n true) h.well c.in-Err.ensures.failures in
-    left_read kind g.R.Read.remaining g.W.Write.contents begin (g.I.Input.reader_of c.read_next.new.self) start c.args.writer.now h.taken text.0 text.1 text.2 (Consumes-kept _ _ _ h.taken h.took c.in-Err.ensures.bytes) (inl failed) c.args.self.now text.3 c.requires.none c.requires.flushed
+    left_read asked g.R.Read.remaining g.W.Write.contents begin (g.I.Input.reader_of c.read_next.new.self) start c.args.writer.now h.taken text.0 text.1 text.2 (Consumes-kept _ _ _ h.taken h.took c.in-Err.ensures.bytes) (inl failed) c.args.self.now text.3 c.requires.none c.requires.flushed

@@ -11,7 +11,7 @@ returns-in-Err g c =
     let at = c.loop-len.at in
     let found = subst (λ t. IsFirstByte (is_byte 0) t (Some c.in-Some.len)) (take_rest block at) c.in-Some.ensures in
     let bytes_are : take ((at + c.in-Some.len) - at) (drop at block) ≡ take c.in-Some.len (drop at block) = ap (λ n. take n (drop at block)) (omega arith) in
-    λ kind start taken h. record_stopped kind g.W.Write.contents c.loop-len.self start c.loop-len.writer taken block at (c.loop-len.invariant.at kind start taken h) c.in-Some.len found _ bytes_are c.take_record.new.self c.take_record.new.writer c.in-Err.fault (λ whole rest is. c.in-Err.ensures kind start whole rest is)
+    λ asked start taken h. record_stopped asked g.W.Write.contents c.loop-len.self start c.loop-len.writer taken block at (c.loop-len.invariant.at asked start taken h) c.in-Some.len found _ bytes_are c.take_record.new.self c.take_record.new.writer c.in-Err.fault (λ whole rest is. c.in-Err.ensures asked start whole rest is)
 
 pub loop-len-preserved : goal.loop-len-preserved
 loop-len-preserved g c =
@@ -22,7 +22,7 @@ loop-len-preserved g c =
     let bytes_are : take ((at + c.in-Some.len) - at) (drop at block) ≡ take c.in-Some.len (drop at block) = ap (λ n. take n (drop at block)) (omega arith) in
     record {
       within = omega (arith, high, length-drop at block);
-      at = λ kind start taken h. record_taken kind g.W.Write.contents c.loop-len.self start c.loop-len.writer taken block at (c.loop-len.invariant.at kind start taken h) c.in-Some.len found _ bytes_are c.take_record.new.self c.take_record.new.writer (λ whole rest is. c.in_default-take_record.ensures kind start whole rest is);
+      at = λ asked start taken h. record_taken asked g.W.Write.contents c.loop-len.self start c.loop-len.writer taken block at (c.loop-len.invariant.at asked start taken h) c.in-Some.len found _ bytes_are c.take_record.new.self c.take_record.new.writer (λ whole rest is. c.in_default-take_record.ensures asked start whole rest is);
     }
 
 pub returns-in-Ok : goal.returns-in-Ok
@@ -30,12 +30,12 @@ returns-in-Ok g c =
     let block = c.args.block.now in
     let at = c.loop-len.at in
     let none = subst (λ t. IsFirstByte (is_byte 0) t None) (take_rest block at) c.in_default.ensures in
-    λ kind start taken h. part_taken kind g.W.Write.contents c.loop-len.self start c.loop-len.writer taken block at (c.loop-len.invariant.at kind start taken h) none _ refl
-    (λ first rest come. subst (λ t. HasCome c.extend.new.self kind first (rest ++ t)) (take_rest block at) (c.in-Ok.ensures kind first rest come))
+    λ asked start taken h. part_taken asked g.W.Write.contents c.loop-len.self start c.loop-len.writer taken block at (c.loop-len.invariant.at asked start taken h) none _ refl
+    (λ first rest come. subst (λ t. HasCome c.extend.new.self asked first (rest ++ t)) (take_rest block at) (c.in-Ok.ensures asked first rest come))
 
 pub returns-in-Err-extend : goal.returns-in-Err-extend
 returns-in-Err-extend g c =
     let block = c.args.block.now in
     let at = c.loop-len.at in
     let none = subst (λ t. IsFirstByte (is_byte 0) t None) (take_rest block at) c.in_default.ensures in
-    λ kind start taken h. part_refused kind g.W.Write.contents c.loop-len.self start c.loop-len.writer taken block at (c.loop-len.invariant.at kind start taken h) none (record { coming = c.extend.new.self; replies = c.loop-len.self.replies }) refl
+    λ asked start taken h. part_refused asked g.W.Write.contents c.loop-len.self start c.loop-len.writer taken block at (c.loop-len.invariant.at asked start taken h) none (record { coming = c.extend.new.self; replies = c.loop-len.self.replies }) refl

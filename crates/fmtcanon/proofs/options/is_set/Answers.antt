@@ -3,7 +3,7 @@ use Rattle.std.specs.Option.{option_map_or}
 use Rattle.std.specs.Str.{bytes_eq}
 use Rattle.clap.specs.Walk.{Text}
 use Rattle.fmtcanon.proofs.command_line.ModelLemmas.{value_of_row}
-use Rattle.fmtcanon.proofs.task.is_set.Goals as goal
+use Rattle.fmtcanon.proofs.options.is_set.Goals as goal
 
 abbrev says_true : Option Text → Bool
 says_true o = option_map_or (λ value. bytes_eq value (codes "true")) o false

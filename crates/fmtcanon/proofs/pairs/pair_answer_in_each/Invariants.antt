@@ -1,9 +1,9 @@
 use Rattle.std.proofs.Common.{take}
 use Rattle.std.specs.List.{AllByRecursion}
-use Rattle.fmtcanon.specs.Comparisons.{IsAnswerInEach}
-use Rattle.fmtcanon.specs.Languages.{AcceptsText, language_of}
-use Rattle.fmtcanon.specs.WholeAnswers.{IsPairAnswer}
-use Rattle.fmtcanon.proofs.whole.pair_answer_in_each.Given as goal
+use Rattle.fmtcanon.specs.PairAnswers.{IsAnswerInEach, IsPairAnswer}
+use Rattle.fmtcanon.specs.Languages.{AcceptsText}
+use Rattle.fmtcanon.specs.Questions.{language_of}
+use Rattle.fmtcanon.proofs.pairs.pair_answer_in_each.Given as goal
 
 -- the answers so far, in data models that accept both formats
 abbrev pub invariant-loop-model : goal.invariant-loop-model

@@ -1,7 +1,7 @@
-use Rattle.fmtcanon.specs.Languages.{language_of}
-use Rattle.fmtcanon.specs.WholeAnswers.{IsPairAnswer}
+use Rattle.fmtcanon.specs.Questions.{language_of}
+use Rattle.fmtcanon.specs.PairAnswers.{IsPairAnswer}
 use Rattle.fmtcanon.proofs.PairLemmas.{one_model}
-use Rattle.fmtcanon.proofs.whole.pair_answer.Goals as goal
+use Rattle.fmtcanon.proofs.pairs.pair_answer.Goals as goal
 
 pub returns-in-One : goal.returns-in-One
 returns-in-One c =

@@ -2,7 +2,7 @@ use Rattle.std.proofs.Common.{◌≡◌, ◌++◌, codes, take}
 use Rattle.std.specs.Prelude.{flat_map}
 use Rattle.fmtcanon.specs.Comparisons.{argument_line}
 use Rattle.fmtcanon.specs.Lines.{line}
-use Rattle.fmtcanon.proofs.comparison.argument_lines.Given as goal
+use Rattle.fmtcanon.proofs.comparison.witness_lines.Given as goal
 
 -- the lines so far
 abbrev pub invariant-loop-arg : goal.invariant-loop-arg

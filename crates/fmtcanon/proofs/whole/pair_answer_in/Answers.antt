@@ -1,7 +1,0 @@
-use Rattle.fmtcanon.proofs.whole.pair_answer_in.Goals as goal
-
-pub returns-in-Fits : goal.returns-in-Fits
-returns-in-Fits c = rw (c.in-Fits.is) c.fit_in.ensures
-
-pub returns-in-Same : goal.returns-in-Same
-returns-in-Same c = rw (c.in-Same.is) c.alike_in.ensures

@@ -1,0 +1,37 @@
+//! The options without a value that a command has.
+ghost use Rattle.std.specs.Prelude.{◌≡◌, codes};
+ghost use Rattle.std.specs.Str.{bytes_eq};
+ghost use Rattle.fmtcanon.specs.Options.{is_set, notation_in, rows_in};
+
+use crate::formats::Notation;
+use clap::ArgMatches;
+
+/// Returns how the formats are given.
+pub fn notation_of(inner: &ArgMatches<'_>) -> Notation
+    ensures { result ≡ notation_in (rows_in inner.now) }
+{
+    if is_set(inner, "literal") {
+        Notation::Literals
+    } else {
+        Notation::Bytes
+    }
+}
+
+/// Whether an option without a value is given.
+pub fn is_set(inner: &ArgMatches<'_>, id: &str) -> bool
+    ensures { result ≡ is_set id.now (rows_in inner.now) }
+{
+    match inner.get_str(id) {
+        Some(value) => is_true(value),
+        None => false,
+    }
+}
+
+fn is_true(value: &str) -> bool
+    ensures { result ≡ bytes_eq value.now (codes "true") }
+{
+    match value {
+        "true" => true,
+        _ => false,
+    }
+}

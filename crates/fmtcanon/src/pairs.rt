@@ -1,0 +1,97 @@
+//! Answers about two formats, in one data model after another.
+ghost use Rattle.std.specs.Prelude.{◌≡◌, ◌++◌, IfOk, MatchResult};
+ghost use Rattle.fmtcanon.specs.Answers.{IsPairFault, IsPairFaultIn};
+ghost use Rattle.fmtcanon.specs.Lines.{line};
+ghost use Rattle.fmtcanon.specs.Models.{asked_models};
+ghost use Rattle.fmtcanon.specs.PairAnswers.{IsAnswerInEach, IsPairAnswer, IsPairAnswerIn, ending_with};
+ghost use Rattle.fmtcanon.specs.Questions.{language_of};
+
+use crate::answer::{Answer, Ending};
+use crate::comparison::comparison_in;
+use crate::models::{Models, name_of};
+use crate::outcome::Fault;
+use crate::questions::PairQuestion;
+use crate::whole::{alike_in, fit_in};
+use pf_values::Model;
+use std::alloc::{AllocError, Global};
+
+/// Answers a question about two formats in the data models that are asked for. In more than one, each
+/// answer comes below the name of its model.
+pub fn pair_answer(
+    alloc: Global,
+    question: PairQuestion,
+    models: Models,
+    first: &[u8],
+    second: &[u8],
+) -> Result<Answer, Fault>
+    ensures { MatchResult result
+        (λ answer. IsPairAnswerIn question models first.now second.now answer.bytes.items answer.ending)
+        (IsPairFaultIn (language_of question) (asked_models models) first.now second.now) }
+{
+    match models {
+        Models::One(model) => pair_answer_in(alloc, question, model, first, second),
+        Models::Both => pair_answer_in_each(alloc, question, &Model::ALL[..2], first, second),
+        Models::All => pair_answer_in_each(alloc, question, &Model::ALL, first, second),
+    }
+}
+
+fn pair_answer_in_each(
+    alloc: Global,
+    question: PairQuestion,
+    models: &[Model],
+    first: &[u8],
+    second: &[u8],
+) -> Result<Answer, Fault>
+    ensures { MatchResult result
+        (λ answer. IsAnswerInEach (λ model. IsPairAnswer question model first.now second.now)
+        models.now answer.bytes.items answer.ending)
+        (IsPairFaultIn (language_of question) models.now first.now second.now) }
+{
+    let mut bytes = Vec::new(alloc);
+    let mut ending = Ending::Same;
+    for model in models {
+        let answer = pair_answer_in(alloc, question, *model, first, second)?;
+        push_verdict(&mut bytes, name_of(*model), &answer.bytes)?;
+        ending = ending_with(ending, answer.ending);
+    }
+    Ok(Answer { bytes, ending })
+}
+
+fn pair_answer_in(
+    alloc: Global,
+    question: PairQuestion,
+    model: Model,
+    first: &[u8],
+    second: &[u8],
+) -> Result<Answer, Fault>
+    ensures { MatchResult result
+        (λ answer. IsPairAnswer question model first.now second.now answer.bytes.items answer.ending)
+        (IsPairFault (language_of question) model first.now second.now) }
+{
+    match question {
+        PairQuestion::Fits => fit_in(alloc, model, first, second),
+        PairQuestion::Same => comparison_in(alloc, model, first, second),
+        PairQuestion::WholeSame => alike_in(alloc, model, first, second),
+    }
+}
+
+// Adds the name of a data model, and the lines of the verdict in it.
+fn push_verdict(out: &mut Vec<u8>, name: &str, lines: &[u8]) -> Result<(), AllocError>
+    ensures { IfOk result (λ _. out.new.items ≡ out.old.items ++ line name.now ++ lines.now) }
+{
+    out.extend_from_slice(name.as_bytes())?;
+    out.push(b'\n')?;
+    out.extend_from_slice(lines)?;
+    Ok(())
+}
+
+// Returns how a run ends with one verdict more: formats are the same if they are in each data model.
+fn ending_with(ending: Ending, others: Ending) -> Ending
+    ensures { result ≡ ending_with ending others }
+{
+    match ending {
+        Ending::Same => others,
+        Ending::Done => Ending::Done,
+        Ending::Different => Ending::Different,
+    }
+}
