@@ -18,7 +18,7 @@ use Rattle.pf_values.specs.meaning.Text.{Text, dollar, percent}
 use Rattle.fmtcanon.specs.Languages.{Language, Profile, Numbered, RefusesInProfile, RefusesText, Unnumbered}
 use Rattle.fmtcanon.specs.Answers.{IsFormatFault, IsPairFault, IsGivenFault, IsGivenPairFault, IsOneFault, IsRefusalOfFirst, IsFaultInTexts, IsFaultInText, side_of}
 use Rattle.fmtcanon.specs.FormatArguments.{IsArgumentFault}
-use Rattle.fmtcanon.specs.Formats.{HoldsFormat, IsFormat, IsPlaceInText}
+use Rattle.fmtcanon.specs.Formats.{HoldsFormat, IsFormat, IsOffsetInText}
 use Rattle.fmtcanon.specs.Questions.{language_of_format}
 use Rattle.fmtcanon.specs.declared.outcome.Fault.{Fault}
 use Rattle.fmtcanon.specs.declared.outcome.Fault.TheVariants.{Refused, RefusedWhole, BadLiteral, BadWord, WrongCount, WrongType, Memory}
@@ -53,21 +53,22 @@ unnumbered_within : (model : Model) (bytes : Text) (kind : SignatureRefusalKind)
 unnumbered_within model bytes kinds.Numbered at h = numbered_within bytes at h.0
 unnumbered_within model bytes kind at h = posix_within model bytes kind at h.0
 
-place_there : (text bytes : Text) (index : ℕ) (found : Option ℕ) → MatchOption found (HasNoPlace text index) (IsPlaceOf text index) → IsSourceOf text bytes → index ≤ length bytes
+offset_there : (text bytes : Text) (index : ℕ) (found : Option ℕ)
+    → MatchOption found (HasNoPlace text index) (IsPlaceOf text index) → IsSourceOf text bytes → index ≤ length bytes
     → IsPlaceOf text index (unwrap_or found index)
-place_there text bytes index None none is within = let there = has_place text bytes index is within in absurd (none there.0 there.1)
-place_there text bytes index (Some at) place is within = place
+offset_there text bytes index None none is within = let there = has_place text bytes index is within in absurd (none there.0 there.1)
+offset_there text bytes index (Some at) place is within = place
 
--- the place of a byte in literals
-pub place_in_literals : (given : GivenFormat) (index at : ℕ) (found : Option ℕ) → given.notation ≡ Literals
+-- the offset of a byte in literals
+pub offset_in_literals : (given : GivenFormat) (index at : ℕ) (found : Option ℕ) → given.notation ≡ Literals
     → MatchOption found (HasNoPlace given.text.now index) (IsPlaceOf given.text.now index) → at ≡ unwrap_or found index
-    → (bytes : Text) → IsFormat given bytes → index ≤ length bytes → IsPlaceInText given.notation given.text.now index at
-place_in_literals given index at found is place e bytes gives within =
+    → (bytes : Text) → IsFormat given bytes → index ≤ length bytes → IsOffsetInText given.notation given.text.now index at
+offset_in_literals given index at found is place e bytes gives within =
     let text = given.text.now in
-    let there = place_there text bytes index found place (subst (λ n. HoldsFormat n text bytes) is gives) within in
-    subst (λ n. IsPlaceInText n text index at) (sym is) (subst (IsPlaceOf text index) (sym e) there)
+    let there = offset_there text bytes index found place (subst (λ n. HoldsFormat n text bytes) is gives) within in
+    subst (λ n. IsOffsetInText n text index at) (sym is) (subst (IsPlaceOf text index) (sym e) there)
 
--- the place of a fault is within the bytes, and no fault of literals is one of bytes
+-- the offset of a fault is within the bytes, and no fault of literals is one of bytes
 abbrev pub IsOfBytes : Text → Fault → Type 0
 IsOfBytes bytes (Refused None refusal) = refusal.at ≤ length bytes
 IsOfBytes bytes (Refused (Some side) refusal) = ⊥
@@ -79,14 +80,19 @@ IsOfBytes bytes (WrongCount wanted given) = ⊤
 IsOfBytes bytes (WrongType index) = ⊤
 IsOfBytes bytes Memory = ⊤
 
--- why the bytes of a format have no answer, at the place in the text
-pub given_fault : (IsFault : Text → Fault → Type 0) (given : GivenFormat) (bytes : Text) (fault reported : Fault) → ((f : Fault) → IsFault bytes f → IsOfBytes bytes f)
+-- why the bytes of a format have no answer, at the offset in the text
+pub given_fault : (IsFault : Text → Fault → Type 0) (given : GivenFormat) (bytes : Text) (fault reported : Fault)
+    → ((f : Fault) → IsFault bytes f → IsOfBytes bytes f)
     → IsFormat given bytes → IsFault bytes fault → IsFaultInText given fault reported → IsGivenFault IsFault given reported
-given_fault IsFault given bytes (Refused None refusal) reported of gives h (at, is, of_place) =
-    subst (IsGivenFault IsFault given) (sym is) (record { bytes = bytes; gives = gives; at = refusal.at; holds = h; place_is = of_place bytes gives (of (Refused None refusal) h) })
+given_fault IsFault given bytes (Refused None refusal) reported of gives h (at, is, of_offset) =
+    let offset_is = of_offset bytes gives (of (Refused None refusal) h) in
+    subst (IsGivenFault IsFault given) (sym is)
+    (record { bytes = bytes; gives = gives; at = refusal.at; holds = h; offset_is = offset_is })
 given_fault IsFault given bytes (Refused (Some side) refusal) reported of gives h is = absurd (of (Refused (Some side) refusal) h)
-given_fault IsFault given bytes (RefusedWhole None refusal) reported of gives h (at, is, of_place) =
-    subst (IsGivenFault IsFault given) (sym is) (record { bytes = bytes; gives = gives; at = refusal.at; holds = h; place_is = of_place bytes gives (of (RefusedWhole None refusal) h) })
+given_fault IsFault given bytes (RefusedWhole None refusal) reported of gives h (at, is, of_offset) =
+    let offset_is = of_offset bytes gives (of (RefusedWhole None refusal) h) in
+    subst (IsGivenFault IsFault given) (sym is)
+    (record { bytes = bytes; gives = gives; at = refusal.at; holds = h; offset_is = offset_is })
 given_fault IsFault given bytes (RefusedWhole (Some side) refusal) reported of gives h is = absurd (of (RefusedWhole (Some side) refusal) h)
 given_fault IsFault given bytes (BadLiteral side refusal) reported of gives h is = absurd (of (BadLiteral side refusal) h)
 given_fault IsFault given bytes (BadWord index) reported of gives h is = subst (IsGivenFault IsFault given) (sym is) (bytes, gives, h)
@@ -136,28 +142,28 @@ pub one_of_bytes : (question : OneQuestion) (model : Model) (bytes : Text) (faul
 one_of_bytes (Any question) model bytes fault h = format_of_bytes (language_of_format question) model bytes fault h
 one_of_bytes (Printed words) model bytes fault h = arguments_of_bytes model (map (λ s. s.now) words.items) bytes fault h
 
-module _ (language : Language) (model : Model) (first second : GivenFormat) (one : Text) (g : IsFormat first one) where
-  -- the refusal of the first of two formats, at the place in the text
-  pub first_refused : (fault reported : Fault) → IsRefusalOfFirst language model one fault → IsFaultInText first fault reported
+module _ (language : Language) (model : Model) (first second : GivenFormat) (first_bytes : Text) (g : IsFormat first first_bytes) where
+  -- the refusal of the first of two formats, at the offset in the text
+  pub first_refused : (fault reported : Fault) → IsRefusalOfFirst language model first_bytes fault → IsFaultInText first fault reported
       → IsGivenPairFault language model first second reported
   first_refused (Refused None refusal) reported h is = absurd h
-  first_refused (Refused (Some sides.First) refusal) reported h (at, is, of_place) =
+  first_refused (Refused (Some sides.First) refusal) reported h (at, is, of_offset) =
       subst (IsGivenPairFault language model first second) (sym is) (record {
-        bytes = one;
+        bytes = first_bytes;
         gives = g;
         at = refusal.at;
         holds = h;
-        place_is = of_place one g (refusal_within language one refusal h);
+        offset_is = of_offset first_bytes g (refusal_within language first_bytes refusal h);
       })
   first_refused (Refused (Some sides.Second) refusal) reported h is = absurd h
   first_refused (RefusedWhole None refusal) reported h is = absurd h
-  first_refused (RefusedWhole (Some sides.First) refusal) reported h (at, is, of_place) =
+  first_refused (RefusedWhole (Some sides.First) refusal) reported h (at, is, of_offset) =
       subst (IsGivenPairFault language model first second) (sym is) (record {
-        bytes = one;
+        bytes = first_bytes;
         gives = g;
         at = refusal.at;
         holds = h;
-        place_is = of_place one g (whole_within language model one refusal h);
+        offset_is = of_offset first_bytes g (whole_within language model first_bytes refusal h);
       })
   first_refused (RefusedWhole (Some sides.Second) refusal) reported h is = absurd h
   first_refused (BadLiteral side refusal) reported h is = absurd h
@@ -167,38 +173,38 @@ module _ (language : Language) (model : Model) (first second : GivenFormat) (one
   first_refused Memory reported h is = absurd h
 
   -- why two formats have no answer
-  pub pair_fault : (other : Text) → IsFormat second other → (fault reported : Fault) → IsPairFault language model one other fault
+  pub pair_fault : (second_bytes : Text) → IsFormat second second_bytes → (fault reported : Fault) → IsPairFault language model first_bytes second_bytes fault
       → IsFaultInTexts first second (side_of fault) fault reported → IsGivenPairFault language model first second reported
-  pair_fault other h (Refused None refusal) reported hinders is = absurd hinders
-  pair_fault other h (Refused (Some sides.First) refusal) reported hinders is =
+  pair_fault second_bytes h (Refused None refusal) reported hinders is = absurd hinders
+  pair_fault second_bytes h (Refused (Some sides.First) refusal) reported hinders is =
       first_refused (Refused (Some sides.First) refusal) reported hinders is
-  pair_fault other h (Refused (Some sides.Second) refusal) reported hinders (at, is, of_place) =
+  pair_fault second_bytes h (Refused (Some sides.Second) refusal) reported hinders (at, is, of_offset) =
       subst (IsGivenPairFault language model first second) (sym is) (
-        (one, g, hinders.0),
+        (first_bytes, g, hinders.0),
         record {
-          bytes = other;
+          bytes = second_bytes;
           gives = h;
           at = refusal.at;
           holds = hinders.1;
-          place_is = of_place other h (refusal_within language other refusal hinders.1);
+          offset_is = of_offset second_bytes h (refusal_within language second_bytes refusal hinders.1);
         },
       )
-  pair_fault other h (RefusedWhole None refusal) reported hinders is = absurd hinders
-  pair_fault other h (RefusedWhole (Some sides.First) refusal) reported hinders is =
+  pair_fault second_bytes h (RefusedWhole None refusal) reported hinders is = absurd hinders
+  pair_fault second_bytes h (RefusedWhole (Some sides.First) refusal) reported hinders is =
       first_refused (RefusedWhole (Some sides.First) refusal) reported hinders is
-  pair_fault other h (RefusedWhole (Some sides.Second) refusal) reported hinders (at, is, of_place) =
+  pair_fault second_bytes h (RefusedWhole (Some sides.Second) refusal) reported hinders (at, is, of_offset) =
       subst (IsGivenPairFault language model first second) (sym is) (
-        (one, g, hinders.0),
+        (first_bytes, g, hinders.0),
         record {
-          bytes = other;
+          bytes = second_bytes;
           gives = h;
           at = refusal.at;
           holds = hinders.1;
-          place_is = of_place other h (whole_within language model other refusal hinders.1);
+          offset_is = of_offset second_bytes h (whole_within language model second_bytes refusal hinders.1);
         },
       )
-  pair_fault other h (BadLiteral side refusal) reported hinders is = absurd hinders
-  pair_fault other h (BadWord index) reported hinders is = absurd hinders
-  pair_fault other h (WrongCount wanted given) reported hinders is = absurd hinders
-  pair_fault other h (WrongType index) reported hinders is = absurd hinders
-  pair_fault other h Memory reported hinders is = subst (IsGivenPairFault language model first second) (sym is) tt
+  pair_fault second_bytes h (BadLiteral side refusal) reported hinders is = absurd hinders
+  pair_fault second_bytes h (BadWord index) reported hinders is = absurd hinders
+  pair_fault second_bytes h (WrongCount wanted given) reported hinders is = absurd hinders
+  pair_fault second_bytes h (WrongType index) reported hinders is = absurd hinders
+  pair_fault second_bytes h Memory reported hinders is = subst (IsGivenPairFault language model first second) (sym is) tt

@@ -67,19 +67,20 @@ one_model Says language model first second (Err fault) h =
     record { before = []; model = model; after = []; split = refl; accepted = tt; fault_is = h }
 
 module _ (language : Language) (first second : GivenFormat) where
-  -- a fault of texts is one of the formats that give them
-  pub pair_faults : (one other : Text) → IsFormat first one → IsFormat second other → (models : List Model) (fault reported : Fault)
-      → IsPairFaultIn language models one other fault → IsFaultInTexts first second (side_of fault) fault reported
+  -- a fault of texts is first_bytes of the formats that give them
+  pub pair_faults : (first_bytes second_bytes : Text) → IsFormat first first_bytes → IsFormat second second_bytes
+      → (models : List Model) (fault reported : Fault)
+      → IsPairFaultIn language models first_bytes second_bytes fault → IsFaultInTexts first second (side_of fault) fault reported
       → IsGivenPairFaultIn language models first second reported
-  pair_faults one other g h models fault reported k is =
+  pair_faults first_bytes second_bytes g h models fault reported k is =
       record {
         before = k.before;
         model = k.model;
         after = k.after;
         split = k.split;
         accepted = all_map _ (λ model. HoldsOf first (AcceptsText language model) × HoldsOf second (AcceptsText language model))
-            k.before (λ model a. ((one, g, a.0), (other, h, a.1))) k.accepted;
-        fault_is = pair_fault language k.model first second one g other h fault reported k.fault_is is;
+            k.before (λ model a. ((first_bytes, g, a.0), (second_bytes, h, a.1))) k.accepted;
+        fault_is = pair_fault language k.model first second first_bytes g second_bytes h fault reported k.fault_is is;
       }
 
   rest_of : (models : Models) → (rest : List Model) × (asked_models models ≡ first_model models ∷ rest)
@@ -111,15 +112,15 @@ module _ (language : Language) (first second : GivenFormat) where
       subst (IsGivenPairFaultIn language (asked_models models) first second) (sym e)
       (first_fault models (of_literal (Some sides.First) fault) (literal_first (first_model models) fault h))
 
-  pub second_missing : (models : Models) (model : Model) (one : Text) (refused : Option Fault) (fault : LiteralFault) (result : Fault)
-      → model ≡ first_model models → IsFormat first one
-      → MatchOption refused (AcceptsText language model one) (λ f. (second : GivenFormat) → IsGivenPairFault language model first second f)
+  pub second_missing : (models : Models) (model : Model) (first_bytes : Text) (refused : Option Fault) (fault : LiteralFault) (result : Fault)
+      → model ≡ first_model models → IsFormat first first_bytes
+      → MatchOption refused (AcceptsText language model first_bytes) (λ f. (second : GivenFormat) → IsGivenPairFault language model first second f)
       → IsBytesFault second fault → MatchOption refused (result ≡ of_literal (Some sides.Second) fault) (λ f. result ≡ f)
       → IsGivenPairFaultIn language (asked_models models) first second result
-  second_missing models model one None fault result m g accepted h e =
-      let holds = subst (λ x. AcceptsText language x one) m accepted in
+  second_missing models model first_bytes None fault result m g accepted h e =
+      let holds = subst (λ x. AcceptsText language x first_bytes) m accepted in
       subst (IsGivenPairFaultIn language (asked_models models) first second) (sym e)
-      (first_fault models (of_literal (Some sides.Second) fault) (literal_second (first_model models) fault (one, g, holds) h))
-  second_missing models model one (Some f) fault result m g refused h e =
+      (first_fault models (of_literal (Some sides.Second) fault) (literal_second (first_model models) fault (first_bytes, g, holds) h))
+  second_missing models model first_bytes (Some f) fault result m g refused h e =
       subst (IsGivenPairFaultIn language (asked_models models) first second) (sym e)
       (first_fault models f (subst (λ x. IsGivenPairFault language x first second f) m (refused second)))

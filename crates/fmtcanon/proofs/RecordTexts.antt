@@ -17,7 +17,7 @@ bare_more : (rest bytes : Text) → IsBare rest → IsBare bytes → IsBare (res
 bare_more [] bytes h b = b
 bare_more (byte ∷ rest) bytes h b = (h.0, bare_more rest bytes h.1 b)
 
--- bytes came that are not zero, or a zero byte
+-- bytes came that are not NUL, or a NUL
 pub cut_part : (t : Text) (whole : List Text) (rest bytes : Text) → IsBare bytes → IsRecords t whole rest → IsRecords (t ++ bytes) whole (rest ++ bytes)
 cut_part t whole rest bytes b h = record { bare = (h.bare.0, bare_more rest bytes h.bare.1 b); is = ap (λ u. u ++ bytes) h.is ∙ append_assoc (flat_map (λ r. r ++ 0 ∷ []) whole) rest bytes }
 
@@ -71,7 +71,7 @@ bare_none hay h = subst IsBare (take_whole hay) (bare_below hay (length hay) h)
     take_whole [] = refl
     take_whole (b ∷ t) = ap (λ u. b ∷ u) (take_whole t)
 
--- the first zero byte of a block from a place on ends a record
+-- the first NUL of a block from an offset on ends a record
 module _ (taken block : Text) (whole : List Text) (rest : Text) (at : ℕ) (h : IsRecords (taken ++ take at block) whole rest) where
   pub cut_found : (len : ℕ) → IsFirstByte (is_byte 0) (drop at block) (Some len) → IsRecords (taken ++ take (at + (len + 1)) block) (whole ++ (rest ++ take len (drop at block)) ∷ []) []
   cut_found len found =

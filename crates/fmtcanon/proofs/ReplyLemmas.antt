@@ -9,14 +9,14 @@ use Rattle.pf_values.specs.declared.counted.Counted.{Counted}
 use Rattle.pf_values.specs.Counting.{HasFailed, Known, WritesAll, WritesFirst, device_of}
 use Rattle.pf_values.specs.meaning.Text.{Text}
 use Rattle.pf_values.proofs.WriteLemmas.{WritesFirst-more}
-use Rattle.fmtcanon.specs.Conversations.{HasReplies, HasSaid, HasSaidFirst, count_of, waiting_text}
+use Rattle.fmtcanon.specs.RecordRuns.{HasReplies, HasSaid, HasSaidFirst, count_of, waiting_text}
 use Rattle.fmtcanon.specs.Outcomes.{status_of}
 use Rattle.fmtcanon.specs.Questions.{IsAbout}
 use Rattle.fmtcanon.specs.Records.{IsReply, Reply, RunWrites, replies_text, reply_bytes}
 use Rattle.fmtcanon.specs.declared.outcome.Outcome.{Outcome}
 use Rattle.fmtcanon.specs.declared.questions.Question.{Question}
 use Rattle.fmtcanon.specs.declared.questions.RecordQuestion.{RecordQuestion}
-use Rattle.fmtcanon.specs.declared.records.Replies.{Replies}
+use Rattle.fmtcanon.specs.declared.replies.Replies.{Replies}
 
 -- a count that stays at a bound goes on from one that did
 min-more : (a b m : ℕ) → min (min a m + b) m ≡ min (a + b) m

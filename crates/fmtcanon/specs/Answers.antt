@@ -20,7 +20,7 @@ use Rattle.fmtcanon.specs.declared.questions.Question.{Question}
 use Rattle.fmtcanon.specs.declared.questions.Question.TheVariants.{One, Two}
 use Rattle.fmtcanon.specs.ArgumentLines.{HasArgumentLines}
 use Rattle.fmtcanon.specs.FormatArguments.{IsArgumentFault, IsPrinted}
-use Rattle.fmtcanon.specs.Formats.{HoldsAt, HoldsOf, IsFormat, IsNoFormat, IsPlaceInText, written_in}
+use Rattle.fmtcanon.specs.Formats.{HoldsAt, HoldsOf, IsFormat, IsNoFormat, IsOffsetInText, written_in}
 use Rattle.fmtcanon.specs.Languages.{Language, AcceptsText, RefusesInProfile, RefusesText}
 use Rattle.fmtcanon.specs.Lines.{line}
 use Rattle.fmtcanon.specs.Models.{asked_models}
@@ -103,7 +103,7 @@ IsPairFaultIn language models first second = IsFirstFault models
     (λ model. AcceptsText language model first × AcceptsText language model second)
     (λ model. IsPairFault language model first second)
 
--- Why a format that is given has none, by why its bytes have none: a refusal is reported at its place in
+-- Why a format that is given has none, by why its bytes have none: a refusal is reported at its offset in
 -- the text.
 abbrev pub IsGivenFault : (Text → Fault → Type 0) → GivenFormat → Fault → Type 0
 IsGivenFault IsFault given (Refused None refusal) = HoldsAt given
@@ -171,17 +171,17 @@ side_of (WrongCount wanted given) = None
 side_of (WrongType index) = None
 side_of Memory = None
 
--- a place in the bytes of a format is reported as this place of the text
-abbrev pub IsPlaceOfByte : GivenFormat → ℕ → ℕ → Type 0
-IsPlaceOfByte given at reported = (bytes : Text) → IsFormat given bytes → at ≤ length bytes
-    → IsPlaceInText given.notation given.text.now at reported
+-- an index in the bytes of a format is reported as this offset in the text
+abbrev pub IsOffsetOfByte : GivenFormat → ℕ → ℕ → Type 0
+IsOffsetOfByte given at reported = (bytes : Text) → IsFormat given bytes → at ≤ length bytes
+    → IsOffsetInText given.notation given.text.now at reported
 
--- A refusal of the bytes of a format is reported at its place in the text, any other fault as it is.
+-- A refusal of the bytes of a format is reported at its offset in the text, any other fault as it is.
 abbrev pub IsFaultInText : GivenFormat → Fault → Fault → Type 0
 IsFaultInText given (Refused side refusal) reported = (at : ℕ)
-    × (reported ≡ Refused side (record refusal { at = at })) × IsPlaceOfByte given refusal.at at
+    × (reported ≡ Refused side (record refusal { at = at })) × IsOffsetOfByte given refusal.at at
 IsFaultInText given (RefusedWhole side refusal) reported = (at : ℕ)
-    × (reported ≡ RefusedWhole side (record refusal { at = at })) × IsPlaceOfByte given refusal.at at
+    × (reported ≡ RefusedWhole side (record refusal { at = at })) × IsOffsetOfByte given refusal.at at
 IsFaultInText given (BadLiteral side refusal) reported = reported ≡ BadLiteral side refusal
 IsFaultInText given (BadWord index) reported = reported ≡ BadWord index
 IsFaultInText given (WrongCount wanted had) reported = reported ≡ WrongCount wanted had

@@ -1,4 +1,4 @@
--- Formats as they are given, and places in them. This project's own.
+-- Formats as they are given, and offsets in them. This project's own.
 use Rattle.std.specs.Prelude.{◌≡◌, ℕ, ⊤}
 use Rattle.pf_literals.specs.declared.faults.LiteralFault.{LiteralFault}
 use Rattle.pf_literals.specs.declared.faults.LiteralFault.TheVariants.{Refused, Memory}
@@ -20,10 +20,10 @@ abbrev pub HoldsFormat : Notation → Text → Text → Type 0
 HoldsFormat Bytes text bytes = bytes ≡ text
 HoldsFormat Literals text bytes = IsSourceOf text bytes
 
--- the place in the text of a byte that it gives, or of the end of the bytes
-abbrev pub IsPlaceInText : Notation → Text → ℕ → ℕ → Type 0
-IsPlaceInText Bytes text index at = at ≡ index
-IsPlaceInText Literals text index at = IsPlaceOf text index at
+-- the offset in the text of a byte that it gives, or of the end of the bytes
+abbrev pub IsOffsetInText : Notation → Text → ℕ → ℕ → Type 0
+IsOffsetInText Bytes text index at = at ≡ index
+IsOffsetInText Literals text index at = IsPlaceOf text index at
 
 -- the text gives no bytes, for this reason
 abbrev pub HoldsNoFormat : Notation → Text → LiteralRefusal → Type 0
@@ -35,7 +35,7 @@ abbrev pub written_in : Notation → Text → Text
 written_in Bytes bytes = bytes
 written_in Literals bytes = encoding bytes
 
--- the same of a format that is given
+-- the bytes of a format that is given, and why it has none
 abbrev pub IsFormat : GivenFormat → Text → Type 0
 IsFormat given bytes = HoldsFormat given.notation given.text.now bytes
 
@@ -51,13 +51,13 @@ IsBytesFault given Memory = ⊤
 abbrev pub HoldsOf : GivenFormat → (Text → Type 0) → Type 0
 HoldsOf given Holds = (bytes : Text) × IsFormat given bytes × Holds bytes
 
--- something holds of its bytes at the place in them that belongs to a place of the text
+-- something holds of its bytes at the index in them that belongs to an offset in the text
 pub record HoldsAt (given : GivenFormat) (Holds : Text → ℕ → Type 0) (reported : ℕ) : Type 0 where
   pub bytes : Text
   pub gives : IsFormat given bytes
   pub at : ℕ
   pub holds : Holds bytes at
-  pub place_is : IsPlaceInText given.notation given.text.now at reported
+  pub offset_is : IsOffsetInText given.notation given.text.now at reported
 
 -- `literal` is the canonical text of the format that `t` gives as literals, as one literal
 pub record IsCanonicalLiteralOf (model : Model) (t literal : Text) : Type 0 where

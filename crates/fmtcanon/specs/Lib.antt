@@ -21,5 +21,5 @@ pub mod Outcomes
 pub mod Reports
 pub mod Streams
 pub mod Records
-pub mod Conversations
+pub mod RecordRuns
 pub mod Runs

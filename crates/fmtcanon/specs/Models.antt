@@ -19,7 +19,7 @@ model_name Llp64 = codes "llp64"
 abbrev pub model_names : List Text
 model_names = map model_name ALL
 
--- the same, where two formats are compared: in the first two, or in all
+-- those where two formats are compared: of one, of the first two together, or of all
 abbrev pub model_names_or_more : List Text
 model_names_or_more = model_names ++ codes "both" ∷ codes "all" ∷ []
 

@@ -17,11 +17,11 @@ use Rattle.fmtcanon.specs.declared.outcome.Outcome.TheVariants.{Written, Failed,
 use Rattle.fmtcanon.specs.declared.questions.Question.{Question}
 use Rattle.fmtcanon.specs.declared.questions.RecordQuestion.{RecordQuestion}
 
--- a text has no zero byte
+-- a text has no NUL
 abbrev pub IsBare : Text → Type 0
 IsBare text = AllByRecursion (λ byte. byte ≢ 0) text
 
--- A text is these whole records, each with a zero byte after it, and then the rest of it.
+-- A text is these whole records, each with a NUL after it, and then the rest of it.
 pub record IsRecords (text : Text) (whole : List Text) (rest : Text) : Type 0 where
   pub bare : AllByRecursion IsBare whole × IsBare rest
   pub is : text ≡ flat_map (λ r. r ++ 0 ∷ []) whole ++ rest
@@ -39,7 +39,7 @@ RunWrites question said outcome =
     ⊎ ((fault : Fault) × IsQuestionFault question fault × (fault ≢ faults.Memory)
     × (outcome ≡ Failed fault) × (said ≡ fault_text fault))
 
--- a reply: the digit of the status, a space, what is said but for its last newline, a zero byte
+-- a reply: the digit of the status, a space, what is said except for its last newline, a NUL
 abbrev pub reply_bytes : ℕ → Text → Text
 reply_bytes status said =
     (48 + status) ∷ 32 ∷ take (length said - 1) said ++ 0 ∷ []
@@ -64,7 +64,7 @@ pub record IsReply (asked : RecordQuestion) (reply : Reply) : Type 0 where
 abbrev pub replies_text : List Reply → Text
 replies_text replies = flat_map (λ r. r.bytes) replies
 
--- the greatest of their statuses, and 0 where there are none
+-- the highest of their statuses, and 0 if there are none
 abbrev pub greatest_of : List Reply → ℕ
 greatest_of replies = fold (λ greatest r. max greatest r.status) 0 replies
 

@@ -23,7 +23,7 @@ side_words None = []
 side_words (Some sides.First) = codes "first: "
 side_words (Some sides.Second) = codes "second: "
 
--- what is wrong with it, with its number, its name and its place
+-- what is wrong with it, with its number, its name and its offset
 abbrev pub fault_words : Option Side → Text → ℕ → Text → ℕ → Text
 fault_words side what number name at =
     side_words side ++ what ++ decimal number ++ codes " " ++ name ++ codes " at byte " ++ decimal at

@@ -107,7 +107,7 @@ pub fn answer_about_one(
     let bytes = format.bytes(alloc)?;
     match answer_about_bytes(alloc, asked, format.notation, model, bytes.as_slice()) {
         Ok(out) => Ok(out),
-        Err(fault) => Err(placed_in(format, fault)),
+        Err(fault) => Err(fault_in_text(format, fault)),
     }
 }
 
@@ -180,7 +180,7 @@ pub fn answer_about_two(
         second_bytes.as_slice(),
     ) {
         Ok(answer) => Ok(answer),
-        Err(fault) => Err(placed_in_pair(first, second, fault)),
+        Err(fault) => Err(fault_in_texts(first, second, fault)),
     }
 }
 
@@ -209,7 +209,7 @@ fn refused(
 {
     match refusal_of_first(asked, model, bytes) {
         None => None,
-        Some(fault) => Some(placed_in(first, fault)),
+        Some(fault) => Some(fault_in_text(first, fault)),
     }
 }
 
@@ -247,7 +247,7 @@ fn first_refused_whole(refusal: SignatureRefusal) -> Fault
 }
 
 // A fault of the bytes of a format, as a fault of the format that is given.
-fn placed_in(format: &GivenFormat<'_>, fault: Fault) -> Fault
+fn fault_in_text(format: &GivenFormat<'_>, fault: Fault) -> Fault
     ensures { IsFaultInText format.now fault result }
 {
     match fault {
@@ -255,14 +255,14 @@ fn placed_in(format: &GivenFormat<'_>, fault: Fault) -> Fault
             side,
             refusal: Refusal {
                 kind: refusal.kind,
-                at: format.place_of(refusal.at),
+                at: format.offset_of(refusal.at),
             },
         },
         Fault::RefusedWhole { side, refusal } => Fault::RefusedWhole {
             side,
             refusal: SignatureRefusal {
                 kind: refusal.kind,
-                at: format.place_of(refusal.at),
+                at: format.offset_of(refusal.at),
             },
         },
         _ => fault,
@@ -270,13 +270,13 @@ fn placed_in(format: &GivenFormat<'_>, fault: Fault) -> Fault
 }
 
 // A fault of the bytes of two formats, as a fault of those that are given.
-fn placed_in_pair(first: &GivenFormat<'_>, second: &GivenFormat<'_>, fault: Fault) -> Fault
+fn fault_in_texts(first: &GivenFormat<'_>, second: &GivenFormat<'_>, fault: Fault) -> Fault
     ensures { IsFaultInTexts first.now second.now (side_of fault) fault result }
 {
     match side_of(fault) {
-        Some(Side::Second) => placed_in(second, fault),
-        Some(Side::First) => placed_in(first, fault),
-        None => placed_in(first, fault),
+        Some(Side::Second) => fault_in_text(second, fault),
+        Some(Side::First) => fault_in_text(first, fault),
+        None => fault_in_text(first, fault),
     }
 }
 

@@ -4,7 +4,7 @@ ghost use Rattle.std.specs.Cow.{cow_slice_items};
 ghost use Rattle.pf_literals.specs.Answers.{FaultForDecode};
 ghost use Rattle.pf_literals.specs.Sources.{IsSourceOf};
 ghost use Rattle.pf_values.specs.meaning.Text.{Text};
-ghost use Rattle.fmtcanon.specs.Formats.{IsBytesFault, IsFormat, IsPlaceInText, written_in};
+ghost use Rattle.fmtcanon.specs.Formats.{IsBytesFault, IsFormat, IsOffsetInText, written_in};
 
 use pf_literals::{LiteralFault, decode, encode, source_offset};
 use std::alloc::{AllocError, Global};
@@ -60,14 +60,14 @@ impl<'a> GivenFormat<'a> {
         }
     }
 
-    /// The place in the text that gives the byte of this index, or their end.
-    pub fn place_of(&self, index: u64) -> u64
+    /// Returns the offset in the text of what gives the byte with this index, or of their end.
+    pub fn offset_of(&self, index: u64) -> u64
         ensures { (bytes : Text) → IsFormat self.now bytes → index ≤ length bytes
-            → IsPlaceInText self.now.notation self.now.text.now index result }
+            → IsOffsetInText self.now.notation self.now.text.now index result }
     {
         match self.notation {
             Notation::Bytes => index,
-            // Each byte of a source has a place, and their end has one.
+            // Each byte of a source has an offset, and so has their end.
             Notation::Literals => source_offset(self.text, index).unwrap_or(index),
         }
     }

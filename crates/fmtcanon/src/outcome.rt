@@ -269,9 +269,9 @@ pub fn fault_line(fault: &Fault) -> Line
         Fault::Refused { side, refusal } => refusal_line(*side, refusal),
         Fault::RefusedWhole { side, refusal } => whole_line(*side, refusal),
         Fault::BadLiteral { side, refusal } => literal_line(*side, refusal),
-        Fault::BadWord(index) => argument_line(*index, "not an argument"),
+        Fault::BadWord(index) => bad_argument_line(*index, "not an argument"),
         Fault::WrongCount { wanted, given } => count_line(*wanted, *given),
-        Fault::WrongType(index) => argument_line(*index, "wrong type"),
+        Fault::WrongType(index) => bad_argument_line(*index, "wrong type"),
         Fault::Memory => memory_line(),
     }
 }
@@ -342,7 +342,7 @@ fn fault_line_of(side: Option<Side>, what: &str, number: u8, name: &str, at: u64
 }
 
 // The line of an argument, with what is wrong with it.
-fn argument_line(index: u64, fault: &str) -> Line
+fn bad_argument_line(index: u64, fault: &str) -> Line
     requires { length fault.now ≤ 20 }
     ensures { result.bytes
         ≡ line (codes "argument " ++ decimal index ++ codes ": " ++ fault.now) }

@@ -9,5 +9,5 @@ returns c =
     let asked = c.args.asked.now in
     let bytes = c.as_slice.result.now in
     let gives = subst (IsFormat c.args.format.now) (sym c.as_slice.ensures.value) c.in_ok-bytes.ensures in
-    given_fault (IsOneFault asked c.args.model) c.args.format.now bytes c.in-Err.fault c.placed_in.result
-    (one_of_bytes asked c.args.model bytes) gives c.in-Err.ensures c.placed_in.ensures
+    given_fault (IsOneFault asked c.args.model) c.args.format.now bytes c.in-Err.fault c.fault_in_text.result
+    (one_of_bytes asked c.args.model bytes) gives c.in-Err.ensures c.fault_in_text.ensures

@@ -7,11 +7,11 @@ use Rattle.fmtcanon.proofs.answer.answer_about_two.Goals as goal
 
 pub returns : goal.returns
 returns c =
-    let one = subst (IsFormat c.args.first.now) (sym c.as_slice-2.ensures.value) c.in-Ok.ensures in
-    let other = subst (IsFormat c.args.second.now) (sym c.as_slice-3.ensures.value) c.in-Ok-bytes.ensures in
+    let gives_first = subst (IsFormat c.args.first.now) (sym c.as_slice-2.ensures.value) c.in-Ok.ensures in
+    let gives_second = subst (IsFormat c.args.second.now) (sym c.as_slice-3.ensures.value) c.in-Ok-bytes.ensures in
     pair_faults (language_of c.args.asked) c.args.first.now c.args.second.now c.as_slice-2.result.now c.as_slice-3.result.now
-    one other (asked_models c.args.models) c.in-Err-pair_answer.fault c.placed_in_pair.result c.in-Err-pair_answer.ensures
-    c.placed_in_pair.ensures
+    gives_first gives_second (asked_models c.args.models) c.in-Err-pair_answer.fault c.fault_in_texts.result c.in-Err-pair_answer.ensures
+    c.fault_in_texts.ensures
 
 pub returns-in-Err : goal.returns-in-Err
 returns-in-Err c =
@@ -20,7 +20,7 @@ returns-in-Err c =
 
 pub returns-in-Err-bytes : goal.returns-in-Err-bytes
 returns-in-Err-bytes c =
-    let one = subst (IsFormat c.args.first.now) (sym c.as_slice.ensures.value) c.in-Ok.ensures in
+    let gives_first = subst (IsFormat c.args.first.now) (sym c.as_slice.ensures.value) c.in-Ok.ensures in
     second_missing (language_of c.args.asked) c.args.first.now c.args.second.now c.args.models c.first.result c.as_slice.result.now
-    c.refused.result c.in-Err-bytes.fault c.without_second.result c.first.ensures one (c.refused.ensures one) c.in-Err-bytes.ensures
+    c.refused.result c.in-Err-bytes.fault c.without_second.result c.first.ensures gives_first (c.refused.ensures gives_first) c.in-Err-bytes.ensures
     c.without_second.ensures

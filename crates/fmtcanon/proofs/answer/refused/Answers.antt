@@ -4,5 +4,5 @@ use Rattle.fmtcanon.proofs.answer.refused.Goals as goal
 
 pub returns-in-Some : goal.returns-in-Some
 returns-in-Some c = λ gives second.
-    first_refused (language_of c.args.asked) c.args.model c.args.first.now second c.args.bytes.now gives c.in-Some.fault c.placed_in.result
-    c.in-Some.ensures c.placed_in.ensures
+    first_refused (language_of c.args.asked) c.args.model c.args.first.now second c.args.bytes.now gives c.in-Some.fault c.fault_in_text.result
+    c.in-Some.ensures c.fault_in_text.ensures
