@@ -4,8 +4,8 @@ ghost use Rattle.std.specs.Prelude.{◌≡◌};
 ghost use Rattle.fmtcanon_c.specs.Models.{InModel};
 
 use crate::interface::{CError, NO_MEMORY, NO_MODEL, model_of, put_refusal, put_string};
-use pf_canon::{CanonFault, Side, canonical, canonical_len, is_canonical};
-use pf_text::check;
+use pf_canon::{CanonFault, canonical, canonical_len, is_canonical};
+use pf_text::{Side, check};
 use pf_values::Model;
 use std::alloc::Global;
 

@@ -14,8 +14,8 @@ use Rattle.pf_canon.specs.Comparison.{AreCommon, HaveCommon, CountsSides, Counts
 use Rattle.pf_canon.specs.declared.faults.SideFault.{SideFault}
 use Rattle.pf_canon.specs.declared.faults.StreamFault.{StreamFault}
 use Rattle.pf_canon.specs.declared.faults.StreamFault.TheVariants as faults
-use Rattle.pf_canon.specs.declared.faults.Side.{Side}
-use Rattle.pf_canon.specs.declared.faults.Side.TheVariants.{First, Second}
+use Rattle.pf_text.specs.declared.refusals.Side.{Side}
+use Rattle.pf_text.specs.declared.refusals.Side.TheVariants.{First, Second}
 use Rattle.pf_canon.specs.declared.canonical_bytes.ByteTransducer.{ByteTransducer}
 use Rattle.pf_canon.specs.CanonicalBytes.{History, IsFilled, IsReadFor, AnswerLeaves, pending_in}
 use Rattle.pf_canon.proofs.ByteTransducerLemmas.{ending, fault_later, read_in, reader_in, stops_by}

@@ -9,7 +9,7 @@ use Rattle.pf_values.specs.meaning.Items.{Directive, IsAccepted}
 use Rattle.pf_values.specs.meaning.Normal.{silent}
 use Rattle.pf_values.specs.meaning.Refusals.{IsRefusedAt}
 use Rattle.pf_values.specs.meaning.Text.{Text}
-use Rattle.pf_text.specs.declared.scanner.Refusal.{Refusal}
+use Rattle.pf_text.specs.declared.refusals.Refusal.{Refusal}
 use Rattle.pf_text.specs.CanonicalRuns.{silents}
 use Rattle.pf_canon.specs.declared.limits.TheConstants.{BLOCK}
 use Rattle.pf_canon.specs.Answers.{IsCanonicalFor}

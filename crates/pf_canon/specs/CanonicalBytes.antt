@@ -11,7 +11,7 @@ use Rattle.pf_values.specs.meaning.Canonical.{IsCanonicalOf}
 use Rattle.pf_values.specs.meaning.Items.{Item, IsAccepted}
 use Rattle.pf_values.specs.meaning.Refusals.{IsRefusedAt}
 use Rattle.pf_values.specs.meaning.Text.{Text}
-use Rattle.pf_text.specs.declared.scanner.Refusal.{Refusal}
+use Rattle.pf_text.specs.declared.refusals.Refusal.{Refusal}
 use Rattle.pf_text.specs.History.{offset_of}
 use Rattle.pf_canon.specs.declared.canonical_bytes.ByteRead.{ByteRead}
 use Rattle.pf_canon.specs.declared.canonical_bytes.ByteRead.TheVariants as byte_reads

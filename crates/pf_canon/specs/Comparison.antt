@@ -8,12 +8,13 @@ use Rattle.pf_values.specs.Counting.{Known}
 use Rattle.pf_values.specs.meaning.Items.{IsAccepted}
 use Rattle.pf_values.specs.meaning.Printing.{AreEquivalent}
 use Rattle.pf_values.specs.meaning.Refusals.{IsRefusedAt}
-use Rattle.pf_text.specs.declared.scanner.Refusal.{Refusal}
+use Rattle.pf_text.specs.declared.refusals.Refusal.{Refusal}
 use Rattle.pf_canon.specs.declared.faults.SideFault.{SideFault}
 use Rattle.pf_canon.specs.declared.faults.StreamFault.{StreamFault}
 use Rattle.pf_canon.specs.declared.faults.StreamFault.TheVariants as faults
-use Rattle.pf_canon.specs.declared.faults.Side.{Side}
-use Rattle.pf_canon.specs.declared.faults.Side.TheVariants.{First, Second}
+use Rattle.pf_text.specs.declared.refusals.Side.{Side}
+use Rattle.pf_text.specs.declared.refusals.Side.TheVariants.{First, Second}
+use Rattle.pf_text.specs.Refusals.{RefusesOne}
 use Rattle.pf_canon.specs.declared.canonical_bytes.ByteTransducer.{ByteTransducer}
 use Rattle.pf_canon.specs.CanonicalBytes.{FaultCounts, History, IsFilled, IsRefusedBehind}
 use Rattle.pf_canon.specs.Transducer.{SettlesTo}
@@ -114,13 +115,8 @@ pub record AreTextsSame (model : Model) (f g : Text) (is : Bool) : Type 0 where
   pub same : IsTrue is ↔ AreEquivalent model f g
 
 -- the first is refused, or the first is accepted and the second refused
-abbrev pub TextStopsOn : Side → Text → Text → Refusal → Type 0
-TextStopsOn First f g refusal = IsRefusedAt f refusal.kind refusal.at
-TextStopsOn Second f g refusal = IsAccepted f × IsRefusedAt g refusal.kind refusal.at
-
--- the same, with the side and the refusal as a pair
 abbrev pub TextStops : Text → Text → Side × Refusal → Type 0
-TextStops f g stop = TextStopsOn stop.0 f g stop.1
+TextStops f g stop = RefusesOne IsAccepted IsRefusedAt f g stop.0 stop.1
 
 -- A text was read whole, and `given` begins its canonical text. What waited comes then, and nothing
 -- after it if that is nothing.

@@ -9,7 +9,7 @@ use Rattle.pf_values.specs.declared.refusals.RefusalKind.TheVariants.{Truncated}
 use Rattle.pf_values.specs.meaning.Canonical.{IsCanonicalOf}
 use Rattle.pf_values.specs.meaning.Items.{Item, IsAccepted}
 use Rattle.pf_values.specs.meaning.Refusals.{IsRefusedAt}
-use Rattle.pf_text.specs.declared.scanner.Refusal.{Refusal}
+use Rattle.pf_text.specs.declared.refusals.Refusal.{Refusal}
 use Rattle.pf_canon.specs.declared.copy.Gathered.{Gathered}
 use Rattle.pf_canon.specs.Sink.{Counts}
 use Rattle.pf_canon.specs.declared.faults.CopyFault.{CopyFault}

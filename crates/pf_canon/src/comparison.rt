@@ -7,10 +7,10 @@ ghost use Rattle.pf_canon.specs.CanonicalBytes.{AnswerLeaves, History, IsFilled,
 ghost use Rattle.pf_canon.specs.Walk.{AreApart, GoInStep, WalkHasGiven};
 
 use crate::canonical_bytes::{ByteTransducer, Bytes};
-use crate::faults::{Side, SideFault, StreamFault};
+use crate::faults::{SideFault, StreamFault};
 use crate::transducer::Transducer;
 use crate::walk::{Walk, finish_rest};
-use pf_text::Refusal;
+use pf_text::{Refusal, Side};
 use pf_values::{Counted, Model};
 use std::io::Read;
 

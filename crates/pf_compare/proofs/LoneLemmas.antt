@@ -17,7 +17,7 @@ use Rattle.pf_values.proofs.PrintsOnce.{Prints-unique, printed-is, printed_text}
 use Rattle.pf_probes.proofs.Probes.{probe_typed}
 use Rattle.pf_text.specs.declared.pieces.Piece.{Piece}
 use Rattle.pf_text.specs.declared.pieces.Pieces.{Pieces}
-use Rattle.pf_text.specs.declared.scanner.Refusal.{Refusal}
+use Rattle.pf_text.specs.declared.refusals.Refusal.{Refusal}
 use Rattle.pf_text.specs.PieceHistory.{NextReturns, NextIs, NextIsPiece, HasGiven, items_of}
 use Rattle.pf_text.proofs.Texts.{Reads-unique}
 use Rattle.pf_compare.specs.declared.differences.LoneDifference.{LoneDifference}

@@ -19,9 +19,9 @@ use crate::reductions::print_alike;
 use crate::witnesses::{
     Witness, first_candidate_alone, first_witness, foreseen_candidate, witness_at,
 };
-use pf_canon::{Side, same_text};
+use pf_canon::same_text;
 use pf_render::{RenderVecFault, render_vec};
-use pf_text::Refusal;
+use pf_text::{Refusal, Side};
 use pf_values::{Arg, Directive, Model};
 use std::alloc::{AllocError, Global};
 use thiserror::Error;

@@ -7,18 +7,21 @@ use Rattle.std.proofs.lemmas.Bool.Decides.{nat_tests}
 use Rattle.pf_signatures.specs.declared.fetches.Fetch.{Fetch}
 use Rattle.pf_signatures.specs.declared.partial_specification.Numbering.TheVariants.{Undecided}
 use Rattle.pf_signatures.specs.declared.types.ArgumentType.{ArgumentType}
-use Rattle.pf_signatures.specs.declared.types.ArgumentType.TheVariants.{Int}
+use Rattle.pf_values.specs.declared.types.ArgType.TheVariants.{Int}
+use Rattle.pf_signatures.specs.declared.types.ArgumentType.TheVariants.{Profile, Double}
 use Rattle.pf_signatures.specs.declared.types.TheConstants.ArgumentType.{ALL as all_types}
-use Rattle.pf_signatures.specs.Kinds.{type_number}
+use Rattle.pf_signatures.specs.TypeNumbers.{number_of_type}
 use Rattle.pf_signatures.specs.Readings.{conflicts, differs, differs_at}
 use Rattle.pf_signatures.specs.Refusals.{AreAgreed, Follows, IsOneType, style_by, style_of}
 
 -- types of equal numbers are equal
-number_tells : (type : ArgumentType) → slice_get all_types (type_number type - 1) ≡ Some type
-number_tells Int = refl
+number_tells : (type : ArgumentType) → slice_get all_types (number_of_type type - 1) ≡ Some type
+number_tells (Profile Int) = refl
+number_tells (Profile _) = refl
+number_tells Double = refl
 number_tells _ = refl
 
-pub same_type : (a b : ArgumentType) → type_number a ≡ type_number b → a ≡ b
+pub same_type : (a b : ArgumentType) → number_of_type a ≡ number_of_type b → a ≡ b
 same_type a b e =
     let same : Some a ≡ Some b = sym (number_tells a) ∙ ap (λ n. slice_get all_types (n - 1)) e ∙ number_tells b in cc
 
@@ -44,13 +47,13 @@ all_zip P Q (x ∷ xs) h g = ((h.0, g.0), all_zip P Q xs h.1 g.1)
 
 -- two fetches that don't differ
 differs_no : (f g : Fetch) → differs f g ≡ false → IsOneType f g
-differs_no f g e n a b = go (type_number f.wanted == type_number g.wanted) refl where
+differs_no f g e n a b = go (number_of_type f.wanted == number_of_type g.wanted) refl where
   at : differs_at (Some n) (Some n) f g ≡ false
   at = ap (λ o. differs_at o (Some n) f g) (sym a) ∙ ap (λ o. differs_at f.number o f g) (sym b) ∙ e
 
-  go : (c : Bool) → (type_number f.wanted == type_number g.wanted) ≡ c → f.wanted ≡ g.wanted
+  go : (c : Bool) → (number_of_type f.wanted == number_of_type g.wanted) ≡ c → f.wanted ≡ g.wanted
   go true c = same_type f.wanted g.wanted (eqb-true _ _ c)
-  go false c = let no : differs_at (Some n) (Some n) f g ≡ true = same_number n (type_number f.wanted) (type_number g.wanted) c in cc where
+  go false c = let no : differs_at (Some n) (Some n) f g ≡ true = same_number n (number_of_type f.wanted) (number_of_type g.wanted) c in cc where
     same_number : (n a b : ℕ) → (a == b) ≡ false → (n == n && not (a == b)) ≡ true
     same_number n a b c = rw c (grind (arith, nat_tests))
 
@@ -66,8 +69,8 @@ differs_not f g h = go f.number g.number refl refl where
   go None b x y = refl
   go (Some n) None x y = refl
   go (Some n) (Some m) x y = elim (cases_eq n m) [
-    | inl e ↦ subst (λ k. differs_at (Some n) (Some k) f g ≡ false) e (same n (type_number f.wanted) (type_number g.wanted) (ap type_number (h n x (y ∙ ap Some (sym e)))))
-    | inr e ↦ other n m (type_number f.wanted) (type_number g.wanted) e
+    | inl e ↦ subst (λ k. differs_at (Some n) (Some k) f g ≡ false) e (same n (number_of_type f.wanted) (number_of_type g.wanted) (ap number_of_type (h n x (y ∙ ap Some (sym e)))))
+    | inr e ↦ other n m (number_of_type f.wanted) (number_of_type g.wanted) e
   ]
 
 turned : (f g : Fetch) → IsOneType f g → IsOneType g f

@@ -7,14 +7,14 @@ use Rattle.pf_values.specs.declared.limits.TheConstants.{MAX_NUMBER, MAX_TEXT_LE
 use Rattle.pf_values.specs.declared.models.Model.{Model}
 use Rattle.pf_values.specs.meaning.Text.{Text}
 use Rattle.pf_signatures.specs.declared.fetches.Fetch.{Fetch}
-use Rattle.pf_signatures.specs.declared.refusals.SignatureRefusalKind.TheVariants.{TooLong}
+use Rattle.pf_values.specs.declared.refusals.RefusalKind.TheVariants.{TooLong}
 use Rattle.pf_signatures.specs.declared.partial_specification.PartialSpecification.{PartialSpecification}
 use Rattle.pf_signatures.specs.declared.partial_specification.WidthOrPrecision.{WidthOrPrecision}
 use Rattle.pf_signatures.specs.declared.partial_specification.WidthOrPrecision.TheVariants.{Width, Precision}
 use Rattle.pf_signatures.specs.declared.partial_specification.Numbering.{Numbering}
 use Rattle.pf_signatures.specs.declared.partial_specification.Numbering.TheVariants.{Undecided}
 use Rattle.pf_signatures.specs.declared.types.ArgumentType.{ArgumentType}
-use Rattle.pf_signatures.specs.declared.types.ArgumentType.TheVariants.{Int}
+use Rattle.pf_signatures.specs.Types.{int_type}
 use Rattle.pf_signatures.specs.Fronts.{IsStateAfter, IsBefore, at_star}
 use Rattle.pf_signatures.specs.Items.{Byte, ReadsPosix, Specification, PosixItem, fetched}
 use Rattle.pf_signatures.specs.Readings.{Fault, moved, trace_from, fetch_trace}
@@ -43,12 +43,12 @@ position_within t (Some n) type s = number_within s.0 n type s.1
 width_within : (t : Text) (position : Option ℕ) (width : Option Amount) → SpellsPosixWidth t position width → AllByRecursion IsWithin (star_fetches width)
 width_within t position None s = tt
 width_within t position (Some (Given n)) s = tt
-width_within t position (Some (Fetched number)) s = (position_within s.digits number Int s.digits_are, tt)
+width_within t position (Some (Fetched number)) s = (position_within s.digits number int_type s.digits_are, tt)
 
 amount_within : (t : Text) (position : Option ℕ) (precision : Option Amount) → SpellsPosixPrecision t position precision → AllByRecursion IsWithin (star_fetches precision)
 amount_within t position None s = tt
 amount_within t position (Some (Given n)) s = tt
-amount_within t position (Some (Fetched number)) s = (position_within s.1.digits number Int s.1.digits_are, tt)
+amount_within t position (Some (Fetched number)) s = (position_within s.1.digits number int_type s.1.digits_are, tt)
 
 to_precision_within : (t : Text) (position : Option ℕ) (set : FlagSet) (width precision : Option Amount) → SpellsUpToPrecision t position set width precision → AllByRecursion IsWithin (star_fetches width ++ star_fetches precision)
 to_precision_within t position set width precision h = all_append IsWithin (star_fetches width) (star_fetches precision) (width_within h.before_is.text position width h.before_is.width_is) (amount_within h.text position precision h.precision_is)
@@ -86,7 +86,7 @@ at_within (Flags parts) part own h = none_within own h.4
 at_within (Digits slot parts n) part own h = before_within slot h.0 parts own h.2
 at_within (Star slot parts) part own h = subst (AllByRecursion IsWithin) (sym h.4) (all_append IsWithin h.1 (at_star parts.position) (before_within slot h.0 parts h.1 h.2) (star_within parts.position))
 at_within (StarDigits slot parts n) part own h = before_within slot h.0 parts own h.2
-at_within (Placed slot parts) part own h = subst (AllByRecursion IsWithin) (sym h.8) (all_push IsWithin h.3 (fetch (Some h.2) Int) (before_within slot h.0 parts h.3 h.4) (number_within h.1 h.2 Int h.5))
+at_within (Placed slot parts) part own h = subst (AllByRecursion IsWithin) (sym h.8) (all_push IsWithin h.3 (fetch (Some h.2) int_type) (before_within slot h.0 parts h.3 h.4) (number_within h.1 h.2 int_type h.5))
 at_within (Point parts) part own h = before_within Precision part parts own h
 at_within (Modified parts modifier) part own h = subst (AllByRecursion IsWithin) (sym h.1.own_is) (to_precision_within h.0 parts.position parts.flags h.1.width h.1.precision h.1.numbers)
 

@@ -8,8 +8,8 @@ use Rattle.pf_values.specs.declared.models.Model.{Model}
 use Rattle.pf_values.specs.meaning.Text.{Text}
 use Rattle.pf_signatures.specs.declared.tables.TheConstants.{ROOM}
 use Rattle.pf_signatures.specs.declared.types.ArgumentType.{ArgumentType}
-use Rattle.pf_signatures.specs.declared.types.ArgumentType.TheVariants.{Int}
-use Rattle.pf_signatures.specs.Kinds.{type_number}
+use Rattle.pf_signatures.specs.Types.{int_type}
+use Rattle.pf_signatures.specs.TypeNumbers.{number_of_type}
 use Rattle.pf_signatures.specs.Laws.{ComparesArgumentTypes, HasCount, IsFirstDifference, filled}
 use Rattle.pf_signatures.specs.Steps.{AreFew}
 use Rattle.pf_signatures.proofs.Agreeing.{same_type}
@@ -37,21 +37,21 @@ same_more a b n h e k less = elim (cases_eq k n) [
 
 -- two lists that are the same as far as both go
 pub same_lists : (a b : List ArgumentType) (n : ℕ) → SameUpTo a b n → length a ≡ n → length b ≡ n → a ≡ b
-same_lists a b n h x y = ext_get_or Int a b (x ∙ sym y) at where
-  at : (i : ℕ) → i < length a → get_or a i Int ≡ get_or b i Int
+same_lists a b n h x y = ext_get_or int_type a b (x ∙ sym y) at where
+  at : (i : ℕ) → i < length a → get_or a i int_type ≡ get_or b i int_type
   at i less =
-      let both : Some (get_or a i Int) ≡ Some (get_or b i Int) = sym (slice_get-get_or a i Int less) ∙ h i (omega (arith, less, x)) ∙ slice_get-get_or b i Int (omega (arith, less, x, y)) in cc
+      let both : Some (get_or a i int_type) ≡ Some (get_or b i int_type) = sym (slice_get-get_or a i int_type less) ∙ h i (omega (arith, less, x)) ∙ slice_get-get_or b i int_type (omega (arith, less, x, y)) in cc
 
 -- one is a front of the other
 pub one_longer : (a b : List ArgumentType) (n : ℕ) → SameUpTo a b n → (length a ≢ length b) → n ≤ length a → n ≤ length b → ((length a ≤ n) ⊎ (length b ≤ n)) → IsFirstDifference a b (Some n)
 one_longer a b n h other x y (inl full) =
-    (λ e. let no : None ≡ Some (get_or b n Int) = sym (slice_get_past a n full) ∙ e ∙ slice_get-get_or b n Int (omega (arith, x, y, full, other)) in cc, h)
+    (λ e. let no : None ≡ Some (get_or b n int_type) = sym (slice_get_past a n full) ∙ e ∙ slice_get-get_or b n int_type (omega (arith, x, y, full, other)) in cc, h)
 one_longer a b n h other x y (inr full) =
-    (λ e. let no : Some (get_or a n Int) ≡ None = sym (slice_get-get_or a n Int (omega (arith, x, y, full, other))) ∙ e ∙ slice_get_past b n full in cc, h)
+    (λ e. let no : Some (get_or a n int_type) ≡ None = sym (slice_get-get_or a n int_type (omega (arith, x, y, full, other))) ∙ e ∙ slice_get_past b n full in cc, h)
 
 -- what follows from the numbers of two types
 module _ (types others start from a b : List ArgumentType) (k : ℕ) (c d : ArgumentType) (x y : ℕ) (e : types ≡ filled start a) (f : others ≡ filled from b) (long : length types ≡ ROOM) (long2 : length others ≡ ROOM) (room : k < ROOM) (less : k < length a) (less2 : k < length b)
-    (p : x ≡ type_number (get_or types k c)) (q : y ≡ type_number (get_or others k d)) where
+    (p : x ≡ number_of_type (get_or types k c)) (q : y ≡ number_of_type (get_or others k d)) where
   at_a : slice_get a k ≡ Some (get_or types k c)
   at_a = at_place types start a k c e long room less
 
@@ -62,7 +62,7 @@ module _ (types others start from a b : List ArgumentType) (k : ℕ) (c d : Argu
   places_same s = at_a ∙ ap Some (same_type _ _ (sym p ∙ s ∙ q)) ∙ sym at_b
 
   pub places_differ : x ≢ y → slice_get a k ≢ slice_get b k
-  places_differ n s = let both : Some (get_or types k c) ≡ Some (get_or others k d) = sym at_a ∙ s ∙ at_b in let one : get_or types k c ≡ get_or others k d = cc in n (p ∙ ap type_number one ∙ sym q)
+  places_differ n s = let both : Some (get_or types k c) ≡ Some (get_or others k d) = sym at_a ∙ s ∙ at_b in let one : get_or types k c ≡ get_or others k d = cc in n (p ∙ ap number_of_type one ∙ sym q)
 
 -- where one list is over
 pub full : (count beside k m n : ℕ) → count ≡ m → beside ≡ n → ROOM ≤ k → ((m ≤ ROOM) ⊎ (n ≤ ROOM)) → (count ≤ k) ⊎ (beside ≤ k)

@@ -9,8 +9,8 @@ use Rattle.pf_values.specs.declared.models.Model.{Model}
 use Rattle.pf_values.specs.meaning.Text.{Text}
 use Rattle.pf_signatures.specs.declared.directive_spans.DirectiveSpan.{DirectiveSpan}
 use Rattle.pf_signatures.specs.declared.fetches.Fetch.{Fetch}
-use Rattle.pf_signatures.specs.declared.refusals.SignatureRefusalKind.{SignatureRefusalKind}
-use Rattle.pf_signatures.specs.declared.refusals.SignatureRefusalKind.TheVariants.{TooLong, TwoTypes}
+use Rattle.pf_values.specs.declared.refusals.RefusalKind.{RefusalKind}
+use Rattle.pf_values.specs.declared.refusals.RefusalKind.TheVariants.{TooLong, TwoTypes}
 use Rattle.pf_signatures.specs.declared.partial_specification.Numbering.{Numbering}
 use Rattle.pf_signatures.specs.DirectiveWalks.{earlier_index, has_star_precision, last_index, precision_star, width_star}
 use Rattle.pf_signatures.specs.Directives.{HasDirectives, argument_index, directive_between, directives_from, star_index}
@@ -104,7 +104,7 @@ module _ (model : Model) where
   brought style part own byte f (Modified parts modifier) other h = h
 
   -- no step of an accepted text is refused
-  takes_none : (all : List Fetch) (kind : SignatureRefusalKind) (at : ℕ) → Refused kind at ≡ Takes all → ⊥
+  takes_none : (all : List Fetch) (kind : RefusalKind) (at : ℕ) → Refused kind at ≡ Takes all → ⊥
   takes_none all kind at e = cc
 
   module _ (seen all : List Fetch) (style : Numbering) (state : PosixState) (at byte : ℕ) (rest : Text)
@@ -119,7 +119,7 @@ module _ (model : Model) where
           let next : verdict_after seen (trace_from model style state at (byte ∷ rest)) ≡ verdict_after seen (moved style at (posix_step model style state byte) (λ s q. trace_from model s q (at + 1) rest)) = rw b refl in
           ap (λ m. verdict_after seen (moved style at m (λ s q. trace_from model s q (at + 1) rest))) (sym e) ∙ sym next ∙ left
 
-    pub not_refused : (kind : SignatureRefusalKind) → posix_step model style state byte ≡ Err kind → ⊥
+    pub not_refused : (kind : RefusalKind) → posix_step model style state byte ≡ Err kind → ⊥
     not_refused kind e = takes_none all kind at (step_left (Err kind) e)
 
     pub passed_left : (to : PosixState) → posix_step model style state byte ≡ Ok (to, None) → verdict_after seen (trace_from model style to (at + 1) rest) ≡ Takes all

@@ -9,7 +9,7 @@ use Rattle.pf_values.specs.meaning.Text.{Text}
 use Rattle.pf_signatures.specs.declared.automaton.Automaton.{Automaton}
 use Rattle.pf_signatures.specs.declared.automaton.Move.{Move}
 use Rattle.pf_signatures.specs.declared.automaton.Move.TheVariants as moves
-use Rattle.pf_signatures.specs.declared.refusals.SignatureRefusalKind.{SignatureRefusalKind}
+use Rattle.pf_values.specs.declared.refusals.RefusalKind.{RefusalKind}
 use Rattle.pf_signatures.specs.declared.directive_spans.DirectiveSpan.{DirectiveSpan}
 use Rattle.pf_signatures.specs.declared.directive_spans.DirectiveWalk.{DirectiveWalk}
 use Rattle.pf_signatures.specs.declared.fetches.Fetch.{Fetch}
@@ -415,10 +415,10 @@ module _ (model : Model) (t : Text) (walk : DirectiveWalk) (done : List Directiv
   abbrev after : DirectiveWalk
   after = record walk { automaton = a; at = walk.at + 1 }
 
-  abbrev HasTaken : Result Move SignatureRefusalKind → Type 0
+  abbrev HasTaken : Result Move RefusalKind → Type 0
   HasTaken result = posix_step_by result a ≡ posix_step model walk.style (posix_state_of walk.automaton) (get_or t walk.at 0)
 
-  pub literal_passed : (new : DirectiveWalk) (result : Result Move SignatureRefusalKind) (moved : Move) → result ≡ Ok moved → moved ≡ moves.More → HasTaken result
+  pub literal_passed : (new : DirectiveWalk) (result : Result Move RefusalKind) (moved : Move) → result ≡ Ok moved → moved ≡ moves.More → HasTaken result
       → (posix_state_of a ≡ Between → new ≡ record after { begin = walk.at + 1 }) → (posix_state_of a ≢ Between → new ≡ after) → IsWalkedTo model t new done
   literal_passed new result moved is more e between inside = elim (between_or_not (posix_state_of a)) [
     | inl b ↦ subst (λ w. IsWalkedTo model t w done) (sym (between b)) (passes_item model t walk done h less a step b)
@@ -427,7 +427,7 @@ module _ (model : Model) (t : Text) (walk : DirectiveWalk) (done : List Directiv
     step : posix_step model walk.style (posix_state_of walk.automaton) (get_or t walk.at 0) ≡ Ok (posix_state_of a, None)
     step = sym e ∙ ap (λ r. posix_step_by r a) (is ∙ ap Ok more)
 
-  pub fetch_taken : (new : DirectiveWalk) (result : Result Move SignatureRefusalKind) (moved : Move) (found : Option DirectiveSpan) → result ≡ Ok moved → moved ≡ moves.Fetched → HasTaken result
+  pub fetch_taken : (new : DirectiveWalk) (result : Result Move RefusalKind) (moved : Move) (found : Option DirectiveSpan) → result ≡ Ok moved → moved ≡ moves.Fetched → HasTaken result
       → MatchOption found ((posix_state_of a ≢ Between) × (new ≡ walk_in after a.fetch))
       (λ d. (posix_state_of a ≡ Between) × (new ≡ walk_behind after a.fetch) × (d ≡ directive_by after (take (walk.at + 1 - walk.begin) (drop walk.begin t)) a.fetch))
       → MatchOption found (IsWalkedTo model t new done) (λ d. IsWalkedTo model t new (done ++ d ∷ []))

@@ -7,7 +7,7 @@ use Rattle.pf_values.specs.declared.models.Model.{Model}
 use Rattle.pf_values.specs.meaning.Text.{Text}
 use Rattle.pf_signatures.specs.declared.fetches.Fetch.{Fetch}
 use Rattle.pf_signatures.specs.declared.types.ArgumentType.{ArgumentType}
-use Rattle.pf_signatures.specs.declared.types.ArgumentType.TheVariants.{Int}
+use Rattle.pf_signatures.specs.Types.{int_type}
 use Rattle.pf_signatures.specs.Directives.{TakesFrom, TakesInt, argument_index, directives_from, star_index}
 use Rattle.pf_signatures.specs.Items.{Byte, Specification, PosixItem, ReadsPosix, fetched}
 use Rattle.pf_signatures.specs.Specifications.{Amount, Given, Fetched, PosixSpecification}

@@ -9,11 +9,12 @@ use Rattle.pf_values.specs.meaning.Flags.{flag_set}
 use Rattle.pf_values.specs.meaning.Text.{Text}
 use Rattle.pf_signatures.specs.declared.conversions.Conversion.TheVariants.{Count}
 use Rattle.pf_signatures.specs.declared.conversions.Modifier.TheVariants.{Integer}
-use Rattle.pf_signatures.specs.declared.refusals.SignatureRefusalKind.{SignatureRefusalKind}
-use Rattle.pf_signatures.specs.declared.refusals.SignatureRefusalKind.TheVariants.{NulByte, Truncated, Unexpected, BadPercent, WidthTooLarge, PrecisionTooLarge}
-use Rattle.pf_signatures.specs.declared.refusals.SignatureRefusalKind.TheVariants.{AltUndefined, CountUndefined, Mixed, MissingArgument, TwoTypes, Numbered}
-use Rattle.pf_signatures.specs.declared.refusals.SignatureRefusalKind.TheVariants.{LengthUndefined, GroupUndefined}
-use Rattle.pf_signatures.specs.declared.types.ArgumentType.TheVariants.{Int, Double, PointerToLong, PointerToLongLong}
+use Rattle.pf_values.specs.declared.refusals.RefusalKind.{RefusalKind}
+use Rattle.pf_values.specs.declared.refusals.RefusalKind.TheVariants.{NulByte, Truncated, Unexpected, BadPercent, WidthTooLarge, PrecisionTooLarge}
+use Rattle.pf_values.specs.declared.refusals.RefusalKind.TheVariants.{AltUndefined, CountUndefined, Mixed, MissingArgument, TwoTypes, Numbered}
+use Rattle.pf_values.specs.declared.refusals.RefusalKind.TheVariants.{LengthUndefined, GroupUndefined}
+use Rattle.pf_signatures.specs.declared.types.ArgumentType.TheVariants.{Double, PointerToLong, PointerToLongLong}
+use Rattle.pf_signatures.specs.Types.{int_type}
 use Rattle.pf_signatures.specs.Defined.{undefined_as}
 use Rattle.pf_signatures.specs.Readings.{Refused, Takes, verdict}
 use Rattle.pf_signatures.specs.Refusals.{IsPosixRefusedAt}
@@ -24,7 +25,7 @@ use Rattle.pf_signatures.proofs.Telling.{missing, told_taken}
 use Rattle.pf_signatures.proofs.UnnumberedEnds.{ends_refused}
 
 -- a text is refused where the walk through it stops
-refused : (model : Model) (t : Text) (kind : SignatureRefusalKind) (at : ℕ) → verdict model t ≡ Refused kind at → IsPosixRefusedAt model t kind at
+refused : (model : Model) (t : Text) (kind : RefusalKind) (at : ℕ) → verdict model t ≡ Refused kind at → IsPosixRefusedAt model t kind at
 refused model t kind at e = subst (Tells model t) e (told model t)
 
 -- `n` points to what its modifier names in the data model
@@ -35,7 +36,7 @@ counted_in_llp64 : conversion_type Llp64 (Integer lengths.Z) Count ≡ PointerTo
 counted_in_llp64 = refl
 
 -- the width's argument comes before the precision's
-stars_first : (model : Model) → verdict model (codes "%*.*f") ≡ Takes (fetch None Int ∷ fetch None Int ∷ fetch None Double ∷ [])
+stars_first : (model : Model) → verdict model (codes "%*.*f") ≡ Takes (fetch None int_type ∷ fetch None int_type ∷ fetch None Double ∷ [])
 stars_first model = refl
 
 -- the least number of two that hold: `#` before the flags of `n`
@@ -71,7 +72,7 @@ two_types_of_a_star : (model : Model) → IsPosixRefusedAt model (codes "%1$s%2$
 two_types_of_a_star model = refused model _ TwoTypes 9 refl
 
 gap : (model : Model) → IsPosixRefusedAt model (codes "%2$d") MissingArgument 4
-gap model = missing model _ (fetch (Some 2) Int ∷ []) (told_taken model _ _ refl) (0, 1, omega arith, inl refl, λ h. elim h [ inl e ↦ cc | inr none ↦ none ])
+gap model = missing model _ (fetch (Some 2) int_type ∷ []) (told_taken model _ _ refl) (0, 1, omega arith, inl refl, λ h. elim h [ inl e ↦ cc | inr none ↦ none ])
 
 -- `n` takes a modifier alone
 count_with_a_width : (model : Model) → IsPosixRefusedAt model (codes "%5n") CountUndefined 2

@@ -8,8 +8,8 @@ use Rattle.pf_values.specs.declared.limits.TheConstants.{MAX_TEXT_LEN}
 use Rattle.pf_values.specs.declared.models.Model.{Model}
 use Rattle.pf_values.specs.meaning.Text.{Text}
 use Rattle.pf_signatures.specs.declared.fetches.Fetch.{Fetch}
-use Rattle.pf_signatures.specs.declared.refusals.SignatureRefusalKind.{SignatureRefusalKind}
-use Rattle.pf_signatures.specs.declared.refusals.SignatureRefusalKind.TheVariants.{MissingArgument, TooLong, Truncated}
+use Rattle.pf_values.specs.declared.refusals.RefusalKind.{RefusalKind}
+use Rattle.pf_values.specs.declared.refusals.RefusalKind.TheVariants.{MissingArgument, TooLong, Truncated}
 use Rattle.pf_signatures.specs.declared.partial_specification.Numbering.{Numbering}
 use Rattle.pf_signatures.specs.declared.partial_specification.Numbering.TheVariants.{Undecided}
 use Rattle.pf_signatures.specs.Items.{Byte, SpellsPosixItem, ReadsPosix, Specification, PosixItem, fetched}
@@ -27,7 +27,7 @@ use Rattle.pf_signatures.proofs.Wording.{IsTurnedDown, words_refuse}
 within_limit : (n : ℕ) → n < MAX_TEXT_LEN → nat_le MAX_TEXT_LEN n ≡ false
 within_limit n h = grind (arith, nat_tests)
 
-pub run-refused : (model : Model) (kind : SignatureRefusalKind) (t : Text) → run model (Err kind) t ≡ Err kind
+pub run-refused : (model : Model) (kind : RefusalKind) (t : Text) → run model (Err kind) t ≡ Err kind
 run-refused model kind [] = refl
 run-refused model kind (b ∷ t) = run-refused model kind t
 
@@ -137,10 +137,10 @@ module _ (model : Model) where
   items_verdict t items h agreed few = ap (λ u. verdict_after [] (trace_from model Undecided Between 0 u)) (sym (append-nil t)) ∙ reads_on items [] t [] 0 h agreed (omega (arith, few))
 
   -- a refused text has its refusal, or lacks an argument
-  abbrev pub IsSaid : Text → SignatureRefusalKind → ℕ → Type 0
+  abbrev pub IsSaid : Text → RefusalKind → ℕ → Type 0
   IsSaid t kind at = (verdict model t ≡ Refused kind at) ⊎ ((kind ≡ MissingArgument) × (at ≡ length t) × (fs : List Fetch) × (verdict model t ≡ Takes fs) × HasGap fs)
 
-  module _ (t : Text) (kind : SignatureRefusalKind) (at : ℕ) (h : IsPosixRefusedAt model t kind at) where
+  module _ (t : Text) (kind : RefusalKind) (at : ℕ) (h : IsPosixRefusedAt model t kind at) where
     abbrev base : List Fetch
     base = fetched model h.good.items
 
@@ -194,7 +194,7 @@ module _ (model : Model) where
   ended_open fs (Modified parts modifier) at some = refl
 
   -- what a byte makes that is refused
-  byte_refused : (fs : List Fetch) (state : PosixState) (at byte : ℕ) (rest : Text) (kind : SignatureRefusalKind) → at ≤ MAX_TEXT_LEN → MatchBool (at == MAX_TEXT_LEN) (kind ≡ TooLong) (IsTurnedDown model fs state byte kind) → verdict_after fs (trace_from model (style_of fs) state at (byte ∷ rest)) ≡ Refused kind at
+  byte_refused : (fs : List Fetch) (state : PosixState) (at byte : ℕ) (rest : Text) (kind : RefusalKind) → at ≤ MAX_TEXT_LEN → MatchBool (at == MAX_TEXT_LEN) (kind ≡ TooLong) (IsTurnedDown model fs state byte kind) → verdict_after fs (trace_from model (style_of fs) state at (byte ∷ rest)) ≡ Refused kind at
   byte_refused fs state at byte rest kind few h = go (at == MAX_TEXT_LEN) refl h where
     full : (n : ℕ) → (n == MAX_TEXT_LEN) ≡ true → nat_le MAX_TEXT_LEN n ≡ true
     full n e = grind (arith, nat_tests)
@@ -213,7 +213,7 @@ module _ (model : Model) where
         cases true e = refl
         cases false e = absurd (none (conflicts_no fs f e))
 
-  pub said : (t : Text) (kind : SignatureRefusalKind) (at : ℕ) → IsPosixRefusedAt model t kind at → IsSaid t kind at
+  pub said : (t : Text) (kind : RefusalKind) (at : ℕ) → IsPosixRefusedAt model t kind at → IsSaid t kind at
   said t kind at h = go h.rest refl h.cause where
     turned_down : (byte : ℕ) (b : Bool) → MatchBool b (kind ≡ TooLong) (IsPosixRefusedByte model h.fetches h.good.part h.state byte kind) → MatchBool b (kind ≡ TooLong) (IsTurnedDown model h.fetches h.state byte kind)
     turned_down byte true long = long

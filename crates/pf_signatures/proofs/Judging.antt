@@ -18,14 +18,14 @@ use Rattle.pf_signatures.specs.declared.conversions.Conversion.{Conversion}
 use Rattle.pf_signatures.specs.declared.conversions.Modifier.{Modifier}
 use Rattle.pf_signatures.specs.declared.conversions.Modifier.TheVariants.{Integer, LongDouble}
 use Rattle.pf_signatures.specs.declared.fetches.Fetch.{Fetch}
-use Rattle.pf_signatures.specs.declared.refusals.SignatureRefusalKind.{SignatureRefusalKind}
-use Rattle.pf_signatures.specs.declared.refusals.SignatureRefusalKind.TheVariants.{NulByte, Unexpected, BadPercent, AltUndefined, ZeroUndefined, GroupUndefined, PrecisionUndefined, LengthUndefined, Mixed, CountUndefined}
+use Rattle.pf_values.specs.declared.refusals.RefusalKind.{RefusalKind}
+use Rattle.pf_values.specs.declared.refusals.RefusalKind.TheVariants.{NulByte, Unexpected, BadPercent, AltUndefined, ZeroUndefined, GroupUndefined, PrecisionUndefined, LengthUndefined, Mixed, CountUndefined}
 use Rattle.pf_signatures.specs.declared.partial_specification.PartialSpecification.{PartialSpecification}
 use Rattle.pf_signatures.specs.declared.partial_specification.WidthOrPrecision.{WidthOrPrecision}
 use Rattle.pf_signatures.specs.declared.partial_specification.WidthOrPrecision.TheVariants.{Width, Precision}
 use Rattle.pf_signatures.specs.declared.partial_specification.Numbering.{Numbering}
 use Rattle.pf_signatures.specs.declared.partial_specification.Numbering.TheVariants.{Undecided, Unnumbered, Numbered}
-use Rattle.pf_signatures.specs.declared.types.ArgumentType.TheVariants.{Int}
+use Rattle.pf_signatures.specs.Types.{int_type}
 use Rattle.pf_signatures.specs.Defined.{IsPosixDefined, undefined_as, undefined_of}
 use Rattle.pf_signatures.specs.Fronts.{HasNumbers, IsStateAfter, IsBefore, SpellsDigits, at_star}
 use Rattle.pf_signatures.specs.Items.{Byte, SpellsPosixItem}
@@ -56,7 +56,7 @@ byte_of_modifier byte (Integer lengths.Z) e = let same : byte ≡ 122 = grind (a
 byte_of_modifier byte (Integer lengths.T) e = let same : byte ≡ 116 = grind (arith, nat_tests) in (ap (λ b. b ∷ []) same, λ other. cc)
 
 -- the kinds of specifications that aren't defined
-abbrev pub is_undefined_kind : SignatureRefusalKind → Bool
+abbrev pub is_undefined_kind : RefusalKind → Bool
 is_undefined_kind AltUndefined = true
 is_undefined_kind ZeroUndefined = true
 is_undefined_kind GroupUndefined = true
@@ -93,9 +93,9 @@ behind_digits Precision before digits parts own n h d =
     }
 
 behind_star : (slot : WidthOrPrecision) (before text : Text) (parts : PartialSpecification) (own : List Fetch) (number : Option ℕ) → IsBefore slot before parts own → SpellsStar text parts.position number
-    → IsBehind slot (before ++ text) parts (own ++ fetch number Int ∷ [])
+    → IsBehind slot (before ++ text) parts (own ++ fetch number int_type ∷ [])
 behind_star Width before text parts own number h s =
-    (Some (Fetched number), record { before = before; text = text; before_is = h.0; width_is = s; whole = refl }, h.1, h.2, ap (λ o. o ++ fetch number Int ∷ []) h.3)
+    (Some (Fetched number), record { before = before; text = text; before_is = h.0; width_is = s; whole = refl }, h.1, h.2, ap (λ o. o ++ fetch number int_type ∷ []) h.3)
 behind_star Precision before text parts own number h s =
     record {
       width = h.1;
@@ -109,7 +109,7 @@ behind_star Precision before text parts own number h s =
       };
       width_is = h.4;
       precision_is = h.5;
-      own_is = ap (λ o. o ++ fetch number Int ∷ []) h.6;
+      own_is = ap (λ o. o ++ fetch number int_type ∷ []) h.6;
     }
 
 -- a point and no digits
@@ -152,7 +152,7 @@ module _ (model : Model) (style : Numbering) (part : Text) (own : List Fetch) (b
   Judges (Ok (to, Some f)) = Brings f to
   Judges (Err kind) = (is_undefined_kind kind ≡ false) ⊎ CompletesUndefined style part byte kind
 
-  judge_stray : (kind : SignatureRefusalKind) → is_undefined_kind kind ≡ false → Judges (Err (stray byte kind))
+  judge_stray : (kind : RefusalKind) → is_undefined_kind kind ≡ false → Judges (Err (stray byte kind))
   judge_stray kind e = inl (go (byte == 0) (byte == 37)) where
     go : (zero percent : Bool) → is_undefined_kind (if zero then NulByte else if percent then BadPercent else kind) ≡ false
     go true percent = refl
@@ -183,7 +183,7 @@ module _ (model : Model) (style : Numbering) (part : Text) (own : List Fetch) (b
       defined : (conversion : Conversion) → undefined_of (specification conversion) ≡ undefined_as parts.flags parts.width parts.precision modifier conversion
       defined conversion = ap (λ w. undefined_as parts.flags w (is_some h.precision) modifier conversion) (sym h.width_is) ∙ ap (λ p. undefined_as parts.flags parts.width p modifier conversion) (sym h.precision_is)
 
-      ended : (conversion : Conversion) (o : Option SignatureRefusalKind) → conversion_of byte ≡ Some conversion → undefined_as parts.flags parts.width parts.precision modifier conversion ≡ o
+      ended : (conversion : Conversion) (o : Option RefusalKind) → conversion_of byte ≡ Some conversion → undefined_as parts.flags parts.width parts.precision modifier conversion ≡ o
           → Judges (judgement o (fetch parts.position (conversion_type model modifier conversion)))
       ended conversion None c u = (
         specification conversion,

@@ -31,6 +31,7 @@ pub mod UnnumberedLemmas
 pub mod UnnumberedEnds
 pub mod PartLemmas
 pub mod StretchLemmas
+mod KindLemmas
 mod Examples
 pub mod SpecificationBytes
 pub mod StarLemmas

@@ -5,7 +5,7 @@ use Rattle.std.specs.List.{AllByRecursion}
 use Rattle.pf_values.specs.declared.models.Model.{Model}
 use Rattle.pf_values.specs.meaning.Text.{Text}
 use Rattle.pf_signatures.specs.declared.fetches.Fetch.{Fetch}
-use Rattle.pf_signatures.specs.declared.refusals.SignatureRefusalKind.{SignatureRefusalKind}
+use Rattle.pf_values.specs.declared.refusals.RefusalKind.{RefusalKind}
 use Rattle.pf_signatures.specs.declared.partial_specification.Numbering.TheVariants.{Undecided, Unnumbered}
 use Rattle.pf_signatures.specs.declared.types.ArgumentType.{ArgumentType}
 use Rattle.pf_signatures.specs.Items.{HasArguments}
@@ -56,7 +56,7 @@ module _ (model : Model) (t : Text) (seen : List Fetch) (old : FetchTrace) (h : 
       let taken = told_taken model t seen (h.verdict_is ∙ ap (verdict_after seen) e) in
       accepted model t seen taken (wanted_types seen) (inl (record { unnumbered = h.unnumbered; types_are = refl }))
 
-  pub refused_in_order : (kind : SignatureRefusalKind) (at : ℕ) → old ≡ Fault kind at → IsPosixRefusedAt model t kind at
+  pub refused_in_order : (kind : RefusalKind) (at : ℕ) → old ≡ Fault kind at → IsPosixRefusedAt model t kind at
   refused_in_order kind at e = subst (Tells model t) (h.verdict_is ∙ ap (verdict_after seen) e) (told model t)
 
 -- the places of a slice
@@ -83,5 +83,5 @@ filled_full (o ∷ old) (y ∷ before) more full = ap (λ l. y ∷ l) (filled_fu
 pub no_arguments : (model : Model) (t : Text) → fetch_trace model t ≡ Whole → HasArguments model t []
 no_arguments model t e = accepted model t [] (told_taken model t [] (ap (verdict_after []) e)) [] (inl (record { unnumbered = tt; types_are = refl }))
 
-pub refused_first : (model : Model) (t : Text) (kind : SignatureRefusalKind) (at : ℕ) → fetch_trace model t ≡ Fault kind at → IsPosixRefusedAt model t kind at
+pub refused_first : (model : Model) (t : Text) (kind : RefusalKind) (at : ℕ) → fetch_trace model t ≡ Fault kind at → IsPosixRefusedAt model t kind at
 refused_first model t kind at e = subst (Tells model t) (ap (verdict_after []) e) (told model t)

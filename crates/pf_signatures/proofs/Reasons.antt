@@ -14,8 +14,8 @@ use Rattle.pf_signatures.specs.declared.conversions.Conversion.{Conversion}
 use Rattle.pf_signatures.specs.declared.conversions.Modifier.{Modifier}
 use Rattle.pf_signatures.specs.declared.conversions.Modifier.TheVariants.{Integer, LongDouble}
 use Rattle.pf_signatures.specs.declared.fetches.Fetch.{Fetch}
-use Rattle.pf_signatures.specs.declared.refusals.SignatureRefusalKind.{SignatureRefusalKind}
-use Rattle.pf_signatures.specs.declared.refusals.SignatureRefusalKind.TheVariants.{NulByte, Unexpected, BadPercent, AltUndefined, ZeroUndefined, GroupUndefined, PrecisionUndefined, LengthUndefined, Mixed, CountUndefined}
+use Rattle.pf_values.specs.declared.refusals.RefusalKind.{RefusalKind}
+use Rattle.pf_values.specs.declared.refusals.RefusalKind.TheVariants.{NulByte, Unexpected, BadPercent, AltUndefined, ZeroUndefined, GroupUndefined, PrecisionUndefined, LengthUndefined, Mixed, CountUndefined}
 use Rattle.pf_signatures.specs.declared.partial_specification.PartialSpecification.{PartialSpecification}
 use Rattle.pf_signatures.specs.declared.partial_specification.WidthOrPrecision.{WidthOrPrecision}
 use Rattle.pf_signatures.specs.declared.partial_specification.WidthOrPrecision.TheVariants.{Width, Precision}
@@ -31,9 +31,9 @@ use Rattle.pf_signatures.proofs.Judging.{is_undefined_kind}
 use Rattle.pf_text.proofs.Sound.{find_holds}
 
 -- an undefined specification gives a kind of its own
-pub undefined_kind : (set : FlagSet) (width precision : Bool) (modifier : Modifier) (conversion : Conversion) (kind : SignatureRefusalKind) → undefined_as set width precision modifier conversion ≡ Some kind → is_undefined_kind kind ≡ true
+pub undefined_kind : (set : FlagSet) (width precision : Bool) (modifier : Modifier) (conversion : Conversion) (kind : RefusalKind) → undefined_as set width precision modifier conversion ≡ Some kind → is_undefined_kind kind ≡ true
 undefined_kind set width precision modifier conversion kind e = go kind (find_holds (is_undefined_as set width precision modifier conversion) (AltUndefined ∷ ZeroUndefined ∷ GroupUndefined ∷ PrecisionUndefined ∷ LengthUndefined ∷ CountUndefined ∷ []) kind e) where
-  go : (kind : SignatureRefusalKind) → is_undefined_as set width precision modifier conversion kind ≡ true → is_undefined_kind kind ≡ true
+  go : (kind : RefusalKind) → is_undefined_as set width precision modifier conversion kind ≡ true → is_undefined_kind kind ≡ true
   go AltUndefined e = refl
   go ZeroUndefined e = refl
   go GroupUndefined e = refl
@@ -60,7 +60,7 @@ unequal byte k e = grind (arith, nat_tests)
 
 module _ (model : Model) (style : Numbering) (state : PosixState) (byte : ℕ) where
   -- why a byte is refused that is neither zero nor `%`, but for where it is allowed
-  abbrev pub Reason : SignatureRefusalKind → Type 0
+  abbrev pub Reason : RefusalKind → Type 0
   Reason kind = ((kind ≡ Mixed) × IsMixed state style byte) ⊎ IsNumberTooLarge state byte kind ⊎ (is_undefined_kind kind ≡ true) ⊎ (kind ≡ Unexpected)
 
   -- by what an argument is fetched
@@ -80,10 +80,10 @@ module _ (model : Model) (style : Numbering) (state : PosixState) (byte : ℕ) w
   choose true x y f g = f refl
   choose false x y f g = g refl
 
-  why_kind : (kind : SignatureRefusalKind) → IsOther byte → Reason kind → Why (Err kind)
+  why_kind : (kind : RefusalKind) → IsOther byte → Reason kind → Why (Err kind)
   why_kind kind other r = let zero = other.0 in let percent = other.1 in rw (zero, percent) r
 
-  why_stray : (kind : SignatureRefusalKind) → Reason kind → ((byte == 37) ≡ true → IsPastPercent state) → Why (Err (stray byte kind))
+  why_stray : (kind : RefusalKind) → Reason kind → ((byte == 37) ≡ true → IsPastPercent state) → Why (Err (stray byte kind))
   why_stray kind r inside = go (byte == 0) refl (byte == 37) refl where
     go : (z : Bool) → (byte == 0) ≡ z → (p : Bool) → (byte == 37) ≡ p → Why (Err (stray byte kind))
     go true e p f = rw e refl
@@ -96,7 +96,7 @@ module _ (model : Model) (style : Numbering) (state : PosixState) (byte : ℕ) w
   module _ (inside : (byte == 37) ≡ true → IsPastPercent state) (parts : PartialSpecification) where
     why_end : (modifier : Modifier) → Why (conversion_at model parts modifier byte)
     why_end modifier = go (conversion_of byte) refl where
-      judged : (conversion : Conversion) (o : Option SignatureRefusalKind) → conversion_of byte ≡ Some conversion → undefined_as parts.flags parts.width parts.precision modifier conversion ≡ o → Why (judgement o (fetch parts.position (conversion_type model modifier conversion)))
+      judged : (conversion : Conversion) (o : Option RefusalKind) → conversion_of byte ≡ Some conversion → undefined_as parts.flags parts.width parts.precision modifier conversion ≡ o → Why (judgement o (fetch parts.position (conversion_type model modifier conversion)))
       judged conversion None c u = (other_letter byte conversion c, inr (inr refl))
       judged conversion (Some kind) c u = why_kind kind (other_letter byte conversion c) (inr (inr (inl (undefined_kind parts.flags parts.width parts.precision modifier conversion kind u))))
 

@@ -21,13 +21,13 @@ use Rattle.pf_text.specs.Letters.{flag_of}
 use Rattle.pf_text.specs.States.{is_digit}
 use Rattle.pf_values.proofs.Numerals.{number_after-place_sum}
 use Rattle.pf_signatures.specs.declared.fetches.Fetch.{Fetch}
-use Rattle.pf_signatures.specs.declared.refusals.SignatureRefusalKind.{SignatureRefusalKind}
+use Rattle.pf_values.specs.declared.refusals.RefusalKind.{RefusalKind}
 use Rattle.pf_signatures.specs.declared.partial_specification.PartialSpecification.{PartialSpecification}
 use Rattle.pf_signatures.specs.declared.partial_specification.WidthOrPrecision.{WidthOrPrecision}
 use Rattle.pf_signatures.specs.declared.partial_specification.WidthOrPrecision.TheVariants.{Width, Precision}
 use Rattle.pf_signatures.specs.declared.partial_specification.Numbering.{Numbering}
 use Rattle.pf_signatures.specs.declared.partial_specification.Numbering.TheVariants.{Undecided, Unnumbered, Numbered}
-use Rattle.pf_signatures.specs.declared.types.ArgumentType.TheVariants.{Int}
+use Rattle.pf_signatures.specs.Types.{int_type}
 use Rattle.pf_signatures.specs.Fronts.{IsNotFirst, SpellsDigits}
 use Rattle.pf_signatures.specs.Letters.{is_first_digit}
 use Rattle.pf_signatures.specs.Refusals.{Follows, style_by}
@@ -48,7 +48,7 @@ abbrev pub stand : Numbering → PosixState → List Fetch → Stand
 stand style state own = record { style = style; state = state; own = own }
 
 abbrev pub Progress : Type 0
-Progress = Result Stand SignatureRefusalKind
+Progress = Result Stand RefusalKind
 
 abbrev pub went : Numbering → List Fetch → PosixStep → Progress
 went style own (Ok (to, None)) = Ok (stand style to own)
@@ -207,11 +207,11 @@ module _ (model : Model) (style : Numbering) (parts : PartialSpecification) (byt
 pub record Starred (model : Model) (style : Numbering) (slot : WidthOrPrecision) (from : PosixState) (own : List Fetch) (text : Text) (parts : PartialSpecification) (number : Option ℕ) : Type 0 where
   pub behind : Numbering
   pub to : PosixState
-  pub run_is : run model (Ok (stand style from own)) text ≡ Ok (stand behind to (own ++ fetch number Int ∷ []))
+  pub run_is : run model (Ok (stand style from own)) text ≡ Ok (stand behind to (own ++ fetch number int_type ∷ []))
   pub later : (byte : ℕ) → IsLater byte → posix_step model behind to byte ≡ after_amount model slot parts byte
 
 module _ (model : Model) (style : Numbering) (slot : WidthOrPrecision) (from : PosixState) (own : List Fetch) (parts : PartialSpecification) (first : posix_step model style from 42 ≡ star_at slot parts parts.position) where
-  pub star_open : parts.position ≡ None → run model (Ok (stand style from own)) (42 ∷ []) ≡ Ok (stand Unnumbered (Star slot parts) (own ++ fetch None Int ∷ []))
+  pub star_open : parts.position ≡ None → run model (Ok (stand style from own)) (42 ∷ []) ≡ Ok (stand Unnumbered (Star slot parts) (own ++ fetch None int_type ∷ []))
   star_open p = ap (went style own) (first ∙ ap (star_at slot parts) p)
 
   pub star_begun : (n : ℕ) → parts.position ≡ Some n → run model (Ok (stand style from own)) (42 ∷ []) ≡ Ok (stand style (Star slot parts) own)
@@ -222,7 +222,7 @@ module _ (model : Model) (style : Numbering) (slot : WidthOrPrecision) (from : P
       run-append model (Ok (stand style from own)) (42 ∷ []) digits ∙ ap (λ q. run model q digits) (star_begun n p)
       ∙ number_run model slot style own (StarDigits slot parts) (λ k byte d. rw d refl) (Star slot parts) digits m h (λ byte f g q d. ap (λ o. after_star model slot parts o byte) p ∙ rw f refl)
 
-  pub star_placed : (n m : ℕ) (digits : Text) → parts.position ≡ Some n → SpellsPositive digits m → run model (Ok (stand style from own)) (42 ∷ digits ++ 36 ∷ []) ≡ Ok (stand Numbered (Placed slot parts) (own ++ fetch (Some m) Int ∷ []))
+  pub star_placed : (n m : ℕ) (digits : Text) → parts.position ≡ Some n → SpellsPositive digits m → run model (Ok (stand style from own)) (42 ∷ digits ++ 36 ∷ []) ≡ Ok (stand Numbered (Placed slot parts) (own ++ fetch (Some m) int_type ∷ []))
   star_placed n m digits p h = run-append model (Ok (stand style from own)) (42 ∷ digits) (36 ∷ []) ∙ ap (λ q. run model q (36 ∷ [])) (star_numbered n m digits p h)
 
   starred : (text : Text) (number : Option ℕ) → SpellsStar text parts.position number → Starred model style slot from own text parts number
@@ -335,7 +335,7 @@ module _ (model : Model) (style : Numbering) (before : Text) (parts : PartialSpe
   digits_reached slot digits n r not h =
       record { behind = r.behind; to = Digits slot parts n; run_is = digits_run slot digits n r not h; later = λ byte l. let digit = l.digit in rw digit refl }
 
-  star_reached : (slot : WidthOrPrecision) (text : Text) (number : Option ℕ) → Ready model style slot before parts own → SpellsStar text parts.position number → Reached model style slot (before ++ text) parts (own ++ fetch number Int ∷ [])
+  star_reached : (slot : WidthOrPrecision) (text : Text) (number : Option ℕ) → Ready model style slot before parts own → SpellsStar text parts.position number → Reached model style slot (before ++ text) parts (own ++ fetch number int_type ∷ [])
   star_reached slot text number r s =
       let st = starred model r.behind slot r.from own parts r.star text number s in
       record { behind = st.behind; to = st.to; run_is = run-append model _ before text ∙ ap (λ p. run model p text) r.run_is ∙ st.run_is; later = st.later }
@@ -415,7 +415,7 @@ module _ (model : Model) (style : Numbering) (position : Option ℕ) (set : Flag
     go None e = subst (λ u. Finished (h.before ++ u) (both_parts width None) (star_fetches width ++ [])) (sym e)
         (subst (λ u. Finished u (both_parts width None) (star_fetches width ++ [])) (sym (append-nil h.before)) (subst (Finished h.before (both_parts width None)) (sym (append-nil (star_fetches width))) (finished_width h.before (width_parts width) (star_fetches width) r)))
     go (Some (Fetched number)) s =
-        subst (λ u. Finished u (both_parts width (Some (Fetched number))) (star_fetches width ++ fetch number Int ∷ [])) (sym (ap (λ u. h.before ++ u) s.2 ∙ behind_point s.0))
+        subst (λ u. Finished u (both_parts width (Some (Fetched number))) (star_fetches width ++ fetch number int_type ∷ [])) (sym (ap (λ u. h.before ++ u) s.2 ∙ behind_point s.0))
         (finished_precision _ _ _ (star_reached model style (h.before ++ 46 ∷ []) (record (width_parts width) { precision = true }) (star_fetches width) Precision s.0 number ready s.1))
     go (Some (Given n)) s = subst (λ u. Finished u (both_parts width (Some (Given n))) (star_fetches width ++ [])) (sym (ap (λ u. h.before ++ u) s.0.2 ∙ behind_point (map (digit_glyph false) s.0.0)))
         (subst (Finished ((h.before ++ 46 ∷ []) ++ map (digit_glyph false) s.0.0) (both_parts width (Some (Given n)))) (sym (append-nil (star_fetches width))) (finished_precision _ _ _ (digits s.0.0 s.0.1))) where

@@ -8,8 +8,8 @@ use Rattle.pf_values.specs.declared.limits.TheConstants.{MAX_TEXT_LEN}
 use Rattle.pf_values.specs.declared.models.Model.{Model}
 use Rattle.pf_values.specs.meaning.Text.{Text}
 use Rattle.pf_signatures.specs.declared.fetches.Fetch.{Fetch}
-use Rattle.pf_signatures.specs.declared.refusals.SignatureRefusalKind.{SignatureRefusalKind}
-use Rattle.pf_signatures.specs.declared.refusals.SignatureRefusalKind.TheVariants.{Truncated, TooLong, TwoTypes}
+use Rattle.pf_values.specs.declared.refusals.RefusalKind.{RefusalKind}
+use Rattle.pf_values.specs.declared.refusals.RefusalKind.TheVariants.{Truncated, TooLong, TwoTypes}
 use Rattle.pf_signatures.specs.declared.partial_specification.Numbering.{Numbering}
 use Rattle.pf_signatures.specs.Fronts.{IsStateAfter}
 use Rattle.pf_signatures.specs.Items.{Byte, SpellsPosixItem, ReadsPosix, Specification, PosixItem, fetched}
@@ -148,7 +148,7 @@ module _ (model : Model) where
   sound_end front seen (Modified parts modifier) g few = at_end front seen (Modified parts modifier) g few (λ e. cc)
 
   module _ (front rest : Text) (seen : List Fetch) (state : PosixState) (g : IsGoodPosixFront model front seen state) (few : length front ≤ MAX_TEXT_LEN) (byte : ℕ) where
-    pub at_byte : (kind : SignatureRefusalKind) → IsPosixRefusalCause model seen g.part state (length front) (byte ∷ rest) kind → IsPosixRefusedAt model (front ++ (byte ∷ rest)) kind (length front)
+    pub at_byte : (kind : RefusalKind) → IsPosixRefusalCause model seen g.part state (length front) (byte ∷ rest) kind → IsPosixRefusedAt model (front ++ (byte ∷ rest)) kind (length front)
     at_byte kind cause = record { front = front; rest = byte ∷ rest; fetches = seen; state = state; split = refl; place = refl; limit = few; good = g; cause = cause }
 
     no_conflict : (f : Fetch) → conflicts seen f ≡ true → ¬ AllByRecursion (IsOneType f) seen

@@ -8,8 +8,8 @@ use Rattle.std.proofs.lemmas.List.{append_assoc, append-nil, length-map, map_pus
 use Rattle.pf_values.specs.declared.models.Model.{Model}
 use Rattle.pf_values.specs.meaning.Text.{Text}
 use Rattle.pf_signatures.specs.declared.fetches.Fetch.{Fetch}
-use Rattle.pf_signatures.specs.declared.refusals.SignatureRefusalKind.{SignatureRefusalKind}
-use Rattle.pf_signatures.specs.declared.refusals.SignatureRefusalKind.TheVariants.{TwoTypes}
+use Rattle.pf_values.specs.declared.refusals.RefusalKind.{RefusalKind}
+use Rattle.pf_values.specs.declared.refusals.RefusalKind.TheVariants.{TwoTypes}
 use Rattle.pf_signatures.specs.declared.reader.NextFetch.{NextFetch}
 use Rattle.pf_signatures.specs.declared.reader.NextFetch.TheVariants as nexts
 use Rattle.pf_signatures.specs.declared.reader.Reader.{Reader}
@@ -19,7 +19,7 @@ use Rattle.pf_signatures.specs.declared.pairs.UnnumberedNext.TheVariants as unnu
 use Rattle.pf_signatures.specs.declared.tables.TheConstants.{ROOM}
 use Rattle.pf_signatures.specs.declared.types.ArgumentType.{ArgumentType}
 use Rattle.pf_signatures.specs.Items.{HasArguments}
-use Rattle.pf_signatures.specs.Kinds.{type_number}
+use Rattle.pf_signatures.specs.TypeNumbers.{number_of_type}
 use Rattle.pf_signatures.specs.Laws.{ComparesArgumentTypes, IsFirstDifference}
 use Rattle.pf_signatures.specs.Readings.{Fault, Fetches, FetchTrace, Refused, Takes, Whole, conflicts, fetch_trace, verdict_after, verdict, wanted_types}
 use Rattle.pf_signatures.specs.Steps.{AreFew, DifferAt, paired, unnumbered_fetch, unnumbered_next}
@@ -92,7 +92,7 @@ module _ (model : Model) (t : Text) (seen : List Fetch) (old : FetchTrace) (h : 
       | inr few ↦ few
     ]
 
-  pub ordered_refused : {kind : SignatureRefusalKind} {at : ℕ} → old ≡ Fault kind at → (types : List ArgumentType) → HasArguments model t types → ⊥
+  pub ordered_refused : {kind : RefusalKind} {at : ℕ} → old ≡ Fault kind at → (types : List ArgumentType) → HasArguments model t types → ⊥
   ordered_refused {kind} {at} e types a = let v = arguments_verdict model t types a in let no : Refused kind at ≡ Takes _ = sym (ap (verdict_after seen) e) ∙ sym h.verdict_is ∙ v in cc
 
 pub ordered_start : (model : Model) (t : Text) → IsOrdered model t [] (fetch_trace model t)
@@ -158,8 +158,8 @@ eqb_no : (a b : ℕ) → (a == b) ≡ false → a ≢ b
 eqb_no a b e = grind (arith, nat_tests)
 
 pub same_pair : (p q : UnnumberedNext) → paired p q ≡ pairs.Same → IsSame p q
-same_pair (unnumbered.Wanted a) (unnumbered.Wanted b) e = go (type_number a == type_number b) refl e where
-  go : (c : Bool) → (type_number a == type_number b) ≡ c → (if c then pairs.Same else pairs.Differ) ≡ pairs.Same → IsSame (unnumbered.Wanted a) (unnumbered.Wanted b)
+same_pair (unnumbered.Wanted a) (unnumbered.Wanted b) e = go (number_of_type a == number_of_type b) refl e where
+  go : (c : Bool) → (number_of_type a == number_of_type b) ≡ c → (if c then pairs.Same else pairs.Differ) ≡ pairs.Same → IsSame (unnumbered.Wanted a) (unnumbered.Wanted b)
   go true t e = let one = same_type a b (eqb-true _ _ t) in record { w = a; first = refl; second = ap (λ x. unnumbered.Wanted x) (sym one) }
   go false t e = cc
 same_pair (unnumbered.Wanted a) unnumbered.End e = cc
@@ -170,7 +170,7 @@ same_pair unnumbered.End unnumbered.Other e = cc
 same_pair unnumbered.Other q e = cc
 
 pub end_pair : (p q : UnnumberedNext) → paired p q ≡ pairs.End → (p ≡ unnumbered.End) × (q ≡ unnumbered.End)
-end_pair (unnumbered.Wanted a) (unnumbered.Wanted b) e = go (type_number a == type_number b) e where
+end_pair (unnumbered.Wanted a) (unnumbered.Wanted b) e = go (number_of_type a == number_of_type b) e where
   go : (c : Bool) → (if c then pairs.Same else pairs.Differ) ≡ pairs.End → (unnumbered.Wanted a ≡ unnumbered.End) × (unnumbered.Wanted b ≡ unnumbered.End)
   go true e = cc
   go false e = cc
@@ -182,10 +182,10 @@ end_pair unnumbered.End unnumbered.Other e = cc
 end_pair unnumbered.Other q e = cc
 
 pub differ_pair : (p q : UnnumberedNext) → paired p q ≡ pairs.Differ → AreDifferent p q
-differ_pair (unnumbered.Wanted a) (unnumbered.Wanted b) e = go (type_number a == type_number b) refl e where
-  go : (c : Bool) → (type_number a == type_number b) ≡ c → (if c then pairs.Same else pairs.Differ) ≡ pairs.Differ → AreDifferent (unnumbered.Wanted a) (unnumbered.Wanted b)
+differ_pair (unnumbered.Wanted a) (unnumbered.Wanted b) e = go (number_of_type a == number_of_type b) refl e where
+  go : (c : Bool) → (number_of_type a == number_of_type b) ≡ c → (if c then pairs.Same else pairs.Differ) ≡ pairs.Differ → AreDifferent (unnumbered.Wanted a) (unnumbered.Wanted b)
   go true t e = cc
-  go false t e = Types a b refl refl (λ same. eqb_no _ _ t (ap type_number same))
+  go false t e = Types a b refl refl (λ same. eqb_no _ _ t (ap number_of_type same))
 differ_pair (unnumbered.Wanted a) unnumbered.End e = Longer a refl refl
 differ_pair (unnumbered.Wanted a) unnumbered.Other e = cc
 differ_pair unnumbered.End (unnumbered.Wanted b) e = Shorter b refl refl
@@ -194,7 +194,7 @@ differ_pair unnumbered.End unnumbered.Other e = cc
 differ_pair unnumbered.Other q e = cc
 
 pub other_pair : (p q : UnnumberedNext) → paired p q ≡ pairs.Other → (p ≡ unnumbered.Other) ⊎ (q ≡ unnumbered.Other)
-other_pair (unnumbered.Wanted a) (unnumbered.Wanted b) e = go (type_number a == type_number b) e where
+other_pair (unnumbered.Wanted a) (unnumbered.Wanted b) e = go (number_of_type a == number_of_type b) e where
   go : (c : Bool) → (if c then pairs.Same else pairs.Differ) ≡ pairs.Other → (unnumbered.Wanted a ≡ unnumbered.Other) ⊎ (unnumbered.Wanted b ≡ unnumbered.Other)
   go true e = cc
   go false e = cc

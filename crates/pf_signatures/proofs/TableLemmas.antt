@@ -8,15 +8,15 @@ use Rattle.std.proofs.lemmas.List.{get_or-set_other, get_or-set_same, length-set
 use Rattle.pf_values.specs.declared.models.Model.{Model}
 use Rattle.pf_values.specs.meaning.Text.{Text}
 use Rattle.pf_signatures.specs.declared.fetches.Fetch.{Fetch}
-use Rattle.pf_signatures.specs.declared.refusals.SignatureRefusalKind.{SignatureRefusalKind}
-use Rattle.pf_signatures.specs.declared.refusals.SignatureRefusalKind.TheVariants.{MissingArgument, TwoTypes}
-use Rattle.pf_signatures.specs.declared.refusals.SignatureRefusal.{SignatureRefusal}
+use Rattle.pf_values.specs.declared.refusals.RefusalKind.{RefusalKind}
+use Rattle.pf_values.specs.declared.refusals.RefusalKind.TheVariants.{MissingArgument, TwoTypes}
+use Rattle.pf_text.specs.declared.refusals.Refusal.{Refusal}
 use Rattle.pf_signatures.specs.declared.partial_specification.Numbering.TheVariants.{Undecided, Numbered}
 use Rattle.pf_signatures.specs.declared.tables.Table.{Table}
 use Rattle.pf_signatures.specs.declared.tables.TheConstants.{ROOM}
 use Rattle.pf_signatures.specs.declared.types.ArgumentType.{ArgumentType}
-use Rattle.pf_signatures.specs.declared.types.ArgumentType.TheVariants.{Int}
-use Rattle.pf_signatures.specs.Kinds.{type_number}
+use Rattle.pf_signatures.specs.Types.{int_type}
+use Rattle.pf_signatures.specs.TypeNumbers.{number_of_type}
 use Rattle.pf_signatures.specs.Readings.{Fault, Fetches, FetchTrace, Refused, Takes, Whole, conflicts, greatest, is_number, listed, fetch_trace, verdict_after, verdict, wanted_at}
 use Rattle.pf_signatures.specs.Refusals.{Follows, HasGap, IsOneType, IsPosixRefusedAt, style_by}
 use Rattle.pf_signatures.specs.Tabled.{IsTabled, TableHolds}
@@ -110,7 +110,7 @@ module _ (table : Table) (seen : List Fetch) (h : TableHolds table seen) (place 
           get_or-set_other table.types place p (Some wanted) None q ∙ h.types p less ∙ sym (wanted_other p seen f other)
 
   -- an argument that is there with a type
-  pub told_some : (there : ArgumentType) (a b : ℕ) → get_or table.types place None ≡ Some there → a ≡ type_number there → b ≡ type_number wanted
+  pub told_some : (there : ArgumentType) (a b : ℕ) → get_or table.types place None ≡ Some there → a ≡ number_of_type there → b ≡ number_of_type wanted
       → MatchBool (a == b) ((conflicts seen f ≡ false) × TableHolds (record table { count = max table.count (place + 1) }) (seen ++ f ∷ [])) (conflicts seen f ≡ true)
   told_some there a b e x y = go (a == b) refl where
     here : wanted_at place seen ≡ Some there
@@ -118,21 +118,21 @@ module _ (table : Table) (seen : List Fetch) (h : TableHolds table seen) (place 
 
     go : (c : Bool) → (a == b) ≡ c → MatchBool c ((conflicts seen f ≡ false) × TableHolds (record table { count = max table.count (place + 1) }) (seen ++ f ∷ [])) (conflicts seen f ≡ true)
     go true c = kept_again (here ∙ ap Some (same_type there wanted (sym x ∙ eqb-true a b c ∙ y)))
-    go false c = other_type there here (λ same. eqb_no a b c (x ∙ ap type_number same ∙ sym y)) where
+    go false c = other_type there here (λ same. eqb_no a b c (x ∙ ap number_of_type same ∙ sym y)) where
       eqb_no : (a b : ℕ) → (a == b) ≡ false → a ≢ b
       eqb_no a b e = grind (arith, nat_tests)
 
-pub listed_push : (seen : List Fetch) (from n : ℕ) → listed seen from (suc n) ≡ listed seen from n ++ unwrap_or (wanted_at (from + n) seen) Int ∷ []
-listed_push seen from zero = let same : from ≡ from + 0 = omega arith in ap (λ k. unwrap_or (wanted_at k seen) Int ∷ []) same
+pub listed_push : (seen : List Fetch) (from n : ℕ) → listed seen from (suc n) ≡ listed seen from n ++ unwrap_or (wanted_at (from + n) seen) int_type ∷ []
+listed_push seen from zero = let same : from ≡ from + 0 = omega arith in ap (λ k. unwrap_or (wanted_at k seen) int_type ∷ []) same
 listed_push seen from (suc n) =
     let same : from + 1 + n ≡ from + suc n = omega arith in
-    ap (λ l. unwrap_or (wanted_at from seen) Int ∷ l) (listed_push seen (from + 1) n ∙ ap (λ k. listed seen (from + 1) n ++ unwrap_or (wanted_at k seen) Int ∷ []) same)
+    ap (λ l. unwrap_or (wanted_at from seen) int_type ∷ l) (listed_push seen (from + 1) n ∙ ap (λ k. listed seen (from + 1) n ++ unwrap_or (wanted_at k seen) int_type ∷ []) same)
 
-pub listed_more : (table : Table) (seen : List Fetch) (place : ℕ) → TableHolds table seen → place < ROOM → listed seen 0 place ++ unwrap_or (get_or table.types place None) Int ∷ [] ≡ listed seen 0 (place + 1)
+pub listed_more : (table : Table) (seen : List Fetch) (place : ℕ) → TableHolds table seen → place < ROOM → listed seen 0 place ++ unwrap_or (get_or table.types place None) int_type ∷ [] ≡ listed seen 0 (place + 1)
 listed_more table seen place h less =
     let next : suc place ≡ place + 1 = omega arith in
     let same : 0 + place ≡ place = omega arith in
-    ap (λ o. listed seen 0 place ++ unwrap_or o Int ∷ []) (h.types place less) ∙ ap (λ k. listed seen 0 place ++ unwrap_or (wanted_at k seen) Int ∷ []) (sym same) ∙ sym (listed_push seen 0 place) ∙ ap (listed seen 0) next
+    ap (λ o. listed seen 0 place ++ unwrap_or o int_type ∷ []) (h.types place less) ∙ ap (λ k. listed seen 0 place ++ unwrap_or (wanted_at k seen) int_type ∷ []) (sym same) ∙ sym (listed_push seen 0 place) ∙ ap (listed seen 0) next
 
 pub length_of_listed : (seen : List Fetch) (place : ℕ) → place ≡ length (listed seen 0 place)
 length_of_listed seen place = sym (length_listed seen 0 place)
@@ -173,7 +173,7 @@ module _ (model : Model) (t : Text) (seen : List Fetch) (f : Fetch) (at : ℕ) (
     pub end_by_number : left ≡ Whole → verdict model t ≡ Takes (seen ++ f ∷ [])
     end_by_number e = goes_on ∙ ap (verdict_after (seen ++ f ∷ [])) e
 
-    pub refused_by_number : (kind : SignatureRefusalKind) (place : ℕ) → left ≡ Fault kind place → IsPosixRefusedAt model t kind place
+    pub refused_by_number : (kind : RefusalKind) (place : ℕ) → left ≡ Fault kind place → IsPosixRefusedAt model t kind place
     refused_by_number kind place e = subst (Tells model t) (goes_on ∙ ap (verdict_after (seen ++ f ∷ [])) e) (told model t)
 
 pub same_fetch : (f : Fetch) (m : ℕ) → style_by f.number ≡ Numbered → IsWithin f → m ≡ unwrap_or f.number 1 → fetch (Some (m - 1 + 1)) f.wanted ≡ f
@@ -191,7 +191,7 @@ numbered_of None e = cc
 numbered_of (Some n) e = refl
 
 -- the end of a text
-pub finished : (model : Model) (t : Text) (table : Table) (seen : List Fetch) (at : ℕ) (r : Result (Unit {0}) SignatureRefusal) → verdict model t ≡ Takes seen → AllByRecursion (λ g. style_by g.number ≡ Numbered) seen → TableHolds table seen → at ≡ length t
+pub finished : (model : Model) (t : Text) (table : Table) (seen : List Fetch) (at : ℕ) (r : Result (Unit {0}) Refusal) → verdict model t ≡ Takes seen → AllByRecursion (λ g. style_by g.number ≡ Numbered) seen → TableHolds table seen → at ≡ length t
     → MatchResult r (λ _. (place : ℕ) → place < table.count → IsFetched place seen) (λ refusal. (refusal ≡ record { kind = MissingArgument; at = at }) × HasGap seen)
     → MatchResult r (λ _. IsTabled model t table) (λ refusal. IsPosixRefusedAt model t refusal.kind refusal.at)
 finished model t table seen at (Ok done) v n k e h = record { seen = seen; verdict_is = v; kept = k; numbered = n; all = h }

@@ -8,7 +8,7 @@ use Rattle.std.proofs.lemmas.Option.{slice_get_within}
 use Rattle.pf_signatures.specs.declared.fetches.Fetch.{Fetch}
 use Rattle.pf_signatures.specs.declared.partial_specification.Numbering.TheVariants.{Unnumbered, Numbered}
 use Rattle.pf_signatures.specs.declared.types.ArgumentType.{ArgumentType}
-use Rattle.pf_signatures.specs.declared.types.ArgumentType.TheVariants.{Int}
+use Rattle.pf_signatures.specs.Types.{int_type}
 use Rattle.pf_signatures.specs.Readings.{greatest, is_number, listed, wanted_types, wanted_at}
 use Rattle.pf_signatures.specs.Refusals.{AreAgreed, HasGap, IsOneType, style_by}
 use Rattle.pf_signatures.specs.Types.{AreInOrder, AreNumbered, HaveTypes, IsFetched, HasTypeIn}
@@ -70,12 +70,12 @@ pub length_listed : (fs : List Fetch) (place n : ℕ) → length (listed fs plac
 length_listed fs place zero = refl
 length_listed fs place (suc n) = ap suc (length_listed fs (place + 1) n)
 
-pub get_listed : (fs : List Fetch) (place n k : ℕ) → k < n → slice_get (listed fs place n) k ≡ Some (unwrap_or (wanted_at (place + k) fs) Int)
+pub get_listed : (fs : List Fetch) (place n k : ℕ) → k < n → slice_get (listed fs place n) k ≡ Some (unwrap_or (wanted_at (place + k) fs) int_type)
 get_listed fs place zero k less = absurd (omega arith)
-get_listed fs place (suc n) zero less = let same : place ≡ place + 0 = omega arith in ap (λ p. Some (unwrap_or (wanted_at p fs) Int)) same
+get_listed fs place (suc n) zero less = let same : place ≡ place + 0 = omega arith in ap (λ p. Some (unwrap_or (wanted_at p fs) int_type)) same
 get_listed fs place (suc n) (suc k) less =
     let same : place + 1 + k ≡ place + suc k = omega arith in
-    get_listed fs (place + 1) n k (omega arith) ∙ ap (λ p. Some (unwrap_or (wanted_at p fs) Int)) same
+    get_listed fs (place + 1) n k (omega arith) ∙ ap (λ p. Some (unwrap_or (wanted_at p fs) int_type)) same
 
 -- each number is at most the greatest, and that is one of them
 below_greatest : (fs : List Fetch) (m : ℕ) → greatest fs ≤ m → AllByRecursion (λ f. (n : ℕ) → f.number ≡ Some n → n ≤ m) fs
@@ -106,7 +106,7 @@ module _ (fs : List Fetch) (agreed : AreAgreed fs) (within : AllByRecursion IsWi
   module _ (numbered : AllByRecursion (λ f. style_by f.number ≡ Numbered) fs) (all : (p : ℕ) → p < greatest fs → IsFetched p fs) where
     one : (f : Fetch) → AllByRecursion (IsOneType f) fs → style_by f.number ≡ Numbered → IsWithin f → ((n : ℕ) → f.number ≡ Some n → n ≤ greatest fs) → HasTypeIn (listed fs 0 (greatest fs)) f
     one f same s w few = go f.number refl s where
-      by_wanted : (place : ℕ) (o : Option ArgumentType) → wanted_at place fs ≡ o → f.number ≡ Some (place + 1) → IsFetched place fs → unwrap_or o Int ≡ f.wanted
+      by_wanted : (place : ℕ) (o : Option ArgumentType) → wanted_at place fs ≡ o → f.number ≡ Some (place + 1) → IsFetched place fs → unwrap_or o int_type ≡ f.wanted
       by_wanted place None e n h = absurd (fetched_none place fs e h)
       by_wanted place (Some type) e n h = wanted_one place fs f same n type e
 
@@ -119,7 +119,7 @@ module _ (fs : List Fetch) (agreed : AreAgreed fs) (within : AllByRecursion IsWi
           let there : n - 1 < greatest fs = omega (arith, some, less) in
           let own = e ∙ ap Some at in
           let zero_plus : 0 + (n - 1) ≡ n - 1 = omega arith in
-          (n - 1, own, get_listed fs 0 (greatest fs) (n - 1) there ∙ ap (λ p. Some (unwrap_or (wanted_at p fs) Int)) zero_plus ∙ ap Some (by_wanted (n - 1) _ refl own (all (n - 1) there)))
+          (n - 1, own, get_listed fs 0 (greatest fs) (n - 1) there ∙ ap (λ p. Some (unwrap_or (wanted_at p fs) int_type)) zero_plus ∙ ap Some (by_wanted (n - 1) _ refl own (all (n - 1) there)))
 
     each_one : (gs : List Fetch) → AllByRecursion (λ f. AllByRecursion (IsOneType f) fs) gs → AllByRecursion (λ f. style_by f.number ≡ Numbered) gs → AllByRecursion IsWithin gs
         → AllByRecursion (λ f. (n : ℕ) → f.number ≡ Some n → n ≤ greatest fs) gs → AllByRecursion (HasTypeIn (listed fs 0 (greatest fs))) gs

@@ -7,9 +7,9 @@ use Rattle.std.proofs.lemmas.Option.{slice_get-get_or, slice_get_within}
 use Rattle.pf_values.specs.declared.models.Model.{Model}
 use Rattle.pf_values.specs.meaning.Text.{Text}
 use Rattle.pf_signatures.specs.declared.fetches.Fetch.{Fetch}
-use Rattle.pf_signatures.specs.declared.refusals.SignatureRefusalKind.{SignatureRefusalKind}
+use Rattle.pf_values.specs.declared.refusals.RefusalKind.{RefusalKind}
 use Rattle.pf_signatures.specs.declared.types.ArgumentType.{ArgumentType}
-use Rattle.pf_signatures.specs.declared.types.ArgumentType.TheVariants.{Int}
+use Rattle.pf_signatures.specs.Types.{int_type}
 use Rattle.pf_signatures.specs.Items.{HasArguments, fetched}
 use Rattle.pf_signatures.specs.Readings.{Refused, Takes, Verdict, verdict}
 use Rattle.pf_signatures.specs.Refusals.{AreAgreed, IsPosixRefusalCause, IsOneType, IsPosixRefusedAt, style_by, style_of}
@@ -61,11 +61,11 @@ length_least [] others h = omega arith
 length_least (t ∷ types) others h = let last = h (length types) (omega arith) in omega (arith, last)
 
 numbered_unique : (fs : List Fetch) (types others : List ArgumentType) → AreNumbered fs types → AreNumbered fs others → types ≡ others
-numbered_unique fs types others h k = ext_get_or Int types others (omega (arith, longer, shorter)) at where
+numbered_unique fs types others h k = ext_get_or int_type types others (omega (arith, longer, shorter)) at where
   there : (a b : List ArgumentType) → AreNumbered fs a → AreNumbered fs b → (p : ℕ) → p < length a → p < length b
   there a b x y p less =
       let same = place_type fs a b p x.each y.each (x.all p less) in
-      slice_get_within b p (get_or a p Int) (sym same ∙ slice_get-get_or a p Int less)
+      slice_get_within b p (get_or a p int_type) (sym same ∙ slice_get-get_or a p int_type less)
 
   longer : length types ≤ length others
   longer = length_least types others (there types others h k)
@@ -73,10 +73,10 @@ numbered_unique fs types others h k = ext_get_or Int types others (omega (arith,
   shorter : length others ≤ length types
   shorter = length_least others types (there others types k h)
 
-  at : (i : ℕ) → i < length types → get_or types i Int ≡ get_or others i Int
+  at : (i : ℕ) → i < length types → get_or types i int_type ≡ get_or others i int_type
   at i less =
       let same = place_type fs types others i h.each k.each (h.all i less) in
-      let both : Some (get_or types i Int) ≡ Some (get_or others i Int) = sym (slice_get-get_or types i Int less) ∙ same ∙ slice_get-get_or others i Int (there types others h k i less) in cc
+      let both : Some (get_or types i int_type) ≡ Some (get_or others i int_type) = sym (slice_get-get_or types i int_type less) ∙ same ∙ slice_get-get_or others i int_type (there types others h k i less) in cc
 
 mixed_unique : (fs : List Fetch) (types others : List ArgumentType) → AreInOrder fs types → AreNumbered fs others → types ≡ others
 mixed_unique [] types [] h k = h.types_are
@@ -104,16 +104,16 @@ types_of_verdict model t types fs h e = subst (λ f. HaveTypes f types) (same_ta
 pub one_list : (model : Model) (t : Text) (types others : List ArgumentType) → HasArguments model t types → HasArguments model t others → types ≡ others
 one_list model t types others h k = types_unique _ types others (types_of_verdict model t types (fetched model k.items) h (arguments_verdict model t others k)) k.types_are
 
-pub never_both : (model : Model) (t : Text) (types : List ArgumentType) (kind : SignatureRefusalKind) (at : ℕ) → HasArguments model t types → IsPosixRefusedAt model t kind at → ⊥
+pub never_both : (model : Model) (t : Text) (types : List ArgumentType) (kind : RefusalKind) (at : ℕ) → HasArguments model t types → IsPosixRefusedAt model t kind at → ⊥
 never_both model t types kind at h r = go (said model t kind at r) where
   go : IsSaid model t kind at → ⊥
   go (inl e) = let no : Takes (fetched model h.items) ≡ Refused kind at = sym (arguments_verdict model t types h) ∙ e in cc
   go (inr e) = no_gap e.2 types (types_of_verdict model t types e.2 h e.3) e.4
 
-same_refused : (kind other : SignatureRefusalKind) (p q : ℕ) → Refused kind p ≡ Refused other q → (kind ≡ other) × (p ≡ q)
+same_refused : (kind other : RefusalKind) (p q : ℕ) → Refused kind p ≡ Refused other q → (kind ≡ other) × (p ≡ q)
 same_refused kind other p q e = (cc, cc)
 
-pub one_refusal : (model : Model) (t : Text) (kind other : SignatureRefusalKind) (p q : ℕ) → IsPosixRefusedAt model t kind p → IsPosixRefusedAt model t other q → (kind ≡ other) × (p ≡ q)
+pub one_refusal : (model : Model) (t : Text) (kind other : RefusalKind) (p q : ℕ) → IsPosixRefusedAt model t kind p → IsPosixRefusedAt model t other q → (kind ≡ other) × (p ≡ q)
 one_refusal model t kind other p q h k = go (said model t kind p h) (said model t other q k) where
   go : IsSaid model t kind p → IsSaid model t other q → (kind ≡ other) × (p ≡ q)
   go (inl a) (inl b) = same_refused kind other p q (sym a ∙ b)
@@ -121,7 +121,7 @@ one_refusal model t kind other p q h k = go (said model t kind p h) (said model 
   go (inr a) (inl b) = let no : Takes a.2 ≡ Refused other q = sym a.3 ∙ b in cc
   go (inr a) (inr b) = (a.0 ∙ sym b.0, a.1 ∙ sym b.1)
 
-pub refused_longer : (model : Model) (t more : Text) (kind : SignatureRefusalKind) (at : ℕ) → IsPosixRefusedAt model t kind at → at < length t → IsPosixRefusedAt model (t ++ more) kind at
+pub refused_longer : (model : Model) (t more : Text) (kind : RefusalKind) (at : ℕ) → IsPosixRefusedAt model t kind at → at < length t → IsPosixRefusedAt model (t ++ more) kind at
 refused_longer model t more kind at h less = go h.rest h.split h.cause where
   go : (rest : Text) → t ≡ h.front ++ rest → IsPosixRefusalCause model h.fetches h.good.part h.state at rest kind → IsPosixRefusedAt model (t ++ more) kind at
   go [] e c = absurd (omega (arith, less, h.place, ap length e, length-append h.front []))

@@ -18,8 +18,8 @@ use Rattle.pf_signatures.specs.declared.conversions.Modifier.TheVariants.{Intege
 use Rattle.pf_signatures.specs.declared.partial_specification.Numbering.TheVariants.{Unnumbered}
 use Rattle.pf_signatures.specs.declared.partial_specification.WidthOrPrecision.{WidthOrPrecision}
 use Rattle.pf_signatures.specs.declared.partial_specification.WidthOrPrecision.TheVariants.{Width, Precision}
-use Rattle.pf_signatures.specs.declared.refusals.SignatureRefusalKind.{SignatureRefusalKind}
-use Rattle.pf_signatures.specs.declared.refusals.SignatureRefusalKind.TheVariants.{BadPercent, Mixed, NulByte, Numbered, TooLong}
+use Rattle.pf_values.specs.declared.refusals.RefusalKind.{RefusalKind}
+use Rattle.pf_values.specs.declared.refusals.RefusalKind.TheVariants.{BadPercent, Mixed, NulByte, Numbered, TooLong}
 use Rattle.pf_signatures.specs.Endings.{ending, numbered_instead, unnumbered_trace}
 use Rattle.pf_signatures.specs.Items.{Byte, HasArguments, PosixItem, ReadsPosix, Specification}
 use Rattle.pf_signatures.specs.Readings.{Fault, Fetches, FetchTrace, Whole, moved, trace_from}
@@ -134,7 +134,7 @@ split_front (x ∷ a) b (y ∷ f) r e less =
     (rest.0, rest.1, cc, rest.3)
 
 -- a text is refused by what comes up to the refused byte
-refused_by_front : (model : Model) (base b c : Text) (kind : SignatureRefusalKind) (at : ℕ) → IsPosixRefusedAt model (base ++ b) kind at → at < length base
+refused_by_front : (model : Model) (base b c : Text) (kind : RefusalKind) (at : ℕ) → IsPosixRefusedAt model (base ++ b) kind at → at < length base
     → IsPosixRefusedAt model (base ++ c) kind at
 refused_by_front model base b c kind at h less =
     let parts = split_front base b h.front h.rest h.split (omega (arith, less, h.place)) in
@@ -179,7 +179,7 @@ module _ (model : Model) where
   accepted_types t h = types_are_kept model t h.stretches h.reads h.limit
 
   -- such a text is not refused before the `$`: with `d` in its place it is accepted
-  no_earlier : (t : Text) (at : ℕ) → IsNumberedAt t at → (kind : SignatureRefusalKind) (place : ℕ) → IsPosixRefusedAt model t kind place → ¬ (place < at)
+  no_earlier : (t : Text) (at : ℕ) → IsNumberedAt t at → (kind : RefusalKind) (place : ℕ) → IsPosixRefusedAt model t kind place → ¬ (place < at)
   no_earlier t at h kind place r = λ less.
       let base = h.whole ++ 37 ∷ h.digits in
       let longer = length_push base 100 in
@@ -235,20 +235,20 @@ module _ (model : Model) where
     go (byte ∷ rest) e = by_limit byte (at == MAX_TEXT_LEN) e
 
   -- a refusal here that is one there, too
-  as_there : (t : Text) (kind : SignatureRefusalKind) (at : ℕ) → IsPosixRefusedAt model t kind at → ((place : ℕ) → IsNumberedAt t place → at < place)
+  as_there : (t : Text) (kind : RefusalKind) (at : ℕ) → IsPosixRefusedAt model t kind at → ((place : ℕ) → IsNumberedAt t place → at < place)
       → IsWholeRefusedAt model t kind at
   as_there t Numbered at h first = absurd (never_numbered t at h)
   as_there t kind at h first = (h, first)
 
   -- the two ways of a refusal
-  abbrev IsEither : Text → SignatureRefusalKind → ℕ → Type 0
+  abbrev IsEither : Text → RefusalKind → ℕ → Type 0
   IsEither t kind at = ((kind ≡ Numbered) × IsNumberedAt t at) ⊎ (IsPosixRefusedAt model t kind at × ((place : ℕ) → IsNumberedAt t place → at < place))
 
-  either : (t : Text) (kind : SignatureRefusalKind) (at : ℕ) → IsWholeRefusedAt model t kind at → IsEither t kind at
+  either : (t : Text) (kind : RefusalKind) (at : ℕ) → IsWholeRefusedAt model t kind at → IsEither t kind at
   either t Numbered at h = inl (refl, h.0)
   either t kind at h = inr h
 
-  instead_same : (t : Text) (kind : SignatureRefusalKind) (at : ℕ) → (kind ≡ Mixed → (get_or t at 0 == 36) ≡ false) → numbered_instead t kind at ≡ kind
+  instead_same : (t : Text) (kind : RefusalKind) (at : ℕ) → (kind ≡ Mixed → (get_or t at 0 == 36) ≡ false) → numbered_instead t kind at ≡ kind
   instead_same t Mixed at h = let other = h refl in rw other refl
   instead_same t kind at h = refl
 
@@ -256,7 +256,7 @@ module _ (model : Model) where
   pub ends_whole : (t : Text) → ending (unnumbered_trace model t) ≡ Whole → IsWholeAccepted t
   ends_whole t e = accepted_here t (subst (Concludes model t) e (concludes_end model t (unnumbered_trace model t) (concludes model t)))
 
-  pub ends_refused : (t : Text) (kind : SignatureRefusalKind) (at : ℕ) → ending (unnumbered_trace model t) ≡ Fault kind at
+  pub ends_refused : (t : Text) (kind : RefusalKind) (at : ℕ) → ending (unnumbered_trace model t) ≡ Fault kind at
       → IsWholeRefusedAt model t (numbered_instead t kind at) at
   ends_refused t kind at e = go (subst (Concludes model t) e (concludes_end model t (unnumbered_trace model t) (concludes model t))) where
     go : Concludes model t (Fault kind at) → IsWholeRefusedAt model t (numbered_instead t kind at) at
@@ -278,12 +278,12 @@ module _ (model : Model) where
         subst (λ k. IsWholeRefusedAt model t k at) (sym same) (h.2, no_earlier t at h.2)
 
   judged_by : (t : Text) (trace : FetchTrace) → ending (unnumbered_trace model t) ≡ ending trace
-      → IsWholeAccepted t ⊎ ((kind : SignatureRefusalKind) × (at : ℕ) × IsWholeRefusedAt model t kind at)
+      → IsWholeAccepted t ⊎ ((kind : RefusalKind) × (at : ℕ) × IsWholeRefusedAt model t kind at)
   judged_by t Whole e = inl (ends_whole t e)
   judged_by t (Fault kind at) e = inr (numbered_instead t kind at, at, ends_refused t kind at e)
   judged_by t (Fetches f at rest) e = judged_by t rest e
 
-  not_accepted : (t : Text) (kind : SignatureRefusalKind) (at : ℕ) → IsWholeRefusedAt model t kind at → ¬ IsWholeAccepted t
+  not_accepted : (t : Text) (kind : RefusalKind) (at : ℕ) → IsWholeRefusedAt model t kind at → ¬ IsWholeAccepted t
   not_accepted t kind at h = λ a. go a (either t kind at h) where
     go : IsWholeAccepted t → IsEither t kind at → ⊥
     go a (inl n) =
@@ -293,7 +293,7 @@ module _ (model : Model) where
   pub judged : (t : Text) → IsJudged model t
   judged t = (judged_by t (unnumbered_trace model t) refl, not_accepted t)
 
-  pub refused_whole_once : (t : Text) (kind other : SignatureRefusalKind) (p q : ℕ) → IsWholeRefusedAt model t kind p → IsWholeRefusedAt model t other q
+  pub refused_whole_once : (t : Text) (kind other : RefusalKind) (p q : ℕ) → IsWholeRefusedAt model t kind p → IsWholeRefusedAt model t other q
       → (kind ≡ other) × (p ≡ q)
   refused_whole_once t kind other p q h g = go (either t kind p h) (either t other q g) where
     go : IsEither t kind p → IsEither t other q → (kind ≡ other) × (p ≡ q)

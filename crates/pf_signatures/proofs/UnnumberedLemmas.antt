@@ -15,8 +15,8 @@ use Rattle.pf_values.specs.meaning.Text.{Text}
 use Rattle.pf_signatures.specs.declared.conversions.Modifier.{Modifier}
 use Rattle.pf_signatures.specs.declared.conversions.Modifier.TheVariants.{Integer, LongDouble}
 use Rattle.pf_signatures.specs.declared.fetches.Fetch.{Fetch}
-use Rattle.pf_signatures.specs.declared.refusals.SignatureRefusalKind.{SignatureRefusalKind}
-use Rattle.pf_signatures.specs.declared.refusals.SignatureRefusalKind.TheVariants.{Mixed, TooLong, Unexpected}
+use Rattle.pf_values.specs.declared.refusals.RefusalKind.{RefusalKind}
+use Rattle.pf_values.specs.declared.refusals.RefusalKind.TheVariants.{Mixed, TooLong, Unexpected}
 use Rattle.pf_signatures.specs.declared.partial_specification.Numbering.{Numbering}
 use Rattle.pf_signatures.specs.declared.partial_specification.Numbering.TheVariants.{Undecided, Unnumbered}
 use Rattle.pf_signatures.specs.declared.partial_specification.WidthOrPrecision.{WidthOrPrecision}
@@ -207,7 +207,7 @@ module _ (model : Model) (front rest : Text) (seen : List Fetch) (state : PosixS
     not_at : (n : ℕ) → n < MAX_TEXT_LEN → (n == MAX_TEXT_LEN) ≡ false
     not_at n h = grind (arith, nat_tests)
 
-  refuses : (kind : SignatureRefusalKind) → length front < MAX_TEXT_LEN → posix_step model Unnumbered state byte ≡ Err kind → is_dollar_after state byte ≡ false
+  refuses : (kind : RefusalKind) → length front < MAX_TEXT_LEN → posix_step model Unnumbered state byte ≡ Err kind → is_dollar_after state byte ≡ false
       → Concludes model (front ++ byte ∷ rest) (Fault kind (length front))
   refuses kind less e other =
       let g = p.good in
@@ -221,7 +221,7 @@ module _ (model : Model) (front rest : Text) (seen : List Fetch) (state : PosixS
             not_mixed model state p.plain (ap (is_dollar_after state) (sym is) ∙ other) (ap (posix_step model Unnumbered state) (sym is) ∙ e ∙ ap Err mixed),
       )
 
-  refused : (state_is : PosixState) → state ≡ state_is → (kind : SignatureRefusalKind) → length front < MAX_TEXT_LEN
+  refused : (state_is : PosixState) → state ≡ state_is → (kind : RefusalKind) → length front < MAX_TEXT_LEN
       → posix_step model Unnumbered state byte ≡ Err kind
       → Concludes model (front ++ byte ∷ rest) (Fault kind (length front))
   refused (First n) s kind less e = go (byte == 36) refl where

@@ -7,7 +7,7 @@ use Rattle.memchr.specs.Find.{Nowhere, Passes, is_byte2}
 use Rattle.pf_values.specs.declared.limits.TheConstants.{MAX_TEXT_LEN}
 use Rattle.pf_values.specs.declared.models.Model.{Model}
 use Rattle.pf_values.specs.meaning.Text.{Text}
-use Rattle.pf_signatures.specs.declared.refusals.SignatureRefusalKind.TheVariants.{TooLong}
+use Rattle.pf_values.specs.declared.refusals.RefusalKind.TheVariants.{TooLong}
 use Rattle.pf_signatures.specs.declared.partial_specification.Numbering.{Numbering}
 use Rattle.pf_signatures.specs.Readings.{Fault, trace_from}
 use Rattle.pf_signatures.specs.Stages.{PosixState, Between}

@@ -14,8 +14,8 @@ use Rattle.pf_text.specs.States.{is_digit}
 use Rattle.pf_signatures.specs.declared.conversions.Modifier.{Modifier}
 use Rattle.pf_signatures.specs.declared.conversions.Modifier.TheVariants.{Integer, LongDouble}
 use Rattle.pf_signatures.specs.declared.fetches.Fetch.{Fetch}
-use Rattle.pf_signatures.specs.declared.refusals.SignatureRefusalKind.{SignatureRefusalKind}
-use Rattle.pf_signatures.specs.declared.refusals.SignatureRefusalKind.TheVariants.{NulByte, Unexpected, BadPercent, WidthTooLarge, Mixed, TwoTypes}
+use Rattle.pf_values.specs.declared.refusals.RefusalKind.{RefusalKind}
+use Rattle.pf_values.specs.declared.refusals.RefusalKind.TheVariants.{NulByte, Unexpected, BadPercent, WidthTooLarge, Mixed, TwoTypes}
 use Rattle.pf_signatures.specs.declared.partial_specification.PartialSpecification.{PartialSpecification}
 use Rattle.pf_signatures.specs.declared.partial_specification.WidthOrPrecision.{WidthOrPrecision}
 use Rattle.pf_signatures.specs.declared.partial_specification.WidthOrPrecision.TheVariants.{Width, Precision}
@@ -36,7 +36,7 @@ use Rattle.pf_signatures.proofs.Reasons.{IsOther, Reason, Went, Why, undefined_k
 use Rattle.pf_signatures.proofs.Running.{Progress, run, run-append, stand, went}
 
 -- a byte that is no part of a specification
-record IsStrange (byte : ℕ) (kind : SignatureRefusalKind) : Type 0 where
+record IsStrange (byte : ℕ) (kind : RefusalKind) : Type 0 where
   flag : flag_of byte ≡ None
   digit : is_digit byte ≡ false
   first : is_first_digit byte ≡ false
@@ -47,9 +47,9 @@ record IsStrange (byte : ℕ) (kind : SignatureRefusalKind) : Type 0 where
   second_l : (byte == 108) ≡ false
   modifier : length_modifier_of byte ≡ None
   conversion : conversion_of byte ≡ None
-  kind_is : (other : SignatureRefusalKind) → stray byte other ≡ kind
+  kind_is : (other : RefusalKind) → stray byte other ≡ kind
 
-module _ (model : Model) (byte : ℕ) (kind : SignatureRefusalKind) (s : IsStrange byte kind) where
+module _ (model : Model) (byte : ℕ) (kind : RefusalKind) (s : IsStrange byte kind) where
   strange_end : (parts : PartialSpecification) (modifier : Modifier) → conversion_at model parts modifier byte ≡ Err kind
   strange_end parts modifier = let conversion = s.conversion in rw conversion (ap Err (s.kind_is Unexpected))
 
@@ -105,7 +105,7 @@ zero_refused model style state = strange_inside model 0 NulByte zero_strange sty
 
 -- reasons that the table finds
 module _ (model : Model) (style : Numbering) (byte : ℕ) (other : IsOther byte) where
-  stray_other : (kind : SignatureRefusalKind) → stray byte kind ≡ kind
+  stray_other : (kind : RefusalKind) → stray byte kind ≡ kind
   stray_other kind = let zero = other.0 in let percent = other.1 in rw (zero, percent) refl
 
   not_byte : (k : ℕ) → byte ≢ k → (byte == k) ≡ false
@@ -134,7 +134,7 @@ module _ (model : Model) (style : Numbering) (byte : ℕ) (other : IsOther byte)
   mixed_refused (StarDigits slot parts n) h = let digit = h.0 in let dollar = not_byte 36 h.1 in rw (digit, dollar) (ap Err (stray_other Mixed))
   mixed_refused _ none = absurd none
 
-large_refused : (model : Model) (style : Numbering) (byte : ℕ) (kind : SignatureRefusalKind) (state : PosixState) → IsNumberTooLarge state byte kind → posix_step model style state byte ≡ Err kind
+large_refused : (model : Model) (style : Numbering) (byte : ℕ) (kind : RefusalKind) (state : PosixState) → IsNumberTooLarge state byte kind → posix_step model style state byte ≡ Err kind
 large_refused model style byte kind state = go state where
   passed : (n : ℕ) → MAX_NUMBER < n → nat_lt MAX_NUMBER n ≡ true
   passed n h = grind (arith, nat_tests)
@@ -151,12 +151,12 @@ by_slot Precision e = cc
 
 -- a byte that isn't allowed in a place is refused there behind specifications of any style
 record StaysRefused (model : Model) (style : Numbering) (state : PosixState) (byte : ℕ) : Type 0 where
-  kind : SignatureRefusalKind
+  kind : RefusalKind
   refused : posix_step model style state byte ≡ Err kind
   one_kind : is_undefined_kind kind ≡ false
 
 module _ (model : Model) (byte : ℕ) where
-  stray_kind : (kind : SignatureRefusalKind) → is_undefined_kind kind ≡ false → (zero percent : Bool) → (byte == 0) ≡ zero → (byte == 37) ≡ percent → is_undefined_kind (stray byte kind) ≡ false
+  stray_kind : (kind : RefusalKind) → is_undefined_kind kind ≡ false → (zero percent : Bool) → (byte == 0) ≡ zero → (byte == 37) ≡ percent → is_undefined_kind (stray byte kind) ≡ false
   stray_kind kind e true percent z p = rw z refl
   stray_kind kind e false true z p = rw (z, p) refl
   stray_kind kind e false false z p = rw (z, p) e
@@ -166,7 +166,7 @@ module _ (model : Model) (byte : ℕ) where
   never_stray false true z p e = let kind : stray byte Mixed ≡ BadPercent = rw (z, p) refl in let no_kind : BadPercent ≡ Unexpected = sym kind ∙ e in cc
   never_stray false false z p e = let kind : stray byte Mixed ≡ Mixed = rw (z, p) refl in let no_kind : Mixed ≡ Unexpected = sym kind ∙ e in cc
 
-  one_refused : (a b : SignatureRefusalKind) (x : PosixStep) → x ≡ Err a → x ≡ Err b → a ≡ b
+  one_refused : (a b : RefusalKind) (x : PosixStep) → x ≡ Err a → x ≡ Err b → a ≡ b
   one_refused a b x e f = let both : Result.Err a ≡ Result.Err b = sym e ∙ f in cc
 
   -- where numbered specifications differ from others
@@ -240,7 +240,7 @@ module _ (model : Model) (style : Numbering) (part : Text) (own : List Fetch) (b
 
     no_whole : (s : PosixSpecification) → ¬ SpellsPosix (part ++ byte ∷ []) s
     no_whole s h = let r = spelled_ends model Undecided (part ++ byte ∷ []) s h (any_follows (Some (style_by s.position))) in go r.0 (undefined_of s) refl (sym refused ∙ r.1) where
-      go : (behind : Numbering) (o : Option SignatureRefusalKind) → undefined_of s ≡ o → Result.Err stays.kind ≡ went behind (star_fetches s.width ++ star_fetches s.precision) (judgement (undefined_of s) (fetch s.position (conversion_type model s.modifier s.conversion))) → ⊥
+      go : (behind : Numbering) (o : Option RefusalKind) → undefined_of s ≡ o → Result.Err stays.kind ≡ went behind (star_fetches s.width ++ star_fetches s.precision) (judgement (undefined_of s) (fetch s.position (conversion_type model s.modifier s.conversion))) → ⊥
       go behind None u same = let both = same ∙ ap (λ o. went behind (star_fetches s.width ++ star_fetches s.precision) (judgement o (fetch s.position (conversion_type model s.modifier s.conversion)))) u in cc
       go behind (Some kind) u same =
           let both = same ∙ ap (λ o. went behind (star_fetches s.width ++ star_fetches s.precision) (judgement o (fetch s.position (conversion_type model s.modifier s.conversion)))) u in
@@ -281,7 +281,7 @@ own_then (Ok p) = p.own
 own_then (Err kind) = []
 
 -- what the table says of a byte that is refused
-abbrev pub IsTurnedDown : Model → List Fetch → PosixState → ℕ → SignatureRefusalKind → Type 0
+abbrev pub IsTurnedDown : Model → List Fetch → PosixState → ℕ → RefusalKind → Type 0
 IsTurnedDown model fetches state byte kind = (posix_step model (style_of fetches) state byte ≡ Err kind)
     ⊎ ((kind ≡ TwoTypes) × (to : PosixState) × (f : Fetch) × (posix_step model (style_of fetches) state byte ≡ Ok (to, Some f)) × ¬ AllByRecursion (IsOneType f) fetches)
 
@@ -295,7 +295,7 @@ module _ (model : Model) (fetches : List Fetch) (part : Text) (own : List Fetch)
     go Between e = let zero = other.0 in let percent = other.1 in let goes : posix_step model style Between byte ≡ Ok (Between, None) = rw (zero, percent) refl in let both = sym goes ∙ e in cc
     go _ e = tt
 
-  large_kind : (state : PosixState) (kind : SignatureRefusalKind) → IsNumberTooLarge state byte kind → kind ≢ Unexpected
+  large_kind : (state : PosixState) (kind : RefusalKind) → IsNumberTooLarge state byte kind → kind ≢ Unexpected
   large_kind (First n) kind h e = let both : WidthTooLarge ≡ Unexpected = sym h.1 ∙ e in cc
   large_kind (Digits slot parts n) kind h e = by_slot slot (sym h.1 ∙ e)
   large_kind (StarDigits slot parts n) kind h e = by_slot slot (sym h.1 ∙ e)
@@ -317,7 +317,7 @@ module _ (model : Model) (fetches : List Fetch) (part : Text) (own : List Fetch)
     reasoned : (n : PosixStep) → posix_step model style state byte ≡ n → Why model style state byte n
     reasoned n e = subst (Why model style state byte) e (why model style byte state)
 
-    pub refused_in_words : (kind : SignatureRefusalKind) → posix_step model style state byte ≡ Err kind → IsPosixRefusedByte model fetches part state byte kind
+    pub refused_in_words : (kind : RefusalKind) → posix_step model style state byte ≡ Err kind → IsPosixRefusedByte model fetches part state byte kind
     refused_in_words kind e = go (byte == 0) refl (byte == 37) refl (reasoned (Err kind) e) where
       by_reason : IsOther byte → Reason model style state byte kind → IsWrong model fetches part state byte kind
       by_reason other (inl mixed) = inl mixed
@@ -353,12 +353,12 @@ module _ (model : Model) (fetches : List Fetch) (part : Text) (own : List Fetch)
       abbrev last : PosixSpecification → Fetch
       last s = fetch s.position (conversion_type model s.modifier s.conversion)
 
-      ends_as : (end : CompletesSpecification style part byte) (o : Option SignatureRefusalKind) → undefined_of end.s ≡ o → (behind : Numbering) × (went style own (posix_step model style state byte) ≡ went behind (stars end.s) (judgement o (last end.s)))
+      ends_as : (end : CompletesSpecification style part byte) (o : Option RefusalKind) → undefined_of end.s ≡ o → (behind : Numbering) × (went style own (posix_step model style state byte) ≡ went behind (stars end.s) (judgement o (last end.s)))
       ends_as end o u =
           let r = spelled_ends model base (part ++ byte ∷ []) end.s end.spelled (back (Some (style_by end.s.position)) end.follows) in
           (r.0, sym (run-append model _ part (byte ∷ []) ∙ ap (λ p. run model p (byte ∷ [])) came_here) ∙ r.1 ∙ ap (λ o. went r.0 (stars end.s) (judgement o (last end.s))) u)
 
-      undefined_refused : (kind : SignatureRefusalKind) → CompletesUndefined style part byte kind → posix_step model style state byte ≡ Err kind
+      undefined_refused : (kind : RefusalKind) → CompletesUndefined style part byte kind → posix_step model style state byte ≡ Err kind
       undefined_refused kind h = go (posix_step model style state byte) (ends_as h.0 (Some kind) h.1).1 where
         go : (n : PosixStep) → went style own n ≡ Err kind → n ≡ Err kind
         go (Err k) e = cc
@@ -387,7 +387,7 @@ module _ (model : Model) (fetches : List Fetch) (part : Text) (own : List Fetch)
 
       unexpected_refused : IsOther byte → IsUnexpected style part state byte → posix_step model style state byte ≡ Err Unexpected
       unexpected_refused other u = go (posix_step model style state byte) refl where
-        refused : (kind : SignatureRefusalKind) → posix_step model style state byte ≡ Err kind → Reason model style state byte kind → kind ≡ Unexpected
+        refused : (kind : RefusalKind) → posix_step model style state byte ≡ Err kind → Reason model style state byte kind → kind ≡ Unexpected
         refused kind e (inl mixed) = absurd (u.one_kind mixed.1)
         refused kind e (inr (inl large)) = absurd (u.small kind large)
         refused kind e (inr (inr (inl undefined))) = elim (judged (Err kind) e) [ inl no_kind ↦ let both : true ≡ false = sym undefined ∙ no_kind in cc | inr ends ↦ absurd (u.nowhere.no_whole ends.0.s ends.0.spelled) ]
@@ -408,7 +408,7 @@ module _ (model : Model) (fetches : List Fetch) (part : Text) (own : List Fetch)
           brought Between h = u.nowhere.no_whole h.0 h.1
           brought to h = u.nowhere.no_part to _ h.0
 
-      wrong_refused : (kind : SignatureRefusalKind) → IsOther byte → IsWrong model fetches part state byte kind → IsTurnedDown model fetches state byte kind
+      wrong_refused : (kind : RefusalKind) → IsOther byte → IsWrong model fetches part state byte kind → IsTurnedDown model fetches state byte kind
       wrong_refused kind other (inl h) = inl (mixed_refused model style byte other state h.1 ∙ ap Err (sym h.0))
       wrong_refused kind other (inr (inl h)) = inl (large_refused model style byte kind state h)
       wrong_refused kind other (inr (inr (inl h))) = inl (undefined_refused kind h)
@@ -416,7 +416,7 @@ module _ (model : Model) (fetches : List Fetch) (part : Text) (own : List Fetch)
       wrong_refused kind other (inr (inr (inr (inl (k, f, inr last, conflict))))) = inr (k, Between, f, last_fetched f last, conflict)
       wrong_refused kind other (inr (inr (inr (inr h)))) = inl (unexpected_refused other h.1 ∙ ap Err (sym h.0))
 
-      pub words_refuse : (kind : SignatureRefusalKind) → IsPosixRefusedByte model fetches part state byte kind → IsTurnedDown model fetches state byte kind
+      pub words_refuse : (kind : RefusalKind) → IsPosixRefusedByte model fetches part state byte kind → IsTurnedDown model fetches state byte kind
       words_refuse kind h = go (byte == 0) refl (byte == 37) refl h where
         go : (z : Bool) → (byte == 0) ≡ z → (p : Bool) → (byte == 37) ≡ p → MatchBool z (kind ≡ NulByte) (MatchBool p ((kind ≡ BadPercent) × IsPastPercent state) (IsWrong model fetches part state byte kind)) → IsTurnedDown model fetches state byte kind
         go true z p f h = inl (ap (posix_step model style state) (eqb-true byte 0 z) ∙ zero_refused model style state ∙ ap Err (sym h))

@@ -11,8 +11,8 @@ use Rattle.pf_signatures.specs.declared.conversions.Floating.{Floating}
 use Rattle.pf_signatures.specs.declared.conversions.Floating.TheVariants as floats
 use Rattle.pf_signatures.specs.declared.conversions.Modifier.{Modifier}
 use Rattle.pf_signatures.specs.declared.conversions.Modifier.TheVariants.{Integer, LongDouble}
-use Rattle.pf_signatures.specs.declared.refusals.SignatureRefusalKind.{SignatureRefusalKind}
-use Rattle.pf_signatures.specs.declared.refusals.SignatureRefusalKind.TheVariants.{AltUndefined, ZeroUndefined, GroupUndefined, PrecisionUndefined, LengthUndefined, CountUndefined}
+use Rattle.pf_values.specs.declared.refusals.RefusalKind.{RefusalKind}
+use Rattle.pf_values.specs.declared.refusals.RefusalKind.TheVariants.{AltUndefined, ZeroUndefined, GroupUndefined, PrecisionUndefined, LengthUndefined, CountUndefined}
 use Rattle.pf_signatures.specs.Specifications.{PosixSpecification}
 
 -- the flag `#` is defined for it (C11 7.21.6.1 p6)
@@ -70,7 +70,7 @@ has_any_flag set =
     has set Minus || has set Plus || has set Space || has set Alt || has set Zero || has set Group
 
 -- the kinds for which a specification is undefined, by whether there are a width and a precision
-abbrev pub is_undefined_as : FlagSet → Bool → Bool → Modifier → Conversion → SignatureRefusalKind → Bool
+abbrev pub is_undefined_as : FlagSet → Bool → Bool → Modifier → Conversion → RefusalKind → Bool
 is_undefined_as set width precision modifier conversion AltUndefined =
     has set Alt && not (takes_alt conversion)
 is_undefined_as set width precision modifier conversion ZeroUndefined =
@@ -87,14 +87,14 @@ is_undefined_as set width precision modifier conversion _ = false
 
 -- the first of these kinds in the order of their numbers
 abbrev pub undefined_as : FlagSet → Bool → Bool → Modifier → Conversion
-    → Option SignatureRefusalKind
+    → Option RefusalKind
 undefined_as set width precision modifier conversion =
     find (is_undefined_as set width precision modifier conversion)
     (AltUndefined ∷ ZeroUndefined ∷ GroupUndefined ∷ PrecisionUndefined ∷ LengthUndefined
     ∷ CountUndefined ∷ [])
 
 -- why a specification isn't defined, if it isn't
-abbrev pub undefined_of : PosixSpecification → Option SignatureRefusalKind
+abbrev pub undefined_of : PosixSpecification → Option RefusalKind
 undefined_of s =
     undefined_as s.flags (is_some s.width) (is_some s.precision) s.modifier s.conversion
 

@@ -4,10 +4,10 @@ use Rattle.std.specs.List.{AllByRecursion}
 use Rattle.pf_values.specs.declared.models.Model.{Model}
 use Rattle.pf_values.specs.meaning.Text.{Text}
 use Rattle.pf_signatures.specs.declared.directive_spans.DirectiveSpan.{DirectiveSpan}
-use Rattle.pf_signatures.specs.declared.refusals.SignatureFault.{SignatureFault}
-use Rattle.pf_signatures.specs.declared.refusals.SignatureFault.TheVariants as faults
+use Rattle.pf_text.specs.declared.refusals.TextFault.{TextFault}
+use Rattle.pf_text.specs.declared.refusals.TextFault.TheVariants as faults
 use Rattle.pf_signatures.specs.declared.types.ArgumentType.{ArgumentType}
-use Rattle.pf_signatures.specs.declared.types.ArgumentType.TheVariants.{Int}
+use Rattle.pf_signatures.specs.Types.{int_type}
 use Rattle.pf_signatures.specs.Items.{Byte, Specification, PosixItem, ReadsPosix, HasArguments}
 use Rattle.pf_signatures.specs.Laws.{filled}
 use Rattle.pf_signatures.specs.Refusals.{IsPosixRefusedAt}
@@ -52,7 +52,7 @@ directives_from model at next t (Specification s ∷ items) reads =
 -- the argument of a `*`, if it is one, is an int (C11 7.21.6.1 p5)
 abbrev pub TakesInt : List ArgumentType → Option ℕ → Type 0
 TakesInt types None = ⊤
-TakesInt types (Some index) = slice_get types index ≡ Some Int
+TakesInt types (Some index) = slice_get types index ≡ Some int_type
 
 -- the arguments of a specification have their types in a list
 pub record TakesFrom (types : List ArgumentType) (d : DirectiveSpan) : Type 0 where
@@ -77,7 +77,7 @@ pub record HasDirectiveCount (model : Model) (t : Text) (old new : List Directiv
   pub front : new ≡ filled old directives
 
 -- why there is no list of them: out of memory only where a text is accepted and has some
-abbrev pub FaultForDirectives : Model → Text → SignatureFault → Type 0
+abbrev pub FaultForDirectives : Model → Text → TextFault → Type 0
 FaultForDirectives model t (faults.Refused refusal) = IsPosixRefusedAt model t refusal.kind refusal.at
 FaultForDirectives model t faults.Memory =
     (directives : List DirectiveSpan) × HasDirectives model t directives × (directives ≢ [])

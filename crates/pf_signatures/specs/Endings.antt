@@ -4,8 +4,8 @@ use Rattle.std.specs.Prelude.{ℕ, ◌==◌, get_or, if◌then◌else◌}
 use Rattle.pf_values.specs.declared.models.Model.{Model}
 use Rattle.pf_values.specs.meaning.Text.{Text, dollar}
 use Rattle.pf_signatures.specs.declared.partial_specification.Numbering.TheVariants.{Unnumbered}
-use Rattle.pf_signatures.specs.declared.refusals.SignatureRefusalKind.{SignatureRefusalKind}
-use Rattle.pf_signatures.specs.declared.refusals.SignatureRefusalKind.TheVariants.{Mixed, Numbered}
+use Rattle.pf_values.specs.declared.refusals.RefusalKind.{RefusalKind}
+use Rattle.pf_values.specs.declared.refusals.RefusalKind.TheVariants.{Mixed, Numbered}
 use Rattle.pf_signatures.specs.Readings.{Fault, Fetches, FetchTrace, Whole, trace_from}
 use Rattle.pf_signatures.specs.Stages.{Between}
 
@@ -20,6 +20,6 @@ ending (Fault kind at) = Fault kind at
 ending (Fetches f at rest) = ending rest
 
 -- the kind of a refusal in such a trace: a `$` that is refused as Mixed numbers an argument
-abbrev pub numbered_instead : Text → SignatureRefusalKind → ℕ → SignatureRefusalKind
+abbrev pub numbered_instead : Text → RefusalKind → ℕ → RefusalKind
 numbered_instead t Mixed at = if get_or t at 0 == dollar then Numbered else Mixed
 numbered_instead t kind at = kind

@@ -10,7 +10,7 @@ use Rattle.pf_signatures.specs.declared.fetches.Fetch.{Fetch}
 use Rattle.pf_signatures.specs.declared.partial_specification.PartialSpecification.{PartialSpecification}
 use Rattle.pf_signatures.specs.declared.partial_specification.WidthOrPrecision.{WidthOrPrecision}
 use Rattle.pf_signatures.specs.declared.partial_specification.WidthOrPrecision.TheVariants.{Width, Precision}
-use Rattle.pf_signatures.specs.declared.types.ArgumentType.TheVariants.{Int}
+use Rattle.pf_signatures.specs.Types.{int_type}
 use Rattle.pf_signatures.specs.Specifications.{Amount, modifier_letters}
 use Rattle.pf_signatures.specs.Spelling.{SpellsUpToFlags, SpellsUpToWidth, SpellsUpToPrecision, SpellsPositive}
 use Rattle.pf_signatures.specs.Stages.{PosixState, Between, Opened, First, Flags, Digits, Star, StarDigits, Placed, Point, Modified}
@@ -46,7 +46,7 @@ IsNotFirst Precision before = ⊤
 
 -- a `*` of a specification that isn't numbered has fetched its argument
 abbrev pub at_star : Option ℕ → List Fetch
-at_star None = fetch None Int ∷ []
+at_star None = fetch None int_type ∷ []
 at_star (Some n) = []
 
 -- a state says which part of an item was read, and what it has fetched
@@ -69,7 +69,7 @@ IsStateAfter (StarDigits slot parts n) part own = (before : Text) × (digits : T
 IsStateAfter (Placed slot parts) part own = (before : Text) × (digits : Text) × (n : ℕ)
     × (earlier : List Fetch) × IsBefore slot before parts earlier × SpellsPositive digits n
     × (is_some parts.position ≡ true) × (part ≡ before ++ star ∷ digits ++ dollar ∷ [])
-    × (own ≡ earlier ++ fetch (Some n) Int ∷ [])
+    × (own ≡ earlier ++ fetch (Some n) int_type ∷ [])
 IsStateAfter (Point parts) part own = IsBefore Precision part parts own
 IsStateAfter (Modified parts modifier) part own = (before : Text) × HasNumbers before parts own
     × (part ≡ before ++ modifier_letters modifier) × (modifier ≢ Integer lengths.None)

@@ -2,20 +2,21 @@
 use Rattle.std.specs.Prelude.{◌≡◌, ◌≢◌, ℕ, ◌<◌, List, [], ◌∷◌, length, slice_get, ◌⊎◌, Option, Some, None}
 use Rattle.pf_values.specs.declared.models.Model.{Model}
 use Rattle.pf_values.specs.meaning.Text.{Text}
-use Rattle.pf_signatures.specs.declared.comparison.FitsRefusal.{FitsRefusal}
-use Rattle.pf_signatures.specs.declared.comparison.FitsRefusal.TheVariants as refusals
-use Rattle.pf_signatures.specs.declared.refusals.SignatureRefusalKind.{SignatureRefusalKind}
-use Rattle.pf_signatures.specs.declared.refusals.SignatureFault.{SignatureFault}
-use Rattle.pf_signatures.specs.declared.refusals.SignatureFault.TheVariants as faults
+use Rattle.pf_text.specs.declared.refusals.Side.{Side}
+use Rattle.pf_values.specs.declared.refusals.RefusalKind.{RefusalKind}
+use Rattle.pf_text.specs.declared.refusals.Refusal.{Refusal}
+use Rattle.pf_text.specs.declared.refusals.TextFault.{TextFault}
+use Rattle.pf_text.specs.declared.refusals.TextFault.TheVariants as faults
 use Rattle.pf_signatures.specs.declared.types.ArgumentType.{ArgumentType}
-use Rattle.pf_signatures.specs.Items.{HasArguments}
+use Rattle.pf_text.specs.Refusals.{RefusesOne}
+use Rattle.pf_signatures.specs.Items.{HasArguments, IsPosixAccepted}
 use Rattle.pf_signatures.specs.Refusals.{IsPosixRefusedAt}
 
 -- a text is accepted, or refused
 abbrev pub IsAcceptedOrRefused : Model → Text → Type 0
 IsAcceptedOrRefused model t =
     ((types : List ArgumentType) × HasArguments model t types)
-    ⊎ ((kind : SignatureRefusalKind) × (at : ℕ) × IsPosixRefusedAt model t kind at)
+    ⊎ ((kind : RefusalKind) × (at : ℕ) × IsPosixRefusedAt model t kind at)
 
 -- elements at the front of a slice, as many as there is room for, and then what was there
 abbrev pub filled : {X : Type 0} → List X → List X → List X
@@ -49,15 +50,12 @@ pub record ComparesArgumentTypes (model : Model) (first second : Text) (index : 
   pub difference : IsFirstDifference types others index
 
 -- one of two texts is refused, and the first of them that is
-abbrev pub FaultForFits : Model → Text → Text → FitsRefusal → Type 0
-FaultForFits model first second (refusals.First refusal) =
-    IsPosixRefusedAt model first refusal.kind refusal.at
-FaultForFits model first second (refusals.Second refusal) =
-    ((types : List ArgumentType) × HasArguments model first types)
-    × IsPosixRefusedAt model second refusal.kind refusal.at
+abbrev pub FaultForFits : Model → Text → Text → Side × Refusal → Type 0
+FaultForFits model first second fault =
+    RefusesOne (IsPosixAccepted model) (IsPosixRefusedAt model) first second fault.0 fault.1
 
 -- why there is no list of types: want of memory only where a text is accepted and takes arguments
-abbrev pub FaultForArguments : Model → Text → SignatureFault → Type 0
+abbrev pub FaultForArguments : Model → Text → TextFault → Type 0
 FaultForArguments model t (faults.Refused refusal) = IsPosixRefusedAt model t refusal.kind refusal.at
 FaultForArguments model t faults.Memory =
     (types : List ArgumentType) × HasArguments model t types × (types ≢ [])

@@ -9,7 +9,7 @@ pub mod States
 pub mod Moves
 pub mod Fronts
 pub mod Refusals
-pub mod Kinds
+pub mod TypeNumbers
 pub mod Readings
 pub mod Walks
 pub mod Tabled

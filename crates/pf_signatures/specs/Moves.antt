@@ -4,12 +4,12 @@ use Rattle.pf_signatures.specs.declared.automaton.Automaton.{Automaton}
 use Rattle.pf_signatures.specs.declared.automaton.Move.{Move}
 use Rattle.pf_signatures.specs.declared.automaton.Move.TheVariants as moves
 use Rattle.pf_signatures.specs.declared.automaton.Phase.{Phase}
-use Rattle.pf_signatures.specs.declared.refusals.SignatureRefusalKind.{SignatureRefusalKind}
+use Rattle.pf_values.specs.declared.refusals.RefusalKind.{RefusalKind}
 use Rattle.pf_signatures.specs.Stages.{PosixState, posix_state_in_phase, posix_state_of}
 use Rattle.pf_signatures.specs.States.{PosixStep, move_to}
 
 -- the step that an answer of the automaton and its state after it make
-abbrev pub posix_step_by : Result Move SignatureRefusalKind → Automaton → PosixStep
+abbrev pub posix_step_by : Result Move RefusalKind → Automaton → PosixStep
 posix_step_by (Ok moves.More) a = move_to (posix_state_of a)
 posix_step_by (Ok moves.Fetched) a = Ok (posix_state_of a, Some a.fetch)
 posix_step_by (Err kind) a = Err kind

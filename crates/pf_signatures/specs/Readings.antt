@@ -4,13 +4,13 @@ use Rattle.pf_values.specs.declared.limits.TheConstants.{MAX_TEXT_LEN}
 use Rattle.pf_values.specs.declared.models.Model.{Model}
 use Rattle.pf_values.specs.meaning.Text.{Text}
 use Rattle.pf_signatures.specs.declared.fetches.Fetch.{Fetch}
-use Rattle.pf_signatures.specs.declared.refusals.SignatureRefusalKind.{SignatureRefusalKind}
-use Rattle.pf_signatures.specs.declared.refusals.SignatureRefusalKind.TheVariants.{Truncated, TooLong, TwoTypes}
+use Rattle.pf_values.specs.declared.refusals.RefusalKind.{RefusalKind}
+use Rattle.pf_values.specs.declared.refusals.RefusalKind.TheVariants.{Truncated, TooLong, TwoTypes}
 use Rattle.pf_signatures.specs.declared.partial_specification.Numbering.{Numbering}
 use Rattle.pf_signatures.specs.declared.partial_specification.Numbering.TheVariants.{Undecided}
 use Rattle.pf_signatures.specs.declared.types.ArgumentType.{ArgumentType}
-use Rattle.pf_signatures.specs.declared.types.ArgumentType.TheVariants.{Int}
-use Rattle.pf_signatures.specs.Kinds.{type_number}
+use Rattle.pf_signatures.specs.Types.{int_type}
+use Rattle.pf_signatures.specs.TypeNumbers.{number_of_type}
 use Rattle.pf_signatures.specs.Refusals.{style_by}
 use Rattle.pf_signatures.specs.Stages.{PosixState, Between}
 use Rattle.pf_signatures.specs.States.{PosixStep, posix_step}
@@ -18,7 +18,7 @@ use Rattle.pf_signatures.specs.States.{PosixStep, posix_step}
 -- what is fetched one after another, each at its byte, up to the end or a refusal
 pub data FetchTrace : Type 0 where
   Whole : FetchTrace
-  Fault : (kind : SignatureRefusalKind) (at : ℕ) → FetchTrace
+  Fault : (kind : RefusalKind) (at : ℕ) → FetchTrace
   Fetches : (f : Fetch) (at : ℕ) (rest : FetchTrace) → FetchTrace
 
 -- the trace where the text ends in a state
@@ -45,7 +45,7 @@ fetch_trace model t = trace_from model Undecided Between 0 t
 
 -- two fetches want one argument with two types
 abbrev pub differs_at : Option ℕ → Option ℕ → Fetch → Fetch → Bool
-differs_at (Some n) (Some m) f g = n == m && not (type_number f.wanted == type_number g.wanted)
+differs_at (Some n) (Some m) f g = n == m && not (number_of_type f.wanted == number_of_type g.wanted)
 differs_at _ _ f g = false
 
 abbrev pub differs : Fetch → Fetch → Bool
@@ -59,7 +59,7 @@ conflicts (g ∷ fetched) f = differs g f || conflicts fetched f
 -- what a text fetches, or its refusal
 pub data Verdict : Type 0 where
   Takes : (fetched : List Fetch) → Verdict
-  Refused : (kind : SignatureRefusalKind) (at : ℕ) → Verdict
+  Refused : (kind : RefusalKind) (at : ℕ) → Verdict
 
 -- the verdict on a trace behind some fetches
 abbrev pub verdict_after : List Fetch → FetchTrace → Verdict
@@ -96,4 +96,4 @@ greatest (f ∷ fetched) = max (unwrap_or f.number 0) (greatest fetched)
 abbrev pub listed : List Fetch → ℕ → ℕ → List ArgumentType
 listed fetched place zero = []
 listed fetched place (suc n) =
-    unwrap_or (wanted_at place fetched) Int ∷ listed fetched (place + 1) n
+    unwrap_or (wanted_at place fetched) int_type ∷ listed fetched (place + 1) n

@@ -7,13 +7,13 @@ use Rattle.pf_values.specs.declared.models.Model.{Model}
 use Rattle.pf_values.specs.meaning.Text.{Text, dollar, percent, zero_digit}
 use Rattle.pf_text.specs.States.{is_digit}
 use Rattle.pf_signatures.specs.declared.fetches.Fetch.{Fetch}
-use Rattle.pf_signatures.specs.declared.refusals.SignatureRefusalKind.{SignatureRefusalKind}
-use Rattle.pf_signatures.specs.declared.refusals.SignatureRefusalKind.TheVariants.{NulByte, Truncated, Unexpected, BadPercent, WidthTooLarge, PrecisionTooLarge, TooLong, Mixed, MissingArgument, TwoTypes}
+use Rattle.pf_values.specs.declared.refusals.RefusalKind.{RefusalKind}
+use Rattle.pf_values.specs.declared.refusals.RefusalKind.TheVariants.{NulByte, Truncated, Unexpected, BadPercent, WidthTooLarge, PrecisionTooLarge, TooLong, Mixed, MissingArgument, TwoTypes}
 use Rattle.pf_signatures.specs.declared.partial_specification.WidthOrPrecision.{WidthOrPrecision}
 use Rattle.pf_signatures.specs.declared.partial_specification.WidthOrPrecision.TheVariants.{Width, Precision}
 use Rattle.pf_signatures.specs.declared.partial_specification.Numbering.{Numbering}
 use Rattle.pf_signatures.specs.declared.partial_specification.Numbering.TheVariants.{Undecided, Unnumbered, Numbered}
-use Rattle.pf_signatures.specs.declared.types.ArgumentType.TheVariants.{Int}
+use Rattle.pf_signatures.specs.Types.{int_type}
 use Rattle.pf_signatures.specs.Defined.{IsPosixDefined, undefined_of}
 use Rattle.pf_signatures.specs.Fronts.{IsStateAfter}
 use Rattle.pf_signatures.specs.Items.{PosixItem, ReadsPosix, fetched}
@@ -112,7 +112,7 @@ IsMixed (StarDigits slot parts n) style byte = (is_digit byte ≡ false) × (byt
 IsMixed state style byte = MixesNumbers state style byte
 
 -- the kind of a number above the limit
-abbrev pub too_large : WidthOrPrecision → SignatureRefusalKind
+abbrev pub too_large : WidthOrPrecision → RefusalKind
 too_large Width = WidthTooLarge
 too_large Precision = PrecisionTooLarge
 
@@ -122,7 +122,7 @@ PassesLimit n byte = (is_digit byte ≡ true) × (MAX_NUMBER < 10 * n + (byte - 
 
 -- The byte is such a digit of a width, of a precision, or of the number of an argument. A number right
 -- behind `%` is refused as a width.
-abbrev pub IsNumberTooLarge : PosixState → ℕ → SignatureRefusalKind → Type 0
+abbrev pub IsNumberTooLarge : PosixState → ℕ → RefusalKind → Type 0
 IsNumberTooLarge (First n) byte kind = PassesLimit n byte × (kind ≡ WidthTooLarge)
 IsNumberTooLarge (Digits slot parts n) byte kind = PassesLimit n byte × (kind ≡ too_large slot)
 IsNumberTooLarge (StarDigits slot parts n) byte kind = PassesLimit n byte × (kind ≡ too_large slot)
@@ -135,13 +135,13 @@ pub record CompletesSpecification (style : Numbering) (part : Text) (byte : ℕ)
   pub follows : Follows style (Some (style_by s.position))
 
 -- the byte ends a specification that isn't defined, for this reason first (C11 7.21.6.1 p4 to p9)
-abbrev pub CompletesUndefined : Numbering → Text → ℕ → SignatureRefusalKind → Type 0
+abbrev pub CompletesUndefined : Numbering → Text → ℕ → RefusalKind → Type 0
 CompletesUndefined style part byte kind =
     (end : CompletesSpecification style part byte) × (undefined_of end.s ≡ Some kind)
 
 -- the byte is the `$` behind the number of the argument of a `*`, which it fetches
 abbrev pub FetchesStar : PosixState → ℕ → Fetch → Type 0
-FetchesStar (StarDigits slot parts n) byte f = (byte ≡ dollar) × (f ≡ fetch (Some n) Int)
+FetchesStar (StarDigits slot parts n) byte f = (byte ≡ dollar) × (f ≡ fetch (Some n) int_type)
 FetchesStar _ byte f = ⊥
 
 -- the byte is the conversion, which fetches the last argument of a specification
@@ -158,11 +158,11 @@ pub record CannotStand (part : Text) (byte : ℕ) : Type 0 where
 pub record IsUnexpected (style : Numbering) (part : Text) (state : PosixState) (byte : ℕ) : Type 0 where
   pub begun : IsInSpecification state
   pub one_kind : ¬ IsMixed state style byte
-  pub small : (kind : SignatureRefusalKind) → ¬ IsNumberTooLarge state byte kind
+  pub small : (kind : RefusalKind) → ¬ IsNumberTooLarge state byte kind
   pub nowhere : CannotStand part byte
 
 -- why a byte is refused that is neither zero nor `%`
-abbrev pub IsWrong : Model → List Fetch → Text → PosixState → ℕ → SignatureRefusalKind → Type 0
+abbrev pub IsWrong : Model → List Fetch → Text → PosixState → ℕ → RefusalKind → Type 0
 IsWrong model fetches part state byte kind =
     ((kind ≡ Mixed) × IsMixed state (style_of fetches) byte)
     ⊎ IsNumberTooLarge state byte kind
@@ -173,13 +173,13 @@ IsWrong model fetches part state byte kind =
     ⊎ ((kind ≡ Unexpected) × IsUnexpected (style_of fetches) part state byte)
 
 -- why a byte is refused behind a front: a zero byte everywhere, `%` inside a specification
-abbrev pub IsPosixRefusedByte : Model → List Fetch → Text → PosixState → ℕ → SignatureRefusalKind → Type 0
+abbrev pub IsPosixRefusedByte : Model → List Fetch → Text → PosixState → ℕ → RefusalKind → Type 0
 IsPosixRefusedByte model fetches part state byte kind = MatchBool (byte == 0) (kind ≡ NulByte)
     (MatchBool (byte == percent) ((kind ≡ BadPercent) × IsPastPercent state)
     (IsWrong model fetches part state byte kind))
 
 -- why a text is refused behind a good front of so many bytes
-abbrev pub IsPosixRefusalCause : Model → List Fetch → Text → PosixState → ℕ → Text → SignatureRefusalKind → Type 0
+abbrev pub IsPosixRefusalCause : Model → List Fetch → Text → PosixState → ℕ → Text → RefusalKind → Type 0
 IsPosixRefusalCause model fetches part state at [] kind =
     ((kind ≡ Truncated) × (state ≢ Between))
     ⊎ ((kind ≡ MissingArgument) × (state ≡ Between) × HasGap fetches)
@@ -187,7 +187,7 @@ IsPosixRefusalCause model fetches part state at (byte ∷ rest) kind =
     MatchBool (at == MAX_TEXT_LEN) (kind ≡ TooLong) (IsPosixRefusedByte model fetches part state byte kind)
 
 -- the text is refused behind a good front
-pub record IsPosixRefusedAt (model : Model) (t : Text) (kind : SignatureRefusalKind)
+pub record IsPosixRefusedAt (model : Model) (t : Text) (kind : RefusalKind)
     (at : ℕ) : Type 0 where
   pub front : Text
   pub rest : Text

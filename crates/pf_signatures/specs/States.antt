@@ -14,14 +14,14 @@ use Rattle.pf_signatures.specs.declared.conversions.Conversion.{Conversion}
 use Rattle.pf_signatures.specs.declared.conversions.Modifier.{Modifier}
 use Rattle.pf_signatures.specs.declared.conversions.Modifier.TheVariants.{Integer}
 use Rattle.pf_signatures.specs.declared.fetches.Fetch.{Fetch}
-use Rattle.pf_signatures.specs.declared.refusals.SignatureRefusalKind.{SignatureRefusalKind}
-use Rattle.pf_signatures.specs.declared.refusals.SignatureRefusalKind.TheVariants.{NulByte, Unexpected, BadPercent, Mixed}
+use Rattle.pf_values.specs.declared.refusals.RefusalKind.{RefusalKind}
+use Rattle.pf_values.specs.declared.refusals.RefusalKind.TheVariants.{NulByte, Unexpected, BadPercent, Mixed}
 use Rattle.pf_signatures.specs.declared.partial_specification.PartialSpecification.{PartialSpecification}
 use Rattle.pf_signatures.specs.declared.partial_specification.WidthOrPrecision.{WidthOrPrecision}
 use Rattle.pf_signatures.specs.declared.partial_specification.WidthOrPrecision.TheVariants.{Width, Precision}
 use Rattle.pf_signatures.specs.declared.partial_specification.Numbering.{Numbering}
 use Rattle.pf_signatures.specs.declared.partial_specification.Numbering.TheVariants.{Unnumbered, Numbered}
-use Rattle.pf_signatures.specs.declared.types.ArgumentType.TheVariants.{Int}
+use Rattle.pf_signatures.specs.Types.{int_type}
 use Rattle.pf_signatures.specs.Defined.{undefined_as}
 use Rattle.pf_signatures.specs.Letters.{conversion_of, is_first_digit, length_modifier_of}
 use Rattle.pf_signatures.specs.Refusals.{too_large}
@@ -30,7 +30,7 @@ use Rattle.pf_signatures.specs.Types.{fetch, conversion_type}
 
 -- the state after the byte and what it fetches, or why it is refused
 abbrev pub PosixStep : Type 0
-PosixStep = Result (PosixState × Option Fetch) SignatureRefusalKind
+PosixStep = Result (PosixState × Option Fetch) RefusalKind
 
 -- the byte leads to a state and fetches nothing
 abbrev pub move_to : PosixState → PosixStep
@@ -43,11 +43,11 @@ parts_at position =
 
 -- why a byte is refused in a place where it isn't allowed: a zero byte and `%` have reasons of their
 -- own
-abbrev pub stray : ℕ → SignatureRefusalKind → SignatureRefusalKind
+abbrev pub stray : ℕ → RefusalKind → RefusalKind
 stray byte kind = if byte == 0 then NulByte else if byte == percent then BadPercent else kind
 
 -- the conversion's argument is fetched, if the specification is defined
-abbrev pub judgement : Option SignatureRefusalKind → Fetch → PosixStep
+abbrev pub judgement : Option RefusalKind → Fetch → PosixStep
 judgement None f = Ok (Between, Some f)
 judgement (Some kind) f = Err kind
 
@@ -78,7 +78,7 @@ after_amount model Precision parts byte = after_numbers model parts byte
 
 -- a `*` fetches an int (C11 7.21.6.1 p5), in a numbered specification the argument that it names
 abbrev pub star_at : WidthOrPrecision → PartialSpecification → Option ℕ → PosixStep
-star_at slot parts None = Ok (Star slot parts, Some (fetch None Int))
+star_at slot parts None = Ok (Star slot parts, Some (fetch None int_type))
 star_at slot parts (Some n) = move_to (Star slot parts)
 
 abbrev pub with_width : PartialSpecification → PartialSpecification
@@ -158,7 +158,7 @@ posix_step model style (Digits slot parts n) byte =
 posix_step model style (Star slot parts) byte = after_star model slot parts parts.position byte
 posix_step model style (StarDigits slot parts n) byte =
     if is_digit byte then with_digit slot (StarDigits slot parts) n (byte - zero_digit) else
-    if byte == dollar then Ok (Placed slot parts, Some (fetch (Some n) Int)) else
+    if byte == dollar then Ok (Placed slot parts, Some (fetch (Some n) int_type)) else
     Err (stray byte Mixed)
 posix_step model style (Placed slot parts) byte = after_amount model slot parts byte
 posix_step model style (Point parts) byte =

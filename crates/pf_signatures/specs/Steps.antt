@@ -13,7 +13,7 @@ use Rattle.pf_signatures.specs.declared.pairs.InStepResult.TheVariants as steps
 use Rattle.pf_signatures.specs.declared.tables.TheConstants.{ROOM}
 use Rattle.pf_signatures.specs.declared.types.ArgumentType.{ArgumentType}
 use Rattle.pf_signatures.specs.Items.{HasArguments}
-use Rattle.pf_signatures.specs.Kinds.{type_number}
+use Rattle.pf_signatures.specs.TypeNumbers.{number_of_type}
 use Rattle.pf_signatures.specs.Laws.{ComparesArgumentTypes, IsFirstDifference}
 
 -- the next argument, if it isn't fetched by its number
@@ -28,7 +28,7 @@ unnumbered_next (nexts.Refused refusal) = unnumbered.Other
 
 abbrev pub paired : UnnumberedNext → UnnumberedNext → NextPair
 paired (unnumbered.Wanted a) (unnumbered.Wanted b) =
-    if type_number a == type_number b then pairs.Same else pairs.Differ
+    if number_of_type a == number_of_type b then pairs.Same else pairs.Differ
 paired (unnumbered.Wanted a) unnumbered.End = pairs.Differ
 paired (unnumbered.Wanted a) unnumbered.Other = pairs.Other
 paired unnumbered.End (unnumbered.Wanted b) = pairs.Differ

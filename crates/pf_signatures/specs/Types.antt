@@ -17,18 +17,15 @@ use Rattle.pf_signatures.specs.declared.conversions.Modifier.{Modifier}
 use Rattle.pf_signatures.specs.declared.conversions.Modifier.TheVariants.{Integer, LongDouble as long_double}
 use Rattle.pf_signatures.specs.declared.fetches.Fetch.{Fetch}
 use Rattle.pf_signatures.specs.declared.types.ArgumentType.{ArgumentType}
-use Rattle.pf_signatures.specs.declared.types.ArgumentType.TheVariants.{Int, UInt, Long, ULong, LongLong, ULongLong, Str, Double, LongDouble, WideChar, WideString, Pointer, PointerToSChar, PointerToShort, PointerToInt, PointerToLong, PointerToLongLong}
+use Rattle.pf_signatures.specs.declared.types.ArgumentType.TheVariants.{Profile, Double, LongDouble, WideChar, WideString, Pointer, PointerToSChar, PointerToShort, PointerToInt, PointerToLong, PointerToLongLong}
 use Rattle.pf_signatures.specs.Specifications.{Amount, Given, Fetched, PosixSpecification}
 
--- the types of the profile are the same here
+-- a type of the profile
 abbrev pub widened : ArgType → ArgumentType
-widened profile.Int = Int
-widened profile.UInt = UInt
-widened profile.Long = Long
-widened profile.ULong = ULong
-widened profile.LongLong = LongLong
-widened profile.ULongLong = ULongLong
-widened profile.Str = Str
+widened type = Profile type
+
+abbrev pub int_type : ArgumentType
+int_type = Profile profile.Int
 
 -- a pointer to a signed type, of which there are three
 abbrev pub pointer_to : ArgType → ArgumentType
@@ -46,8 +43,8 @@ counted_type model length = pointer_to (signed_type model length)
 abbrev pub kind_type : Model → Kind → Length → ArgumentType
 kind_type model kinds.Signed length = widened (signed_type model length)
 kind_type model (kinds.Unsigned base capitals) length = widened (unsigned_type model length)
-kind_type model kinds.Char length = if is_long length then WideChar else Int
-kind_type model kinds.String length = if is_long length then WideString else Str
+kind_type model kinds.Char length = if is_long length then WideChar else int_type
+kind_type model kinds.String length = if is_long length then WideString else Profile profile.Str
 
 -- the length that a modifier of integers names
 abbrev pub integer_length : Modifier → Length
@@ -75,7 +72,7 @@ fetch number wanted = record { number = number; wanted = wanted }
 abbrev pub star_fetches : Option Amount → List Fetch
 star_fetches None = []
 star_fetches (Some (Given n)) = []
-star_fetches (Some (Fetched number)) = fetch number Int ∷ []
+star_fetches (Some (Fetched number)) = fetch number int_type ∷ []
 
 -- what a specification fetches: the width before the precision, and then the conversion's argument
 -- (C11 7.21.6.1 p5)

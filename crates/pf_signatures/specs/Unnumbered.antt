@@ -5,8 +5,8 @@ use Rattle.std.specs.List.{AllByRecursion}
 use Rattle.pf_values.specs.declared.limits.TheConstants.{MAX_TEXT_LEN}
 use Rattle.pf_values.specs.declared.models.Model.{Model}
 use Rattle.pf_values.specs.meaning.Text.{Text, dollar, percent}
-use Rattle.pf_signatures.specs.declared.refusals.SignatureRefusalKind.{SignatureRefusalKind}
-use Rattle.pf_signatures.specs.declared.refusals.SignatureRefusalKind.TheVariants.{Numbered}
+use Rattle.pf_values.specs.declared.refusals.RefusalKind.{RefusalKind}
+use Rattle.pf_values.specs.declared.refusals.RefusalKind.TheVariants.{Numbered}
 use Rattle.pf_signatures.specs.Items.{HasArguments, Byte, PosixItem, ReadsPosix, Specification}
 use Rattle.pf_signatures.specs.Refusals.{IsPosixRefusedAt}
 use Rattle.pf_signatures.specs.Spelling.{SpellsPositive}
@@ -55,15 +55,15 @@ pub record IsNumberedAt (t : Text) (at : ℕ) : Type 0 where
 -- A text is refused at this offset. Numbered: a `$` there numbers an argument, and the text is refused
 -- no earlier where arguments may have numbers. Another kind: it is refused so there, too, and no `$`
 -- numbers an argument before or at this offset.
-abbrev pub IsWholeRefusedAt : Model → Text → SignatureRefusalKind → ℕ → Type 0
+abbrev pub IsWholeRefusedAt : Model → Text → RefusalKind → ℕ → Type 0
 IsWholeRefusedAt model t Numbered at =
     IsNumberedAt t at
-    × ((kind : SignatureRefusalKind) (place : ℕ) → IsPosixRefusedAt model t kind place → ¬ (place < at))
+    × ((kind : RefusalKind) (place : ℕ) → IsPosixRefusedAt model t kind place → ¬ (place < at))
 IsWholeRefusedAt model t kind at =
     IsPosixRefusedAt model t kind at × ((place : ℕ) → IsNumberedAt t place → at < place)
 
 -- a text is accepted or refused, and never both
 abbrev pub IsJudged : Model → Text → Type 0
 IsJudged model t =
-    (IsWholeAccepted t ⊎ ((kind : SignatureRefusalKind) × (at : ℕ) × IsWholeRefusedAt model t kind at))
-    × ((kind : SignatureRefusalKind) (at : ℕ) → IsWholeRefusedAt model t kind at → ¬ IsWholeAccepted t)
+    (IsWholeAccepted t ⊎ ((kind : RefusalKind) × (at : ℕ) × IsWholeRefusedAt model t kind at))
+    × ((kind : RefusalKind) (at : ℕ) → IsWholeRefusedAt model t kind at → ¬ IsWholeAccepted t)

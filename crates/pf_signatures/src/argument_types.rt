@@ -9,10 +9,10 @@ ghost use Rattle.pf_signatures.specs.Items.{HasArguments};
 
 use crate::fetches::Fetch;
 use crate::reader::{NextFetch, Reader};
-use crate::refusals::{SignatureFault, SignatureRefusal};
 use crate::tables::{Table, put};
 use crate::types::ArgumentType;
-use pf_values::Model;
+use pf_text::{Refusal, TextFault};
+use pf_values::{ArgType, Model};
 use std::alloc::{AllocError, Global};
 
 /// Returns how many arguments a format of the whole language takes in a data model (C11 7.21.6.1,
@@ -23,7 +23,7 @@ pub fn arguments(
     model: Model,
     text: &[u8],
     out: &mut [ArgumentType],
-) -> Result<u64, SignatureRefusal>
+) -> Result<u64, Refusal>
     ensures types { MatchResult result
         (λ count. HasCount model text.now out.old out.new count)
         (λ refusal. IsPosixRefusedAt model text.now refusal.kind refusal.at) }
@@ -47,7 +47,7 @@ fn in_order(
     after_first: Reader,
     first: ArgumentType,
     out: &mut [ArgumentType],
-) -> Result<u64, SignatureRefusal>
+) -> Result<u64, Refusal>
     requires within { after_first.at ≤ length text.now }
     requires some { 0 < after_first.at }
     requires first { (at : ℕ)
@@ -80,7 +80,7 @@ fn by_number(
     after_first: Reader,
     first: Fetch,
     out: &mut [ArgumentType],
-) -> Result<u64, SignatureRefusal>
+) -> Result<u64, Refusal>
     requires within { after_first.at ≤ length text.now }
     requires number { IsTrue (is_some first.number) }
     requires first { (at : ℕ) × (after_first.at ≡ at + 1)
@@ -104,21 +104,21 @@ pub fn arguments_vec(
     alloc: Global,
     model: Model,
     text: &[u8],
-) -> Result<Vec<ArgumentType>, SignatureFault>
+) -> Result<Vec<ArgumentType>, TextFault>
     ensures { MatchResult result (λ types. HasArguments model text.now types.items)
         (FaultForArguments model text.now) }
 {
     let count = match arguments(model, text, &mut []) {
         Ok(count) => count,
-        Err(refusal) => return Err(SignatureFault::Refused(refusal)),
+        Err(refusal) => return Err(TextFault::Refused(refusal)),
     };
-    let mut types = match room_for(alloc, ArgumentType::Int, count) {
+    let mut types = match room_for(alloc, ArgumentType::Profile(ArgType::Int), count) {
         Ok(types) => types,
-        Err(AllocError) => return Err(SignatureFault::Memory),
+        Err(AllocError) => return Err(TextFault::Memory),
     };
     match arguments(model, text, &mut types) {
         Ok(_) => Ok(types),
-        Err(refusal) => Err(SignatureFault::Refused(refusal)),
+        Err(refusal) => Err(TextFault::Refused(refusal)),
     }
 }
 

@@ -1,6 +1,6 @@
 //! The automaton that reads items: what was read of an item, and what one more byte makes of it.
 ghost use Rattle.std.specs.Prelude.{◌≡◌, ◌<◌, ◌↔◌, false, IsTrue, Some, None, Ok};
-ghost use Rattle.pf_signatures.specs.declared.types.ArgumentType.TheVariants.{Int};
+ghost use Rattle.pf_signatures.specs.Types.{int_type};
 ghost use Rattle.pf_signatures.specs.Letters.{is_first_digit};
 ghost use Rattle.pf_signatures.specs.Moves.{posix_step_by, numbered};
 ghost use Rattle.pf_signatures.specs.Refusals.{too_large};
@@ -12,12 +12,11 @@ use crate::conversions::Modifier;
 use crate::fetches::{Fetch, conversion_type};
 use crate::letters::{conversion_of, length_modifier_of};
 use crate::partial_specification::{Numbering, PartialSpecification, WidthOrPrecision};
-use crate::refusals::SignatureRefusalKind;
 use crate::types::ArgumentType;
 use crate::undefined_combinations::undefined_as;
 use pf_text::flag_of;
 use pf_values::limits::MAX_NUMBER;
-use pf_values::{Length, Model};
+use pf_values::{ArgType, Length, Model, RefusalKind};
 
 /// What was read of an item.
 #[derive(Clone, Copy, Debug)]
@@ -81,7 +80,7 @@ impl Automaton {
             modifier: Modifier::Integer(Length::None),
             fetch: Fetch {
                 number: None,
-                wanted: ArgumentType::Int,
+                wanted: ArgumentType::Profile(ArgType::Int),
             },
         }
     }
@@ -110,12 +109,12 @@ impl Automaton {
         model: Model,
         style: Numbering,
         byte: u8,
-    ) -> Result<Move, SignatureRefusalKind>
+    ) -> Result<Move, RefusalKind>
         ensures { posix_step_by result self.new ≡ posix_step model style (posix_state_of self.old) byte }
     {
         match self.phase {
             Phase::Between => match byte {
-                0 => Err(SignatureRefusalKind::NulByte),
+                0 => Err(RefusalKind::NulByte),
                 b'%' => self.move_to(Phase::Opened),
                 _ => self.move_to(Phase::Between),
             },
@@ -137,7 +136,7 @@ impl Automaton {
             Phase::StarDigits => match byte {
                 b'0'..=b'9' => self.with_digit(self.slot, byte - b'0'),
                 b'$' => self.fetches(Some(self.number)),
-                _ => Err(stray(byte, SignatureRefusalKind::Mixed)),
+                _ => Err(stray(byte, RefusalKind::Mixed)),
             },
             Phase::Placed => self.after_amount(model, byte),
             Phase::Point => match byte {
@@ -157,7 +156,7 @@ impl Automaton {
     }
 
     #[inline(always)]
-    fn move_to(&mut self, phase: Phase) -> Result<Move, SignatureRefusalKind>
+    fn move_to(&mut self, phase: Phase) -> Result<Move, RefusalKind>
         ensures { posix_step_by result self.new ≡ move_to (posix_state_in_phase phase self.old) }
     {
         self.phase = phase;
@@ -170,7 +169,7 @@ impl Automaton {
         model: Model,
         style: Numbering,
         byte: u8,
-    ) -> Result<Move, SignatureRefusalKind>
+    ) -> Result<Move, RefusalKind>
         ensures { posix_step_by result self.new ≡ after_percent model style byte }
     {
         match byte {
@@ -188,12 +187,12 @@ impl Automaton {
         model: Model,
         style: Numbering,
         byte: u8,
-    ) -> Result<Move, SignatureRefusalKind>
+    ) -> Result<Move, RefusalKind>
         requires { is_first_digit byte ≡ false }
         ensures { posix_step_by result self.new ≡ after_percent model style byte }
     {
         match style {
-            Numbering::Numbered => Err(stray(byte, SignatureRefusalKind::Mixed)),
+            Numbering::Numbered => Err(stray(byte, RefusalKind::Mixed)),
             Numbering::Undecided | Numbering::Unnumbered => {
                 self.parts = PartialSpecification::at(None);
                 self.among_flags(model, byte)
@@ -202,11 +201,11 @@ impl Automaton {
     }
 
     #[inline(always)]
-    fn dollar_after(&mut self, style: Numbering) -> Result<Move, SignatureRefusalKind>
+    fn dollar_after(&mut self, style: Numbering) -> Result<Move, RefusalKind>
         ensures { posix_step_by result self.new ≡ dollar_after style self.old.number }
     {
         match style {
-            Numbering::Unnumbered => Err(SignatureRefusalKind::Mixed),
+            Numbering::Unnumbered => Err(RefusalKind::Mixed),
             Numbering::Undecided | Numbering::Numbered => {
                 self.parts = PartialSpecification::at(Some(self.number));
                 self.move_to(Phase::Flags)
@@ -220,11 +219,11 @@ impl Automaton {
         model: Model,
         style: Numbering,
         byte: u8,
-    ) -> Result<Move, SignatureRefusalKind>
+    ) -> Result<Move, RefusalKind>
         ensures { posix_step_by result self.new ≡ after_first model style byte }
     {
         match style {
-            Numbering::Numbered => Err(stray(byte, SignatureRefusalKind::Mixed)),
+            Numbering::Numbered => Err(stray(byte, RefusalKind::Mixed)),
             Numbering::Undecided | Numbering::Unnumbered => {
                 self.slot = WidthOrPrecision::Width;
                 self.parts = PartialSpecification::at(None).with_width();
@@ -234,7 +233,7 @@ impl Automaton {
     }
 
     #[inline(always)]
-    fn among_flags(&mut self, model: Model, byte: u8) -> Result<Move, SignatureRefusalKind>
+    fn among_flags(&mut self, model: Model, byte: u8) -> Result<Move, RefusalKind>
         ensures { posix_step_by result self.new ≡ among_flags model self.old.parts byte }
     {
         if let Some(flag) = flag_of(byte) {
@@ -245,7 +244,7 @@ impl Automaton {
     }
 
     #[inline(always)]
-    fn after_no_flag(&mut self, model: Model, byte: u8) -> Result<Move, SignatureRefusalKind>
+    fn after_no_flag(&mut self, model: Model, byte: u8) -> Result<Move, RefusalKind>
         ensures { posix_step_by result self.new ≡ flag_or_width model self.old.parts byte None }
     {
         match byte {
@@ -268,7 +267,7 @@ impl Automaton {
 
     // Takes a `*`.
     #[inline(always)]
-    fn star_at(&mut self, slot: WidthOrPrecision) -> Result<Move, SignatureRefusalKind>
+    fn star_at(&mut self, slot: WidthOrPrecision) -> Result<Move, RefusalKind>
         ensures { posix_step_by result self.new ≡ star_at slot self.old.parts self.old.parts.position }
     {
         self.slot = slot;
@@ -284,9 +283,9 @@ impl Automaton {
 
     // Takes the `$` behind the number of a `*`, which fetches an argument.
     #[inline(always)]
-    fn fetches(&mut self, number: Option<u16>) -> Result<Move, SignatureRefusalKind>
+    fn fetches(&mut self, number: Option<u16>) -> Result<Move, RefusalKind>
         ensures { posix_step_by result self.new
-            ≡ Ok (Placed self.old.slot self.old.parts, Some (fetch number Int)) }
+            ≡ Ok (Placed self.old.slot self.old.parts, Some (fetch number int_type)) }
     {
         self.phase = Phase::Placed;
         self.fetch = int_at(number);
@@ -298,7 +297,7 @@ impl Automaton {
         &mut self,
         slot: WidthOrPrecision,
         digit: u8,
-    ) -> Result<Move, SignatureRefusalKind>
+    ) -> Result<Move, RefusalKind>
         requires { digit < 10 }
         ensures { posix_step_by result self.new
             ≡ with_digit slot (numbered self.old.phase self.old) self.old.number digit }
@@ -312,13 +311,13 @@ impl Automaton {
     }
 
     #[inline(always)]
-    fn after_star(&mut self, model: Model, byte: u8) -> Result<Move, SignatureRefusalKind>
+    fn after_star(&mut self, model: Model, byte: u8) -> Result<Move, RefusalKind>
         ensures { posix_step_by result self.new
             ≡ after_star model self.old.slot self.old.parts self.old.parts.position byte }
     {
         match self.parts.position {
             None => match byte {
-                b'0'..=b'9' => Err(SignatureRefusalKind::Mixed),
+                b'0'..=b'9' => Err(RefusalKind::Mixed),
                 _ => self.after_amount(model, byte),
             },
             Some(_) => match byte {
@@ -326,14 +325,14 @@ impl Automaton {
                     self.number = u16::from(byte - b'0');
                     self.move_to(Phase::StarDigits)
                 }
-                _ => Err(stray(byte, SignatureRefusalKind::Mixed)),
+                _ => Err(stray(byte, RefusalKind::Mixed)),
             },
         }
     }
 
     /// Takes a byte after a width or a precision: after a width a precision may begin.
     #[inline(always)]
-    fn after_amount(&mut self, model: Model, byte: u8) -> Result<Move, SignatureRefusalKind>
+    fn after_amount(&mut self, model: Model, byte: u8) -> Result<Move, RefusalKind>
         ensures { posix_step_by result self.new
             ≡ after_amount model self.old.slot self.old.parts byte }
     {
@@ -351,7 +350,7 @@ impl Automaton {
 
     /// Takes a byte after the numbers: a modifier may begin, or the specification ends.
     #[inline(always)]
-    fn after_numbers(&mut self, model: Model, byte: u8) -> Result<Move, SignatureRefusalKind>
+    fn after_numbers(&mut self, model: Model, byte: u8) -> Result<Move, RefusalKind>
         ensures { posix_step_by result self.new ≡ after_numbers model self.old.parts byte }
     {
         if let Some(modifier) = length_modifier_of(byte) {
@@ -367,7 +366,7 @@ impl Automaton {
         &mut self,
         model: Model,
         byte: u8,
-    ) -> Result<Move, SignatureRefusalKind>
+    ) -> Result<Move, RefusalKind>
         ensures { posix_step_by result self.new
             ≡ after_modifier_letter model self.old.parts self.old.modifier byte }
     {
@@ -391,11 +390,11 @@ impl Automaton {
         model: Model,
         modifier: Modifier,
         byte: u8,
-    ) -> Result<Move, SignatureRefusalKind>
+    ) -> Result<Move, RefusalKind>
         ensures { posix_step_by result self.new ≡ conversion_at model self.old.parts modifier byte }
     {
         let Some(conversion) = conversion_of(byte) else {
-            return Err(stray(byte, SignatureRefusalKind::Unexpected));
+            return Err(stray(byte, RefusalKind::Unexpected));
         };
         if let Some(kind) = undefined_as(self.parts, modifier, conversion) {
             return Err(kind);
@@ -411,30 +410,30 @@ impl Automaton {
 
 #[inline(always)]
 fn int_at(number: Option<u16>) -> Fetch
-    ensures { result ≡ fetch number Int }
+    ensures { result ≡ fetch number int_type }
 {
     Fetch {
         number,
-        wanted: ArgumentType::Int,
+        wanted: ArgumentType::Profile(ArgType::Int),
     }
 }
 
-fn too_large(slot: WidthOrPrecision) -> SignatureRefusalKind
+fn too_large(slot: WidthOrPrecision) -> RefusalKind
     ensures { result ≡ too_large slot }
 {
     match slot {
-        WidthOrPrecision::Width => SignatureRefusalKind::WidthTooLarge,
-        WidthOrPrecision::Precision => SignatureRefusalKind::PrecisionTooLarge,
+        WidthOrPrecision::Width => RefusalKind::WidthTooLarge,
+        WidthOrPrecision::Precision => RefusalKind::PrecisionTooLarge,
     }
 }
 
 // Why a byte is refused in a place where it isn't allowed.
-fn stray(byte: u8, kind: SignatureRefusalKind) -> SignatureRefusalKind
+fn stray(byte: u8, kind: RefusalKind) -> RefusalKind
     ensures { result ≡ stray byte kind }
 {
     match byte {
-        0 => SignatureRefusalKind::NulByte,
-        b'%' => SignatureRefusalKind::BadPercent,
+        0 => RefusalKind::NulByte,
+        b'%' => RefusalKind::BadPercent,
         _ => kind,
     }
 }

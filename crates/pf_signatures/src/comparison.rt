@@ -7,28 +7,16 @@ ghost use Rattle.pf_signatures.specs.Steps.{AreFew, DifferAt};
 
 use crate::argument_types::arguments;
 use crate::pairs::{InStepResult, compare_in_step};
-use crate::refusals::SignatureRefusal;
 use crate::tables::ROOM;
 use crate::types::ArgumentType;
-use pf_values::Model;
-use thiserror::Error;
-
-/// Which of two formats is refused, and why.
-#[derive(Clone, Copy, Debug, PartialEq, Eq, Error)]
-pub enum FitsRefusal {
-    /// The first one.
-    #[error("first: {0}")]
-    First(SignatureRefusal),
-    /// The second one, and the first isn't.
-    #[error("second: {0}")]
-    Second(SignatureRefusal),
-}
+use pf_text::{Refusal, Side};
+use pf_values::{ArgType, Model};
 
 /// Whether the second format takes just the arguments of the first (C11 7.21.6.1, paragraph 3;
 /// POSIX fprintf on numbered arguments): `None` where the lists of their types are equal, else the
 /// least index from 0 at which they differ, which is the length of the shorter one where that is a
 /// prefix of the other. Where both are refused, the refusal is that of the first.
-pub fn fits(model: Model, first: &[u8], second: &[u8]) -> Result<Option<u64>, FitsRefusal>
+pub fn fits(model: Model, first: &[u8], second: &[u8]) -> Result<Option<u64>, (Side, Refusal)>
     ensures { MatchResult result (ComparesArgumentTypes model first.now second.now)
         (FaultForFits model first.now second.now) }
 {
@@ -45,15 +33,15 @@ fn by_step(
     first: &[u8],
     second: &[u8],
     index: u64,
-) -> Result<Option<u64>, FitsRefusal>
+) -> Result<Option<u64>, (Side, Refusal)>
     requires { DifferAt model first.now second.now index }
     ensures { MatchResult result (ComparesArgumentTypes model first.now second.now)
         (FaultForFits model first.now second.now) }
 {
     match arguments(model, first, &mut []) {
-        Err(refusal) => Err(FitsRefusal::First(refusal)),
+        Err(refusal) => Err((Side::First, refusal)),
         Ok(_) => match arguments(model, second, &mut []) {
-            Err(refusal) => Err(FitsRefusal::Second(refusal)),
+            Err(refusal) => Err((Side::Second, refusal)),
             Ok(_) => Ok(Some(index)),
         },
     }
@@ -61,17 +49,17 @@ fn by_step(
 
 // The same by the lists of their types, where one of the formats is refused or numbered.
 #[inline(never)]
-fn by_tables(model: Model, first: &[u8], second: &[u8]) -> Result<Option<u64>, FitsRefusal>
+fn by_tables(model: Model, first: &[u8], second: &[u8]) -> Result<Option<u64>, (Side, Refusal)>
     requires { AreFew model first.now second.now }
     ensures { MatchResult result (ComparesArgumentTypes model first.now second.now)
         (FaultForFits model first.now second.now) }
 {
-    let mut types = [ArgumentType::Int; ROOM];
-    let mut others = [ArgumentType::Int; ROOM];
+    let mut types = [ArgumentType::Profile(ArgType::Int); ROOM];
+    let mut others = [ArgumentType::Profile(ArgType::Int); ROOM];
     match arguments(model, first, &mut types) {
-        Err(refusal) => Err(FitsRefusal::First(refusal)),
+        Err(refusal) => Err((Side::First, refusal)),
         Ok(count) => match arguments(model, second, &mut others) {
-            Err(refusal) => Err(FitsRefusal::Second(refusal)),
+            Err(refusal) => Err((Side::Second, refusal)),
             Ok(beside) => Ok(difference(&types, count, &others, beside)),
         },
     }

@@ -15,9 +15,9 @@ use crate::automaton::{Automaton, Move};
 use crate::fetches::Fetch;
 use crate::partial_specification::Numbering;
 use crate::reader::style_by;
-use crate::refusals::{SignatureFault, SignatureRefusal};
 use crate::tables::put;
 use crate::types::ArgumentType;
+use pf_text::{Refusal, TextFault};
 use pf_values::Model;
 use std::alloc::{AllocError, Global};
 
@@ -48,7 +48,7 @@ pub fn directives(
     model: Model,
     text: &[u8],
     out: &mut [DirectiveSpan],
-) -> Result<u64, SignatureRefusal>
+) -> Result<u64, Refusal>
     ensures directives { MatchResult result
         (λ count. HasDirectiveCount model text.now out.old out.new count)
         (λ refusal. IsPosixRefusedAt model text.now refusal.kind refusal.at × (out.new ≡ out.old)) }
@@ -67,21 +67,21 @@ pub fn directives_vec(
     alloc: Global,
     model: Model,
     text: &[u8],
-) -> Result<Vec<DirectiveSpan>, SignatureFault>
+) -> Result<Vec<DirectiveSpan>, TextFault>
     ensures { MatchResult result (λ directives. HasDirectives model text.now directives.items)
         (FaultForDirectives model text.now) }
 {
     let count = match directives(model, text, &mut []) {
         Ok(count) => count,
-        Err(refusal) => return Err(SignatureFault::Refused(refusal)),
+        Err(refusal) => return Err(TextFault::Refused(refusal)),
     };
     let mut listed = match room_for(alloc, DirectiveSpan::default(), count) {
         Ok(listed) => listed,
-        Err(AllocError) => return Err(SignatureFault::Memory),
+        Err(AllocError) => return Err(TextFault::Memory),
     };
     match directives(model, text, &mut listed) {
         Ok(_) => Ok(listed),
-        Err(refusal) => Err(SignatureFault::Refused(refusal)),
+        Err(refusal) => Err(TextFault::Refused(refusal)),
     }
 }
 

@@ -1,14 +1,14 @@
 //! An argument that is fetched, and the type of the argument of a conversion (C11 7.21.6.1,
 //! paragraphs 7 and 8).
 ghost use Rattle.std.specs.Prelude.{◌≡◌, if◌then◌else◌};
-ghost use Rattle.pf_signatures.specs.Types.{counted_type, floating_type, kind_type, integer_length, conversion_type, widened};
-ghost use Rattle.pf_signatures.specs.declared.types.ArgumentType.TheVariants.{Int, Str, WideChar, WideString};
-ghost use Rattle.pf_values.specs.meaning.DataModel.{signed_type, unsigned_type};
+ghost use Rattle.pf_signatures.specs.Types.{counted_type, floating_type, int_type, kind_type, integer_length, conversion_type, pointer_to};
+ghost use Rattle.pf_signatures.specs.declared.types.ArgumentType.TheVariants.{Profile, WideChar, WideString};
+ghost use Rattle.pf_values.specs.declared.types.ArgType.TheVariants as profile;
 ghost use Rattle.pf_values.specs.meaning.Lengths.{is_long};
 
 use crate::conversions::{Conversion, Modifier};
 use crate::types::ArgumentType;
-use pf_values::{Kind, Length, Model};
+use pf_values::{ArgType, Kind, Length, Model};
 
 /// An argument that is fetched.
 #[derive(Clone, Copy, Debug, PartialEq, Eq)]
@@ -63,8 +63,8 @@ fn kind_type(model: Model, kind: Kind, length: Length) -> ArgumentType
     ensures { result ≡ kind_type model kind length }
 {
     match kind {
-        Kind::Signed => signed_type(model, length),
-        Kind::Unsigned(_, _) => unsigned_type(model, length),
+        Kind::Signed => ArgumentType::Profile(length.signed_type(model)),
+        Kind::Unsigned(_, _) => ArgumentType::Profile(length.unsigned_type(model)),
         Kind::Char => char_type(length),
         Kind::String => string_type(length),
     }
@@ -72,64 +72,21 @@ fn kind_type(model: Model, kind: Kind, length: Length) -> ArgumentType
 
 #[inline(always)]
 fn char_type(length: Length) -> ArgumentType
-    ensures { result ≡ (if is_long length then WideChar else Int) }
+    ensures { result ≡ (if is_long length then WideChar else int_type) }
 {
     match length {
         Length::L => ArgumentType::WideChar,
-        _ => ArgumentType::Int,
+        _ => ArgumentType::Profile(ArgType::Int),
     }
 }
 
 #[inline(always)]
 fn string_type(length: Length) -> ArgumentType
-    ensures { result ≡ (if is_long length then WideString else Str) }
+    ensures { result ≡ (if is_long length then WideString else Profile profile.Str) }
 {
     match length {
         Length::L => ArgumentType::WideString,
-        _ => ArgumentType::Str,
-    }
-}
-
-// The types of `d i` and of `u o x X b` under a length modifier.
-#[inline(always)]
-fn signed_type(model: Model, length: Length) -> ArgumentType
-    ensures { result ≡ widened (signed_type model length) }
-{
-    match length {
-        Length::Hh | Length::H | Length::None => ArgumentType::Int,
-        Length::L => ArgumentType::Long,
-        Length::Ll => ArgumentType::LongLong,
-        Length::J => match model {
-            Model::Lp64 => ArgumentType::Long,
-            Model::Ilp32 | Model::Llp64 => ArgumentType::LongLong,
-        },
-        Length::Z | Length::T => match model {
-            Model::Lp64 => ArgumentType::Long,
-            Model::Ilp32 => ArgumentType::Int,
-            Model::Llp64 => ArgumentType::LongLong,
-        },
-    }
-}
-
-#[inline(always)]
-fn unsigned_type(model: Model, length: Length) -> ArgumentType
-    ensures { result ≡ widened (unsigned_type model length) }
-{
-    match length {
-        // `hh` and `h` are promoted to int.
-        Length::Hh | Length::H => ArgumentType::Int,
-        Length::None => ArgumentType::UInt,
-        Length::L => ArgumentType::ULong,
-        Length::Ll => ArgumentType::ULongLong,
-        Length::J => match model {
-            Model::Lp64 => ArgumentType::ULong,
-            Model::Ilp32 | Model::Llp64 => ArgumentType::ULongLong,
-        },
-        Length::Z | Length::T => match model {
-            Model::Lp64 => ArgumentType::ULong,
-            Model::Ilp32 => ArgumentType::UInt,
-            Model::Llp64 => ArgumentType::ULongLong,
-        },
+        _ => ArgumentType::Profile(ArgType::Str),
     }
 }
 
@@ -141,17 +98,17 @@ fn counted_type(model: Model, length: Length) -> ArgumentType
     match length {
         Length::Hh => ArgumentType::PointerToSChar,
         Length::H => ArgumentType::PointerToShort,
-        Length::None => ArgumentType::PointerToInt,
-        Length::L => ArgumentType::PointerToLong,
-        Length::Ll => ArgumentType::PointerToLongLong,
-        Length::J => match model {
-            Model::Lp64 => ArgumentType::PointerToLong,
-            Model::Ilp32 | Model::Llp64 => ArgumentType::PointerToLongLong,
-        },
-        Length::Z | Length::T => match model {
-            Model::Lp64 => ArgumentType::PointerToLong,
-            Model::Ilp32 => ArgumentType::PointerToInt,
-            Model::Llp64 => ArgumentType::PointerToLongLong,
-        },
+        _ => pointer_to(length.signed_type(model)),
+    }
+}
+
+#[inline(always)]
+fn pointer_to(signed: ArgType) -> ArgumentType
+    ensures { result ≡ pointer_to signed }
+{
+    match signed {
+        ArgType::Long => ArgumentType::PointerToLong,
+        ArgType::LongLong => ArgumentType::PointerToLongLong,
+        _ => ArgumentType::PointerToInt,
     }
 }

@@ -1,13 +1,14 @@
 //! Laws of the definitions: a text has one list of argument types, or is refused for one reason and
 //! at one place.
-ghost use Rattle.std.specs.Prelude.{◌≡◌, ◌++◌, ◌<◌, ℕ, List, None, length, map};
+ghost use Rattle.std.specs.Prelude.{◌≡◌, ◌≢◌, false, ◌++◌, ◌<◌, ℕ, List, None, length, map};
 ghost use Rattle.pf_values.specs.declared.models.Model.{Model as model_of_data};
 ghost use Rattle.pf_values.specs.meaning.Items.{HasItems, IsAccepted, Item, types};
 ghost use Rattle.pf_values.specs.meaning.Printing.{AreEquivalent};
 ghost use Rattle.pf_values.specs.Laws.{HasEachOnce};
 ghost use Rattle.pf_values.specs.meaning.Text.{Text};
-ghost use Rattle.pf_signatures.specs.declared.refusals.SignatureRefusalKind.{SignatureRefusalKind};
-ghost use Rattle.pf_signatures.specs.declared.refusals.TheConstants.SignatureRefusalKind.{ALL as every_kind};
+ghost use Rattle.pf_values.specs.RefusalKinds.{is_profile_alone};
+ghost use Rattle.pf_values.specs.declared.refusals.RefusalKind.{RefusalKind};
+ghost use Rattle.pf_values.specs.declared.refusals.RefusalKind.TheVariants.{Numbered};
 ghost use Rattle.pf_signatures.specs.declared.types.ArgumentType.{ArgumentType};
 ghost use Rattle.pf_signatures.specs.declared.types.TheConstants.ArgumentType.{ALL as every_type};
 ghost use Rattle.pf_signatures.specs.declared.directive_spans.DirectiveSpan.{DirectiveSpan};
@@ -26,7 +27,7 @@ pub fn accepted_or_refused()
 /// No text is both accepted and refused.
 pub fn never_both()
     ensures { (model : model_of_data) (t : Text) (types : List ArgumentType)
-        (kind : SignatureRefusalKind) (at : ℕ) → HasArguments model t types
+        (kind : RefusalKind) (at : ℕ) → HasArguments model t types
         → IsPosixRefusedAt model t kind at → ⊥ }
 {}
 
@@ -44,13 +45,13 @@ pub fn directives_once()
 
 /// A text is refused for one reason at one place.
 pub fn refused_once()
-    ensures { (model : model_of_data) (t : Text) (kind other : SignatureRefusalKind) (p q : ℕ)
+    ensures { (model : model_of_data) (t : Text) (kind other : RefusalKind) (p q : ℕ)
         → IsPosixRefusedAt model t kind p → IsPosixRefusedAt model t other q → (kind ≡ other) × (p ≡ q) }
 {}
 
 /// A text that is refused before its end is refused so whatever bytes follow.
 pub fn refused_for_good()
-    ensures { (model : model_of_data) (t more : Text) (kind : SignatureRefusalKind) (at : ℕ)
+    ensures { (model : model_of_data) (t more : Text) (kind : RefusalKind) (at : ℕ)
         → IsPosixRefusedAt model t kind at → at < length t → IsPosixRefusedAt model (t ++ more) kind at }
 {}
 
@@ -89,13 +90,21 @@ pub fn judged_unnumbered()
 
 /// Where arguments may have no numbers, a text is refused for one reason at one place.
 pub fn refused_unnumbered_once()
-    ensures { (model : model_of_data) (t : Text) (kind other : SignatureRefusalKind) (p q : ℕ)
+    ensures { (model : model_of_data) (t : Text) (kind other : RefusalKind) (p q : ℕ)
         → IsWholeRefusedAt model t kind p → IsWholeRefusedAt model t other q
         → (kind ≡ other) × (p ≡ q) }
 {}
 
-/// Each table `ALL` has each value of its type exactly once.
-pub fn tables_have_each_once()
-    ensures types { HasEachOnce every_type }
-    ensures kinds { HasEachOnce every_kind }
+/// No text is refused for what the profile alone lacks; nor for the number of an argument, if
+/// arguments may have numbers.
+pub fn kinds_of_refusals()
+    ensures numbered { (model : model_of_data) (t : Text) (kind : RefusalKind) (at : ℕ)
+        → IsPosixRefusedAt model t kind at → (is_profile_alone kind ≡ false) × (kind ≢ Numbered) }
+    ensures unnumbered { (model : model_of_data) (t : Text) (kind : RefusalKind) (at : ℕ)
+        → IsWholeRefusedAt model t kind at → is_profile_alone kind ≡ false }
+{}
+
+/// `ArgumentType::ALL` has each type exactly once.
+pub fn table_has_each_once()
+    ensures { HasEachOnce every_type }
 {}

@@ -4,21 +4,16 @@ ghost use Rattle.std.specs.Prelude.{◌≡◌};
 ghost use Rattle.pf_signatures.specs.Letters.{conversion_of, length_modifier_of};
 
 use crate::conversions::{Conversion, Floating, Modifier};
-use pf_values::{Conv, Length};
+use pf_text::{conv_of, modifier_of};
 
-/// The modifier that a letter is or begins.
+/// The length modifier that a letter is or begins.
 #[inline(always)]
 pub(crate) fn length_modifier_of(byte: u8) -> Option<Modifier>
     ensures { result ≡ length_modifier_of byte }
 {
     match byte {
-        b'h' => Some(Modifier::Integer(Length::H)),
-        b'l' => Some(Modifier::Integer(Length::L)),
-        b'j' => Some(Modifier::Integer(Length::J)),
-        b'z' => Some(Modifier::Integer(Length::Z)),
-        b't' => Some(Modifier::Integer(Length::T)),
         b'L' => Some(Modifier::LongDouble),
-        _ => None,
+        _ => modifier_of(byte).map(Modifier::Integer),
     }
 }
 
@@ -27,15 +22,6 @@ pub(crate) fn conversion_of(byte: u8) -> Option<Conversion>
     ensures { result ≡ conversion_of byte }
 {
     match byte {
-        b'd' => Some(Conversion::Profile(Conv::D)),
-        b'i' => Some(Conversion::Profile(Conv::I)),
-        b'u' => Some(Conversion::Profile(Conv::U)),
-        b'o' => Some(Conversion::Profile(Conv::O)),
-        b'x' => Some(Conversion::Profile(Conv::X)),
-        b'X' => Some(Conversion::Profile(Conv::UpperX)),
-        b'b' => Some(Conversion::Profile(Conv::B)),
-        b'c' => Some(Conversion::Profile(Conv::C)),
-        b's' => Some(Conversion::Profile(Conv::S)),
         b'f' => Some(Conversion::Float(Floating::F)),
         b'F' => Some(Conversion::Float(Floating::UpperF)),
         b'e' => Some(Conversion::Float(Floating::E)),
@@ -48,6 +34,6 @@ pub(crate) fn conversion_of(byte: u8) -> Option<Conversion>
         b'S' => Some(Conversion::UpperS),
         b'p' => Some(Conversion::Pointer),
         b'n' => Some(Conversion::Count),
-        _ => None,
+        _ => conv_of(byte).map(Conversion::Profile),
     }
 }

@@ -17,10 +17,9 @@ use crate::conversions::Modifier;
 use crate::fetches::{Fetch, conversion_type};
 use crate::letters::conversion_of;
 use crate::partial_specification::Numbering;
-use crate::refusals::{SignatureRefusal, SignatureRefusalKind};
-use pf_text::literal_len;
+use pf_text::{Refusal, literal_len};
 use pf_values::limits::MAX_TEXT_LEN;
-use pf_values::{Length, Model};
+use pf_values::{Length, Model, RefusalKind};
 
 /// What comes next in a text.
 #[derive(Clone, Copy, Debug)]
@@ -30,7 +29,7 @@ pub(crate) enum NextFetch {
     /// The end.
     End,
     /// The text is refused.
-    Refused(SignatureRefusal),
+    Refused(Refusal),
 }
 
 /// A reader of a text: its place, the automaton, and whether arguments are numbered.
@@ -103,7 +102,7 @@ impl Reader {
             (λ next. AdvancesReader text.now self.old next self.new) }
     {
         if self.at as u64 >= MAX_TEXT_LEN {
-            return Some(refused(SignatureRefusalKind::TooLong, self.at));
+            return Some(refused(RefusalKind::TooLong, self.at));
         }
         if self.automaton.is_between() {
             if text[self.at] != b'%' {
@@ -134,7 +133,7 @@ impl Reader {
     {
         let run = run_len(&text[self.at..], self.at);
         if run == 0 {
-            return Some(refused(SignatureRefusalKind::NulByte, self.at));
+            return Some(refused(RefusalKind::NulByte, self.at));
         }
         self.at += run;
         None
@@ -209,7 +208,7 @@ impl Reader {
         if self.automaton.is_between() {
             return NextFetch::End;
         }
-        refused(SignatureRefusalKind::Truncated, self.at)
+        refused(RefusalKind::Truncated, self.at)
     }
 }
 
@@ -241,10 +240,10 @@ pub(crate) fn style_by(number: Option<u16>) -> Numbering
     }
 }
 
-fn refused(kind: SignatureRefusalKind, at: usize) -> NextFetch
+fn refused(kind: RefusalKind, at: usize) -> NextFetch
     ensures { result ≡ NextFetch.Refused (record { kind = kind; at = at }) }
 {
-    NextFetch::Refused(SignatureRefusal {
+    NextFetch::Refused(Refusal {
         kind,
         at: at as u64,
     })

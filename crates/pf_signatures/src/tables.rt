@@ -1,7 +1,7 @@
 //! The types of numbered arguments in a table, and types at the front of a slice.
 ghost use Rattle.std.specs.Prelude.{◌≡◌, ◌<◌, ◌≤◌, ◌++◌, ◌∷◌, ◌+◌, [], ℕ, max, length, is_some, IsTrue, List, Some, MatchBool, MatchResult, true, false};
 ghost use Rattle.pf_signatures.specs.declared.fetches.Fetch.{Fetch as FetchOf};
-ghost use Rattle.pf_signatures.specs.declared.refusals.SignatureRefusalKind.TheVariants.{MissingArgument};
+ghost use Rattle.pf_values.specs.declared.refusals.RefusalKind.TheVariants.{MissingArgument};
 ghost use Rattle.pf_signatures.specs.Laws.{filled};
 ghost use Rattle.pf_signatures.specs.Readings.{Fetches, conflicts, listed, fetch_trace};
 ghost use Rattle.pf_signatures.specs.Refusals.{HasGap, IsPosixRefusedAt};
@@ -12,9 +12,9 @@ ghost use Rattle.pf_signatures.specs.declared.types.ArgumentType.{ArgumentType a
 
 use crate::fetches::Fetch;
 use crate::reader::{NextFetch, Reader};
-use crate::refusals::{SignatureRefusal, SignatureRefusalKind};
 use crate::types::ArgumentType;
-use pf_values::Model;
+use pf_text::Refusal;
+use pf_values::{ArgType, Model, RefusalKind};
 
 /// As many arguments as a numbered format can have.
 pub(crate) const ROOM: usize = 4095;
@@ -51,7 +51,7 @@ impl Table {
         text: &[u8],
         after_first: Reader,
         first: Fetch,
-    ) -> Result<(), SignatureRefusal>
+    ) -> Result<(), Refusal>
         requires empty { TableHolds self.old [] }
         requires within { after_first.at ≤ length text.now }
         requires number { IsTrue (is_some first.number) }
@@ -65,7 +65,7 @@ impl Table {
         loop {
             let number = usize::from(fetch.number.unwrap_or(1));
             if !self.add_fetch(number - 1, fetch.wanted) {
-                return Err(refusal(SignatureRefusalKind::TwoTypes, reader.at() - 1));
+                return Err(refusal(RefusalKind::TwoTypes, reader.at() - 1));
             }
             match reader.next_fetch(model, text) {
                 NextFetch::Fetched(next) => fetch = next,
@@ -95,7 +95,7 @@ impl Table {
     }
 
     // Refuses a text at its end where an argument is missing.
-    fn finish(&self, at: usize) -> Result<(), SignatureRefusal>
+    fn finish(&self, at: usize) -> Result<(), Refusal>
         requires room { self.now.count ≤ ROOM }
         ensures { (seen : List FetchOf) → TableHolds self.now seen → MatchResult result
             (λ _. (place : ℕ) → place < self.now.count → IsFetched place seen)
@@ -104,7 +104,7 @@ impl Table {
         let mut place = 0;
         while place < self.count {
             if self.types[place].is_none() {
-                return Err(refusal(SignatureRefusalKind::MissingArgument, at));
+                return Err(refusal(RefusalKind::MissingArgument, at));
             }
             place += 1;
         }
@@ -120,7 +120,7 @@ impl Table {
     {
         let mut place = 0;
         while place < self.count {
-            put(out, place, self.types[place].unwrap_or(ArgumentType::Int));
+            put(out, place, self.types[place].unwrap_or(ArgumentType::Profile(ArgType::Int)));
             place += 1;
         }
     }
@@ -135,10 +135,10 @@ fn larger(one: usize, other: usize) -> usize
     one
 }
 
-fn refusal(kind: SignatureRefusalKind, at: usize) -> SignatureRefusal
+fn refusal(kind: RefusalKind, at: usize) -> Refusal
     ensures { result ≡ record { kind = kind; at = at } }
 {
-    SignatureRefusal {
+    Refusal {
         kind,
         at: at as u64,
     }

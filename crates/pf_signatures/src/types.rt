@@ -1,25 +1,15 @@
 //! Argument types.
 ghost use Rattle.std.specs.Prelude.{◌≡◌};
-ghost use Rattle.pf_signatures.specs.Kinds.{type_number};
+ghost use Rattle.pf_signatures.specs.TypeNumbers.{number_of_type};
+ghost use Rattle.pf_signatures.specs.Types.{int_type};
+
+use pf_values::ArgType;
 
 /// The type of an argument (C11 7.21.6.1, paragraphs 5, 7 and 8).
-#[derive(Clone, Copy, Debug, Default, PartialEq, Eq)]
+#[derive(Clone, Copy, Debug, PartialEq, Eq)]
 pub enum ArgumentType {
-    /// `int`
-    #[default]
-    Int,
-    /// `unsigned int`
-    UInt,
-    /// `long`
-    Long,
-    /// `unsigned long`
-    ULong,
-    /// `long long`
-    LongLong,
-    /// `unsigned long long`
-    ULongLong,
-    /// A pointer to bytes that end in a null.
-    Str,
+    /// One that the profile has.
+    Profile(ArgType),
     /// `double`
     Double,
     /// `long double`
@@ -42,16 +32,24 @@ pub enum ArgumentType {
     PointerToLongLong,
 }
 
+impl Default for ArgumentType {
+    ghost is_default = { λ type. type ≡ int_type };
+
+    fn default() -> ArgumentType {
+        ArgumentType::Profile(ArgType::Int)
+    }
+}
+
 impl ArgumentType {
     /// All types, in the order of their numbers.
     pub const ALL: [ArgumentType; 17] = [
-        ArgumentType::Int,
-        ArgumentType::UInt,
-        ArgumentType::Long,
-        ArgumentType::ULong,
-        ArgumentType::LongLong,
-        ArgumentType::ULongLong,
-        ArgumentType::Str,
+        ArgumentType::Profile(ArgType::Int),
+        ArgumentType::Profile(ArgType::UInt),
+        ArgumentType::Profile(ArgType::Long),
+        ArgumentType::Profile(ArgType::ULong),
+        ArgumentType::Profile(ArgType::LongLong),
+        ArgumentType::Profile(ArgType::ULongLong),
+        ArgumentType::Profile(ArgType::Str),
         ArgumentType::Double,
         ArgumentType::LongDouble,
         ArgumentType::WideChar,
@@ -64,18 +62,12 @@ impl ArgumentType {
         ArgumentType::PointerToLongLong,
     ];
 
-    /// The number of the type, from 1 to 17.
+    /// Returns the number of the type, from 1 to 17.
     pub fn number(self) -> u8
-        ensures { result ≡ type_number self }
+        ensures { result ≡ number_of_type self }
     {
         match self {
-            ArgumentType::Int => 1,
-            ArgumentType::UInt => 2,
-            ArgumentType::Long => 3,
-            ArgumentType::ULong => 4,
-            ArgumentType::LongLong => 5,
-            ArgumentType::ULongLong => 6,
-            ArgumentType::Str => 7,
+            ArgumentType::Profile(arg_type) => arg_type.number(),
             ArgumentType::Double => 8,
             ArgumentType::LongDouble => 9,
             ArgumentType::WideChar => 10,

@@ -5,8 +5,7 @@ ghost use Rattle.pf_signatures.specs.Defined.{has_any_flag, takes_alt, takes_gro
 
 use crate::conversions::{Conversion, Floating, Modifier};
 use crate::partial_specification::PartialSpecification;
-use crate::refusals::SignatureRefusalKind;
-use pf_values::{Conv, Flag, FlagSet, Length};
+use pf_values::{Conv, Flag, FlagSet, Length, RefusalKind};
 
 /// The first kind, in the order of numbers, for which a specification is undefined, if it is.
 #[inline(always)]
@@ -14,26 +13,26 @@ pub(crate) fn undefined_as(
     parts: PartialSpecification,
     modifier: Modifier,
     conversion: Conversion,
-) -> Option<SignatureRefusalKind>
+) -> Option<RefusalKind>
     ensures { result ≡ undefined_as parts.flags parts.width parts.precision modifier conversion }
 {
     if parts.flags.has(Flag::Alt) && !takes_alt(conversion) {
-        return Some(SignatureRefusalKind::AltUndefined);
+        return Some(RefusalKind::AltUndefined);
     }
     if parts.flags.has(Flag::Zero) && !takes_zero(conversion) {
-        return Some(SignatureRefusalKind::ZeroUndefined);
+        return Some(RefusalKind::ZeroUndefined);
     }
     if parts.flags.has(Flag::Group) && !takes_group(conversion) {
-        return Some(SignatureRefusalKind::GroupUndefined);
+        return Some(RefusalKind::GroupUndefined);
     }
     if parts.precision && !takes_precision(conversion) {
-        return Some(SignatureRefusalKind::PrecisionUndefined);
+        return Some(RefusalKind::PrecisionUndefined);
     }
     if !takes_modifier(conversion, modifier) {
-        return Some(SignatureRefusalKind::LengthUndefined);
+        return Some(RefusalKind::LengthUndefined);
     }
     if is_count(conversion) && (has_any_flag(parts.flags) || parts.width || parts.precision) {
-        return Some(SignatureRefusalKind::CountUndefined);
+        return Some(RefusalKind::CountUndefined);
     }
     None
 }
@@ -43,7 +42,7 @@ fn takes_alt(conversion: Conversion) -> bool
     ensures { result ≡ takes_alt conversion }
 {
     match conversion {
-        Conversion::Profile(conv) => matches!(conv, Conv::O | Conv::X | Conv::UpperX | Conv::B),
+        Conversion::Profile(conv) => conv.kind().has_alternative_form(),
         Conversion::Float(_) => true,
         _ => false,
     }
@@ -54,7 +53,7 @@ fn takes_zero(conversion: Conversion) -> bool
     ensures { result ≡ takes_zero conversion }
 {
     match conversion {
-        Conversion::Profile(conv) => !matches!(conv, Conv::C | Conv::S),
+        Conversion::Profile(conv) => !conv.kind().is_text(),
         Conversion::Float(_) => true,
         _ => false,
     }
@@ -65,7 +64,7 @@ fn takes_group(conversion: Conversion) -> bool
     ensures { result ≡ takes_group conversion }
 {
     match conversion {
-        Conversion::Profile(conv) => matches!(conv, Conv::D | Conv::I | Conv::U),
+        Conversion::Profile(conv) => conv.kind().is_grouped(),
         Conversion::Float(floating) => matches!(
             floating,
             Floating::F | Floating::UpperF | Floating::G | Floating::UpperG
@@ -79,7 +78,7 @@ fn takes_precision(conversion: Conversion) -> bool
     ensures { result ≡ takes_precision conversion }
 {
     match conversion {
-        Conversion::Profile(conv) => !matches!(conv, Conv::C),
+        Conversion::Profile(conv) => !conv.kind().is_char(),
         Conversion::Float(_) => true,
         Conversion::UpperS => true,
         _ => false,

@@ -16,4 +16,5 @@ pub mod SpecificationLemmas
 pub mod PieceTexts
 pub mod SignatureLemmas
 pub mod WholeRunLemmas
+mod KindLemmas
 mod Examples

@@ -16,8 +16,8 @@ use Rattle.pf_whole.specs.declared.verdicts.Difference.{Difference}
 use Rattle.pf_whole.specs.declared.verdicts.Difference.TheVariants as differences
 use Rattle.pf_whole.specs.declared.verdicts.StretchArguments.{StretchArguments}
 use Rattle.pf_whole.specs.declared.verdicts.StretchArguments.TheVariants as shown
-use Rattle.pf_whole.specs.declared.verdicts.WholeCompareFault.{WholeCompareFault}
-use Rattle.pf_whole.specs.declared.verdicts.WholeCompareFault.TheVariants.{Refused, Memory}
+use Rattle.pf_compare.specs.declared.comparisons.CompareFault.{CompareFault}
+use Rattle.pf_compare.specs.declared.comparisons.CompareFault.TheVariants.{Refused, Memory}
 use Rattle.pf_whole.specs.declared.verdicts.WholeVerdict.{WholeVerdict}
 use Rattle.pf_whole.specs.declared.verdicts.WholeVerdict.TheVariants as verdicts
 use Rattle.pf_whole.specs.Answers as answers
@@ -55,8 +55,8 @@ pub record IsComparison (model : Model) (t u : Text) (verdict : WholeVerdict) : 
 
 -- Why two texts are not compared. Memory can be refused only if both are accepted, have equal types and
 -- calls, and are not alike.
-abbrev pub FaultForWholeCompare : Model → Text → Text → WholeCompareFault → Type 0
-FaultForWholeCompare model t u (Refused refusal) = FaultForWholeSame model t u refusal
+abbrev pub FaultForWholeCompare : Model → Text → Text → CompareFault → Type 0
+FaultForWholeCompare model t u (Refused side refusal) = FaultForWholeSame model t u (side, refusal)
 FaultForWholeCompare model t u Memory = IsWholeAccepted t × IsWholeAccepted u × (¬ AreWholeAlike model t u)
     × ((a b : Stretches) → ReadsWhole t a → ReadsWhole u b → HaveOneShape model a b)
 

@@ -13,7 +13,8 @@ use crate::directives::normal_directive;
 use crate::lengths::len_of_stretches;
 use crate::spelling::spell;
 use pf_canon::{CanonFault, append_canonical};
-use pf_signatures::{OpaqueDirective, SignatureFault, check_unnumbered, next_stretch};
+use pf_signatures::{OpaqueDirective, check_unnumbered, next_stretch};
+use pf_text::TextFault;
 use pf_values::Model;
 use std::alloc::{AllocError, Global};
 
@@ -21,7 +22,7 @@ use std::alloc::{AllocError, Global};
 /// the profile lacks is replaced by the canonical text that it has as a format of its own, and each of
 /// these directives by its normal spelling. Its room is taken by one growth, and none is taken where
 /// the text is refused or empty.
-pub fn canonical(alloc: Global, model: Model, text: &[u8]) -> Result<Vec<u8>, SignatureFault>
+pub fn canonical(alloc: Global, model: Model, text: &[u8]) -> Result<Vec<u8>, TextFault>
     ensures { MatchResult result (λ c. IsWholeCanonicalFor model text.now c.items)
         (FaultForWholeCanonical model text.now) }
 {
@@ -35,14 +36,14 @@ pub fn canonical_with_room(
     model: Model,
     text: &[u8],
     more: usize,
-) -> Result<Vec<u8>, SignatureFault>
+) -> Result<Vec<u8>, TextFault>
     ensures { MatchResult result (λ c. IsWholeCanonicalFor model text.now c.items)
         (FaultForWholeCanonical model text.now) }
 {
     match pf_canon::canonical_with_room(alloc, model, text, more) {
         Ok(canonical) => Ok(canonical),
         Err(fault) => match fault {
-            CanonFault::Memory => Err(SignatureFault::Memory),
+            CanonFault::Memory => Err(TextFault::Memory),
             CanonFault::Refused(_) => canonical_of_stretches(alloc, model, text, more),
         },
     }
@@ -54,16 +55,16 @@ fn canonical_of_stretches(
     model: Model,
     text: &[u8],
     more: usize,
-) -> Result<Vec<u8>, SignatureFault>
+) -> Result<Vec<u8>, TextFault>
     ensures { MatchResult result (λ c. IsWholeCanonicalFor model text.now c.items)
         (FaultForWholeCanonical model text.now) }
 {
     if let Err(refusal) = check_unnumbered(model, text) {
-        return Err(SignatureFault::Refused(refusal));
+        return Err(TextFault::Refused(refusal));
     }
     match put_together(alloc, model, text, more) {
         Ok(out) => Ok(out),
-        Err(AllocError) => Err(SignatureFault::Memory),
+        Err(AllocError) => Err(TextFault::Memory),
     }
 }
 

@@ -2,7 +2,7 @@
 use pf_canon::{CanonFault, CopyFault, Side, SideFault, StreamFault};
 use pf_compare::CompareFault;
 use pf_render::{RenderFault, RenderVecFault, WriteFault};
-use pf_signatures::{ArgumentType, FitsRefusal, SignatureRefusal, SignatureRefusalKind};
+use pf_signatures::{ArgumentType, FitsRefusal, Refusal, RefusalKind};
 use pf_text::Refusal;
 use pf_values::RefusalKind;
 use pf_whole::WholeCompareFault;
@@ -13,8 +13,8 @@ const REFUSED: Refusal = Refusal {
     at: 7,
 };
 
-const NUMBERED: SignatureRefusal = SignatureRefusal {
-    kind: SignatureRefusalKind::Numbered,
+const NUMBERED: Refusal = Refusal {
+    kind: RefusalKind::Numbered,
     at: 2,
 };
 
@@ -45,7 +45,7 @@ fn comparisons_say(alloc: Global) -> Result<bool, AllocError> {
 }
 
 fn whole_comparisons_say(alloc: Global) -> Result<bool, AllocError> {
-    let refused = WholeCompareFault::Refused(FitsRefusal::First(NUMBERED));
+    let refused = WholeCompareFault::Refused((Side::First, NUMBERED));
     let text = format!(in alloc; "{refused}; {}", WholeCompareFault::Memory)?;
     Ok(text.as_str() == "first: refused (Numbered) at byte 2; out of memory")
 }

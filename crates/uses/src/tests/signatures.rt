@@ -2,10 +2,10 @@
 use pf_signatures::laws::{
     accepted_or_refused, accepts_unnumbered, directives_once, judged_unnumbered, never_both,
     profile_types, read_once, refused_for_good, refused_once, refused_unnumbered_once, same_fits,
-    tables_have_each_once, types_are_kept, types_once,
+    table_has_each_once, types_are_kept, types_once,
 };
 use pf_signatures::{
-    ArgumentType, DirectiveSpan, FitsRefusal, SignatureRefusal, SignatureRefusalKind, arguments,
+    ArgumentType, DirectiveSpan, FitsRefusal, Refusal, RefusalKind, arguments,
     directives, fits,
 };
 use pf_values::Model;
@@ -25,7 +25,7 @@ fn are_types_numbered() -> bool {
 
 fn do_kinds_ascend() -> bool {
     let mut before = 0;
-    for kind in &SignatureRefusalKind::ALL {
+    for kind in &RefusalKind::ALL {
         if kind.number() <= before {
             return false;
         }
@@ -35,11 +35,11 @@ fn do_kinds_ascend() -> bool {
 }
 
 fn has_texts(alloc: Global) -> Result<bool, AllocError> {
-    let refusal = SignatureRefusal {
-        kind: SignatureRefusalKind::Mixed,
+    let refusal = Refusal {
+        kind: RefusalKind::Mixed,
         at: 4,
     };
-    let text = format!(in alloc; "{refusal}; {}", FitsRefusal::Second(refusal))?;
+    let text = format!(in alloc; "{refusal}; {}", (Side::Second, refusal))?;
     Ok(text.as_str() == "refused (Mixed) at byte 4; second: refused (Mixed) at byte 4")
 }
 
@@ -49,7 +49,7 @@ fn types_kinds_and_what_they_say(rt: HostRuntime) {
         are_types_numbered()
             && do_kinds_ascend()
             && has_texts(rt.alloc()) == Ok(true)
-            && SignatureRefusalKind::TwoTypes.name() == "TwoTypes"
+            && RefusalKind::TwoTypes.name() == "TwoTypes"
     );
     accepted_or_refused();
     never_both();
@@ -64,7 +64,7 @@ fn types_kinds_and_what_they_say(rt: HostRuntime) {
     types_are_kept();
     judged_unnumbered();
     refused_unnumbered_once();
-    tables_have_each_once();
+    table_has_each_once();
 }
 
 #[test]

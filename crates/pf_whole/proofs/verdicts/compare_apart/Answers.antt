@@ -13,7 +13,7 @@ returns-in-Ok-Some c =
     }
 
 pub unreachable-requires : goal.unreachable-requires
-unreachable-requires c = fit_anyway c.args.model c.args.first.now c.args.second.now c.in-Err.field-0 c.requires.accepted_first c.requires.accepted_second c.in-Err.ensures
+unreachable-requires c = fit_anyway c.args.model c.args.first.now c.args.second.now c.in-Err.field-0.0 c.in-Err.field-0.1 c.requires.accepted_first c.requires.accepted_second c.in-Err.ensures
 
 pub returns-in-Some : goal.returns-in-Some
 returns-in-Some c =

@@ -1,5 +1,5 @@
 use Rattle.std.proofs.Common.{◌≡◌, ◌++◌, ◌∷◌, [], ◌-◌, ◌∙◌, ap, arith, subst, refl, sym, false}
-use Rattle.pf_signatures.specs.declared.refusals.SignatureRefusalKind.TheVariants.{TwoTypes}
+use Rattle.pf_values.specs.declared.refusals.RefusalKind.TheVariants.{TwoTypes}
 use Rattle.pf_signatures.specs.Readings.{conflicts}
 use Rattle.pf_signatures.specs.Refusals.{IsPosixRefusedAt}
 use Rattle.pf_signatures.specs.Tabled.{TableHolds}
