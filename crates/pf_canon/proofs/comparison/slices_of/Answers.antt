@@ -1,6 +1,6 @@
 use Rattle.std.proofs.lemmas.List.{take_rest}
 use Rattle.pf_canon.proofs.ComparisonLemmas.{begun_both}
-use Rattle.pf_canon.proofs.comparison.walks_of.Goals as goal
+use Rattle.pf_canon.proofs.comparison.slices_of.Goals as goal
 
 pub returns : goal.returns
 returns c =

@@ -6,17 +6,17 @@ ghost use Rattle.pf_values.specs.meaning.Text.{Text};
 ghost use Rattle.pf_values.specs.declared.models.Model.{Model};
 ghost use Rattle.pf_canon.specs.Output.{IsFrontOf};
 ghost use Rattle.pf_canon.specs.Transducer.{IsChunkWithin, IsThrough, chunk_output_text};
-ghost use Rattle.pf_canon.specs.Walk.{IsAcceptedAs, IsMidway, IsWalkedWhole, WalkHasGiven, to_come, to_take, waits};
+ghost use Rattle.pf_canon.specs.CanonicalSlices.{IsAcceptedAs, IsMidway, IsTakenWhole, SlicesHaveGiven, to_come, to_take, pending_of};
 
 use crate::chunk::Chunk;
 use crate::output::{PendingOutput, StepOutput};
 use crate::transducer::Transducer;
 use pf_text::Refusal;
 
-/// A text of which some was taken. Of what that settles the last bytes wait: bytes of the text as
-/// they are, and an output.
+/// The canonical text of a format in memory, given slice by slice. Of what is settled the last bytes
+/// are pending: bytes of the format as they are, and then an output.
 #[derive(Drop)]
-pub(crate) struct Walk<'a> {
+pub(crate) struct CanonicalSlices<'a> {
     transducer: Transducer,
     rest: &'a [u8],
     bytes: &'a [u8],
@@ -24,14 +24,14 @@ pub(crate) struct Walk<'a> {
     end: Option<Result<(), Refusal>>,
 }
 
-impl<'a> Walk<'a> {
-    /// All that the transducer settled was given, and this is not taken.
-    pub(crate) fn new(transducer: Transducer, rest: &'a [u8]) -> Walk<'a>
+impl<'a> CanonicalSlices<'a> {
+    /// The slices that follow, if all that the transducer settled was given, and `rest` is not taken.
+    pub(crate) fn new(transducer: Transducer, rest: &'a [u8]) -> CanonicalSlices<'a>
         ensures { (model : Model) (text given : Text)
             → IsMidway model transducer rest.now [] text given
-            → WalkHasGiven model result text given }
+            → SlicesHaveGiven model result text given }
     {
-        Walk {
+        CanonicalSlices {
             transducer,
             rest,
             bytes: &[],
@@ -40,11 +40,11 @@ impl<'a> Walk<'a> {
         }
     }
 
-    /// Takes more, until something waits or the text is at its end or refused.
+    /// Takes more, until something is pending or the text is at its end or refused.
     pub(crate) fn fill(&mut self)
         ensures given { (model : Model) (text given : Text)
-            → WalkHasGiven model self.old text given → WalkHasGiven model self.new text given }
-        ensures some { waits self.new ≡ [] → self.new.end ≢ None }
+            → SlicesHaveGiven model self.old text given → SlicesHaveGiven model self.new text given }
+        ensures some { pending_of self.new ≡ [] → self.new.end ≢ None }
         ensures fewer { to_come self.new ≤ to_come self.old }
     {
         while self.front().is_empty() {
@@ -55,9 +55,9 @@ impl<'a> Walk<'a> {
         }
     }
 
-    /// The first bytes that wait, some if there are any.
+    /// The first bytes that are pending, some if there are any.
     pub(crate) fn front(&self) -> &[u8]
-        ensures { IsFrontOf (waits self.now) result.now }
+        ensures { IsFrontOf (pending_of self.now) result.now }
     {
         if !self.bytes.is_empty() {
             return self.bytes;
@@ -65,12 +65,12 @@ impl<'a> Walk<'a> {
         self.output.front()
     }
 
-    /// Gives the first `count` of the bytes that wait, or all if there are fewer.
+    /// Gives the first `count` of the bytes that are pending, or all if there are fewer.
     pub(crate) fn skip(&mut self, count: usize)
         ensures given { (model : Model) (text given : Text)
-            → WalkHasGiven model self.old text given
-            → WalkHasGiven model self.new text (given ++ take count (waits self.old)) }
-        ensures fewer { count ≤ length (waits self.old)
+            → SlicesHaveGiven model self.old text given
+            → SlicesHaveGiven model self.new text (given ++ take count (pending_of self.old)) }
+        ensures fewer { count ≤ length (pending_of self.old)
             → to_come self.new + count ≤ to_come self.old }
     {
         let bytes = self.bytes;
@@ -79,11 +79,11 @@ impl<'a> Walk<'a> {
         self.output.skip(count - first);
     }
 
-    /// Whether the text is accepted, which is read to its end.
+    /// Reads the text to its end, and returns its refusal if it has one.
     pub(crate) fn finish(&self) -> Result<(), Refusal>
         ensures { (model : Model) (text given : Text)
-            → WalkHasGiven model self.now text given
-            → MatchResult result (λ _. IsWalkedWhole model self.now text given)
+            → SlicesHaveGiven model self.now text given
+            → MatchResult result (λ _. IsTakenWhole model self.now text given)
             (λ refusal. IsRefusedAt text refusal.kind refusal.at) }
     {
         match self.end {
@@ -95,9 +95,9 @@ impl<'a> Walk<'a> {
     // Takes the next chunk, or the end.
     fn take(&mut self)
         requires open { self.old.end ≡ None }
-        requires none { waits self.old ≡ [] }
+        requires none { pending_of self.old ≡ [] }
         ensures given { (model : Model) (text given : Text)
-            → WalkHasGiven model self.old text given → WalkHasGiven model self.new text given }
+            → SlicesHaveGiven model self.old text given → SlicesHaveGiven model self.new text given }
         ensures less { to_take self.new < to_take self.old }
         ensures fewer { to_come self.new ≤ to_come self.old }
     {
@@ -114,10 +114,10 @@ impl<'a> Walk<'a> {
     #[inline(always)]
     fn take_end(&mut self)
         requires open { self.old.end ≡ None }
-        requires none { waits self.old ≡ [] }
+        requires none { pending_of self.old ≡ [] }
         requires end { self.old.rest.now ≡ [] }
         ensures given { (model : Model) (text given : Text)
-            → WalkHasGiven model self.old text given → WalkHasGiven model self.new text given }
+            → SlicesHaveGiven model self.old text given → SlicesHaveGiven model self.new text given }
         ensures less { to_take self.new < to_take self.old }
         ensures fewer { to_come self.new ≤ to_come self.old }
     {
@@ -131,15 +131,15 @@ impl<'a> Walk<'a> {
     }
 
     // Takes the verbatim bytes at the front of the rest, if there are any. It leaves the automaton
-    // alone, and is all that there is of most texts.
+    // alone, and most texts need nothing else.
     #[inline(always)]
     fn take_verbatim(&mut self) -> bool
         requires open { self.old.end ≡ None }
-        requires none { waits self.old ≡ [] }
+        requires none { pending_of self.old ≡ [] }
         ensures given { (model : Model) (text given : Text)
-            → WalkHasGiven model self.old text given → WalkHasGiven model self.new text given }
+            → SlicesHaveGiven model self.old text given → SlicesHaveGiven model self.new text given }
         ensures taken { MatchBool result (to_take self.new < to_take self.old)
-            ((waits self.new ≡ []) × (self.new.rest.now ≡ self.old.rest.now)) }
+            ((pending_of self.new ≡ []) × (self.new.rest.now ≡ self.old.rest.now)) }
         ensures end { self.new.end ≡ self.old.end }
         ensures fewer { to_come self.new ≤ to_come self.old }
     {
@@ -157,10 +157,10 @@ impl<'a> Walk<'a> {
     #[inline(always)]
     fn take_chunk(&mut self)
         requires open { self.old.end ≡ None }
-        requires none { waits self.old ≡ [] }
+        requires none { pending_of self.old ≡ [] }
         requires some { 0 < length self.old.rest.now }
         ensures given { (model : Model) (text given : Text)
-            → WalkHasGiven model self.old text given → WalkHasGiven model self.new text given }
+            → SlicesHaveGiven model self.old text given → SlicesHaveGiven model self.new text given }
         ensures less { to_take self.new < to_take self.old }
         ensures fewer { to_come self.new ≤ to_come self.old }
     {
@@ -175,13 +175,13 @@ impl<'a> Walk<'a> {
         }
     }
 
-    // What the first chunk of the rest settles waits.
+    // Makes pending what the first chunk of the rest settles.
     #[inline(always)]
     fn keep(&mut self, chunk: Chunk)
-        requires none { waits self.old ≡ [] }
+        requires none { pending_of self.old ≡ [] }
         requires within { IsChunkWithin chunk self.old.rest.now }
         requires item { chunk.verbatim_len ≡ 0 }
-        ensures waits { waits self.new ≡ chunk_output_text chunk self.old.rest.now }
+        ensures pending { pending_of self.new ≡ chunk_output_text chunk self.old.rest.now }
         ensures rest { self.new.rest.now ≡ drop chunk.len self.old.rest.now }
         ensures transducer { self.new.transducer ≡ self.old.transducer }
         ensures end { self.new.end ≡ self.old.end }
@@ -202,7 +202,7 @@ impl<'a> Walk<'a> {
     }
 }
 
-/// Whether a text is accepted of which this is left.
+/// Reads the rest of a text to its end, and returns the text's refusal if it has one.
 pub(crate) fn finish_rest(transducer: Transducer, rest: &[u8]) -> Result<(), Refusal>
     ensures { (model : Model) (t out : Text) (items : List Item)
         → IsThrough model transducer t items out
