@@ -2,6 +2,7 @@
 #![tactic(auto)]
 
 mod canonical_bytes;
+mod canonical_slices;
 mod canonical_texts;
 mod chunk;
 mod comparison;
@@ -12,7 +13,6 @@ pub mod limits;
 mod output;
 mod sink;
 mod transducer;
-mod walk;
 
 pub use canonical_bytes::CanonBytes;
 pub use canonical_texts::{
