@@ -10,7 +10,7 @@ use Rattle.pf_values.specs.meaning.Refusals.{IsRefusedAt}
 use Rattle.pf_values.specs.meaning.Text.{Text}
 use Rattle.pf_text.specs.Signatures.{TakesManyArguments, TakesTypes}
 use Rattle.pf_canon.specs.Answers.{FaultForCanonical, IsCanonicalFor}
-use Rattle.pf_canon.specs.declared.faults.CanonFault.TheVariants as canon_faults
+use Rattle.pf_text.specs.declared.refusals.TextFault.TheVariants as text_faults
 use Rattle.pf_text.specs.declared.refusals.Side.TheVariants.{First}
 use Rattle.pf_compare.specs.Answers.{FaultForCompare, IsComparisonOf}
 use Rattle.pf_compare.specs.declared.comparisons.CompareFault.{CompareFault}
@@ -88,7 +88,7 @@ abbrev pub PutsCanonical : Model → Text → Text → CError → ℤ → Text �
 PutsCanonical model t out error code out_now error_now =
     ((c : Text) × IsCanonicalFor model t c × (code ≡ pos (length c))
     × (out_now ≡ put (c ++ 0 ∷ []) out) × (error_now ≡ error))
-    ⊎ PutsNothing t (FaultForCanonical model t canon_faults.Memory) out error code out_now error_now
+    ⊎ PutsNothing t (FaultForCanonical model t text_faults.Memory) out error code out_now error_now
 
 -- a length as an answer; no memory holds a text with 2^63 bytes
 abbrev pub IsLengthCode : ℕ → ℤ → Type 0

@@ -14,7 +14,7 @@ use Rattle.pf_canon.specs.declared.output.Output.{Output}
 use Rattle.pf_canon.specs.declared.chunk.Chunk.{Chunk}
 use Rattle.pf_canon.specs.declared.chunk.ChunkRefusal.{ChunkRefusal}
 use Rattle.pf_canon.specs.declared.transducer.Transducer.{Transducer}
-use Rattle.pf_canon.specs.declared.faults.CanonFault.TheVariants.{Memory}
+use Rattle.pf_text.specs.declared.refusals.TextFault.TheVariants.{Memory}
 use Rattle.pf_canon.specs.Answers.{FaultForCanonical, IsCanonicalFor, most_len}
 use Rattle.pf_canon.specs.Output.{output_text}
 use Rattle.pf_canon.specs.Transducer.{SettlesEnd, GrowsByChunk, IsThrough, IsUpTo, RefusesChunk, chunk_output_text, TakesVerbatim}

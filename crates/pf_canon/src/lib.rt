@@ -20,4 +20,4 @@ pub use canonical_texts::{
 };
 pub use comparison::{same_stream, same_text};
 pub use copy::{canonical_stream, copy_canonical};
-pub use faults::{CanonFault, CopyFault, SideFault, StreamFault};
+pub use faults::{CopyFault, SideFault, StreamFault};

@@ -12,7 +12,7 @@ ghost use Rattle.pf_whole.specs.meaning.NormalSpellings.{normal_spelling};
 use crate::directives::normal_directive;
 use crate::lengths::len_of_stretches;
 use crate::spelling::spell;
-use pf_canon::{CanonFault, append_canonical};
+use pf_canon::append_canonical;
 use pf_signatures::{OpaqueDirective, check_unnumbered, next_stretch};
 use pf_text::TextFault;
 use pf_values::Model;
@@ -43,8 +43,8 @@ pub fn canonical_with_room(
     match pf_canon::canonical_with_room(alloc, model, text, more) {
         Ok(canonical) => Ok(canonical),
         Err(fault) => match fault {
-            CanonFault::Memory => Err(TextFault::Memory),
-            CanonFault::Refused(_) => canonical_of_stretches(alloc, model, text, more),
+            TextFault::Memory => Err(TextFault::Memory),
+            TextFault::Refused(_) => canonical_of_stretches(alloc, model, text, more),
         },
     }
 }
@@ -115,8 +115,8 @@ fn append_stretch(out: Vec<u8>, model: Model, text: &[u8]) -> Result<Vec<u8>, Al
 {
     match append_canonical(out, model, text) {
         Ok(out) => Ok(out),
-        Err(CanonFault::Memory) => Err(AllocError),
-        Err(CanonFault::Refused(_)) => unreachable!(),
+        Err(TextFault::Memory) => Err(AllocError),
+        Err(TextFault::Refused(_)) => unreachable!(),
     }
 }
 

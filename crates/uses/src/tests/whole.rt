@@ -1,10 +1,10 @@
 //! `pf_whole`: each public call once, on texts whose answers are written down.
 use crate::whole::are_alike;
-use pf_compare::OwnedArg;
-use pf_signatures::{FitsRefusal, TextFault, Refusal, RefusalKind};
-use pf_values::Model;
+use pf_compare::{CompareFault, OwnedArg};
+use pf_text::{Refusal, Side, TextFault};
+use pf_values::{Model, RefusalKind};
 use pf_whole::{
-    WholeCompareFault, WholeVerdict, canonical, canonical_len, compare, is_canonical, same_text,
+    WholeVerdict, canonical, canonical_len, compare, is_canonical, same_text,
 };
 use std::alloc::Global;
 
@@ -163,7 +163,9 @@ fn a_refused_format_is_not_compared(rt: HostRuntime) {
     };
     assert!(rt;
         match compare(rt.alloc(), Model::Lp64, b"%1$d", b"%q") {
-            Err(WholeCompareFault::Refused(refusal)) => refusal == (Side::First, numbered),
+            Err(CompareFault::Refused(side, refusal)) => {
+                (side, refusal) == (Side::First, numbered)
+            }
             _ => false,
         }
     );

@@ -4,7 +4,7 @@ ghost use Rattle.pf_signatures.specs.declared.types.ArgumentType.{ArgumentType a
 ghost use Rattle.pf_signatures.specs.Items.{HasArguments};
 
 use pf_signatures::{ArgumentType, arguments, fits};
-use pf_values::Model;
+use pf_values::{ArgType, Model};
 
 /// Whether a translated format is known to take just the arguments of the one in the program.
 fn may_translate(model: Model, original: &[u8], translated: &[u8]) -> bool
@@ -21,7 +21,7 @@ fn may_translate(model: Model, original: &[u8], translated: &[u8]) -> bool
 
 /// The type of the first argument of a format, if it takes one.
 fn first_type(model: Model, format: &[u8]) -> Option<ArgumentType> {
-    let mut types = [ArgumentType::Int];
+    let mut types = [ArgumentType::Profile(ArgType::Int)];
     match arguments(model, format, &mut types) {
         Ok(0) => None,
         Ok(_) => Some(types[0]),

@@ -4,10 +4,11 @@ ghost use Rattle.pf_values.specs.meaning.Items.{Item, Reads};
 ghost use Rattle.pf_signatures.specs.Stretches.{IsWholeAccepted, Last};
 
 use pf_signatures::{
-    Conversion, Floating, Modifier, OpaqueAmount, OpaqueDirective, Refusal,
-    RefusalKind, Stretch, check_unnumbered, next_stretch,
+    Conversion, Floating, Modifier, OpaqueAmount, OpaqueDirective, Stretch, check_unnumbered,
+    next_stretch,
 };
-use pf_values::{Flag, FlagSet, Length, Model};
+use pf_text::Refusal;
+use pf_values::{Flag, FlagSet, Length, Model, RefusalKind};
 
 /// Whether a format is known to be accepted without numbered arguments.
 fn has_stretches(model: Model, format: &[u8]) -> bool
