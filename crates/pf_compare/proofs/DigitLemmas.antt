@@ -13,9 +13,10 @@ use Rattle.pf_values.specs.meaning.Bases.{number_of, prefix_of}
 use Rattle.pf_values.specs.meaning.Conversions.{base_under, has_capitals}
 use Rattle.pf_values.specs.meaning.Text.{Text, space, zero_digit}
 use Rattle.pf_probes.proofs.Digits.{glyph-gt}
-use Rattle.pf_compare.specs.declared.outlines.SignOrPrefix.{SignOrPrefix}
-use Rattle.pf_compare.specs.declared.outlines.SignOrPrefix.TheVariants as prefixes
-use Rattle.pf_compare.specs.Outlines.{DoTextsDiffer, Lacks, digits_under, kind_digits, sign_or_prefix_text}
+use Rattle.pf_render.specs.declared.integer_parts.SignOrPrefix.{SignOrPrefix}
+use Rattle.pf_render.specs.declared.integer_parts.SignOrPrefix.TheVariants as prefixes
+use Rattle.pf_render.specs.IntegerParts.{digits_under, kind_digits, sign_or_prefix_text}
+use Rattle.pf_compare.specs.Outlines.{DoTextsDiffer, Lacks}
 use Rattle.pf_compare.proofs.FieldLemmas.{lacks_both, lacks_run}
 
 base_above_one : (base : Base) → 2 ≤ number_of base

@@ -19,9 +19,9 @@ use Rattle.pf_values.specs.meaning.Specification.{Specification, width_of}
 use Rattle.pf_values.specs.meaning.Text.{Text, space}
 use Rattle.pf_values.proofs.Printed.{count_of, filled_precision, length-printed_digits, natural_len, natural_of, precision_under, printed_digits, printed_precision}
 use Rattle.pf_values.proofs.PrintsOnce.{value_text}
+use Rattle.pf_render.specs.declared.values.Value.{Value}
+use Rattle.pf_render.specs.Values.{HasSignAndMagnitude}
 use Rattle.pf_compare.specs.declared.predictions.EqualPrintRange.{EqualPrintRange}
-use Rattle.pf_compare.specs.declared.outlines.Value.{Value}
-use Rattle.pf_compare.specs.Outlines.{HasSignAndSize}
 use Rattle.pf_compare.specs.Spaces.{PrintEqualIn, LeavesRoomForSpace, IsInEqualPrintRange, with_space}
 use Rattle.pf_compare.proofs.OutlineLemmas.{printed_number}
 
@@ -108,9 +108,9 @@ module _ (s t : Specification) (range : EqualPrintRange) (e : kind_of s.conv ≡
     room = subst (λ (r : Specification). max (precision_of r) n + 1 ≤ width_of r) same h.room;
   }
 
-  has_case : (v : ℤ) (value : Value) → HasSignAndSize value v → IsInEqualPrintRange range value → IsTrue (is_negative v) ⊎ LeavesRoomForSpace s (count_of 10 (nat_abs v))
+  has_case : (v : ℤ) (value : Value) → HasSignAndMagnitude value v → IsInEqualPrintRange range value → IsTrue (is_negative v) ⊎ LeavesRoomForSpace s (count_of 10 (nat_abs v))
   has_case v value parts (inl h) = inl (subst IsTrue parts.sign h)
-  has_case v value parts (inr h) = inr (subst (λ n. LeavesRoomForSpace s (count_of 10 n)) parts.size (room value.size h))
+  has_case v value parts (inr h) = inr (subst (λ n. LeavesRoomForSpace s (count_of 10 n)) parts.magnitude (room value.magnitude h))
 
   other_case : (v : ℤ) → IsTrue (is_negative v) ⊎ LeavesRoomForSpace s (count_of 10 (nat_abs v)) → IsTrue (is_negative v) ⊎ LeavesRoomForSpace t (count_of 10 (nat_abs v))
   other_case v (inl h) = inl h
