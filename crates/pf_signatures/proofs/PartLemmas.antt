@@ -34,7 +34,7 @@ use Rattle.pf_signatures.specs.PartsInText.{BeginsOutside, ConversionIs, DigitsA
 use Rattle.pf_signatures.specs.PartsInText.{SpecificationIs, WidthIs, is_flag, is_precision, is_width, second_modifier}
 use Rattle.pf_signatures.specs.Specifications.{Amount, Given, Fetched, PosixSpecification, conversion_letter, modifier_letters}
 use Rattle.pf_signatures.specs.Spelling.{SpellsPosition, SpellsPosix, SpellsPosixPrecision}
-use Rattle.pf_signatures.proofs.Digits.{first_above_zero}
+use Rattle.pf_text.proofs.NumberDigits.{first_above_zero}
 use Rattle.pf_signatures.proofs.Reaching.{letter_tests}
 use Rattle.pf_signatures.proofs.SpecificationsOnce.{HasParts, after_flags_outside, after_precision_outside, after_width_outside, longer, no_number, parts_of}
 use Rattle.pf_signatures.proofs.SpecificationsOnce.{same_fields}

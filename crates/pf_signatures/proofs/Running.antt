@@ -36,7 +36,7 @@ use Rattle.pf_signatures.specs.Spelling.{SpellsUpToFlags, SpellsUpToWidth, Spell
 use Rattle.pf_signatures.specs.Stages.{PosixState, Between, Opened, First, Flags, Digits, Star, StarDigits, Placed, Point}
 use Rattle.pf_signatures.specs.States.{PosixStep, after_amount, after_first, among_flags, after_numbers, after_percent, after_star, dollar_after, move_to, posix_step, parts_at, star_at, with_digit, with_width}
 use Rattle.pf_signatures.specs.Types.{fetch, star_fetches}
-use Rattle.pf_signatures.proofs.Digits.{first_above_zero}
+use Rattle.pf_text.proofs.NumberDigits.{first_above_zero}
 
 -- a style, a state and what was fetched
 pub record Stand : Type 0 where

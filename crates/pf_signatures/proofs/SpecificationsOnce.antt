@@ -25,7 +25,7 @@ use Rattle.pf_signatures.specs.Letters.{conversion_of, length_modifier_of}
 use Rattle.pf_signatures.specs.PartsInText.{BeginsOutside, is_flag, is_precision, is_width}
 use Rattle.pf_signatures.specs.Specifications.{Amount, Given, Fetched, PosixSpecification, conversion_letter, modifier_letters}
 use Rattle.pf_signatures.specs.Spelling.{SpellsPosix, SpellsPosixPrecision, SpellsPosixWidth, SpellsPosition, SpellsUpToPrecision}
-use Rattle.pf_signatures.proofs.Digits.{first_above_zero}
+use Rattle.pf_text.proofs.NumberDigits.{first_above_zero}
 use Rattle.pf_signatures.proofs.Reaching.{letter_tests as read_letter}
 use Rattle.pf_signatures.proofs.Spans.{AreInside, begins, spans}
 

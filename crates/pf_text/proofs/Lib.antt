@@ -1,4 +1,5 @@
 pub mod Runs
+pub mod NumberDigits
 pub mod Complete
 pub mod Sound
 pub mod Texts
