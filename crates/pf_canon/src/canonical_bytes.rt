@@ -17,8 +17,8 @@ use pf_values::{Counted, Model};
 use std::io::Read;
 
 /// The bytes of the canonical text, in one data model, of what a reader hands out. It asks the
-/// reader for one byte at a time, and only while no settled byte is pending. Before a fault it gives
-/// just the bytes that are settled, and after it nothing.
+/// reader for one byte at a time, and only while no settled byte is pending. Before a fault it
+/// gives just the bytes that are settled, and after it nothing.
 #[derive(Drop)]
 pub struct CanonBytes<R> {
     reader: Counted<R>,

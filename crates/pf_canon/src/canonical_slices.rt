@@ -13,8 +13,8 @@ use crate::output::{PendingOutput, StepOutput};
 use crate::transducer::Transducer;
 use pf_text::Refusal;
 
-/// The canonical text of a format in memory, given slice by slice. Of what is settled the last bytes
-/// are pending: bytes of the format as they are, and then an output.
+/// The canonical text of a format in memory, given slice by slice. Of what is settled the last
+/// bytes are pending: bytes of the format as they are, and then an output.
 #[derive(Drop)]
 pub(crate) struct CanonicalSlices<'a> {
     transducer: Transducer,
@@ -25,7 +25,8 @@ pub(crate) struct CanonicalSlices<'a> {
 }
 
 impl<'a> CanonicalSlices<'a> {
-    /// The slices that follow, if all that the transducer settled was given, and `rest` is not taken.
+    /// The slices that follow, if all that the transducer settled was given, and `rest` is not
+    /// taken.
     pub(crate) fn new(transducer: Transducer, rest: &'a [u8]) -> CanonicalSlices<'a>
         ensures { (model : Model) (text given : Text)
             → IsMidway model transducer rest.now [] text given
@@ -43,7 +44,8 @@ impl<'a> CanonicalSlices<'a> {
     /// Takes more, until something is pending or the text is at its end or refused.
     pub(crate) fn fill(&mut self)
         ensures given { (model : Model) (text given : Text)
-            → SlicesHaveGiven model self.old text given → SlicesHaveGiven model self.new text given }
+            → SlicesHaveGiven model self.old text given
+            → SlicesHaveGiven model self.new text given }
         ensures some { pending_of self.new ≡ [] → self.new.end ≢ None }
         ensures fewer { to_come self.new ≤ to_come self.old }
     {
@@ -97,7 +99,8 @@ impl<'a> CanonicalSlices<'a> {
         requires open { self.old.end ≡ None }
         requires none { pending_of self.old ≡ [] }
         ensures given { (model : Model) (text given : Text)
-            → SlicesHaveGiven model self.old text given → SlicesHaveGiven model self.new text given }
+            → SlicesHaveGiven model self.old text given
+            → SlicesHaveGiven model self.new text given }
         ensures less { to_take self.new < to_take self.old }
         ensures fewer { to_come self.new ≤ to_come self.old }
     {
@@ -117,7 +120,8 @@ impl<'a> CanonicalSlices<'a> {
         requires none { pending_of self.old ≡ [] }
         requires end { self.old.rest.now ≡ [] }
         ensures given { (model : Model) (text given : Text)
-            → SlicesHaveGiven model self.old text given → SlicesHaveGiven model self.new text given }
+            → SlicesHaveGiven model self.old text given
+            → SlicesHaveGiven model self.new text given }
         ensures less { to_take self.new < to_take self.old }
         ensures fewer { to_come self.new ≤ to_come self.old }
     {
@@ -137,7 +141,8 @@ impl<'a> CanonicalSlices<'a> {
         requires open { self.old.end ≡ None }
         requires none { pending_of self.old ≡ [] }
         ensures given { (model : Model) (text given : Text)
-            → SlicesHaveGiven model self.old text given → SlicesHaveGiven model self.new text given }
+            → SlicesHaveGiven model self.old text given
+            → SlicesHaveGiven model self.new text given }
         ensures taken { MatchBool result (to_take self.new < to_take self.old)
             ((pending_of self.new ≡ []) × (self.new.rest.now ≡ self.old.rest.now)) }
         ensures end { self.new.end ≡ self.old.end }
@@ -160,7 +165,8 @@ impl<'a> CanonicalSlices<'a> {
         requires none { pending_of self.old ≡ [] }
         requires some { 0 < length self.old.rest.now }
         ensures given { (model : Model) (text given : Text)
-            → SlicesHaveGiven model self.old text given → SlicesHaveGiven model self.new text given }
+            → SlicesHaveGiven model self.old text given
+            → SlicesHaveGiven model self.new text given }
         ensures less { to_take self.new < to_take self.old }
         ensures fewer { to_come self.new ≤ to_come self.old }
     {

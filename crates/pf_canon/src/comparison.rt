@@ -125,7 +125,8 @@ fn slices_of<'a>(
 // Gives the bytes that two canonical texts have in common, and returns whether both ended there.
 fn go_in_step(first: &mut CanonicalSlices<'_>, second: &mut CanonicalSlices<'_>) -> bool
     ensures { (model : Model) (f g given : Text) → SlicesHaveGiven model first.old f given
-        → SlicesHaveGiven model second.old g given → GoInStep model first.new f second.new g result }
+        → SlicesHaveGiven model second.old g given
+        → GoInStep model first.new f second.new g result }
 {
     loop {
         first.fill();

@@ -213,8 +213,8 @@ pub(crate) fn put<W: Write>(w: &mut Counted<W>, bytes: &[u8], count: u128) -> Re
     }
 }
 
-/// A writer, the bytes that are still to be written, how many went out, and whether it failed. After a
-/// failure nothing more is written.
+/// A writer, the bytes that are still to be written, how many went out, and whether it failed.
+/// After a failure nothing more is written.
 #[derive(Drop)]
 pub(crate) struct Gathered<'a, 'b, W> {
     writer: &'a mut Counted<W>,

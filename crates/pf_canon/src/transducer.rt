@@ -50,9 +50,9 @@ impl Transducer {
         (transducer, verbatim_len)
     }
 
-    /// A transducer that took as many first bytes of a text as are their own canonical text, and how
-    /// many these are: whole directives that are normal and spelled as a canonical text spells them,
-    /// too.
+    /// A transducer that took as many first bytes of a text as are their own canonical text, and
+    /// how many these are: whole directives that are normal and spelled as a canonical text spells
+    /// them, too.
     #[inline(always)]
     pub(crate) fn after_canonical(model: Model, text: &[u8]) -> (Transducer, usize)
         ensures model { data_model_of result.0 ≡ model }
@@ -67,8 +67,8 @@ impl Transducer {
         (transducer, len)
     }
 
-    // Takes more of a text of which `from` bytes were taken, as far as it is its own canonical text,
-    // and returns how many were taken then.
+    // Takes more of a text of which `from` bytes were taken, as far as it is its own canonical
+    // text, and returns how many were taken then.
     #[inline(never)]
     fn pass_canonical(&mut self, text: &[u8], from: usize) -> usize
         requires from { from ≤ length text.now }
