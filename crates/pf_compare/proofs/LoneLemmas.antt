@@ -208,7 +208,7 @@ module _ (model : Model) (s t : Specification) (after : List Item) where
     argument_is : (place : ℕ) (one other : Argument) → slice_get (candidates model (arg_type model s)) place ≡ Some one → IsCandidateAt model (types model first_items) place_of place other → one ≡ other
     argument_is place one other e c = let both : Some one ≡ Some other = sym e ∙ candidate_here place_of place other refl c in cc
 
-    pub found_alone : (place : ℕ) (witness : Witness) → IsFirstUnlike model [] (span_alone s) (span_alone t) (arg_type model s) place → IsWitnessAt model (types model first_items) (record { index = place_of; place = place }) witness
+    pub found_alone : (place : ℕ) (witness : Witness) → IsFirstUnlike model [] (span_alone s) (span_alone t) (arg_type model s) place → IsWitnessAt model (types model first_items) (record { index = place_of; candidate_index = place }) witness
         → FindsWitness model first_items second_items (Some witness)
     found_alone zero witness h w =
         let is = argument_is 0 h.argument w.argument h.argument_is w.candidate in
@@ -318,7 +318,7 @@ module _ (model : Model) (xs ys : List Item) (difference : LoneDifference) (h : 
     lone_type_at = ap (slice_get (types model xs)) (h.index_is model) ∙ ap (λ l. slice_get (types model l) (length (types model h.before))) h.first_is ∙ type_at model difference.first difference.second h.after h.before
 
     pub lone_awaits : (place : ℕ) (args : List OwnedArg) → FindsUnlike model [] (span_alone difference.first) (span_alone difference.second) (arg_type model difference.first) (Some place) → AreNeutral (types model xs) args
-        → AwaitsCandidate model (types model xs) args (arg_type model difference.first) (record { index = difference.index; place = place })
+        → AwaitsCandidate model (types model xs) args (arg_type model difference.first) (record { index = difference.index; candidate_index = place })
     lone_awaits place args found neutral = record {
       neutral = neutral;
       candidate = (found.argument, record { type = arg_type model difference.first; type_is = lone_type_at; argument_is = found.argument_is });
@@ -329,12 +329,12 @@ module _ (model : Model) (xs ys : List Item) (difference : LoneDifference) (h : 
     back_in found w = subst (λ l. FindsWitness model l ys found) (sym h.first_is) (subst (λ l. FindsWitness model (h.before ++ Directive difference.first ∷ h.after) l found) (sym h.second_is) w)
 
     pub lone_found : (place : ℕ) (witness : Witness) → FindsUnlike model [] (span_alone difference.first) (span_alone difference.second) (arg_type model difference.first) (Some place)
-        → IsWitnessAt model (types model xs) (record { index = difference.index; place = place }) witness → FindsWitness model xs ys (Some witness)
+        → IsWitnessAt model (types model xs) (record { index = difference.index; candidate_index = place }) witness → FindsWitness model xs ys (Some witness)
     lone_found place witness found w =
-        let there : IsWitnessAt model (types model (h.before ++ Directive difference.first ∷ h.after)) (record { index = difference.index; place = place }) witness
-        = subst (λ l. IsWitnessAt model (types model l) (record { index = difference.index; place = place }) witness) h.first_is w in
+        let there : IsWitnessAt model (types model (h.before ++ Directive difference.first ∷ h.after)) (record { index = difference.index; candidate_index = place }) witness
+        = subst (λ l. IsWitnessAt model (types model l) (record { index = difference.index; candidate_index = place }) witness) h.first_is w in
         back_in (Some witness) (found_alone model difference.first difference.second h.after h.before same_type place witness found
-        (subst (λ i. IsWitnessAt model (types model (h.before ++ Directive difference.first ∷ h.after)) (record { index = i; place = place }) witness) (h.index_is model) there))
+        (subst (λ i. IsWitnessAt model (types model (h.before ++ Directive difference.first ∷ h.after)) (record { index = i; candidate_index = place }) witness) (h.index_is model) there))
 
     -- they print different texts for some arguments
     pub lone_apart : (place : ℕ) → AreToldApartAt model difference place → (args : List Argument) × HasTypes model args (types model xs) × PrintUnlike model xs ys args

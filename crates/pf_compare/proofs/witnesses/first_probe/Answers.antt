@@ -52,7 +52,7 @@ returns-in-Some c =
     let r = c.requires.equal in
     let finds : FindsUnlike c.args.model c.deref.result.now c.index.result.now c.index-in-loop-index.result.now (arg_type c.args.model c.index.result.now.directive) c.in_ok-found.found = c.in_ok-found.ensures in
     let here = subst (λ (t : Text). FindsUnlike c.args.model t c.index.result.now c.index-in-loop-index.result.now (arg_type c.args.model c.index.result.now.directive) c.in_ok-found.found) c.deref.ensures.value finds in
-    λ xs ys a b same. found_probe c.args.model c.args.first.now c.args.second.now xs ys a b same r.same_bytes c.loop-index.index c.in-Some.place c.index.result.now c.index-in-loop-index.result.now
+    λ xs ys a b same. found_probe c.args.model c.args.first.now c.args.second.now xs ys a b same r.same_bytes c.loop-index.index c.in-Some.candidate_index c.index.result.now c.index-in-loop-index.result.now
     (slice_get_read c.args.first.now.spans.items _ c.loop-index.index c.index.result.now refl (omega (arith, c.loop-index-test.true, c.len.ensures, c.args.first.now.spans.ok.0)) c.index.ensures)
     (slice_get_read c.args.second.now.spans.items _ c.loop-index.index c.index-in-loop-index.result.now refl
     (omega (arith, c.loop-index-test.true, c.len.ensures, c.args.first.now.spans.ok.0, as_many c.args.model c.args.first.now c.args.second.now r.xs r.ys r.laid_first r.laid_second r.same_types r.same_bytes)) c.index-in-loop-index.ensures)
