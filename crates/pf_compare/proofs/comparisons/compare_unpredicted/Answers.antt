@@ -11,7 +11,8 @@ pub returns-then-print_alike : goal.returns-then-print_alike
 returns-then-print_alike c =
     let h = c.requires.lone in
     subst (λ (r : Comparison). IsComparisonOf c.args.model c.args.f.now c.args.g.now r) (sym c.same_comparison.ensures)
-    (lone_verdict c.args.model c.args.f.now c.args.g.now c.args.difference.now h (told_unlike _ _ c.print_alike.result c.if-print_alike.true c.print_alike.ensures))
+    (lone_verdict c.args.model c.args.f.now c.args.g.now c.args.difference.now h
+        (told_unlike _ _ c.print_alike.result c.if-print_alike.true c.print_alike.ensures))
 
 pub returns-in_err-candidate_index : goal.returns-in_err-candidate_index
 returns-in_err-candidate_index c =
