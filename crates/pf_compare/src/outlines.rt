@@ -79,7 +79,7 @@ fn count_digits(number: u64, base: u64) -> u16
     count
 }
 
-/// A number in its field: spaces, the parts of the number, and spaces again. A space in the place of
+/// A number in its field: spaces, the parts of the number, and spaces again. A space instead of
 /// a sign is counted among the spaces.
 #[derive(Clone, Copy)]
 pub(crate) struct Outline {

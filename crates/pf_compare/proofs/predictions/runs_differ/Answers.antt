@@ -10,5 +10,6 @@ pub returns-then-first-second : goal.returns-then-first-second
 returns-then-first-second c = runs_of_counts c.args.first.now c.args.second.now c.args.byte c.if-byte-eq32.false c.if-first-second.true
 
 pub returns : goal.returns
-returns c = runs_apart c.args.first.now c.args.second.now c.args.byte c.if-byte-eq32.false (omega (arith, c.if-len.false, c.len.ensures, c.len-2.ensures)) c.if-first-second.false c.lie_apart.result
+returns c = runs_apart c.args.first.now c.args.second.now c.args.byte c.if-byte-eq32.false
+    (omega (arith, c.if-len.false, c.len.ensures, c.len-2.ensures)) c.if-first-second.false c.lie_apart.result
     (subst (λ n. DoLieApart n c.args.first.now.spaces_before c.args.second.now.spaces_before c.lie_apart.result) c.from.ensures c.lie_apart.ensures)
