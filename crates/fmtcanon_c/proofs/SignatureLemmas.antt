@@ -7,10 +7,10 @@ use Rattle.std.proofs.lemmas.Bool.{false≢true}
 use Rattle.std.proofs.lemmas.List.{drop_more, take-append-drop}
 use Rattle.pf_text.specs.declared.refusals.Refusal.{Refusal}
 use Rattle.pf_text.specs.declared.refusals.Side.{Side}
-use Rattle.pf_signatures.specs.Items.{IsPosixAccepted}
-use Rattle.pf_signatures.specs.Laws.{ComparesArgumentTypes, FaultForFits}
-use Rattle.pf_signatures.proofs.Agreeing.{all_push}
-use Rattle.pf_signatures.proofs.Unique.{one_list}
+use Rattle.pf_posix.specs.Items.{IsPosixAccepted}
+use Rattle.pf_posix.specs.Laws.{ComparesArgumentTypes, FaultForFits}
+use Rattle.pf_posix.proofs.Agreeing.{all_push}
+use Rattle.pf_posix.proofs.Unique.{one_list}
 use Rattle.pf_values.specs.declared.models.Model.{Model}
 use Rattle.pf_values.specs.meaning.Text.{Text}
 use Rattle.fmtcanon_c.specs.Signatures.{Fit, StopsFitsIn}

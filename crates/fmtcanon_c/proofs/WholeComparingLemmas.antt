@@ -1,8 +1,8 @@
 -- What a comparison of two formats of the whole language that was made, or wasn't, gives the caller.
 use Rattle.std.proofs.Common.{◌⊎◌, ◌≢◌, ℤ, inl, inr, refl, subst}
-use Rattle.pf_signatures.proofs.ReadOnce.{read_once}
-use Rattle.pf_signatures.specs.Stretches.{IsWholeAccepted, ReadsWhole, Stretches}
-use Rattle.pf_signatures.specs.Unnumbered.{IsWholeRefusedAt}
+use Rattle.pf_posix.proofs.ReadOnce.{read_once}
+use Rattle.pf_posix.specs.Stretches.{IsWholeAccepted, ReadsWhole, Stretches}
+use Rattle.pf_posix.specs.Unnumbered.{IsWholeRefusedAt}
 use Rattle.pf_values.specs.declared.models.Model.{Model}
 use Rattle.pf_values.specs.meaning.Text.{Text}
 use Rattle.pf_whole.proofs.Telling.{calls_give_shape}

@@ -1,11 +1,11 @@
 -- Two formats of the whole language that are alike or aren't, and one that is refused in each data model.
 use Rattle.std.proofs.Common.{◌≡◌, ◌<◌, Bool, true, false, ℕ, zero, suc, arith, get_or, refl, subst}
 use Rattle.std.proofs.lemmas.Bool.{false≢true}
-use Rattle.pf_signatures.proofs.UnnumberedEnds.{judged}
+use Rattle.pf_posix.proofs.UnnumberedEnds.{judged}
 use Rattle.pf_text.specs.declared.refusals.Refusal.{Refusal}
 use Rattle.pf_text.specs.declared.refusals.Side.{Side}
 use Rattle.pf_text.specs.declared.refusals.Side.TheVariants.{First, Second}
-use Rattle.pf_signatures.specs.Stretches.{IsWholeAccepted}
+use Rattle.pf_posix.specs.Stretches.{IsWholeAccepted}
 use Rattle.pf_values.specs.declared.models.Model.{Model}
 use Rattle.pf_values.specs.declared.models.Model.TheVariants.{Lp64}
 use Rattle.pf_values.specs.declared.models.TheConstants.Model.{ALL}

@@ -4,13 +4,13 @@ use Rattle.std.specs.List.{AllByRecursion}
 use Rattle.pf_text.specs.declared.refusals.Refusal.{Refusal}
 use Rattle.pf_text.specs.declared.refusals.Side.{Side}
 use Rattle.pf_text.specs.declared.refusals.Side.TheVariants.{First}
-use Rattle.pf_signatures.specs.declared.directive_spans.DirectiveSpan.{DirectiveSpan}
-use Rattle.pf_signatures.specs.declared.types.ArgumentType.{ArgumentType}
-use Rattle.pf_signatures.specs.Directives.{HasDirectives}
-use Rattle.pf_signatures.specs.Items.{HasArguments, IsPosixAccepted}
-use Rattle.pf_signatures.specs.TypeNumbers.{number_of_type}
-use Rattle.pf_signatures.specs.Laws.{FaultForFits}
-use Rattle.pf_signatures.specs.Refusals.{IsPosixRefusedAt}
+use Rattle.pf_posix.specs.declared.directive_spans.DirectiveSpan.{DirectiveSpan}
+use Rattle.pf_posix.specs.declared.types.ArgumentType.{ArgumentType}
+use Rattle.pf_posix.specs.Directives.{HasDirectives}
+use Rattle.pf_posix.specs.Items.{HasArguments, IsPosixAccepted}
+use Rattle.pf_posix.specs.TypeNumbers.{number_of_type}
+use Rattle.pf_posix.specs.Laws.{FaultForFits}
+use Rattle.pf_posix.specs.Refusals.{IsPosixRefusedAt}
 use Rattle.pf_values.specs.declared.models.Model.{Model}
 use Rattle.pf_values.specs.declared.models.TheConstants.Model.{ALL}
 use Rattle.pf_values.specs.meaning.Text.{Text}

@@ -4,8 +4,8 @@ use Rattle.std.specs.Prelude.{◌≡◌, ◌⊎◌, ℤ, pos, [], ◌∷◌, ◌
 use Rattle.pf_text.specs.declared.refusals.Side.{Side}
 use Rattle.pf_text.specs.declared.refusals.Side.TheVariants.{First}
 use Rattle.pf_text.specs.declared.refusals.TextFault.TheVariants.{Memory}
-use Rattle.pf_signatures.specs.Stretches.{IsWholeAccepted}
-use Rattle.pf_signatures.specs.Unnumbered.{IsWholeRefusedAt}
+use Rattle.pf_posix.specs.Stretches.{IsWholeAccepted}
+use Rattle.pf_posix.specs.Unnumbered.{IsWholeRefusedAt}
 use Rattle.pf_values.specs.declared.models.Model.{Model}
 use Rattle.pf_values.specs.declared.models.Model.TheVariants.{Lp64}
 use Rattle.pf_values.specs.meaning.Text.{Text}

@@ -4,14 +4,14 @@ ghost use Rattle.std.specs.List.{AllByRecursion};
 ghost use Rattle.pf_values.specs.TypeNumbers.{type_number};
 ghost use Rattle.fmtcanon_c.specs.Calls.{AreModels, PutsTypes};
 ghost use Rattle.fmtcanon_c.specs.Models.{InModel};
-ghost use Rattle.pf_signatures.specs.Items.{IsPosixAccepted};
-ghost use Rattle.pf_signatures.specs.TypeNumbers.{number_of_type};
-ghost use Rattle.pf_signatures.specs.Laws.{FaultForFits};
+ghost use Rattle.pf_posix.specs.Items.{IsPosixAccepted};
+ghost use Rattle.pf_posix.specs.TypeNumbers.{number_of_type};
+ghost use Rattle.pf_posix.specs.Laws.{FaultForFits};
 ghost use Rattle.pf_values.specs.declared.models.TheConstants.Model.{ALL};
 ghost use Rattle.fmtcanon_c.specs.Signatures.{AnswersFit, AnswersFitModels, Fit, PutsArguments, StopsFitsIn};
 
 use crate::interface::{CError, NO_MEMORY, NO_MODEL, model_of, put_refusal};
-use pf_signatures::{ArgumentType, arguments_vec, fits};
+use pf_posix::{ArgumentType, arguments_vec, fits};
 use pf_text::{Refusal, Side, TextFault, signature};
 use pf_values::{ArgType, Model};
 use std::alloc::Global;

@@ -4,7 +4,7 @@ ghost use Rattle.fmtcanon_c.specs.Models.{InModel};
 ghost use Rattle.fmtcanon_c.specs.Signatures.{PutsDirectives, index_or_none, record_of};
 
 use crate::interface::{CError, NO_MEMORY, NO_MODEL, model_of, put_refusal};
-use pf_signatures::{DirectiveSpan, directives_vec};
+use pf_posix::{DirectiveSpan, directives_vec};
 use pf_text::{Side, TextFault};
 use pf_values::Model;
 use std::alloc::Global;

@@ -31,20 +31,20 @@ use Rattle.pf_text.proofs.ReadBack.{decimal_is, least_digits_are, spelled_read}
 use Rattle.pf_probes.proofs.Telling.{candidate_typed}
 use Rattle.pf_compare.specs.Answers.{IsEarlier}
 use Rattle.pf_compare.proofs.ReductionLemmas.{bytes_canonical}
-use Rattle.pf_signatures.specs.declared.conversions.Conversion.{Conversion}
-use Rattle.pf_signatures.specs.declared.conversions.Conversion.TheVariants.{Profile, Float, UpperC, UpperS, Pointer, Count}
-use Rattle.pf_signatures.specs.declared.conversions.Floating.{Floating}
-use Rattle.pf_signatures.specs.declared.conversions.Floating.TheVariants as floats
-use Rattle.pf_signatures.specs.declared.conversions.Modifier.{Modifier}
-use Rattle.pf_signatures.specs.declared.conversions.Modifier.TheVariants.{Integer, LongDouble}
-use Rattle.pf_signatures.specs.declared.types.ArgumentType.TheVariants.{Double, WideString, PointerToLong}
-use Rattle.pf_signatures.specs.Types.{int_type}
-use Rattle.pf_signatures.specs.Defined.{IsPosixDefined}
-use Rattle.pf_signatures.specs.Specifications.{Amount, Given, Fetched, PosixSpecification, conversion_letter, modifier_letters}
-use Rattle.pf_signatures.specs.Spelling.{SpellsPosixPrecision, SpellsPosixWidth}
-use Rattle.pf_signatures.specs.Opaque.{SpellsOpaque, is_opaque}
-use Rattle.pf_signatures.specs.Stretches.{Stretches, Last, Before, ReadsWhole, whole_types}
-use Rattle.pf_signatures.proofs.SpecificationsOnce.{made}
+use Rattle.pf_posix.specs.declared.conversions.Conversion.{Conversion}
+use Rattle.pf_posix.specs.declared.conversions.Conversion.TheVariants.{Profile, Float, UpperC, UpperS, Pointer, Count}
+use Rattle.pf_posix.specs.declared.conversions.Floating.{Floating}
+use Rattle.pf_posix.specs.declared.conversions.Floating.TheVariants as floats
+use Rattle.pf_posix.specs.declared.conversions.Modifier.{Modifier}
+use Rattle.pf_posix.specs.declared.conversions.Modifier.TheVariants.{Integer, LongDouble}
+use Rattle.pf_posix.specs.declared.types.ArgumentType.TheVariants.{Double, WideString, PointerToLong}
+use Rattle.pf_posix.specs.Types.{int_type}
+use Rattle.pf_posix.specs.Defined.{IsPosixDefined}
+use Rattle.pf_posix.specs.Specifications.{Amount, Given, Fetched, PosixSpecification, conversion_letter, modifier_letters}
+use Rattle.pf_posix.specs.Spelling.{SpellsPosixPrecision, SpellsPosixWidth}
+use Rattle.pf_posix.specs.Opaque.{SpellsOpaque, is_opaque}
+use Rattle.pf_posix.specs.Stretches.{Stretches, Last, Before, ReadsWhole, whole_types}
+use Rattle.pf_posix.proofs.SpecificationsOnce.{made}
 use Rattle.pf_whole.specs.Answers.{Different, DirectivesDiffer, IsWholeProbe, IsWholeVerdict, StretchesAgree, TellStretches}
 use Rattle.pf_whole.specs.Answers.{TracesTogether, TypesDiffer}
 use Rattle.pf_whole.specs.Laws.{PlacedCall, placed_calls}

@@ -14,11 +14,11 @@ use Rattle.pf_values.proofs.Alike.{PrintsAll-unique}
 use Rattle.pf_probes.proofs.Probes.{probe_typed}
 use Rattle.pf_compare.proofs.CandidateLemmas.{contains_at}
 use Rattle.pf_compare.specs.Answers.{IsCandidateAt, IsEarlier, PrintTheSame, probe_at}
-use Rattle.pf_signatures.specs.Specifications.{PosixSpecification}
-use Rattle.pf_signatures.specs.Types.{widened}
+use Rattle.pf_posix.specs.Specifications.{PosixSpecification}
+use Rattle.pf_posix.specs.Types.{widened}
 use Rattle.pf_whole.specs.Answers.{AgreeEverywhere, HaveOneShape, IsWholeProbe, ShowsNeutral, ShowsProbe, StretchesAgree, TellSomewhere, TellStretches, neutral_shown}
 use Rattle.pf_whole.specs.Findings.{IsTellingProbe, NeutralAgrees, NeutralTells, ShowsTelling, shown_any, shown_neutrals}
-use Rattle.pf_signatures.specs.Stretches.{Stretches, Last, Before, ReadsWhole, types_of_opaque, whole_types}
+use Rattle.pf_posix.specs.Stretches.{Stretches, Last, Before, ReadsWhole, types_of_opaque, whole_types}
 use Rattle.pf_whole.proofs.Slots.{get_first, get_second, neutral_at, neutrals_shown, none_shown, probe_count, probe_shown, set_first, set_second, typed_at, wide_at}
 use Rattle.pf_whole.proofs.Telling.{telling_is_apart}
 use Rattle.pf_whole.proofs.Together.{agreeing_is_together}

@@ -3,7 +3,7 @@ use Rattle.std.proofs.Common.{◌≡◌, List, [], ◌∷◌, map, refl}
 use Rattle.pf_values.specs.declared.models.Model.{Model}
 use Rattle.pf_values.specs.declared.types.ArgType.{ArgType}
 use Rattle.pf_values.specs.meaning.Arguments.{Argument, HasTypes}
-use Rattle.pf_signatures.specs.Types.{widened}
+use Rattle.pf_posix.specs.Types.{widened}
 use Rattle.pf_whole.specs.meaning.WholeArguments.{Known, HasWholeTypes}
 
 pub widened_once : (a b : List ArgType) → map widened a ≡ map widened b → a ≡ b

@@ -12,9 +12,9 @@ use Rattle.pf_compare.specs.declared.comparisons.CompareFault.TheVariants as fau
 use Rattle.pf_compare.specs.declared.comparisons.Verdict.TheVariants as compared
 use Rattle.pf_compare.specs.declared.owned_args.OwnedArg.{OwnedArg}
 use Rattle.pf_compare.specs.Owned.{argument_of_owned, type_of_owned}
-use Rattle.pf_signatures.specs.Stretches.{Stretches, Last, ReadsWhole, whole_types}
-use Rattle.pf_signatures.specs.Types.{widened}
-use Rattle.pf_signatures.proofs.ReadOnce.{read_once}
+use Rattle.pf_posix.specs.Stretches.{Stretches, Last, ReadsWhole, whole_types}
+use Rattle.pf_posix.specs.Types.{widened}
+use Rattle.pf_posix.proofs.ReadOnce.{read_once}
 use Rattle.pf_whole.specs.Answers.{HaveOneShape, IsWholeComparisonOf, IsWholeVerdict, WholeVerdict, Same, TypesDiffer, Different, ShowsNeutral}
 use Rattle.pf_whole.specs.Comparisons.{FaultForWholeCompare, HasShownType, ShowsDifference, shown_as}
 use Rattle.pf_whole.specs.Findings.{IsTellingProbe}

@@ -5,8 +5,8 @@ use Rattle.pf_values.specs.declared.types.ArgType.{ArgType}
 use Rattle.pf_values.specs.Candidates.{neutral, neutrals}
 use Rattle.pf_values.specs.meaning.Arguments.{Argument}
 use Rattle.pf_compare.specs.Answers.{probe_at}
-use Rattle.pf_signatures.specs.declared.types.ArgumentType.{ArgumentType}
-use Rattle.pf_signatures.specs.Types.{widened}
+use Rattle.pf_posix.specs.declared.types.ArgumentType.{ArgumentType}
+use Rattle.pf_posix.specs.Types.{widened}
 use Rattle.pf_whole.specs.meaning.WholeArguments.{narrowed}
 use Rattle.pf_whole.proofs.TraceLemmas.{length_map}
 

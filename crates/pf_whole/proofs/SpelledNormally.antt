@@ -9,13 +9,13 @@ use Rattle.pf_values.specs.meaning.Flags.{all_flags, flag_byte, has}
 use Rattle.pf_values.specs.meaning.Text.{Text}
 use Rattle.pf_text.proofs.Complete.{small}
 use Rattle.pf_text.proofs.ReadBack.{decimal_is, least_digits_are, precision_read, set_kept}
-use Rattle.pf_signatures.specs.declared.conversions.Conversion.{Conversion}
-use Rattle.pf_signatures.specs.Defined.{IsPosixDefined, has_any_flag, is_count, takes_precision, takes_zero}
-use Rattle.pf_signatures.specs.Specifications.{Amount, Given, Fetched, PosixSpecification}
-use Rattle.pf_signatures.specs.Spelling.{SpellsPosition, SpellsPosix, SpellsPosixPrecision, SpellsPosixWidth, SpellsUpToPrecision}
-use Rattle.pf_signatures.specs.Opaque.{SpellsOpaque}
-use Rattle.pf_signatures.proofs.DefinedLemmas.{is_defined, no_reason}
-use Rattle.pf_signatures.proofs.SpecificationsOnce.{HasParts, no_number, parts_of}
+use Rattle.pf_posix.specs.declared.conversions.Conversion.{Conversion}
+use Rattle.pf_posix.specs.Defined.{IsPosixDefined, has_any_flag, is_count, takes_precision, takes_zero}
+use Rattle.pf_posix.specs.Specifications.{Amount, Given, Fetched, PosixSpecification}
+use Rattle.pf_posix.specs.Spelling.{SpellsPosition, SpellsPosix, SpellsPosixPrecision, SpellsPosixWidth, SpellsUpToPrecision}
+use Rattle.pf_posix.specs.Opaque.{SpellsOpaque}
+use Rattle.pf_posix.proofs.DefinedLemmas.{is_defined, no_reason}
+use Rattle.pf_posix.proofs.SpecificationsOnce.{HasParts, no_number, parts_of}
 use Rattle.pf_whole.specs.meaning.NormalSpellings.{is_amount, is_general, is_given, is_integer, keeps_sign, kept_conversion, kept_flags, kept_modifier}
 use Rattle.pf_whole.specs.meaning.NormalSpellings.{normal_precision, meant_precision, normal_parts, normal_spelling, posix_precision_spelled}
 use Rattle.pf_whole.specs.meaning.NormalSpellings.{posix_width_spelled}

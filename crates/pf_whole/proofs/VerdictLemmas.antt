@@ -7,11 +7,11 @@ use Rattle.pf_values.specs.meaning.Text.{Text}
 use Rattle.pf_text.specs.declared.refusals.Refusal.{Refusal}
 use Rattle.pf_text.specs.declared.refusals.Side.{Side}
 use Rattle.pf_text.specs.declared.refusals.Side.TheVariants as sides
-use Rattle.pf_signatures.specs.Laws.{ComparesArgumentTypes, FaultForFits, IsFirstDifference}
-use Rattle.pf_signatures.specs.Stretches.{Stretches, ReadsWhole, IsWholeAccepted, whole_types}
-use Rattle.pf_signatures.proofs.KeptTypes.{types_are_kept}
-use Rattle.pf_signatures.proofs.ReadOnce.{read_once}
-use Rattle.pf_signatures.proofs.Unique.{never_both, one_list}
+use Rattle.pf_posix.specs.Laws.{ComparesArgumentTypes, FaultForFits, IsFirstDifference}
+use Rattle.pf_posix.specs.Stretches.{Stretches, ReadsWhole, IsWholeAccepted, whole_types}
+use Rattle.pf_posix.proofs.KeptTypes.{types_are_kept}
+use Rattle.pf_posix.proofs.ReadOnce.{read_once}
+use Rattle.pf_posix.proofs.Unique.{never_both, one_list}
 use Rattle.pf_whole.specs.Answers.{IsWholeComparisonOf, IsWholeVerdict, WholeVerdict, Same, TypesDiffer, DirectivesDiffer, Different, HaveOneShape}
 use Rattle.pf_whole.specs.Calls.{CallsDiffer}
 use Rattle.pf_whole.specs.Comparisons.{ShowsDifference}

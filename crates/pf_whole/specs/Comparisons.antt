@@ -10,8 +10,8 @@ use Rattle.pf_values.specs.meaning.Text.{Text}
 use Rattle.pf_compare.specs.declared.owned_args.OwnedArg.{OwnedArg}
 use Rattle.pf_compare.specs.Answers.{PrintTheSame, PrintUnlike}
 use Rattle.pf_compare.specs.Owned.{argument_of_owned, type_of_owned}
-use Rattle.pf_signatures.specs.declared.types.ArgumentType.{ArgumentType}
-use Rattle.pf_signatures.specs.Types.{widened}
+use Rattle.pf_posix.specs.declared.types.ArgumentType.{ArgumentType}
+use Rattle.pf_posix.specs.Types.{widened}
 use Rattle.pf_whole.specs.declared.verdicts.Difference.{Difference}
 use Rattle.pf_whole.specs.declared.verdicts.Difference.TheVariants as differences
 use Rattle.pf_whole.specs.declared.verdicts.StretchArguments.{StretchArguments}
@@ -24,7 +24,7 @@ use Rattle.pf_whole.specs.Answers as answers
 use Rattle.pf_whole.specs.Answers.{HaveOneShape, IsWholeComparisonOf, ShowsNeutral, ShowsProbe}
 use Rattle.pf_whole.specs.Faults.{FaultForWholeSame}
 use Rattle.pf_whole.specs.Findings.{IsTellingProbe}
-use Rattle.pf_signatures.specs.Stretches.{Stretches, ReadsWhole, IsWholeAccepted, whole_types}
+use Rattle.pf_posix.specs.Stretches.{Stretches, ReadsWhole, IsWholeAccepted, whole_types}
 use Rattle.pf_whole.specs.meaning.Traces.{AreWholeAlike}
 
 -- the arguments that are shown

@@ -7,8 +7,8 @@ use Rattle.pf_text.specs.declared.refusals.Side.{Side}
 use Rattle.pf_text.specs.declared.refusals.TextFault.{TextFault}
 use Rattle.pf_text.specs.declared.refusals.TextFault.TheVariants.{Refused, Memory}
 use Rattle.pf_text.specs.Refusals.{RefusesOne}
-use Rattle.pf_signatures.specs.Stretches.{IsWholeAccepted}
-use Rattle.pf_signatures.specs.Unnumbered.{IsWholeRefusedAt}
+use Rattle.pf_posix.specs.Stretches.{IsWholeAccepted}
+use Rattle.pf_posix.specs.Unnumbered.{IsWholeRefusedAt}
 use Rattle.pf_whole.specs.Answers.{IsWholeCanonicalFor}
 use Rattle.pf_whole.specs.meaning.Traces.{AreWholeAlike}
 

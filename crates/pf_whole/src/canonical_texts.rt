@@ -3,17 +3,17 @@ ghost use Rattle.std.specs.Prelude.{◌≡◌, ◌≢◌, [], ◌++◌, IfErr, I
 ghost use Rattle.pf_values.specs.meaning.Items.{HasItems, Item};
 ghost use Rattle.pf_values.specs.meaning.Text.{Text};
 ghost use Rattle.pf_canon.specs.Answers.{IsCanonicalFor};
-ghost use Rattle.pf_signatures.specs.Stretches.{IsWholeAccepted};
+ghost use Rattle.pf_posix.specs.Stretches.{IsWholeAccepted};
 ghost use Rattle.pf_whole.specs.Answers.{IsWholeCanonicalFor};
 ghost use Rattle.pf_whole.specs.Faults.{FaultForWholeCanonical};
-ghost use Rattle.pf_signatures.specs.OpaqueParts.{parts_of_opaque};
+ghost use Rattle.pf_posix.specs.OpaqueParts.{parts_of_opaque};
 ghost use Rattle.pf_whole.specs.meaning.NormalSpellings.{normal_spelling};
 
 use crate::directives::normal_directive;
 use crate::lengths::len_of_stretches;
 use crate::spelling::spell;
 use pf_canon::append_canonical;
-use pf_signatures::{OpaqueDirective, check_unnumbered, next_stretch};
+use pf_posix::{OpaqueDirective, check_unnumbered, next_stretch};
 use pf_text::TextFault;
 use pf_values::Model;
 use std::alloc::{AllocError, Global};

@@ -2,15 +2,15 @@
 ghost use Rattle.std.specs.Prelude.{◌≡◌, ◌↔◌, IsTrue, List, MatchResult};
 ghost use Rattle.pf_values.specs.meaning.Items.{HasItems, Item};
 ghost use Rattle.pf_values.specs.meaning.Printing.{AreEquivalent};
-ghost use Rattle.pf_signatures.specs.Stretches.{IsWholeAccepted};
+ghost use Rattle.pf_posix.specs.Stretches.{IsWholeAccepted};
 ghost use Rattle.pf_whole.specs.Faults.{AreWholeSame, FaultForWholeSame};
-ghost use Rattle.pf_signatures.specs.OpaqueParts.{parts_of_opaque};
+ghost use Rattle.pf_posix.specs.OpaqueParts.{parts_of_opaque};
 ghost use Rattle.pf_whole.specs.meaning.NormalSpellings.{normal_spelling};
 ghost use Rattle.pf_whole.specs.meaning.Traces.{AreWholeAlike};
 
 use crate::directives::normal_directive;
 use crate::spelling::spell;
-use pf_signatures::{OpaqueDirective, check_unnumbered, next_stretch};
+use pf_posix::{OpaqueDirective, check_unnumbered, next_stretch};
 use pf_text::{Refusal, Side};
 use pf_values::Model;
 

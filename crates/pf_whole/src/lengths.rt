@@ -4,16 +4,16 @@ ghost use Rattle.pf_values.specs.meaning.Canonical.{IsCanonicalText};
 ghost use Rattle.pf_values.specs.meaning.Items.{HasItems, Item};
 ghost use Rattle.pf_values.specs.meaning.Text.{Text};
 ghost use Rattle.pf_canon.specs.Answers.{IsCanonicalFor};
-ghost use Rattle.pf_signatures.specs.Stretches.{IsWholeAccepted};
-ghost use Rattle.pf_signatures.specs.Unnumbered.{IsWholeRefusedAt};
-ghost use Rattle.pf_signatures.specs.OpaqueParts.{parts_of_opaque};
+ghost use Rattle.pf_posix.specs.Stretches.{IsWholeAccepted};
+ghost use Rattle.pf_posix.specs.Unnumbered.{IsWholeRefusedAt};
+ghost use Rattle.pf_posix.specs.OpaqueParts.{parts_of_opaque};
 ghost use Rattle.pf_whole.specs.Answers.{IsWholeCanonicalFor};
 ghost use Rattle.pf_whole.specs.meaning.NormalSpellings.{normal_spelling};
 ghost use Rattle.pf_whole.specs.meaning.WholeCanonical.{IsWholeCanonicalOf};
 
 use crate::directives::normal_directive;
 use crate::spelling::spell;
-use pf_signatures::{OpaqueDirective, check_unnumbered, next_stretch};
+use pf_posix::{OpaqueDirective, check_unnumbered, next_stretch};
 use pf_text::Refusal;
 use pf_values::Model;
 

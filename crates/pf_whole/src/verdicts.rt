@@ -5,7 +5,7 @@ ghost use Rattle.pf_values.specs.meaning.Items.{HasItems, IsAccepted, Item, Read
 ghost use Rattle.pf_compare.specs.Answers.{IsComparisonOf};
 ghost use Rattle.pf_compare.specs.Witnesses.{AreNeutral};
 ghost use Rattle.pf_compare.specs.declared.owned_args.OwnedArg.{OwnedArg};
-ghost use Rattle.pf_signatures.specs.Stretches.{IsWholeAccepted, ReadsWhole, Stretches, whole_types};
+ghost use Rattle.pf_posix.specs.Stretches.{IsWholeAccepted, ReadsWhole, Stretches, whole_types};
 ghost use Rattle.pf_whole.specs.Answers.{HaveOneShape, neutral_shown};
 ghost use Rattle.pf_whole.specs.Comparisons.{AreShownNext, FaultForWholeCompare, HasShownType, IsComparison, IsDifference, ShowsDifference, shown_as};
 ghost use Rattle.pf_whole.specs.meaning.Traces.{AreWholeAlike};
@@ -13,7 +13,7 @@ ghost use Rattle.pf_whole.specs.meaning.Traces.{AreWholeAlike};
 use crate::calls::{argument_count, first_call_difference};
 use crate::comparison::same_by_stretches;
 use pf_compare::{CompareFault, Comparison, OwnedArg, Verdict, neutrals_of};
-use pf_signatures::{fits, next_stretch};
+use pf_posix::{fits, next_stretch};
 use pf_values::Model;
 use std::alloc::{AllocError, Global};
 

@@ -5,8 +5,8 @@ use Rattle.pf_values.specs.declared.models.Model.{Model}
 use Rattle.pf_values.specs.declared.types.ArgType.{ArgType}
 use Rattle.pf_values.specs.meaning.Arguments.{Argument, HasType}
 use Rattle.pf_values.specs.meaning.Text.{Text}
-use Rattle.pf_signatures.specs.declared.types.ArgumentType.{ArgumentType}
-use Rattle.pf_signatures.specs.declared.types.ArgumentType.TheVariants.{Profile}
+use Rattle.pf_posix.specs.declared.types.ArgumentType.{ArgumentType}
+use Rattle.pf_posix.specs.declared.types.ArgumentType.TheVariants.{Profile}
 
 -- An argument of a type of the profile is known. Any other is represented by bytes (C11 6.2.6.1 p4),
 -- and no definition depends on which bytes represent which value.

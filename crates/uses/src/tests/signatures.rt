@@ -1,10 +1,10 @@
-//! What no run of the program shows of `pf_signatures`: each public call once.
-use pf_signatures::laws::{
+//! What no run of the program shows of `pf_posix`: each public call once.
+use pf_posix::laws::{
     accepted_or_refused, accepts_unnumbered, directives_once, judged_unnumbered, never_both,
     profile_types, read_once, refused_for_good, refused_once, refused_unnumbered_once, same_fits,
     kinds_of_refusals, table_has_each_once, types_are_kept, types_once,
 };
-use pf_signatures::{ArgumentType, DirectiveSpan, arguments, directives, fits};
+use pf_posix::{ArgumentType, DirectiveSpan, arguments, directives, fits};
 use pf_values::{ArgType, Model, RefusalKind};
 
 mod callers;

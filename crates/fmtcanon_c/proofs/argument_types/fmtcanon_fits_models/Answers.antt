@@ -1,8 +1,8 @@
 use Rattle.std.proofs.Common.{◌≡◌, ◌∙◌, arith, inl, inr, of_z, pos, refl, to_z}
 use Rattle.std.specs.Int.{w64}
 use Rattle.std.proofs.lemmas.Int.{ints}
-use Rattle.pf_signatures.specs.Items.{IsPosixAccepted}
-use Rattle.pf_signatures.specs.Refusals.{IsPosixRefusedAt}
+use Rattle.pf_posix.specs.Items.{IsPosixAccepted}
+use Rattle.pf_posix.specs.Refusals.{IsPosixRefusedAt}
 use Rattle.fmtcanon_c.proofs.RefusalLemmas.{one_refused}
 use Rattle.fmtcanon_c.proofs.argument_types.fmtcanon_fits_models.Goals as goal
 

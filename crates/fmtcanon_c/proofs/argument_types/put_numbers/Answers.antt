@@ -1,6 +1,6 @@
 use Rattle.std.proofs.Common.{◌<◌, length, arith}
-use Rattle.pf_signatures.specs.Types.{int_type}
-use Rattle.pf_signatures.specs.TypeNumbers.{number_of_type}
+use Rattle.pf_posix.specs.Types.{int_type}
+use Rattle.pf_posix.specs.TypeNumbers.{number_of_type}
 use Rattle.fmtcanon_c.proofs.argument_types.put_numbers.Goals as goal
 use Rattle.fmtcanon_c.proofs.CodeLemmas.{put_one_more}
 

@@ -1,5 +1,5 @@
 use Rattle.std.proofs.Common.{length, ◌-◌, ◌≡◌, ◌≤◌, ◌++◌, drop, map, take}
-use Rattle.pf_signatures.specs.TypeNumbers.{number_of_type}
+use Rattle.pf_posix.specs.TypeNumbers.{number_of_type}
 use Rattle.fmtcanon_c.proofs.argument_types.put_numbers.Given as goal
 
 -- the codes so far, and the rest of the buffer as it was

@@ -1,6 +1,6 @@
 use Rattle.std.proofs.Common.{subst}
 use Rattle.std.proofs.lemmas.Result.{err_from_is_err_and}
-use Rattle.pf_signatures.specs.Laws.{ComparesArgumentTypes}
+use Rattle.pf_posix.specs.Laws.{ComparesArgumentTypes}
 use Rattle.pf_whole.proofs.VerdictLemmas.{calls_verdict, fit_anyway, shape_of, shown_verdict, types_verdict}
 use Rattle.pf_whole.proofs.verdicts.compare_apart.Goals as goal
 

@@ -1,9 +1,9 @@
-//! The callers in CALLING.md of `pf_signatures`.
+//! The callers in CALLING.md of `pf_posix`.
 ghost use Rattle.std.specs.Prelude.{◌≡◌, IsTrue, List};
-ghost use Rattle.pf_signatures.specs.declared.types.ArgumentType.{ArgumentType as ArgumentTypeOf};
-ghost use Rattle.pf_signatures.specs.Items.{HasArguments};
+ghost use Rattle.pf_posix.specs.declared.types.ArgumentType.{ArgumentType as ArgumentTypeOf};
+ghost use Rattle.pf_posix.specs.Items.{HasArguments};
 
-use pf_signatures::{ArgumentType, arguments, fits};
+use pf_posix::{ArgumentType, arguments, fits};
 use pf_values::{ArgType, Model};
 
 /// Whether a translated format is known to take just the arguments of the one in the program.

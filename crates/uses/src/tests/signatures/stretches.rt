@@ -1,9 +1,9 @@
 //! Formats without numbered arguments: whether one is accepted, and its stretches.
 ghost use Rattle.std.specs.Prelude.{IsTrue, List};
 ghost use Rattle.pf_values.specs.meaning.Items.{Item, Reads};
-ghost use Rattle.pf_signatures.specs.Stretches.{IsWholeAccepted, Last};
+ghost use Rattle.pf_posix.specs.Stretches.{IsWholeAccepted, Last};
 
-use pf_signatures::{
+use pf_posix::{
     Conversion, Floating, Modifier, OpaqueAmount, OpaqueDirective, Stretch, check_unnumbered,
     next_stretch,
 };

@@ -1,5 +1,0 @@
-use Rattle.pf_signatures.proofs.EachOnce.{each_type}
-use Rattle.pf_signatures.proofs.laws.table_has_each_once.Goals as goal
-
-pub returns : goal.returns
-returns c = each_type
