@@ -12,7 +12,7 @@ use Rattle.pf_posix.specs.declared.types.ArgumentType.TheVariants.{Profile, Doub
 use Rattle.pf_posix.specs.declared.types.TheConstants.ArgumentType.{ALL as all_types}
 use Rattle.pf_posix.specs.TypeNumbers.{number_of_type}
 use Rattle.pf_posix.specs.Readings.{conflicts, differs, differs_at}
-use Rattle.pf_posix.specs.Refusals.{AreAgreed, Follows, IsOneType, style_by, style_of}
+use Rattle.pf_posix.specs.Refusals.{AreAgreed, Follows, IsOneType, numbering_by, numbering_of}
 
 -- types of equal numbers are equal
 number_tells : (type : ArgumentType) → slice_get all_types (number_of_type type - 1) ≡ Some type
@@ -87,12 +87,12 @@ pub conflicts_not : (seen : List Fetch) (f : Fetch) → AllByRecursion (IsOneTyp
 conflicts_not [] f h = refl
 conflicts_not (g ∷ seen) f h = let one = differs_not g f (turned f g h.0) in rw one (conflicts_not seen f h.1)
 
--- the style of what was fetched stays
-pub style_push : (seen : List Fetch) (f : Fetch) → Follows (style_of seen) (Some (style_by f.number)) → style_of (seen ++ f ∷ []) ≡ style_by f.number
-style_push [] f h = refl
-style_push (g ∷ seen) f (inr h) = h
-style_push (g ∷ seen) f (inl h) = go g.number h where
-  go : (o : Option ℕ) → style_by o ≡ Undecided → style_by o ≡ style_by f.number
+-- the numbering of what was fetched stays
+pub numbering_push : (seen : List Fetch) (f : Fetch) → Follows (numbering_of seen) (Some (numbering_by f.number)) → numbering_of (seen ++ f ∷ []) ≡ numbering_by f.number
+numbering_push [] f h = refl
+numbering_push (g ∷ seen) f (inr h) = h
+numbering_push (g ∷ seen) f (inl h) = go g.number h where
+  go : (o : Option ℕ) → numbering_by o ≡ Undecided → numbering_by o ≡ numbering_by f.number
   go None e = cc
   go (Some n) e = cc
 
@@ -105,36 +105,36 @@ one_type_push seen f same clear =
     (all_map (λ g. AllByRecursion (IsOneType g) seen × IsOneType f g) _ seen (λ g p. all_push (IsOneType g) seen f p.0 (turned f g p.1)) (all_zip _ _ seen same clear))
     (all_push (IsOneType f) seen f clear (own_type f))
 
-pub agreed_push : (seen : List Fetch) (f : Fetch) → AreAgreed seen → Follows (style_of seen) (Some (style_by f.number)) → conflicts seen f ≡ false → AreAgreed (seen ++ f ∷ [])
+pub agreed_push : (seen : List Fetch) (f : Fetch) → AreAgreed seen → Follows (numbering_of seen) (Some (numbering_by f.number)) → conflicts seen f ≡ false → AreAgreed (seen ++ f ∷ [])
 agreed_push seen f h follows e =
     let clear = conflicts_no seen f e in
     record {
-      one_style = all_push (λ g. style_by g.number ≡ style_of (seen ++ f ∷ [])) seen f (styles seen h.one_style follows) (sym (style_push seen f follows));
+      one_numbering = all_push (λ g. numbering_by g.number ≡ numbering_of (seen ++ f ∷ [])) seen f (numberings seen h.one_numbering follows) (sym (numbering_push seen f follows));
       one_type = one_type_push seen f h.one_type clear;
     } where
-      styles : (seen : List Fetch) → AllByRecursion (λ g. style_by g.number ≡ style_of seen) seen → Follows (style_of seen) (Some (style_by f.number))
-          → AllByRecursion (λ g. style_by g.number ≡ style_of (seen ++ f ∷ [])) seen
-      styles [] h follows = tt
-      styles (g ∷ seen) h follows = h
+      numberings : (seen : List Fetch) → AllByRecursion (λ g. numbering_by g.number ≡ numbering_of seen) seen → Follows (numbering_of seen) (Some (numbering_by f.number))
+          → AllByRecursion (λ g. numbering_by g.number ≡ numbering_of (seen ++ f ∷ [])) seen
+      numberings [] h follows = tt
+      numberings (g ∷ seen) h follows = h
 
 -- what agrees with another behind it does so alone
-one_front : (seen more : List Fetch) → AllByRecursion (λ g. style_by g.number ≡ style_of (seen ++ more)) (seen ++ more) → AllByRecursion (λ g. style_by g.number ≡ style_of seen) seen
+one_front : (seen more : List Fetch) → AllByRecursion (λ g. numbering_by g.number ≡ numbering_of (seen ++ more)) (seen ++ more) → AllByRecursion (λ g. numbering_by g.number ≡ numbering_of seen) seen
 one_front [] more h = tt
 one_front (g ∷ seen) more h = all_front _ (g ∷ seen) more h
 
 pub agreed_front : (seen more : List Fetch) → AreAgreed (seen ++ more) → AreAgreed seen
 agreed_front seen more h =
     record {
-      one_style = one_front seen more h.one_style;
+      one_numbering = one_front seen more h.one_numbering;
       one_type = all_map _ _ seen (λ g p. all_front (IsOneType g) seen more p) (all_front _ seen more h.one_type);
     }
 
-pub agreed_follows : (seen more : List Fetch) (f : Fetch) → AreAgreed (seen ++ (f ∷ more)) → Follows (style_of seen) (Some (style_by f.number))
+pub agreed_follows : (seen more : List Fetch) (f : Fetch) → AreAgreed (seen ++ (f ∷ more)) → Follows (numbering_of seen) (Some (numbering_by f.number))
 agreed_follows [] more f h = inl refl
-agreed_follows (g ∷ seen) more f h = inr (sym (all_back (λ x. style_by x.number ≡ style_by g.number) seen (f ∷ more) h.one_style.1).0)
+agreed_follows (g ∷ seen) more f h = inr (sym (all_back (λ x. numbering_by x.number ≡ numbering_by g.number) seen (f ∷ more) h.one_numbering.1).0)
 
 pub agreed_clear : (seen more : List Fetch) (f : Fetch) → AreAgreed (seen ++ (f ∷ more)) → conflicts seen f ≡ false
 agreed_clear seen more f h = conflicts_not seen f (all_front (IsOneType f) seen (f ∷ more) (all_back (λ g. AllByRecursion (IsOneType g) (seen ++ (f ∷ more))) seen (f ∷ more) h.one_type).0)
 
 pub agreed_none : AreAgreed []
-agreed_none = record { one_style = tt; one_type = tt }
+agreed_none = record { one_numbering = tt; one_type = tt }

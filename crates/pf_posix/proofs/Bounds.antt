@@ -18,7 +18,7 @@ use Rattle.pf_posix.specs.Types.{int_type}
 use Rattle.pf_posix.specs.Fronts.{IsStateAfter, IsBefore, at_star}
 use Rattle.pf_posix.specs.Items.{Byte, ReadsPosix, Specification, PosixItem, fetched}
 use Rattle.pf_posix.specs.Readings.{Fault, moved, trace_from, fetch_trace}
-use Rattle.pf_posix.specs.Refusals.{Follows, style_by, style_in}
+use Rattle.pf_posix.specs.Refusals.{Follows, numbering_by, numbering_in}
 use Rattle.pf_posix.specs.Specifications.{Amount, Given, Fetched, PosixSpecification}
 use Rattle.pf_posix.specs.Spelling.{SpellsUpToPrecision, SpellsPosixPrecision, SpellsPositive, SpellsPosition, SpellsPosix, SpellsPosixWidth}
 use Rattle.pf_posix.specs.Stages.{PosixState, Between, Opened, First, Flags, Digits, Star, StarDigits, Placed, Point, Modified}
@@ -90,33 +90,33 @@ at_within (Placed slot parts) part own h = subst (AllByRecursion IsWithin) (sym 
 at_within (Point parts) part own h = before_within Precision part parts own h
 at_within (Modified parts modifier) part own h = subst (AllByRecursion IsWithin) (sym h.1.own_is) (to_precision_within h.0 parts.position parts.flags h.1.width h.1.precision h.1.numbers)
 
-module _ (model : Model) (style : Numbering) (part : Text) (own : List Fetch) (byte : ℕ) (rest : Text) (at : ℕ)
-    (behind : (style : Numbering) (state : PosixState) (part : Text) (own : List Fetch) → IsStateAfter state part own → Follows style (style_in state) → IsBounded style (trace_from model style state (at + 1) rest)) where
-  arrived : (to : PosixState) → Arrives model style part own byte to → IsBounded style (trace_from model style to (at + 1) rest)
-  arrived Between h = behind style Between [] [] (refl, refl) tt
-  arrived Opened h = behind style Opened _ own h.0 h.1
-  arrived (First n) h = behind style (First n) _ own h.0 h.1
-  arrived (Flags parts) h = behind style (Flags parts) _ own h.0 h.1
-  arrived (Digits slot parts n) h = behind style (Digits slot parts n) _ own h.0 h.1
-  arrived (Star slot parts) h = behind style (Star slot parts) _ own h.0 h.1
-  arrived (StarDigits slot parts n) h = behind style (StarDigits slot parts n) _ own h.0 h.1
-  arrived (Placed slot parts) h = behind style (Placed slot parts) _ own h.0 h.1
-  arrived (Point parts) h = behind style (Point parts) _ own h.0 h.1
-  arrived (Modified parts modifier) h = behind style (Modified parts modifier) _ own h.0 h.1
+module _ (model : Model) (numbering : Numbering) (part : Text) (own : List Fetch) (byte : ℕ) (rest : Text) (at : ℕ)
+    (behind : (numbering : Numbering) (state : PosixState) (part : Text) (own : List Fetch) → IsStateAfter state part own → Follows numbering (numbering_in state) → IsBounded numbering (trace_from model numbering state (at + 1) rest)) where
+  arrived : (to : PosixState) → Arrives model numbering part own byte to → IsBounded numbering (trace_from model numbering to (at + 1) rest)
+  arrived Between h = behind numbering Between [] [] (refl, refl) tt
+  arrived Opened h = behind numbering Opened _ own h.0 h.1
+  arrived (First n) h = behind numbering (First n) _ own h.0 h.1
+  arrived (Flags parts) h = behind numbering (Flags parts) _ own h.0 h.1
+  arrived (Digits slot parts n) h = behind numbering (Digits slot parts n) _ own h.0 h.1
+  arrived (Star slot parts) h = behind numbering (Star slot parts) _ own h.0 h.1
+  arrived (StarDigits slot parts n) h = behind numbering (StarDigits slot parts n) _ own h.0 h.1
+  arrived (Placed slot parts) h = behind numbering (Placed slot parts) _ own h.0 h.1
+  arrived (Point parts) h = behind numbering (Point parts) _ own h.0 h.1
+  arrived (Modified parts modifier) h = behind numbering (Modified parts modifier) _ own h.0 h.1
 
   module _ (f : Fetch) where
-    inside : (to : PosixState) → IsStateAfter to (part ++ byte ∷ []) (own ++ f ∷ []) → Follows style (Some (style_by f.number)) → style_in to ≡ Some (style_by f.number) → IsWithin f × Follows style (Some (style_by f.number)) × IsBounded (style_by f.number) (trace_from model (style_by f.number) to (at + 1) rest)
+    inside : (to : PosixState) → IsStateAfter to (part ++ byte ∷ []) (own ++ f ∷ []) → Follows numbering (Some (numbering_by f.number)) → numbering_in to ≡ Some (numbering_by f.number) → IsWithin f × Follows numbering (Some (numbering_by f.number)) × IsBounded (numbering_by f.number) (trace_from model (numbering_by f.number) to (at + 1) rest)
     inside to h follows known = (
       (all_back IsWithin own (f ∷ []) (at_within to (part ++ byte ∷ []) (own ++ f ∷ []) h)).0,
       follows,
-      behind (style_by f.number) to (part ++ byte ∷ []) (own ++ f ∷ []) h (subst (Follows (style_by f.number)) (sym known) (inr refl)),
+      behind (numbering_by f.number) to (part ++ byte ∷ []) (own ++ f ∷ []) h (subst (Follows (numbering_by f.number)) (sym known) (inr refl)),
     )
 
-    brought : (to : PosixState) → Brings model style part own byte f to → IsWithin f × Follows style (Some (style_by f.number)) × IsBounded (style_by f.number) (trace_from model (style_by f.number) to (at + 1) rest)
+    brought : (to : PosixState) → Brings model numbering part own byte f to → IsWithin f × Follows numbering (Some (numbering_by f.number)) × IsBounded (numbering_by f.number) (trace_from model (numbering_by f.number) to (at + 1) rest)
     brought Between h = (
       (all_back IsWithin own (f ∷ []) (subst (AllByRecursion IsWithin) (sym h.3) (spelled_within model (part ++ byte ∷ []) h.0 h.1))).0,
       h.4,
-      behind (style_by f.number) Between [] [] (refl, refl) tt,
+      behind (numbering_by f.number) Between [] [] (refl, refl) tt,
     )
     brought Opened h = inside Opened h.0 h.1 h.2
     brought (First n) h = inside (First n) h.0 h.1 h.2
@@ -128,20 +128,20 @@ module _ (model : Model) (style : Numbering) (part : Text) (own : List Fetch) (b
     brought (Point parts) h = inside (Point parts) h.0 h.1 h.2
     brought (Modified parts modifier) h = inside (Modified parts modifier) h.0 h.1 h.2
 
-  by_next : (n : PosixStep) → Judges model style part own byte n → IsBounded style (moved style at n (λ s q. trace_from model s q (at + 1) rest))
+  by_next : (n : PosixStep) → Judges model numbering part own byte n → IsBounded numbering (moved numbering at n (λ s q. trace_from model s q (at + 1) rest))
   by_next (Err kind) h = tt
   by_next (Ok (to, None)) h = arrived to h
   by_next (Ok (to, Some f)) h = brought f to h
 
-  by_limit : (b : Bool) (n : PosixStep) → Judges model style part own byte n → IsBounded style (if b then Fault TooLong at else moved style at n (λ s q. trace_from model s q (at + 1) rest))
+  by_limit : (b : Bool) (n : PosixStep) → Judges model numbering part own byte n → IsBounded numbering (if b then Fault TooLong at else moved numbering at n (λ s q. trace_from model s q (at + 1) rest))
   by_limit true n h = tt
   by_limit false n h = by_next n h
 
-bounded : (model : Model) (t : Text) (at : ℕ) (style : Numbering) (state : PosixState) (part : Text) (own : List Fetch) → IsStateAfter state part own → Follows style (style_in state) → IsBounded style (trace_from model style state at t)
-bounded model [] at style Between part own h follows = tt
-bounded model [] at style _ part own h follows = tt
-bounded model (byte ∷ t) at style state part own h follows =
-    by_limit model style part own byte t at (bounded model t (at + 1)) (nat_le MAX_TEXT_LEN at) (posix_step model style state byte) (judge model style part own byte state h follows)
+bounded : (model : Model) (t : Text) (at : ℕ) (numbering : Numbering) (state : PosixState) (part : Text) (own : List Fetch) → IsStateAfter state part own → Follows numbering (numbering_in state) → IsBounded numbering (trace_from model numbering state at t)
+bounded model [] at numbering Between part own h follows = tt
+bounded model [] at numbering _ part own h follows = tt
+bounded model (byte ∷ t) at numbering state part own h follows =
+    by_limit model numbering part own byte t at (bounded model t (at + 1)) (nat_le MAX_TEXT_LEN at) (posix_step model numbering state byte) (judge model numbering part own byte state h follows)
 
 -- each number that is read is within the limits
 pub reading_bounded : (model : Model) (t : Text) → IsBounded Undecided (fetch_trace model t)

@@ -65,22 +65,22 @@ module _ (types others start from a b : List ArgumentType) (k : ℕ) (c d : Argu
   places_differ n s = let both : Some (get_or types k c) ≡ Some (get_or others k d) = sym at_a ∙ s ∙ at_b in let one : get_or types k c ≡ get_or others k d = cc in n (p ∙ ap number_of_type one ∙ sym q)
 
 -- where one list is over
-pub full : (count beside k m n : ℕ) → count ≡ m → beside ≡ n → ROOM ≤ k → ((m ≤ ROOM) ⊎ (n ≤ ROOM)) → (count ≤ k) ⊎ (beside ≤ k)
-full count beside k m n x y room (inl few) = inl (omega (arith, x, room, few))
-full count beside k m n x y room (inr few) = inr (omega (arith, y, room, few))
+pub full : (count second_count k m n : ℕ) → count ≡ m → second_count ≡ n → ROOM ≤ k → ((m ≤ ROOM) ⊎ (n ≤ ROOM)) → (count ≤ k) ⊎ (second_count ≤ k)
+full count second_count k m n x y room (inl few) = inl (omega (arith, x, room, few))
+full count second_count k m n x y room (inr few) = inr (omega (arith, y, room, few))
 
-pub both_end : (count beside k : ℕ) → count ≡ beside → k ≤ count → k ≤ beside → ((count ≤ k) ⊎ (beside ≤ k)) → (count ≡ k) × (beside ≡ k)
-both_end count beside k e f g (inl over) = (omega (arith, f, over), omega (arith, e, f, over))
-both_end count beside k e f g (inr over) = (omega (arith, e, g, over), omega (arith, g, over))
+pub both_end : (count second_count k : ℕ) → count ≡ second_count → k ≤ count → k ≤ second_count → ((count ≤ k) ⊎ (second_count ≤ k)) → (count ≡ k) × (second_count ≡ k)
+both_end count second_count k e f g (inl over) = (omega (arith, f, over), omega (arith, e, f, over))
+both_end count second_count k e f g (inr over) = (omega (arith, e, g, over), omega (arith, g, over))
 
-pub over_lists : (count beside k m n : ℕ) → count ≡ m → beside ≡ n → ((count ≤ k) ⊎ (beside ≤ k)) → (m ≤ k) ⊎ (n ≤ k)
-over_lists count beside k m n x y (inl over) = inl (omega (arith, x, over))
-over_lists count beside k m n x y (inr over) = inr (omega (arith, y, over))
+pub over_lists : (count second_count k m n : ℕ) → count ≡ m → second_count ≡ n → ((count ≤ k) ⊎ (second_count ≤ k)) → (m ≤ k) ⊎ (n ≤ k)
+over_lists count second_count k m n x y (inl over) = inl (omega (arith, x, over))
+over_lists count second_count k m n x y (inr over) = inr (omega (arith, y, over))
 
 -- what follows from the slices of two texts
-pub compared : (model : Model) (first second : Text) (old new old2 new2 : List ArgumentType) (count beside : ℕ) (result : Option ℕ) → HasCount model first old new count → HasCount model second old2 new2 beside → AreFew model first second
-    → ((a b start from : List ArgumentType) → new ≡ filled start a → new2 ≡ filled from b → count ≡ length a → beside ≡ length b → (length a ≤ ROOM) ⊎ (length b ≤ ROOM) → IsFirstDifference a b result) → ComparesArgumentTypes model first second result
-compared model first second old new old2 new2 count beside result h k few f =
+pub compared : (model : Model) (first second : Text) (old new old2 new2 : List ArgumentType) (count second_count : ℕ) (result : Option ℕ) → HasCount model first old new count → HasCount model second old2 new2 second_count → AreFew model first second
+    → ((a b start from : List ArgumentType) → new ≡ filled start a → new2 ≡ filled from b → count ≡ length a → second_count ≡ length b → (length a ≤ ROOM) ⊎ (length b ≤ ROOM) → IsFirstDifference a b result) → ComparesArgumentTypes model first second result
+compared model first second old new old2 new2 count second_count result h k few f =
     record {
       types = h.types;
       others = k.types;

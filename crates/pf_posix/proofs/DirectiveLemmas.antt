@@ -17,12 +17,12 @@ use Rattle.pf_posix.specs.Directives.{HasDirectives, argument_index, directive_b
 use Rattle.pf_posix.specs.Fronts.{IsStateAfter}
 use Rattle.pf_posix.specs.Items.{Byte, HasArguments, SpellsPosixItem, ReadsPosix, Specification, PosixItem, fetched}
 use Rattle.pf_posix.specs.Readings.{Fault, FetchTrace, Refused, Takes, Verdict, conflicts, moved, trace_at_end, trace_from, verdict, verdict_after}
-use Rattle.pf_posix.specs.Refusals.{Follows, IsGoodPosixFront, style_by, style_in, style_of}
+use Rattle.pf_posix.specs.Refusals.{Follows, IsGoodPosixFront, numbering_by, numbering_in, numbering_of}
 use Rattle.pf_posix.specs.Specifications.{Amount, Given, Fetched, PosixSpecification}
 use Rattle.pf_posix.specs.Stages.{PosixState, Between, Opened, First, Flags, Digits, Star, StarDigits, Placed, Point, Modified}
 use Rattle.pf_posix.specs.States.{PosixStep, posix_step}
 use Rattle.pf_posix.specs.Types.{HaveTypes, conversion_type, fetch, fetches, star_fetches}
-use Rattle.pf_posix.proofs.Agreeing.{agreed_push, style_push}
+use Rattle.pf_posix.proofs.Agreeing.{agreed_push, numbering_push}
 use Rattle.pf_posix.proofs.DirectiveTypes.{all_typed}
 use Rattle.pf_posix.proofs.Judging.{Arrives, Brings, Judges, judge}
 use Rattle.pf_posix.proofs.Soundness.{fetched_append}
@@ -77,58 +77,58 @@ module _ (model : Model) where
       )
 
   -- a byte leads into an item or to its end
-  pub arrived : (style : Numbering) (part : Text) (own : List Fetch) (byte : ℕ) (to : PosixState) → to ≢ Between → Arrives model style part own byte to
-      → IsStateAfter to (part ++ byte ∷ []) own × Follows style (style_in to)
-  arrived style part own byte Between other h = absurd (other refl)
-  arrived style part own byte Opened other h = h
-  arrived style part own byte (First n) other h = h
-  arrived style part own byte (Flags parts) other h = h
-  arrived style part own byte (Digits slot parts n) other h = h
-  arrived style part own byte (Star slot parts) other h = h
-  arrived style part own byte (StarDigits slot parts n) other h = h
-  arrived style part own byte (Placed slot parts) other h = h
-  arrived style part own byte (Point parts) other h = h
-  arrived style part own byte (Modified parts modifier) other h = h
+  pub arrived : (numbering : Numbering) (part : Text) (own : List Fetch) (byte : ℕ) (to : PosixState) → to ≢ Between → Arrives model numbering part own byte to
+      → IsStateAfter to (part ++ byte ∷ []) own × Follows numbering (numbering_in to)
+  arrived numbering part own byte Between other h = absurd (other refl)
+  arrived numbering part own byte Opened other h = h
+  arrived numbering part own byte (First n) other h = h
+  arrived numbering part own byte (Flags parts) other h = h
+  arrived numbering part own byte (Digits slot parts n) other h = h
+  arrived numbering part own byte (Star slot parts) other h = h
+  arrived numbering part own byte (StarDigits slot parts n) other h = h
+  arrived numbering part own byte (Placed slot parts) other h = h
+  arrived numbering part own byte (Point parts) other h = h
+  arrived numbering part own byte (Modified parts modifier) other h = h
 
-  pub brought : (style : Numbering) (part : Text) (own : List Fetch) (byte : ℕ) (f : Fetch) (to : PosixState) → to ≢ Between → Brings model style part own byte f to
-      → IsStateAfter to (part ++ byte ∷ []) (own ++ f ∷ []) × Follows style (Some (style_by f.number)) × (style_in to ≡ Some (style_by f.number))
-  brought style part own byte f Between other h = absurd (other refl)
-  brought style part own byte f Opened other h = h
-  brought style part own byte f (First n) other h = h
-  brought style part own byte f (Flags parts) other h = h
-  brought style part own byte f (Digits slot parts n) other h = h
-  brought style part own byte f (Star slot parts) other h = h
-  brought style part own byte f (StarDigits slot parts n) other h = h
-  brought style part own byte f (Placed slot parts) other h = h
-  brought style part own byte f (Point parts) other h = h
-  brought style part own byte f (Modified parts modifier) other h = h
+  pub brought : (numbering : Numbering) (part : Text) (own : List Fetch) (byte : ℕ) (f : Fetch) (to : PosixState) → to ≢ Between → Brings model numbering part own byte f to
+      → IsStateAfter to (part ++ byte ∷ []) (own ++ f ∷ []) × Follows numbering (Some (numbering_by f.number)) × (numbering_in to ≡ Some (numbering_by f.number))
+  brought numbering part own byte f Between other h = absurd (other refl)
+  brought numbering part own byte f Opened other h = h
+  brought numbering part own byte f (First n) other h = h
+  brought numbering part own byte f (Flags parts) other h = h
+  brought numbering part own byte f (Digits slot parts n) other h = h
+  brought numbering part own byte f (Star slot parts) other h = h
+  brought numbering part own byte f (StarDigits slot parts n) other h = h
+  brought numbering part own byte f (Placed slot parts) other h = h
+  brought numbering part own byte f (Point parts) other h = h
+  brought numbering part own byte f (Modified parts modifier) other h = h
 
   -- no step of an accepted text is refused
   takes_none : (all : List Fetch) (kind : RefusalKind) (at : ℕ) → Refused kind at ≡ Takes all → ⊥
   takes_none all kind at e = cc
 
-  module _ (seen all : List Fetch) (style : Numbering) (state : PosixState) (at byte : ℕ) (rest : Text)
-      (left : verdict_after seen (trace_from model style state at (byte ∷ rest)) ≡ Takes all) where
-    step_left : (n : PosixStep) → posix_step model style state byte ≡ n → verdict_after seen (moved style at n (λ s q. trace_from model s q (at + 1) rest)) ≡ Takes all
+  module _ (seen all : List Fetch) (numbering : Numbering) (state : PosixState) (at byte : ℕ) (rest : Text)
+      (left : verdict_after seen (trace_from model numbering state at (byte ∷ rest)) ≡ Takes all) where
+    step_left : (n : PosixStep) → posix_step model numbering state byte ≡ n → verdict_after seen (moved numbering at n (λ s q. trace_from model s q (at + 1) rest)) ≡ Takes all
     step_left n e = go (nat_le MAX_TEXT_LEN at) refl where
-      go : (b : Bool) → nat_le MAX_TEXT_LEN at ≡ b → verdict_after seen (moved style at n (λ s q. trace_from model s q (at + 1) rest)) ≡ Takes all
+      go : (b : Bool) → nat_le MAX_TEXT_LEN at ≡ b → verdict_after seen (moved numbering at n (λ s q. trace_from model s q (at + 1) rest)) ≡ Takes all
       go true b =
-          let full : verdict_after seen (trace_from model style state at (byte ∷ rest)) ≡ Refused TooLong at = rw b refl in
+          let full : verdict_after seen (trace_from model numbering state at (byte ∷ rest)) ≡ Refused TooLong at = rw b refl in
           absurd (takes_none all TooLong at (sym full ∙ left))
       go false b =
-          let next : verdict_after seen (trace_from model style state at (byte ∷ rest)) ≡ verdict_after seen (moved style at (posix_step model style state byte) (λ s q. trace_from model s q (at + 1) rest)) = rw b refl in
-          ap (λ m. verdict_after seen (moved style at m (λ s q. trace_from model s q (at + 1) rest))) (sym e) ∙ sym next ∙ left
+          let next : verdict_after seen (trace_from model numbering state at (byte ∷ rest)) ≡ verdict_after seen (moved numbering at (posix_step model numbering state byte) (λ s q. trace_from model s q (at + 1) rest)) = rw b refl in
+          ap (λ m. verdict_after seen (moved numbering at m (λ s q. trace_from model s q (at + 1) rest))) (sym e) ∙ sym next ∙ left
 
-    pub not_refused : (kind : RefusalKind) → posix_step model style state byte ≡ Err kind → ⊥
+    pub not_refused : (kind : RefusalKind) → posix_step model numbering state byte ≡ Err kind → ⊥
     not_refused kind e = takes_none all kind at (step_left (Err kind) e)
 
-    pub passed_left : (to : PosixState) → posix_step model style state byte ≡ Ok (to, None) → verdict_after seen (trace_from model style to (at + 1) rest) ≡ Takes all
+    pub passed_left : (to : PosixState) → posix_step model numbering state byte ≡ Ok (to, None) → verdict_after seen (trace_from model numbering to (at + 1) rest) ≡ Takes all
     passed_left to e = step_left (Ok (to, None)) e
 
-    pub fetched_left : (to : PosixState) (f : Fetch) → posix_step model style state byte ≡ Ok (to, Some f)
-        → (conflicts seen f ≡ false) × (verdict_after (seen ++ f ∷ []) (trace_from model (style_by f.number) to (at + 1) rest) ≡ Takes all)
+    pub fetched_left : (to : PosixState) (f : Fetch) → posix_step model numbering state byte ≡ Ok (to, Some f)
+        → (conflicts seen f ≡ false) × (verdict_after (seen ++ f ∷ []) (trace_from model (numbering_by f.number) to (at + 1) rest) ≡ Takes all)
     fetched_left to f e = go (conflicts seen f) refl (step_left (Ok (to, Some f)) e) where
-      go : (c : Bool) → conflicts seen f ≡ c → (if c then Refused TwoTypes at else verdict_after (seen ++ f ∷ []) (trace_from model (style_by f.number) to (at + 1) rest)) ≡ Takes all
-          → (conflicts seen f ≡ false) × (verdict_after (seen ++ f ∷ []) (trace_from model (style_by f.number) to (at + 1) rest) ≡ Takes all)
+      go : (c : Bool) → conflicts seen f ≡ c → (if c then Refused TwoTypes at else verdict_after (seen ++ f ∷ []) (trace_from model (numbering_by f.number) to (at + 1) rest)) ≡ Takes all
+          → (conflicts seen f ≡ false) × (verdict_after (seen ++ f ∷ []) (trace_from model (numbering_by f.number) to (at + 1) rest) ≡ Takes all)
       go true c h = absurd (takes_none all TwoTypes at h)
       go false c h = (c, h)

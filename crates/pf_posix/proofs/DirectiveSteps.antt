@@ -21,13 +21,13 @@ use Rattle.pf_posix.specs.Fronts.{IsStateAfter}
 use Rattle.pf_posix.specs.Moves.{posix_step_by}
 use Rattle.pf_posix.specs.Items.{Byte, HasArguments, ReadsPosix, Specification, fetched}
 use Rattle.pf_posix.specs.Readings.{Takes, conflicts, trace_at_end, trace_from, verdict_after}
-use Rattle.pf_posix.specs.Refusals.{Follows, IsGoodPosixFront, style_by, style_in, style_of}
+use Rattle.pf_posix.specs.Refusals.{Follows, IsGoodPosixFront, numbering_by, numbering_in, numbering_of}
 use Rattle.pf_posix.specs.Specifications.{Amount, Given, Fetched, PosixSpecification}
 use Rattle.pf_posix.specs.Spelling.{SpellsPosix}
 use Rattle.pf_posix.specs.Stages.{PosixState, Between, Opened, First, Flags, Digits, Star, StarDigits, Placed, Point, Modified, posix_state_of}
 use Rattle.pf_posix.specs.States.{PosixStep, posix_step}
 use Rattle.pf_posix.specs.Types.{HaveTypes, conversion_type, fetches, star_fetches}
-use Rattle.pf_posix.proofs.Agreeing.{agreed_none, agreed_push, style_push}
+use Rattle.pf_posix.proofs.Agreeing.{agreed_none, agreed_push, numbering_push}
 use Rattle.pf_posix.proofs.DirectiveLemmas.{arrived, brought, fetched_left, not_refused, passed_left, pushed}
 use Rattle.pf_posix.proofs.DirectiveTypes.{all_typed}
 use Rattle.pf_posix.proofs.Judging.{Arrives, Brings, Judges, judge}
@@ -130,7 +130,7 @@ module _ (model : Model) (t : Text) (walk : DirectiveWalk) (done : List Directiv
   byte = get_or t walk.at 0
 
   abbrev pub stepped : PosixStep
-  stepped = posix_step model walk.style (posix_state_of walk.automaton) byte
+  stepped = posix_step model walk.numbering (posix_state_of walk.automaton) byte
 
   abbrev pub moved_on : DirectiveWalk
   moved_on = record walk { automaton = a; at = walk.at + 1 }
@@ -150,20 +150,20 @@ module _ (model : Model) (t : Text) (walk : DirectiveWalk) (done : List Directiv
   item_split : h.front ++ byte ∷ [] ≡ h.good.whole ++ part
   item_split = ap (λ f. f ++ byte ∷ []) h.good.split ∙ append_assoc h.good.whole h.good.part (byte ∷ [])
 
-  left_on : verdict_after h.seen (trace_from model walk.style (posix_state_of walk.automaton) walk.at (byte ∷ drop (walk.at + 1) t)) ≡ Takes h.all
-  left_on = subst (λ r. verdict_after h.seen (trace_from model walk.style (posix_state_of walk.automaton) walk.at r) ≡ Takes h.all) split_rest h.left
+  left_on : verdict_after h.seen (trace_from model walk.numbering (posix_state_of walk.automaton) walk.at (byte ∷ drop (walk.at + 1) t)) ≡ Takes h.all
+  left_on = subst (λ r. verdict_after h.seen (trace_from model walk.numbering (posix_state_of walk.automaton) walk.at r) ≡ Takes h.all) split_rest h.left
 
-  judged : Judges model walk.style h.good.part h.good.own byte stepped
-  judged = judge model walk.style h.good.part h.good.own byte (posix_state_of walk.automaton) h.good.at
-      (subst (λ s. Follows s (style_in (posix_state_of walk.automaton))) (sym h.style_is) h.good.style)
+  judged : Judges model walk.numbering h.good.part h.good.own byte stepped
+  judged = judge model walk.numbering h.good.part h.good.own byte (posix_state_of walk.automaton) h.good.at
+      (subst (λ s. Follows s (numbering_in (posix_state_of walk.automaton))) (sym h.numbering_is) h.good.numbering)
 
   pub no_refusal : (kind : _) → stepped ≡ Err kind → ⊥
-  no_refusal kind e = not_refused model h.seen h.all walk.style (posix_state_of walk.automaton) walk.at byte (drop (walk.at + 1) t) left_on kind e
+  no_refusal kind e = not_refused model h.seen h.all walk.numbering (posix_state_of walk.automaton) walk.at byte (drop (walk.at + 1) t) left_on kind e
 
   -- the byte fetches nothing, and an item goes on
   pub passes_inside : stepped ≡ Ok (posix_state_of a, None) → posix_state_of a ≢ Between → IsWalkedTo model t moved_on done
   passes_inside e inside =
-      let both = arrived model walk.style h.good.part h.good.own byte (posix_state_of a) inside (subst (Judges model walk.style h.good.part h.good.own byte) e judged) in
+      let both = arrived model walk.numbering h.good.part h.good.own byte (posix_state_of a) inside (subst (Judges model walk.numbering h.good.part h.good.own byte) e judged) in
       record {
         front = h.front ++ byte ∷ [];
         seen = h.seen;
@@ -178,25 +178,25 @@ module _ (model : Model) (t : Text) (walk : DirectiveWalk) (done : List Directiv
           split = item_split;
           fetches_are = h.good.fetches_are;
           agreed = h.good.agreed;
-          style = subst (λ s. Follows s (style_in (posix_state_of a))) h.style_is both.1;
+          numbering = subst (λ s. Follows s (numbering_in (posix_state_of a))) h.numbering_is both.1;
         };
         split = split_on;
         at_is = at_on;
         begin_is = h.begin_is;
         fetched_is = h.fetched_is;
-        style_is = h.style_is;
+        numbering_is = h.numbering_is;
         star_is = h.star_is;
         earlier_is = h.earlier_is;
         accepted = h.accepted;
-        left = passed_left model h.seen h.all walk.style (posix_state_of walk.automaton) walk.at byte (drop (walk.at + 1) t) left_on (posix_state_of a) e;
+        left = passed_left model h.seen h.all walk.numbering (posix_state_of walk.automaton) walk.at byte (drop (walk.at + 1) t) left_on (posix_state_of a) e;
         done_are = h.done_are;
       }
 
   -- the byte fetches nothing, and ends an item
   pub passes_item : stepped ≡ Ok (posix_state_of a, None) → posix_state_of a ≡ Between → IsWalkedTo model t (record moved_on { begin = walk.at + 1 }) done
   passes_item e between =
-      let came : Arrives model walk.style h.good.part h.good.own byte Between =
-      subst (Judges model walk.style h.good.part h.good.own byte) (e ∙ ap (λ s. Ok (s, None)) between) judged in
+      let came : Arrives model walk.numbering h.good.part h.good.own byte Between =
+      subst (Judges model walk.numbering h.good.part h.good.own byte) (e ∙ ap (λ s. Ok (s, None)) between) judged in
       let push = pushed model 0 0 h.good.whole part h.good.items (Byte came.0) h.good.reads came.1 in
       record {
         front = h.front ++ byte ∷ [];
@@ -212,23 +212,23 @@ module _ (model : Model) (t : Text) (walk : DirectiveWalk) (done : List Directiv
           split = item_split ∙ sym (append-nil _);
           fetches_are = h.good.fetches_are ∙ ap (λ o. fetched model h.good.items ++ o) came.2 ∙ sym (fetched_append model h.good.items (Byte came.0 ∷ [])) ∙ sym (append-nil _);
           agreed = h.good.agreed;
-          style = subst (λ s. Follows (style_of h.seen) (style_in s)) (sym between) tt;
+          numbering = subst (λ s. Follows (numbering_of h.seen) (numbering_in s)) (sym between) tt;
         };
         split = split_on;
         at_is = at_on;
         begin_is = at_on ∙ ap length item_split;
         fetched_is = h.fetched_is;
-        style_is = h.style_is;
+        numbering_is = h.numbering_is;
         star_is = h.star_is ∙ ap (last_index (length (fetched model h.good.items))) came.2;
         earlier_is = h.earlier_is ∙ ap (earlier_index (length (fetched model h.good.items))) came.2;
         accepted = h.accepted;
-        left = passed_left model h.seen h.all walk.style (posix_state_of walk.automaton) walk.at byte (drop (walk.at + 1) t) left_on (posix_state_of a) e;
+        left = passed_left model h.seen h.all walk.numbering (posix_state_of walk.automaton) walk.at byte (drop (walk.at + 1) t) left_on (posix_state_of a) e;
         done_are = h.done_are ∙ sym (append-nil _) ∙ sym push.1;
       }
 
   module _ (f : Fetch) (e : stepped ≡ Ok (posix_state_of a, Some f)) where
-    own_left : (conflicts h.seen f ≡ false) × (verdict_after (h.seen ++ f ∷ []) (trace_from model (style_by f.number) (posix_state_of a) (walk.at + 1) (drop (walk.at + 1) t)) ≡ Takes h.all)
-    own_left = fetched_left model h.seen h.all walk.style (posix_state_of walk.automaton) walk.at byte (drop (walk.at + 1) t) left_on (posix_state_of a) f e
+    own_left : (conflicts h.seen f ≡ false) × (verdict_after (h.seen ++ f ∷ []) (trace_from model (numbering_by f.number) (posix_state_of a) (walk.at + 1) (drop (walk.at + 1) t)) ≡ Takes h.all)
+    own_left = fetched_left model h.seen h.all walk.numbering (posix_state_of walk.automaton) walk.at byte (drop (walk.at + 1) t) left_on (posix_state_of a) f e
 
     counted : walk.fetched + 1 ≡ length (h.seen ++ f ∷ [])
     counted = omega (arith, h.fetched_is, length_push h.seen f)
@@ -239,9 +239,9 @@ module _ (model : Model) (t : Text) (walk : DirectiveWalk) (done : List Directiv
     -- the byte fetches an argument, and the specification goes on
     pub fetches_inside : posix_state_of a ≢ Between → IsWalkedTo model t (walk_in moved_on f) done
     fetches_inside inside =
-        let all = brought model walk.style h.good.part h.good.own byte f (posix_state_of a) inside (subst (Judges model walk.style h.good.part h.good.own byte) e judged) in
-        let follows = subst (λ s. Follows s (Some (style_by f.number))) h.style_is all.1 in
-        let style = style_push h.seen f follows in
+        let all = brought model walk.numbering h.good.part h.good.own byte f (posix_state_of a) inside (subst (Judges model walk.numbering h.good.part h.good.own byte) e judged) in
+        let follows = subst (λ s. Follows s (Some (numbering_by f.number))) h.numbering_is all.1 in
+        let numbering = numbering_push h.seen f follows in
         record {
           front = h.front ++ byte ∷ [];
           seen = h.seen ++ f ∷ [];
@@ -256,13 +256,13 @@ module _ (model : Model) (t : Text) (walk : DirectiveWalk) (done : List Directiv
             split = item_split;
             fetches_are = ap (λ s. s ++ f ∷ []) h.good.fetches_are ∙ append_assoc (fetched model h.good.items) h.good.own (f ∷ []);
             agreed = agreed_push h.seen f h.good.agreed follows own_left.0;
-            style = subst (Follows (style_of (h.seen ++ f ∷ []))) (sym all.2) (inr style);
+            numbering = subst (Follows (numbering_of (h.seen ++ f ∷ []))) (sym all.2) (inr numbering);
           };
           split = split_on;
           at_is = at_on;
           begin_is = h.begin_is;
           fetched_is = counted;
-          style_is = sym style;
+          numbering_is = sym numbering;
           star_is = ap (λ n. Some (argument_index f.number n)) before ∙ sym (last_push (length (fetched model h.good.items)) h.good.own f);
           earlier_is = h.star_is ∙ sym (earlier_push (length (fetched model h.good.items)) h.good.own f);
           accepted = h.accepted;
@@ -274,10 +274,10 @@ module _ (model : Model) (t : Text) (walk : DirectiveWalk) (done : List Directiv
     pub fetches_end : posix_state_of a ≡ Between → (d : DirectiveSpan)
         → d ≡ directive_by moved_on (take (moved_on.at - moved_on.begin) (drop moved_on.begin t)) f → IsWalkedTo model t (walk_behind moved_on f) (done ++ d ∷ [])
     fetches_end between d made =
-        let came : Brings model walk.style h.good.part h.good.own byte f Between =
-        subst (Judges model walk.style h.good.part h.good.own byte) (e ∙ ap (λ s. Ok (s, Some f)) between) judged in
-        let follows = subst (λ s. Follows s (Some (style_by f.number))) h.style_is came.4 in
-        let style = style_push h.seen f follows in
+        let came : Brings model walk.numbering h.good.part h.good.own byte f Between =
+        subst (Judges model walk.numbering h.good.part h.good.own byte) (e ∙ ap (λ s. Ok (s, Some f)) between) judged in
+        let follows = subst (λ s. Follows s (Some (numbering_by f.number))) h.numbering_is came.4 in
+        let numbering = numbering_push h.seen f follows in
         let push = pushed model 0 0 h.good.whole part h.good.items (Specification came.0) h.good.reads (came.1, came.2) in
         record {
           front = h.front ++ byte ∷ [];
@@ -294,13 +294,13 @@ module _ (model : Model) (t : Text) (walk : DirectiveWalk) (done : List Directiv
             fetches_are = ap (λ s. s ++ f ∷ []) h.good.fetches_are ∙ append_assoc (fetched model h.good.items) h.good.own (f ∷ [])
                 ∙ ap (λ o. fetched model h.good.items ++ o) (came.3 ∙ sym (append-nil (fetches model came.0))) ∙ sym (fetched_append model h.good.items (Specification came.0 ∷ [])) ∙ sym (append-nil _);
             agreed = agreed_push h.seen f h.good.agreed follows own_left.0;
-            style = subst (λ s. Follows (style_of (h.seen ++ f ∷ [])) (style_in s)) (sym between) tt;
+            numbering = subst (λ s. Follows (numbering_of (h.seen ++ f ∷ [])) (numbering_in s)) (sym between) tt;
           };
           split = split_on;
           at_is = at_on;
           begin_is = at_on ∙ ap length item_split;
           fetched_is = counted;
-          style_is = sym style;
+          numbering_is = sym numbering;
           star_is = refl;
           earlier_is = refl;
           accepted = h.accepted;
@@ -334,9 +334,9 @@ module _ (model : Model) (t : Text) (walk : DirectiveWalk) (done : List Directiv
 
 module _ (model : Model) (t : Text) (types : List ArgumentType) (given : HasArguments model t types) where
   -- before the first byte
-  pub walk_starts : (walk : DirectiveWalk) → posix_state_of walk.automaton ≡ Between → walk.style ≡ Undecided → walk.at ≡ 0 → walk.begin ≡ 0 → walk.fetched ≡ 0 → walk.star ≡ None
+  pub walk_starts : (walk : DirectiveWalk) → posix_state_of walk.automaton ≡ Between → walk.numbering ≡ Undecided → walk.at ≡ 0 → walk.begin ≡ 0 → walk.fetched ≡ 0 → walk.star ≡ None
       → walk.earlier_star ≡ None → IsWalkedTo model t walk []
-  walk_starts walk state style at begin count star earlier =
+  walk_starts walk state numbering at begin count star earlier =
       record {
         front = [];
         seen = [];
@@ -351,17 +351,17 @@ module _ (model : Model) (t : Text) (types : List ArgumentType) (given : HasArgu
           split = refl;
           fetches_are = refl;
           agreed = agreed_none;
-          style = subst (λ s. Follows Undecided (style_in s)) (sym state) tt;
+          numbering = subst (λ s. Follows Undecided (numbering_in s)) (sym state) tt;
         };
         split = ap (λ n. drop n t) (sym at);
         at_is = at;
         begin_is = begin;
         fetched_is = count;
-        style_is = style;
+        numbering_is = numbering;
         star_is = star;
         earlier_is = earlier;
         accepted = arguments_verdict model t types given;
-        left = rw (state, style, at) (arguments_verdict model t types given);
+        left = rw (state, numbering, at) (arguments_verdict model t types given);
         done_are = refl;
       }
 
@@ -382,7 +382,7 @@ module _ (model : Model) (t : Text) (types : List ArgumentType) (given : HasArgu
     pub walk_ends : HasDirectives model t done
     walk_ends =
         let none = drop_of_length-le t over in
-        let end = is_between (posix_state_of walk.automaton) (subst (λ r. verdict_after h.seen (trace_from model walk.style (posix_state_of walk.automaton) walk.at r) ≡ Takes h.all) none h.left) in
+        let end = is_between (posix_state_of walk.automaton) (subst (λ r. verdict_after h.seen (trace_from model walk.numbering (posix_state_of walk.automaton) walk.at r) ≡ Takes h.all) none h.left) in
         let parts = subst (λ s. IsStateAfter s h.good.part h.good.own) end.0 h.good.at in
         let whole : h.good.whole ≡ t =
         sym (append-nil _) ∙ ap (λ p. h.good.whole ++ p) (sym parts.0) ∙ sym h.good.split ∙ sym (append-nil h.front) ∙ ap (λ r. h.front ++ r) (sym none) ∙ sym h.split in
@@ -416,7 +416,7 @@ module _ (model : Model) (t : Text) (walk : DirectiveWalk) (done : List Directiv
   after = record walk { automaton = a; at = walk.at + 1 }
 
   abbrev HasTaken : Result Move RefusalKind → Type 0
-  HasTaken result = posix_step_by result a ≡ posix_step model walk.style (posix_state_of walk.automaton) (get_or t walk.at 0)
+  HasTaken result = posix_step_by result a ≡ posix_step model walk.numbering (posix_state_of walk.automaton) (get_or t walk.at 0)
 
   pub literal_passed : (new : DirectiveWalk) (result : Result Move RefusalKind) (moved : Move) → result ≡ Ok moved → moved ≡ moves.More → HasTaken result
       → (posix_state_of a ≡ Between → new ≡ record after { begin = walk.at + 1 }) → (posix_state_of a ≢ Between → new ≡ after) → IsWalkedTo model t new done
@@ -424,7 +424,7 @@ module _ (model : Model) (t : Text) (walk : DirectiveWalk) (done : List Directiv
     | inl b ↦ subst (λ w. IsWalkedTo model t w done) (sym (between b)) (passes_item model t walk done h less a step b)
     | inr n ↦ subst (λ w. IsWalkedTo model t w done) (sym (inside n)) (passes_inside model t walk done h less a step n)
   ] where
-    step : posix_step model walk.style (posix_state_of walk.automaton) (get_or t walk.at 0) ≡ Ok (posix_state_of a, None)
+    step : posix_step model walk.numbering (posix_state_of walk.automaton) (get_or t walk.at 0) ≡ Ok (posix_state_of a, None)
     step = sym e ∙ ap (λ r. posix_step_by r a) (is ∙ ap Ok more)
 
   pub fetch_taken : (new : DirectiveWalk) (result : Result Move RefusalKind) (moved : Move) (found : Option DirectiveSpan) → result ≡ Ok moved → moved ≡ moves.Fetched → HasTaken result

@@ -30,7 +30,7 @@ use Rattle.pf_posix.specs.Defined.{IsPosixDefined, undefined_as, undefined_of}
 use Rattle.pf_posix.specs.Fronts.{HasNumbers, IsStateAfter, IsBefore, SpellsDigits, at_star}
 use Rattle.pf_posix.specs.Items.{Byte, SpellsPosixItem}
 use Rattle.pf_posix.specs.Letters.{conversion_of, is_first_digit, length_modifier_of}
-use Rattle.pf_posix.specs.Refusals.{CompletesUndefined, Follows, style_by, style_in, too_large}
+use Rattle.pf_posix.specs.Refusals.{CompletesUndefined, Follows, numbering_by, numbering_in, too_large}
 use Rattle.pf_posix.specs.Specifications.{Amount, Given, Fetched, PosixSpecification, conversion_letter, modifier_letters}
 use Rattle.pf_posix.specs.Spelling.{SpellsUpToFlags, SpellsUpToWidth, SpellsPositive, SpellsStar, SpellsPosix}
 use Rattle.pf_posix.specs.Stages.{PosixState, Between, Opened, First, Flags, Digits, Star, StarDigits, Placed, Point, Modified}
@@ -136,21 +136,21 @@ behind_none t parts own h =
       own_is = h.4 ∙ sym (append-nil _);
     }
 
-module _ (model : Model) (style : Numbering) (part : Text) (own : List Fetch) (byte : ℕ) where
+module _ (model : Model) (numbering : Numbering) (part : Text) (own : List Fetch) (byte : ℕ) where
   -- a state that a byte leads to with nothing fetched
   abbrev pub Arrives : PosixState → Type 0
   Arrives Between = (b : ℕ) × SpellsPosixItem (part ++ byte ∷ []) (Byte b) × (own ≡ [])
-  Arrives to = IsStateAfter to (part ++ byte ∷ []) own × Follows style (style_in to)
+  Arrives to = IsStateAfter to (part ++ byte ∷ []) own × Follows numbering (numbering_in to)
 
   -- and with an argument fetched
   abbrev pub Brings : Fetch → PosixState → Type 0
-  Brings f Between = (s : PosixSpecification) × SpellsPosix (part ++ byte ∷ []) s × IsPosixDefined s × (own ++ f ∷ [] ≡ fetches model s) × Follows style (Some (style_by f.number))
-  Brings f to = IsStateAfter to (part ++ byte ∷ []) (own ++ f ∷ []) × Follows style (Some (style_by f.number)) × (style_in to ≡ Some (style_by f.number))
+  Brings f Between = (s : PosixSpecification) × SpellsPosix (part ++ byte ∷ []) s × IsPosixDefined s × (own ++ f ∷ [] ≡ fetches model s) × Follows numbering (Some (numbering_by f.number))
+  Brings f to = IsStateAfter to (part ++ byte ∷ []) (own ++ f ∷ []) × Follows numbering (Some (numbering_by f.number)) × (numbering_in to ≡ Some (numbering_by f.number))
 
   abbrev pub Judges : PosixStep → Type 0
   Judges (Ok (to, None)) = Arrives to
   Judges (Ok (to, Some f)) = Brings f to
-  Judges (Err kind) = (is_undefined_kind kind ≡ false) ⊎ CompletesUndefined style part byte kind
+  Judges (Err kind) = (is_undefined_kind kind ≡ false) ⊎ CompletesUndefined numbering part byte kind
 
   judge_stray : (kind : RefusalKind) → is_undefined_kind kind ≡ false → Judges (Err (stray byte kind))
   judge_stray kind e = inl (go (byte == 0) (byte == 37)) where
@@ -166,7 +166,7 @@ module _ (model : Model) (style : Numbering) (part : Text) (own : List Fetch) (b
   pushed : (k : ℕ) → (byte == k) ≡ true → part ++ byte ∷ [] ≡ part ++ k ∷ []
   pushed k e = ap (λ b. part ++ b ∷ []) (eqb-true byte k e)
 
-  module _ (parts : PartialSpecification) (follows : Follows style (Some (style_by parts.position))) where
+  module _ (parts : PartialSpecification) (follows : Follows numbering (Some (numbering_by parts.position))) where
     judge_end : (before : Text) (modifier : Modifier) → HasNumbers before parts own → part ≡ before ++ modifier_letters modifier → Judges (conversion_at model parts modifier byte)
     judge_end before modifier h e = go (conversion_of byte) refl where
       specification : Conversion → PosixSpecification
@@ -213,12 +213,12 @@ module _ (model : Model) (style : Numbering) (part : Text) (own : List Fetch) (b
       go : (o : Option ℕ) → parts.position ≡ o → Judges (star_at slot parts o)
       go None p = (
         (part, own, h, pushed 42 e, ap (λ o. own ++ at_star o) (sym p)),
-        subst (λ o. Follows style (Some (style_by o))) p follows,
-        ap (λ o. Some (style_by o)) p,
+        subst (λ o. Follows numbering (Some (numbering_by o))) p follows,
+        ap (λ o. Some (numbering_by o)) p,
       )
       go (Some n) p = ((part, own, h, pushed 42 e, sym (append-nil own) ∙ ap (λ o. own ++ at_star o) (sym p)), follows)
 
-  module _ (parts : PartialSpecification) (follows : Follows style (Some (style_by parts.position))) (h : SpellsUpToFlags part parts.position parts.flags) (w : parts.width ≡ false) (p : parts.precision ≡ false) (o : own ≡ []) where
+  module _ (parts : PartialSpecification) (follows : Follows numbering (Some (numbering_by parts.position))) (h : SpellsUpToFlags part parts.position parts.flags) (w : parts.width ≡ false) (p : parts.precision ≡ false) (o : own ≡ []) where
     first_of : flag_of byte ≡ None → is_digit byte ≡ true → is_first_digit byte ≡ true
     first_of e d = grind (arith, nat_tests)
 
@@ -257,7 +257,7 @@ module _ (model : Model) (style : Numbering) (part : Text) (own : List Fetch) (b
   no_position : part ≡ 37 ∷ [] → SpellsUpToFlags part None no_flags
   no_position h = record { place = []; flags = []; place_is = refl; set_is = refl; whole = h }
 
-  judge_plain : part ≡ 37 ∷ [] → own ≡ [] → Follows style (Some Unnumbered) → is_first_digit byte ≡ false → Judges (among_flags model (parts_at None) byte)
+  judge_plain : part ≡ 37 ∷ [] → own ≡ [] → Follows numbering (Some Unnumbered) → is_first_digit byte ≡ false → Judges (among_flags model (parts_at None) byte)
   judge_plain h o follows f = judge_flags (parts_at None) follows (no_position h) refl refl o (λ e. absurd (bool_no e f)) where
     bool_no : {b : Bool} → b ≡ true → b ≡ false → ⊥
     bool_no e f = cc
@@ -265,13 +265,13 @@ module _ (model : Model) (style : Numbering) (part : Text) (own : List Fetch) (b
   first_digit : part ≡ 37 ∷ [] → own ≡ [] → is_first_digit byte ≡ true → Arrives (First (byte - 48))
   first_digit h o e = ((byte ∷ [], number_one byte e, ap (λ t. t ++ byte ∷ []) h, o), tt)
 
-  judge_percent : (known : Numbering) → style ≡ known → part ≡ 37 ∷ [] → own ≡ [] → Judges (after_percent model known byte)
+  judge_percent : (known : Numbering) → numbering ≡ known → part ≡ 37 ∷ [] → own ≡ [] → Judges (after_percent model known byte)
   judge_percent Numbered s h o = choose (is_first_digit byte) _ _ (first_digit h o) (λ _. judge_stray Mixed refl)
   judge_percent Unnumbered s h o = choose (is_first_digit byte) _ _ (first_digit h o) (judge_plain h o (inr s))
   judge_percent Undecided s h o = choose (is_first_digit byte) _ _ (first_digit h o) (judge_plain h o (inl s))
 
   module _ (n : ℕ) (digits : Text) (number : SpellsPositive digits n) (h : part ≡ 37 ∷ digits) (o : own ≡ []) where
-    numbered : Follows style (Some Numbered) → (byte == 36) ≡ true → Arrives (Flags (parts_at (Some n)))
+    numbered : Follows numbering (Some Numbered) → (byte == 36) ≡ true → Arrives (Flags (parts_at (Some n)))
     numbered follows e = (
       (
         record { place = digits ++ 36 ∷ []; flags = []; place_is = (digits, number, refl); set_is = refl; whole = pushed 36 e ∙ ap (λ t. t ++ 36 ∷ []) h ∙ sym (append-nil (37 ∷ digits ++ 36 ∷ [])) },
@@ -285,28 +285,28 @@ module _ (model : Model) (style : Numbering) (part : Text) (own : List Fetch) (b
       length_some : (t : Text) → SpellsPositive t n → 0 < length t
       length_some t s = omega (arith, ap length s.numeral.2, s.numeral.1.enough, length-map s.numeral.0 (digit_glyph false))
 
-    judge_dollar : (known : Numbering) → style ≡ known → (byte == 36) ≡ true → Judges (dollar_after known n)
+    judge_dollar : (known : Numbering) → numbering ≡ known → (byte == 36) ≡ true → Judges (dollar_after known n)
     judge_dollar Unnumbered s e = inl refl
     judge_dollar Numbered s e = numbered (inr s) e
     judge_dollar Undecided s e = numbered (inl s) e
 
-    wide : Follows style (Some Unnumbered) → Judges (after_amount model Width (with_width (parts_at None)) byte)
+    wide : Follows numbering (Some Unnumbered) → Judges (after_amount model Width (with_width (parts_at None)) byte)
     wide follows =
         judge_amount (with_width (parts_at None)) follows Width
         (Some (Given n), record { before = 37 ∷ []; text = digits; before_is = record { place = []; flags = []; place_is = refl; set_is = refl; whole = refl }; width_is = number; whole = h }, refl, refl, o)
 
-    judge_after_first : (known : Numbering) → style ≡ known → Judges (after_first model known byte)
+    judge_after_first : (known : Numbering) → numbering ≡ known → Judges (after_first model known byte)
     judge_after_first Numbered s = judge_stray Mixed refl
     judge_after_first Unnumbered s = wide (inr s)
     judge_after_first Undecided s = wide (inl s)
 
-    judge_first : Judges (posix_step model style (First n) byte)
+    judge_first : Judges (posix_step model numbering (First n) byte)
     judge_first =
         choose (is_digit byte) _ _ (λ d. judge_digit Width First n (λ few. ((digits ++ byte ∷ [], number_push digits n byte d few number, ap (λ t. t ++ byte ∷ []) h, o), tt)))
-        (λ _. choose (byte == 36) _ _ (judge_dollar style refl) (λ _. judge_after_first style refl))
+        (λ _. choose (byte == 36) _ _ (judge_dollar numbering refl) (λ _. judge_after_first numbering refl))
 
-  module _ (slot : WidthOrPrecision) (parts : PartialSpecification) (follows : Follows style (Some (style_by parts.position))) where
-    judge_digits : (n : ℕ) → IsStateAfter (Digits slot parts n) part own → Judges (posix_step model style (Digits slot parts n) byte)
+  module _ (slot : WidthOrPrecision) (parts : PartialSpecification) (follows : Follows numbering (Some (numbering_by parts.position))) where
+    judge_digits : (n : ℕ) → IsStateAfter (Digits slot parts n) part own → Judges (posix_step model numbering (Digits slot parts n) byte)
     judge_digits n h =
         choose (is_digit byte) _ _ (λ d. judge_digit slot (Digits slot parts) n (λ few. ((h.0, h.1 ++ byte ∷ [], h.2, digits_more slot h.1 n byte d few h.3, h.4, ap (λ t. t ++ byte ∷ []) h.5 ∙ append_assoc h.0 h.1 (byte ∷ [])), follows)))
         (λ _. judge_amount parts follows slot (subst (λ t. IsBehind slot t parts own) (sym h.5) (behind_digits slot h.0 h.1 parts own n h.2 h.3)))
@@ -314,9 +314,9 @@ module _ (model : Model) (style : Numbering) (part : Text) (own : List Fetch) (b
     star_alone : (before : Text) (earlier : List Fetch) → IsBefore slot before parts earlier → part ≡ before ++ 42 ∷ [] → own ≡ earlier ++ at_star parts.position → parts.position ≡ None → IsBehind slot part parts own
     star_alone before earlier h e o p =
         subst (λ t. IsBehind slot t parts own) (sym e) (subst (IsBehind slot (before ++ 42 ∷ []) parts) (sym (o ∙ ap (λ q. earlier ++ at_star q) p))
-        (behind_star slot before (42 ∷ []) parts earlier None h (record { digits = []; digits_are = refl; style = ap is_some (sym p); whole = refl })))
+        (behind_star slot before (42 ∷ []) parts earlier None h (record { digits = []; digits_are = refl; numbering = ap is_some (sym p); whole = refl })))
 
-    judge_star : IsStateAfter (Star slot parts) part own → Judges (posix_step model style (Star slot parts) byte)
+    judge_star : IsStateAfter (Star slot parts) part own → Judges (posix_step model numbering (Star slot parts) byte)
     judge_star h = go parts.position refl where
       go : (o : Option ℕ) → parts.position ≡ o → Judges (after_star model slot parts o byte)
       go None p = choose (is_digit byte) _ _ (λ _. inl refl) (λ _. judge_amount parts follows slot (star_alone h.0 h.1 h.2 h.3 h.4 p))
@@ -325,23 +325,23 @@ module _ (model : Model) (style : Numbering) (part : Text) (own : List Fetch) (b
           (λ e. ((h.0, byte ∷ [], subst (IsBefore slot h.0 parts) (sym (h.4 ∙ ap (λ q. h.1 ++ at_star q) p ∙ append-nil h.1)) h.2, number_one byte e, ap is_some p, ap (λ t. t ++ byte ∷ []) h.3 ∙ append_assoc h.0 (42 ∷ []) (byte ∷ [])), follows))
           (λ _. judge_stray Mixed refl)
 
-    judge_star_digits : (n : ℕ) → IsStateAfter (StarDigits slot parts n) part own → Judges (posix_step model style (StarDigits slot parts n) byte)
+    judge_star_digits : (n : ℕ) → IsStateAfter (StarDigits slot parts n) part own → Judges (posix_step model numbering (StarDigits slot parts n) byte)
     judge_star_digits n h =
         choose (is_digit byte) _ _ (λ d. judge_digit slot (StarDigits slot parts) n (λ few. ((h.0, h.1 ++ byte ∷ [], h.2, number_push h.1 n byte d few h.3, h.4, ap (λ t. t ++ byte ∷ []) h.5 ∙ append_assoc h.0 (42 ∷ h.1) (byte ∷ [])), follows)))
         (λ _. choose (byte == 36) _ _
-        (λ e. let same = some_style parts.position h.4 in ((h.0, h.1, n, own, h.2, h.3, h.4, pushed 36 e ∙ ap (λ t. t ++ 36 ∷ []) h.5, refl), subst (λ k. Follows style (Some k)) same follows, ap Some same))
+        (λ e. let same = some_numbering parts.position h.4 in ((h.0, h.1, n, own, h.2, h.3, h.4, pushed 36 e ∙ ap (λ t. t ++ 36 ∷ []) h.5, refl), subst (λ k. Follows numbering (Some k)) same follows, ap Some same))
         (λ _. judge_stray Mixed refl)) where
-          some_style : (o : Option ℕ) → is_some o ≡ true → style_by o ≡ Numbered
-          some_style None e = cc
-          some_style (Some m) e = refl
+          some_numbering : (o : Option ℕ) → is_some o ≡ true → numbering_by o ≡ Numbered
+          some_numbering None e = cc
+          some_numbering (Some m) e = refl
 
-    judge_placed : IsStateAfter (Placed slot parts) part own → Judges (posix_step model style (Placed slot parts) byte)
+    judge_placed : IsStateAfter (Placed slot parts) part own → Judges (posix_step model numbering (Placed slot parts) byte)
     judge_placed h =
         judge_amount parts follows slot (subst (λ t. IsBehind slot t parts own) (sym (h.7 ∙ append_assoc h.0 (42 ∷ h.1) (36 ∷ []))) (subst (IsBehind slot _ parts) (sym h.8)
-        (behind_star slot h.0 (42 ∷ h.1 ++ 36 ∷ []) parts h.3 (Some h.2) h.4 (record { digits = h.1 ++ 36 ∷ []; digits_are = (h.1, h.5, refl); style = sym h.6; whole = refl }))))
+        (behind_star slot h.0 (42 ∷ h.1 ++ 36 ∷ []) parts h.3 (Some h.2) h.4 (record { digits = h.1 ++ 36 ∷ []; digits_are = (h.1, h.5, refl); numbering = sym h.6; whole = refl }))))
 
-  module _ (parts : PartialSpecification) (follows : Follows style (Some (style_by parts.position))) where
-    judge_point : IsStateAfter (Point parts) part own → Judges (posix_step model style (Point parts) byte)
+  module _ (parts : PartialSpecification) (follows : Follows numbering (Some (numbering_by parts.position))) where
+    judge_point : IsStateAfter (Point parts) part own → Judges (posix_step model numbering (Point parts) byte)
     judge_point h =
         choose (is_digit byte) _ _ (λ d. ((part, byte ∷ [], h, precision_one byte d, tt, refl), follows))
         (λ _. choose (byte == 42) _ _ (judge_star_at parts follows Precision h) (λ _. judge_amount parts follows Precision (behind_point part parts own h)))
@@ -361,21 +361,21 @@ module _ (model : Model) (style : Numbering) (part : Text) (own : List Fetch) (b
   eqb_no : (a b : ℕ) → (a == b) ≡ false → a ≢ b
   eqb_no a b e = grind (arith, nat_tests)
 
-  judge_between : part ≡ [] → own ≡ [] → Judges (posix_step model style Between byte)
+  judge_between : part ≡ [] → own ≡ [] → Judges (posix_step model numbering Between byte)
   judge_between h o =
       choose (byte == 0) _ _ (λ _. inl refl) (λ some. choose (byte == 37) _ _ (λ e. ((ap (λ t. t ++ byte ∷ []) h ∙ ap (λ b. b ∷ []) (eqb-true byte 37 e), o), tt))
       (λ no_percent. (byte, rw no_percent (eqb_no byte 0 some, ap (λ t. t ++ byte ∷ []) h), o)))
 
 -- what one more byte makes of each state
-pub judge : (model : Model) (style : Numbering) (part : Text) (own : List Fetch) (byte : ℕ) (state : PosixState) → IsStateAfter state part own → Follows style (style_in state) → Judges model style part own byte (posix_step model style state byte)
-judge model style part own byte Between h follows = judge_between model style part own byte h.0 h.1
-judge model style part own byte Opened h follows =
-    choose model style part own byte (byte == 37) _ _ (λ e. (37, ap (λ t. t ++ byte ∷ []) h.0 ∙ ap (λ b. 37 ∷ b ∷ []) (eqb-true byte 37 e), h.1)) (λ _. judge_percent model style part own byte style refl h.0 h.1)
-judge model style part own byte (First n) h follows = judge_first model style part own byte n h.0 h.1 h.2 h.3
-judge model style part own byte (Flags parts) h follows = judge_flags model style part own byte parts follows h.0 h.2 h.3 h.4 (λ _. h.1)
-judge model style part own byte (Digits slot parts n) h follows = judge_digits model style part own byte slot parts follows n h
-judge model style part own byte (Star slot parts) h follows = judge_star model style part own byte slot parts follows h
-judge model style part own byte (StarDigits slot parts n) h follows = judge_star_digits model style part own byte slot parts follows n h
-judge model style part own byte (Placed slot parts) h follows = judge_placed model style part own byte slot parts follows h
-judge model style part own byte (Point parts) h follows = judge_point model style part own byte parts follows h
-judge model style part own byte (Modified parts modifier) h follows = judge_modifier model style part own byte parts follows modifier h
+pub judge : (model : Model) (numbering : Numbering) (part : Text) (own : List Fetch) (byte : ℕ) (state : PosixState) → IsStateAfter state part own → Follows numbering (numbering_in state) → Judges model numbering part own byte (posix_step model numbering state byte)
+judge model numbering part own byte Between h follows = judge_between model numbering part own byte h.0 h.1
+judge model numbering part own byte Opened h follows =
+    choose model numbering part own byte (byte == 37) _ _ (λ e. (37, ap (λ t. t ++ byte ∷ []) h.0 ∙ ap (λ b. 37 ∷ b ∷ []) (eqb-true byte 37 e), h.1)) (λ _. judge_percent model numbering part own byte numbering refl h.0 h.1)
+judge model numbering part own byte (First n) h follows = judge_first model numbering part own byte n h.0 h.1 h.2 h.3
+judge model numbering part own byte (Flags parts) h follows = judge_flags model numbering part own byte parts follows h.0 h.2 h.3 h.4 (λ _. h.1)
+judge model numbering part own byte (Digits slot parts n) h follows = judge_digits model numbering part own byte slot parts follows n h
+judge model numbering part own byte (Star slot parts) h follows = judge_star model numbering part own byte slot parts follows h
+judge model numbering part own byte (StarDigits slot parts n) h follows = judge_star_digits model numbering part own byte slot parts follows n h
+judge model numbering part own byte (Placed slot parts) h follows = judge_placed model numbering part own byte slot parts follows h
+judge model numbering part own byte (Point parts) h follows = judge_point model numbering part own byte parts follows h
+judge model numbering part own byte (Modified parts modifier) h follows = judge_modifier model numbering part own byte parts follows modifier h

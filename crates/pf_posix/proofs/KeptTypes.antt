@@ -57,13 +57,13 @@ wanted model t (Before items s rest) h =
 stars_unnumbered : (t : Text) (width : Option Amount) → SpellsPosixWidth t None width → AllByRecursion (λ f. f.number ≡ None) (star_fetches width)
 stars_unnumbered t None h = tt
 stars_unnumbered t (Some (Given n)) h = tt
-stars_unnumbered t (Some (Fetched number)) h = (no_number number h.style, tt)
+stars_unnumbered t (Some (Fetched number)) h = (no_number number h.numbering, tt)
 
 star_unnumbered : (t : Text) (precision : Option Amount) → SpellsPosixPrecision t None precision
     → AllByRecursion (λ f. f.number ≡ None) (star_fetches precision)
 star_unnumbered t None h = tt
 star_unnumbered t (Some (Given n)) h = tt
-star_unnumbered t (Some (Fetched number)) h = (no_number number h.1.style, tt)
+star_unnumbered t (Some (Fetched number)) h = (no_number number h.1.numbering, tt)
 
 own_unnumbered : (model : Model) (t : Text) (s : PosixSpecification) → SpellsOpaque t s → AllByRecursion (λ f. f.number ≡ None) (fetches model s)
 own_unnumbered model t s h =

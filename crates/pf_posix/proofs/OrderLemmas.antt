@@ -11,7 +11,7 @@ use Rattle.pf_posix.specs.declared.types.ArgumentType.{ArgumentType}
 use Rattle.pf_posix.specs.Items.{HasArguments}
 use Rattle.pf_posix.specs.Laws.{filled}
 use Rattle.pf_posix.specs.Readings.{Fault, Fetches, FetchTrace, Whole, conflicts, differs, fetch_trace, verdict_after, verdict, wanted_types}
-use Rattle.pf_posix.specs.Refusals.{Follows, IsPosixRefusedAt, style_by}
+use Rattle.pf_posix.specs.Refusals.{Follows, IsPosixRefusedAt, numbering_by}
 use Rattle.pf_posix.specs.Types.{fetch}
 use Rattle.pf_posix.proofs.Agreeing.{all_push}
 use Rattle.pf_posix.proofs.Bounds.{reading_bounded}
@@ -25,7 +25,7 @@ pub record IsInOrder (model : Model) (t : Text) (seen : List Fetch) (left : Fetc
   pub unnumbered : AllByRecursion (λ f. f.number ≡ None) seen
   pub bounded : IsBounded Unnumbered left
 
-pub no_number : (o : Option ℕ) → Follows Unnumbered (Some (style_by o)) → o ≡ None
+pub no_number : (o : Option ℕ) → Follows Unnumbered (Some (numbering_by o)) → o ≡ None
 no_number None h = refl
 no_number (Some n) (inl e) = cc
 no_number (Some n) (inr e) = cc
@@ -48,7 +48,7 @@ module _ (model : Model) (t : Text) (seen : List Fetch) (old : FetchTrace) (h : 
       record {
         verdict_is = h.verdict_is ∙ ap (verdict_after seen) e ∙ rw clear refl;
         unnumbered = all_push (λ g. g.number ≡ None) seen f h.unnumbered none;
-        bounded = subst (λ o. IsBounded (style_by o) left) none bounded.2;
+        bounded = subst (λ o. IsBounded (numbering_by o) left) none bounded.2;
       }
 
   pub end_in_order : old ≡ Whole → HasArguments model t (wanted_types seen)

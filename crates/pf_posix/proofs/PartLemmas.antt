@@ -254,8 +254,8 @@ module _ (t : Text) (start : ℕ) where
         absurd (bool_no (tested (λ b. b == 42) t start (digit_glyph false d) (map (digit_glyph false) ds ++ rest) true star (e ∙ ap (λ u. u ++ rest) w))
         (digit_no_star d l.digits.below.0))
   width_star star less text rest (Some (Fetched number)) h o e =
-      let none = no_number number h.style in
-      let digits = star_digits number h.digits h.digits_are h.style in
+      let none = no_number number h.numbering in
+      let digits = star_digits number h.digits h.digits_are h.numbering in
       (ap (λ k. Some (Fetched k)) (sym none), tail_at t start 42 rest (e ∙ ap (λ u. u ++ rest) (h.whole ∙ ap (λ u. 42 ∷ u) digits)))
 
   -- a number
@@ -338,8 +338,8 @@ module _ (t : Text) (start : ℕ) where
         (digit_no_star d l.below.0))
   point_star star less text rest (Some (Fetched number)) h o e =
       let s = h.1 in
-      let none = no_number number s.style in
-      let digits = star_digits number s.digits s.digits_are s.style in
+      let none = no_number number s.numbering in
+      let digits = star_digits number s.digits s.digits_are s.numbering in
       (ap (λ k. Some (Fetched k)) (sym none), tail_at t start 42 rest (e ∙ ap (λ u. u ++ rest) (point_tail _ _ h.2 ∙ s.whole ∙ ap (λ u. 42 ∷ u) digits)))
 
   pub point_given : (result : Option (ℕ × ℕ)) → (byte_here == 42) ≡ false → DigitsAre t start 0 result → IsAfterPoint t start (as_amount result)

@@ -58,10 +58,10 @@ other_byte byte k e some other = (grind (arith, nat_tests), grind (arith, nat_te
 unequal : (byte k : ℕ) → (byte == k) ≡ false → byte ≢ k
 unequal byte k e = grind (arith, nat_tests)
 
-module _ (model : Model) (style : Numbering) (state : PosixState) (byte : ℕ) where
+module _ (model : Model) (numbering : Numbering) (state : PosixState) (byte : ℕ) where
   -- why a byte is refused that is neither zero nor `%`, but for where it is allowed
   abbrev pub Reason : RefusalKind → Type 0
-  Reason kind = ((kind ≡ Mixed) × IsMixed state style byte) ⊎ IsNumberTooLarge state byte kind ⊎ (is_undefined_kind kind ≡ true) ⊎ (kind ≡ Unexpected)
+  Reason kind = ((kind ≡ Mixed) × IsMixed state numbering byte) ⊎ IsNumberTooLarge state byte kind ⊎ (is_undefined_kind kind ≡ true) ⊎ (kind ≡ Unexpected)
 
   -- by what an argument is fetched
   abbrev pub Fetching : PosixState → Fetch → Type 0
@@ -124,62 +124,62 @@ module _ (model : Model) (style : Numbering) (state : PosixState) (byte : ℕ) w
     go (Some flag) = tt
     go None = choose (is_digit byte) _ _ (λ _. tt) (λ _. choose (byte == 42) _ _ (why_star_at inside (with_width parts) Width parts.position) (λ _. why_amount inside parts Width))
 
-module _ (model : Model) (style : Numbering) (byte : ℕ) where
-  why_percent : (known : Numbering) → style ≡ known → (byte == 37) ≡ false → Why model style Opened byte (after_percent model known byte)
+module _ (model : Model) (numbering : Numbering) (byte : ℕ) where
+  why_percent : (known : Numbering) → numbering ≡ known → (byte == 37) ≡ false → Why model numbering Opened byte (after_percent model known byte)
   why_percent known s p = go known s where
     outside : (byte == 37) ≡ true → IsPastPercent Opened
     outside e = let both : true ≡ false = sym e ∙ p in cc
 
-    go : (known : Numbering) → style ≡ known → Why model style Opened byte (after_percent model known byte)
-    go Numbered s = choose model style Opened byte (is_first_digit byte) _ _ (λ _. tt) (λ f. why_stray model style Opened byte Mixed (inl (refl, (s, f))) outside)
-    go Unnumbered s = choose model style Opened byte (is_first_digit byte) _ _ (λ _. tt) (λ _. why_flags model style Opened byte outside (parts_at None))
-    go Undecided s = choose model style Opened byte (is_first_digit byte) _ _ (λ _. tt) (λ _. why_flags model style Opened byte outside (parts_at None))
+    go : (known : Numbering) → numbering ≡ known → Why model numbering Opened byte (after_percent model known byte)
+    go Numbered s = choose model numbering Opened byte (is_first_digit byte) _ _ (λ _. tt) (λ f. why_stray model numbering Opened byte Mixed (inl (refl, (s, f))) outside)
+    go Unnumbered s = choose model numbering Opened byte (is_first_digit byte) _ _ (λ _. tt) (λ _. why_flags model numbering Opened byte outside (parts_at None))
+    go Undecided s = choose model numbering Opened byte (is_first_digit byte) _ _ (λ _. tt) (λ _. why_flags model numbering Opened byte outside (parts_at None))
 
-  why_first : (n : ℕ) → Why model style (First n) byte (posix_step model style (First n) byte)
-  why_first n = choose model style (First n) byte (is_digit byte) _ _ (λ d. why_digit model style (First n) byte Width First n d (λ l. ((d, l), refl)) tt)
-      (λ d. choose model style (First n) byte (byte == 36) _ _ (dollar style refl) (after style refl d)) where
-        dollar : (known : Numbering) → style ≡ known → (byte == 36) ≡ true → Why model style (First n) byte (dollar_after known n)
-        dollar Unnumbered s e = why_kind model style (First n) byte Mixed (other_byte byte 36 e (omega arith) refl) (inl (refl, inl (s, eqb-true byte 36 e)))
+  why_first : (n : ℕ) → Why model numbering (First n) byte (posix_step model numbering (First n) byte)
+  why_first n = choose model numbering (First n) byte (is_digit byte) _ _ (λ d. why_digit model numbering (First n) byte Width First n d (λ l. ((d, l), refl)) tt)
+      (λ d. choose model numbering (First n) byte (byte == 36) _ _ (dollar numbering refl) (after numbering refl d)) where
+        dollar : (known : Numbering) → numbering ≡ known → (byte == 36) ≡ true → Why model numbering (First n) byte (dollar_after known n)
+        dollar Unnumbered s e = why_kind model numbering (First n) byte Mixed (other_byte byte 36 e (omega arith) refl) (inl (refl, inl (s, eqb-true byte 36 e)))
         dollar Numbered s e = tt
         dollar Undecided s e = tt
 
-        after : (known : Numbering) → style ≡ known → is_digit byte ≡ false → (byte == 36) ≡ false → Why model style (First n) byte (after_first model known byte)
-        after Numbered s d e = why_stray model style (First n) byte Mixed (inl (refl, inr (s, d, unequal byte 36 e))) (λ _. tt)
-        after Unnumbered s d e = why_amount model style (First n) byte (λ _. tt) (with_width (parts_at None)) Width
-        after Undecided s d e = why_amount model style (First n) byte (λ _. tt) (with_width (parts_at None)) Width
+        after : (known : Numbering) → numbering ≡ known → is_digit byte ≡ false → (byte == 36) ≡ false → Why model numbering (First n) byte (after_first model known byte)
+        after Numbered s d e = why_stray model numbering (First n) byte Mixed (inl (refl, inr (s, d, unequal byte 36 e))) (λ _. tt)
+        after Unnumbered s d e = why_amount model numbering (First n) byte (λ _. tt) (with_width (parts_at None)) Width
+        after Undecided s d e = why_amount model numbering (First n) byte (λ _. tt) (with_width (parts_at None)) Width
 
-  why_star : (slot : WidthOrPrecision) (parts : PartialSpecification) → Why model style (Star slot parts) byte (posix_step model style (Star slot parts) byte)
+  why_star : (slot : WidthOrPrecision) (parts : PartialSpecification) → Why model numbering (Star slot parts) byte (posix_step model numbering (Star slot parts) byte)
   why_star slot parts = go parts.position refl where
-    go : (o : Option ℕ) → parts.position ≡ o → Why model style (Star slot parts) byte (after_star model slot parts o byte)
-    go None p = choose model style (Star slot parts) byte (is_digit byte) _ _ (λ d. why_kind model style (Star slot parts) byte Mixed (other_digit byte d) (inl (refl, subst (λ o. MixesStar o byte) (sym p) d)))
-        (λ _. why_amount model style (Star slot parts) byte (λ _. tt) parts slot)
-    go (Some n) p = choose model style (Star slot parts) byte (is_first_digit byte) _ _ (λ _. tt) (λ f. why_stray model style (Star slot parts) byte Mixed (inl (refl, subst (λ o. MixesStar o byte) (sym p) f)) (λ _. tt))
+    go : (o : Option ℕ) → parts.position ≡ o → Why model numbering (Star slot parts) byte (after_star model slot parts o byte)
+    go None p = choose model numbering (Star slot parts) byte (is_digit byte) _ _ (λ d. why_kind model numbering (Star slot parts) byte Mixed (other_digit byte d) (inl (refl, subst (λ o. MixesStar o byte) (sym p) d)))
+        (λ _. why_amount model numbering (Star slot parts) byte (λ _. tt) parts slot)
+    go (Some n) p = choose model numbering (Star slot parts) byte (is_first_digit byte) _ _ (λ _. tt) (λ f. why_stray model numbering (Star slot parts) byte Mixed (inl (refl, subst (λ o. MixesStar o byte) (sym p) f)) (λ _. tt))
 
-  why_modified : (parts : PartialSpecification) (modifier : Modifier) → Why model style (Modified parts modifier) byte (after_modifier_letter model parts modifier byte)
+  why_modified : (parts : PartialSpecification) (modifier : Modifier) → Why model numbering (Modified parts modifier) byte (after_modifier_letter model parts modifier byte)
   why_modified parts modifier = go modifier where
-    ends : (m : Modifier) → Why model style (Modified parts modifier) byte (conversion_at model parts m byte)
-    ends = why_end model style (Modified parts modifier) byte (λ _. tt) parts
+    ends : (m : Modifier) → Why model numbering (Modified parts modifier) byte (conversion_at model parts m byte)
+    ends = why_end model numbering (Modified parts modifier) byte (λ _. tt) parts
 
-    go : (m : Modifier) → Why model style (Modified parts modifier) byte (after_modifier_letter model parts m byte)
-    go (Integer lengths.H) = choose model style (Modified parts modifier) byte (byte == 104) _ _ (λ _. tt) (λ _. ends (Integer lengths.H))
-    go (Integer lengths.L) = choose model style (Modified parts modifier) byte (byte == 108) _ _ (λ _. tt) (λ _. ends (Integer lengths.L))
+    go : (m : Modifier) → Why model numbering (Modified parts modifier) byte (after_modifier_letter model parts m byte)
+    go (Integer lengths.H) = choose model numbering (Modified parts modifier) byte (byte == 104) _ _ (λ _. tt) (λ _. ends (Integer lengths.H))
+    go (Integer lengths.L) = choose model numbering (Modified parts modifier) byte (byte == 108) _ _ (λ _. tt) (λ _. ends (Integer lengths.L))
     go LongDouble = ends LongDouble
     go (Integer length) = ends (Integer length)
 
 -- what the table answers of a byte has its reason
-pub why : (model : Model) (style : Numbering) (byte : ℕ) (state : PosixState) → Why model style state byte (posix_step model style state byte)
-why model style byte Between = choose model style Between byte (byte == 0) _ _ (λ e. rw e refl) (λ _. choose model style Between byte (byte == 37) _ _ (λ _. tt) (λ _. λ none. absurd none))
-why model style byte Opened = choose model style Opened byte (byte == 37) _ _ (λ e. λ _. e) (why_percent model style byte style refl)
-why model style byte (First n) = why_first model style byte n
-why model style byte (Flags parts) = why_flags model style (Flags parts) byte (λ _. tt) parts
-why model style byte (Digits slot parts n) =
-    choose model style (Digits slot parts n) byte (is_digit byte) _ _ (λ d. why_digit model style (Digits slot parts n) byte slot (Digits slot parts) n d (λ l. ((d, l), refl)) tt) (λ _. why_amount model style (Digits slot parts n) byte (λ _. tt) parts slot)
-why model style byte (Star slot parts) = why_star model style byte slot parts
-why model style byte (StarDigits slot parts n) =
-    choose model style (StarDigits slot parts n) byte (is_digit byte) _ _ (λ d. why_digit model style (StarDigits slot parts n) byte slot (StarDigits slot parts) n d (λ l. ((d, l), refl)) tt)
-    (λ d. choose model style (StarDigits slot parts n) byte (byte == 36) _ _ (λ e. (other_byte byte 36 e (omega arith) refl, inr (inl (eqb-true byte 36 e, refl))))
-    (λ e. why_stray model style (StarDigits slot parts n) byte Mixed (inl (refl, (d, unequal byte 36 e))) (λ _. tt)))
-why model style byte (Placed slot parts) = why_amount model style (Placed slot parts) byte (λ _. tt) parts slot
-why model style byte (Point parts) =
-    choose model style (Point parts) byte (is_digit byte) _ _ (λ _. tt) (λ _. choose model style (Point parts) byte (byte == 42) _ _ (why_star_at model style (Point parts) byte (λ _. tt) parts Precision parts.position) (λ _. why_amount model style (Point parts) byte (λ _. tt) parts Precision))
-why model style byte (Modified parts modifier) = why_modified model style byte parts modifier
+pub why : (model : Model) (numbering : Numbering) (byte : ℕ) (state : PosixState) → Why model numbering state byte (posix_step model numbering state byte)
+why model numbering byte Between = choose model numbering Between byte (byte == 0) _ _ (λ e. rw e refl) (λ _. choose model numbering Between byte (byte == 37) _ _ (λ _. tt) (λ _. λ none. absurd none))
+why model numbering byte Opened = choose model numbering Opened byte (byte == 37) _ _ (λ e. λ _. e) (why_percent model numbering byte numbering refl)
+why model numbering byte (First n) = why_first model numbering byte n
+why model numbering byte (Flags parts) = why_flags model numbering (Flags parts) byte (λ _. tt) parts
+why model numbering byte (Digits slot parts n) =
+    choose model numbering (Digits slot parts n) byte (is_digit byte) _ _ (λ d. why_digit model numbering (Digits slot parts n) byte slot (Digits slot parts) n d (λ l. ((d, l), refl)) tt) (λ _. why_amount model numbering (Digits slot parts n) byte (λ _. tt) parts slot)
+why model numbering byte (Star slot parts) = why_star model numbering byte slot parts
+why model numbering byte (StarDigits slot parts n) =
+    choose model numbering (StarDigits slot parts n) byte (is_digit byte) _ _ (λ d. why_digit model numbering (StarDigits slot parts n) byte slot (StarDigits slot parts) n d (λ l. ((d, l), refl)) tt)
+    (λ d. choose model numbering (StarDigits slot parts n) byte (byte == 36) _ _ (λ e. (other_byte byte 36 e (omega arith) refl, inr (inl (eqb-true byte 36 e, refl))))
+    (λ e. why_stray model numbering (StarDigits slot parts n) byte Mixed (inl (refl, (d, unequal byte 36 e))) (λ _. tt)))
+why model numbering byte (Placed slot parts) = why_amount model numbering (Placed slot parts) byte (λ _. tt) parts slot
+why model numbering byte (Point parts) =
+    choose model numbering (Point parts) byte (is_digit byte) _ _ (λ _. tt) (λ _. choose model numbering (Point parts) byte (byte == 42) _ _ (why_star_at model numbering (Point parts) byte (λ _. tt) parts Precision parts.position) (λ _. why_amount model numbering (Point parts) byte (λ _. tt) parts Precision))
+why model numbering byte (Modified parts modifier) = why_modified model numbering byte parts modifier

@@ -14,11 +14,11 @@ use Rattle.pf_posix.specs.declared.partial_specification.Numbering.{Numbering}
 use Rattle.pf_posix.specs.Fronts.{IsStateAfter}
 use Rattle.pf_posix.specs.Items.{Byte, SpellsPosixItem, ReadsPosix, Specification, PosixItem, fetched}
 use Rattle.pf_posix.specs.Readings.{FetchTrace, Takes, Refused, Verdict, conflicts, trace_at_end, moved, trace_from, verdict_after, verdict}
-use Rattle.pf_posix.specs.Refusals.{AreAgreed, Follows, IsPosixRefusalCause, IsGoodPosixFront, IsOneType, IsPosixRefusedAt, style_by, style_in, style_of}
+use Rattle.pf_posix.specs.Refusals.{AreAgreed, Follows, IsPosixRefusalCause, IsGoodPosixFront, IsOneType, IsPosixRefusedAt, numbering_by, numbering_in, numbering_of}
 use Rattle.pf_posix.specs.Stages.{PosixState, Between, Opened, First, Flags, Digits, Star, StarDigits, Placed, Point, Modified}
 use Rattle.pf_posix.specs.States.{PosixStep, posix_step}
 use Rattle.pf_posix.specs.Types.{fetches}
-use Rattle.pf_posix.proofs.Agreeing.{agreed_none, agreed_push, conflicts_not, style_push}
+use Rattle.pf_posix.proofs.Agreeing.{agreed_none, agreed_push, conflicts_not, numbering_push}
 use Rattle.pf_posix.proofs.Judging.{Arrives, Brings, Judges, judge}
 use Rattle.pf_posix.proofs.Wording.{conflict_in_words, refused_in_words}
 
@@ -54,11 +54,11 @@ module _ (model : Model) where
     item_split : (front ++ byte ∷ []) ≡ (g.whole ++ (g.part ++ byte ∷ []))
     item_split = ap (λ f. f ++ byte ∷ []) g.split ∙ append_assoc g.whole g.part (byte ∷ [])
 
-    on_part : (to : PosixState) → IsStateAfter to (g.part ++ byte ∷ []) g.own → Follows (style_of seen) (style_in to) → IsGoodPosixFront model (front ++ byte ∷ []) seen to
+    on_part : (to : PosixState) → IsStateAfter to (g.part ++ byte ∷ []) g.own → Follows (numbering_of seen) (numbering_in to) → IsGoodPosixFront model (front ++ byte ∷ []) seen to
     on_part to at follows =
-        record { items = g.items; whole = g.whole; part = g.part ++ byte ∷ []; own = g.own; reads = g.reads; at = at; split = item_split; fetches_are = g.fetches_are; agreed = g.agreed; style = follows }
+        record { items = g.items; whole = g.whole; part = g.part ++ byte ∷ []; own = g.own; reads = g.reads; at = at; split = item_split; fetches_are = g.fetches_are; agreed = g.agreed; numbering = follows }
 
-    pub on_arrived : (to : PosixState) → Arrives model (style_of seen) g.part g.own byte to → IsGoodPosixFront model (front ++ byte ∷ []) seen to
+    pub on_arrived : (to : PosixState) → Arrives model (numbering_of seen) g.part g.own byte to → IsGoodPosixFront model (front ++ byte ∷ []) seen to
     on_arrived Between h =
         record {
           items = g.items ++ Byte h.0 ∷ [];
@@ -70,7 +70,7 @@ module _ (model : Model) where
           split = item_split ∙ sym (append-nil _);
           fetches_are = g.fetches_are ∙ ap (λ o. fetched model g.items ++ o) h.2 ∙ ap (λ f. f ++ []) (sym (fetched_byte model g.items h.0));
           agreed = g.agreed;
-          style = tt;
+          numbering = tt;
         }
     on_arrived Opened h = on_part Opened h.0 h.1
     on_arrived (First n) h = on_part (First n) h.0 h.1
@@ -83,7 +83,7 @@ module _ (model : Model) where
     on_arrived (Modified parts modifier) h = on_part (Modified parts modifier) h.0 h.1
 
     module _ (f : Fetch) (clear : conflicts seen f ≡ false) where
-      on_fetch : (to : PosixState) → IsStateAfter to (g.part ++ byte ∷ []) (g.own ++ f ∷ []) → Follows (style_of seen) (Some (style_by f.number)) → style_in to ≡ Some (style_by f.number)
+      on_fetch : (to : PosixState) → IsStateAfter to (g.part ++ byte ∷ []) (g.own ++ f ∷ []) → Follows (numbering_of seen) (Some (numbering_by f.number)) → numbering_in to ≡ Some (numbering_by f.number)
           → IsGoodPosixFront model (front ++ byte ∷ []) (seen ++ f ∷ []) to
       on_fetch to at follows known =
           record {
@@ -96,10 +96,10 @@ module _ (model : Model) where
             split = item_split;
             fetches_are = ap (λ s. s ++ f ∷ []) g.fetches_are ∙ append_assoc (fetched model g.items) g.own (f ∷ []);
             agreed = agreed_push seen f g.agreed follows clear;
-            style = subst (Follows (style_of (seen ++ f ∷ []))) (sym known) (inr (style_push seen f follows));
+            numbering = subst (Follows (numbering_of (seen ++ f ∷ []))) (sym known) (inr (numbering_push seen f follows));
           }
 
-      pub on_brought : (to : PosixState) → Brings model (style_of seen) g.part g.own byte f to → IsGoodPosixFront model (front ++ byte ∷ []) (seen ++ f ∷ []) to
+      pub on_brought : (to : PosixState) → Brings model (numbering_of seen) g.part g.own byte f to → IsGoodPosixFront model (front ++ byte ∷ []) (seen ++ f ∷ []) to
       on_brought Between h =
           record {
             items = g.items ++ Specification h.0 ∷ [];
@@ -112,7 +112,7 @@ module _ (model : Model) where
             fetches_are = ap (λ s. s ++ f ∷ []) g.fetches_are ∙ append_assoc (fetched model g.items) g.own (f ∷ []) ∙ ap (λ o. fetched model g.items ++ o) (h.3 ∙ sym (append-nil (fetches model h.0)))
                 ∙ sym (fetched_append model g.items (Specification h.0 ∷ [])) ∙ sym (append-nil _);
             agreed = agreed_push seen f g.agreed h.4 clear;
-            style = tt;
+            numbering = tt;
           }
       on_brought Opened h = on_fetch Opened h.0 h.1 h.2
       on_brought (First n) h = on_fetch (First n) h.0 h.1 h.2
@@ -155,21 +155,21 @@ module _ (model : Model) where
     no_conflict f e all = let none = conflicts_not seen f all in cc
 
     module _ (behind : (others : List Fetch) (to : PosixState) → IsGoodPosixFront model (front ++ byte ∷ []) others to → length (front ++ byte ∷ []) ≤ MAX_TEXT_LEN
-        → Tells model (front ++ byte ∷ [] ++ rest) (verdict_after others (trace_from model (style_of others) to (length (front ++ byte ∷ [])) rest))) where
-      later : (others : List Fetch) (to : PosixState) (style : Numbering) → length front < MAX_TEXT_LEN → style ≡ style_of others → IsGoodPosixFront model (front ++ byte ∷ []) others to
-          → Tells model (front ++ (byte ∷ rest)) (verdict_after others (trace_from model style to (length front + 1) rest))
-      later others to style less e good =
-          subst (λ t. Tells model t (verdict_after others (trace_from model style to (length front + 1) rest))) (append_assoc front (byte ∷ []) rest)
+        → Tells model (front ++ byte ∷ [] ++ rest) (verdict_after others (trace_from model (numbering_of others) to (length (front ++ byte ∷ [])) rest))) where
+      later : (others : List Fetch) (to : PosixState) (numbering : Numbering) → length front < MAX_TEXT_LEN → numbering ≡ numbering_of others → IsGoodPosixFront model (front ++ byte ∷ []) others to
+          → Tells model (front ++ (byte ∷ rest)) (verdict_after others (trace_from model numbering to (length front + 1) rest))
+      later others to numbering less e good =
+          subst (λ t. Tells model t (verdict_after others (trace_from model numbering to (length front + 1) rest))) (append_assoc front (byte ∷ []) rest)
           (subst (λ s. Tells model (front ++ byte ∷ [] ++ rest) (verdict_after others (trace_from model s to (length front + 1) rest))) (sym e)
-          (subst (λ n. Tells model (front ++ byte ∷ [] ++ rest) (verdict_after others (trace_from model (style_of others) to n rest))) (length_push front byte)
+          (subst (λ n. Tells model (front ++ byte ∷ [] ++ rest) (verdict_after others (trace_from model (numbering_of others) to n rest))) (length_push front byte)
           (behind others to good (omega (arith, length_push front byte)))))
 
-      by_conflict : (f : Fetch) (to : PosixState) (c : Bool) → conflicts seen f ≡ c → length front < MAX_TEXT_LEN → (length front == MAX_TEXT_LEN) ≡ false → posix_step model (style_of seen) state byte ≡ Ok (to, Some f) → Brings model (style_of seen) g.part g.own byte f to
-          → Tells model (front ++ (byte ∷ rest)) (if c then Refused TwoTypes (length front) else verdict_after (seen ++ f ∷ []) (trace_from model (style_by f.number) to (length front + 1) rest))
+      by_conflict : (f : Fetch) (to : PosixState) (c : Bool) → conflicts seen f ≡ c → length front < MAX_TEXT_LEN → (length front == MAX_TEXT_LEN) ≡ false → posix_step model (numbering_of seen) state byte ≡ Ok (to, Some f) → Brings model (numbering_of seen) g.part g.own byte f to
+          → Tells model (front ++ (byte ∷ rest)) (if c then Refused TwoTypes (length front) else verdict_after (seen ++ f ∷ []) (trace_from model (numbering_by f.number) to (length front + 1) rest))
       by_conflict f to true c less no_end e h =
-          at_byte TwoTypes (rw no_end (conflict_in_words model seen g.part g.own state g.at byte g.style to f e (no_conflict f c)))
-      by_conflict f to false c less no_end e h = later (seen ++ f ∷ []) to (style_by f.number) less (sym (style_push seen f (brought_follows to h))) (on_brought front seen state g byte f c to h) where
-        brought_follows : (to : PosixState) → Brings model (style_of seen) g.part g.own byte f to → Follows (style_of seen) (Some (style_by f.number))
+          at_byte TwoTypes (rw no_end (conflict_in_words model seen g.part g.own state g.at byte g.numbering to f e (no_conflict f c)))
+      by_conflict f to false c less no_end e h = later (seen ++ f ∷ []) to (numbering_by f.number) less (sym (numbering_push seen f (brought_follows to h))) (on_brought front seen state g byte f c to h) where
+        brought_follows : (to : PosixState) → Brings model (numbering_of seen) g.part g.own byte f to → Follows (numbering_of seen) (Some (numbering_by f.number))
         brought_follows Between h = h.4
         brought_follows Opened h = h.1
         brought_follows (First n) h = h.1
@@ -181,18 +181,18 @@ module _ (model : Model) where
         brought_follows (Point parts) h = h.1
         brought_follows (Modified parts modifier) h = h.1
 
-      by_next : (n : PosixStep) → length front < MAX_TEXT_LEN → (length front == MAX_TEXT_LEN) ≡ false → posix_step model (style_of seen) state byte ≡ n → Judges model (style_of seen) g.part g.own byte n
-          → Tells model (front ++ (byte ∷ rest)) (verdict_after seen (moved (style_of seen) (length front) n (λ s q. trace_from model s q (length front + 1) rest)))
-      by_next (Err kind) less no_end e h = at_byte kind (rw no_end (refused_in_words model seen g.part g.own state g.at byte g.style kind e))
-      by_next (Ok (to, None)) less no_end e h = later seen to (style_of seen) less refl (on_arrived front seen state g byte to h)
+      by_next : (n : PosixStep) → length front < MAX_TEXT_LEN → (length front == MAX_TEXT_LEN) ≡ false → posix_step model (numbering_of seen) state byte ≡ n → Judges model (numbering_of seen) g.part g.own byte n
+          → Tells model (front ++ (byte ∷ rest)) (verdict_after seen (moved (numbering_of seen) (length front) n (λ s q. trace_from model s q (length front + 1) rest)))
+      by_next (Err kind) less no_end e h = at_byte kind (rw no_end (refused_in_words model seen g.part g.own state g.at byte g.numbering kind e))
+      by_next (Ok (to, None)) less no_end e h = later seen to (numbering_of seen) less refl (on_arrived front seen state g byte to h)
       by_next (Ok (to, Some f)) less no_end e h = by_conflict f to (conflicts seen f) refl less no_end e h
 
       by_limit : (b : Bool) → nat_le MAX_TEXT_LEN (length front) ≡ b
-          → Tells model (front ++ (byte ∷ rest)) (verdict_after seen (if b then FetchTrace.Fault TooLong (length front) else moved (style_of seen) (length front) (posix_step model (style_of seen) state byte) (λ s q. trace_from model s q (length front + 1) rest)))
+          → Tells model (front ++ (byte ∷ rest)) (verdict_after seen (if b then FetchTrace.Fault TooLong (length front) else moved (numbering_of seen) (length front) (posix_step model (numbering_of seen) state byte) (λ s q. trace_from model s q (length front + 1) rest)))
       by_limit true e = let last = reached (length front) few e in at_byte TooLong (rw last refl) where
         reached : (n : ℕ) → n ≤ MAX_TEXT_LEN → nat_le MAX_TEXT_LEN n ≡ true → (n == MAX_TEXT_LEN) ≡ true
         reached n few e = grind (arith, nat_tests)
-      by_limit false e = by_next (posix_step model (style_of seen) state byte) (below (length front) few e) (not_yet (length front) e) refl (judge model (style_of seen) g.part g.own byte state g.at g.style) where
+      by_limit false e = by_next (posix_step model (numbering_of seen) state byte) (below (length front) few e) (not_yet (length front) e) refl (judge model (numbering_of seen) g.part g.own byte state g.at g.numbering) where
         below : (n : ℕ) → n ≤ MAX_TEXT_LEN → nat_le MAX_TEXT_LEN n ≡ false → n < MAX_TEXT_LEN
         below n few e = grind (arith, nat_tests)
 
@@ -201,13 +201,13 @@ module _ (model : Model) where
 
   -- what is read from a good front on
   sound : (rest front : Text) (seen : List Fetch) (state : PosixState) → IsGoodPosixFront model front seen state → length front ≤ MAX_TEXT_LEN
-      → Tells model (front ++ rest) (verdict_after seen (trace_from model (style_of seen) state (length front) rest))
+      → Tells model (front ++ rest) (verdict_after seen (trace_from model (numbering_of seen) state (length front) rest))
   sound [] front seen state g few = sound_end front seen state g few
   sound (byte ∷ rest) front seen state g few =
       by_limit front rest seen state g few byte (λ others to good more. sound rest (front ++ byte ∷ []) others to good more) (nat_le MAX_TEXT_LEN (length front)) refl
 
   pub at_start : IsGoodPosixFront model [] [] Between
-  at_start = record { items = []; whole = []; part = []; own = []; reads = refl; at = (refl, refl); split = refl; fetches_are = refl; agreed = agreed_none; style = tt }
+  at_start = record { items = []; whole = []; part = []; own = []; reads = refl; at = (refl, refl); split = refl; fetches_are = refl; agreed = agreed_none; numbering = tt }
 
   pub told : (t : Text) → Tells model t (verdict model t)
   told t = sound t [] [] Between at_start (omega arith)

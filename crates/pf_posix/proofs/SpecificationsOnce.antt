@@ -205,7 +205,7 @@ some_digit t n (d ∷ ds) h e f = let no : digit_glyph false d ∷ map (digit_gl
 width_inside : (t : Text) (width : Option Amount) → SpellsPosixWidth t None width → AreInside is_width t
 width_inside t None h = rw h tt
 width_inside t (Some (Given n)) h = rw h.numeral.2 (digits_inside is_width h.numeral.0 digit_in_width h.numeral.1.digits.below)
-width_inside t (Some (Fetched number)) h = star_only t number h.digits h.digits_are h.style h.whole where
+width_inside t (Some (Fetched number)) h = star_only t number h.digits h.digits_are h.numbering h.whole where
   star_only : (t : Text) (number : Option ℕ) (digits : Text) → SpellsPosition digits number → is_some number ≡ false → t ≡ 42 ∷ digits → AreInside is_width t
   star_only t None digits h e w = rw (w, h) (refl, tt)
   star_only t (Some n) digits h e w = cc
@@ -228,13 +228,13 @@ same_width t (Some (Given n)) (Some (Given m)) h g = ap (λ k. Some (Given k))
 same_width t (Some (Given n)) (Some (Fetched number)) h g = absurd (no_star t g.digits h.numeral.0 h.numeral.1.digits.below h.numeral.2 g.whole)
 same_width t (Some (Fetched number)) None h g = let no : [] ≡ 42 ∷ h.digits = sym g ∙ h.whole in cc
 same_width t (Some (Fetched number)) (Some (Given n)) h g = absurd (no_star t h.digits g.numeral.0 g.numeral.1.digits.below g.numeral.2 h.whole)
-same_width t (Some (Fetched a)) (Some (Fetched b)) h g = ap (λ o. Some (Fetched o)) (no_number a h.style ∙ sym (no_number b g.style))
+same_width t (Some (Fetched a)) (Some (Fetched b)) h g = ap (λ o. Some (Fetched o)) (no_number a h.numbering ∙ sym (no_number b g.numbering))
 
 -- precisions
 precision_inside : (t : Text) (precision : Option Amount) → SpellsPosixPrecision t None precision → AreInside is_precision t
 precision_inside t None h = rw h tt
 precision_inside t (Some (Given n)) h = rw h.0.2 (refl, digits_inside is_precision h.0.0 digit_in_precision h.0.1.below)
-precision_inside t (Some (Fetched number)) h = star_only t h.0 number h.1.digits h.1.digits_are h.1.style h.1.whole h.2 where
+precision_inside t (Some (Fetched number)) h = star_only t h.0 number h.1.digits h.1.digits_are h.1.numbering h.1.whole h.2 where
   star_only : (t rest : Text) (number : Option ℕ) (digits : Text) → SpellsPosition digits number → is_some number ≡ false → rest ≡ 42 ∷ digits → t ≡ 46 ∷ rest
       → AreInside is_precision t
   star_only t rest None digits h e w p = rw (p, w, h) (refl, (refl, tt))
@@ -263,7 +263,7 @@ same_precision t (Some (Given n)) (Some (Given m)) h g = ap (λ k. Some (Given k
 same_precision t (Some (Given n)) (Some (Fetched number)) h g = absurd (no_star g.0 g.1.digits h.0.0 h.0.1.below (tail_same _ _ (sym g.2 ∙ h.0.2)) g.1.whole)
 same_precision t (Some (Fetched number)) None h g = let no : [] ≡ 46 ∷ h.0 = sym g ∙ h.2 in cc
 same_precision t (Some (Fetched number)) (Some (Given n)) h g = absurd (no_star h.0 h.1.digits g.0.0 g.0.1.below (tail_same _ _ (sym h.2 ∙ g.0.2)) h.1.whole)
-same_precision t (Some (Fetched a)) (Some (Fetched b)) h g = ap (λ o. Some (Fetched o)) (no_number a h.1.style ∙ sym (no_number b g.1.style))
+same_precision t (Some (Fetched a)) (Some (Fetched b)) h g = ap (λ o. Some (Fetched o)) (no_number a h.1.numbering ∙ sym (no_number b g.1.numbering))
 
 abbrev pub made : Option ℕ → FlagSet → Option Amount → Option Amount → Modifier → Conversion → PosixSpecification
 made position flags width precision modifier conversion =

@@ -18,7 +18,7 @@ use Rattle.pf_posix.specs.declared.types.ArgumentType.{ArgumentType}
 use Rattle.pf_posix.specs.Types.{int_type}
 use Rattle.pf_posix.specs.TypeNumbers.{number_of_type}
 use Rattle.pf_posix.specs.Readings.{Fault, Fetches, FetchTrace, Refused, Takes, Whole, conflicts, greatest, is_number, listed, fetch_trace, verdict_after, verdict, wanted_at}
-use Rattle.pf_posix.specs.Refusals.{Follows, HasGap, IsOneType, IsPosixRefusedAt, style_by}
+use Rattle.pf_posix.specs.Refusals.{Follows, HasGap, IsOneType, IsPosixRefusedAt, numbering_by}
 use Rattle.pf_posix.specs.Tabled.{IsTabled, TableHolds}
 use Rattle.pf_posix.specs.Types.{AreNumbered, IsFetched, fetch}
 use Rattle.pf_posix.specs.Items.{HasArguments}
@@ -141,11 +141,11 @@ length_of_listed seen place = sym (length_listed seen 0 place)
 pub record IsByNumber (model : Model) (t : Text) (seen : List Fetch) (f : Fetch) (at : ℕ) (left : FetchTrace) : Type 0 where
   pub verdict_is : verdict model t ≡ verdict_after seen (Fetches f at left)
   pub within : IsWithin f
-  pub number : style_by f.number ≡ Numbered
-  pub numbered : AllByRecursion (λ g. style_by g.number ≡ Numbered) seen
+  pub number : numbering_by f.number ≡ Numbered
+  pub numbered : AllByRecursion (λ g. numbering_by g.number ≡ Numbered) seen
   pub bounded : IsBounded Numbered left
 
-pub first_by_number : (model : Model) (t : Text) (f : Fetch) (at : ℕ) (left : FetchTrace) → style_by f.number ≡ Numbered → fetch_trace model t ≡ Fetches f at left → IsByNumber model t [] f at left
+pub first_by_number : (model : Model) (t : Text) (f : Fetch) (at : ℕ) (left : FetchTrace) → numbering_by f.number ≡ Numbered → fetch_trace model t ≡ Fetches f at left → IsByNumber model t [] f at left
 first_by_number model t f at left n e =
     let bounded = subst (IsBounded Undecided) e (reading_bounded model t) in
     record { verdict_is = ap (verdict_after []) e; within = bounded.0; number = n; numbered = tt; bounded = subst (λ s. IsBounded s left) n bounded.2 }
@@ -158,7 +158,7 @@ module _ (model : Model) (t : Text) (seen : List Fetch) (f : Fetch) (at : ℕ) (
     goes_on : verdict model t ≡ verdict_after (seen ++ f ∷ []) left
     goes_on = h.verdict_is ∙ rw c refl
 
-    pub all_numbered : AllByRecursion (λ g. style_by g.number ≡ Numbered) (seen ++ f ∷ [])
+    pub all_numbered : AllByRecursion (λ g. numbering_by g.number ≡ Numbered) (seen ++ f ∷ [])
     all_numbered = all_push _ seen f h.numbered h.number
 
     pub next_by_number : (g : Fetch) (place : ℕ) (rest : FetchTrace) → left ≡ Fetches g place rest → IsByNumber model t (seen ++ f ∷ []) g place rest
@@ -166,7 +166,7 @@ module _ (model : Model) (t : Text) (seen : List Fetch) (f : Fetch) (at : ℕ) (
         let bounded = subst (IsBounded Numbered) e h.bounded in
         let n = follows g.number bounded.1 in
         record { verdict_is = goes_on ∙ ap (verdict_after (seen ++ f ∷ [])) e; within = bounded.0; number = n; numbered = all_numbered; bounded = subst (λ s. IsBounded s rest) n bounded.2 } where
-          follows : (o : Option ℕ) → Follows Numbered (Some (style_by o)) → style_by o ≡ Numbered
+          follows : (o : Option ℕ) → Follows Numbered (Some (numbering_by o)) → numbering_by o ≡ Numbered
           follows o (inl e) = cc
           follows o (inr e) = sym e
 
@@ -176,9 +176,9 @@ module _ (model : Model) (t : Text) (seen : List Fetch) (f : Fetch) (at : ℕ) (
     pub refused_by_number : (kind : RefusalKind) (place : ℕ) → left ≡ Fault kind place → IsPosixRefusedAt model t kind place
     refused_by_number kind place e = subst (Tells model t) (goes_on ∙ ap (verdict_after (seen ++ f ∷ [])) e) (told model t)
 
-pub same_fetch : (f : Fetch) (m : ℕ) → style_by f.number ≡ Numbered → IsWithin f → m ≡ unwrap_or f.number 1 → fetch (Some (m - 1 + 1)) f.wanted ≡ f
+pub same_fetch : (f : Fetch) (m : ℕ) → numbering_by f.number ≡ Numbered → IsWithin f → m ≡ unwrap_or f.number 1 → fetch (Some (m - 1 + 1)) f.wanted ≡ f
 same_fetch f m n w e = go f.number refl n where
-  go : (o : Option ℕ) → f.number ≡ o → style_by o ≡ Numbered → fetch (Some (m - 1 + 1)) f.wanted ≡ f
+  go : (o : Option ℕ) → f.number ≡ o → numbering_by o ≡ Numbered → fetch (Some (m - 1 + 1)) f.wanted ≡ f
   go None x n = cc
   go (Some k) x n =
       let value : m ≡ k = e ∙ ap (λ o. unwrap_or o 1) x in
@@ -186,12 +186,12 @@ same_fetch f m n w e = go f.number refl n where
       let same : m - 1 + 1 ≡ k = omega (arith, value, some) in
       ap (λ j. fetch (Some j) f.wanted) same ∙ ap (λ o. fetch o f.wanted) (sym x)
 
-pub numbered_of : (o : Option ℕ) → is_some o ≡ true → style_by o ≡ Numbered
+pub numbered_of : (o : Option ℕ) → is_some o ≡ true → numbering_by o ≡ Numbered
 numbered_of None e = cc
 numbered_of (Some n) e = refl
 
 -- the end of a text
-pub finished : (model : Model) (t : Text) (table : Table) (seen : List Fetch) (at : ℕ) (r : Result (Unit {0}) Refusal) → verdict model t ≡ Takes seen → AllByRecursion (λ g. style_by g.number ≡ Numbered) seen → TableHolds table seen → at ≡ length t
+pub finished : (model : Model) (t : Text) (table : Table) (seen : List Fetch) (at : ℕ) (r : Result (Unit {0}) Refusal) → verdict model t ≡ Takes seen → AllByRecursion (λ g. numbering_by g.number ≡ Numbered) seen → TableHolds table seen → at ≡ length t
     → MatchResult r (λ _. (place : ℕ) → place < table.count → IsFetched place seen) (λ refusal. (refusal ≡ record { kind = MissingArgument; at = at }) × HasGap seen)
     → MatchResult r (λ _. IsTabled model t table) (λ refusal. IsPosixRefusedAt model t refusal.kind refusal.at)
 finished model t table seen at (Ok done) v n k e h = record { seen = seen; verdict_is = v; kept = k; numbered = n; all = h }

@@ -42,7 +42,7 @@ module _ (model : Model) (t : Text) (fs : List Fetch) (h : Taken model t fs) whe
           split = sym (append-nil t);
           fetches_are = subst (λ f. fs ≡ f) (sym (append-nil _)) h.seen_are;
           agreed = h.agreed;
-          style = tt;
+          numbering = tt;
         };
         cause = inr (refl, refl, gap);
       }

@@ -39,25 +39,25 @@ unnumbered model (Float floats.F) = refl
 unnumbered model (Float _) = refl
 unnumbered model _ = refl
 
-two_bytes_step : (model : Model) (style : Numbering) (conversion : Conversion) → style ≢ Numbered → posix_step model style Opened (conversion_letter conversion) ≡ Ok (Between, Some (fetch None (conversion_type model (Integer lengths.None) conversion)))
+two_bytes_step : (model : Model) (numbering : Numbering) (conversion : Conversion) → numbering ≢ Numbered → posix_step model numbering Opened (conversion_letter conversion) ≡ Ok (Between, Some (fetch None (conversion_type model (Integer lengths.None) conversion)))
 two_bytes_step model Undecided conversion some = undecided model conversion
 two_bytes_step model Unnumbered conversion some = unnumbered model conversion
 two_bytes_step model Numbered conversion some = absurd (some refl)
 
-pub two_bytes_read : (model : Model) (style : Numbering) (t : Text) (at : ℕ) (conversion : Conversion) → style ≢ Numbered → at + 1 < length t → at + 1 < MAX_TEXT_LEN → get_or t at 0 ≡ 37 → conversion_of (get_or t (at + 1) 0) ≡ Some conversion
-    → trace_from model style Between at (drop at t) ≡ Fetches (fetch None (conversion_type model (Integer lengths.None) conversion)) (at + 1) (trace_from model Unnumbered Between (at + 2) (drop (at + 2) t))
-two_bytes_read model style t at conversion some less short first e =
+pub two_bytes_read : (model : Model) (numbering : Numbering) (t : Text) (at : ℕ) (conversion : Conversion) → numbering ≢ Numbered → at + 1 < length t → at + 1 < MAX_TEXT_LEN → get_or t at 0 ≡ 37 → conversion_of (get_or t (at + 1) 0) ≡ Some conversion
+    → trace_from model numbering Between at (drop at t) ≡ Fetches (fetch None (conversion_type model (Integer lengths.None) conversion)) (at + 1) (trace_from model Unnumbered Between (at + 2) (drop (at + 2) t))
+two_bytes_read model numbering t at conversion some less short first e =
     let split = drop_more t at 0 (omega arith) in
     let behind = drop_more t (at + 1) 0 less in
     let room = within_limit at (omega arith) in
     let room2 = within_limit (at + 1) short in
     let letter = byte_of_conversion (get_or t (at + 1) 0) conversion e in
-    let step = ap (posix_step model style Opened) letter ∙ two_bytes_step model style conversion some in
+    let step = ap (posix_step model numbering Opened) letter ∙ two_bytes_step model numbering conversion some in
     let two : at + 1 + 1 ≡ at + 2 = omega arith in
-    ap (trace_from model style Between at) split
-    ∙ ap (λ b. trace_from model style Between at (b ∷ drop (at + 1) t)) first
+    ap (trace_from model numbering Between at) split
+    ∙ ap (λ b. trace_from model numbering Between at (b ∷ drop (at + 1) t)) first
     ∙ rw room refl
-    ∙ ap (trace_from model style Opened (at + 1)) behind
+    ∙ ap (trace_from model numbering Opened (at + 1)) behind
     ∙ rw (room2, step) refl
     ∙ ap (λ k. Fetches (fetch None (conversion_type model (Integer lengths.None) conversion)) (at + 1) (trace_from model Unnumbered Between k (drop k t))) two
 

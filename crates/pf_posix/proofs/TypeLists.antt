@@ -10,7 +10,7 @@ use Rattle.pf_posix.specs.declared.partial_specification.Numbering.TheVariants.{
 use Rattle.pf_posix.specs.declared.types.ArgumentType.{ArgumentType}
 use Rattle.pf_posix.specs.Types.{int_type}
 use Rattle.pf_posix.specs.Readings.{greatest, is_number, listed, wanted_types, wanted_at}
-use Rattle.pf_posix.specs.Refusals.{AreAgreed, HasGap, IsOneType, style_by}
+use Rattle.pf_posix.specs.Refusals.{AreAgreed, HasGap, IsOneType, numbering_by}
 use Rattle.pf_posix.specs.Types.{AreInOrder, AreNumbered, HaveTypes, IsFetched, HasTypeIn}
 use Rattle.pf_posix.proofs.Agreeing.{all_map}
 use Rattle.pf_posix.proofs.Within.{IsWithin}
@@ -103,14 +103,14 @@ gap_is fs p less none =
 
 module _ (fs : List Fetch) (agreed : AreAgreed fs) (within : AllByRecursion IsWithin fs) where
   -- of numbered arguments
-  module _ (numbered : AllByRecursion (λ f. style_by f.number ≡ Numbered) fs) (all : (p : ℕ) → p < greatest fs → IsFetched p fs) where
-    one : (f : Fetch) → AllByRecursion (IsOneType f) fs → style_by f.number ≡ Numbered → IsWithin f → ((n : ℕ) → f.number ≡ Some n → n ≤ greatest fs) → HasTypeIn (listed fs 0 (greatest fs)) f
+  module _ (numbered : AllByRecursion (λ f. numbering_by f.number ≡ Numbered) fs) (all : (p : ℕ) → p < greatest fs → IsFetched p fs) where
+    one : (f : Fetch) → AllByRecursion (IsOneType f) fs → numbering_by f.number ≡ Numbered → IsWithin f → ((n : ℕ) → f.number ≡ Some n → n ≤ greatest fs) → HasTypeIn (listed fs 0 (greatest fs)) f
     one f same s w few = go f.number refl s where
       by_wanted : (place : ℕ) (o : Option ArgumentType) → wanted_at place fs ≡ o → f.number ≡ Some (place + 1) → IsFetched place fs → unwrap_or o int_type ≡ f.wanted
       by_wanted place None e n h = absurd (fetched_none place fs e h)
       by_wanted place (Some type) e n h = wanted_one place fs f same n type e
 
-      go : (o : Option ℕ) → f.number ≡ o → style_by o ≡ Numbered → HasTypeIn (listed fs 0 (greatest fs)) f
+      go : (o : Option ℕ) → f.number ≡ o → numbering_by o ≡ Numbered → HasTypeIn (listed fs 0 (greatest fs)) f
       go None e s = cc
       go (Some n) e s =
           let some = (w n e).0 in
@@ -121,7 +121,7 @@ module _ (fs : List Fetch) (agreed : AreAgreed fs) (within : AllByRecursion IsWi
           let zero_plus : 0 + (n - 1) ≡ n - 1 = omega arith in
           (n - 1, own, get_listed fs 0 (greatest fs) (n - 1) there ∙ ap (λ p. Some (unwrap_or (wanted_at p fs) int_type)) zero_plus ∙ ap Some (by_wanted (n - 1) _ refl own (all (n - 1) there)))
 
-    each_one : (gs : List Fetch) → AllByRecursion (λ f. AllByRecursion (IsOneType f) fs) gs → AllByRecursion (λ f. style_by f.number ≡ Numbered) gs → AllByRecursion IsWithin gs
+    each_one : (gs : List Fetch) → AllByRecursion (λ f. AllByRecursion (IsOneType f) fs) gs → AllByRecursion (λ f. numbering_by f.number ≡ Numbered) gs → AllByRecursion IsWithin gs
         → AllByRecursion (λ f. (n : ℕ) → f.number ≡ Some n → n ≤ greatest fs) gs → AllByRecursion (HasTypeIn (listed fs 0 (greatest fs))) gs
     each_one [] a b c d = tt
     each_one (g ∷ gs) a b c d = (one g a.0 b.0 c.0 d.0, each_one gs a.1 b.1 c.1 d.1)
@@ -133,24 +133,24 @@ module _ (fs : List Fetch) (agreed : AreAgreed fs) (within : AllByRecursion IsWi
           all = λ place less. all place (omega (arith, less, length_listed fs 0 (greatest fs)));
         }
 
-  in_order : AllByRecursion (λ f. style_by f.number ≡ Unnumbered) fs → AreInOrder fs (wanted_types fs)
+  in_order : AllByRecursion (λ f. numbering_by f.number ≡ Unnumbered) fs → AreInOrder fs (wanted_types fs)
   in_order h = record { unnumbered = all_map _ _ fs (λ f e. none f.number e) h; types_are = refl } where
-    none : (o : Option ℕ) → style_by o ≡ Unnumbered → o ≡ None
+    none : (o : Option ℕ) → numbering_by o ≡ Unnumbered → o ≡ None
     none None e = refl
     none (Some n) e = cc
 
 pub types_or_gap : (fs : List Fetch) → AreAgreed fs → AllByRecursion IsWithin fs → ((types : List ArgumentType) × HaveTypes fs types) ⊎ HasGap fs
 types_or_gap [] agreed within = inl ([], inl (record { unnumbered = tt; types_are = refl }))
 types_or_gap (f ∷ fs) agreed within = go f.number refl where
-  by_number : AllByRecursion (λ g. style_by g.number ≡ Numbered) (f ∷ fs) → ((types : List ArgumentType) × HaveTypes (f ∷ fs) types) ⊎ HasGap (f ∷ fs)
+  by_number : AllByRecursion (λ g. numbering_by g.number ≡ Numbered) (f ∷ fs) → ((types : List ArgumentType) × HaveTypes (f ∷ fs) types) ⊎ HasGap (f ∷ fs)
   by_number numbered = elim (all_or_gap (f ∷ fs) (greatest (f ∷ fs))) [
     | inl every ↦ inl (listed (f ∷ fs) 0 (greatest (f ∷ fs)), inr (numbered_types (f ∷ fs) agreed within numbered every))
     | inr gap ↦ inr (gap_is (f ∷ fs) gap.0 gap.1 gap.2)
   ]
 
   go : (o : Option ℕ) → f.number ≡ o → ((types : List ArgumentType) × HaveTypes (f ∷ fs) types) ⊎ HasGap (f ∷ fs)
-  go None e = inl (wanted_types (f ∷ fs), inl (in_order (f ∷ fs) agreed within (all_map _ _ (f ∷ fs) (λ g s. s ∙ ap style_by e) agreed.one_style)))
-  go (Some n) e = by_number (all_map _ _ (f ∷ fs) (λ g s. s ∙ ap style_by e) agreed.one_style)
+  go None e = inl (wanted_types (f ∷ fs), inl (in_order (f ∷ fs) agreed within (all_map _ _ (f ∷ fs) (λ g s. s ∙ ap numbering_by e) agreed.one_numbering)))
+  go (Some n) e = by_number (all_map _ _ (f ∷ fs) (λ g s. s ∙ ap numbering_by e) agreed.one_numbering)
 
 -- all arguments are fetched, as the types show
 pub no_gap : (fs : List Fetch) (types : List ArgumentType) → HaveTypes fs types → ¬ HasGap fs

@@ -12,15 +12,15 @@ use Rattle.pf_posix.specs.declared.types.ArgumentType.{ArgumentType}
 use Rattle.pf_posix.specs.Types.{int_type}
 use Rattle.pf_posix.specs.Items.{HasArguments, fetched}
 use Rattle.pf_posix.specs.Readings.{Refused, Takes, Verdict, verdict}
-use Rattle.pf_posix.specs.Refusals.{AreAgreed, IsPosixRefusalCause, IsOneType, IsPosixRefusedAt, style_by, style_of}
+use Rattle.pf_posix.specs.Refusals.{AreAgreed, IsPosixRefusalCause, IsOneType, IsPosixRefusedAt, numbering_by, numbering_of}
 use Rattle.pf_posix.specs.Types.{AreInOrder, AreNumbered, HaveTypes, IsFetched, HasTypeIn}
 use Rattle.pf_posix.proofs.Agreeing.{all_map}
 use Rattle.pf_posix.proofs.Following.{IsSaid, items_verdict, said}
 use Rattle.pf_posix.proofs.TypeLists.{no_gap}
 
-style_head : (fs : List Fetch) (P : Fetch → Type 0) (s : Option ℕ → Type 0) → AllByRecursion P fs → ((f g : Fetch) → P f → P g → style_by f.number ≡ style_by g.number) → AllByRecursion (λ f. style_by f.number ≡ style_of fs) fs
-style_head [] P s h same = tt
-style_head (g ∷ fs) P s h same = all_map _ _ (g ∷ fs) (λ f p. same f g p h.0) h
+numbering_head : (fs : List Fetch) (P : Fetch → Type 0) (s : Option ℕ → Type 0) → AllByRecursion P fs → ((f g : Fetch) → P f → P g → numbering_by f.number ≡ numbering_by g.number) → AllByRecursion (λ f. numbering_by f.number ≡ numbering_of fs) fs
+numbering_head [] P s h same = tt
+numbering_head (g ∷ fs) P s h same = all_map _ _ (g ∷ fs) (λ f p. same f g p h.0) h
 
 two_of : (P : Fetch → Type 0) (fs gs : List Fetch) → ((f g : Fetch) → P f → P g → IsOneType f g) → AllByRecursion P fs → AllByRecursion P gs → AllByRecursion (λ f. AllByRecursion (IsOneType f) gs) fs
 two_of P fs gs same h k = all_map _ _ fs (λ f p. all_map _ _ gs (λ g q. same f g p q) k) h
@@ -28,12 +28,12 @@ two_of P fs gs same h k = all_map _ _ fs (λ f p. all_map _ _ gs (λ g q. same f
 pub types_agreed : (fs : List Fetch) (types : List ArgumentType) → HaveTypes fs types → AreAgreed fs
 types_agreed fs types (inl h) =
     record {
-      one_style = style_head fs (λ f. f.number ≡ None) (λ o. o ≡ None) h.unnumbered (λ f g p q. ap style_by (p ∙ sym q));
+      one_numbering = numbering_head fs (λ f. f.number ≡ None) (λ o. o ≡ None) h.unnumbered (λ f g p q. ap numbering_by (p ∙ sym q));
       one_type = two_of (λ f. f.number ≡ None) fs fs (λ f g p q n a b. let no : None ≡ Some n = sym p ∙ a in cc) h.unnumbered h.unnumbered;
     }
 types_agreed fs types (inr h) =
     record {
-      one_style = style_head fs (HasTypeIn types) (λ o. o ≡ o) h.each (λ f g p q. ap style_by p.1 ∙ sym (ap style_by q.1));
+      one_numbering = numbering_head fs (HasTypeIn types) (λ o. o ≡ o) h.each (λ f g p q. ap numbering_by p.1 ∙ sym (ap numbering_by q.1));
       one_type = two_of (HasTypeIn types) fs fs one h.each h.each;
     } where
       one : (f g : Fetch) → HasTypeIn types f → HasTypeIn types g → IsOneType f g

@@ -23,7 +23,7 @@ use Rattle.pf_values.specs.declared.refusals.RefusalKind.TheVariants.{BadPercent
 use Rattle.pf_posix.specs.Endings.{ending, numbered_instead, unnumbered_trace}
 use Rattle.pf_posix.specs.Items.{Byte, HasArguments, PosixItem, ReadsPosix, Specification}
 use Rattle.pf_posix.specs.Readings.{Fault, Fetches, FetchTrace, Whole, moved, trace_from}
-use Rattle.pf_posix.specs.Refusals.{IsNumberTooLarge, IsPosixRefusalCause, IsPastPercent, IsPosixRefusedAt, IsPosixRefusedByte, IsWrong, style_by}
+use Rattle.pf_posix.specs.Refusals.{IsNumberTooLarge, IsPosixRefusalCause, IsPastPercent, IsPosixRefusedAt, IsPosixRefusedByte, IsWrong, numbering_by}
 use Rattle.pf_posix.specs.Refusals.{too_large}
 use Rattle.pf_posix.specs.Specifications.{Given, PosixSpecification}
 use Rattle.pf_posix.specs.Spelling.{SpellsPosix, SpellsPositive}
@@ -47,30 +47,30 @@ use Rattle.pf_posix.proofs.WalkLemmas.{within_limit}
 module _ (model : Model) (rest : Text) where
   -- what is run through changes nothing of the end
   end_after : (t : Text) (at : ℕ) (p q : Stand) → run model (Ok p) t ≡ Ok q → at + length t ≤ MAX_TEXT_LEN
-      → ending (trace_from model p.style p.state at (t ++ rest)) ≡ ending (trace_from model q.style q.state (at + length t) rest)
+      → ending (trace_from model p.numbering p.state at (t ++ rest)) ≡ ending (trace_from model q.numbering q.state (at + length t) rest)
   end_after [] at p q e few =
       let same : p ≡ q = cc in
       let here : at ≡ at + 0 = omega arith in
-      subst (λ r. ending (trace_from model p.style p.state at rest) ≡ ending (trace_from model (Stand.style r) (Stand.state r) (at + 0) rest)) same
-      (ap (λ n. ending (trace_from model p.style p.state n rest)) here)
-  end_after (b ∷ t) at p q e few = go (posix_step model p.style p.state b) refl e (λ r. end_after t (at + 1) r q) where
+      subst (λ r. ending (trace_from model p.numbering p.state at rest) ≡ ending (trace_from model (Stand.numbering r) (Stand.state r) (at + 0) rest)) same
+      (ap (λ n. ending (trace_from model p.numbering p.state n rest)) here)
+  end_after (b ∷ t) at p q e few = go (posix_step model p.numbering p.state b) refl e (λ r. end_after t (at + 1) r q) where
     there : at + 1 + length t ≡ at + suc (length t)
     there = omega arith
 
-    moves : (n : PosixStep) → posix_step model p.style p.state b ≡ n
-        → trace_from model p.style p.state at (b ∷ t ++ rest) ≡ moved p.style at n (λ y z. trace_from model y z (at + 1) (t ++ rest))
+    moves : (n : PosixStep) → posix_step model p.numbering p.state b ≡ n
+        → trace_from model p.numbering p.state at (b ∷ t ++ rest) ≡ moved p.numbering at n (λ y z. trace_from model y z (at + 1) (t ++ rest))
     moves n e = let room = within_limit at (omega (arith, few)) in rw (room, e) refl
 
-    last : ending (trace_from model q.style q.state (at + 1 + length t) rest) ≡ ending (trace_from model q.style q.state (at + suc (length t)) rest)
-    last = ap (λ n. ending (trace_from model q.style q.state n rest)) there
+    last : ending (trace_from model q.numbering q.state (at + 1 + length t) rest) ≡ ending (trace_from model q.numbering q.state (at + suc (length t)) rest)
+    last = ap (λ n. ending (trace_from model q.numbering q.state n rest)) there
 
-    go : (n : PosixStep) → posix_step model p.style p.state b ≡ n → run model (went p.style p.own n) t ≡ Ok q
+    go : (n : PosixStep) → posix_step model p.numbering p.state b ≡ n → run model (went p.numbering p.own n) t ≡ Ok q
         → ((r : Stand) → run model (Ok r) t ≡ Ok q → at + 1 + length t ≤ MAX_TEXT_LEN
-        → ending (trace_from model r.style r.state (at + 1) (t ++ rest)) ≡ ending (trace_from model q.style q.state (at + 1 + length t) rest))
-        → ending (trace_from model p.style p.state at (b ∷ t ++ rest)) ≡ ending (trace_from model q.style q.state (at + suc (length t)) rest)
+        → ending (trace_from model r.numbering r.state (at + 1) (t ++ rest)) ≡ ending (trace_from model q.numbering q.state (at + 1 + length t) rest))
+        → ending (trace_from model p.numbering p.state at (b ∷ t ++ rest)) ≡ ending (trace_from model q.numbering q.state (at + suc (length t)) rest)
     go (Err kind) m e later = let no = run-refused model kind t in cc
-    go (Ok (to, None)) m e later = ap ending (moves _ m) ∙ later (stand p.style to p.own) e (omega (arith, few)) ∙ last
-    go (Ok (to, Some f)) m e later = ap ending (moves _ m) ∙ later (stand (style_by f.number) to (p.own ++ f ∷ [])) e (omega (arith, few)) ∙ last
+    go (Ok (to, None)) m e later = ap ending (moves _ m) ∙ later (stand p.numbering to p.own) e (omega (arith, few)) ∙ last
+    go (Ok (to, Some f)) m e later = ap ending (moves _ m) ∙ later (stand (numbering_by f.number) to (p.own ++ f ∷ [])) e (omega (arith, few)) ∙ last
 
 module _ (model : Model) where
   -- items without numbers are passed over
@@ -90,8 +90,8 @@ module _ (model : Model) where
   end_after_items (Specification s ∷ items) t rest at h u few =
       let long = ap length h.4 ∙ length-append h.0 h.1 in
       let there : at + length h.0 + length h.1 ≡ at + length t = omega (arith, long) in
-      let style : style_by s.position ≡ Unnumbered = ap style_by u.0 in
-      let run_is = spelled_run model Unnumbered h.0 s h.2.0 h.2.1 (inr (sym style)) ∙ ap (λ k. Ok (stand k Between (fetches model s))) style in
+      let numbering : numbering_by s.position ≡ Unnumbered = ap numbering_by u.0 in
+      let run_is = spelled_run model Unnumbered h.0 s h.2.0 h.2.1 (inr (sym numbering)) ∙ ap (λ k. Ok (stand k Between (fetches model s))) numbering in
       ap (λ s. ending (trace_from model Unnumbered Between at s)) (ap (λ s. s ++ rest) h.4 ∙ append_assoc h.0 h.1 rest)
       ∙ end_after model (h.1 ++ rest) h.0 at (stand Unnumbered Between []) (stand Unnumbered Between (fetches model s)) run_is (omega (arith, few, long))
       ∙ end_after_items items h.1 rest (at + length h.0) h.3 u.1 (omega (arith, few, long))

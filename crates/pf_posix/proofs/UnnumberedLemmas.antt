@@ -25,7 +25,7 @@ use Rattle.pf_posix.specs.declared.partial_specification.PartialSpecification.{P
 use Rattle.pf_posix.specs.Endings.{ending, unnumbered_trace}
 use Rattle.pf_posix.specs.Items.{Byte, PosixItem, Specification, fetched}
 use Rattle.pf_posix.specs.Readings.{Fault, Fetches, FetchTrace, Whole, moved, trace_at_end, trace_from}
-use Rattle.pf_posix.specs.Refusals.{Follows, IsGoodPosixFront, IsPosixRefusedAt, style_by, style_in, style_of}
+use Rattle.pf_posix.specs.Refusals.{Follows, IsGoodPosixFront, IsPosixRefusedAt, numbering_by, numbering_in, numbering_of}
 use Rattle.pf_posix.specs.Stages.{PosixState, Between, Opened, First, Flags, Digits, Star, StarDigits, Placed, Point, Modified}
 use Rattle.pf_posix.specs.States.{PosixStep, after_amount, after_star, posix_step}
 use Rattle.pf_posix.specs.Types.{conversion_type, fetch, fetches, star_fetches}
@@ -40,15 +40,15 @@ abbrev pub AreFree : List Fetch → Type 0
 AreFree seen = AllByRecursion (λ f. f.number ≡ None) seen
 
 -- no specification of these is numbered, so neither is what comes after them here
-free_style : (seen : List Fetch) → AreFree seen → (style_of seen ≡ Undecided) ⊎ (style_of seen ≡ Unnumbered)
-free_style [] h = inl refl
-free_style (f ∷ seen) h = inr (ap style_by h.0)
+free_numbering : (seen : List Fetch) → AreFree seen → (numbering_of seen ≡ Undecided) ⊎ (numbering_of seen ≡ Unnumbered)
+free_numbering [] h = inl refl
+free_numbering (f ∷ seen) h = inr (ap numbering_by h.0)
 
-follows_here : (style : Numbering) (o : Option Numbering) → (style ≡ Undecided) ⊎ (style ≡ Unnumbered) → Follows Unnumbered o → Follows style o
-follows_here style None free h = tt
-follows_here style (Some k) (inl e) h = inl e
-follows_here style (Some k) (inr e) (inl h) = cc
-follows_here style (Some k) (inr e) (inr h) = inr (e ∙ h)
+follows_here : (numbering : Numbering) (o : Option Numbering) → (numbering ≡ Undecided) ⊎ (numbering ≡ Unnumbered) → Follows Unnumbered o → Follows numbering o
+follows_here numbering None free h = tt
+follows_here numbering (Some k) (inl e) h = inl e
+follows_here numbering (Some k) (inr e) (inl h) = cc
+follows_here numbering (Some k) (inr e) (inr h) = inr (e ∙ h)
 
 free_items : (model : Model) (items : List PosixItem) → AreFree (fetched model items) → AllByRecursion IsUnnumbered items
 free_items model [] h = tt
@@ -65,11 +65,11 @@ is_dollar_after (First n) byte = byte == 36
 is_dollar_after _ byte = false
 
 -- but for that, it is no matter whether there was a specification before
-same_step : (model : Model) (style : Numbering) (state : PosixState) (byte : ℕ) → (style ≡ Undecided) ⊎ (style ≡ Unnumbered)
+same_step : (model : Model) (numbering : Numbering) (state : PosixState) (byte : ℕ) → (numbering ≡ Undecided) ⊎ (numbering ≡ Unnumbered)
     → is_dollar_after state byte ≡ false
-    → posix_step model style state byte ≡ posix_step model Unnumbered state byte
-same_step model style state byte (inr e) other = ap (λ k. posix_step model k state byte) e
-same_step model style state byte (inl e) other = ap (λ k. posix_step model k state byte) e ∙ go state other where
+    → posix_step model numbering state byte ≡ posix_step model Unnumbered state byte
+same_step model numbering state byte (inr e) other = ap (λ k. posix_step model k state byte) e
+same_step model numbering state byte (inl e) other = ap (λ k. posix_step model k state byte) e ∙ go state other where
   go : (state : PosixState) → is_dollar_after state byte ≡ false → posix_step model Undecided state byte ≡ posix_step model Unnumbered state byte
   go Between other = refl
   go Opened other = refl
@@ -90,7 +90,7 @@ unexpected_amount model Precision parts = refl
 unexpected_not_mixed : (n : PosixStep) → n ≡ Err Unexpected → n ≢ Err Mixed
 unexpected_not_mixed n e m = let no : Err Unexpected ≡ Err Mixed = sym e ∙ m in cc
 
-not_mixed : (model : Model) (state : PosixState) → Follows Unnumbered (style_in state) → is_dollar_after state 36 ≡ false
+not_mixed : (model : Model) (state : PosixState) → Follows Unnumbered (numbering_in state) → is_dollar_after state 36 ≡ false
     → posix_step model Unnumbered state 36 ≢ Err Mixed
 not_mixed model Between plain other = λ e. cc
 not_mixed model Opened plain other = unexpected_not_mixed _ refl
@@ -121,7 +121,7 @@ Concludes model t (Fetches f at rest) = Concludes model t rest
 record PlainFront (model : Model) (front : Text) (seen : List Fetch) (state : PosixState) : Type 0 where
   good : IsGoodPosixFront model front seen state
   free : AreFree seen
-  plain : Follows Unnumbered (style_in state)
+  plain : Follows Unnumbered (numbering_in state)
 
 -- the text ends in a state
 ends : (model : Model) (front : Text) (seen : List Fetch) (state : PosixState) → PlainFront model front seen state → length front ≤ MAX_TEXT_LEN
@@ -166,22 +166,22 @@ dollar_numbers model front rest seen n byte p less e =
     )
 
 module _ (model : Model) (part : Text) (own : List Fetch) (byte : ℕ) where
-  arrives_here : (style : Numbering) (to : PosixState) → (style ≡ Undecided) ⊎ (style ≡ Unnumbered) → Arrives model Unnumbered part own byte to
-      → Arrives model style part own byte to
-  arrives_here style Between free h = h
-  arrives_here style to free h = (h.0, follows_here style (style_in to) free h.1)
+  arrives_here : (numbering : Numbering) (to : PosixState) → (numbering ≡ Undecided) ⊎ (numbering ≡ Unnumbered) → Arrives model Unnumbered part own byte to
+      → Arrives model numbering part own byte to
+  arrives_here numbering Between free h = h
+  arrives_here numbering to free h = (h.0, follows_here numbering (numbering_in to) free h.1)
 
-  arrives_plain : (to : PosixState) → Arrives model Unnumbered part own byte to → Follows Unnumbered (style_in to)
+  arrives_plain : (to : PosixState) → Arrives model Unnumbered part own byte to → Follows Unnumbered (numbering_in to)
   arrives_plain Between h = tt
   arrives_plain to h = h.1
 
   module _ (f : Fetch) where
-    brings_here : (style : Numbering) (to : PosixState) → (style ≡ Undecided) ⊎ (style ≡ Unnumbered) → Brings model Unnumbered part own byte f to
-        → Brings model style part own byte f to
-    brings_here style Between free h = (h.0, h.1, h.2, h.3, follows_here style (Some (style_by f.number)) free h.4)
-    brings_here style to free h = (h.0, follows_here style (Some (style_by f.number)) free h.1, h.2)
+    brings_here : (numbering : Numbering) (to : PosixState) → (numbering ≡ Undecided) ⊎ (numbering ≡ Unnumbered) → Brings model Unnumbered part own byte f to
+        → Brings model numbering part own byte f to
+    brings_here numbering Between free h = (h.0, h.1, h.2, h.3, follows_here numbering (Some (numbering_by f.number)) free h.4)
+    brings_here numbering to free h = (h.0, follows_here numbering (Some (numbering_by f.number)) free h.1, h.2)
 
-    brings_plain : (to : PosixState) → Brings model Unnumbered part own byte f to → Follows Unnumbered (style_in to)
+    brings_plain : (to : PosixState) → Brings model Unnumbered part own byte f to → Follows Unnumbered (numbering_in to)
     brings_plain Between h = tt
     brings_plain to h = subst (Follows Unnumbered) (sym h.2) h.1
 
@@ -192,8 +192,8 @@ module _ (model : Model) (part : Text) (own : List Fetch) (byte : ℕ) where
 module _ (model : Model) (front rest : Text) (seen : List Fetch) (state : PosixState) (p : PlainFront model front seen state) (byte : ℕ)
     (behind : (others : List Fetch) (to : PosixState) → PlainFront model (front ++ byte ∷ []) others to → length (front ++ byte ∷ []) ≤ MAX_TEXT_LEN
     → Concludes model ((front ++ byte ∷ []) ++ rest) (trace_from model Unnumbered to (length (front ++ byte ∷ [])) rest)) where
-  style_free : (style_of seen ≡ Undecided) ⊎ (style_of seen ≡ Unnumbered)
-  style_free = free_style seen p.free
+  numbering_free : (numbering_of seen ≡ Undecided) ⊎ (numbering_of seen ≡ Unnumbered)
+  numbering_free = free_numbering seen p.free
 
   later : (others : List Fetch) (to : PosixState) → length front < MAX_TEXT_LEN → PlainFront model (front ++ byte ∷ []) others to
       → Concludes model (front ++ byte ∷ rest) (trace_from model Unnumbered to (length front + 1) rest)
@@ -212,8 +212,8 @@ module _ (model : Model) (front rest : Text) (seen : List Fetch) (state : PosixS
   refuses kind less e other =
       let g = p.good in
       let last = not_last less in
-      let here = same_step model (style_of seen) state byte style_free other ∙ e in
-      let words = refused_in_words model seen g.part g.own state g.at byte g.style kind here in
+      let here = same_step model (numbering_of seen) state byte numbering_free other ∙ e in
+      let words = refused_in_words model seen g.part g.own state g.at byte g.numbering kind here in
       inl (
         at_byte model front rest seen state g (omega (arith, less)) byte kind (rw last words),
         λ mixed dollar.
@@ -240,16 +240,16 @@ module _ (model : Model) (front rest : Text) (seen : List Fetch) (state : PosixS
       → Concludes model (front ++ byte ∷ rest) (moved Unnumbered (length front) n (λ s q. trace_from model s q (length front + 1) rest))
   by_next (Err kind) less e h = refused state refl kind less e
   by_next (Ok (to, None)) less e h = later seen to less (record {
-    good = on_arrived model front seen state p.good byte to (arrives_here model p.good.part p.good.own byte (style_of seen) to style_free h);
+    good = on_arrived model front seen state p.good byte to (arrives_here model p.good.part p.good.own byte (numbering_of seen) to numbering_free h);
     free = p.free;
     plain = arrives_plain model p.good.part p.good.own byte to h;
   })
   by_next (Ok (to, Some f)) less e h =
       let none = brings_free model p.good.part p.good.own byte f to h in
-      subst (λ s. Concludes model (front ++ byte ∷ rest) (trace_from model s to (length front + 1) rest)) (sym (ap style_by none))
+      subst (λ s. Concludes model (front ++ byte ∷ rest) (trace_from model s to (length front + 1) rest)) (sym (ap numbering_by none))
       (later (seen ++ f ∷ []) to less (record {
         good = on_brought model front seen state p.good byte f (no_conflict seen f p.free) to
-            (brings_here model p.good.part p.good.own byte f (style_of seen) to style_free h);
+            (brings_here model p.good.part p.good.own byte f (numbering_of seen) to numbering_free h);
         free = all_push (λ f. f.number ≡ None) seen f p.free none;
         plain = brings_plain model p.good.part p.good.own byte f to h;
       }))

@@ -29,31 +29,31 @@ literal byte h = go (byte == 37) (byte == 0) refl refl h where
   go false true e f h = absurd (h refl)
   go false false e f h = (f, e)
 
-module _ (model : Model) (style : Numbering) (t : Text) where
-  pub too_long : (state : PosixState) (at : ℕ) → at < length t → MAX_TEXT_LEN ≤ at → trace_from model style state at (drop at t) ≡ Fault TooLong at
-  too_long state at less past = let split = drop_more t at 0 less in let full = past_limit at past in ap (trace_from model style state at) split ∙ rw full refl
+module _ (model : Model) (numbering : Numbering) (t : Text) where
+  pub too_long : (state : PosixState) (at : ℕ) → at < length t → MAX_TEXT_LEN ≤ at → trace_from model numbering state at (drop at t) ≡ Fault TooLong at
+  too_long state at less past = let split = drop_more t at 0 less in let full = past_limit at past in ap (trace_from model numbering state at) split ∙ rw full refl
 
-  one_passed : (at : ℕ) → at < length t → at < MAX_TEXT_LEN → is_byte2 37 0 (get_or t at 0) ≢ true → trace_from model style Between at (drop at t) ≡ trace_from model style Between (at + 1) (drop (at + 1) t)
+  one_passed : (at : ℕ) → at < length t → at < MAX_TEXT_LEN → is_byte2 37 0 (get_or t at 0) ≢ true → trace_from model numbering Between at (drop at t) ≡ trace_from model numbering Between (at + 1) (drop (at + 1) t)
   one_passed at less short plain =
       let split = drop_more t at 0 less in
       let room = within_limit at short in
       let tests = literal (get_or t at 0) plain in
-      ap (trace_from model style Between at) split ∙ rw (room, tests.0, tests.1) refl
+      ap (trace_from model numbering Between at) split ∙ rw (room, tests.0, tests.1) refl
 
   passed : (n at : ℕ) → at + n ≤ length t → at + n ≤ MAX_TEXT_LEN → ((k : ℕ) → k < n → is_byte2 37 0 (get_or t (at + k) 0) ≢ true)
-      → trace_from model style Between at (drop at t) ≡ trace_from model style Between (at + n) (drop (at + n) t)
-  passed zero at few short plain = let same : at ≡ at + 0 = omega arith in ap (λ k. trace_from model style Between k (drop k t)) same
+      → trace_from model numbering Between at (drop at t) ≡ trace_from model numbering Between (at + n) (drop (at + n) t)
+  passed zero at few short plain = let same : at ≡ at + 0 = omega arith in ap (λ k. trace_from model numbering Between k (drop k t)) same
   passed (suc n) at few short plain =
       let here : at + 0 ≡ at = omega arith in
       let there : at + 1 + n ≡ at + suc n = omega arith in
       let first : is_byte2 37 0 (get_or t at 0) ≢ true = subst (λ k. is_byte2 37 0 (get_or t k 0) ≢ true) here (plain 0 (omega arith)) in
       one_passed at (omega arith) (omega arith) first
       ∙ passed n (at + 1) (omega arith) (omega arith) (λ k less. let next : at + suc k ≡ at + 1 + k = omega arith in subst (λ j. is_byte2 37 0 (get_or t j 0) ≢ true) next (plain (suc k) (omega arith)))
-      ∙ ap (λ k. trace_from model style Between k (drop k t)) there
+      ∙ ap (λ k. trace_from model numbering Between k (drop k t)) there
 
   -- a run that a search found
   pub run_passed : (at n : ℕ) → at ≤ length t → n ≤ length (take (length t - at) (drop at t)) → at + n ≤ MAX_TEXT_LEN → Nowhere (Passes (is_byte2 37 0) (take (length t - at) (drop at t))) 0 n
-      → trace_from model style Between at (drop at t) ≡ trace_from model style Between (at + n) (drop (at + n) t)
+      → trace_from model numbering Between at (drop at t) ≡ trace_from model numbering Between (at + n) (drop (at + n) t)
   run_passed at n low few short none =
       let rest = take_rest t at in
       let long = length-drop at t in

@@ -24,7 +24,7 @@ use Rattle.pf_posix.specs.declared.partial_specification.Numbering.TheVariants.{
 use Rattle.pf_posix.specs.Defined.{undefined_of}
 use Rattle.pf_posix.specs.Fronts.{IsStateAfter}
 use Rattle.pf_posix.specs.Letters.{conversion_of, is_first_digit, length_modifier_of}
-use Rattle.pf_posix.specs.Refusals.{CannotStand, CompletesSpecification, CompletesUndefined, FetchesLast, FetchesStar, Follows, IsInSpecification, IsPastPercent, IsMixed, IsOneType, IsPosixRefusedByte, IsNumberTooLarge, IsUnexpected, IsWrong, MixesStar, style_by, style_in, style_of, too_large}
+use Rattle.pf_posix.specs.Refusals.{CannotStand, CompletesSpecification, CompletesUndefined, FetchesLast, FetchesStar, Follows, IsInSpecification, IsPastPercent, IsMixed, IsOneType, IsPosixRefusedByte, IsNumberTooLarge, IsUnexpected, IsWrong, MixesStar, numbering_by, numbering_in, numbering_of, too_large}
 use Rattle.pf_posix.specs.Specifications.{PosixSpecification}
 use Rattle.pf_posix.specs.Spelling.{SpellsPosix}
 use Rattle.pf_posix.specs.Stages.{PosixState, Between, Opened, First, Flags, Digits, Star, StarDigits, Placed, Point, Modified}
@@ -67,30 +67,30 @@ module _ (model : Model) (byte : ℕ) (kind : RefusalKind) (s : IsStrange byte k
   strange_star slot parts None = let digit = s.digit in rw digit (strange_amount slot parts)
   strange_star slot parts (Some n) = let first = s.first in rw first (ap Err (s.kind_is Mixed))
 
-  strange_first : (style : Numbering) → after_first model style byte ≡ Err kind
+  strange_first : (numbering : Numbering) → after_first model numbering byte ≡ Err kind
   strange_first Numbered = ap Err (s.kind_is Mixed)
   strange_first Unnumbered = strange_amount Width (with_width (parts_at None))
   strange_first Undecided = strange_amount Width (with_width (parts_at None))
 
-  strange_flags : (style : Numbering) (parts : PartialSpecification) → posix_step model style (Flags parts) byte ≡ Err kind
-  strange_flags style parts = let flag = s.flag in let digit = s.digit in let star = s.star in rw (flag, digit, star) (strange_amount Width parts)
+  strange_flags : (numbering : Numbering) (parts : PartialSpecification) → posix_step model numbering (Flags parts) byte ≡ Err kind
+  strange_flags numbering parts = let flag = s.flag in let digit = s.digit in let star = s.star in rw (flag, digit, star) (strange_amount Width parts)
 
-  strange_percent : (style : Numbering) → after_percent model style byte ≡ Err kind
+  strange_percent : (numbering : Numbering) → after_percent model numbering byte ≡ Err kind
   strange_percent Numbered = let first = s.first in rw first (ap Err (s.kind_is Mixed))
   strange_percent Unnumbered = let first = s.first in rw first (strange_flags Unnumbered (parts_at None))
   strange_percent Undecided = let first = s.first in rw first (strange_flags Undecided (parts_at None))
 
-  strange_inside : (style : Numbering) (state : PosixState) → IsPastPercent state → posix_step model style state byte ≡ Err kind
-  strange_inside style Between none = absurd none
-  strange_inside style Opened none = absurd none
-  strange_inside style (First n) _ = let digit = s.digit in let dollar = s.dollar in rw (digit, dollar) (strange_first style)
-  strange_inside style (Flags parts) _ = strange_flags style parts
-  strange_inside style (Digits slot parts n) _ = let digit = s.digit in rw digit (strange_amount slot parts)
-  strange_inside style (Star slot parts) _ = strange_star slot parts parts.position
-  strange_inside style (StarDigits slot parts n) _ = let digit = s.digit in let dollar = s.dollar in rw (digit, dollar) (ap Err (s.kind_is Mixed))
-  strange_inside style (Placed slot parts) _ = strange_amount slot parts
-  strange_inside style (Point parts) _ = let digit = s.digit in let star = s.star in rw (digit, star) (strange_amount Precision parts)
-  strange_inside style (Modified parts modifier) _ = strange_modified parts modifier
+  strange_inside : (numbering : Numbering) (state : PosixState) → IsPastPercent state → posix_step model numbering state byte ≡ Err kind
+  strange_inside numbering Between none = absurd none
+  strange_inside numbering Opened none = absurd none
+  strange_inside numbering (First n) _ = let digit = s.digit in let dollar = s.dollar in rw (digit, dollar) (strange_first numbering)
+  strange_inside numbering (Flags parts) _ = strange_flags numbering parts
+  strange_inside numbering (Digits slot parts n) _ = let digit = s.digit in rw digit (strange_amount slot parts)
+  strange_inside numbering (Star slot parts) _ = strange_star slot parts parts.position
+  strange_inside numbering (StarDigits slot parts n) _ = let digit = s.digit in let dollar = s.dollar in rw (digit, dollar) (ap Err (s.kind_is Mixed))
+  strange_inside numbering (Placed slot parts) _ = strange_amount slot parts
+  strange_inside numbering (Point parts) _ = let digit = s.digit in let star = s.star in rw (digit, star) (strange_amount Precision parts)
+  strange_inside numbering (Modified parts modifier) _ = strange_modified parts modifier
 
 zero_strange : IsStrange 0 NulByte
 zero_strange = record { flag = refl; digit = refl; first = refl; star = refl; point = refl; dollar = refl; second_h = refl; second_l = refl; modifier = refl; conversion = refl; kind_is = λ _. refl }
@@ -98,31 +98,31 @@ zero_strange = record { flag = refl; digit = refl; first = refl; star = refl; po
 percent_strange : IsStrange 37 BadPercent
 percent_strange = record { flag = refl; digit = refl; first = refl; star = refl; point = refl; dollar = refl; second_h = refl; second_l = refl; modifier = refl; conversion = refl; kind_is = λ _. refl }
 
-zero_refused : (model : Model) (style : Numbering) (state : PosixState) → posix_step model style state 0 ≡ Err NulByte
-zero_refused model style Between = refl
-zero_refused model style Opened = strange_percent model 0 NulByte zero_strange style
-zero_refused model style state = strange_inside model 0 NulByte zero_strange style state tt
+zero_refused : (model : Model) (numbering : Numbering) (state : PosixState) → posix_step model numbering state 0 ≡ Err NulByte
+zero_refused model numbering Between = refl
+zero_refused model numbering Opened = strange_percent model 0 NulByte zero_strange numbering
+zero_refused model numbering state = strange_inside model 0 NulByte zero_strange numbering state tt
 
 -- reasons that the table finds
-module _ (model : Model) (style : Numbering) (byte : ℕ) (other : IsOther byte) where
+module _ (model : Model) (numbering : Numbering) (byte : ℕ) (other : IsOther byte) where
   stray_other : (kind : RefusalKind) → stray byte kind ≡ kind
   stray_other kind = let zero = other.0 in let percent = other.1 in rw (zero, percent) refl
 
   not_byte : (k : ℕ) → byte ≢ k → (byte == k) ≡ false
   not_byte k some = grind (arith, nat_tests)
 
-  pub mixed_refused : (state : PosixState) → IsMixed state style byte → posix_step model style state byte ≡ Err Mixed
-  mixed_refused Opened h = let percent = other.1 in rw percent (go style h.0) where
+  pub mixed_refused : (state : PosixState) → IsMixed state numbering byte → posix_step model numbering state byte ≡ Err Mixed
+  mixed_refused Opened h = let percent = other.1 in rw percent (go numbering h.0) where
     go : (known : Numbering) → known ≡ Numbered → after_percent model known byte ≡ Err Mixed
     go Numbered e = let first = h.1 in rw first (ap Err (stray_other Mixed))
     go Unnumbered e = cc
     go Undecided e = cc
-  mixed_refused (First n) (inl h) = subst (λ b. posix_step model style (First n) b ≡ Err Mixed) (sym h.1) (go style h.0) where
+  mixed_refused (First n) (inl h) = subst (λ b. posix_step model numbering (First n) b ≡ Err Mixed) (sym h.1) (go numbering h.0) where
     go : (known : Numbering) → known ≡ Unnumbered → dollar_after known n ≡ Err Mixed
     go Unnumbered e = refl
     go Numbered e = cc
     go Undecided e = cc
-  mixed_refused (First n) (inr h) = let digit = h.1 in let dollar = not_byte 36 h.2 in rw (digit, dollar) (go style h.0) where
+  mixed_refused (First n) (inr h) = let digit = h.1 in let dollar = not_byte 36 h.2 in rw (digit, dollar) (go numbering h.0) where
     go : (known : Numbering) → known ≡ Numbered → after_first model known byte ≡ Err Mixed
     go Numbered e = ap Err (stray_other Mixed)
     go Unnumbered e = cc
@@ -134,12 +134,12 @@ module _ (model : Model) (style : Numbering) (byte : ℕ) (other : IsOther byte)
   mixed_refused (StarDigits slot parts n) h = let digit = h.0 in let dollar = not_byte 36 h.1 in rw (digit, dollar) (ap Err (stray_other Mixed))
   mixed_refused _ none = absurd none
 
-large_refused : (model : Model) (style : Numbering) (byte : ℕ) (kind : RefusalKind) (state : PosixState) → IsNumberTooLarge state byte kind → posix_step model style state byte ≡ Err kind
-large_refused model style byte kind state = go state where
+large_refused : (model : Model) (numbering : Numbering) (byte : ℕ) (kind : RefusalKind) (state : PosixState) → IsNumberTooLarge state byte kind → posix_step model numbering state byte ≡ Err kind
+large_refused model numbering byte kind state = go state where
   passed : (n : ℕ) → MAX_NUMBER < n → nat_lt MAX_NUMBER n ≡ true
   passed n h = grind (arith, nat_tests)
 
-  go : (state : PosixState) → IsNumberTooLarge state byte kind → posix_step model style state byte ≡ Err kind
+  go : (state : PosixState) → IsNumberTooLarge state byte kind → posix_step model numbering state byte ≡ Err kind
   go (First n) h = let digit = h.0.0 in let large = passed (10 * n + (byte - 48)) h.0.1 in rw (digit, large) (ap Err (sym h.1))
   go (Digits slot parts n) h = let digit = h.0.0 in let large = passed (10 * n + (byte - 48)) h.0.1 in rw (digit, large) (ap Err (sym h.1))
   go (StarDigits slot parts n) h = let digit = h.0.0 in let large = passed (10 * n + (byte - 48)) h.0.1 in rw (digit, large) (ap Err (sym h.1))
@@ -149,10 +149,10 @@ by_slot : (slot : WidthOrPrecision) → too_large slot ≢ Unexpected
 by_slot Width e = cc
 by_slot Precision e = cc
 
--- a byte that isn't allowed in a place is refused there behind specifications of any style
-record StaysRefused (model : Model) (style : Numbering) (state : PosixState) (byte : ℕ) : Type 0 where
+-- a byte that isn't allowed in a place is refused there behind specifications of any numbering
+record StaysRefused (model : Model) (numbering : Numbering) (state : PosixState) (byte : ℕ) : Type 0 where
   kind : RefusalKind
-  refused : posix_step model style state byte ≡ Err kind
+  refused : posix_step model numbering state byte ≡ Err kind
   one_kind : is_undefined_kind kind ≡ false
 
 module _ (model : Model) (byte : ℕ) where
@@ -171,10 +171,10 @@ module _ (model : Model) (byte : ℕ) where
 
   -- where numbered specifications differ from others
   module _ (state : PosixState) (rest : PosixStep) (mixed : posix_step model Numbered state byte ≡ Err (stray byte Mixed)) (plain : (s : Numbering) → s ≢ Numbered → posix_step model s state byte ≡ rest) where
-    styles_stay : (a b : Numbering) → posix_step model a state byte ≡ Err Unexpected → StaysRefused model b state byte
-    styles_stay Numbered b e = absurd (never_stray _ _ refl refl (one_refused _ _ _ mixed e))
-    styles_stay a Numbered e = record { kind = stray byte Mixed; refused = mixed; one_kind = stray_kind Mixed refl _ _ refl refl }
-    styles_stay a b e = record { kind = Unexpected; refused = plain b (λ s. cc) ∙ sym (plain a (λ s. cc)) ∙ e; one_kind = refl }
+    numberings_stay : (a b : Numbering) → posix_step model a state byte ≡ Err Unexpected → StaysRefused model b state byte
+    numberings_stay Numbered b e = absurd (never_stray _ _ refl refl (one_refused _ _ _ mixed e))
+    numberings_stay a Numbered e = record { kind = stray byte Mixed; refused = mixed; one_kind = stray_kind Mixed refl _ _ refl refl }
+    numberings_stay a b e = record { kind = Unexpected; refused = plain b (λ s. cc) ∙ sym (plain a (λ s. cc)) ∙ e; one_kind = refl }
 
   -- behind `%`
   module _ (p : (byte == 37) ≡ false) where
@@ -193,7 +193,7 @@ module _ (model : Model) (byte : ℕ) where
     go : (c : Bool) → (byte == 37) ≡ c → (d : Bool) → is_first_digit byte ≡ d → StaysRefused model b Opened byte
     go true p d f = let goes : posix_step model a Opened byte ≡ Ok (Between, None) = rw p refl in let both = sym goes ∙ e in cc
     go false p true f = let both = sym (opened_first p f a) ∙ e in cc
-    go false p false f = let mixed : posix_step model Numbered Opened byte ≡ Err (stray byte Mixed) = rw (p, f) refl in styles_stay Opened _ mixed (opened_plain p f) a b e
+    go false p false f = let mixed : posix_step model Numbered Opened byte ≡ Err (stray byte Mixed) = rw (p, f) refl in numberings_stay Opened _ mixed (opened_plain p f) a b e
 
   -- behind the first number
   first : (n : ℕ) (a b : Numbering) → posix_step model a (First n) byte ≡ Err Unexpected → StaysRefused model b (First n) byte
@@ -207,7 +207,7 @@ module _ (model : Model) (byte : ℕ) where
       dollar Numbered e = let goes : posix_step model Numbered (First n) byte ≡ Ok (Flags (parts_at (Some n)), None) = rw (h, f) refl in let both = sym goes ∙ e in cc
       dollar Undecided e = let goes : posix_step model Undecided (First n) byte ≡ Ok (Flags (parts_at (Some n)), None) = rw (h, f) refl in let both = sym goes ∙ e in cc
       dollar Unnumbered e = let goes : posix_step model Unnumbered (First n) byte ≡ Err Mixed = rw (h, f) refl in let both : Mixed ≡ Unexpected = one_refused _ _ _ goes e in cc
-    go false h false f = styles_stay (First n) _ mixed plain a b e where
+    go false h false f = numberings_stay (First n) _ mixed plain a b e where
       mixed : posix_step model Numbered (First n) byte ≡ Err (stray byte Mixed)
       mixed = rw (h, f) refl
 
@@ -226,20 +226,20 @@ any_follows None = tt
 any_follows (Some s) = inl refl
 
 -- what is refused as unexpected comes of nothing that is spelled
-module _ (model : Model) (style : Numbering) (part : Text) (own : List Fetch) (byte : ℕ) (state : PosixState) (at : IsStateAfter state part own) (e : posix_step model style state byte ≡ Err Unexpected) where
+module _ (model : Model) (numbering : Numbering) (part : Text) (own : List Fetch) (byte : ℕ) (state : PosixState) (at : IsStateAfter state part own) (e : posix_step model numbering state byte ≡ Err Unexpected) where
   cannot_stand : CannotStand part byte
   cannot_stand = record { no_whole = no_whole; no_part = no_part } where
     c : Came model Undecided state part own
-    c = came model Undecided state part own at (any_follows (style_in state))
+    c = came model Undecided state part own at (any_follows (numbering_in state))
 
     stays : StaysRefused model c.behind state byte
-    stays = stays_refused model byte style c.behind state e
+    stays = stays_refused model byte numbering c.behind state e
 
     refused : run model (Ok (stand Undecided Between [])) (part ++ byte ∷ []) ≡ Err stays.kind
     refused = run-append model _ part (byte ∷ []) ∙ ap (λ p. run model p (byte ∷ [])) c.run_is ∙ ap (went c.behind own) stays.refused
 
     no_whole : (s : PosixSpecification) → ¬ SpellsPosix (part ++ byte ∷ []) s
-    no_whole s h = let r = spelled_ends model Undecided (part ++ byte ∷ []) s h (any_follows (Some (style_by s.position))) in go r.0 (undefined_of s) refl (sym refused ∙ r.1) where
+    no_whole s h = let r = spelled_ends model Undecided (part ++ byte ∷ []) s h (any_follows (Some (numbering_by s.position))) in go r.0 (undefined_of s) refl (sym refused ∙ r.1) where
       go : (behind : Numbering) (o : Option RefusalKind) → undefined_of s ≡ o → Result.Err stays.kind ≡ went behind (star_fetches s.width ++ star_fetches s.precision) (judgement (undefined_of s) (fetch s.position (conversion_type model s.modifier s.conversion))) → ⊥
       go behind None u same = let both = same ∙ ap (λ o. went behind (star_fetches s.width ++ star_fetches s.precision) (judgement o (fetch s.position (conversion_type model s.modifier s.conversion)))) u in cc
       go behind (Some kind) u same =
@@ -250,7 +250,7 @@ module _ (model : Model) (style : Numbering) (part : Text) (own : List Fetch) (b
           let no_bool : true ≡ false = sym one ∙ two in cc
 
     no_part : (to : PosixState) (others : List Fetch) → ¬ IsStateAfter to (part ++ byte ∷ []) others
-    no_part to others h = let d = came model Undecided to (part ++ byte ∷ []) others h (any_follows (style_in to)) in let both = sym refused ∙ d.run_is in cc
+    no_part to others h = let d = came model Undecided to (part ++ byte ∷ []) others h (any_follows (numbering_in to)) in let both = sym refused ∙ d.run_is in cc
 
 -- the last of some fetches
 abbrev last_fetch : List Fetch → Fetch → Fetch
@@ -282,17 +282,17 @@ own_then (Err kind) = []
 
 -- what the table says of a byte that is refused
 abbrev pub IsTurnedDown : Model → List Fetch → PosixState → ℕ → RefusalKind → Type 0
-IsTurnedDown model fetches state byte kind = (posix_step model (style_of fetches) state byte ≡ Err kind)
-    ⊎ ((kind ≡ TwoTypes) × (to : PosixState) × (f : Fetch) × (posix_step model (style_of fetches) state byte ≡ Ok (to, Some f)) × ¬ AllByRecursion (IsOneType f) fetches)
+IsTurnedDown model fetches state byte kind = (posix_step model (numbering_of fetches) state byte ≡ Err kind)
+    ⊎ ((kind ≡ TwoTypes) × (to : PosixState) × (f : Fetch) × (posix_step model (numbering_of fetches) state byte ≡ Ok (to, Some f)) × ¬ AllByRecursion (IsOneType f) fetches)
 
 module _ (model : Model) (fetches : List Fetch) (part : Text) (own : List Fetch) (state : PosixState) (at : IsStateAfter state part own) (byte : ℕ) where
-  abbrev style : Numbering
-  style = style_of fetches
+  abbrev numbering : Numbering
+  numbering = numbering_of fetches
 
-  began : IsOther byte → posix_step model style state byte ≡ Err Unexpected → IsInSpecification state
+  began : IsOther byte → posix_step model numbering state byte ≡ Err Unexpected → IsInSpecification state
   began other e = go state e where
-    go : (state : PosixState) → posix_step model style state byte ≡ Err Unexpected → IsInSpecification state
-    go Between e = let zero = other.0 in let percent = other.1 in let goes : posix_step model style Between byte ≡ Ok (Between, None) = rw (zero, percent) refl in let both = sym goes ∙ e in cc
+    go : (state : PosixState) → posix_step model numbering state byte ≡ Err Unexpected → IsInSpecification state
+    go Between e = let zero = other.0 in let percent = other.1 in let goes : posix_step model numbering Between byte ≡ Ok (Between, None) = rw (zero, percent) refl in let both = sym goes ∙ e in cc
     go _ e = tt
 
   large_kind : (state : PosixState) (kind : RefusalKind) → IsNumberTooLarge state byte kind → kind ≢ Unexpected
@@ -301,73 +301,73 @@ module _ (model : Model) (fetches : List Fetch) (part : Text) (own : List Fetch)
   large_kind (StarDigits slot parts n) kind h e = by_slot slot (sym h.1 ∙ e)
   large_kind _ kind none e = absurd none
 
-  unexpected : IsOther byte → posix_step model style state byte ≡ Err Unexpected → IsUnexpected style part state byte
+  unexpected : IsOther byte → posix_step model numbering state byte ≡ Err Unexpected → IsUnexpected numbering part state byte
   unexpected other e =
       record {
         begun = began other e;
-        one_kind = λ m. let both : Mixed ≡ Unexpected = one_refused model byte _ _ _ (mixed_refused model style byte other state m) e in cc;
-        small = λ kind h. large_kind state kind h (one_refused model byte _ _ _ (large_refused model style byte kind state h) e);
-        nowhere = cannot_stand model style part own byte state at e;
+        one_kind = λ m. let both : Mixed ≡ Unexpected = one_refused model byte _ _ _ (mixed_refused model numbering byte other state m) e in cc;
+        small = λ kind h. large_kind state kind h (one_refused model byte _ _ _ (large_refused model numbering byte kind state h) e);
+        nowhere = cannot_stand model numbering part own byte state at e;
       }
 
-  module _ (follows : Follows style (style_in state)) where
-    judged : (n : PosixStep) → posix_step model style state byte ≡ n → Judges model style part own byte n
-    judged n e = subst (Judges model style part own byte) e (judge model style part own byte state at follows)
+  module _ (follows : Follows numbering (numbering_in state)) where
+    judged : (n : PosixStep) → posix_step model numbering state byte ≡ n → Judges model numbering part own byte n
+    judged n e = subst (Judges model numbering part own byte) e (judge model numbering part own byte state at follows)
 
-    reasoned : (n : PosixStep) → posix_step model style state byte ≡ n → Why model style state byte n
-    reasoned n e = subst (Why model style state byte) e (why model style byte state)
+    reasoned : (n : PosixStep) → posix_step model numbering state byte ≡ n → Why model numbering state byte n
+    reasoned n e = subst (Why model numbering state byte) e (why model numbering byte state)
 
-    pub refused_in_words : (kind : RefusalKind) → posix_step model style state byte ≡ Err kind → IsPosixRefusedByte model fetches part state byte kind
+    pub refused_in_words : (kind : RefusalKind) → posix_step model numbering state byte ≡ Err kind → IsPosixRefusedByte model fetches part state byte kind
     refused_in_words kind e = go (byte == 0) refl (byte == 37) refl (reasoned (Err kind) e) where
-      by_reason : IsOther byte → Reason model style state byte kind → IsWrong model fetches part state byte kind
+      by_reason : IsOther byte → Reason model numbering state byte kind → IsWrong model fetches part state byte kind
       by_reason other (inl mixed) = inl mixed
       by_reason other (inr (inl large)) = inr (inl large)
       by_reason other (inr (inr (inl undefined))) = elim (judged (Err kind) e) [ inl no_kind ↦ let both : true ≡ false = sym undefined ∙ no_kind in cc | inr ends ↦ inr (inr (inl ends)) ]
       by_reason other (inr (inr (inr k))) = inr (inr (inr (inr (k, unexpected other (e ∙ ap Err k)))))
 
-      go : (z : Bool) → (byte == 0) ≡ z → (p : Bool) → (byte == 37) ≡ p → MatchBool z (kind ≡ NulByte) (MatchBool p ((kind ≡ BadPercent) × IsPastPercent state) (Reason model style state byte kind)) → IsPosixRefusedByte model fetches part state byte kind
+      go : (z : Bool) → (byte == 0) ≡ z → (p : Bool) → (byte == 37) ≡ p → MatchBool z (kind ≡ NulByte) (MatchBool p ((kind ≡ BadPercent) × IsPastPercent state) (Reason model numbering state byte kind)) → IsPosixRefusedByte model fetches part state byte kind
       go true z p f w = rw z w
       go false z true f w = rw (z, f) w
       go false z false f w = rw (z, f) (by_reason (z, f) w)
 
-    pub conflict_in_words : (to : PosixState) (f : Fetch) → posix_step model style state byte ≡ Ok (to, Some f) → ¬ AllByRecursion (IsOneType f) fetches → IsPosixRefusedByte model fetches part state byte TwoTypes
+    pub conflict_in_words : (to : PosixState) (f : Fetch) → posix_step model numbering state byte ≡ Ok (to, Some f) → ¬ AllByRecursion (IsOneType f) fetches → IsPosixRefusedByte model fetches part state byte TwoTypes
     conflict_in_words to f e conflict = go (reasoned (Ok (to, Some f)) e) where
-      by_last : (to : PosixState) → posix_step model style state byte ≡ Ok (to, Some f) → to ≡ Between → FetchesLast model style part byte f
+      by_last : (to : PosixState) → posix_step model numbering state byte ≡ Ok (to, Some f) → to ≡ Between → FetchesLast model numbering part byte f
       by_last to e between =
           let j = judged (Ok (Between, Some f)) (e ∙ ap (λ s. Ok (s, Some f)) between) in
           let same : f ≡ fetch j.0.position (conversion_type model j.0.modifier j.0.conversion) = same_last own (star_fetches j.0.width ++ star_fetches j.0.precision) f _ j.3 in
-          (record { s = j.0; spelled = j.1; follows = subst (λ g. Follows style (Some (style_by g.number))) same j.4 }, j.2, same)
+          (record { s = j.0; spelled = j.1; follows = subst (λ g. Follows numbering (Some (numbering_by g.number))) same j.4 }, j.2, same)
 
-      go : Went model style state byte to (Some f) → IsPosixRefusedByte model fetches part state byte TwoTypes
+      go : Went model numbering state byte to (Some f) → IsPosixRefusedByte model fetches part state byte TwoTypes
       go w = let zero = w.0.0 in let percent = w.0.1 in rw (zero, percent) (inr (inr (inr (inl (refl, f, by w.1, conflict))))) where
-        by : (f.number ≡ None) ⊎ FetchesStar state byte f ⊎ (to ≡ Between) → FetchesStar state byte f ⊎ FetchesLast model style part byte f
+        by : (f.number ≡ None) ⊎ FetchesStar state byte f ⊎ (to ≡ Between) → FetchesStar state byte f ⊎ FetchesLast model numbering part byte f
         by (inl none) = absurd (conflict (unnumbered_one f fetches none))
         by (inr (inl star)) = inl star
         by (inr (inr between)) = inr (by_last to e between)
 
     -- and the other way round, where the table comes to this state
-    module _ (base : Numbering) (came_here : run model (Ok (stand base Between [])) part ≡ Ok (stand style state own)) (back : (o : Option Numbering) → Follows style o → Follows base o) where
+    module _ (base : Numbering) (came_here : run model (Ok (stand base Between [])) part ≡ Ok (stand numbering state own)) (back : (o : Option Numbering) → Follows numbering o → Follows base o) where
       abbrev stars : PosixSpecification → List Fetch
       stars s = star_fetches s.width ++ star_fetches s.precision
 
       abbrev last : PosixSpecification → Fetch
       last s = fetch s.position (conversion_type model s.modifier s.conversion)
 
-      ends_as : (end : CompletesSpecification style part byte) (o : Option RefusalKind) → undefined_of end.s ≡ o → (behind : Numbering) × (went style own (posix_step model style state byte) ≡ went behind (stars end.s) (judgement o (last end.s)))
+      ends_as : (end : CompletesSpecification numbering part byte) (o : Option RefusalKind) → undefined_of end.s ≡ o → (behind : Numbering) × (went numbering own (posix_step model numbering state byte) ≡ went behind (stars end.s) (judgement o (last end.s)))
       ends_as end o u =
-          let r = spelled_ends model base (part ++ byte ∷ []) end.s end.spelled (back (Some (style_by end.s.position)) end.follows) in
+          let r = spelled_ends model base (part ++ byte ∷ []) end.s end.spelled (back (Some (numbering_by end.s.position)) end.follows) in
           (r.0, sym (run-append model _ part (byte ∷ []) ∙ ap (λ p. run model p (byte ∷ [])) came_here) ∙ r.1 ∙ ap (λ o. went r.0 (stars end.s) (judgement o (last end.s))) u)
 
-      undefined_refused : (kind : RefusalKind) → CompletesUndefined style part byte kind → posix_step model style state byte ≡ Err kind
-      undefined_refused kind h = go (posix_step model style state byte) (ends_as h.0 (Some kind) h.1).1 where
-        go : (n : PosixStep) → went style own n ≡ Err kind → n ≡ Err kind
+      undefined_refused : (kind : RefusalKind) → CompletesUndefined numbering part byte kind → posix_step model numbering state byte ≡ Err kind
+      undefined_refused kind h = go (posix_step model numbering state byte) (ends_as h.0 (Some kind) h.1).1 where
+        go : (n : PosixStep) → went numbering own n ≡ Err kind → n ≡ Err kind
         go (Err k) e = cc
         go (Ok (to, None)) e = cc
         go (Ok (to, Some f)) e = cc
 
-      last_fetched : (f : Fetch) → FetchesLast model style part byte f → posix_step model style state byte ≡ Ok (Between, Some f)
-      last_fetched f h = go (posix_step model style state byte) refl (ends_as h.0 None h.1).1 where
-        go : (n : PosixStep) → posix_step model style state byte ≡ n → went style own n ≡ Ok (stand (style_by h.0.s.position) Between (stars h.0.s ++ last h.0.s ∷ [])) → n ≡ Ok (Between, Some f)
+      last_fetched : (f : Fetch) → FetchesLast model numbering part byte f → posix_step model numbering state byte ≡ Ok (Between, Some f)
+      last_fetched f h = go (posix_step model numbering state byte) refl (ends_as h.0 None h.1).1 where
+        go : (n : PosixStep) → posix_step model numbering state byte ≡ n → went numbering own n ≡ Ok (stand (numbering_by h.0.s.position) Between (stars h.0.s ++ last h.0.s ∷ [])) → n ≡ Ok (Between, Some f)
         go (Err k) e same = cc
         go (Ok (to, None)) e same =
             let between : to ≡ Between = ap state_then same in
@@ -379,38 +379,38 @@ module _ (model : Model) (fetches : List Fetch) (part : Text) (own : List Fetch)
             let all : own ++ g ∷ [] ≡ stars h.0.s ++ last h.0.s ∷ [] = ap own_then same in
             ap (λ s. Ok (s, Some g)) between ∙ ap (λ k. Ok (Between, Some k)) (same_last own (stars h.0.s) g (last h.0.s) all ∙ sym h.2)
 
-      star_fetched : (f : Fetch) → FetchesStar state byte f → (to : PosixState) × (posix_step model style state byte ≡ Ok (to, Some f))
+      star_fetched : (f : Fetch) → FetchesStar state byte f → (to : PosixState) × (posix_step model numbering state byte ≡ Ok (to, Some f))
       star_fetched f h = go state h where
-        go : (state : PosixState) → FetchesStar state byte f → (to : PosixState) × (posix_step model style state byte ≡ Ok (to, Some f))
-        go (StarDigits slot parts n) h = (Placed slot parts, ap (posix_step model style (StarDigits slot parts n)) h.0 ∙ ap (λ g. Ok (Placed slot parts, Some g)) (sym h.1))
+        go : (state : PosixState) → FetchesStar state byte f → (to : PosixState) × (posix_step model numbering state byte ≡ Ok (to, Some f))
+        go (StarDigits slot parts n) h = (Placed slot parts, ap (posix_step model numbering (StarDigits slot parts n)) h.0 ∙ ap (λ g. Ok (Placed slot parts, Some g)) (sym h.1))
         go _ none = absurd none
 
-      unexpected_refused : IsOther byte → IsUnexpected style part state byte → posix_step model style state byte ≡ Err Unexpected
-      unexpected_refused other u = go (posix_step model style state byte) refl where
-        refused : (kind : RefusalKind) → posix_step model style state byte ≡ Err kind → Reason model style state byte kind → kind ≡ Unexpected
+      unexpected_refused : IsOther byte → IsUnexpected numbering part state byte → posix_step model numbering state byte ≡ Err Unexpected
+      unexpected_refused other u = go (posix_step model numbering state byte) refl where
+        refused : (kind : RefusalKind) → posix_step model numbering state byte ≡ Err kind → Reason model numbering state byte kind → kind ≡ Unexpected
         refused kind e (inl mixed) = absurd (u.one_kind mixed.1)
         refused kind e (inr (inl large)) = absurd (u.small kind large)
         refused kind e (inr (inr (inl undefined))) = elim (judged (Err kind) e) [ inl no_kind ↦ let both : true ≡ false = sym undefined ∙ no_kind in cc | inr ends ↦ absurd (u.nowhere.no_whole ends.0.s ends.0.spelled) ]
         refused kind e (inr (inr (inr k))) = k
 
-        go : (n : PosixStep) → posix_step model style state byte ≡ n → n ≡ Err Unexpected
+        go : (n : PosixStep) → posix_step model numbering state byte ≡ n → n ≡ Err Unexpected
         go (Err kind) e = let zero = other.0 in let percent = other.1 in ap Err (refused kind e (by (byte == 0) zero (byte == 37) percent (reasoned (Err kind) e))) where
-          by : (z : Bool) → z ≡ false → (p : Bool) → p ≡ false → MatchBool z (kind ≡ NulByte) (MatchBool p ((kind ≡ BadPercent) × IsPastPercent state) (Reason model style state byte kind)) → Reason model style state byte kind
+          by : (z : Bool) → z ≡ false → (p : Bool) → p ≡ false → MatchBool z (kind ≡ NulByte) (MatchBool p ((kind ≡ BadPercent) × IsPastPercent state) (Reason model numbering state byte kind)) → Reason model numbering state byte kind
           by false z false p r = r
           by true z p q r = cc
           by false z true q r = cc
         go (Ok (to, None)) e = absurd (arrived to e (judged (Ok (to, None)) e)) where
-          arrived : (to : PosixState) → posix_step model style state byte ≡ Ok (to, None) → Arrives model style part own byte to → ⊥
+          arrived : (to : PosixState) → posix_step model numbering state byte ≡ Ok (to, None) → Arrives model numbering part own byte to → ⊥
           arrived Between e h = let yes = reasoned (Ok (Between, None)) e u.begun in let both : true ≡ false = sym yes ∙ other.1 in cc
           arrived to e h = u.nowhere.no_part to own h.0
         go (Ok (to, Some f)) e = absurd (brought to (judged (Ok (to, Some f)) e)) where
-          brought : (to : PosixState) → Brings model style part own byte f to → ⊥
+          brought : (to : PosixState) → Brings model numbering part own byte f to → ⊥
           brought Between h = u.nowhere.no_whole h.0 h.1
           brought to h = u.nowhere.no_part to _ h.0
 
       wrong_refused : (kind : RefusalKind) → IsOther byte → IsWrong model fetches part state byte kind → IsTurnedDown model fetches state byte kind
-      wrong_refused kind other (inl h) = inl (mixed_refused model style byte other state h.1 ∙ ap Err (sym h.0))
-      wrong_refused kind other (inr (inl h)) = inl (large_refused model style byte kind state h)
+      wrong_refused kind other (inl h) = inl (mixed_refused model numbering byte other state h.1 ∙ ap Err (sym h.0))
+      wrong_refused kind other (inr (inl h)) = inl (large_refused model numbering byte kind state h)
       wrong_refused kind other (inr (inr (inl h))) = inl (undefined_refused kind h)
       wrong_refused kind other (inr (inr (inr (inl (k, f, inl star, conflict))))) = let r = star_fetched f star in inr (k, r.0, f, r.1, conflict)
       wrong_refused kind other (inr (inr (inr (inl (k, f, inr last, conflict))))) = inr (k, Between, f, last_fetched f last, conflict)
@@ -419,6 +419,6 @@ module _ (model : Model) (fetches : List Fetch) (part : Text) (own : List Fetch)
       pub words_refuse : (kind : RefusalKind) → IsPosixRefusedByte model fetches part state byte kind → IsTurnedDown model fetches state byte kind
       words_refuse kind h = go (byte == 0) refl (byte == 37) refl h where
         go : (z : Bool) → (byte == 0) ≡ z → (p : Bool) → (byte == 37) ≡ p → MatchBool z (kind ≡ NulByte) (MatchBool p ((kind ≡ BadPercent) × IsPastPercent state) (IsWrong model fetches part state byte kind)) → IsTurnedDown model fetches state byte kind
-        go true z p f h = inl (ap (posix_step model style state) (eqb-true byte 0 z) ∙ zero_refused model style state ∙ ap Err (sym h))
-        go false z true p h = inl (ap (posix_step model style state) (eqb-true byte 37 p) ∙ strange_inside model 37 BadPercent percent_strange style state h.1 ∙ ap Err (sym h.0))
+        go true z p f h = inl (ap (posix_step model numbering state) (eqb-true byte 0 z) ∙ zero_refused model numbering state ∙ ap Err (sym h))
+        go false z true p h = inl (ap (posix_step model numbering state) (eqb-true byte 37 p) ∙ strange_inside model 37 BadPercent percent_strange numbering state h.1 ∙ ap Err (sym h.0))
         go false z false p h = wrong_refused kind (z, p) h

@@ -9,7 +9,7 @@ use Rattle.pf_posix.specs.declared.fetches.Fetch.{Fetch}
 use Rattle.pf_posix.specs.Directives.{argument_index, directives_from}
 use Rattle.pf_posix.specs.Items.{fetched}
 use Rattle.pf_posix.specs.Readings.{Takes, trace_from, verdict, verdict_after}
-use Rattle.pf_posix.specs.Refusals.{IsGoodPosixFront, style_by, style_of}
+use Rattle.pf_posix.specs.Refusals.{IsGoodPosixFront, numbering_by, numbering_of}
 use Rattle.pf_posix.specs.Stages.{posix_state_of}
 
 abbrev pub begins_with_star : Text → Bool
@@ -50,7 +50,7 @@ precision_star false None last = None
 abbrev pub walk_in : DirectiveWalk → Fetch → DirectiveWalk
 walk_in walk f = record walk {
   fetched = walk.fetched + 1;
-  style = style_by f.number;
+  numbering = numbering_by f.number;
   earlier_star = walk.star;
   star = Some (argument_index f.number walk.fetched);
 }
@@ -58,7 +58,7 @@ walk_in walk f = record walk {
 abbrev pub walk_behind : DirectiveWalk → Fetch → DirectiveWalk
 walk_behind walk f = record walk {
   fetched = walk.fetched + 1;
-  style = style_by f.number;
+  numbering = numbering_by f.number;
   begin = walk.at;
   earlier_star = None;
   star = None;
@@ -86,10 +86,10 @@ pub record IsWalkedTo (model : Model) (t : Text) (walk : DirectiveWalk)
   pub at_is : walk.at ≡ length front
   pub begin_is : walk.begin ≡ length good.whole
   pub fetched_is : walk.fetched ≡ length seen
-  pub style_is : walk.style ≡ style_of seen
+  pub numbering_is : walk.numbering ≡ numbering_of seen
   pub star_is : walk.star ≡ last_index (length (fetched model good.items)) good.own
   pub earlier_is : walk.earlier_star ≡ earlier_index (length (fetched model good.items)) good.own
   pub accepted : verdict model t ≡ Takes all
   pub left : verdict_after seen
-      (trace_from model walk.style (posix_state_of walk.automaton) walk.at (drop walk.at t)) ≡ Takes all
+      (trace_from model walk.numbering (posix_state_of walk.automaton) walk.at (drop walk.at t)) ≡ Takes all
   pub done_are : done ≡ directives_from model 0 0 good.whole good.items good.reads

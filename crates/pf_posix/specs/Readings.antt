@@ -11,7 +11,7 @@ use Rattle.pf_posix.specs.declared.partial_specification.Numbering.TheVariants.{
 use Rattle.pf_posix.specs.declared.types.ArgumentType.{ArgumentType}
 use Rattle.pf_posix.specs.Types.{int_type}
 use Rattle.pf_posix.specs.TypeNumbers.{number_of_type}
-use Rattle.pf_posix.specs.Refusals.{style_by}
+use Rattle.pf_posix.specs.Refusals.{numbering_by}
 use Rattle.pf_posix.specs.Stages.{PosixState, Between}
 use Rattle.pf_posix.specs.States.{PosixStep, posix_step}
 
@@ -28,16 +28,16 @@ trace_at_end _ at = Fault Truncated at
 
 -- the trace of a step, before the trace of the rest of the text
 abbrev pub moved : Numbering → ℕ → PosixStep → (Numbering → PosixState → FetchTrace) → FetchTrace
-moved style at (Ok (state, None)) rest = rest style state
-moved style at (Ok (state, Some f)) rest = Fetches f at (rest (style_by f.number) state)
-moved style at (Err kind) rest = Fault kind at
+moved numbering at (Ok (state, None)) rest = rest numbering state
+moved numbering at (Ok (state, Some f)) rest = Fetches f at (rest (numbering_by f.number) state)
+moved numbering at (Err kind) rest = Fault kind at
 
--- the trace of a text from a byte on, in a state and behind specifications of a style
+-- the trace of a text from a byte on, in a state and behind specifications of a numbering
 abbrev pub trace_from : Model → Numbering → PosixState → ℕ → Text → FetchTrace
-trace_from model style state at [] = trace_at_end state at
-trace_from model style state at (byte ∷ t) =
+trace_from model numbering state at [] = trace_at_end state at
+trace_from model numbering state at (byte ∷ t) =
     if nat_le MAX_TEXT_LEN at then Fault TooLong at else
-    moved style at (posix_step model style state byte) (λ s q. trace_from model s q (at + 1) t)
+    moved numbering at (posix_step model numbering state byte) (λ s q. trace_from model s q (at + 1) t)
 
 -- the trace of a text
 abbrev pub fetch_trace : Model → Text → FetchTrace

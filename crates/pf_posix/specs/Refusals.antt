@@ -24,32 +24,32 @@ use Rattle.pf_posix.specs.Stages.{PosixState, Between, Opened, First, Flags, Dig
 use Rattle.pf_posix.specs.Types.{IsFetched, fetch, conversion_type}
 
 -- whether an argument is fetched by its number
-abbrev pub style_by : Option ℕ → Numbering
-style_by None = Unnumbered
-style_by (Some n) = Numbered
+abbrev pub numbering_by : Option ℕ → Numbering
+numbering_by None = Unnumbered
+numbering_by (Some n) = Numbered
 
 -- whether the first one is fetched by its number
-abbrev pub style_of : List Fetch → Numbering
-style_of [] = Undecided
-style_of (f ∷ fetched) = style_by f.number
+abbrev pub numbering_of : List Fetch → Numbering
+numbering_of [] = Undecided
+numbering_of (f ∷ fetched) = numbering_by f.number
 
--- the style of a specification, where it shows in what was read
-abbrev pub style_in : PosixState → Option Numbering
-style_in Between = None
-style_in Opened = None
-style_in (First n) = None
-style_in (Flags parts) = Some (style_by parts.position)
-style_in (Digits slot parts n) = Some (style_by parts.position)
-style_in (Star slot parts) = Some (style_by parts.position)
-style_in (StarDigits slot parts n) = Some (style_by parts.position)
-style_in (Placed slot parts) = Some (style_by parts.position)
-style_in (Point parts) = Some (style_by parts.position)
-style_in (Modified parts modifier) = Some (style_by parts.position)
+-- the numbering of a specification, where it shows in what was read
+abbrev pub numbering_in : PosixState → Option Numbering
+numbering_in Between = None
+numbering_in Opened = None
+numbering_in (First n) = None
+numbering_in (Flags parts) = Some (numbering_by parts.position)
+numbering_in (Digits slot parts n) = Some (numbering_by parts.position)
+numbering_in (Star slot parts) = Some (numbering_by parts.position)
+numbering_in (StarDigits slot parts n) = Some (numbering_by parts.position)
+numbering_in (Placed slot parts) = Some (numbering_by parts.position)
+numbering_in (Point parts) = Some (numbering_by parts.position)
+numbering_in (Modified parts modifier) = Some (numbering_by parts.position)
 
--- a style, if there is one, may follow another
+-- a numbering, if there is one, may follow another
 abbrev pub Follows : Numbering → Option Numbering → Type 0
 Follows earlier None = ⊤
-Follows earlier (Some style) = (earlier ≡ Undecided) ⊎ (earlier ≡ style)
+Follows earlier (Some numbering) = (earlier ≡ Undecided) ⊎ (earlier ≡ numbering)
 
 -- two fetches don't take one argument with two types (POSIX fprintf on `%n$`)
 abbrev pub IsOneType : Fetch → Fetch → Type 0
@@ -57,7 +57,7 @@ IsOneType f g = (n : ℕ) → f.number ≡ Some n → g.number ≡ Some n → f.
 
 -- arguments are all fetched by number or none is, and none has two types (POSIX fprintf)
 pub record AreAgreed (fetched : List Fetch) : Type 0 where
-  pub one_style : AllByRecursion (λ f. style_by f.number ≡ style_of fetched) fetched
+  pub one_numbering : AllByRecursion (λ f. numbering_by f.number ≡ numbering_of fetched) fetched
   pub one_type : AllByRecursion (λ f. AllByRecursion (IsOneType f) fetched) fetched
 
 -- An argument is fetched, and one before it isn't (POSIX fprintf on `%n$`).
@@ -78,7 +78,7 @@ pub record IsGoodPosixFront (model : Model) (front : Text) (fetches : List Fetch
   pub split : front ≡ whole ++ part
   pub fetches_are : fetches ≡ fetched model items ++ own
   pub agreed : AreAgreed fetches
-  pub style : Follows (style_of fetches) (style_in state)
+  pub numbering : Follows (numbering_of fetches) (numbering_in state)
 
 -- a specification has begun
 abbrev pub IsInSpecification : PosixState → Type 0
@@ -95,10 +95,10 @@ IsPastPercent _ = ⊤
 -- fprintf): it is a `$`, where earlier ones aren't numbered; or where they are, it is in the place of
 -- a number or of its `$`, and is neither.
 abbrev pub MixesNumbers : PosixState → Numbering → ℕ → Type 0
-MixesNumbers Opened style byte = (style ≡ Numbered) × (is_first_digit byte ≡ false)
-MixesNumbers (First n) style byte = ((style ≡ Unnumbered) × (byte ≡ dollar))
-    ⊎ ((style ≡ Numbered) × (is_digit byte ≡ false) × (byte ≢ dollar))
-MixesNumbers _ style byte = ⊥
+MixesNumbers Opened numbering byte = (numbering ≡ Numbered) × (is_first_digit byte ≡ false)
+MixesNumbers (First n) numbering byte = ((numbering ≡ Unnumbered) × (byte ≡ dollar))
+    ⊎ ((numbering ≡ Numbered) × (is_digit byte ≡ false) × (byte ≢ dollar))
+MixesNumbers _ numbering byte = ⊥
 
 -- The same behind a `*`: it is a digit, where the specification isn't numbered; or where it is, it is
 -- in the place of a number or of its `$`, and is neither (POSIX fprintf on `*m$`).
@@ -107,9 +107,9 @@ MixesStar None byte = is_digit byte ≡ true
 MixesStar (Some n) byte = is_first_digit byte ≡ false
 
 abbrev pub IsMixed : PosixState → Numbering → ℕ → Type 0
-IsMixed (Star slot parts) style byte = MixesStar parts.position byte
-IsMixed (StarDigits slot parts n) style byte = (is_digit byte ≡ false) × (byte ≢ dollar)
-IsMixed state style byte = MixesNumbers state style byte
+IsMixed (Star slot parts) numbering byte = MixesStar parts.position byte
+IsMixed (StarDigits slot parts n) numbering byte = (is_digit byte ≡ false) × (byte ≢ dollar)
+IsMixed state numbering byte = MixesNumbers state numbering byte
 
 -- the kind of a number above the limit
 abbrev pub too_large : WidthOrPrecision → RefusalKind
@@ -129,15 +129,15 @@ IsNumberTooLarge (StarDigits slot parts n) byte kind = PassesLimit n byte × (ki
 IsNumberTooLarge _ byte kind = ⊥
 
 -- the byte ends a specification
-pub record CompletesSpecification (style : Numbering) (part : Text) (byte : ℕ) : Type 0 where
+pub record CompletesSpecification (numbering : Numbering) (part : Text) (byte : ℕ) : Type 0 where
   pub s : PosixSpecification
   pub spelled : SpellsPosix (part ++ byte ∷ []) s
-  pub follows : Follows style (Some (style_by s.position))
+  pub follows : Follows numbering (Some (numbering_by s.position))
 
 -- the byte ends a specification that isn't defined, for this reason first (C11 7.21.6.1 p4 to p9)
 abbrev pub CompletesUndefined : Numbering → Text → ℕ → RefusalKind → Type 0
-CompletesUndefined style part byte kind =
-    (end : CompletesSpecification style part byte) × (undefined_of end.s ≡ Some kind)
+CompletesUndefined numbering part byte kind =
+    (end : CompletesSpecification numbering part byte) × (undefined_of end.s ≡ Some kind)
 
 -- the byte is the `$` behind the number of the argument of a `*`, which it fetches
 abbrev pub FetchesStar : PosixState → ℕ → Fetch → Type 0
@@ -146,7 +146,7 @@ FetchesStar _ byte f = ⊥
 
 -- the byte is the conversion, which fetches the last argument of a specification
 abbrev pub FetchesLast : Model → Numbering → Text → ℕ → Fetch → Type 0
-FetchesLast model style part byte f = (end : CompletesSpecification style part byte) × IsPosixDefined end.s
+FetchesLast model numbering part byte f = (end : CompletesSpecification numbering part byte) × IsPosixDefined end.s
     × (f ≡ fetch end.s.position (conversion_type model end.s.modifier end.s.conversion))
 
 -- with the byte, the part of the item is neither a specification nor the beginning of one
@@ -155,22 +155,22 @@ pub record CannotStand (part : Text) (byte : ℕ) : Type 0 where
   pub no_part : (to : PosixState) (own : List Fetch) → ¬ IsStateAfter to (part ++ byte ∷ []) own
 
 -- the byte isn't allowed where it is, and no other reason holds
-pub record IsUnexpected (style : Numbering) (part : Text) (state : PosixState) (byte : ℕ) : Type 0 where
+pub record IsUnexpected (numbering : Numbering) (part : Text) (state : PosixState) (byte : ℕ) : Type 0 where
   pub begun : IsInSpecification state
-  pub one_kind : ¬ IsMixed state style byte
+  pub one_kind : ¬ IsMixed state numbering byte
   pub small : (kind : RefusalKind) → ¬ IsNumberTooLarge state byte kind
   pub nowhere : CannotStand part byte
 
 -- why a byte is refused that is neither zero nor `%`
 abbrev pub IsWrong : Model → List Fetch → Text → PosixState → ℕ → RefusalKind → Type 0
 IsWrong model fetches part state byte kind =
-    ((kind ≡ Mixed) × IsMixed state (style_of fetches) byte)
+    ((kind ≡ Mixed) × IsMixed state (numbering_of fetches) byte)
     ⊎ IsNumberTooLarge state byte kind
-    ⊎ CompletesUndefined (style_of fetches) part byte kind
+    ⊎ CompletesUndefined (numbering_of fetches) part byte kind
     ⊎ ((kind ≡ TwoTypes) × (f : Fetch)
-    × (FetchesStar state byte f ⊎ FetchesLast model (style_of fetches) part byte f)
+    × (FetchesStar state byte f ⊎ FetchesLast model (numbering_of fetches) part byte f)
     × ¬ AllByRecursion (IsOneType f) fetches)
-    ⊎ ((kind ≡ Unexpected) × IsUnexpected (style_of fetches) part state byte)
+    ⊎ ((kind ≡ Unexpected) × IsUnexpected (numbering_of fetches) part state byte)
 
 -- why a byte is refused behind a front: a zero byte everywhere, `%` inside a specification
 abbrev pub IsPosixRefusedByte : Model → List Fetch → Text → PosixState → ℕ → RefusalKind → Type 0

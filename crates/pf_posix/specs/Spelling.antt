@@ -26,7 +26,7 @@ SpellsPosition t (Some n) = (digits : Text) × SpellsPositive digits n × (t ≡
 pub record SpellsStar (t : Text) (position number : Option ℕ) : Type 0 where
   pub digits : Text
   pub digits_are : SpellsPosition digits number
-  pub style : is_some number ≡ is_some position
+  pub numbering : is_some number ≡ is_some position
   pub whole : t ≡ star ∷ digits
 
 -- a number, `*`, or nothing (C11 7.21.6.1 p4)

@@ -102,7 +102,7 @@ with_digit slot state n digit =
     if nat_lt MAX_NUMBER (10 * n + digit) then Err (too_large slot) else
     move_to (state (10 * n + digit))
 
--- after `%`, where earlier specifications are of a style: the number of the argument must come where
+-- after `%`, where earlier specifications are of a numbering: the number of the argument must come where
 -- they are numbered
 abbrev pub after_percent : Model → Numbering → ℕ → PosixStep
 after_percent model Numbered byte =
@@ -139,30 +139,30 @@ after_modifier_letter model parts (Integer lengths.L) byte =
     conversion_at model parts (Integer lengths.L) byte
 after_modifier_letter model parts modifier byte = conversion_at model parts modifier byte
 
--- what the byte makes of the state, where earlier specifications are of a style
+-- what the byte makes of the state, where earlier specifications are of a numbering
 abbrev pub posix_step : Model → Numbering → PosixState → ℕ → PosixStep
-posix_step model style Between byte =
+posix_step model numbering Between byte =
     if byte == 0 then Err NulByte else
     if byte == percent then move_to Opened else
     move_to Between
-posix_step model style Opened byte =
-    if byte == percent then move_to Between else after_percent model style byte
-posix_step model style (First n) byte =
+posix_step model numbering Opened byte =
+    if byte == percent then move_to Between else after_percent model numbering byte
+posix_step model numbering (First n) byte =
     if is_digit byte then with_digit Width First n (byte - zero_digit) else
-    if byte == dollar then dollar_after style n else
-    after_first model style byte
-posix_step model style (Flags parts) byte = among_flags model parts byte
-posix_step model style (Digits slot parts n) byte =
+    if byte == dollar then dollar_after numbering n else
+    after_first model numbering byte
+posix_step model numbering (Flags parts) byte = among_flags model parts byte
+posix_step model numbering (Digits slot parts n) byte =
     if is_digit byte then with_digit slot (Digits slot parts) n (byte - zero_digit) else
     after_amount model slot parts byte
-posix_step model style (Star slot parts) byte = after_star model slot parts parts.position byte
-posix_step model style (StarDigits slot parts n) byte =
+posix_step model numbering (Star slot parts) byte = after_star model slot parts parts.position byte
+posix_step model numbering (StarDigits slot parts n) byte =
     if is_digit byte then with_digit slot (StarDigits slot parts) n (byte - zero_digit) else
     if byte == dollar then Ok (Placed slot parts, Some (fetch (Some n) int_type)) else
     Err (stray byte Mixed)
-posix_step model style (Placed slot parts) byte = after_amount model slot parts byte
-posix_step model style (Point parts) byte =
+posix_step model numbering (Placed slot parts) byte = after_amount model slot parts byte
+posix_step model numbering (Point parts) byte =
     if is_digit byte then move_to (Digits Precision parts (byte - zero_digit)) else
     if byte == star then star_at Precision parts parts.position else
     after_amount model Precision parts byte
-posix_step model style (Modified parts modifier) byte = after_modifier_letter model parts modifier byte
+posix_step model numbering (Modified parts modifier) byte = after_modifier_letter model parts modifier byte

@@ -34,7 +34,7 @@ paired (unnumbered.Wanted a) unnumbered.Other = pairs.Other
 paired unnumbered.End (unnumbered.Wanted b) = pairs.Differ
 paired unnumbered.End unnumbered.End = pairs.End
 paired unnumbered.End unnumbered.Other = pairs.Other
-paired unnumbered.Other beside = pairs.Other
+paired unnumbered.Other second_next = pairs.Other
 
 -- if neither text is refused, this is the first index at which their types differ
 abbrev pub DifferAt : Model → Text → Text → ℕ → Type 0

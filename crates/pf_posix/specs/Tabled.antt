@@ -8,7 +8,7 @@ use Rattle.pf_posix.specs.declared.partial_specification.Numbering.TheVariants.{
 use Rattle.pf_posix.specs.declared.tables.Table.{Table}
 use Rattle.pf_posix.specs.declared.tables.TheConstants.{ROOM}
 use Rattle.pf_posix.specs.Readings.{Takes, greatest, verdict, wanted_at}
-use Rattle.pf_posix.specs.Refusals.{IsOneType, style_by}
+use Rattle.pf_posix.specs.Refusals.{IsOneType, numbering_by}
 use Rattle.pf_posix.specs.Types.{IsFetched}
 
 -- each place has the type of its first fetch
@@ -24,5 +24,5 @@ pub record IsTabled (model : Model) (t : Text) (table : Table) : Type 0 where
   pub seen : List Fetch
   pub verdict_is : verdict model t ≡ Takes seen
   pub kept : TableHolds table seen
-  pub numbered : AllByRecursion (λ f. style_by f.number ≡ Numbered) seen
+  pub numbered : AllByRecursion (λ f. numbering_by f.number ≡ Numbered) seen
   pub all : (place : ℕ) → place < table.count → IsFetched place seen

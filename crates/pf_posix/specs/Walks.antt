@@ -10,7 +10,7 @@ use Rattle.pf_posix.specs.Stages.{posix_state_of}
 
 -- the trace of the text that a reader has left
 abbrev pub trace_left : Model → Text → Reader → FetchTrace
-trace_left model t reader = trace_from model reader.style (posix_state_of reader.automaton) reader.at (drop reader.at t)
+trace_left model t reader = trace_from model reader.numbering (posix_state_of reader.automaton) reader.at (drop reader.at t)
 
 -- what comes next, between a reader before it and behind it; an argument is fetched at the byte
 -- before the reader

@@ -107,10 +107,10 @@ impl Automaton {
     pub(crate) fn step(
         &mut self,
         model: Model,
-        style: Numbering,
+        numbering: Numbering,
         byte: u8,
     ) -> Result<Move, RefusalKind>
-        ensures { posix_step_by result self.new ≡ posix_step model style (posix_state_of self.old) byte }
+        ensures { posix_step_by result self.new ≡ posix_step model numbering (posix_state_of self.old) byte }
     {
         match self.phase {
             Phase::Between => match byte {
@@ -120,12 +120,12 @@ impl Automaton {
             },
             Phase::Opened => match byte {
                 b'%' => self.move_to(Phase::Between),
-                _ => self.after_percent(model, style, byte),
+                _ => self.after_percent(model, numbering, byte),
             },
             Phase::First => match byte {
                 b'0'..=b'9' => self.with_digit(WidthOrPrecision::Width, byte - b'0'),
-                b'$' => self.dollar_after(style),
-                _ => self.after_first(model, style, byte),
+                b'$' => self.dollar_after(numbering),
+                _ => self.after_first(model, numbering, byte),
             },
             Phase::Flags => self.among_flags(model, byte),
             Phase::Digits => match byte {
@@ -167,17 +167,17 @@ impl Automaton {
     fn after_percent(
         &mut self,
         model: Model,
-        style: Numbering,
+        numbering: Numbering,
         byte: u8,
     ) -> Result<Move, RefusalKind>
-        ensures { posix_step_by result self.new ≡ after_percent model style byte }
+        ensures { posix_step_by result self.new ≡ after_percent model numbering byte }
     {
         match byte {
             b'1'..=b'9' => {
                 self.number = u16::from(byte - b'0');
                 self.move_to(Phase::First)
             }
-            _ => self.flags_after_percent(model, style, byte),
+            _ => self.flags_after_percent(model, numbering, byte),
         }
     }
 
@@ -185,13 +185,13 @@ impl Automaton {
     fn flags_after_percent(
         &mut self,
         model: Model,
-        style: Numbering,
+        numbering: Numbering,
         byte: u8,
     ) -> Result<Move, RefusalKind>
         requires { is_first_digit byte ≡ false }
-        ensures { posix_step_by result self.new ≡ after_percent model style byte }
+        ensures { posix_step_by result self.new ≡ after_percent model numbering byte }
     {
-        match style {
+        match numbering {
             Numbering::Numbered => Err(stray(byte, RefusalKind::Mixed)),
             Numbering::Undecided | Numbering::Unnumbered => {
                 self.parts = PartialSpecification::at(None);
@@ -201,10 +201,10 @@ impl Automaton {
     }
 
     #[inline(always)]
-    fn dollar_after(&mut self, style: Numbering) -> Result<Move, RefusalKind>
-        ensures { posix_step_by result self.new ≡ dollar_after style self.old.number }
+    fn dollar_after(&mut self, numbering: Numbering) -> Result<Move, RefusalKind>
+        ensures { posix_step_by result self.new ≡ dollar_after numbering self.old.number }
     {
-        match style {
+        match numbering {
             Numbering::Unnumbered => Err(RefusalKind::Mixed),
             Numbering::Undecided | Numbering::Numbered => {
                 self.parts = PartialSpecification::at(Some(self.number));
@@ -217,12 +217,12 @@ impl Automaton {
     fn after_first(
         &mut self,
         model: Model,
-        style: Numbering,
+        numbering: Numbering,
         byte: u8,
     ) -> Result<Move, RefusalKind>
-        ensures { posix_step_by result self.new ≡ after_first model style byte }
+        ensures { posix_step_by result self.new ≡ after_first model numbering byte }
     {
-        match style {
+        match numbering {
             Numbering::Numbered => Err(stray(byte, RefusalKind::Mixed)),
             Numbering::Undecided | Numbering::Unnumbered => {
                 self.slot = WidthOrPrecision::Width;
@@ -293,11 +293,7 @@ impl Automaton {
     }
 
     #[inline(always)]
-    fn with_digit(
-        &mut self,
-        slot: WidthOrPrecision,
-        digit: u8,
-    ) -> Result<Move, RefusalKind>
+    fn with_digit(&mut self, slot: WidthOrPrecision, digit: u8) -> Result<Move, RefusalKind>
         requires { digit < 10 }
         ensures { posix_step_by result self.new
             ≡ with_digit slot (numbered self.old.phase self.old) self.old.number digit }
@@ -362,11 +358,7 @@ impl Automaton {
 
     /// Takes the second letter of a modifier, or the conversion.
     #[inline(always)]
-    fn after_modifier_letter(
-        &mut self,
-        model: Model,
-        byte: u8,
-    ) -> Result<Move, RefusalKind>
+    fn after_modifier_letter(&mut self, model: Model, byte: u8) -> Result<Move, RefusalKind>
         ensures { posix_step_by result self.new
             ≡ after_modifier_letter model self.old.parts self.old.modifier byte }
     {

@@ -60,7 +60,7 @@ fn by_tables(model: Model, first: &[u8], second: &[u8]) -> Result<Option<u64>, (
         Err(refusal) => Err((Side::First, refusal)),
         Ok(count) => match arguments(model, second, &mut others) {
             Err(refusal) => Err((Side::Second, refusal)),
-            Ok(beside) => Ok(difference(&types, count, &others, beside)),
+            Ok(second_count) => Ok(difference(&types, count, &others, second_count)),
         },
     }
 }
@@ -70,22 +70,22 @@ fn difference(
     types: &[ArgumentType],
     count: u64,
     others: &[ArgumentType],
-    beside: u64,
+    second_count: u64,
 ) -> Option<u64>
     requires room { length types.now ≡ MOST }
     requires same_room { length others.now ≡ MOST }
     ensures { (a b start from : List ArgumentTypeOf) → types.now ≡ filled start a
-        → others.now ≡ filled from b → count ≡ length a → beside ≡ length b
+        → others.now ≡ filled from b → count ≡ length a → second_count ≡ length b
         → (length a ≤ MOST) ⊎ (length b ≤ MOST) → IsFirstDifference a b result }
 {
     let mut index: usize = 0;
-    while index < ROOM && (index as u64) < count && (index as u64) < beside {
+    while index < ROOM && (index as u64) < count && (index as u64) < second_count {
         if types[index].number() != others[index].number() {
             return Some(index as u64);
         }
         index += 1;
     }
-    if count == beside {
+    if count == second_count {
         return None;
     }
     Some(index as u64)

@@ -7,14 +7,14 @@ ghost use Rattle.pf_posix.specs.declared.directive_spans.DirectiveSpan.{Directiv
 ghost use Rattle.pf_posix.specs.Directives.{FaultForDirectives, HasDirectiveCount, HasDirectives, argument_index};
 ghost use Rattle.pf_posix.specs.DirectiveWalks.{IsWalkedTo, begins_with_star, directive_by, has_star_precision, precision_star, walk_behind, walk_in, width_star};
 ghost use Rattle.pf_posix.specs.Items.{HasArguments, IsPosixAccepted};
-ghost use Rattle.pf_posix.specs.Refusals.{IsPosixRefusedAt, style_by};
+ghost use Rattle.pf_posix.specs.Refusals.{IsPosixRefusedAt, numbering_by};
 ghost use Rattle.pf_posix.specs.Stages.{Between, posix_state_of};
 
 use crate::argument_types::{arguments, room_for};
 use crate::automaton::{Automaton, Move};
 use crate::fetches::Fetch;
 use crate::partial_specification::Numbering;
-use crate::reader::style_by;
+use crate::reader::numbering_by;
 use crate::tables::put;
 use crate::types::ArgumentType;
 use pf_text::{Refusal, TextFault};
@@ -44,11 +44,7 @@ pub struct DirectiveSpan {
 /// returns their number; `%%` does not count as one. It writes them to `out` from the front, as far as
 /// there is room, and leaves the rest of `out` as it was. It refuses the same formats as `arguments`,
 /// and then changes nothing in `out`.
-pub fn directives(
-    model: Model,
-    text: &[u8],
-    out: &mut [DirectiveSpan],
-) -> Result<u64, Refusal>
+pub fn directives(model: Model, text: &[u8], out: &mut [DirectiveSpan]) -> Result<u64, Refusal>
     ensures directives { MatchResult result
         (λ count. HasDirectiveCount model text.now out.old out.new count)
         (λ refusal. IsPosixRefusedAt model text.now refusal.kind refusal.at × (out.new ≡ out.old)) }
@@ -106,7 +102,7 @@ fn put_directives(model: Model, text: &[u8], out: &mut [DirectiveSpan]) -> u64
 #[derive(Clone, Copy, Debug)]
 pub(crate) struct DirectiveWalk {
     automaton: Automaton,
-    style: Numbering,
+    numbering: Numbering,
     /// How many bytes were read.
     at: usize,
     /// The offset of the item that is being read.
@@ -130,7 +126,7 @@ impl DirectiveWalk {
     {
         DirectiveWalk {
             automaton: Automaton::new(),
-            style: Numbering::Undecided,
+            numbering: Numbering::Undecided,
             at: 0,
             begin: 0,
             fetched: 0,
@@ -151,7 +147,7 @@ impl DirectiveWalk {
             → MatchOption result (IsWalkedTo model text.now self.new done)
             (λ d. IsWalkedTo model text.now self.new (done ++ d ∷ [])) }
     {
-        let moved = self.automaton.step(model, self.style, text[self.at]);
+        let moved = self.automaton.step(model, self.numbering, text[self.at]);
         self.at += 1;
         match moved {
             Ok(moved) => match moved {
@@ -208,13 +204,13 @@ impl DirectiveWalk {
         requires { self.old.fetched < self.old.at }
         ensures { self.new ≡ record self.old {
           fetched = self.old.fetched + 1;
-          style = style_by fetch.number;
+          numbering = numbering_by fetch.number;
           earlier_star = earlier_star;
           star = star;
         } }
     {
         self.fetched += 1;
-        self.style = style_by(fetch.number);
+        self.numbering = numbering_by(fetch.number);
         self.earlier_star = earlier_star;
         self.star = star;
     }

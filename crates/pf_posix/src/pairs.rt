@@ -50,8 +50,8 @@ pub(crate) fn compare_in_step(model: Model, first: &[u8], second: &[u8]) -> InSt
     let mut index: u64 = 0;
     loop {
         let next = one.next_fetch(model, first);
-        let beside = other.next_fetch(model, second);
-        match paired(unnumbered_next(next), unnumbered_next(beside)) {
+        let second_next = other.next_fetch(model, second);
+        match paired(unnumbered_next(next), unnumbered_next(second_next)) {
             NextPair::Same => index += 1,
             NextPair::End => return InStepResult::Equal,
             NextPair::Differ => return InStepResult::Differ(index),
@@ -73,11 +73,11 @@ fn unnumbered_next(next: NextFetch) -> UnnumberedNext
     }
 }
 
-fn paired(next: UnnumberedNext, beside: UnnumberedNext) -> NextPair
-    ensures { result ≡ paired next beside }
+fn paired(next: UnnumberedNext, second_next: UnnumberedNext) -> NextPair
+    ensures { result ≡ paired next second_next }
 {
     match next {
-        UnnumberedNext::Wanted(wanted) => match beside {
+        UnnumberedNext::Wanted(wanted) => match second_next {
             UnnumberedNext::Wanted(other) => {
                 if wanted.number() == other.number() {
                     return NextPair::Same;
@@ -87,7 +87,7 @@ fn paired(next: UnnumberedNext, beside: UnnumberedNext) -> NextPair
             UnnumberedNext::End => NextPair::Differ,
             UnnumberedNext::Other => NextPair::Other,
         },
-        UnnumberedNext::End => match beside {
+        UnnumberedNext::End => match second_next {
             UnnumberedNext::Wanted(_) => NextPair::Differ,
             UnnumberedNext::End => NextPair::End,
             UnnumberedNext::Other => NextPair::Other,

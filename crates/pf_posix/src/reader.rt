@@ -8,7 +8,7 @@ ghost use Rattle.pf_posix.specs.declared.reader.Reader.{Reader as ReaderOf};
 ghost use Rattle.pf_posix.specs.Endings.{unnumbered_trace};
 ghost use Rattle.pf_posix.specs.Readings.{Fetches, trace_from, fetch_trace};
 ghost use Rattle.pf_posix.specs.declared.partial_specification.Numbering.TheVariants.{Unnumbered};
-ghost use Rattle.pf_posix.specs.Refusals.{style_by};
+ghost use Rattle.pf_posix.specs.Refusals.{numbering_by};
 ghost use Rattle.pf_posix.specs.Stages.{Between, posix_state_of};
 ghost use Rattle.pf_posix.specs.Walks.{AdvancesReader, IsNextFetch, trace_left};
 
@@ -36,7 +36,7 @@ pub(crate) enum NextFetch {
 #[derive(Clone, Copy, Debug)]
 pub(crate) struct Reader {
     automaton: Automaton,
-    style: Numbering,
+    numbering: Numbering,
     at: usize,
 }
 
@@ -49,7 +49,7 @@ impl Reader {
     {
         Reader {
             automaton: Automaton::new(),
-            style: Numbering::Undecided,
+            numbering: Numbering::Undecided,
             at: 0,
         }
     }
@@ -62,7 +62,7 @@ impl Reader {
     {
         Reader {
             automaton: Automaton::new(),
-            style: Numbering::Unnumbered,
+            numbering: Numbering::Unnumbered,
             at: 0,
         }
     }
@@ -110,7 +110,7 @@ impl Reader {
             }
             if let Some(fetch) = self.two_byte_fetch(model, text) {
                 self.at += 2;
-                self.style = Numbering::Unnumbered;
+                self.numbering = Numbering::Unnumbered;
                 return Some(NextFetch::Fetched(fetch));
             }
         }
@@ -159,7 +159,7 @@ impl Reader {
         if next as u64 >= MAX_TEXT_LEN {
             return None;
         }
-        match self.style {
+        match self.numbering {
             Numbering::Numbered => None,
             Numbering::Undecided | Numbering::Unnumbered => match conversion_of(text[next]) {
                 None => None,
@@ -183,7 +183,7 @@ impl Reader {
             ((self.old.at < self.new.at) × (self.new.at ≤ length text.now))
             (λ next. AdvancesReader text.now self.old next self.new) }
     {
-        match self.automaton.step(model, self.style, text[self.at]) {
+        match self.automaton.step(model, self.numbering, text[self.at]) {
             Ok(Move::More) => {
                 self.at += 1;
                 None
@@ -191,7 +191,7 @@ impl Reader {
             Ok(Move::Fetched) => {
                 self.at += 1;
                 let fetch = self.automaton.fetch();
-                self.style = style_by(fetch.number);
+                self.numbering = numbering_by(fetch.number);
                 Some(NextFetch::Fetched(fetch))
             }
             Err(kind) => Some(refused(kind, self.at)),
@@ -231,8 +231,8 @@ fn run_len(rest: &[u8], at: usize) -> usize
 
 /// Whether an argument is fetched by its number.
 #[inline(always)]
-pub(crate) fn style_by(number: Option<u16>) -> Numbering
-    ensures { result ≡ style_by number }
+pub(crate) fn numbering_by(number: Option<u16>) -> Numbering
+    ensures { result ≡ numbering_by number }
 {
     match number {
         Some(_) => Numbering::Numbered,

@@ -120,7 +120,11 @@ impl Table {
     {
         let mut place = 0;
         while place < self.count {
-            put(out, place, self.types[place].unwrap_or(ArgumentType::Profile(ArgType::Int)));
+            put(
+                out,
+                place,
+                self.types[place].unwrap_or(ArgumentType::Profile(ArgType::Int)),
+            );
             place += 1;
         }
     }

@@ -67,7 +67,7 @@ abbrev no_width : WidthText
 no_width = record { amount = None; text = []; spelled = refl }
 
 abbrev star_width : WidthText
-star_width = record { amount = Some (Fetched None); text = codes "*"; spelled = record { digits = []; digits_are = refl; style = refl; whole = refl } }
+star_width = record { amount = Some (Fetched None); text = codes "*"; spelled = record { digits = []; digits_are = refl; numbering = refl; whole = refl } }
 
 width_spelled : (n : ℕ) → 0 < n → n ≤ MAX_NUMBER → SpellsPosixWidth (decimal n) None (Some (Given n))
 width_spelled n some few = record { some = some; numeral = (digits_of 10 n, least_digits_are n some, decimal_is n some (omega (arith, few))); within = few }

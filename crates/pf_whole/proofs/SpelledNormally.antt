@@ -32,7 +32,7 @@ width_here t (Some (Given n)) h = record {
   numeral = (digits_of 10 n, least_digits_are n h.some, decimal_is n h.some (omega (arith, h.within)));
   within = h.within;
 }
-width_here t (Some (Fetched number)) h = record { digits = []; digits_are = none_placed number (no_number number h.style); style = h.style; whole = refl }
+width_here t (Some (Fetched number)) h = record { digits = []; digits_are = none_placed number (no_number number h.numbering); numbering = h.numbering; whole = refl }
 
 -- the precision is one that can be spelled
 abbrev IsFew : Option Amount → Type 0
@@ -43,7 +43,7 @@ IsFew (Some (Fetched number)) = is_some number ≡ false
 few_of : (t : Text) (precision : Option Amount) → SpellsPosixPrecision t None precision → IsFew precision
 few_of t None h = tt
 few_of t (Some (Given n)) h = h.1
-few_of t (Some (Fetched number)) h = h.1.style
+few_of t (Some (Fetched number)) h = h.1.numbering
 
 few_kept : (conversion : Conversion) (precision : Option Amount) → IsFew precision → IsFew (normal_precision conversion precision)
 few_kept conversion None h = tt
@@ -58,7 +58,7 @@ precision_here : (precision : Option Amount) → IsFew precision → SpellsPosix
 precision_here None h = refl
 precision_here (Some (Given n)) h = (precision_read (Some n) (small n h), h)
 precision_here (Some (Fetched number)) h =
-    (42 ∷ [], record { digits = []; digits_are = none_placed number (no_number number h); style = h; whole = refl }, refl)
+    (42 ∷ [], record { digits = []; digits_are = none_placed number (no_number number h); numbering = h; whole = refl }, refl)
 
 spelled_normally : (model : Model) (t : Text) (s : PosixSpecification) → HasParts t s → SpellsPosix (normal_spelling model s) (normal_parts model s)
 spelled_normally model t s h =

@@ -9,8 +9,8 @@ abbrev pub invariant-loop-index : goal.invariant-loop-index
 invariant-loop-index l = record {
   few : l.index ≤ ROOM;
   first : l.index ≤ l.count;
-  second : l.index ≤ l.beside;
-  same : (a b start from : List ArgumentType) → l.types ≡ filled start a → l.others ≡ filled from b → l.count ≡ length a → l.beside ≡ length b → SameUpTo a b l.index;
+  second : l.index ≤ l.second_count;
+  same : (a b start from : List ArgumentType) → l.types ≡ filled start a → l.others ≡ filled from b → l.count ≡ length a → l.second_count ≡ length b → SameUpTo a b l.index;
 }
 
 abbrev pub decreases-loop-index : goal.decreases-loop-index
