@@ -97,24 +97,16 @@ def try_header(trials):
     }
     trials.expect("functions of the header", plain, dict(source_calls()))
     kinds = source_numbers("pf_values/src/refusals.rt", r"RefusalKind::(\w+) => (\d+),", {})
-    whole = source_numbers("pf_signatures/src/refusals.rt", r"SignatureRefusalKind::(\w+) => (\d+),", {})
-    trials.expect(
-        "kinds that both languages have",
-        {name: kinds[name] for name in whole if name in kinds},
-        {name: whole[name] for name in whole if name in kinds},
-    )
-    trials.expect("kinds of refusals", header_numbers("fmtcanon_kind"), {**kinds, **whole})
+    trials.expect("kinds of refusals", header_numbers("fmtcanon_kind"), kinds)
     text = (SOURCES / "interface.rt").read_text(encoding="utf-8")
     front = int(re.search(r"LITERAL_KINDS: u32 = (\d+);", text).group(1))
     kinds = source_numbers("pf_literals/src/faults.rt", r"LiteralKind::(\w+) => (\d+),", {})
     wanted = {name: front + number for name, number in kinds.items()}
     trials.expect("kinds of faults of literals", header_numbers("fmtcanon_literal_kind"), wanted)
     names = {"UInt": "UINT", "ULong": "ULONG", "ULongLong": "ULONG_LONG", "Str": "STRING"}
-    types = source_numbers("fmtcanon_c/src/argument_types.rt", r"ArgType::(\w+) => (\d+),", names)
+    types = source_numbers("pf_values/src/types.rt", r"ArgType::(\w+) => (\d+),", names)
     names = {**names, "PointerToSChar": "POINTER_TO_SCHAR", "Pointer": "POINTER_TO_VOID"}
-    whole = source_numbers("pf_signatures/src/types.rt", r"ArgumentType::(\w+) => (\d+),", names)
-    trials.expect("types that both languages have", {name: whole[name] for name in types}, types)
-    types = whole
+    types |= source_numbers("pf_posix/src/types.rt", r"ArgumentType::(\w+) => (\d+),", names)
     trials.expect("types", header_numbers("fmtcanon_type"), types)
     # The number of a data model is its place in the list of all.
     text = (TOP / "crates/pf_values/src/models.rt").read_text(encoding="utf-8")

@@ -34,13 +34,13 @@ STARTS = [("pf_compare/src/laws.rt", "headline"), ("pf_text/src/pieces.rt", "che
 # folder.
 WHOLE_FOLDER = "Rattle.pf_whole.specs.meaning"
 WHOLE_STARTS = [("pf_whole/src/laws.rt", "headline")]
-LOWER = "Rattle.pf_signatures.specs"
+LOWER = "Rattle.pf_posix.specs"
 # The words for a refusal in the whole language, each with the function whose contract has it; and the words for
 # acceptance.
 REFUSALS = [(f"{LOWER}.Refusals", "IsPosixRefusedAt"), (f"{LOWER}.Unnumbered", "IsWholeRefusedAt")]
 REFUSED_BY = [
-    ("pf_signatures/src/argument_types.rt", "arguments"),
-    ("pf_signatures/src/unnumbered.rt", "check_unnumbered"),
+    ("pf_posix/src/argument_types.rt", "arguments"),
+    ("pf_posix/src/unnumbered.rt", "check_unnumbered"),
 ]
 ACCEPTED = [(f"{LOWER}.Items", "HasArguments"), (f"{LOWER}.Stretches", "IsWholeAccepted")]
 NAME = r"[^\W\d]\w*"
@@ -251,7 +251,7 @@ def try_whole(trials, text, known):
     names = {name for _, name in lower}
     trials.expect(
         f"definitions of {LOWER} that it depends on, in docs/DEFINITIONS.md",
-        listed(text, "Of `pf_signatures` they use the definitions "),
+        listed(text, "Of `pf_posix` they use the definitions "),
         names,
     )
     types, constants = of_code(others - known)

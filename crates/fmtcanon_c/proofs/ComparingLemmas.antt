@@ -1,9 +1,9 @@
 -- What a comparison that was made or not_compared gives the caller.
 use Rattle.std.proofs.Common.{◌⊎◌, ℤ, inl, inr, refl, subst}
 use Rattle.pf_values.specs.declared.models.Model.{Model}
-use Rattle.pf_values.specs.meaning.Items.{types}
+use Rattle.pf_values.specs.meaning.Items.{IsAccepted, types}
+use Rattle.pf_values.specs.meaning.Refusals.{IsRefusedAt}
 use Rattle.pf_values.specs.meaning.Text.{Text}
-use Rattle.pf_canon.specs.declared.faults.Side.TheVariants as sides
 use Rattle.pf_compare.specs.Answers.{HaveSameTypes, FaultForCompare, IsComparisonOf, IsVerdict}
 use Rattle.pf_compare.specs.declared.comparisons.CompareFault.{CompareFault}
 use Rattle.pf_compare.specs.declared.comparisons.CompareFault.TheVariants.{Refused, Memory}
@@ -11,6 +11,7 @@ use Rattle.pf_compare.specs.declared.comparisons.Comparison.{Comparison}
 use Rattle.pf_compare.specs.declared.comparisons.Verdict.{Verdict}
 use Rattle.pf_compare.specs.declared.comparisons.Verdict.TheVariants.{Same, Types, Args}
 use Rattle.fmtcanon_c.specs.declared.interface.CError.{CError}
+use Rattle.fmtcanon_c.proofs.RefusalLemmas.{one_refused}
 use Rattle.fmtcanon_c.specs.declared.comparison.CComparison.{CComparison}
 use Rattle.fmtcanon_c.specs.Calls.{PutsComparison, PutsNoComparison, AnswersVerdict, HasSeparatingArguments, IsFaultCode}
 
@@ -56,30 +57,10 @@ made model f g out answer error code out_now answer_now c is gives = elim gives 
 pub not_compared : (model : Model) (f g out : Text) (answer : CComparison) (error error_now : CError) (code : ℤ)
     (fault : CompareFault) → FaultForCompare model f g fault → IsFaultCode fault error code error_now
     → PutsNoComparison model f g out answer error code out answer error_now
-not_compared model f g out answer error error_now code (Refused sides.First refusal) h t = record {
+not_compared model f g out answer error error_now code (Refused side refusal) h t = record {
   out_is = refl;
   answer_is = refl;
-  why = inl (inl (record {
-    kind = refusal.kind;
-    refused = rw t.at_is h;
-    code_is = t.code_is;
-    kind_is = t.kind_is;
-    side_is = t.side_is;
-  }));
-}
-not_compared model f g out answer error error_now code (Refused sides.Second refusal) h t = record {
-  out_is = refl;
-  answer_is = refl;
-  why = inl (inr (
-    h.0,
-    record {
-      kind = refusal.kind;
-      refused = rw t.at_is h.1;
-      code_is = t.code_is;
-      kind_is = t.kind_is;
-      side_is = t.side_is;
-    },
-  ));
+  why = inl (one_refused IsAccepted IsRefusedAt f g side refusal code error_now h t);
 }
 not_compared model f g out answer error error_now code Memory h t = record {
   out_is = refl;

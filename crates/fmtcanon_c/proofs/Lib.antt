@@ -1,5 +1,6 @@
 pub mod CodeLemmas
 pub mod ComparingLemmas
+mod RefusalLemmas
 mod SamenessLemmas
 mod SignatureLemmas
 pub mod WholeComparingLemmas

@@ -5,11 +5,12 @@ use Rattle.std.specs.Prelude.{◌↔◌, IsTrue}
 use Rattle.std.proofs.Math.Seq.{take-suc}
 use Rattle.std.proofs.lemmas.Bool.{false≢true}
 use Rattle.std.proofs.lemmas.List.{drop_more, take-append-drop}
-use Rattle.pf_signatures.specs.declared.comparison.FitsRefusal.{FitsRefusal}
-use Rattle.pf_signatures.specs.Items.{IsPosixAccepted}
-use Rattle.pf_signatures.specs.Laws.{ComparesArgumentTypes, FaultForFits}
-use Rattle.pf_signatures.proofs.Agreeing.{all_push}
-use Rattle.pf_signatures.proofs.Unique.{one_list}
+use Rattle.pf_text.specs.declared.refusals.Refusal.{Refusal}
+use Rattle.pf_text.specs.declared.refusals.Side.{Side}
+use Rattle.pf_posix.specs.Items.{IsPosixAccepted}
+use Rattle.pf_posix.specs.Laws.{ComparesArgumentTypes, FaultForFits}
+use Rattle.pf_posix.proofs.Agreeing.{all_push}
+use Rattle.pf_posix.proofs.Unique.{one_list}
 use Rattle.pf_values.specs.declared.models.Model.{Model}
 use Rattle.pf_values.specs.meaning.Text.{Text}
 use Rattle.fmtcanon_c.specs.Signatures.{Fit, StopsFitsIn}
@@ -38,7 +39,7 @@ module _ (f g : Text) (models : List Model) (i : ℕ) (d : Model) (few : i < len
       (all_push (λ model. IsPosixAccepted model f × IsPosixAccepted model g) (take i models) (get_or models i d) h a)
 
   -- or refuses one
-  pub stops_at : (refusal : FitsRefusal) → AllByRecursion (λ model. IsPosixAccepted model f × IsPosixAccepted model g) (take i models) → FaultForFits (get_or models i d) f g refusal
+  pub stops_at : (refusal : Side × Refusal) → AllByRecursion (λ model. IsPosixAccepted model f × IsPosixAccepted model g) (take i models) → FaultForFits (get_or models i d) f g refusal
       → StopsFitsIn models f g refusal
   stops_at refusal h fault =
       record {

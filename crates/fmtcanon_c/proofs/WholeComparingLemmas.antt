@@ -1,21 +1,23 @@
 -- What a comparison of two formats of the whole language that was made, or wasn't, gives the caller.
 use Rattle.std.proofs.Common.{◌⊎◌, ◌≢◌, ℤ, inl, inr, refl, subst}
-use Rattle.pf_signatures.proofs.ReadOnce.{read_once}
-use Rattle.pf_signatures.specs.declared.comparison.FitsRefusal.TheVariants as sides
-use Rattle.pf_signatures.specs.Stretches.{Stretches, ReadsWhole}
+use Rattle.pf_posix.proofs.ReadOnce.{read_once}
+use Rattle.pf_posix.specs.Stretches.{IsWholeAccepted, ReadsWhole, Stretches}
+use Rattle.pf_posix.specs.Unnumbered.{IsWholeRefusedAt}
 use Rattle.pf_values.specs.declared.models.Model.{Model}
 use Rattle.pf_values.specs.meaning.Text.{Text}
 use Rattle.pf_whole.proofs.Telling.{calls_give_shape}
 use Rattle.pf_whole.specs.Answers as answers
 use Rattle.pf_whole.specs.Answers.{HaveOneShape, IsWholeVerdict}
 use Rattle.pf_whole.specs.Comparisons.{FaultForWholeCompare, IsComparison, verdict_of}
-use Rattle.pf_whole.specs.declared.verdicts.WholeCompareFault.{WholeCompareFault}
-use Rattle.pf_whole.specs.declared.verdicts.WholeCompareFault.TheVariants.{Refused, Memory}
+use Rattle.pf_compare.specs.declared.comparisons.CompareFault.{CompareFault}
+use Rattle.pf_compare.specs.declared.comparisons.CompareFault.TheVariants.{Refused, Memory}
 use Rattle.pf_whole.specs.declared.verdicts.WholeVerdict.{WholeVerdict}
 use Rattle.pf_whole.specs.declared.verdicts.WholeVerdict.TheVariants.{Same, Types, Directives, Args}
 use Rattle.fmtcanon_c.specs.declared.interface.CError.{CError}
+use Rattle.fmtcanon_c.proofs.RefusalLemmas.{one_refused}
 use Rattle.fmtcanon_c.specs.declared.comparison.CComparison.{CComparison}
-use Rattle.fmtcanon_c.specs.WholeComparisons.{AnswersWholeVerdict, IsWholeFaultCode, PutsNoWholeComparison, PutsWholeComparison, ShowsArguments}
+use Rattle.fmtcanon_c.specs.Calls.{IsFaultCode}
+use Rattle.fmtcanon_c.specs.WholeComparisons.{AnswersWholeVerdict, PutsNoWholeComparison, PutsWholeComparison, ShowsArguments}
 
 -- two formats for which arguments are shown have equal types and equal calls
 shape_by : (model : Model) (f g : Text) (a b : Stretches) (v : WholeVerdict) → ReadsWhole f a → ReadsWhole g b
@@ -69,32 +71,12 @@ made model f g out answer error code out_now answer_now v is gives = elim gives 
 
 -- a comparison that wasn't made leaves all but the error as it is
 pub not_compared : (model : Model) (f g out : Text) (answer : CComparison) (error error_now : CError) (code : ℤ)
-    (fault : WholeCompareFault) → FaultForWholeCompare model f g fault → IsWholeFaultCode fault error code error_now
+    (fault : CompareFault) → FaultForWholeCompare model f g fault → IsFaultCode fault error code error_now
     → PutsNoWholeComparison model f g out answer error code out answer error_now
-not_compared model f g out answer error error_now code (Refused (sides.First refusal)) h t = record {
+not_compared model f g out answer error error_now code (Refused side refusal) h t = record {
   out_is = refl;
   answer_is = refl;
-  why = inl (inl (record {
-    kind = refusal.kind;
-    refused = rw t.at_is h;
-    code_is = t.code_is;
-    kind_is = t.kind_is;
-    side_is = t.side_is;
-  }));
-}
-not_compared model f g out answer error error_now code (Refused (sides.Second refusal)) h t = record {
-  out_is = refl;
-  answer_is = refl;
-  why = inl (inr (
-    h.0,
-    record {
-      kind = refusal.kind;
-      refused = rw t.at_is h.1;
-      code_is = t.code_is;
-      kind_is = t.kind_is;
-      side_is = t.side_is;
-    },
-  ));
+  why = inl (one_refused IsWholeAccepted (IsWholeRefusedAt model) f g side refusal code error_now h t);
 }
 not_compared model f g out answer error error_now code Memory h t = record {
   out_is = refl;

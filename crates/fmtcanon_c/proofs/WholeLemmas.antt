@@ -1,10 +1,11 @@
 -- Two formats of the whole language that are alike or aren't, and one that is refused in each data model.
 use Rattle.std.proofs.Common.{◌≡◌, ◌<◌, Bool, true, false, ℕ, zero, suc, arith, get_or, refl, subst}
 use Rattle.std.proofs.lemmas.Bool.{false≢true}
-use Rattle.pf_signatures.proofs.UnnumberedEnds.{judged}
-use Rattle.pf_signatures.specs.declared.comparison.FitsRefusal.{FitsRefusal}
-use Rattle.pf_signatures.specs.declared.comparison.FitsRefusal.TheVariants.{First, Second}
-use Rattle.pf_signatures.specs.Stretches.{IsWholeAccepted}
+use Rattle.pf_posix.proofs.UnnumberedEnds.{judged}
+use Rattle.pf_text.specs.declared.refusals.Refusal.{Refusal}
+use Rattle.pf_text.specs.declared.refusals.Side.{Side}
+use Rattle.pf_text.specs.declared.refusals.Side.TheVariants.{First, Second}
+use Rattle.pf_posix.specs.Stretches.{IsWholeAccepted}
 use Rattle.pf_values.specs.declared.models.Model.{Model}
 use Rattle.pf_values.specs.declared.models.Model.TheVariants.{Lp64}
 use Rattle.pf_values.specs.declared.models.TheConstants.Model.{ALL}
@@ -20,14 +21,15 @@ pub alike_not : (model : Model) (f g : Text) (is : Bool) → is ≡ false → Ar
 alike_not model f g is e are alike = false≢true ((subst (AreWholeSame model f g) e are).same.1 alike)
 
 -- if both are accepted, neither is refused
-never : (model : Model) (f g : Text) (refusal : FitsRefusal) → IsWholeAccepted f × IsWholeAccepted g → FaultForWholeSame model f g refusal → ⊥
-never model f g (First refusal) both fault = (judged model f).1 refusal.kind refusal.at fault both.0
-never model f g (Second refusal) both fault = (judged model g).1 refusal.kind refusal.at fault.1 both.1
+never : (model : Model) (f g : Text) (side : Side) (refusal : Refusal) → IsWholeAccepted f × IsWholeAccepted g
+    → FaultForWholeSame model f g (side, refusal) → ⊥
+never model f g First refusal both fault = (judged model f).1 refusal.kind refusal.at fault both.0
+never model f g Second refusal both fault = (judged model g).1 refusal.kind refusal.at fault.1 both.1
 
 -- so one that is refused is refused in the first data model
-pub refused_first : (f g : Text) (i : ℕ) (refusal : FitsRefusal) → (0 < i → IsWholeAccepted f × IsWholeAccepted g)
-    → FaultForWholeSame (get_or ALL i Lp64) f g refusal → FaultForWholeSame Lp64 f g refusal
-refused_first f g zero refusal both fault = fault
-refused_first f g (suc i) refusal both fault =
+pub refused_first : (f g : Text) (i : ℕ) (stop : Side × Refusal) → (0 < i → IsWholeAccepted f × IsWholeAccepted g)
+    → FaultForWholeSame (get_or ALL i Lp64) f g stop → FaultForWholeSame Lp64 f g stop
+refused_first f g zero stop both fault = fault
+refused_first f g (suc i) stop both fault =
     let some : 0 < suc i = omega arith in
-    absurd (never (get_or ALL (suc i) Lp64) f g refusal (both some) fault)
+    absurd (never (get_or ALL (suc i) Lp64) f g stop.0 stop.1 (both some) fault)

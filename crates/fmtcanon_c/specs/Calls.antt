@@ -6,11 +6,12 @@ use Rattle.pf_values.specs.declared.types.ArgType.{ArgType}
 use Rattle.pf_values.specs.meaning.Canonical.{IsCanonicalText}
 use Rattle.pf_values.specs.meaning.Items.{IsAccepted}
 use Rattle.pf_values.specs.meaning.Printing.{AreEquivalent}
+use Rattle.pf_values.specs.meaning.Refusals.{IsRefusedAt}
 use Rattle.pf_values.specs.meaning.Text.{Text}
 use Rattle.pf_text.specs.Signatures.{TakesManyArguments, TakesTypes}
 use Rattle.pf_canon.specs.Answers.{FaultForCanonical, IsCanonicalFor}
-use Rattle.pf_canon.specs.declared.faults.CanonFault.TheVariants as canon_faults
-use Rattle.pf_canon.specs.declared.faults.Side.TheVariants.{First, Second}
+use Rattle.pf_text.specs.declared.refusals.TextFault.TheVariants as text_faults
+use Rattle.pf_text.specs.declared.refusals.Side.TheVariants.{First}
 use Rattle.pf_compare.specs.Answers.{FaultForCompare, IsComparisonOf}
 use Rattle.pf_compare.specs.declared.comparisons.CompareFault.{CompareFault}
 use Rattle.pf_compare.specs.declared.comparisons.CompareFault.TheVariants as compare_faults
@@ -20,8 +21,9 @@ use Rattle.pf_compare.specs.declared.comparisons.Verdict.TheVariants.{Same, Type
 use Rattle.fmtcanon_c.specs.declared.interface.CError.{CError}
 use Rattle.fmtcanon_c.specs.declared.interface.TheConstants.{NO_MEMORY}
 use Rattle.fmtcanon_c.specs.declared.comparison.CComparison.{CComparison}
-use Rattle.fmtcanon_c.specs.Buffers.{put, type_code}
-use Rattle.fmtcanon_c.specs.Errors.{IsNameOf, IsRefusalCode, IsRefusedBy}
+use Rattle.fmtcanon_c.specs.Buffers.{put}
+use Rattle.pf_values.specs.TypeNumbers.{type_number}
+use Rattle.fmtcanon_c.specs.Errors.{IsNameOf, IsOneRefusedAs, IsRefusalCode, IsRefusedBy}
 use Rattle.fmtcanon_c.specs.Words.{ended_words}
 
 -- accepted, with the error untouched, or refused
@@ -45,8 +47,7 @@ AnswersCanonical model t error code error_now =
 
 -- the first text is refused, or it is accepted and the second refused
 abbrev pub IsOneRefusedBy : Text → Text → ℤ → CError → Type 0
-IsOneRefusedBy f g code error =
-    IsRefusedBy First f code error ⊎ (IsAccepted f × IsRefusedBy Second g code error)
+IsOneRefusedBy f g code error = IsOneRefusedAs IsAccepted IsRefusedAt f g code error
 
 -- 1 where two accepted texts mean the same, 0 where they don't, with the error untouched; or one is
 -- refused
@@ -87,7 +88,7 @@ abbrev pub PutsCanonical : Model → Text → Text → CError → ℤ → Text �
 PutsCanonical model t out error code out_now error_now =
     ((c : Text) × IsCanonicalFor model t c × (code ≡ pos (length c))
     × (out_now ≡ put (c ++ 0 ∷ []) out) × (error_now ≡ error))
-    ⊎ PutsNothing t (FaultForCanonical model t canon_faults.Memory) out error code out_now error_now
+    ⊎ PutsNothing t (FaultForCanonical model t text_faults.Memory) out error code out_now error_now
 
 -- a length as an answer; no memory holds a text with 2^63 bytes
 abbrev pub IsLengthCode : ℕ → ℤ → Type 0
@@ -104,7 +105,7 @@ AnswersLength model t error code error_now =
 abbrev pub PutsTypes : Model → Text → Text → CError → ℤ → Text → CError → Type 0
 PutsTypes model t out error code out_now error_now =
     ((types : List ArgType) × TakesTypes model t types × (code ≡ pos (length types))
-    × (out_now ≡ put (map type_code types) out) × (error_now ≡ error))
+    × (out_now ≡ put (map type_number types) out) × (error_now ≡ error))
     ⊎ PutsNothing t (TakesManyArguments model t) out error code out_now error_now
 
 -- the words of the arguments that a verdict gives

@@ -1,17 +1,16 @@
 -- What the calls about the types of the whole language answer. This project's own.
 use Rattle.std.specs.Prelude.{◌≡◌, ◌≢◌, ◌⊎◌, ℕ, ℤ, pos, neg_ℤ, List, [], ◌∷◌, ◌++◌, Option, Some, None, length, map}
 use Rattle.std.specs.List.{AllByRecursion}
-use Rattle.pf_canon.specs.declared.faults.Side.{Side}
-use Rattle.pf_canon.specs.declared.faults.Side.TheVariants.{First, Second}
-use Rattle.pf_signatures.specs.declared.comparison.FitsRefusal.{FitsRefusal}
-use Rattle.pf_signatures.specs.declared.directive_spans.DirectiveSpan.{DirectiveSpan}
-use Rattle.pf_signatures.specs.declared.refusals.SignatureRefusalKind.{SignatureRefusalKind}
-use Rattle.pf_signatures.specs.declared.types.ArgumentType.{ArgumentType}
-use Rattle.pf_signatures.specs.Directives.{HasDirectives}
-use Rattle.pf_signatures.specs.Items.{HasArguments, IsPosixAccepted}
-use Rattle.pf_signatures.specs.Kinds.{signature_kind_number, type_number}
-use Rattle.pf_signatures.specs.Laws.{FaultForFits}
-use Rattle.pf_signatures.specs.Refusals.{IsPosixRefusedAt}
+use Rattle.pf_text.specs.declared.refusals.Refusal.{Refusal}
+use Rattle.pf_text.specs.declared.refusals.Side.{Side}
+use Rattle.pf_text.specs.declared.refusals.Side.TheVariants.{First}
+use Rattle.pf_posix.specs.declared.directive_spans.DirectiveSpan.{DirectiveSpan}
+use Rattle.pf_posix.specs.declared.types.ArgumentType.{ArgumentType}
+use Rattle.pf_posix.specs.Directives.{HasDirectives}
+use Rattle.pf_posix.specs.Items.{HasArguments, IsPosixAccepted}
+use Rattle.pf_posix.specs.TypeNumbers.{number_of_type}
+use Rattle.pf_posix.specs.Laws.{FaultForFits}
+use Rattle.pf_posix.specs.Refusals.{IsPosixRefusedAt}
 use Rattle.pf_values.specs.declared.models.Model.{Model}
 use Rattle.pf_values.specs.declared.models.TheConstants.Model.{ALL}
 use Rattle.pf_values.specs.meaning.Text.{Text}
@@ -20,23 +19,23 @@ use Rattle.fmtcanon_c.specs.declared.directives.TheConstants.{NO_ARGUMENT}
 use Rattle.fmtcanon_c.specs.declared.interface.CError.{CError}
 use Rattle.fmtcanon_c.specs.Buffers.{put}
 use Rattle.fmtcanon_c.specs.Calls.{IsModelsCode, IsOut, IsTruthCode}
-use Rattle.fmtcanon_c.specs.Errors.{side_number}
+use Rattle.fmtcanon_c.specs.Errors.{IsOneRefusedAs, IsRefusedAs}
 
 -- a text of the whole language is refused, and the error says why and where
-pub record IsRefusedWhole (model : Model) (side : Side) (t : Text) (code : ℤ)
-    (error : CError) : Type 0 where
-  pub kind : SignatureRefusalKind
-  pub refused : IsPosixRefusedAt model t kind error.at
-  pub code_is : code ≡ neg_ℤ (pos (signature_kind_number kind))
-  pub kind_is : error.kind ≡ signature_kind_number kind
-  pub side_is : error.side ≡ side_number side
+abbrev pub IsRefusedWhole : Model → Side → Text → ℤ → CError → Type 0
+IsRefusedWhole model side t code error = IsRefusedAs (IsPosixRefusedAt model t) side code error
+
+-- the first text is refused, or it is accepted and the second refused
+abbrev pub IsOneRefusedWhole : Model → Text → Text → ℤ → CError → Type 0
+IsOneRefusedWhole model f g code error =
+    IsOneRefusedAs (IsPosixAccepted model) (IsPosixRefusedAt model) f g code error
 
 -- the numbers of the types are put, where the buffer has room for them, and how many they are is
 -- answered; or the text is refused, or memory for its types is out
 abbrev pub PutsArguments : Model → Text → Text → CError → ℤ → Text → CError → Type 0
 PutsArguments model t out error code out_now error_now =
     ((types : List ArgumentType) × HasArguments model t types × (code ≡ pos (length types))
-    × (out_now ≡ put (map type_number types) out) × (error_now ≡ error))
+    × (out_now ≡ put (map number_of_type types) out) × (error_now ≡ error))
     ⊎ ((out_now ≡ out) × (IsRefusedWhole model First t code error_now
     ⊎ IsOut ((types : List ArgumentType) × HasArguments model t types × (types ≢ []))
     code error error_now))
@@ -50,11 +49,10 @@ abbrev pub AnswersFit : Model → Text → Text → CError → ℤ → CError �
 AnswersFit model f g error code error_now =
     (IsPosixAccepted model f × IsPosixAccepted model g × IsTruthCode (Fit model f g) code
     × (error_now ≡ error))
-    ⊎ (IsRefusedWhole model First f code error_now
-    ⊎ (IsPosixAccepted model f × IsRefusedWhole model Second g code error_now))
+    ⊎ IsOneRefusedWhole model f g code error_now
 
 -- two texts are compared in one data model after the other, and one is refused
-pub record StopsFitsIn (models : List Model) (f g : Text) (refusal : FitsRefusal) : Type 0 where
+pub record StopsFitsIn (models : List Model) (f g : Text) (refusal : Side × Refusal) : Type 0 where
   pub before : List Model
   pub model : Model
   pub after : List Model
@@ -69,8 +67,7 @@ pub record IsRefusedFirstIn (models : List Model) (f g : Text) (code : ℤ) (err
   pub after : List Model
   pub split : models ≡ before ++ model ∷ after
   pub accepted : AllByRecursion (λ m. IsPosixAccepted m f × IsPosixAccepted m g) before
-  pub refused : IsRefusedWhole model First f code error
-      ⊎ (IsPosixAccepted model f × IsRefusedWhole model Second g code error)
+  pub refused : IsOneRefusedWhole model f g code error
 
 -- the data models in which their types are equal, where both are accepted in all, with the error
 -- untouched; or one text is refused in the first data model in which one is
@@ -93,7 +90,7 @@ record_of d = record {
   argument = d.argument;
   width_argument = index_or_none d.width_argument;
   precision_argument = index_or_none d.precision_argument;
-  kind = type_number d.kind;
+  kind = number_of_type d.kind;
 }
 
 -- the records of the specifications are put, where the buffer has room for them, and how many they are

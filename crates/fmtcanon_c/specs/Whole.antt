@@ -1,13 +1,11 @@
 -- What the calls about formats of the whole language answer, where no argument may have a number. This
 -- project's own.
-use Rattle.std.specs.Prelude.{◌≡◌, ◌⊎◌, ℤ, pos, neg_ℤ, [], ◌∷◌, ◌++◌, length}
-use Rattle.pf_canon.specs.declared.faults.Side.{Side}
-use Rattle.pf_canon.specs.declared.faults.Side.TheVariants.{First, Second}
-use Rattle.pf_signatures.specs.declared.refusals.SignatureFault.TheVariants.{Memory}
-use Rattle.pf_signatures.specs.declared.refusals.SignatureRefusalKind.{SignatureRefusalKind}
-use Rattle.pf_signatures.specs.Kinds.{signature_kind_number}
-use Rattle.pf_signatures.specs.Stretches.{IsWholeAccepted}
-use Rattle.pf_signatures.specs.Unnumbered.{IsWholeRefusedAt}
+use Rattle.std.specs.Prelude.{◌≡◌, ◌⊎◌, ℤ, pos, [], ◌∷◌, ◌++◌, length}
+use Rattle.pf_text.specs.declared.refusals.Side.{Side}
+use Rattle.pf_text.specs.declared.refusals.Side.TheVariants.{First}
+use Rattle.pf_text.specs.declared.refusals.TextFault.TheVariants.{Memory}
+use Rattle.pf_posix.specs.Stretches.{IsWholeAccepted}
+use Rattle.pf_posix.specs.Unnumbered.{IsWholeRefusedAt}
 use Rattle.pf_values.specs.declared.models.Model.{Model}
 use Rattle.pf_values.specs.declared.models.Model.TheVariants.{Lp64}
 use Rattle.pf_values.specs.meaning.Text.{Text}
@@ -17,22 +15,16 @@ use Rattle.pf_whole.specs.meaning.Traces.{AreWholeAlike}
 use Rattle.fmtcanon_c.specs.declared.interface.CError.{CError}
 use Rattle.fmtcanon_c.specs.Buffers.{put}
 use Rattle.fmtcanon_c.specs.Calls.{IsLengthCode, IsModelsCode, IsOut, IsTruthCode}
-use Rattle.fmtcanon_c.specs.Errors.{side_number}
+use Rattle.fmtcanon_c.specs.Errors.{IsOneRefusedAs, IsRefusedAs}
 
 -- a text is refused where no argument may have a number, and the error says why and where
-pub record IsRefusedUnnumbered (model : Model) (side : Side) (t : Text) (code : ℤ)
-    (error : CError) : Type 0 where
-  pub kind : SignatureRefusalKind
-  pub refused : IsWholeRefusedAt model t kind error.at
-  pub code_is : code ≡ neg_ℤ (pos (signature_kind_number kind))
-  pub kind_is : error.kind ≡ signature_kind_number kind
-  pub side_is : error.side ≡ side_number side
+abbrev pub IsRefusedUnnumbered : Model → Side → Text → ℤ → CError → Type 0
+IsRefusedUnnumbered model side t code error = IsRefusedAs (IsWholeRefusedAt model t) side code error
 
 -- the first text is refused, or it is accepted and the second refused
 abbrev pub IsOneRefusedUnnumbered : Model → Text → Text → ℤ → CError → Type 0
 IsOneRefusedUnnumbered model f g code error =
-    IsRefusedUnnumbered model First f code error
-    ⊎ (IsWholeAccepted f × IsRefusedUnnumbered model Second g code error)
+    IsOneRefusedAs IsWholeAccepted (IsWholeRefusedAt model) f g code error
 
 -- the canonical text and a NUL are put, where the buffer has room for them, and its length is
 -- answered; or the text is refused, or memory is out

@@ -1,15 +1,9 @@
 -- What a comparison of two formats of the whole language answers. This project's own.
-use Rattle.std.specs.Prelude.{◌≡◌, ◌⊎◌, ⊤, ℕ, ℤ, pos, neg_ℤ, [], length}
-use Rattle.pf_canon.specs.declared.faults.Side.{Side}
-use Rattle.pf_canon.specs.declared.faults.Side.TheVariants.{First, Second}
-use Rattle.pf_signatures.specs.declared.comparison.FitsRefusal.TheVariants as sides
-use Rattle.pf_signatures.specs.declared.refusals.SignatureRefusal.{SignatureRefusal}
-use Rattle.pf_signatures.specs.Kinds.{signature_kind_number}
+use Rattle.std.specs.Prelude.{◌≡◌, ◌⊎◌, ⊤, ℕ, ℤ, pos, [], length}
 use Rattle.pf_values.specs.declared.models.Model.{Model}
 use Rattle.pf_values.specs.meaning.Text.{Text}
 use Rattle.pf_whole.specs.Comparisons.{FaultForWholeCompare, IsComparison}
-use Rattle.pf_whole.specs.declared.verdicts.WholeCompareFault.{WholeCompareFault}
-use Rattle.pf_whole.specs.declared.verdicts.WholeCompareFault.TheVariants.{Refused, Memory}
+use Rattle.pf_compare.specs.declared.comparisons.CompareFault.TheVariants.{Memory}
 use Rattle.pf_whole.specs.declared.verdicts.WholeVerdict.{WholeVerdict}
 use Rattle.pf_whole.specs.declared.verdicts.WholeVerdict.TheVariants.{Same, Types, Directives, Args}
 use Rattle.fmtcanon_c.specs.declared.comparison.CComparison.{CComparison}
@@ -17,7 +11,6 @@ use Rattle.fmtcanon_c.specs.declared.interface.CError.{CError}
 use Rattle.fmtcanon_c.specs.declared.interface.TheConstants.{NO_MEMORY}
 use Rattle.fmtcanon_c.specs.Buffers.{put}
 use Rattle.fmtcanon_c.specs.Calls.{IsOut}
-use Rattle.fmtcanon_c.specs.Errors.{side_number}
 use Rattle.fmtcanon_c.specs.Whole.{IsOneRefusedUnnumbered}
 use Rattle.fmtcanon_c.specs.Words.{ended_words_or_any}
 
@@ -81,19 +74,3 @@ AnswersWholeVerdict verdict out answer code out_now answer_now =
     (IsWholeComparisonCode verdict answer_now × (code ≡ pos (length (words_of_whole verdict)))
     × (out_now ≡ put (words_of_whole verdict) out))
     ⊎ (ShowsArguments verdict × (out_now ≡ out) × (answer_now ≡ answer) × (code ≡ NO_MEMORY))
-
--- the numbers of this refusal of this text
-pub record IsSignatureCode (side : Side) (refusal : SignatureRefusal) (code : ℤ) (error : CError)
-    : Type 0 where
-  pub at_is : error.at ≡ refusal.at
-  pub code_is : code ≡ neg_ℤ (pos (signature_kind_number refusal.kind))
-  pub kind_is : error.kind ≡ signature_kind_number refusal.kind
-  pub side_is : error.side ≡ side_number side
-
--- the answer of one that wasn't
-abbrev pub IsWholeFaultCode : WholeCompareFault → CError → ℤ → CError → Type 0
-IsWholeFaultCode (Refused (sides.First refusal)) error code error_now =
-    IsSignatureCode First refusal code error_now
-IsWholeFaultCode (Refused (sides.Second refusal)) error code error_now =
-    IsSignatureCode Second refusal code error_now
-IsWholeFaultCode Memory error code error_now = (code ≡ NO_MEMORY) × (error_now ≡ error)

@@ -1,22 +1,18 @@
 //! The types of the arguments that a format takes, in the profile and in the whole language.
-ghost use Rattle.std.specs.Prelude.{◌≡◌, ◌≤◌, ◌↔◌, ◌++◌, IsTrue, MatchResult, length, drop, map, neg_ℤ, pos};
+ghost use Rattle.std.specs.Prelude.{◌≡◌, ◌≤◌, ◌↔◌, ◌++◌, IsTrue, MatchResult, length, drop, map};
 ghost use Rattle.std.specs.List.{AllByRecursion};
-ghost use Rattle.fmtcanon_c.specs.Buffers.{type_code};
+ghost use Rattle.pf_values.specs.TypeNumbers.{type_number};
 ghost use Rattle.fmtcanon_c.specs.Calls.{AreModels, PutsTypes};
 ghost use Rattle.fmtcanon_c.specs.Models.{InModel};
-ghost use Rattle.pf_signatures.specs.Items.{IsPosixAccepted};
-ghost use Rattle.pf_signatures.specs.Kinds.{signature_kind_number, type_number};
-ghost use Rattle.pf_signatures.specs.Laws.{FaultForFits};
+ghost use Rattle.pf_posix.specs.Items.{IsPosixAccepted};
+ghost use Rattle.pf_posix.specs.TypeNumbers.{number_of_type};
+ghost use Rattle.pf_posix.specs.Laws.{FaultForFits};
 ghost use Rattle.pf_values.specs.declared.models.TheConstants.Model.{ALL};
-ghost use Rattle.fmtcanon_c.specs.Errors.{side_number};
 ghost use Rattle.fmtcanon_c.specs.Signatures.{AnswersFit, AnswersFitModels, Fit, PutsArguments, StopsFitsIn};
 
-use crate::interface::{CError, NO_MEMORY, NO_MODEL, model_of, put_refusal, side_number};
-use pf_canon::Side;
-use pf_signatures::{
-    ArgumentType, FitsRefusal, SignatureFault, SignatureRefusal, arguments_vec, fits,
-};
-use pf_text::{TextFault, signature};
+use crate::interface::{CError, NO_MEMORY, NO_MODEL, model_of, put_refusal};
+use pf_posix::{ArgumentType, arguments_vec, fits};
+use pf_text::{Refusal, Side, TextFault, signature};
 use pf_values::{ArgType, Model};
 use std::alloc::Global;
 
@@ -57,26 +53,12 @@ fn put_types(alloc: Global, model: Model, text: &[u8], out: &mut [u8], error: &m
 
 fn put_codes(out: &mut [u8], types: &[ArgType])
     requires { length types.now ≤ length out.old }
-    ensures { out.new ≡ map type_code types.now ++ drop (length types.now) out.old }
+    ensures { out.new ≡ map type_number types.now ++ drop (length types.now) out.old }
 {
     let mut at = 0;
     while at < types.len() {
-        out[at] = type_code(types[at]);
+        out[at] = types[at].number();
         at += 1;
-    }
-}
-
-fn type_code(arg_type: ArgType) -> u8
-    ensures { result ≡ type_code arg_type }
-{
-    match arg_type {
-        ArgType::Int => 1,
-        ArgType::UInt => 2,
-        ArgType::Long => 3,
-        ArgType::ULong => 4,
-        ArgType::LongLong => 5,
-        ArgType::ULongLong => 6,
-        ArgType::Str => 7,
     }
 }
 
@@ -117,14 +99,14 @@ fn put_arguments(
             }
             types.len() as i64
         }
-        Err(SignatureFault::Refused(refusal)) => put_signature(error, Side::First, refusal),
-        Err(SignatureFault::Memory) => NO_MEMORY,
+        Err(TextFault::Refused(refusal)) => put_refusal(error, Side::First, refusal),
+        Err(TextFault::Memory) => NO_MEMORY,
     }
 }
 
 fn put_numbers(out: &mut [u8], types: &[ArgumentType])
     requires { length types.now ≤ length out.old }
-    ensures { out.new ≡ map type_number types.now ++ drop (length types.now) out.old }
+    ensures { out.new ≡ map number_of_type types.now ++ drop (length types.now) out.old }
 {
     let mut at = 0;
     while at < types.len() {
@@ -152,8 +134,7 @@ fn fits_in(model: Model, first: &[u8], second: &[u8], error: &mut CError) -> i64
     match fits(model, first, second) {
         Ok(None) => 1,
         Ok(Some(_)) => 0,
-        Err(FitsRefusal::First(refusal)) => put_signature(error, Side::First, refusal),
-        Err(FitsRefusal::Second(refusal)) => put_signature(error, Side::Second, refusal),
+        Err((side, refusal)) => put_refusal(error, side, refusal),
     }
 }
 
@@ -166,13 +147,12 @@ pub extern "C" fn fmtcanon_fits_models(first: &[u8], second: &[u8], error: &mut 
 {
     match fits_models(first, second) {
         Ok(sum) => i64::from(sum),
-        Err(FitsRefusal::First(refusal)) => put_signature(error, Side::First, refusal),
-        Err(FitsRefusal::Second(refusal)) => put_signature(error, Side::Second, refusal),
+        Err((side, refusal)) => put_refusal(error, side, refusal),
     }
 }
 
 // The data models in which it does, as a sum.
-fn fits_models(first: &[u8], second: &[u8]) -> Result<u8, FitsRefusal>
+fn fits_models(first: &[u8], second: &[u8]) -> Result<u8, (Side, Refusal)>
     ensures { MatchResult result
         (λ sum. AllByRecursion (λ model. IsPosixAccepted model first.now × IsPosixAccepted model second.now) ALL
         × AreModels (λ model. Fit model first.now second.now) 1 ALL sum)
@@ -190,7 +170,7 @@ fn fits_models(first: &[u8], second: &[u8]) -> Result<u8, FitsRefusal>
 }
 
 // Whether it does in a data model.
-fn is_fit(model: Model, first: &[u8], second: &[u8]) -> Result<bool, FitsRefusal>
+fn is_fit(model: Model, first: &[u8], second: &[u8]) -> Result<bool, (Side, Refusal)>
     ensures { MatchResult result
         (λ is. IsPosixAccepted model first.now × IsPosixAccepted model second.now
         × (IsTrue is ↔ Fit model first.now second.now))
@@ -201,20 +181,4 @@ fn is_fit(model: Model, first: &[u8], second: &[u8]) -> Result<bool, FitsRefusal
         Ok(Some(_)) => Ok(false),
         Err(refusal) => Err(refusal),
     }
-}
-
-/// Leaves a refusal there, and gives its code.
-pub(crate) fn put_signature(error: &mut CError, side: Side, refusal: SignatureRefusal) -> i64
-    ensures code { result ≡ neg_ℤ (pos (signature_kind_number refusal.kind)) }
-    ensures at { error.new.at ≡ refusal.at }
-    ensures kind { error.new.kind ≡ signature_kind_number refusal.kind }
-    ensures side { error.new.side ≡ side_number side }
-{
-    let number = refusal.kind.number();
-    *error = CError {
-        at: refusal.at,
-        kind: u32::from(number),
-        side: side_number(side),
-    };
-    -i64::from(number)
 }

@@ -4,8 +4,8 @@ ghost use Rattle.std.specs.Prelude.{◌≡◌};
 ghost use Rattle.fmtcanon_c.specs.Models.{InModel};
 
 use crate::interface::{CError, NO_MEMORY, NO_MODEL, model_of, put_refusal, put_string};
-use pf_canon::{CanonFault, Side, canonical, canonical_len, is_canonical};
-use pf_text::check;
+use pf_canon::{canonical, canonical_len, is_canonical};
+use pf_text::{Side, TextFault, check};
 use pf_values::Model;
 use std::alloc::Global;
 
@@ -76,8 +76,8 @@ fn put_canonical(
             put_string(out, &canonical);
             canonical.len() as i64
         }
-        Err(CanonFault::Refused(refusal)) => put_refusal(error, Side::First, refusal),
-        Err(CanonFault::Memory) => NO_MEMORY,
+        Err(TextFault::Refused(refusal)) => put_refusal(error, Side::First, refusal),
+        Err(TextFault::Memory) => NO_MEMORY,
     }
 }
 

@@ -9,9 +9,9 @@ ghost use Rattle.fmtcanon_c.specs.Models.{InModel};
 ghost use Rattle.fmtcanon_c.specs.Words.{ended_words};
 
 use crate::interface::{CError, NO_MEMORY, NO_MODEL, model_of, put_bytes, put_refusal};
-use pf_canon::{Side, same_text};
+use pf_canon::same_text;
 use pf_compare::{CompareFault, Comparison, OwnedArg, Verdict, compare};
-use pf_text::Refusal;
+use pf_text::{Refusal, Side};
 use pf_values::Model;
 use std::alloc::{AllocError, Global};
 
@@ -142,7 +142,8 @@ fn give(alloc: Global, found: &Comparison, out: &mut [u8], comparison: &mut CCom
     }
 }
 
-fn fault_code(error: &mut CError, fault: CompareFault) -> i64
+/// Leaves the refusal of a comparison that wasn't made there, and gives the code of its fault.
+pub(crate) fn fault_code(error: &mut CError, fault: CompareFault) -> i64
     ensures { IsFaultCode fault error.old result error.new }
 {
     match fault {

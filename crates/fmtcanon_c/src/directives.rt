@@ -3,10 +3,9 @@ ghost use Rattle.std.specs.Prelude.{◌≡◌, ◌≤◌, ◌++◌, length, drop
 ghost use Rattle.fmtcanon_c.specs.Models.{InModel};
 ghost use Rattle.fmtcanon_c.specs.Signatures.{PutsDirectives, index_or_none, record_of};
 
-use crate::argument_types::put_signature;
-use crate::interface::{CError, NO_MEMORY, NO_MODEL, model_of};
-use pf_canon::Side;
-use pf_signatures::{DirectiveSpan, SignatureFault, directives_vec};
+use crate::interface::{CError, NO_MEMORY, NO_MODEL, model_of, put_refusal};
+use pf_posix::{DirectiveSpan, directives_vec};
+use pf_text::{Side, TextFault};
 use pf_values::Model;
 use std::alloc::Global;
 
@@ -68,8 +67,8 @@ fn put_directives(
             }
             directives.len() as i64
         }
-        Err(SignatureFault::Refused(refusal)) => put_signature(error, Side::First, refusal),
-        Err(SignatureFault::Memory) => NO_MEMORY,
+        Err(TextFault::Refused(refusal)) => put_refusal(error, Side::First, refusal),
+        Err(TextFault::Memory) => NO_MEMORY,
     }
 }
 

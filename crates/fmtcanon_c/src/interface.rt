@@ -3,14 +3,12 @@
 ghost use Rattle.std.specs.Prelude.{◌≡◌, neg_ℤ, option_map, pos, ◌∷◌, [], ◌++◌};
 ghost use Rattle.pf_values.specs.RefusalKinds.{number};
 ghost use Rattle.fmtcanon_c.specs.Calls.{PutsName};
-ghost use Rattle.fmtcanon_c.specs.Errors.{IsKindOf, IsLiteralKindOf, IsLiteralNameOf, IsNameOf, IsOtherNameOf, IsWholeKindOf, side_number};
+ghost use Rattle.fmtcanon_c.specs.Errors.{IsKindOf, IsLiteralKindOf, IsLiteralNameOf, IsNameOf, side_number};
 ghost use Rattle.fmtcanon_c.specs.Models.{model_of};
 ghost use Rattle.fmtcanon_c.specs.Buffers.{put};
 
-use pf_canon::Side;
 use pf_literals::LiteralKind;
-use pf_signatures::SignatureRefusalKind;
-use pf_text::Refusal;
+use pf_text::{Refusal, Side};
 use pf_values::{Model, RefusalKind};
 
 /// `FMTCANON_ERROR_NOMEMORY`
@@ -85,30 +83,7 @@ fn name_of(number: u32) -> Option<&'static str>
 {
     match kind_of(number) {
         Some(kind) => Some(kind.name()),
-        None => other_name_of(number),
-    }
-}
-
-// That of a kind which only the whole language or literals have.
-fn other_name_of(number: u32) -> Option<&'static str>
-    ensures { IsOtherNameOf number (option_map (λ s. s.now) result) }
-{
-    match whole_kind_of(number) {
-        Some(kind) => Some(kind.name()),
         None => literal_name_of(number),
-    }
-}
-
-// The kind of refusals with a number that only the whole language has.
-fn whole_kind_of(number: u32) -> Option<SignatureRefusalKind>
-    ensures { IsWholeKindOf number result }
-{
-    match number {
-        19 => Some(SignatureRefusalKind::CountUndefined),
-        20 => Some(SignatureRefusalKind::Mixed),
-        21 => Some(SignatureRefusalKind::MissingArgument),
-        22 => Some(SignatureRefusalKind::TwoTypes),
-        _ => None,
     }
 }
 
@@ -162,6 +137,10 @@ fn kind_of(number: u32) -> Option<RefusalKind>
         16 => Some(RefusalKind::PrecisionUndefined),
         17 => Some(RefusalKind::LengthUndefined),
         18 => Some(RefusalKind::TooLong),
+        19 => Some(RefusalKind::CountUndefined),
+        20 => Some(RefusalKind::Mixed),
+        21 => Some(RefusalKind::MissingArgument),
+        22 => Some(RefusalKind::TwoTypes),
         _ => None,
     }
 }

@@ -1,6 +1,6 @@
 //! Whether two formats of the whole language, without numbered arguments, are alike, and how they differ.
 ghost use Rattle.std.specs.Prelude.{◌≡◌, ◌++◌, ◌⊎◌, IfOk, MatchResult};
-ghost use Rattle.pf_signatures.specs.Stretches.{IsWholeAccepted};
+ghost use Rattle.pf_posix.specs.Stretches.{IsWholeAccepted};
 ghost use Rattle.pf_values.specs.declared.models.Model.TheVariants.{Lp64};
 ghost use Rattle.pf_values.specs.declared.models.TheConstants.Model.{ALL};
 ghost use Rattle.pf_whole.specs.Faults.{FaultForWholeSame};
@@ -8,17 +8,15 @@ ghost use Rattle.pf_whole.specs.meaning.Traces.{AreWholeAlike};
 ghost use Rattle.fmtcanon_c.specs.Calls.{AreModels};
 ghost use Rattle.fmtcanon_c.specs.Models.{InModel};
 ghost use Rattle.fmtcanon_c.specs.Whole.{AnswersAlike, AnswersAlikeModels};
-ghost use Rattle.fmtcanon_c.specs.WholeComparisons.{AnswersWholeVerdict, IsWholeComparisonCode, IsWholeFaultCode, PutsNoWholeComparison, PutsWholeComparison, ShowsArguments, words_of_whole, whole_verdict_code, whole_verdict_number};
+ghost use Rattle.fmtcanon_c.specs.WholeComparisons.{AnswersWholeVerdict, IsWholeComparisonCode, PutsNoWholeComparison, PutsWholeComparison, ShowsArguments, words_of_whole, whole_verdict_code, whole_verdict_number};
 ghost use Rattle.fmtcanon_c.specs.Words.{ended_words_or_any, word_or_any};
 
-use crate::argument_types::put_signature;
-use crate::comparison::CComparison;
-use crate::interface::{CError, NO_MEMORY, NO_MODEL, model_of, put_bytes};
-use pf_canon::Side;
+use crate::comparison::{CComparison, fault_code};
+use crate::interface::{CError, NO_MEMORY, NO_MODEL, model_of, put_bytes, put_refusal};
 use pf_compare::OwnedArg;
-use pf_signatures::FitsRefusal;
+use pf_text::{Refusal, Side};
 use pf_values::Model;
-use pf_whole::{WholeCompareFault, WholeVerdict, compare, same_text};
+use pf_whole::{WholeVerdict, compare, same_text};
 use std::alloc::{AllocError, Global};
 
 /// Returns 1 if two formats of the whole language have equal types, print equal bytes for all arguments
@@ -45,8 +43,7 @@ fn alike_in(model: Model, first: &[u8], second: &[u8], error: &mut CError) -> i6
     match same_text(model, first, second) {
         Ok(true) => 1,
         Ok(false) => 0,
-        Err(FitsRefusal::First(refusal)) => put_signature(error, Side::First, refusal),
-        Err(FitsRefusal::Second(refusal)) => put_signature(error, Side::Second, refusal),
+        Err((side, refusal)) => put_refusal(error, side, refusal),
     }
 }
 
@@ -59,13 +56,12 @@ pub extern "C" fn fmtcanon_whole_same_models(first: &[u8], second: &[u8], error:
 {
     match alike_models(first, second) {
         Ok(sum) => i64::from(sum),
-        Err(FitsRefusal::First(refusal)) => put_signature(error, Side::First, refusal),
-        Err(FitsRefusal::Second(refusal)) => put_signature(error, Side::Second, refusal),
+        Err((side, refusal)) => put_refusal(error, side, refusal),
     }
 }
 
 // Returns the data models in which they are alike, as a sum.
-fn alike_models(first: &[u8], second: &[u8]) -> Result<u8, FitsRefusal>
+fn alike_models(first: &[u8], second: &[u8]) -> Result<u8, (Side, Refusal)>
     ensures { MatchResult result
         (λ sum. IsWholeAccepted first.now × IsWholeAccepted second.now
         × AreModels (λ model. AreWholeAlike model first.now second.now) 1 ALL sum)
@@ -125,7 +121,7 @@ fn whole_compare_in(
 {
     match compare(alloc, model, first, second) {
         Ok(verdict) => put_verdict(alloc, &verdict, out, comparison),
-        Err(fault) => whole_fault_code(error, fault),
+        Err(fault) => fault_code(error, fault),
     }
 }
 
@@ -145,18 +141,6 @@ fn put_verdict(
             words.len() as i64
         }
         Err(_) => NO_MEMORY,
-    }
-}
-
-fn whole_fault_code(error: &mut CError, fault: WholeCompareFault) -> i64
-    ensures { IsWholeFaultCode fault error.old result error.new }
-{
-    match fault {
-        WholeCompareFault::Refused(refusal) => match refusal {
-            FitsRefusal::First(refusal) => put_signature(error, Side::First, refusal),
-            FitsRefusal::Second(refusal) => put_signature(error, Side::Second, refusal),
-        },
-        WholeCompareFault::Memory => NO_MEMORY,
     }
 }
 

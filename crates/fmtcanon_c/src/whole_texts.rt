@@ -3,11 +3,9 @@ ghost use Rattle.std.specs.Prelude.{◌≡◌};
 ghost use Rattle.fmtcanon_c.specs.Models.{InModel};
 ghost use Rattle.fmtcanon_c.specs.Whole.{AnswersWholeLength, PutsWholeCanonical};
 
-use crate::argument_types::put_signature;
 use crate::canonical_texts::length_code;
-use crate::interface::{CError, NO_MEMORY, NO_MODEL, model_of, put_string};
-use pf_canon::Side;
-use pf_signatures::SignatureFault;
+use crate::interface::{CError, NO_MEMORY, NO_MODEL, model_of, put_refusal, put_string};
+use pf_text::{Side, TextFault};
 use pf_values::Model;
 use pf_whole::{canonical, canonical_len};
 use std::alloc::Global;
@@ -46,8 +44,8 @@ fn put_whole_canonical(
             put_string(out, &canonical);
             canonical.len() as i64
         }
-        Err(SignatureFault::Refused(refusal)) => put_signature(error, Side::First, refusal),
-        Err(SignatureFault::Memory) => NO_MEMORY,
+        Err(TextFault::Refused(refusal)) => put_refusal(error, Side::First, refusal),
+        Err(TextFault::Memory) => NO_MEMORY,
     }
 }
 
@@ -73,6 +71,6 @@ fn whole_length_in(model: Model, text: &[u8], error: &mut CError) -> i64
 {
     match canonical_len(model, text) {
         Ok(len) => length_code(len),
-        Err(refusal) => put_signature(error, Side::First, refusal),
+        Err(refusal) => put_refusal(error, Side::First, refusal),
     }
 }

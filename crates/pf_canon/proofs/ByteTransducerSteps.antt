@@ -18,17 +18,20 @@ not_filled s asks filled = let both : true ≡ false = sym asks.0 ∙ filled ask
 
 module _ {B : Type 0} (left : B → Known) (kept failed : B → B → Type 0) where
   pub record Runs (old : ByteTransducer) (from : B) (now : ByteTransducer) (to : B) : Type 0 where
-    pub next : (model : Model) (start : Known) (taken given : Text) → History model old start (left from) taken given → (more : Text) × History model now start (left to) (taken ++ more) given
+    pub next : (model : Model) (start : Known) (taken given : Text) → History model old start (left from) taken given → (more : Text)
+        × History model now start (left to) (taken ++ more) given
     pub still : IsFilled old → (now ≡ old) × (to ≡ from)
     pub counts : kept from to
     pub lower : units now ≤ units old
 
-  module _ (also : (a b c : B) → kept a b → kept b c → kept a c) (old now new : ByteTransducer) (from mid to : B) (h : Runs old from now mid) (asks : WantsByte now) (less : units new < units now) where
+  module _ (also : (a b c : B) → kept a b → kept b c → kept a c) (old now new : ByteTransducer) (from mid to : B) (h : Runs old from now mid)
+      (asks : WantsByte now) (less : units new < units now) where
     still_asks : IsFilled old → ⊥
     still_asks filled = not_filled now asks (subst IsFilled (sym (h.still filled).0) filled)
 
     -- more was taken
-    pub continues : (done : Unit {0}) → ((model : Model) (start : Known) (taken given : Text) → History model now start (left mid) taken given → (more : Text) × FillLeaves model (Ok done) new start (left to) (taken ++ more) given) → kept mid to → Runs old from new to
+    pub continues : (done : Unit {0}) → ((model : Model) (start : Known) (taken given : Text) → History model now start (left mid) taken given → (more : Text)
+        × FillLeaves model (Ok done) new start (left to) (taken ++ more) given) → kept mid to → Runs old from new to
     continues done step counts =
         let few = h.lower in
         record {
@@ -41,7 +44,9 @@ module _ {B : Type 0} (left : B → Known) (kept failed : B → B → Type 0) wh
         }
 
     -- the text stopped
-    pub stops : ((a b c : B) → kept a b → failed b c → failed a c) → (fault : StreamFault) → ((model : Model) (start : Known) (taken given : Text) → History model now start (left mid) taken given → (more : Text) × FillLeaves model (Err fault) new start (left to) (taken ++ more) given)
+    pub stops : ((a b c : B) → kept a b → failed b c → failed a c) → (fault : StreamFault)
+        → ((model : Model) (start : Known) (taken given : Text) → History model now start (left mid) taken given → (more : Text)
+        × FillLeaves model (Err fault) new start (left to) (taken ++ more) given)
         → FaultCounts kept failed fault mid to → FillsBy left kept failed old from (Err fault) new to
     stops later fault step counts =
         let few = h.lower in
@@ -56,7 +61,8 @@ module _ {B : Type 0} (left : B → Known) (kept failed : B → B → Type 0) wh
         }
 
   -- the first byte that waits is given
-  pub answers_byte : (old mid : ByteTransducer) (from to : B) (done : Unit {0}) (p : PendingOutput) (byte : ℕ) → FillsBy left kept failed old from (Ok done) mid to → pending_in mid ≡ byte ∷ pending_text p
+  pub answers_byte : (old mid : ByteTransducer) (from to : B) (done : Unit {0}) (p : PendingOutput) (byte : ℕ)
+      → FillsBy left kept failed old from (Ok done) mid to → pending_in mid ≡ byte ∷ pending_text p
       → StepsBy left kept failed old from (Some (Ok byte)) (record mid { pending = p }) to
   answers_byte old mid from to done p byte f e = record {
     next = λ model start taken given h.
@@ -66,9 +72,9 @@ module _ {B : Type 0} (left : B → Known) (kept failed : B → B → Type 0) wh
     counts = f.counts;
   }
 
-longer : (given waiting rest : Text) → waiting ≢ [] → length given < length (given ++ (waiting ++ rest))
+longer : (given pending rest : Text) → pending ≢ [] → length given < length (given ++ (pending ++ rest))
 longer given [] rest some = absurd (some refl)
-longer given (byte ∷ waiting) rest some = omega (arith, length-append given (byte ∷ (waiting ++ rest)))
+longer given (byte ∷ pending) rest some = omega (arith, length-append given (byte ∷ (pending ++ rest)))
 
 -- What is settled is given, and of it this is known to have been `given` first, and then what waited.
 pub record DrainsOn (model : Model) (old now : ByteTransducer) (start left : Known) (given : Text) : Type 0 where
@@ -79,16 +85,19 @@ pub record DrainsOn (model : Model) (old now : ByteTransducer) (start left : Kno
   pub whole : later ++ pending_in now ≡ given ++ (pending_in old ++ rest)
   pub ended : old.is_open ≡ false → rest ≡ []
 
-module _ (model : Model) (old now new : ByteTransducer) (start b c : Known) (given : Text) (p : PendingOutput) (none : pending_text p ≡ []) (h : DrainsOn model old now start b given) (closed : old.is_open ≡ false → now.is_open ≡ false) (going : now.is_open ≡ true) where
+module _ (model : Model) (old now new : ByteTransducer) (start b c : Known) (given : Text) (p : PendingOutput) (none : pending_text p ≡ [])
+    (h : DrainsOn model old now start b given) (closed : old.is_open ≡ false → now.is_open ≡ false) (going : now.is_open ≡ true) where
   still_going : old.is_open ≡ false → ⊥
   still_going before = let both : true ≡ false = sym going ∙ closed before in cc
 
   -- all that waited was given
   cleared : History model (record now { pending = p }) start b h.taken (h.later ++ pending_in now)
-  cleared = given_more model now.is_open now.transducer (pending_in now) (pending_in now) (pending_text p) start b h.taken h.later (sym (append-nil (pending_in now)) ∙ ap (λ t. pending_in now ++ t) (sym none)) h.history
+  cleared = given_more model now.is_open now.transducer (pending_in now) (pending_in now) (pending_text p) start b h.taken h.later
+      (sym (append-nil (pending_in now)) ∙ ap (λ t. pending_in now ++ t) (sym none)) h.history
 
   -- more was taken
-  pub drains_on : (done : Unit {0}) → ((taken given : Text) → History model (record now { pending = p }) start b taken given → (more : Text) × FillLeaves model (Ok done) new start c (taken ++ more) given) → DrainsOn model old new start c given
+  pub drains_on : (done : Unit {0}) → ((taken given : Text) → History model (record now { pending = p }) start b taken given → (more : Text)
+      × FillLeaves model (Ok done) new start c (taken ++ more) given) → DrainsOn model old new start c given
   drains_on done step =
       let k = step h.taken (h.later ++ pending_in now) cleared in
       let w = pending_in old in
@@ -103,7 +112,8 @@ module _ (model : Model) (old now new : ByteTransducer) (start b c : Known) (giv
       }
 
   -- the text stopped
-  pub drain_stops : IsFilled old → (fault : StreamFault) → ((taken given : Text) → History model (record now { pending = p }) start b taken given → (more : Text) × FillLeaves model (Err fault) new start c (taken ++ more) given) → DrainsTo model (pending_in old) start c given (Err fault)
+  pub drain_stops : IsFilled old → (fault : StreamFault) → ((taken given : Text) → History model (record now { pending = p }) start b taken given
+      → (more : Text) × FillLeaves model (Err fault) new start c (taken ++ more) given) → DrainsTo model (pending_in old) start c given (Err fault)
   drain_stops filled fault step =
       let k = step h.taken (h.later ++ pending_in now) cleared in (
         h.taken ++ k.0,

@@ -1,5 +1,35 @@
 -- Two texts that are compared.
-use Rattle.std.proofs.Common.{Some, ◌≡◌, ℕ, ◌+◌, ◌≤◌, ◌++◌, length, take, drop, sym, ap, ◌∙◌, ◌≢◌, ◌<◌, Bool, true, false, [], ◌∷◌, List, None, Result, Ok, Err, refl, subst, arith, inl, inr}
+use Rattle.std.proofs.Common.{
+  Some,
+  ◌≡◌,
+  ℕ,
+  ◌+◌,
+  ◌≤◌,
+  ◌++◌,
+  length,
+  take,
+  drop,
+  sym,
+  ap,
+  ◌∙◌,
+  ◌≢◌,
+  ◌<◌,
+  Bool,
+  true,
+  false,
+  [],
+  ◌∷◌,
+  List,
+  None,
+  Result,
+  Ok,
+  Err,
+  refl,
+  subst,
+  arith,
+  inl,
+  inr,
+}
 use Rattle.std.proofs.Math.Seq.{take-add}
 use Rattle.std.proofs.lemmas.List.{take-append-le, append-nil, append_assoc, append_cancel_left, length-append, length-take, take-append-drop, take-take}
 use Rattle.std.specs.Prelude.{MatchBool, ◌⊎◌}
@@ -10,24 +40,38 @@ use Rattle.pf_values.specs.Counting.{Known}
 use Rattle.pf_values.specs.meaning.Items.{Item}
 use Rattle.pf_probes.proofs.Unique.{equivalent_formats_one}
 use Rattle.pf_canon.specs.Output.{IsFrontOf}
-use Rattle.pf_canon.specs.Comparison.{AreCommon, HaveCommon, CountsSides, CountsStop, Drained, DrainsTo, EndsBoth, IsFilledInStep, IsInStep, IsReadInStep, StopsOn, AreTextsSame}
+use Rattle.pf_canon.specs.Comparison.{
+  AreCommon,
+  HaveCommon,
+  CountsSides,
+  CountsStop,
+  Drained,
+  DrainsTo,
+  EndsBoth,
+  IsFilledInStep,
+  IsInStep,
+  IsReadInStep,
+  StopsOn,
+  AreTextsSame,
+}
 use Rattle.pf_canon.specs.declared.faults.SideFault.{SideFault}
 use Rattle.pf_canon.specs.declared.faults.StreamFault.{StreamFault}
 use Rattle.pf_canon.specs.declared.faults.StreamFault.TheVariants as faults
-use Rattle.pf_canon.specs.declared.faults.Side.{Side}
-use Rattle.pf_canon.specs.declared.faults.Side.TheVariants.{First, Second}
+use Rattle.pf_text.specs.declared.refusals.Side.{Side}
+use Rattle.pf_text.specs.declared.refusals.Side.TheVariants.{First, Second}
 use Rattle.pf_canon.specs.declared.canonical_bytes.ByteTransducer.{ByteTransducer}
 use Rattle.pf_canon.specs.CanonicalBytes.{History, IsFilled, IsReadFor, AnswerLeaves, pending_in}
 use Rattle.pf_canon.proofs.ByteTransducerLemmas.{ending, fault_later, read_in, reader_in, stops_by}
 use Rattle.pf_canon.proofs.EquivalentTexts.{equivalent_by}
-use Rattle.pf_canon.proofs.WalkLemmas.{none_both}
+use Rattle.pf_canon.proofs.SliceLemmas.{none_both}
 use Rattle.pf_canon.specs.declared.transducer.Transducer.{Transducer}
 use Rattle.pf_canon.specs.Transducer.{IsThrough, IsUpTo}
-use Rattle.pf_canon.specs.Walk.{AreApart, GoInStep, IsMidway, IsWalkedWhole, IsAcceptedAs, waits}
-use Rattle.pf_canon.specs.declared.walk.Walk.{Walk}
+use Rattle.pf_canon.specs.CanonicalSlices.{AreApart, GoInStep, IsMidway, IsTakenWhole, IsAcceptedAs, pending_of}
+use Rattle.pf_canon.specs.declared.canonical_slices.CanonicalSlices.{CanonicalSlices}
 
--- so many bytes more are the same
-pub common_more : (t u : Text) (at more : ℕ) → AreCommon t u at → at + more ≤ length t → at + more ≤ length u → take more (drop at t) ≡ take more (drop at u) → AreCommon t u (at + more)
+-- more bytes are equal
+pub common_more : (t u : Text) (at more : ℕ) → AreCommon t u at → at + more ≤ length t → at + more ≤ length u → take more (drop at t) ≡ take more (drop at u)
+    → AreCommon t u (at + more)
 common_more t u at more h first second same = record {
   first = first;
   second = second;
@@ -37,7 +81,8 @@ common_more t u at more h first second same = record {
 -- the first bytes of texts whose fronts have them in common
 pub common_taken : (t u f g : Text) (count : ℕ) → IsFrontOf t f → IsFrontOf u g → HaveCommon f g (Some count) → take count u ≡ take count t
 common_taken t u f g count h k common =
-    ap (take count) k.whole ∙ take-append-le count g k.behind common.1 ∙ sym common.2 ∙ sym (take-append-le count f h.behind common.0) ∙ ap (take count) (sym h.whole)
+    ap (take count) k.whole ∙ take-append-le count g k.behind common.1 ∙ sym common.2 ∙ sym (take-append-le count f h.behind common.0)
+    ∙ ap (take count) (sym h.whole)
 
 -- a text that is over, and one that isn't
 over_apart : (t u x y : Text) → t ≡ [] → x ≡ [] → (t ≡ [] → u ≡ [] → ⊥) → t ++ x ≢ u ++ y
@@ -58,7 +103,8 @@ fronts_apart t u f g h k common x y no_x no_y e = go common.1
     go : (f ≡ []) ⊎ (g ≡ []) ⊎ ((x y : Text) → f ++ x ≢ g ++ y) → ⊥
     go (inl none) = over_apart t u x y (h.some none) (no_x (h.some none)) some e
     go (inr (inl none)) = over_apart u t y x (k.some none) (no_y (k.some none)) (λ second first. some first second) (sym e)
-    go (inr (inr apart)) = apart (h.behind ++ x) (k.behind ++ y) (sym (append_assoc f h.behind x) ∙ ap (λ v. v ++ x) (sym h.whole) ∙ e ∙ ap (λ v. v ++ y) k.whole ∙ append_assoc g k.behind y)
+    go (inr (inr apart)) = apart (h.behind ++ x) (k.behind ++ y) (sym (append_assoc f h.behind x) ∙ ap (λ v. v ++ x) (sym h.whole) ∙ e
+        ∙ ap (λ v. v ++ y) k.whole ∙ append_assoc g k.behind y)
 
 -- a longer text is settled on the other side
 pub in_step_by : (model : Model) (taken given settled : Text) → IsReadFor model taken given → length given < length settled → IsReadInStep model taken settled
@@ -69,7 +115,9 @@ pub in_step_more : (model : Model) (taken given more : Text) → IsReadFor model
 in_step_more model taken given more h some = in_step_by model taken given (given ++ more) h (omega (arith, some, length-append given more))
 
 -- what was read of a text that stopped
-stopped_in_step : (model : Model) (fault : StreamFault) (s : ByteTransducer) (start left : Known) (taken given settled : Text) → AnswerLeaves model (Some (Err fault)) s start left taken given → length given < length settled → (other : Text) × Consumes start left other × IsReadInStep model other settled
+stopped_in_step : (model : Model) (fault : StreamFault) (s : ByteTransducer) (start left : Known) (taken given settled : Text)
+    → AnswerLeaves model (Some (Err fault)) s start left taken given → length given < length settled → (other : Text) × Consumes start left other
+    × IsReadInStep model other settled
 stopped_in_step model faults.Read s start left taken given settled h more = (taken, h.0, in_step_by model taken given settled h.2 more)
 stopped_in_step model (faults.Refused refusal) s start left taken given settled h more = elim h.0.cause [
   | inl end ↦ (taken, end.1, in_step_by model taken given settled h.2 more)
@@ -78,30 +126,50 @@ stopped_in_step model (faults.Refused refusal) s start left taken given settled 
 
 module _ (model : Model) (f f_left g g_left : Known) where
   -- the first text stopped in step
-  pub first_stops : (fault : StreamFault) (one two : ByteTransducer) (t u given : Text) → AnswerLeaves model (Some (Err fault)) one f f_left t given → History model two g g_left u given → IsReadInStep model u given → StopsOn model First fault f f_left g g_left
-  first_stops fault one two t u given h k in_step = (t, given, u, stops_by model fault one f f_left t given h, reader_in model two.is_open two.transducer _ g g_left u given k, in_step)
+  pub first_stops : (fault : StreamFault) (one two : ByteTransducer) (t u given : Text) → AnswerLeaves model (Some (Err fault)) one f f_left t given
+      → History model two g g_left u given → IsReadInStep model u given → StopsOn model First fault f f_left g g_left
+  first_stops fault one two t u given h k in_step = (
+    t,
+    given,
+    u,
+    stops_by model fault one f f_left t given h,
+    reader_in model two.is_open two.transducer _ g g_left u given k,
+    in_step,
+  )
 
   -- the second stopped, and then the first
-  pub both_stop : (waiting : Text) (fault behind : StreamFault) (two : ByteTransducer) (u given : Text) → DrainsTo model waiting f f_left given (Err behind) → AnswerLeaves model (Some (Err fault)) two g g_left u given → StopsOn model First behind f f_left g g_left
-  both_stop waiting fault behind two u given d h =
+  pub both_stop : (pending : Text) (fault behind : StreamFault) (two : ByteTransducer) (u given : Text) → DrainsTo model pending f f_left given (Err behind)
+      → AnswerLeaves model (Some (Err fault)) two g g_left u given → StopsOn model First behind f f_left g g_left
+  both_stop pending fault behind two u given d h =
       let other = stopped_in_step model fault two g g_left u given d.1 h d.3 in
       (d.0, d.1, other.0, d.2, other.1, other.2)
 
   -- the first was read whole, and the second stopped
-  pub second_stops : (waiting : Text) (fault : StreamFault) (two : ByteTransducer) (u given : Text) → Drained model waiting f f_left given → AnswerLeaves model (Some (Err fault)) two g g_left u given → StopsOn model Second fault f f_left g g_left
-  second_stops waiting fault two u given d h = (d.text, u, given, d.whole, stops_by model fault two g g_left u given h)
+  pub second_stops : (pending : Text) (fault : StreamFault) (two : ByteTransducer) (u given : Text) → Drained model pending f f_left given
+      → AnswerLeaves model (Some (Err fault)) two g g_left u given → StopsOn model Second fault f f_left g g_left
+  second_stops pending fault two u given d h = (d.text, u, given, d.whole, stops_by model fault two g g_left u given h)
 
   -- they differ, and the first stopped
-  pub apart_first : (waiting : Text) (fault : StreamFault) (two : ByteTransducer) (u given : Text) → DrainsTo model waiting f f_left given (Err fault) → History model two g g_left u given → StopsOn model First fault f f_left g g_left
-  apart_first waiting fault two u given d h =
-      (d.0, d.1, u, d.2, reader_in model two.is_open two.transducer _ g g_left u given h, in_step_by model u given d.1 (read_in model two.is_open two.transducer _ g g_left u given h) d.3)
+  pub apart_first : (pending : Text) (fault : StreamFault) (two : ByteTransducer) (u given : Text) → DrainsTo model pending f f_left given (Err fault)
+      → History model two g g_left u given → StopsOn model First fault f f_left g g_left
+  apart_first pending fault two u given d h = (
+    d.0,
+    d.1,
+    u,
+    d.2,
+    reader_in model two.is_open two.transducer _ g g_left u given h,
+    in_step_by model u given d.1
+        (read_in model two.is_open two.transducer _ g g_left u given h) d.3,
+  )
 
-  pub apart_second : (waiting other : Text) (fault : StreamFault) (given : Text) → Drained model waiting f f_left given → DrainsTo model other g g_left given (Err fault) → StopsOn model Second fault f f_left g g_left
-  apart_second waiting other fault given d h = (d.text, h.0, h.1, d.whole, h.2)
+  pub apart_second : (pending other : Text) (fault : StreamFault) (given : Text) → Drained model pending f f_left given
+      → DrainsTo model other g g_left given (Err fault) → StopsOn model Second fault f f_left g g_left
+  apart_second pending other fault given d h = (d.text, h.0, h.1, d.whole, h.2)
 
   -- both were read whole, and their canonical texts differ
-  pub apart_ends : (waiting other given : Text) → AreApart waiting other → Drained model waiting f f_left given → Drained model other g g_left given → EndsBoth model f f_left g g_left false
-  apart_ends waiting other given apart d h =
+  pub apart_ends : (pending other given : Text) → AreApart pending other → Drained model pending f f_left given → Drained model other g g_left given
+      → EndsBoth model f f_left g g_left false
+  apart_ends pending other given apart d h =
       let c = d.canonical in
       let k = h.canonical in
       record {
@@ -112,12 +180,14 @@ module _ (model : Model) (f f_left g g_left : Known) where
         same = (
           λ is. absurd (cc),
           λ e. absurd (apart d.rest h.rest d.ended h.ended
-              (append_cancel_left given (waiting ++ d.rest) (other ++ h.rest) (equivalent_formats_one model d.text h.text (given ++ (waiting ++ d.rest)) (given ++ (other ++ h.rest)) e c k))),
+              (append_cancel_left given (pending ++ d.rest) (other ++ h.rest) (equivalent_formats_one model d.text h.text (given ++ (pending ++ d.rest))
+              (given ++ (other ++ h.rest)) e c k))),
         );
       }
 
   -- both ended at once
-  pub same_ends : (one two : ByteTransducer) (t u given : Text) → IsFilled one → IsFilled two → pending_in one ≡ [] → pending_in two ≡ [] → History model one f f_left t given → History model two g g_left u given → EndsBoth model f f_left g g_left true
+  pub same_ends : (one two : ByteTransducer) (t u given : Text) → IsFilled one → IsFilled two → pending_in one ≡ [] → pending_in two ≡ []
+      → History model one f f_left t given → History model two g g_left u given → EndsBoth model f f_left g g_left true
   same_ends one two t u given one_filled two_filled none no_more h k =
       let a = rw none at (ending model one.is_open one.transducer _ f f_left t given (one_filled none) h) in
       let b = rw no_more at (ending model two.is_open two.transducer _ g g_left u given (two_filled no_more) k) in
@@ -132,8 +202,10 @@ module _ (model : Model) (f f_left g g_left : Known) where
       }
 
 -- so many bytes more were given on both sides
-pub in_step_on : (model : Model) (first one second two : ByteTransducer) (a b f g : Known) (x y : Text) (count : ℕ) → IsFrontOf (pending_in first) x → IsFrontOf (pending_in second) y → HaveCommon x y (Some count) → count ≢ 0 → (k : IsFilledInStep model first a second b f g)
-    → History model one f a k.t (k.given ++ take count (pending_in first)) → History model two g b k.u (k.given ++ take count (pending_in second)) → IsInStep model one a two b f g
+pub in_step_on : (model : Model) (first one second two : ByteTransducer) (a b f g : Known) (x y : Text) (count : ℕ) → IsFrontOf (pending_in first) x
+    → IsFrontOf (pending_in second) y → HaveCommon x y (Some count) → count ≢ 0 → (k : IsFilledInStep model first a second b f g)
+    → History model one f a k.t (k.given ++ take count (pending_in first)) → History model two g b k.u (k.given ++ take count (pending_in second))
+    → IsInStep model one a two b f g
 in_step_on model first one second two a b f g x y count h j common some k given other =
     let w = pending_in first in
     let within = common.0 in
@@ -148,8 +220,11 @@ in_step_on model first one second two a b f g x y count h j common some k given 
     }
 
 module _ {A B : Type 0} (kept_a failed_a : A → A → Type 0) (kept_b failed_b : B → B → Type 0) where
-  stop_later : ((a b c : A) → kept_a a b → kept_a b c → kept_a a c) → ((a b c : A) → kept_a a b → failed_a b c → failed_a a c) → ((a b c : B) → kept_b a b → kept_b b c → kept_b a c) → ((a b c : B) → kept_b a b → failed_b b c → failed_b a c)
-      → (side : Side) (fault : StreamFault) (a a_mid a_new : A) (b b_mid b_new : B) → kept_a a a_mid → kept_b b b_mid → CountsStop kept_a failed_a kept_b failed_b side fault a_mid a_new b_mid b_new → CountsStop kept_a failed_a kept_b failed_b side fault a a_new b b_new
+  stop_later : ((a b c : A) → kept_a a b → kept_a b c → kept_a a c) → ((a b c : A) → kept_a a b → failed_a b c → failed_a a c)
+      → ((a b c : B) → kept_b a b → kept_b b c → kept_b a c) → ((a b c : B) → kept_b a b → failed_b b c → failed_b a c)
+      → (side : Side) (fault : StreamFault) (a a_mid a_new : A) (b b_mid b_new : B) → kept_a a a_mid → kept_b b b_mid
+      → CountsStop kept_a failed_a kept_b failed_b side fault a_mid a_new b_mid b_new
+      → CountsStop kept_a failed_a kept_b failed_b side fault a a_new b b_new
   stop_later also_a later_a also_b later_b First fault a a_mid a_new b b_mid b_new h k s = (
     fault_later kept_a failed_a also_a later_a fault a a_mid a_new h s.0,
     elim s.1 [
@@ -157,18 +232,24 @@ module _ {A B : Type 0} (kept_a failed_a : A → A → Type 0) (kept_b failed_b 
       | inr failed ↦ inr (later_b b b_mid b_new k failed)
     ],
   )
-  stop_later also_a later_a also_b later_b Second fault a a_mid a_new b b_mid b_new h k s = (also_a a a_mid a_new h s.0, fault_later kept_b failed_b also_b later_b fault b b_mid b_new k s.1)
+  stop_later also_a later_a also_b later_b Second fault a a_mid a_new b b_mid b_new h k s =
+      (also_a a a_mid a_new h s.0, fault_later kept_b failed_b also_b later_b fault b b_mid b_new k s.1)
 
   -- nothing failed before
-  pub sides_later : ((a b c : A) → kept_a a b → kept_a b c → kept_a a c) → ((a b c : A) → kept_a a b → failed_a b c → failed_a a c) → ((a b c : B) → kept_b a b → kept_b b c → kept_b a c) → ((a b c : B) → kept_b a b → failed_b b c → failed_b a c)
-      → (T : Type 0) (r : Result T SideFault) (a a_mid a_new : A) (b b_mid b_new : B) → kept_a a a_mid → kept_b b b_mid → CountsSides kept_a failed_a kept_b failed_b r a_mid a_new b_mid b_new → CountsSides kept_a failed_a kept_b failed_b r a a_new b b_new
+  pub sides_later : ((a b c : A) → kept_a a b → kept_a b c → kept_a a c) → ((a b c : A) → kept_a a b → failed_a b c → failed_a a c)
+      → ((a b c : B) → kept_b a b → kept_b b c → kept_b a c) → ((a b c : B) → kept_b a b → failed_b b c → failed_b a c)
+      → (T : Type 0) (r : Result T SideFault) (a a_mid a_new : A) (b b_mid b_new : B) → kept_a a a_mid → kept_b b b_mid
+      → CountsSides kept_a failed_a kept_b failed_b r a_mid a_new b_mid b_new → CountsSides kept_a failed_a kept_b failed_b r a a_new b b_new
   sides_later also_a later_a also_b later_b T (Ok answer) a a_mid a_new b b_mid b_new h k s = (also_a a a_mid a_new h s.0, also_b b b_mid b_new k s.1)
-  sides_later also_a later_a also_b later_b T (Err stop) a a_mid a_new b b_mid b_new h k s = stop_later also_a later_a also_b later_b stop.side stop.fault a a_mid a_new b b_mid b_new h k s
+  sides_later also_a later_a also_b later_b T (Err stop) a a_mid a_new b b_mid b_new h k s =
+      stop_later also_a later_a also_b later_b stop.side stop.fault a a_mid a_new b b_mid b_new h k s
 
 -- texts in memory
-begun : (model : Model) (r : Transducer) (f p out : Text) (common at : ℕ) → take common f ≡ p → r.model ≡ model → IsUpTo r p at out → IsMidway model r (drop at f) [] f out
+begun : (model : Model) (r : Transducer) (f p out : Text) (common at : ℕ) → take common f ≡ p → r.model ≡ model → IsUpTo r p at out
+    → IsMidway model r (drop at f) [] f out
 begun model r f p out common at e same h =
-    let front : take at p ≡ take at f = sym (ap (take at) (sym (take-append-drop common f) ∙ ap (λ t. t ++ drop common f) e) ∙ take-append-le at p (drop common f) h.0) in
+    let front : take at p ≡ take at f = sym (ap (take at) (sym (take-append-drop common f) ∙ ap (λ t. t ++ drop common f) e)
+    ∙ take-append-le at p (drop common f) h.0) in
     record {
       taken = take at f;
       items = h.1;
@@ -177,15 +258,21 @@ begun model r f p out common at e same h =
     }
 
 -- what was taken is at the front of both
-pub begun_both : (model : Model) (r : Transducer) (f g out : Text) (common at : ℕ) → AreCommon f g common → r.model ≡ model → IsUpTo r (take common f) at out → IsMidway model r (drop at f) [] f out × IsMidway model r (drop at g) [] g out
-begun_both model r f g out common at both same h = (begun model r f (take common f) out common at refl same h, begun model r g (take common f) out common at (sym both.same) same h)
+pub begun_both : (model : Model) (r : Transducer) (f g out : Text) (common at : ℕ) → AreCommon f g common → r.model ≡ model → IsUpTo r (take common f) at out
+    → IsMidway model r (drop at f) [] f out × IsMidway model r (drop at g) [] g out
+begun_both model r f g out common at both same h = (
+  begun model r f (take common f) out common at refl same h,
+  begun model r g
+      (take common f) out common at (sym both.same) same h,
+)
 
 pub told_other : (A B : Type 0) (b : Bool) → b ≡ false → MatchBool b A B → B
 told_other A B false e h = h
 told_other A B true e h = absurd cc
 
 -- the transducer took verbatim bytes
-pub after_verbatim : (model : Model) (r : Transducer) (t : Text) (n : ℕ) → r.model ≡ model → IsUpTo r t n (take n t) → (items : List Item) × IsThrough model r (take n t) items (take n t)
+pub after_verbatim : (model : Model) (r : Transducer) (t : Text) (n : ℕ) → r.model ≡ model → IsUpTo r t n (take n t) → (items : List Item)
+    × IsThrough model r (take n t) items (take n t)
 after_verbatim model r t n e h = (h.1, subst (λ m. IsThrough m r (take n t) h.1 (take n t)) e h.2)
 
 verbatim_front : (t more : Text) (n both : ℕ) → both ≤ n → n ≤ length t → take both (take n t ++ more) ≡ take both t
@@ -203,13 +290,16 @@ unlike_told model f g c d unlike h k = record {
 }
 
 -- their verbatim bytes differ
-pub verbatim_differ : (model : Model) (f g more other : Text) (n m both : ℕ) → both ≤ n → both ≤ m → n ≤ length f → m ≤ length g → take both f ≢ take both g → IsAcceptedAs model f (take n f ++ more) → IsAcceptedAs model g (take m g ++ other) → AreTextsSame model f g false
+pub verbatim_differ : (model : Model) (f g more other : Text) (n m both : ℕ) → both ≤ n → both ≤ m → n ≤ length f → m ≤ length g → take both f ≢ take both g
+    → IsAcceptedAs model f (take n f ++ more) → IsAcceptedAs model g (take m g ++ other) → AreTextsSame model f g false
 verbatim_differ model f g more other n m both first second within also apart h k =
-    unlike_told model f g (take n f ++ more) (take m g ++ other) (λ e. apart (sym (verbatim_front f more n both first within) ∙ ap (take both) e ∙ verbatim_front g other m both second also)) h k
+    unlike_told model f g (take n f ++ more) (take m g ++ other) (λ e. apart (sym (verbatim_front f more n both first within) ∙ ap (take both) e
+    ∙ verbatim_front g other m both second also)) h k
 
 module _ (model : Model) (f g given w v : Text) where
-  -- both canonical texts are the same
-  pub same_told : (x y : Text) → w ≡ [] → x ≡ [] → v ≡ [] → y ≡ [] → IsAcceptedAs model f (given ++ (w ++ x)) → IsAcceptedAs model g (given ++ (v ++ y)) → AreTextsSame model f g true
+  -- both canonical texts are equal
+  pub same_told : (x y : Text) → w ≡ [] → x ≡ [] → v ≡ [] → y ≡ [] → IsAcceptedAs model f (given ++ (w ++ x)) → IsAcceptedAs model g (given ++ (v ++ y))
+      → AreTextsSame model f g true
   same_told x y w_none x_none v_none y_none h k =
       let c = rw (w_none, x_none) at h in
       let d = rw (v_none, y_none) at k in
@@ -222,16 +312,21 @@ module _ (model : Model) (f g given w v : Text) where
       }
 
   -- they go on with other bytes
-  pub apart_told : (x y : Text) → AreApart w v → (w ≡ [] → x ≡ []) → (v ≡ [] → y ≡ []) → IsAcceptedAs model f (given ++ (w ++ x)) → IsAcceptedAs model g (given ++ (v ++ y)) → AreTextsSame model f g false
-  apart_told x y apart no_x no_y h k = unlike_told model f g (given ++ (w ++ x)) (given ++ (v ++ y)) (λ e. apart x y no_x no_y (append_cancel_left given (w ++ x) (v ++ y) e)) h k
+  pub apart_told : (x y : Text) → AreApart w v → (w ≡ [] → x ≡ []) → (v ≡ [] → y ≡ []) → IsAcceptedAs model f (given ++ (w ++ x))
+      → IsAcceptedAs model g (given ++ (v ++ y)) → AreTextsSame model f g false
+  apart_told x y apart no_x no_y h k = unlike_told model f g (given ++ (w ++ x)) (given ++ (v ++ y))
+      (λ e. apart x y no_x no_y (append_cancel_left given (w ++ x) (v ++ y) e)) h k
 
--- both texts were walked to their ends
-pub told : (model : Model) (first second : Walk) (f g : Text) (is : Bool) (step : GoInStep model first f second g is) → IsWalkedWhole model first f step.given → IsWalkedWhole model second g step.given → AreTextsSame model f g is
+-- both texts were taken to their ends
+pub told : (model : Model) (first second : CanonicalSlices) (f g : Text) (is : Bool) (step : GoInStep model first f second g is)
+    → IsTakenWhole model first f step.given → IsTakenWhole model second g step.given → AreTextsSame model f g is
 told model first second f g true step h k =
     let none = step.so in
-    same_told model f g step.given (waits first) (waits second) h.more k.more none.0 (h.ended (step.one_ended none.0)) none.1 (k.ended (step.two_ended none.1)) h.whole k.whole
+    same_told model f g step.given (pending_of first) (pending_of second) h.more k.more none.0 (h.ended (step.one_ended none.0)) none.1
+    (k.ended (step.two_ended none.1)) h.whole k.whole
 told model first second f g false step h k =
-    apart_told model f g step.given (waits first) (waits second) h.more k.more step.so (λ none. h.ended (step.one_ended none)) (λ none. k.ended (step.two_ended none)) h.whole k.whole
+    apart_told model f g step.given (pending_of first) (pending_of second) h.more k.more step.so (λ none. h.ended (step.one_ended none))
+    (λ none. k.ended (step.two_ended none)) h.whole k.whole
 
 -- a text and itself
 pub told_itself : (model : Model) (t c : Text) → IsAcceptedAs model t c → AreTextsSame model t t true

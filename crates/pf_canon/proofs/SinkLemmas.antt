@@ -1,5 +1,31 @@
 -- What a sink was given.
-use Rattle.std.proofs.Common.{◌≡◌, ℕ, ◌+◌, ◌-◌, ◌*◌, ◌≤◌, ◌<◌, ◌^◌, [], ◌++◌, replicate, refl, sym, ap, ◌∙◌, subst, arith, length, take, ◌≢◌, Bool, drop, Option, Some, None}
+use Rattle.std.proofs.Common.{
+  ◌≡◌,
+  ℕ,
+  ◌+◌,
+  ◌-◌,
+  ◌*◌,
+  ◌≤◌,
+  ◌<◌,
+  ◌^◌,
+  [],
+  ◌++◌,
+  replicate,
+  refl,
+  sym,
+  ap,
+  ◌∙◌,
+  subst,
+  arith,
+  length,
+  take,
+  ◌≢◌,
+  Bool,
+  drop,
+  Option,
+  Some,
+  None,
+}
 use Rattle.std.specs.Prelude.{flat_map, MatchResult, Result, Ok, Err, IsTrue, MatchOption, ◌↔◌}
 use Rattle.std.proofs.lemmas.List.{replicate-append-replicate, length-append, length-take-le, append-nil, append_cancel_left, take-append-drop}
 use Rattle.std.specs.Borrow.{Bor}
@@ -9,7 +35,7 @@ use Rattle.pf_values.specs.meaning.Items.{Directive, IsAccepted}
 use Rattle.pf_values.specs.meaning.Normal.{silent}
 use Rattle.pf_values.specs.meaning.Refusals.{IsRefusedAt}
 use Rattle.pf_values.specs.meaning.Text.{Text}
-use Rattle.pf_text.specs.declared.scanner.Refusal.{Refusal}
+use Rattle.pf_text.specs.declared.refusals.Refusal.{Refusal}
 use Rattle.pf_text.specs.CanonicalRuns.{silents}
 use Rattle.pf_canon.specs.declared.limits.TheConstants.{BLOCK}
 use Rattle.pf_canon.specs.Answers.{IsCanonicalFor}
@@ -18,7 +44,7 @@ use Rattle.pf_canon.proofs.CanonicalItems.{item_spelling-append}
 use Rattle.pf_canon.proofs.TextLemmas.{items_few}
 use Rattle.pf_canon.proofs.TransducerLemmas.{most_items}
 
--- the same bytes so many times
+-- some bytes several times
 pub record IsRepetition (of : ℕ → Text) : Type 0 where
   pub none : of 0 ≡ []
   pub adds : (a b : ℕ) → of a ++ of b ≡ of (a + b)
@@ -26,7 +52,8 @@ pub record IsRepetition (of : ℕ → Text) : Type 0 where
 pub blocks : (byte : ℕ) → IsRepetition (λ n. replicate (n * BLOCK) byte)
 blocks byte = record {
   none = refl;
-  adds = λ a b. let e : a * BLOCK + b * BLOCK ≡ (a + b) * BLOCK = omega arith in replicate-append-replicate (a * BLOCK) (b * BLOCK) byte ∙ ap (λ n. replicate n byte) e;
+  adds = λ a b. let e : a * BLOCK + b * BLOCK ≡ (a + b) * BLOCK = omega arith in replicate-append-replicate (a * BLOCK) (b * BLOCK) byte
+      ∙ ap (λ n. replicate n byte) e;
 }
 
 pub silents_alone : IsRepetition (λ n. flat_map item_spelling (silents n))
@@ -40,7 +67,8 @@ module _ {S : Type 0} {given : S → S → Text → Type 0} (laws : IsSink given
   pub repeated_none : (s : S) (times left : ℕ) → left ≡ times → given s s (of (times - left))
   repeated_none s times left e = let none : times - left ≡ 0 = omega (arith, e) in subst (given s s) (sym (ap of none ∙ repetition.none)) (laws.none s)
 
-  pub repeated_more : (old mid new : S) (times left count : ℕ) → left ≤ times → count ≤ left → given old mid (of (times - left)) → given mid new (of count) → given old new (of (times - (left - count)))
+  pub repeated_more : (old mid new : S) (times left count : ℕ) → left ≤ times → count ≤ left → given old mid (of (times - left)) → given mid new (of count)
+      → given old new (of (times - (left - count)))
   repeated_more old mid new times left count all few before h =
       let e : times - left + count ≡ times - (left - count) = omega (arith, all, few) in
       subst (given old new) (repetition.adds (times - left) count ∙ ap of e) (laws.both old mid new (of (times - left)) (of count) before h)
@@ -49,8 +77,10 @@ module _ {S : Type 0} {given : S → S → Text → Type 0} (laws : IsSink given
   repeated_all old new times left none h = let e : times - left ≡ times = omega (arith, none) in subst (given old new) (ap of e) h
 
 -- the verbatim bytes of a text, and then what follows of its canonical text
-pub verbatim_put : {S : Type 0} {given : S → S → Text → Type 0} (laws : IsSink given) (model : Model) (t verbatim : Text) (old mid new : S) (r : Result (Unit {0}) Refusal) → given old mid verbatim
-    → MatchResult r (λ _. (more : Text) × given mid new more × IsCanonicalFor model t (verbatim ++ more)) (λ refusal. IsRefusedAt t refusal.kind refusal.at) → MatchResult r (λ _. (c : Text) × given old new c × IsCanonicalFor model t c) (λ refusal. IsRefusedAt t refusal.kind refusal.at)
+pub verbatim_put : {S : Type 0} {given : S → S → Text → Type 0} (laws : IsSink given) (model : Model) (t verbatim : Text) (old mid new : S)
+    (r : Result (Unit {0}) Refusal) → given old mid verbatim
+    → MatchResult r (λ _. (more : Text) × given mid new more × IsCanonicalFor model t (verbatim ++ more)) (λ refusal. IsRefusedAt t refusal.kind refusal.at)
+    → MatchResult r (λ _. (c : Text) × given old new c × IsCanonicalFor model t c) (λ refusal. IsRefusedAt t refusal.kind refusal.at)
 verbatim_put laws model t verbatim old mid new (Ok done) h g = (verbatim ++ g.0, laws.both old mid new verbatim g.0 h g.1, g.2)
 verbatim_put laws model t verbatim old mid new (Err refusal) h g = g
 
@@ -62,7 +92,8 @@ few_bytes model t c h =
     omega (arith, few, limit, most_items h.items, items_few t h.items h.accepted.reads)
 
 -- so they are where the verbatim bytes were counted, and then what follows
-pub counted : (model : Model) (t more : Text) (verbatim_len len : ℕ) → verbatim_len ≤ length t → IsCanonicalFor model t (take verbatim_len t ++ more) → Counts verbatim_len (length more) len → (c : Text) × IsCanonicalFor model t c × (len ≡ length c)
+pub counted : (model : Model) (t more : Text) (verbatim_len len : ℕ) → verbatim_len ≤ length t → IsCanonicalFor model t (take verbatim_len t ++ more)
+    → Counts verbatim_len (length more) len → (c : Text) × IsCanonicalFor model t c × (len ≡ length c)
 counted model t more verbatim_len len within h counts =
     let all = length-append (take verbatim_len t) more in
     let front = length-take-le verbatim_len t within in
@@ -70,13 +101,15 @@ counted model t more verbatim_len len within h counts =
     (take verbatim_len t ++ more, h, omega (arith, all, front, counts (omega (arith, all, front, few))))
 
 -- and where all went into empty room, whether there was enough or not
-pub counted_in_room : (model : Model) (t c : Text) (before after len : ℕ) → IsCanonicalFor model t c → before ≡ 0 → Counts before (length c) after → (after < 2 ^ 128 → len ≡ after) → (c : Text) × IsCanonicalFor model t c × (len ≡ length c)
+pub counted_in_room : (model : Model) (t c : Text) (before after len : ℕ) → IsCanonicalFor model t c → before ≡ 0 → Counts before (length c) after
+    → (after < 2 ^ 128 → len ≡ after) → (c : Text) × IsCanonicalFor model t c × (len ≡ length c)
 counted_in_room model t c before after len h empty counts is =
     let few = few_bytes model t c h in
     let all : after ≡ length c = omega (arith, empty, counts (omega (arith, few, empty))) in
     (c, h, is (omega (arith, all, few)) ∙ all)
 
-pub front_stripped : (left : Bor Text) (bytes : Text) (rest : Option (Bor Text)) → MatchOption rest ((others : Text) → left.now ≢ bytes ++ others) (λ others. left.now ≡ bytes ++ others.now) → IsFrontStripped (Some left) bytes rest
+pub front_stripped : (left : Bor Text) (bytes : Text) (rest : Option (Bor Text)) → MatchOption rest ((others : Text) → left.now ≢ bytes ++ others)
+    (λ others. left.now ≡ bytes ++ others.now) → IsFrontStripped (Some left) bytes rest
 front_stripped left bytes (Some rest) h = h
 front_stripped left bytes None h = h
 
@@ -93,13 +126,17 @@ same_used_up None left t bytes e h same = absurd e
 
 -- A text is canonical exactly if nothing is left of it after its canonical text. Both begin with
 -- its verbatim bytes.
-pub stripped_to_end : (model : Model) (t more : Text) (verbatim_len : ℕ) (start left : Option (Bor Text)) (is : Bool) → IsLeft start (drop verbatim_len t) → IsCanonicalFor model t (take verbatim_len t ++ more) → IsFrontStripped start more left → IsTrue is ↔ IsLeft left [] → IsAccepted t × (IsTrue is ↔ IsCanonicalText model t)
+pub stripped_to_end : (model : Model) (t more : Text) (verbatim_len : ℕ) (start left : Option (Bor Text)) (is : Bool) → IsLeft start (drop verbatim_len t)
+    → IsCanonicalFor model t (take verbatim_len t ++ more) → IsFrontStripped start more left → IsTrue is ↔ IsLeft left [] → IsAccepted t
+    × (IsTrue is ↔ IsCanonicalText model t)
 stripped_to_end model t more verbatim_len start left is rest h cut e =
     let front = take verbatim_len t in
     let whole = take-append-drop verbatim_len t in (
       (h.items, h.accepted),
       (
-        λ yes. subst (IsCanonicalText model) (sym (sym whole ∙ ap (λ u. front ++ u) (used_up start left (drop verbatim_len t) more rest cut (e.0 yes)))) h.canonical_is.canonical,
-        λ is_text. e.1 (same_used_up start left (drop verbatim_len t) more rest cut (append_cancel_left front more (drop verbatim_len t) (h.kept is_text ∙ sym whole))),
+        λ yes. subst (IsCanonicalText model) (sym (sym whole ∙ ap (λ u. front ++ u) (used_up start left (drop verbatim_len t) more rest cut (e.0 yes))))
+            h.canonical_is.canonical,
+        λ is_text. e.1 (same_used_up start left (drop verbatim_len t) more rest cut (append_cancel_left front more (drop verbatim_len t)
+            (h.kept is_text ∙ sym whole))),
       ),
     )

@@ -18,37 +18,37 @@ some_byte t byte h = go (byte == 37) refl h where
   go false e h = h.0
 
 -- the items that follow
-joined : (model : Model) (out first more : Text) (waiting : ℕ) (before items : List Item) (item : Item)
-    → IsSettling model ((out ++ first) ++ more) waiting ((before ++ item ∷ []) ++ items) []
-    → IsSettling model (out ++ (first ++ more)) waiting (before ++ item ∷ items) []
-joined model out first more waiting before items item h =
-    subst (λ t. IsSettling model t waiting (before ++ item ∷ items) []) (append_assoc out first more)
-    (subst (λ l. IsSettling model ((out ++ first) ++ more) waiting l []) (append_assoc before (item ∷ []) items) h)
+joined : (model : Model) (out first more : Text) (held : ℕ) (before items : List Item) (item : Item)
+    → IsSettling model ((out ++ first) ++ more) held ((before ++ item ∷ []) ++ items) []
+    → IsSettling model (out ++ (first ++ more)) held (before ++ item ∷ items) []
+joined model out first more held before items item h =
+    subst (λ t. IsSettling model t held (before ++ item ∷ items) []) (append_assoc out first more)
+    (subst (λ l. IsSettling model ((out ++ first) ++ more) held l []) (append_assoc before (item ∷ []) items) h)
 
-settle : (model : Model) (out : Text) (waiting : ℕ) (before items : List Item) (t : Text) → Reads t items → IsSettling model out waiting before []
+settle : (model : Model) (out : Text) (held : ℕ) (before items : List Item) (t : Text) → Reads t items → IsSettling model out held before []
     → Settles model out (before ++ items)
-settle model out waiting before [] t reads h = record {
+settle model out held before [] t reads h = record {
   more = [];
-  waiting = waiting;
-  made = subst (λ u. IsSettling model u waiting (before ++ []) []) (sym (append-nil out))
-      (subst (λ l. IsSettling model out waiting l []) (sym (append-nil before)) h);
+  held = held;
+  made = subst (λ u. IsSettling model u held (before ++ []) []) (sym (append-nil out))
+      (subst (λ l. IsSettling model out held l []) (sym (append-nil before)) h);
 }
-settle model out waiting before (Byte byte ∷ items) t reads h =
-    let here = byte_settled model out waiting before byte (some_byte reads.0 byte reads.2) h in
-    let rest = settle model (out ++ here.more) here.waiting (before ++ Byte byte ∷ []) items reads.1 reads.3 here.made in
+settle model out held before (Byte byte ∷ items) t reads h =
+    let here = byte_settled model out held before byte (some_byte reads.0 byte reads.2) h in
+    let rest = settle model (out ++ here.more) here.held (before ++ Byte byte ∷ []) items reads.1 reads.3 here.made in
     record {
       more = here.more ++ rest.more;
-      waiting = rest.waiting;
-      made = joined model out here.more rest.more rest.waiting before items
+      held = rest.held;
+      made = joined model out here.more rest.more rest.held before items
           (Byte byte) rest.made;
     }
-settle model out waiting before (Directive s ∷ items) t reads h =
-    let here = directive_settled model out waiting before s reads.2.1 h in
-    let rest = settle model (out ++ here.more) here.waiting (before ++ Directive s ∷ []) items reads.1 reads.3 here.made in
+settle model out held before (Directive s ∷ items) t reads h =
+    let here = directive_settled model out held before s reads.2.1 h in
+    let rest = settle model (out ++ here.more) here.held (before ++ Directive s ∷ []) items reads.1 reads.3 here.made in
     record {
       more = here.more ++ rest.more;
-      waiting = rest.waiting;
-      made = joined model out here.more rest.more rest.waiting before items
+      held = rest.held;
+      made = joined model out here.more rest.more rest.held before items
           (Directive s) rest.made;
     }
 
@@ -76,4 +76,4 @@ nothing_made model = record {
 pub some_canonical : (model : Model) (t : Text) (items : List Item) → Reads t items → (c : Text) × IsCanonicalOf model t c
 some_canonical model t items reads =
     let all = settle model [] 0 [] items t reads (nothing_made model) in
-    (_, (made_settled model _ all.waiting all.made.others all.made.making t items reads all.made.alike).canonical_is)
+    (_, (made_settled model _ all.held all.made.others all.made.making t items reads all.made.alike).canonical_is)

@@ -14,7 +14,7 @@ use Rattle.pf_canon.specs.declared.output.Output.{Output}
 use Rattle.pf_canon.specs.declared.chunk.Chunk.{Chunk}
 use Rattle.pf_canon.specs.declared.chunk.ChunkRefusal.{ChunkRefusal}
 use Rattle.pf_canon.specs.declared.transducer.Transducer.{Transducer}
-use Rattle.pf_canon.specs.declared.faults.CanonFault.TheVariants.{Memory}
+use Rattle.pf_text.specs.declared.refusals.TextFault.TheVariants.{Memory}
 use Rattle.pf_canon.specs.Answers.{FaultForCanonical, IsCanonicalFor, most_len}
 use Rattle.pf_canon.specs.Output.{output_text}
 use Rattle.pf_canon.specs.Transducer.{SettlesEnd, GrowsByChunk, IsThrough, IsUpTo, RefusesChunk, chunk_output_text, TakesVerbatim}
@@ -24,10 +24,12 @@ no_byte_truncates true part byte kind h e = let both : TooLong ≡ Truncated = s
 no_byte_truncates false part byte kind h e = let reason = h.reason in rw e at reason
 
 -- its kind isn't that of a text that ends
-pub not_truncated : (t : Text) (byte : ℕ) (rest : Text) (kind : RefusalKind) (at : ℕ) → at ≡ length t → IsRefusedAt (t ++ byte ∷ rest) kind at → kind ≢ Truncated
+pub not_truncated : (t : Text) (byte : ℕ) (rest : Text) (kind : RefusalKind) (at : ℕ) → at ≡ length t
+    → IsRefusedAt (t ++ byte ∷ rest) kind at → kind ≢ Truncated
 not_truncated t byte rest kind at place h =
     let same : h.rest ≡ byte ∷ rest =
-    sym (drop-append_seam h.front h.rest) ∙ ap (drop (length h.front)) (sym h.split) ∙ ap (λ n. drop n (t ++ byte ∷ rest)) (sym h.place ∙ place) ∙ drop-append_seam t (byte ∷ rest) in
+    sym (drop-append_seam h.front h.rest) ∙ ap (drop (length h.front)) (sym h.split) ∙ ap (λ n. drop n (t ++ byte ∷ rest)) (sym h.place ∙ place)
+    ∙ drop-append_seam t (byte ∷ rest) in
     no_byte_truncates (at == MAX_TEXT_LEN) h.part byte kind (subst (λ u. HasCause at h.part u kind) same h.cause)
 
 -- an item is read from a byte at least
@@ -48,9 +50,10 @@ most_len-append [] b = omega arith
 most_len-append (Byte byte ∷ a) b = omega (arith, most_len-append a b)
 most_len-append (Directive s ∷ a) b = omega (arith, most_len-append a b)
 
-module _ (model : Model) (t c out : Text) (r : Transducer) (items : List Item) (at : ℕ) (output : Output) (whole : length t ≤ at) (h : IsThrough model r (take at t) items out) (ends : SettlesEnd model (take at t) items out (Ok output)) where
+module _ (model : Model) (t c out : Text) (r : Transducer) (items : List Item) (at : ℕ) (output : Output) (whole : length t ≤ at)
+    (h : IsThrough model r (take at t) items out) (ends : SettlesEnd model (take at t) items out (Ok output)) where
   -- a text was taken to its end, and all that it settles was appended
-  pub all_built : length (output_text output) ≤ 4 * r.waiting → c ≡ out ++ output_text output → IsCanonicalFor model t c
+  pub all_built : length (output_text output) ≤ 4 * r.silents → c ≡ out ++ output_text output → IsCanonicalFor model t c
   all_built few e =
       let all = take_all at t whole in
       let short = h.short in
@@ -67,24 +70,33 @@ no_bytes [] few = refl
 no_bytes (b ∷ t) few = absurd (omega arith)
 
 -- a text whose bytes are all verbatim is its own canonical text
-pub settled_whole : (r : Transducer) (t : Text) (verbatim_len : ℕ) (output : Output) (up : IsUpTo r t verbatim_len (take verbatim_len t)) → length t ≤ verbatim_len → r.waiting ≡ 0 → SettlesEnd r.model (take verbatim_len t) up.1 (take verbatim_len t) (Ok output) → length (output_text output) ≤ 4 * r.waiting → IsCanonicalFor r.model t t
+pub settled_whole : (r : Transducer) (t : Text) (verbatim_len : ℕ) (output : Output) (up : IsUpTo r t verbatim_len (take verbatim_len t))
+    → length t ≤ verbatim_len → r.silents ≡ 0 → SettlesEnd r.model (take verbatim_len t) up.1 (take verbatim_len t) (Ok output)
+    → length (output_text output) ≤ 4 * r.silents → IsCanonicalFor r.model t t
 settled_whole r t verbatim_len output up whole none ends few =
     let empty = no_bytes (output_text output) (omega (arith, few, none)) in
-    all_built r.model t t (take verbatim_len t) r up.1 verbatim_len output whole up.2 ends few (sym (take_all verbatim_len t whole) ∙ sym (append-nil (take verbatim_len t)) ∙ ap (λ u. take verbatim_len t ++ u) (sym empty))
+    all_built r.model t t (take verbatim_len t) r up.1 verbatim_len output whole up.2 ends few
+    (sym (take_all verbatim_len t whole) ∙ sym (append-nil (take verbatim_len t)) ∙ ap (λ u. take verbatim_len t ++ u) (sym empty))
 
 -- a byte of the text that follows is refused
-pub refused_behind : (model : Model) (t out text : Text) (refused : ChunkRefusal) → RefusesChunk model t out text refused → IsRefusedAt (t ++ text) refused.refusal.kind refused.refusal.at
-refused_behind model t out text refused h = subst (λ u. IsRefusedAt u refused.refusal.kind refused.refusal.at) (append_assoc t h.fed (h.last ∷ h.rest) ∙ ap (λ u. t ++ u) (sym h.split)) (h.refused h.rest)
+pub refused_behind : (model : Model) (t out text : Text) (refused : ChunkRefusal) → RefusesChunk model t out text refused
+    → IsRefusedAt (t ++ text) refused.refusal.kind refused.refusal.at
+refused_behind model t out text refused h = subst (λ u. IsRefusedAt u refused.refusal.kind refused.refusal.at)
+    (append_assoc t h.fed (h.last ∷ h.rest) ∙ ap (λ u. t ++ u) (sym h.split)) (h.refused h.rest)
 
-pub refused_at : (model : Model) (t out : Text) (at : ℕ) (refused : ChunkRefusal) → RefusesChunk model (take at t) out (drop at t) refused → IsRefusedAt t refused.refusal.kind refused.refusal.at
-refused_at model t out at refused h = subst (λ u. IsRefusedAt u refused.refusal.kind refused.refusal.at) (take-append-drop at t) (refused_behind model (take at t) out (drop at t) refused h)
+pub refused_at : (model : Model) (t out : Text) (at : ℕ) (refused : ChunkRefusal) → RefusesChunk model (take at t) out (drop at t) refused
+    → IsRefusedAt t refused.refusal.kind refused.refusal.at
+refused_at model t out at refused h = subst (λ u. IsRefusedAt u refused.refusal.kind refused.refusal.at) (take-append-drop at t)
+    (refused_behind model (take at t) out (drop at t) refused h)
 
 -- a chunk of the rest of a text was taken
-pub built_more : (model : Model) (t out now : Text) (at : ℕ) (chunk : Chunk) (new : Transducer) → GrowsByChunk model (take at t) out (drop at t) chunk new → now ≡ out ++ chunk_output_text chunk (drop at t) → (items : List Item) × IsThrough model new (take (at + chunk.len) t) items now
+pub built_more : (model : Model) (t out now : Text) (at : ℕ) (chunk : Chunk) (new : Transducer) → GrowsByChunk model (take at t) out (drop at t) chunk new
+    → now ≡ out ++ chunk_output_text chunk (drop at t) → (items : List Item) × IsThrough model new (take (at + chunk.len) t) items now
 built_more model t out now at chunk new g e = (g.items, rw (e, take-add at chunk.len t) g.through)
 
 -- more verbatim bytes of a text were taken
-pub verbatim_more : (model : Model) (text : Text) (at len : ℕ) (new : Transducer) → TakesVerbatim model (take at text) (take at text) (drop at text) len new → (items : List Item) × IsThrough model new (take (at + len) text) items (take (at + len) text)
+pub verbatim_more : (model : Model) (text : Text) (at len : ℕ) (new : Transducer) → TakesVerbatim model (take at text) (take at text) (drop at text) len new
+    → (items : List Item) × IsThrough model new (take (at + len) text) items (take (at + len) text)
 verbatim_more model text at len new g = (g.items, rw (take-add at len text) g.through)
 
 -- the data model is the transducer's own

@@ -47,8 +47,10 @@ with_more items steps.Percent = refl
 with_more items (steps.Directive d) = refl
 
 -- one more byte was taken
-pub grown : (model : Model) (old new : Transducer) (t out : Text) (items : List Item) (byte : ℕ) (step : Step) (output : StepOutput) → IsThrough model old t items out → new.model ≡ old.model → scanned.Takes t items byte step new.scanner
-    → Settles old.model step byte items out old.waiting output new.waiting → new.waiting ≤ old.waiting + 1 → length (byte_output_text output byte) + 4 * new.waiting ≤ 4 * old.waiting + most_len (more_of step)
+pub grown : (model : Model) (old new : Transducer) (t out : Text) (items : List Item) (byte : ℕ) (step : Step) (output : StepOutput)
+    → IsThrough model old t items out → new.model ≡ old.model → scanned.Takes t items byte step new.scanner
+    → Settles old.model step byte items out old.silents output new.silents → new.silents ≤ old.silents + 1
+    → length (byte_output_text output byte) + 4 * new.silents ≤ 4 * old.silents + most_len (more_of step)
     → GrowsByByte model t items out byte output new
 grown model old new t out items byte step output h same takes settles one less =
     let few = h.few in
@@ -61,16 +63,19 @@ grown model old new t out items byte step output h same takes settles one less =
       through = record {
         model_is = same ∙ h.model_is;
         after = subst (λ l. IsAfter new.scanner (t ++ byte ∷ []) l) e takes.after;
-        made = subst (λ l. IsMaking model (out ++ byte_output_text output byte) new.waiting l []) e (rw h.model_is at settles (is_step_of (t ++ byte ∷ []) (with_step items step) byte step says) (omega (arith, few, limit)) h.made);
+        made = subst (λ l. IsMaking model (out ++ byte_output_text output byte) new.silents l []) e
+            (rw h.model_is at settles (is_step_of (t ++ byte ∷ []) (with_step items step) byte step says) (omega (arith, few, limit)) h.made);
         few = omega (arith, few, one, length-append t (byte ∷ []));
         short = omega (arith, short, less, length-append out (byte_output_text output byte), most_len-append items (more_of step));
       };
     }
 
 -- a directive was taken
-pub directive_grown : (model : Model) (old new : Transducer) (t bytes out settled : Text) (items : List Item) (d : Specification) → IsThrough model old t items out → new.model ≡ old.model → IsAfter new.scanner (t ++ bytes) (items ++ Directive d ∷ []) → 1 ≤ length bytes
-    → (old.waiting < 2 ^ 63 → IsMaking model out old.waiting (items ++ Directive d ∷ []) (Directive d ∷ []) → IsMaking model (out ++ settled) new.waiting (items ++ Directive d ∷ []) [])
-    → new.waiting ≤ old.waiting + 1 → length settled + 4 * new.waiting ≤ 4 * old.waiting + most_len (Directive d ∷ [])
+pub directive_grown : (model : Model) (old new : Transducer) (t bytes out settled : Text) (items : List Item) (d : Specification)
+    → IsThrough model old t items out → new.model ≡ old.model → IsAfter new.scanner (t ++ bytes) (items ++ Directive d ∷ []) → 1 ≤ length bytes
+    → (old.silents < 2 ^ 63 → IsMaking model out old.silents (items ++ Directive d ∷ []) (Directive d ∷ [])
+    → IsMaking model (out ++ settled) new.silents (items ++ Directive d ∷ []) [])
+    → new.silents ≤ old.silents + 1 → length settled + 4 * new.silents ≤ 4 * old.silents + most_len (Directive d ∷ [])
     → IsThrough model new (t ++ bytes) (items ++ Directive d ∷ []) (out ++ settled)
 directive_grown model old new t bytes out settled items d h same after some settles one less =
     let few = h.few in
@@ -79,13 +84,14 @@ directive_grown model old new t bytes out settled items d h same after some sett
     record {
       model_is = same ∙ h.model_is;
       after = after;
-      made = settles (omega (arith, few, limit)) (made_more model out old.waiting items [] (Directive d ∷ []) h.made);
+      made = settles (omega (arith, few, limit)) (made_more model out old.silents items [] (Directive d ∷ []) h.made);
       few = omega (arith, few, one, some, length-append t bytes);
       short = omega (arith, short, less, length-append out settled, most_len-append items (Directive d ∷ []));
     }
 
 -- literal bytes were taken
-pub passed : (model : Model) (old new : Transducer) (t out following : Text) (items : List Item) (len : ℕ) → IsThrough model old t items out → scanned.Passes t items following len new.scanner → new.model ≡ old.model → new.waiting ≡ old.waiting
+pub passed : (model : Model) (old new : Transducer) (t out following : Text) (items : List Item) (len : ℕ) → IsThrough model old t items out
+    → scanned.Passes t items following len new.scanner → new.model ≡ old.model → new.silents ≡ old.silents
     → IsThrough model new (t ++ take len following) (items ++ map Byte (take len following)) (out ++ take len following)
 passed model old new t out following items len h p same e =
     let run = take len following in
@@ -94,9 +100,9 @@ passed model old new t out following items len h p same e =
     record {
       model_is = same ∙ h.model_is;
       after = p.after;
-      made = rw e (run_made model run out (out ++ run) old.waiting items p.literal refl h.made);
+      made = rw e (run_made model run out (out ++ run) old.silents items p.literal refl h.made);
       few = omega (arith, few, e, length-append t run);
-      short = omega (arith, short, e, run_short run out (out ++ run) old.waiting refl, most_len-append items (map Byte run));
+      short = omega (arith, short, e, run_short run out (out ++ run) old.silents refl, most_len-append items (map Byte run));
     }
 
 byte_short : (byte : ℕ) (b : Bool) → length (if b then percent ∷ percent ∷ [] else byte ∷ []) ≤ 2
@@ -105,14 +111,21 @@ byte_short byte false = omega arith
 
 run_is_short : (model : Model) (items : List Item) → AllByRecursion (IsCanonicalItem model) items → length (flat_map item_spelling items) ≤ most_len items
 run_is_short model [] all = omega arith
-run_is_short model (Byte byte ∷ items) all = omega (arith, length-append (item_spelling (Byte byte)) (flat_map item_spelling items), byte_short byte (byte == percent), run_is_short model items all.1)
+run_is_short model (Byte byte ∷ items) all = omega (
+  arith,
+  length-append (item_spelling (Byte byte)) (flat_map item_spelling items),
+  byte_short byte
+      (byte == percent),
+  run_is_short model items all.1,
+)
 run_is_short model (Directive s ∷ items) all =
     let normal = all.0 in
     omega (arith, length-append (spelling_of s) (flat_map item_spelling items), length-spelled s normal.defined, run_is_short model items all.1)
 
 -- items were taken that are spelled as a canonical text spells them, where no silent directive
 -- waits
-pub passed_run : (model : Model) (old new : Transducer) (t out following : Text) (items : List Item) (len : ℕ) → IsThrough model old t items out → (p : PassesCanonicalRun model t items following len new.scanner) → old.waiting ≡ 0 → new.model ≡ old.model → new.waiting ≡ old.waiting
+pub passed_run : (model : Model) (old new : Transducer) (t out following : Text) (items : List Item) (len : ℕ) → IsThrough model old t items out
+    → (p : PassesCanonicalRun model t items following len new.scanner) → old.silents ≡ 0 → new.model ≡ old.model → new.silents ≡ old.silents
     → IsThrough model new (t ++ take len following) (items ++ p.more) (out ++ take len following)
 passed_run model old new t out following items len h p none same e =
     let run = take len following in
@@ -120,7 +133,8 @@ passed_run model old new t out following items len h p none same e =
     let whole = p.canonical.whole in
     let few = h.few in
     let short = h.short in
-    let made = made_run model more out (items ++ more) [] p.canonical.canonical (subst (IsMaking model out 0 (items ++ more)) (sym (append-nil more)) (made_more model out 0 items [] more (subst (λ w. IsMaking model out w items []) none h.made))) in
+    let made = made_run model more out (items ++ more) [] p.canonical.canonical (subst (IsMaking model out 0 (items ++ more)) (sym (append-nil more))
+    (made_more model out 0 items [] more (subst (λ w. IsMaking model out w items []) none h.made))) in
     record {
       model_is = same ∙ h.model_is;
       after = p.after;
@@ -129,42 +143,50 @@ passed_run model old new t out following items len h p none same e =
       short = omega (arith, short, e, none, length-append out run, ap length whole, run_is_short model more p.canonical.canonical, most_len-append items more);
     }
 
-pub byte_settled : (model : Model) (b byte waiting : ℕ) (out : Text) (items : List Item) → b ≡ byte → IsLiteral byte → IsMaking model out waiting items [] → IsMaking model (out ++ byte ∷ []) waiting (items ++ Byte b ∷ []) []
-byte_settled model b byte waiting out items e literal h = rw e (run_made model (byte ∷ []) out (out ++ byte ∷ []) waiting items (literal, tt) refl h)
+pub byte_settled : (model : Model) (b byte held : ℕ) (out : Text) (items : List Item) → b ≡ byte → IsLiteral byte → IsMaking model out held items []
+    → IsMaking model (out ++ byte ∷ []) held (items ++ Byte b ∷ []) []
+byte_settled model b byte held out items e literal h = rw e (run_made model (byte ∷ []) out (out ++ byte ∷ []) held items (literal, tt) refl h)
 
 four : (out a b c d : Text) → ((out ++ a) ++ b) ++ (c ++ d) ≡ out ++ (a ++ (b ++ (c ++ d)))
 four out a b c d = append_assoc (out ++ a) b (c ++ d) ∙ append_assoc out a (b ++ (c ++ d))
 
 -- a directive whose core is silent
-pub silent_settled : (model : Model) (s : Specification) (r : Reduced) (out : Text) (waiting still : ℕ) (items rest : List Item) → r.core ≡ cores.Silent → still ≡ waiting + 1 → IsReducedTo model s r
-    → (IsNormal model s ⊎ (s ≡ silent) → reduced_items r ≡ Directive s ∷ []) → IsMaking model out waiting items (Directive s ∷ rest) → IsMaking model (out ++ whole_text r.spaces r.zeros 0 [] r.trail) still items rest
-silent_settled model s r out waiting still items rest core one reduced same h =
+pub silent_settled : (model : Model) (s : Specification) (r : Reduced) (out : Text) (held still : ℕ) (items rest : List Item) → r.core ≡ cores.Silent
+    → still ≡ held + 1 → IsReducedTo model s r
+    → (IsNormal model s ⊎ (s ≡ silent) → reduced_items r ≡ Directive s ∷ []) → IsMaking model out held items (Directive s ∷ rest)
+    → IsMaking model (out ++ whole_text r.spaces r.zeros 0 [] r.trail) still items rest
+silent_settled model s r out held still items rest core one reduced same h =
     let a = replicate r.spaces space in
     let b = replicate r.zeros zero_digit in
     let d = replicate r.trail space in
     subst (λ t. IsMaking model t still items rest) (four out a b [] d)
-    (directive_made model s r out (out ++ a) ((out ++ a) ++ b) ((out ++ a) ++ b) (((out ++ a) ++ b) ++ d) waiting still items rest reduced same refl refl (rw core (refl, one)) refl h)
+    (directive_made model s r out (out ++ a) ((out ++ a) ++ b) ((out ++ a) ++ b) (((out ++ a) ++ b) ++ d) held still items rest reduced same refl refl
+    (rw core (refl, one)) refl h)
 
 -- and one whose core is normal
-pub normal_settled : (model : Model) (s : Specification) (n : NormalDirective) (r : Reduced) (out : Text) (waiting : ℕ) (items rest : List Item) → r.core ≡ cores.Normal n → IsReducedTo model s r
-    → (IsNormal model s ⊎ (s ≡ silent) → reduced_items r ≡ Directive s ∷ []) → IsMaking model out waiting items (Directive s ∷ rest) → IsMaking model (out ++ whole_text r.spaces r.zeros waiting (spelling_of n.specification) r.trail) 0 items rest
-normal_settled model s n r out waiting items rest core reduced same h =
+pub normal_settled : (model : Model) (s : Specification) (n : NormalDirective) (r : Reduced) (out : Text) (held : ℕ) (items rest : List Item)
+    → r.core ≡ cores.Normal n → IsReducedTo model s r
+    → (IsNormal model s ⊎ (s ≡ silent) → reduced_items r ≡ Directive s ∷ []) → IsMaking model out held items (Directive s ∷ rest)
+    → IsMaking model (out ++ whole_text r.spaces r.zeros held (spelling_of n.specification) r.trail) 0 items rest
+normal_settled model s n r out held items rest core reduced same h =
     let a = replicate r.spaces space in
     let b = replicate r.zeros zero_digit in
-    let c = flat_map item_spelling (silents waiting) in
+    let c = flat_map item_spelling (silents held) in
     let q = spelling_of n.specification in
     let d = replicate r.trail space in
     let cored = ((out ++ a) ++ b) ++ (c ++ q) in
-    subst (λ t. IsMaking model t 0 items rest) (append_assoc ((out ++ a) ++ b) (c ++ q) d ∙ ap (λ t. ((out ++ a) ++ b) ++ t) (append_assoc c q d) ∙ four out a b c (q ++ d))
-    (directive_made model s r out (out ++ a) ((out ++ a) ++ b) cored (cored ++ d) waiting 0 items rest reduced same refl refl (rw core (refl, refl)) refl h)
+    subst (λ t. IsMaking model t 0 items rest) (append_assoc ((out ++ a) ++ b) (c ++ q) d ∙ ap (λ t. ((out ++ a) ++ b) ++ t) (append_assoc c q d)
+    ∙ four out a b c (q ++ d))
+    (directive_made model s r out (out ++ a) ((out ++ a) ++ b) cored (cored ++ d) held 0 items rest reduced same refl refl (rw core (refl, refl)) refl h)
 
 -- the end was taken
-pub ended : (model : Model) (t out : Text) (waiting : ℕ) (items : List Item) → Reads t items → IsMaking model out waiting items [] → (c : Text) → c ≡ whole_text 0 0 waiting [] 0 → Reads t items × IsCanonicalOf model t (out ++ c) × (IsCanonicalText model t → out ++ c ≡ t)
-ended model t out waiting items reads h c e =
-    let same : c ≡ flat_map item_spelling (silents waiting) = e ∙ append-nil (flat_map item_spelling (silents waiting)) in (
+pub ended : (model : Model) (t out : Text) (held : ℕ) (items : List Item) → Reads t items → IsMaking model out held items [] → (c : Text)
+    → c ≡ whole_text 0 0 held [] 0 → Reads t items × IsCanonicalOf model t (out ++ c) × (IsCanonicalText model t → out ++ c ≡ t)
+ended model t out held items reads h c e =
+    let same : c ≡ flat_map item_spelling (silents held) = e ∙ append-nil (flat_map item_spelling (silents held)) in (
       reads,
-      subst (λ u. IsCanonicalOf model t (out ++ u)) (sym same) (made_canonical model out waiting items h t items reads (alike_refl model items)),
-      λ is. ap (λ u. out ++ u) same ∙ made_same model out waiting items h t reads is,
+      subst (λ u. IsCanonicalOf model t (out ++ u)) (sym same) (made_canonical model out held items h t items reads (alike_refl model items)),
+      λ is. ap (λ u. out ++ u) same ∙ made_same model out held items h t reads is,
     )
 
 pub most_items : (items : List Item) → most_len items ≤ 4120 * length items
@@ -173,7 +195,8 @@ most_items (Byte byte ∷ items) = omega (arith, most_items items)
 most_items (Directive s ∷ items) = omega (arith, most_items items)
 
 -- what was settled can be counted
-pub through_few : (model : Model) (r : Transducer) (t out : Text) (items : List Item) → IsThrough model r t items out → length out + 4 * r.waiting ≤ 4120 * 2 ^ 62
+pub through_few : (model : Model) (r : Transducer) (t out : Text) (items : List Item) → IsThrough model r t items out
+    → length out + 4 * r.silents ≤ 4120 * 2 ^ 62
 through_few model r t out items h =
     let splits = h.after.good.splits in
     let short = h.short in

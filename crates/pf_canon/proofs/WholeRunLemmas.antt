@@ -8,7 +8,7 @@ use Rattle.pf_values.specs.declared.models.Model.{Model}
 use Rattle.pf_values.specs.Counting.{Known}
 use Rattle.pf_values.specs.meaning.Refusals.{IsRefusedAt}
 use Rattle.pf_values.specs.meaning.Text.{Text}
-use Rattle.pf_text.specs.declared.scanner.Refusal.{Refusal}
+use Rattle.pf_text.specs.declared.refusals.Refusal.{Refusal}
 use Rattle.pf_canon.specs.declared.faults.StreamFault.{StreamFault}
 use Rattle.pf_canon.specs.declared.faults.StreamFault.TheVariants as faults
 use Rattle.pf_canon.specs.declared.canonical_bytes.ByteTransducer.{ByteTransducer}

@@ -1,5 +1,34 @@
 -- What was taken of a text and given of its canonical text, byte by byte. This project's own.
-use Rattle.std.specs.Prelude.{◌≡◌, [], ◌∷◌, ◌≢◌, ℕ, ◌+◌, ◌-◌, ◌*◌, ◌≤◌, ◌<◌, true, false, List, ◌++◌, length, Option, Some, None, Result, Ok, Err, IfOk, ◌⊎◌, MatchBool, if◌then◌else◌, ⊤, take, drop}
+use Rattle.std.specs.Prelude.{
+  ◌≡◌,
+  [],
+  ◌∷◌,
+  ◌≢◌,
+  ℕ,
+  ◌+◌,
+  ◌-◌,
+  ◌*◌,
+  ◌≤◌,
+  ◌<◌,
+  true,
+  false,
+  List,
+  ◌++◌,
+  length,
+  Option,
+  Some,
+  None,
+  Result,
+  Ok,
+  Err,
+  IfOk,
+  ◌⊎◌,
+  MatchBool,
+  if◌then◌else◌,
+  ⊤,
+  take,
+  drop,
+}
 use Rattle.std.specs.Io.KnownBytes.{Consumes, IsAtEnd}
 use Rattle.std.specs.Iterator.{Count, at_most}
 use Rattle.pf_values.specs.Counting.{HasFailed, Known, failures_of, device_of}
@@ -11,7 +40,7 @@ use Rattle.pf_values.specs.meaning.Canonical.{IsCanonicalOf}
 use Rattle.pf_values.specs.meaning.Items.{Item, IsAccepted}
 use Rattle.pf_values.specs.meaning.Refusals.{IsRefusedAt}
 use Rattle.pf_values.specs.meaning.Text.{Text}
-use Rattle.pf_text.specs.declared.scanner.Refusal.{Refusal}
+use Rattle.pf_text.specs.declared.refusals.Refusal.{Refusal}
 use Rattle.pf_text.specs.History.{offset_of}
 use Rattle.pf_canon.specs.declared.canonical_bytes.ByteRead.{ByteRead}
 use Rattle.pf_canon.specs.declared.canonical_bytes.ByteRead.TheVariants as byte_reads
@@ -21,7 +50,7 @@ use Rattle.pf_canon.specs.declared.limits.TheConstants.{MAX_DIRECTIVE_LEN}
 use Rattle.pf_canon.specs.declared.canonical_bytes.ByteTransducer.{ByteTransducer}
 use Rattle.pf_canon.specs.declared.transducer.Transducer.{Transducer}
 use Rattle.pf_canon.specs.Output.{pending_text}
-use Rattle.pf_canon.specs.Transducer.{IsThrough, SettlesTo, StaysRefused, scanner_of, waiting_silents_of}
+use Rattle.pf_canon.specs.Transducer.{IsThrough, SettlesTo, StaysRefused, scanner_of, held_silents_of}
 use Rattle.pf_canon.specs.declared.canonical_bytes.CanonBytes.{CanonBytes}
 
 -- a byte was taken, or the reader is at its end, or it failed
@@ -151,7 +180,7 @@ module _ {B : Type 0} (kept failed : B → B → Type 0) where
   CountsFault (Some (Err fault)) old new = FaultCounts fault old new
   CountsFault r old new = kept old new
 
-  -- the same of a reader that is read on
+  -- a failure was counted where reading on ended with one
   abbrev pub CountsDrain : {E : Type 0} → Result E StreamFault → B → B → Type 0
   CountsDrain (Ok done) old new = kept old new
   CountsDrain (Err fault) old new = FaultCounts fault old new
@@ -170,7 +199,7 @@ pub record StepsBy {B : Type 0} (left : B → Known) (kept failed : B → B → 
 abbrev pub units : ByteTransducer → ℕ
 units s = length (pending_text s.pending) + (if s.is_open
     then (MAX_TEXT_LEN - offset_of (scanner_of s.transducer)) * (MAX_DIRECTIVE_LEN + 1)
-    + 4 * waiting_silents_of s.transducer + 2
+    + 4 * held_silents_of s.transducer + 2
     else 0)
 
 -- an answer that gives something leaves less to come

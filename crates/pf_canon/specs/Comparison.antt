@@ -8,17 +8,18 @@ use Rattle.pf_values.specs.Counting.{Known}
 use Rattle.pf_values.specs.meaning.Items.{IsAccepted}
 use Rattle.pf_values.specs.meaning.Printing.{AreEquivalent}
 use Rattle.pf_values.specs.meaning.Refusals.{IsRefusedAt}
-use Rattle.pf_text.specs.declared.scanner.Refusal.{Refusal}
+use Rattle.pf_text.specs.declared.refusals.Refusal.{Refusal}
 use Rattle.pf_canon.specs.declared.faults.SideFault.{SideFault}
 use Rattle.pf_canon.specs.declared.faults.StreamFault.{StreamFault}
 use Rattle.pf_canon.specs.declared.faults.StreamFault.TheVariants as faults
-use Rattle.pf_canon.specs.declared.faults.Side.{Side}
-use Rattle.pf_canon.specs.declared.faults.Side.TheVariants.{First, Second}
+use Rattle.pf_text.specs.declared.refusals.Side.{Side}
+use Rattle.pf_text.specs.declared.refusals.Side.TheVariants.{First, Second}
+use Rattle.pf_text.specs.Refusals.{RefusesOne}
 use Rattle.pf_canon.specs.declared.canonical_bytes.ByteTransducer.{ByteTransducer}
 use Rattle.pf_canon.specs.CanonicalBytes.{FaultCounts, History, IsFilled, IsRefusedBehind}
 use Rattle.pf_canon.specs.Transducer.{SettlesTo}
 
--- two texts begin with the same bytes, so many
+-- two texts have equal bytes at the front, `count` of them
 pub record AreCommon (t u : Text) (count : ℕ) : Type 0 where
   pub first : count ≤ length t
   pub second : count ≤ length u
@@ -114,32 +115,27 @@ pub record AreTextsSame (model : Model) (f g : Text) (is : Bool) : Type 0 where
   pub same : IsTrue is ↔ AreEquivalent model f g
 
 -- the first is refused, or the first is accepted and the second refused
-abbrev pub TextStopsOn : Side → Text → Text → Refusal → Type 0
-TextStopsOn First f g refusal = IsRefusedAt f refusal.kind refusal.at
-TextStopsOn Second f g refusal = IsAccepted f × IsRefusedAt g refusal.kind refusal.at
-
--- the same, with the side and the refusal as a pair
 abbrev pub TextStops : Text → Text → Side × Refusal → Type 0
-TextStops f g stop = TextStopsOn stop.0 f g stop.1
+TextStops f g stop = RefusesOne IsAccepted IsRefusedAt f g stop.0 stop.1
 
--- A text was read whole, and `given` begins its canonical text. What waited comes then, and nothing
+-- A text was read whole, and `given` begins its canonical text. What was pending comes then, and nothing
 -- after it if that is nothing.
-pub record Drained (model : Model) (waiting : Text) (start left : Known)
+pub record Drained (model : Model) (pending : Text) (start left : Known)
     (given : Text) : Type 0 where
   pub text : Text
   pub rest : Text
   pub whole : IsReadWhole model start left text
-  pub canonical : IsCanonicalOf model text (given ++ (waiting ++ rest))
-  pub ended : waiting ≡ [] → rest ≡ []
+  pub canonical : IsCanonicalOf model text (given ++ (pending ++ rest))
+  pub ended : pending ≡ [] → rest ≡ []
 
 -- the rest was read, or the text stopped on the way, having settled more than was given
 abbrev pub DrainsTo : Model → Text → Known → Known → Text → Result (Unit {0}) StreamFault → Type 0
-DrainsTo model waiting start left given (Ok done) = Drained model waiting start left given
-DrainsTo model waiting start left given (Err fault) =
+DrainsTo model pending start left given (Ok done) = Drained model pending start left given
+DrainsTo model pending start left given (Err fault) =
     (taken settled : Text) × StopsBy model fault start left taken settled
     × (length given < length settled)
 
--- both gave the same bytes
+-- both gave equal bytes
 pub record IsInStep (model : Model) (first : ByteTransducer) (a : Known) (second : ByteTransducer)
     (b f g : Known) : Type 0 where
   pub t : Text
@@ -149,7 +145,7 @@ pub record IsInStep (model : Model) (first : ByteTransducer) (a : Known) (second
   pub two : History model second g b u given
   pub in_step : IsReadInStep model u given
 
--- both gave the same bytes, and more is pending of each, or it is over
+-- both gave equal bytes, and more is pending of each, or it is over
 pub record IsFilledInStep (model : Model) (first : ByteTransducer) (a : Known)
     (second : ByteTransducer) (b f g : Known) : Type 0 where
   pub t : Text

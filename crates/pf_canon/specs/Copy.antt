@@ -9,7 +9,7 @@ use Rattle.pf_values.specs.declared.refusals.RefusalKind.TheVariants.{Truncated}
 use Rattle.pf_values.specs.meaning.Canonical.{IsCanonicalOf}
 use Rattle.pf_values.specs.meaning.Items.{Item, IsAccepted}
 use Rattle.pf_values.specs.meaning.Refusals.{IsRefusedAt}
-use Rattle.pf_text.specs.declared.scanner.Refusal.{Refusal}
+use Rattle.pf_text.specs.declared.refusals.Refusal.{Refusal}
 use Rattle.pf_canon.specs.declared.copy.Gathered.{Gathered}
 use Rattle.pf_canon.specs.Sink.{Counts}
 use Rattle.pf_canon.specs.declared.faults.CopyFault.{CopyFault}
@@ -35,34 +35,34 @@ module _ {W : Type 0} (contents : W → Known) (old new : Counted W) (bytes : Te
   Puts (Ok after) = PutsAll after
   Puts (Err after) = PutsFirst after
 
-module _ {W : Type 0} (contents : W → Known) (old new : Counted W) (waiting bytes : Text) (before : ℕ) where
-  -- Of the bytes that waited and of these all went out but for those that wait still; and how many
-  -- went out by then.
+module _ {W : Type 0} (contents : W → Known) (old new : Counted W) (buffer bytes : Text) (before : ℕ) where
+  -- Of the bytes in the buffer and of these all went out except those that are still in it; and how
+  -- many went out by then.
   pub record GathersAll (still : Text) (after : ℕ) : Type 0 where
     pub out : Text
-    pub split : waiting ++ bytes ≡ out ++ still
+    pub split : buffer ++ bytes ≡ out ++ still
     pub puts : PutsAll contents old new out before after
 
   -- that, or some first bytes went out, fewer than all
   abbrev pub Gathers : Text → Result ℕ ℕ → Type 0
   Gathers still (Ok after) = GathersAll still after
-  Gathers still (Err after) = PutsFirst contents old new (waiting ++ bytes) before after
+  Gathers still (Err after) = PutsFirst contents old new (buffer ++ bytes) before after
 
-  -- the same by whether the writer had failed before, and whether it has now: after a failure it
-  -- isn't called
+  -- bytes were gathered, by whether the writer had failed before, and whether it has now: after a
+  -- failure it isn't called
   abbrev pub GathersBy : Bool → Bool → Text → ℕ → Type 0
   GathersBy false false still after = GathersAll still after
-  GathersBy false true still after = PutsFirst contents old new (waiting ++ bytes) before after
+  GathersBy false true still after = PutsFirst contents old new (buffer ++ bytes) before after
   GathersBy true true still after = (new ≡ old) × (after ≡ before)
   GathersBy true false still after = ⊥
 
--- it is the same writer, and the same bytes wait
+-- bytes were gathered in one buffer, for one writer
 pub record HasGathered {W : Type 0} (contents : W → Known) (old new : Gathered W)
     (bytes : Text) : Type 0 where
-  pub puts : GathersBy contents old.writer.now new.writer.now old.waiting.now.items bytes
-      old.count old.has_failed new.has_failed new.waiting.now.items new.count
+  pub puts : GathersBy contents old.writer.now new.writer.now old.buffer.now.items bytes
+      old.count old.has_failed new.has_failed new.buffer.now.items new.count
   pub same : new.writer.ghost_name ≡ old.writer.ghost_name
-  pub same_waiting : new.waiting.ghost_name ≡ old.waiting.ghost_name
+  pub same_buffer : new.buffer.ghost_name ≡ old.buffer.ghost_name
 
 -- The transducer took `front`, and all that it settles went out.
 pub record IsWritten (model : Model) (r : Transducer) (front : Text) (w x : Known)
@@ -73,12 +73,12 @@ pub record IsWritten (model : Model) (r : Transducer) (front : Text) (w x : Know
   pub writer : Appends w x out
   pub count : written ≡ length out
 
--- the same, but the last bytes of what it settles wait
+-- The transducer took `front`, and of what it settles the last bytes are in the buffer.
 pub record IsGathered (model : Model) (r : Transducer) (front : Text) (w x : Known)
-    (waiting : Text) (written : ℕ) : Type 0 where
+    (buffer : Text) (written : ℕ) : Type 0 where
   pub items : List Item
   pub out : Text
-  pub through : IsThrough model r front items (out ++ waiting)
+  pub through : IsThrough model r front items (out ++ buffer)
   pub writer : Appends w x out
   pub count : written ≡ length out
 
@@ -125,7 +125,7 @@ ReadCounts old new (Err faults.Read) = HasFailed old new
 ReadCounts old new (Err (faults.Write written)) = failures_of new ≡ failures_of old
 ReadCounts old new (Err (faults.Refused refusal)) = failures_of new ≡ failures_of old
 
--- a text was taken to its end, and its canonical text went out, of so many bytes
+-- a text was taken to its end, and its canonical text went out, of `count` bytes
 pub record CopiesAll (model : Model) (start left w x : Known) (count : ℕ) : Type 0 where
   pub taken : Text
   pub canonical : Text
@@ -136,7 +136,7 @@ pub record CopiesAll (model : Model) (start left w x : Known) (count : ℕ) : Ty
   pub writer : Appends w x canonical
   pub count_is : count ≡ length canonical
 
--- the same, but just the first bytes of it went out
+-- a text was taken to its end, and just the first bytes of its canonical text went out
 pub record CopiesFirst (model : Model) (start left w x : Known) (written : ℕ) : Type 0 where
   pub taken : Text
   pub canonical : Text

@@ -11,17 +11,17 @@ use Rattle.pf_canon.specs.declared.output.PendingOutput.TheVariants as pending
 abbrev pub in_order : Text → Text → Text → Text → Text → Text
 in_order spaces zeros silents bytes trail = spaces ++ (zeros ++ (silents ++ (bytes ++ trail)))
 
--- the same by counts, with the bytes of a spelling
+-- the bytes of an output by its counts, with the bytes of a spelling
 abbrev pub whole_text : ℕ → ℕ → ℕ → Text → ℕ → Text
 whole_text spaces zeros count bytes trail = in_order
     (replicate spaces space) (replicate zeros zero_digit)
     (flat_map item_spelling (silents count)) bytes (replicate trail space)
 
--- the same of the value that holds them
+-- the bytes of an output
 abbrev pub output_text : Output → Text
 output_text p = whole_text p.spaces p.zeros p.silents p.spelling.items p.trail
 
--- the same, but for the spaces and zeros at the front
+-- the bytes of an output after the spaces and zeros at its front
 abbrev pub text_after_zeros : Output → Text
 text_after_zeros p =
     flat_map item_spelling (silents p.silents) ++ (p.spelling.items ++ replicate p.trail space)

@@ -11,7 +11,7 @@ pub record IsSink {S : Type 0} (given : S → S → Text → Type 0) : Type 0 wh
   pub none : (s : S) → given s s []
   pub both : (a b c : S) (t u : Text) → given a b t → given b c u → given a c (t ++ u)
 
--- so many bytes more, where that many can be counted
+-- `more` bytes more, where that many can be counted
 abbrev pub Counts : ℕ → ℕ → ℕ → Type 0
 Counts before more after = before + more < 2 ^ 128 → after ≡ before + more
 
@@ -37,7 +37,7 @@ IsFrontStripped (Some left) bytes (Some rest) = left.now ≡ bytes ++ rest.now
 IsFrontStripped (Some left) bytes None = (rest : Text) → left.now ≢ bytes ++ rest
 IsFrontStripped None bytes rest = rest ≡ None
 
--- the same of a text that is expected
+-- what is left of an expected text after these bytes
 abbrev pub IsStripped : Expected → Expected → Text → Type 0
 IsStripped old new bytes = IsFrontStripped old.left bytes new.left
 

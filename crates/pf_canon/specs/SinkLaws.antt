@@ -57,9 +57,10 @@ strip_then None mid rest a b h g = rw h at g
 pub strips : IsSink IsStripped
 strips = record { none = λ s. strip_none s.left; both = λ a b c t u h g. strip_then a.left b.left c.left t u h g }
 
--- a writer with its count and with the bytes that wait
+-- a writer with its count and its buffer
 module _ {W : Type 0} (contents : W → Known) where
-  pub all_all : (old mid new : Counted W) (a b : Text) (before after last : ℕ) → PutsAll contents old mid a before after → PutsAll contents mid new b after last → PutsAll contents old new (a ++ b) before last
+  pub all_all : (old mid new : Counted W) (a b : Text) (before after last : ℕ) → PutsAll contents old mid a before after → PutsAll contents mid new b after last
+      → PutsAll contents old new (a ++ b) before last
   all_all old mid new a b before after last h g =
       let one = h.0 in
       let two = g.0 in (
@@ -71,14 +72,16 @@ module _ {W : Type 0} (contents : W → Known) where
             omega (arith, x, y, len),
       )
 
-  pub all_first : (old mid new : Counted W) (a b : Text) (before after last : ℕ) → PutsAll contents old mid a before after → PutsFirst contents mid new b after last → PutsFirst contents old new (a ++ b) before last
+  pub all_first : (old mid new : Counted W) (a b : Text) (before after last : ℕ) → PutsAll contents old mid a before after
+      → PutsFirst contents mid new b after last → PutsFirst contents old new (a ++ b) before last
   all_first old mid new a b before after last h g =
       let one = h.0 in
       let fewer = g.fewer in
       let len = length-append a b in
       record {
         put = length a + g.put;
-        first = subst (λ t. WritesFirst contents old new (a ++ t) (length a + g.put)) (append-nil b) (WritesFirst-more contents old mid new a b [] g.put one g.first);
+        first = subst (λ t. WritesFirst contents old new (a ++ t) (length a + g.put)) (append-nil b)
+            (WritesFirst-more contents old mid new a b [] g.put one g.first);
         fewer = omega (arith, fewer, len);
         counts = λ few.
             let x : after ≡ before + length a = h.1 (omega (arith, few)) in
@@ -87,14 +90,20 @@ module _ {W : Type 0} (contents : W → Known) where
       }
 
   -- some of these bytes went out, whatever was to follow
-  pub first_alone : (old new : Counted W) (a b : Text) (before after : ℕ) → PutsFirst contents old new a before after → PutsFirst contents old new (a ++ b) before after
+  pub first_alone : (old new : Counted W) (a b : Text) (before after : ℕ) → PutsFirst contents old new a before after
+      → PutsFirst contents old new (a ++ b) before after
   first_alone old new a b before after h =
       let fewer = h.fewer in
       let first = h.first in
       let within = first.within in
       record {
         put = h.put;
-        first = record { appended = rw (take-append-le h.put a b within) first.appended; within = omega (arith, within, length-append a b); failed = first.failed };
+        first = record {
+          appended = rw (take-append-le h.put a b within) first.appended;
+          within = omega (arith, within, length-append a b);
+          failed =
+              first.failed;
+        };
         fewer = omega (arith, fewer, length-append a b);
         counts = h.counts;
       }
@@ -102,43 +111,49 @@ module _ {W : Type 0} (contents : W → Known) where
   pub none_put : (w : Counted W) (count : ℕ) → PutsAll contents w w [] count count
   none_put w count = (record { appended = Appends-nil (contents (device_of w)); none_failed = refl }, λ few. omega arith)
 
-  gathers_none : (w : Counted W) (waiting : Text) (count : ℕ) (failed : Bool) → GathersBy contents w w waiting [] count failed failed waiting count
-  gathers_none w waiting count false = record {
+  gathers_none : (w : Counted W) (buffer : Text) (count : ℕ) (failed : Bool) → GathersBy contents w w buffer [] count failed failed buffer count
+  gathers_none w buffer count false = record {
     out = [];
-    split = append-nil waiting;
+    split = append-nil buffer;
     puts = none_put w count;
   }
-  gathers_none w waiting count true = (refl, refl)
+  gathers_none w buffer count true = (refl, refl)
 
-  -- what waited, and then two texts
-  gathers_all : (old mid new : Counted W) (waiting still last a b : Text) (before after end : ℕ) → GathersAll contents old mid waiting a before still after → GathersAll contents mid new still b after last end → GathersAll contents old new waiting (a ++ b) before last end
-  gathers_all old mid new waiting still last a b before after end h g = record {
+  -- what was in the buffer, and then two texts
+  gathers_all : (old mid new : Counted W) (buffer still last a b : Text) (before after end : ℕ) → GathersAll contents old mid buffer a before still after
+      → GathersAll contents mid new still b after last end → GathersAll contents old new buffer (a ++ b) before last end
+  gathers_all old mid new buffer still last a b before after end h g = record {
     out = h.out ++ g.out;
-    split = sym (append_assoc waiting a b) ∙ ap (λ t. t ++ b) h.split ∙ append_assoc h.out still b ∙ ap (λ t. h.out ++ t) g.split ∙ sym (append_assoc h.out g.out last);
+    split = sym (append_assoc buffer a b) ∙ ap (λ t. t ++ b) h.split ∙ append_assoc h.out still b ∙ ap (λ t. h.out ++ t) g.split
+        ∙ sym (append_assoc h.out g.out last);
     puts = all_all old mid new h.out g.out before after end h.puts g.puts;
   }
 
-  gathers_first : (old mid new : Counted W) (waiting still a b : Text) (before after end : ℕ) → GathersAll contents old mid waiting a before still after → PutsFirst contents mid new (still ++ b) after end → PutsFirst contents old new (waiting ++ (a ++ b)) before end
-  gathers_first old mid new waiting still a b before after end h g =
-      let e : h.out ++ (still ++ b) ≡ waiting ++ (a ++ b) = sym (append_assoc h.out still b) ∙ ap (λ t. t ++ b) (sym h.split) ∙ append_assoc waiting a b in
+  gathers_first : (old mid new : Counted W) (buffer still a b : Text) (before after end : ℕ) → GathersAll contents old mid buffer a before still after
+      → PutsFirst contents mid new (still ++ b) after end → PutsFirst contents old new (buffer ++ (a ++ b)) before end
+  gathers_first old mid new buffer still a b before after end h g =
+      let e : h.out ++ (still ++ b) ≡ buffer ++ (a ++ b) = sym (append_assoc h.out still b) ∙ ap (λ t. t ++ b) (sym h.split) ∙ append_assoc buffer a b in
       subst (λ t. PutsFirst contents old new t before end) e (all_first old mid new h.out (still ++ b) before after end h.puts g)
 
-  gathers_both : (old mid new : Counted W) (waiting still last a b : Text) (before after end : ℕ) (f g h : Bool) → GathersBy contents old mid waiting a before f g still after → GathersBy contents mid new still b after g h last end → GathersBy contents old new waiting (a ++ b) before f h last end
-  gathers_both old mid new waiting still last a b before after end false false false x y = gathers_all old mid new waiting still last a b before after end x y
-  gathers_both old mid new waiting still last a b before after end false false true x y = gathers_first old mid new waiting still a b before after end x y
-  gathers_both old mid new waiting still last a b before after end false true true x y =
-      rw (y.0, y.1) (subst (λ t. PutsFirst contents old mid t before after) (append_assoc waiting a b) (first_alone old mid (waiting ++ a) b before after x))
-  gathers_both old mid new waiting still last a b before after end false true false x y = absurd y
-  gathers_both old mid new waiting still last a b before after end true true true x y = (y.0 ∙ x.0, y.1 ∙ x.1)
-  gathers_both old mid new waiting still last a b before after end true true false x y = absurd y
-  gathers_both old mid new waiting still last a b before after end true false h x y = absurd x
+  gathers_both : (old mid new : Counted W) (buffer still last a b : Text) (before after end : ℕ) (f g h : Bool)
+      → GathersBy contents old mid buffer a before f g still after → GathersBy contents mid new still b after g h last end
+      → GathersBy contents old new buffer (a ++ b) before f h last end
+  gathers_both old mid new buffer still last a b before after end false false false x y = gathers_all old mid new buffer still last a b before after end x y
+  gathers_both old mid new buffer still last a b before after end false false true x y = gathers_first old mid new buffer still a b before after end x y
+  gathers_both old mid new buffer still last a b before after end false true true x y =
+      rw (y.0, y.1) (subst (λ t. PutsFirst contents old mid t before after) (append_assoc buffer a b) (first_alone old mid (buffer ++ a) b before after x))
+  gathers_both old mid new buffer still last a b before after end false true false x y = absurd y
+  gathers_both old mid new buffer still last a b before after end true true true x y = (y.0 ∙ x.0, y.1 ∙ x.1)
+  gathers_both old mid new buffer still last a b before after end true true false x y = absurd y
+  gathers_both old mid new buffer still last a b before after end true false h x y = absurd x
 
   pub gathers : IsSink (HasGathered contents)
   gathers = record {
-    none = λ s. record { puts = gathers_none s.writer.now s.waiting.now.items s.count s.has_failed; same = refl; same_waiting = refl };
+    none = λ s. record { puts = gathers_none s.writer.now s.buffer.now.items s.count s.has_failed; same = refl; same_buffer = refl };
     both = λ a b c t u h g. record {
-      puts = gathers_both a.writer.now b.writer.now c.writer.now a.waiting.now.items b.waiting.now.items c.waiting.now.items t u a.count b.count c.count a.has_failed b.has_failed c.has_failed h.puts g.puts;
+      puts = gathers_both a.writer.now b.writer.now c.writer.now a.buffer.now.items b.buffer.now.items c.buffer.now.items t u a.count b.count c.count
+          a.has_failed b.has_failed c.has_failed h.puts g.puts;
       same = g.same ∙ h.same;
-      same_waiting = g.same_waiting ∙ h.same_waiting;
+      same_buffer = g.same_buffer ∙ h.same_buffer;
     };
   }

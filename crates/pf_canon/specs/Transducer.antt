@@ -9,7 +9,7 @@ use Rattle.pf_values.specs.meaning.Items.{Item, Byte, Directive, Reads}
 use Rattle.pf_values.specs.meaning.Refusals.{IsGoodFront, IsRefusedAt}
 use Rattle.pf_values.specs.meaning.Specification.{Specification}
 use Rattle.pf_values.specs.meaning.Text.{Text, percent}
-use Rattle.pf_text.specs.declared.scanner.Refusal.{Refusal}
+use Rattle.pf_text.specs.declared.refusals.Refusal.{Refusal}
 use Rattle.pf_text.specs.declared.scanner.Scanner.{Scanner}
 use Rattle.pf_text.specs.declared.scanner.Step.{Step}
 use Rattle.pf_text.specs.declared.scanner.Step.TheVariants as steps
@@ -48,8 +48,8 @@ data_model_of r = r.model
 abbrev pub scanner_of : Transducer → Scanner
 scanner_of r = r.scanner
 
-abbrev pub waiting_silents_of : Transducer → ℕ
-waiting_silents_of r = r.waiting
+abbrev pub held_silents_of : Transducer → ℕ
+held_silents_of r = r.silents
 
 -- The transducer, in this data model, took the text, which has these whole items, and what it
 -- settled of them is `out`.
@@ -57,11 +57,11 @@ pub record IsThrough (model : Model) (r : Transducer) (t : Text) (items : List I
     (out : Text) : Type 0 where
   pub model_is : r.model ≡ model
   pub after : IsAfter r.scanner t items
-  pub made : IsMaking model out r.waiting items []
-  pub few : r.waiting ≤ length t
-  pub short : length out + 4 * r.waiting ≤ most_len items
+  pub made : IsMaking model out r.silents items []
+  pub few : r.silents ≤ length t
+  pub short : length out + 4 * r.silents ≤ most_len items
 
--- in its data model, it took so many bytes of a text, which settle `out`
+-- in its data model, it took the first `at` bytes of a text, which settle `out`
 abbrev pub IsUpTo : Transducer → Text → ℕ → Text → Type 0
 IsUpTo r text at out = (at ≤ length text) × (items : List Item)
     × IsThrough r.model r (take at text) items out
@@ -124,14 +124,14 @@ IsStepOf steps.Percent byte = Unit {0}
 IsStepOf (steps.Directive d) byte = Unit {0}
 
 abbrev pub Settles : Model → Step → ℕ → List Item → Text → ℕ → StepOutput → ℕ → Type 0
-Settles model step byte items out waiting output still = IsStepOf step byte → waiting < 2 ^ 63
-    → IsMaking model out waiting items []
+Settles model step byte items out held output still = IsStepOf step byte → held < 2 ^ 63
+    → IsMaking model out held items []
     → IsMaking model (out ++ byte_output_text output byte) still (with_step items step) []
 
 abbrev pub SettlesDirective : Model → Specification → List Item → List Item → Text → ℕ → Output → ℕ
     → Type 0
-SettlesDirective model s items rest out waiting output still = waiting < 2 ^ 63
-    → IsMaking model out waiting items (Directive s ∷ rest)
+SettlesDirective model s items rest out held output still = held < 2 ^ 63
+    → IsMaking model out held items (Directive s ∷ rest)
     → IsMaking model (out ++ output_text output) still items rest
 
 -- a chunk at the front of a text was taken
@@ -158,14 +158,14 @@ abbrev pub TakesChunk : Model → Text → Text → Text → Result Chunk ChunkR
 TakesChunk model t out text (Ok chunk) new = GrowsByChunk model t out text chunk new
 TakesChunk model t out text (Err refused) new = RefusesChunk model t out text refused
 
--- so many bytes at the front of a text were taken, which are their own canonical text
+-- the first `len` bytes of a text were taken, which are their own canonical text
 pub record TakesVerbatim (model : Model) (t out text : Text) (len : ℕ)
     (new : Transducer) : Type 0 where
   pub items : List Item
   pub through : IsThrough model new (t ++ take len text) items (out ++ take len text)
 
--- The scanner took the text up to and with the byte at a place, of which it made this step. Nothing
--- is settled by that yet.
+-- The scanner took the text up to and with the byte at the offset `at`, of which it made this step.
+-- Nothing is settled by that yet.
 pub record HasScannedByte (model : Model) (r : Transducer) (t : Text) (items : List Item)
     (out text : Text) (at : ℕ) (step : Step) : Type 0 where
   pub before : Transducer
@@ -173,17 +173,17 @@ pub record HasScannedByte (model : Model) (r : Transducer) (t : Text) (items : L
   pub first : drop at text ≡ byte ∷ drop (at + 1) text
   pub through : IsThrough model before (t ++ take at text) items out
   pub model_is : r.model ≡ before.model
-  pub waiting : r.waiting ≡ before.waiting
+  pub held : r.silents ≡ before.silents
   pub takes : scanned.Takes (t ++ take at text) items byte step r.scanner
 
--- The scanner took the text up to a place, and then so many bytes more, which are a directive.
+-- The scanner took the text up to the offset `at`, and then `len` bytes more, which are a directive.
 -- Nothing is settled by that yet.
 pub record HasScannedDirective (model : Model) (r : Transducer) (t : Text) (items : List Item)
     (out text : Text) (at len : ℕ) (d : Specification) : Type 0 where
   pub before : Transducer
   pub through : IsThrough model before (t ++ take at text) items out
   pub model_is : r.model ≡ before.model
-  pub waiting : r.waiting ≡ before.waiting
+  pub held : r.silents ≡ before.silents
   pub takes : scanned.TakesDirective (t ++ take at text) items (drop at text) len r.scanner d
 
 -- a text was taken to its end, or is refused, and this is what its whole items settle

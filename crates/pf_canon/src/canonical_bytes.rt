@@ -17,8 +17,8 @@ use pf_values::{Counted, Model};
 use std::io::Read;
 
 /// The bytes of the canonical text, in one data model, of what a reader hands out. It asks the
-/// reader for one byte at a time, and only while no settled byte waits. Before a fault it gives
-/// just the bytes that are settled, and after it nothing.
+/// reader for one byte at a time, and only while no settled byte is pending. Before a fault it
+/// gives just the bytes that are settled, and after it nothing.
 #[derive(Drop)]
 pub struct CanonBytes<R> {
     reader: Counted<R>,
@@ -86,7 +86,7 @@ impl ByteTransducer {
     }
 
     /// Returns the next byte of the canonical text, or a fault. After a fault nothing comes.
-    pub(crate) fn next<B: Bytes>(&mut self, bytes: &mut B) -> Option<Result<u8, StreamFault>>
+    pub(crate) fn next<B: ByteSource>(&mut self, bytes: &mut B) -> Option<Result<u8, StreamFault>>
         ensures steps { StepsBy B.left B.kept B.failed self.old bytes.old
             result self.new bytes.new }
         ensures lower { LowersAnswer result self.old self.new }
@@ -100,7 +100,7 @@ impl ByteTransducer {
 
     /// Takes from the text, until something is pending or the text is over.
     #[inline(always)]
-    pub(crate) fn fill<B: Bytes>(&mut self, bytes: &mut B) -> Result<(), StreamFault>
+    pub(crate) fn fill<B: ByteSource>(&mut self, bytes: &mut B) -> Result<(), StreamFault>
         ensures { FillsBy B.left B.kept B.failed self.old bytes.old result self.new bytes.new }
     {
         while self.wants_byte() {
@@ -140,7 +140,7 @@ impl ByteTransducer {
     }
 
     /// Takes the rest of the text, and gives none of it.
-    pub(crate) fn drain<B: Bytes>(&mut self, bytes: &mut B) -> Result<(), StreamFault>
+    pub(crate) fn drain<B: ByteSource>(&mut self, bytes: &mut B) -> Result<(), StreamFault>
         ensures drained { (model : Model) (start : Known) (taken given : Text)
             → History model self.old start (B.left bytes.old) taken given → IsFilled self.old
             → DrainsTo model (pending_in self.old) start (B.left bytes.new) given result }
@@ -155,7 +155,7 @@ impl ByteTransducer {
 
     // Asks for the next byte of the text, or its end. What that settles is pending.
     #[inline(never)]
-    fn ask<B: Bytes>(&mut self, bytes: &mut B) -> Result<(), StreamFault>
+    fn ask<B: ByteSource>(&mut self, bytes: &mut B) -> Result<(), StreamFault>
         requires { WantsByte self.old }
         ensures next { (model : Model) (start : Known) (taken given : Text)
             → History model self.old start (B.left bytes.old) taken given
@@ -229,7 +229,7 @@ pub(crate) enum ByteRead {
 }
 
 /// Where a text comes from, byte by byte.
-pub(crate) trait Bytes {
+pub(crate) trait ByteSource {
     // what is left, if that is known
     ghost left: { Self → Known };
 
@@ -255,7 +255,7 @@ pub(crate) trait Bytes {
     ghost failed_later: { (a b c : Self) → kept a b → failed b c → failed a c };
 }
 
-impl<R: Read> Bytes for Counted<R> {
+impl<R: Read> ByteSource for Counted<R> {
     ghost left = { λ r. R.remaining (device_of r) };
 
     ghost kept = { λ old new. failures_of new ≡ failures_of old };

@@ -16,8 +16,8 @@ use pf_text::Refusal;
 pub(crate) struct Chunk {
     /// How many bytes are verbatim.
     pub(crate) verbatim_len: usize,
-    /// Where the item begins, if it is a directive that was taken whole, and else the place of the
-    /// byte that ends it.
+    /// The offset at which the item begins, if it is a directive that was taken whole, and
+    /// otherwise that of the byte that ends it.
     pub(crate) start: usize,
     /// How many bytes were taken.
     pub(crate) len: usize,

@@ -4,13 +4,13 @@ ghost use Rattle.pf_values.specs.Counting.{HasFailed, Known, device_of, failures
 ghost use Rattle.pf_values.specs.meaning.Text.{Text};
 ghost use Rattle.pf_canon.specs.Comparison.{AreCommon, AreTextsSame, CountsBehind, CountsSides, EndsBoth, HaveCommon, IsFilledInStep, IsInStep, StopsSide, TextStops};
 ghost use Rattle.pf_canon.specs.CanonicalBytes.{AnswerLeaves, History, IsFilled, pending_in, units};
-ghost use Rattle.pf_canon.specs.Walk.{AreApart, GoInStep, WalkHasGiven};
+ghost use Rattle.pf_canon.specs.CanonicalSlices.{AreApart, GoInStep, SlicesHaveGiven};
 
-use crate::canonical_bytes::{ByteTransducer, Bytes};
-use crate::faults::{Side, SideFault, StreamFault};
+use crate::canonical_bytes::{ByteSource, ByteTransducer};
+use crate::canonical_slices::{CanonicalSlices, finish_rest};
+use crate::faults::{SideFault, StreamFault};
 use crate::transducer::Transducer;
-use crate::walk::{Walk, finish_rest};
-use pf_text::Refusal;
+use pf_text::{Refusal, Side};
 use pf_values::{Counted, Model};
 use std::io::Read;
 
@@ -52,7 +52,7 @@ pub fn same_text(model: Model, f: &[u8], g: &[u8]) -> Result<bool, (Side, Refusa
     same_after_common(model, f, g, common)
 }
 
-// The same of a text and itself. It is read once.
+// Compares a text with itself, by reading it once.
 fn same_itself(model: Model, text: &[u8]) -> Result<bool, (Side, Refusal)>
     ensures { MatchResult result (AreTextsSame model text.now text.now)
         (TextStops text.now text.now) }
@@ -63,7 +63,7 @@ fn same_itself(model: Model, text: &[u8]) -> Result<bool, (Side, Refusal)>
     }
 }
 
-// The same of two texts whose verbatim bytes differ already.
+// Compares two texts if already their verbatim bytes differ.
 fn compare_verbatim(model: Model, f: &[u8], g: &[u8]) -> Option<Result<bool, (Side, Refusal)>>
     ensures { IfSome result (λ answer.
         MatchResult answer (AreTextsSame model f.now g.now) (TextStops f.now g.now)) }
@@ -93,7 +93,7 @@ fn same_after_common(
     requires { AreCommon f.now g.now common }
     ensures { MatchResult result (AreTextsSame model f.now g.now) (TextStops f.now g.now) }
 {
-    let (mut first, mut second) = walks_of(model, f, g, common);
+    let (mut first, mut second) = slices_of(model, f, g, common);
     let same = go_in_step(&mut first, &mut second);
     if let Err(refusal) = first.finish() {
         return Err((Side::First, refusal));
@@ -104,23 +104,29 @@ fn same_after_common(
     Ok(same)
 }
 
-// Returns a walk through each of two texts whose first `common` bytes are equal.
+// The canonical slices of two texts whose first `common` bytes are equal.
 #[inline(always)]
-fn walks_of<'a>(model: Model, f: &'a [u8], g: &'a [u8], common: usize) -> (Walk<'a>, Walk<'a>)
+fn slices_of<'a>(
+    model: Model,
+    f: &'a [u8],
+    g: &'a [u8],
+    common: usize,
+) -> (CanonicalSlices<'a>, CanonicalSlices<'a>)
     requires { AreCommon f.now g.now common }
-    ensures { (given : Text) × WalkHasGiven model result.0 f.now given
-        × WalkHasGiven model result.1 g.now given }
+    ensures { (given : Text) × SlicesHaveGiven model result.0 f.now given
+        × SlicesHaveGiven model result.1 g.now given }
 {
     let (transducer, at) = Transducer::after_chunks(model, &f[..common]);
-    let first = Walk::new(transducer, &f[at..]);
-    let second = Walk::new(transducer, &g[at..]);
+    let first = CanonicalSlices::new(transducer, &f[at..]);
+    let second = CanonicalSlices::new(transducer, &g[at..]);
     (first, second)
 }
 
 // Gives the bytes that two canonical texts have in common, and returns whether both ended there.
-fn go_in_step(first: &mut Walk<'_>, second: &mut Walk<'_>) -> bool
-    ensures { (model : Model) (f g given : Text) → WalkHasGiven model first.old f given
-        → WalkHasGiven model second.old g given → GoInStep model first.new f second.new g result }
+fn go_in_step(first: &mut CanonicalSlices<'_>, second: &mut CanonicalSlices<'_>) -> bool
+    ensures { (model : Model) (f g given : Text) → SlicesHaveGiven model first.old f given
+        → SlicesHaveGiven model second.old g given
+        → GoInStep model first.new f second.new g result }
 {
     loop {
         first.fill();
@@ -136,8 +142,12 @@ fn go_in_step(first: &mut Walk<'_>, second: &mut Walk<'_>) -> bool
     }
 }
 
-// The same of two texts that come byte by byte. What is pending of them is compared slice by slice.
-fn same_bytes<A: Bytes, B: Bytes>(model: Model, a: &mut A, b: &mut B) -> Result<bool, SideFault>
+// Compares two texts that come byte by byte. What is pending of them is compared slice by slice.
+fn same_bytes<A: ByteSource, B: ByteSource>(
+    model: Model,
+    a: &mut A,
+    b: &mut B,
+) -> Result<bool, SideFault>
     ensures compared { MatchResult result
         (EndsBoth model (A.left a.old) (A.left a.new) (B.left b.old) (B.left b.new))
         (StopsSide model (A.left a.old) (A.left a.new) (B.left b.old) (B.left b.new)) }
@@ -159,7 +169,7 @@ fn same_bytes<A: Bytes, B: Bytes>(model: Model, a: &mut A, b: &mut B) -> Result<
 }
 
 // Takes from each text, until something of it is pending or it is over.
-fn fill_both<A: Bytes, B: Bytes>(
+fn fill_both<A: ByteSource, B: ByteSource>(
     first: &mut ByteTransducer,
     a: &mut A,
     second: &mut ByteTransducer,
@@ -182,8 +192,8 @@ fn fill_both<A: Bytes, B: Bytes>(
     }
 }
 
-// The same where the first is filled.
-fn fill_second<A: Bytes, B: Bytes>(
+// Takes from the second text as `fill_both` does, when the first is filled.
+fn fill_second<A: ByteSource, B: ByteSource>(
     first: &mut ByteTransducer,
     a: &mut A,
     second: &mut ByteTransducer,
@@ -205,7 +215,11 @@ fn fill_second<A: Bytes, B: Bytes>(
 }
 
 // The fault of a comparison whose second text has this fault: that of the first, if it has one.
-fn earlier_fault<A: Bytes>(first: &mut ByteTransducer, a: &mut A, fault: StreamFault) -> SideFault
+fn earlier_fault<A: ByteSource>(
+    first: &mut ByteTransducer,
+    a: &mut A,
+    fault: StreamFault,
+) -> SideFault
     ensures stopped { (model : Model) (second : ByteTransducer) (f g b : Known) (t u given : Text)
         → History model first.old f (A.left a.old) t given → IsFilled first.old
         → AnswerLeaves model (Some (Err fault)) second g b u given
@@ -225,7 +239,7 @@ fn earlier_fault<A: Bytes>(first: &mut ByteTransducer, a: &mut A, fault: StreamF
 }
 
 // The texts differ. Each may still have a fault.
-fn drain_both<A: Bytes, B: Bytes>(
+fn drain_both<A: ByteSource, B: ByteSource>(
     first: &mut ByteTransducer,
     a: &mut A,
     second: &mut ByteTransducer,

@@ -20,8 +20,8 @@ use pf_text::Refusal;
 use pf_values::{Counted, Model, write_bytes};
 use std::io::{Read, Write};
 
-/// Bytes that wait to be written together.
-pub(crate) type Waiting = ArrayVec<u8, GATHERED>;
+/// Bytes that are written together.
+pub(crate) type WriteBuffer = ArrayVec<u8, GATHERED>;
 
 /// How many bytes of a text were copied, and how many bytes have gone out by then.
 #[derive(Clone, Copy, Debug)]
@@ -52,7 +52,7 @@ pub fn canonical_stream<R: Read, W: Write>(
     }
 }
 
-/// The same, and it returns how many bytes it has written.
+/// Writes the canonical text as `canonical_stream` does, and returns how many bytes it has written.
 pub fn copy_canonical<R: Read, W: Write>(
     model: Model,
     r: &mut Counted<R>,
@@ -97,39 +97,39 @@ fn copy_block<W: Write>(
         (StopsIn model front text.now start (W.contents (device_of w.new))) }
     ensures counts { WriteCounts w.old w.new result }
 {
-    let mut waiting = Waiting::new();
+    let mut buffer = WriteBuffer::new();
     let mut at = 0;
     let mut written = written;
     while at < text.len() {
-        let progress = match copy_chunk(transducer, &text[at..], w, &mut waiting, written) {
+        let progress = match copy_chunk(transducer, &text[at..], w, &mut buffer, written) {
             Ok(progress) => progress,
             Err(fault) => return Err(fault),
         };
         at += progress.len;
         written = progress.written;
     }
-    match put(w, &waiting, written) {
+    match put(w, &buffer, written) {
         Ok(count) => Ok(count),
         Err(count) => Err(CopyFault::Write(count)),
     }
 }
 
-// Copies the first chunk of a text. The last bytes of what is settled may wait.
+// Copies the first chunk of a text. The last bytes of what is settled may stay in the buffer.
 #[inline(always)]
 fn copy_chunk<W: Write>(
     transducer: &mut Transducer,
     text: &[u8],
     w: &mut Counted<W>,
-    waiting: &mut Waiting,
+    buffer: &mut WriteBuffer,
     written: u128,
 ) -> Result<CopyProgress, CopyFault>
     requires { 0 < length text.now }
     ensures copied { (model : Model) (front : Text) (start : Known)
         → IsGathered model transducer.old front start (W.contents (device_of w.old))
-        waiting.old.items written
+        buffer.old.items written
         → MatchResult result
         (λ progress. IsGathered model transducer.new (front ++ take progress.len text.now) start
-        (W.contents (device_of w.new)) waiting.new.items progress.written)
+        (W.contents (device_of w.new)) buffer.new.items progress.written)
         (StopsIn model front text.now start (W.contents (device_of w.new))) }
     ensures some { IfOk result (λ progress. 0 < progress.len) }
     ensures within { IfOk result (λ progress. progress.len ≤ length text.now) }
@@ -139,10 +139,10 @@ fn copy_chunk<W: Write>(
         Ok(chunk) => chunk,
         Err(refused) => {
             let verbatim = &text[..refused.verbatim_len];
-            return Err(copy_before_refusal(verbatim, w, waiting, written, refused.refusal));
+            return Err(copy_before_refusal(verbatim, w, buffer, written, refused.refusal));
         }
     };
-    match gather_chunk(&chunk, text, w, waiting, written) {
+    match gather_chunk(&chunk, text, w, buffer, written) {
         Ok(written) => Ok(CopyProgress {
             len: chunk.len,
             written,
@@ -151,24 +151,24 @@ fn copy_chunk<W: Write>(
     }
 }
 
-// Copies what waits, and the verbatim bytes before a byte that is refused.
+// Copies what is in the buffer, and the verbatim bytes before a byte that is refused.
 #[inline(never)]
 fn copy_before_refusal<W: Write>(
     verbatim: &[u8],
     w: &mut Counted<W>,
-    waiting: &[u8],
+    buffer: &[u8],
     written: u128,
     refusal: Refusal,
 ) -> CopyFault
     ensures copied { (model : Model) (front out text : Text) (start : Known) (len : ℕ)
         → verbatim.now ≡ take len text
         → Appends start (W.contents (device_of w.old)) out → written ≡ length out
-        → RefusesChunk model front (out ++ waiting.now) text
+        → RefusesChunk model front (out ++ buffer.now) text
         (record { verbatim_len = len; refusal = refusal })
         → StopsIn model front text start (W.contents (device_of w.new)) result }
     ensures counts { WriteCounts {E = Unit {0}} w.old w.new (Err result) }
 {
-    let written = match put(w, waiting, written) {
+    let written = match put(w, buffer, written) {
         Ok(written) => written,
         Err(written) => return CopyFault::Write(written),
     };
@@ -213,12 +213,12 @@ pub(crate) fn put<W: Write>(w: &mut Counted<W>, bytes: &[u8], count: u128) -> Re
     }
 }
 
-/// A writer, the bytes that wait to be written, how many went out, and whether it failed. Then
-/// nothing more is written.
+/// A writer, the bytes that are still to be written, how many went out, and whether it failed.
+/// After a failure nothing more is written.
 #[derive(Drop)]
 pub(crate) struct Gathered<'a, 'b, W> {
     writer: &'a mut Counted<W>,
-    waiting: &'b mut Waiting,
+    buffer: &'b mut WriteBuffer,
     count: u128,
     has_failed: bool,
 }
@@ -233,7 +233,7 @@ impl<W: Write> Sink for Gathered<'_, '_, W> {
         if self.has_failed {
             return;
         }
-        match gather(self.writer, self.waiting, bytes, self.count) {
+        match gather(self.writer, self.buffer, bytes, self.count) {
             Ok(count) => self.count = count,
             Err(count) => {
                 self.count = count;
@@ -248,39 +248,39 @@ impl<W: Write> Sink for Gathered<'_, '_, W> {
     }
 }
 
-// Lets bytes wait behind others, while there is room for them.
+// Puts bytes into the buffer after others, while there is room for them.
 #[inline(always)]
 fn gather<W: Write>(
     w: &mut Counted<W>,
-    waiting: &mut Waiting,
+    buffer: &mut WriteBuffer,
     bytes: &[u8],
     count: u128,
 ) -> Result<u128, u128>
-    ensures { Gathers W.contents w.old w.new waiting.old.items bytes.now count waiting.new.items
+    ensures { Gathers W.contents w.old w.new buffer.old.items bytes.now count buffer.new.items
         result }
 {
-    match waiting.try_extend_from_slice(bytes) {
+    match buffer.try_extend_from_slice(bytes) {
         Ok(()) => Ok(count),
-        Err(_) => put_both(w, waiting, bytes, count),
+        Err(_) => put_both(w, buffer, bytes, count),
     }
 }
 
-// Writes what waits, and then these bytes.
+// Writes what is in the buffer, and then these bytes.
 #[inline(never)]
 fn put_both<W: Write>(
     w: &mut Counted<W>,
-    waiting: &mut Waiting,
+    buffer: &mut WriteBuffer,
     bytes: &[u8],
     count: u128,
 ) -> Result<u128, u128>
-    ensures { Gathers W.contents w.old w.new waiting.old.items bytes.now count waiting.new.items
+    ensures { Gathers W.contents w.old w.new buffer.old.items bytes.now count buffer.new.items
         result }
 {
-    let count = match put(w, waiting, count) {
+    let count = match put(w, buffer, count) {
         Ok(count) => count,
         Err(count) => return Err(count),
     };
-    waiting.clear();
+    buffer.clear();
     put(w, bytes, count)
 }
 
@@ -289,16 +289,16 @@ pub(crate) fn gather_chunk<W: Write>(
     chunk: &Chunk,
     text: &[u8],
     w: &mut Counted<W>,
-    waiting: &mut Waiting,
+    buffer: &mut WriteBuffer,
     count: u128,
 ) -> Result<u128, u128>
     requires { IsChunkWithin chunk.now text.now }
-    ensures { Gathers W.contents w.old w.new waiting.old.items
-        (chunk_output_text chunk.now text.now) count waiting.new.items result }
+    ensures { Gathers W.contents w.old w.new buffer.old.items
+        (chunk_output_text chunk.now text.now) count buffer.new.items result }
 {
     let mut out = Gathered {
         writer: w,
-        waiting,
+        buffer,
         count,
         has_failed: false,
     };
@@ -309,19 +309,19 @@ pub(crate) fn gather_chunk<W: Write>(
     Ok(out.count)
 }
 
-/// The same of an output.
+/// Gathers an output, and counts on as `put` does.
 pub(crate) fn gather_output<W: Write>(
     output: &Output,
     w: &mut Counted<W>,
-    waiting: &mut Waiting,
+    buffer: &mut WriteBuffer,
     count: u128,
 ) -> Result<u128, u128>
-    ensures { Gathers W.contents w.old w.new waiting.old.items (output_text output.now) count
-        waiting.new.items result }
+    ensures { Gathers W.contents w.old w.new buffer.old.items (output_text output.now) count
+        buffer.new.items result }
 {
     let mut out = Gathered {
         writer: w,
-        waiting,
+        buffer,
         count,
         has_failed: false,
     };
@@ -336,9 +336,9 @@ pub(crate) fn gather_output<W: Write>(
 fn write_output<W: Write>(output: &Output, w: &mut Counted<W>, count: u128) -> Result<u128, u128>
     ensures { Puts W.contents w.old w.new (output_text output.now) count result }
 {
-    let mut waiting = Waiting::new();
-    match gather_output(output, w, &mut waiting, count) {
-        Ok(count) => put(w, &waiting, count),
+    let mut buffer = WriteBuffer::new();
+    match gather_output(output, w, &mut buffer, count) {
+        Ok(count) => put(w, &buffer, count),
         Err(count) => Err(count),
     }
 }

@@ -2,6 +2,7 @@
 #![tactic(auto)]
 
 mod canonical_bytes;
+mod canonical_slices;
 mod canonical_texts;
 mod chunk;
 mod comparison;
@@ -12,7 +13,6 @@ pub mod limits;
 mod output;
 mod sink;
 mod transducer;
-mod walk;
 
 pub use canonical_bytes::CanonBytes;
 pub use canonical_texts::{
@@ -20,4 +20,4 @@ pub use canonical_texts::{
 };
 pub use comparison::{same_stream, same_text};
 pub use copy::{canonical_stream, copy_canonical};
-pub use faults::{CanonFault, CopyFault, Side, SideFault, StreamFault};
+pub use faults::{CopyFault, SideFault, StreamFault};

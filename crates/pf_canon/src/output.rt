@@ -46,7 +46,7 @@ impl Output {
         put_repeated(sink, padding::spaces(MAX_RUN), self.trail);
     }
 
-    /// The first bytes from a place on, some if there are any.
+    /// The first bytes from an offset on, some if there are any.
     pub(crate) fn front(&self, at: u128) -> &[u8]
         ensures { IsFrontOf (drop at (output_text self.now)) result.now }
     {
@@ -62,7 +62,7 @@ impl Output {
         self.front_after_zeros(behind - zeros)
     }
 
-    // The same of what comes after the zeros.
+    // The first bytes, from an offset on, of what comes after the zeros.
     fn front_after_zeros(&self, at: u128) -> &[u8]
         ensures { IsFrontOf (drop at (text_after_zeros self.now)) result.now }
     {
@@ -109,7 +109,7 @@ fn repeated(block: &[u8], count: u128) -> &[u8]
     block
 }
 
-// The first bytes, from a place on, of some silent directives; this is one of them.
+// The first bytes, from an offset on, of some silent directives; `silent` is one of them.
 fn silent_front(silent: &[u8], at: u128) -> &[u8]
     requires { silent.now ≡ silent_bytes }
     ensures { (count : ℕ) → at < 4 * count

@@ -8,7 +8,7 @@ ghost use Rattle.pf_text.specs.History.{offset_of};
 ghost use Rattle.pf_canon.specs.Answers.{most_len};
 ghost use Rattle.pf_canon.specs.declared.limits.TheConstants.{MAX_DIRECTIVE_LEN};
 ghost use Rattle.pf_canon.specs.Output.{output_text};
-ghost use Rattle.pf_canon.specs.Transducer.{SettlesEnd, GrowsByChunk, HasScannedDirective, HasScannedByte, IsChunkWithin, IsThrough, IsUpTo, TakesVerbatim, TakesText, Settles, TakesByte, SettlesDirective, TakesChunk, chunk_output_text, byte_output_text, data_model_of, more_of, scanner_of, waiting_silents_of};
+ghost use Rattle.pf_canon.specs.Transducer.{SettlesEnd, GrowsByChunk, HasScannedDirective, HasScannedByte, IsChunkWithin, IsThrough, IsUpTo, TakesVerbatim, TakesText, Settles, TakesByte, SettlesDirective, TakesChunk, chunk_output_text, byte_output_text, data_model_of, more_of, scanner_of, held_silents_of};
 
 use crate::chunk::{Chunk, ChunkRefusal};
 use crate::output::{Output, StepOutput};
@@ -16,24 +16,24 @@ use pf_reduce::{Core, Reduced, is_normal, reduce};
 use pf_text::{Refusal, Scanner, Spelling, Step, spell};
 use pf_values::{Directive, Model};
 
-/// In a data model, what has come of an item, and how many silent directives wait for the bytes
-/// after them.
+/// A data model, the scanner's state inside the current item, and the number of `%.0s` that are not
+/// yet written, since they are written before the next byte or directive alone.
 #[derive(Clone, Copy, Debug)]
 pub(crate) struct Transducer {
     model: Model,
     scanner: Scanner,
-    waiting: u64,
+    silents: u64,
 }
 
 impl Transducer {
-    /// Nothing was taken.
+    /// A transducer that took nothing.
     pub(crate) fn new(model: Model) -> Transducer
         ensures { IsThrough model result [] [] [] }
     {
         Transducer {
             model,
             scanner: Scanner::new(),
-            waiting: 0,
+            silents: 0,
         }
     }
 
@@ -43,20 +43,21 @@ impl Transducer {
     pub(crate) fn after_verbatim(model: Model, text: &[u8]) -> (Transducer, usize)
         ensures model { data_model_of result.0 ≡ model }
         ensures kept { IsUpTo result.0 text.now result.1 (take result.1 text.now) }
-        ensures none { waiting_silents_of result.0 ≡ 0 }
+        ensures none { held_silents_of result.0 ≡ 0 }
     {
         let mut transducer = Transducer::new(model);
         let verbatim_len = transducer.pass_verbatim(text);
         (transducer, verbatim_len)
     }
 
-    /// The same, where whole directives that are normal and spelled as a canonical text spells them
-    /// are such bytes too.
+    /// A transducer that took as many first bytes of a text as are their own canonical text, and
+    /// how many these are: whole directives that are normal and spelled as a canonical text spells
+    /// them, too.
     #[inline(always)]
     pub(crate) fn after_canonical(model: Model, text: &[u8]) -> (Transducer, usize)
         ensures model { data_model_of result.0 ≡ model }
         ensures kept { IsUpTo result.0 text.now result.1 (take result.1 text.now) }
-        ensures none { waiting_silents_of result.0 ≡ 0 }
+        ensures none { held_silents_of result.0 ≡ 0 }
     {
         let (mut transducer, verbatim_len) = Transducer::after_verbatim(model, text);
         if verbatim_len == text.len() {
@@ -66,13 +67,13 @@ impl Transducer {
         (transducer, len)
     }
 
-    // Takes more of a text of which `from` bytes were taken, as far as it is its own canonical text,
-    // and returns how many were taken then.
+    // Takes more of a text of which `from` bytes were taken, as far as it is its own canonical
+    // text, and returns how many were taken then.
     #[inline(never)]
     fn pass_canonical(&mut self, text: &[u8], from: usize) -> usize
         requires from { from ≤ length text.now }
-        requires none { waiting_silents_of self.old ≡ 0 }
-        ensures none { waiting_silents_of self.new ≡ 0 }
+        requires none { held_silents_of self.old ≡ 0 }
+        ensures none { held_silents_of self.new ≡ 0 }
         ensures kept { (model : Model) (items : List Item)
             → IsThrough model self.old (take from text.now) items (take from text.now)
             → (now : List Item)
@@ -118,8 +119,8 @@ impl Transducer {
             → IsThrough model self.old t items out
             → TakesByte model t items out byte result self.new }
         ensures few { IfOk result (λ output.
-            length (byte_output_text output byte) + 4 * waiting_silents_of self.new
-            ≤ 4 * waiting_silents_of self.old + MAX_DIRECTIVE_LEN) }
+            length (byte_output_text output byte) + 4 * held_silents_of self.new
+            ≤ 4 * held_silents_of self.old + MAX_DIRECTIVE_LEN) }
         ensures offset { OnOk result (offset_of (scanner_of self.new)
             ≡ offset_of (scanner_of self.old) + 1) }
         ensures below { OnOk result (offset_of (scanner_of self.old) < MAX_TEXT_LEN) }
@@ -141,14 +142,14 @@ impl Transducer {
         ensures within { MatchResult result (λ chunk. IsChunkWithin chunk text.now)
             (λ refused. refused.verbatim_len ≤ length text.now) }
         ensures few { IfOk result (λ chunk.
-            length (chunk_output_text chunk text.now) + 4 * waiting_silents_of self.new
-            ≤ 4 * waiting_silents_of self.old + MAX_DIRECTIVE_LEN * chunk.len) }
+            length (chunk_output_text chunk text.now) + 4 * held_silents_of self.new
+            ≤ 4 * held_silents_of self.old + MAX_DIRECTIVE_LEN * chunk.len) }
     {
         let verbatim_len = self.pass_verbatim(text);
         self.finish_chunk(text, verbatim_len)
     }
 
-    /// The same of a text whose verbatim bytes were taken.
+    /// Takes the rest of the first chunk of a text, whose verbatim bytes were taken.
     #[inline(always)]
     pub(crate) fn finish_chunk(
         &mut self,
@@ -165,8 +166,8 @@ impl Transducer {
             (λ refused. refused.verbatim_len ≤ length text.now) }
         ensures verbatim_len { IfOk result (λ chunk. chunk.verbatim_len ≡ verbatim_len) }
         ensures few { IfOk result (λ chunk.
-            length (chunk_output_text chunk text.now) + 4 * waiting_silents_of self.new
-            ≤ 4 * waiting_silents_of self.old + MAX_DIRECTIVE_LEN * chunk.len) }
+            length (chunk_output_text chunk text.now) + 4 * held_silents_of self.new
+            ≤ 4 * held_silents_of self.old + MAX_DIRECTIVE_LEN * chunk.len) }
     {
         let mut at = self.pass_silents(text, verbatim_len);
         if let Some((directive, len)) = self.scanner.pass_directive(&text[at..]) {
@@ -193,28 +194,28 @@ impl Transducer {
     }
 
     /// Takes the first bytes of a text that are their own canonical text, and returns how many
-    /// these are. After silent directives that wait they are literal bytes alone, and inside an
-    /// item there are none.
+    /// these are. After silent directives that aren't written yet they are literal bytes alone, and
+    /// inside an item there are none.
     #[inline(always)]
     pub(crate) fn pass_verbatim(&mut self, text: &[u8]) -> usize
         ensures model { data_model_of self.new ≡ data_model_of self.old }
-        ensures waiting { waiting_silents_of self.new ≡ waiting_silents_of self.old }
+        ensures held { held_silents_of self.new ≡ held_silents_of self.old }
         ensures kept { (model : Model) (t out : Text) (items : List Item)
             → IsThrough model self.old t items out
             → TakesVerbatim model t out text.now result self.new }
         ensures within { result ≤ length text.now }
     {
-        if self.waiting > 0 {
+        if self.silents > 0 {
             return self.scanner.pass_literals(text);
         }
         self.scanner.pass_canonical_run(text)
     }
 
     // Takes the directive that a text begins with, if it is its own canonical text, and returns its
-    // length; else nothing, which is 0 bytes.
+    // length; otherwise nothing, and returns 0.
     fn pass_normal(&mut self, text: &[u8]) -> usize
-        requires { waiting_silents_of self.old ≡ 0 }
-        ensures none { waiting_silents_of self.new ≡ 0 }
+        requires { held_silents_of self.old ≡ 0 }
+        ensures none { held_silents_of self.new ≡ 0 }
         ensures kept { (model : Model) (t out : Text) (items : List Item)
             → IsThrough model self.old t items out
             → TakesVerbatim model t out text.now result self.new }
@@ -231,8 +232,8 @@ impl Transducer {
         len
     }
 
-    // Takes the silent directives that follow the verbatim bytes, which wait. Returns the place of
-    // the first other byte.
+    // Takes the silent directives that follow the verbatim bytes, without writing them. Returns the
+    // offset of the first other byte.
     #[inline(always)]
     fn pass_silents(&mut self, text: &[u8], verbatim_len: usize) -> usize
         requires { verbatim_len ≤ length text.now }
@@ -240,11 +241,11 @@ impl Transducer {
             → IsThrough model self.old (t ++ take verbatim_len text.now) items out
             → (now : List Item) × IsThrough model self.new (t ++ take result text.now) now out }
         ensures within { (verbatim_len ≤ result) × (result ≤ length text.now) }
-        ensures few { 4 * waiting_silents_of self.new + verbatim_len
-            ≤ 4 * waiting_silents_of self.old + result }
+        ensures few { 4 * held_silents_of self.new + verbatim_len
+            ≤ 4 * held_silents_of self.old + result }
     {
         let count = self.scanner.pass_silents(&text[verbatim_len..]);
-        self.waiting = self.waiting.saturating_add(count as u64);
+        self.silents = self.silents.saturating_add(count as u64);
         verbatim_len + 4 * count
     }
 
@@ -259,8 +260,8 @@ impl Transducer {
         ensures within { IsChunkWithin result text.now }
         ensures verbatim_len { result.verbatim_len ≡ verbatim_len }
         ensures len { result.len ≡ at + 1 }
-        ensures few { length (chunk_output_text result text.now) + 4 * waiting_silents_of self.new
-            ≤ 4 * waiting_silents_of self.old + (verbatim_len + MAX_DIRECTIVE_LEN) }
+        ensures few { length (chunk_output_text result text.now) + 4 * held_silents_of self.new
+            ≤ 4 * held_silents_of self.old + (verbatim_len + MAX_DIRECTIVE_LEN) }
     {
         Chunk {
             verbatim_len,
@@ -289,8 +290,8 @@ impl Transducer {
         ensures within { IsChunkWithin result text.now }
         ensures verbatim_len { result.verbatim_len ≡ verbatim_len }
         ensures len { result.len ≡ at + len }
-        ensures few { length (chunk_output_text result text.now) + 4 * waiting_silents_of self.new
-            ≤ 4 * waiting_silents_of self.old + (verbatim_len + MAX_DIRECTIVE_LEN) }
+        ensures few { length (chunk_output_text result text.now) + 4 * held_silents_of self.new
+            ≤ 4 * held_silents_of self.old + (verbatim_len + MAX_DIRECTIVE_LEN) }
     {
         Chunk {
             verbatim_len,
@@ -323,14 +324,14 @@ impl Transducer {
         ensures scanner { scanner_of self.new ≡ scanner_of self.old }
         ensures settles { (byte : ℕ) (out : Text) (items : List Item)
             → Settles (data_model_of self.old) step.now byte items out
-            (waiting_silents_of self.old) result (waiting_silents_of self.new) }
+            (held_silents_of self.old) result (held_silents_of self.new) }
         ensures few { (byte : ℕ)
-            → length (byte_output_text result byte) + 4 * waiting_silents_of self.new
-            ≤ 4 * waiting_silents_of self.old + MAX_DIRECTIVE_LEN }
-        ensures one { waiting_silents_of self.new ≤ waiting_silents_of self.old + 1 }
+            → length (byte_output_text result byte) + 4 * held_silents_of self.new
+            ≤ 4 * held_silents_of self.old + MAX_DIRECTIVE_LEN }
+        ensures one { held_silents_of self.new ≤ held_silents_of self.old + 1 }
         ensures short { (byte : ℕ)
-            → length (byte_output_text result byte) + 4 * waiting_silents_of self.new
-            ≤ 4 * waiting_silents_of self.old + most_len (more_of step.now) }
+            → length (byte_output_text result byte) + 4 * held_silents_of self.new
+            ≤ 4 * held_silents_of self.old + most_len (more_of step.now) }
     {
         match step {
             Step::More => StepOutput::Nothing,
@@ -346,10 +347,10 @@ impl Transducer {
         ensures scanner { scanner_of self.new ≡ scanner_of self.old }
         ensures settles { (out : Text) (items rest : List Item)
             → SettlesDirective (data_model_of self.old) directive.now items rest out
-            (waiting_silents_of self.old) result (waiting_silents_of self.new) }
-        ensures few { length (output_text result) + 4 * waiting_silents_of self.new
-            ≤ 4 * waiting_silents_of self.old + MAX_DIRECTIVE_LEN }
-        ensures one { waiting_silents_of self.new ≤ waiting_silents_of self.old + 1 }
+            (held_silents_of self.old) result (held_silents_of self.new) }
+        ensures few { length (output_text result) + 4 * held_silents_of self.new
+            ≤ 4 * held_silents_of self.old + MAX_DIRECTIVE_LEN }
+        ensures one { held_silents_of self.new ≤ held_silents_of self.old + 1 }
     {
         let Reduced {
             spaces,
@@ -359,7 +360,7 @@ impl Transducer {
         } = reduce(self.model, directive);
         match core {
             Core::Silent => {
-                self.waiting = self.waiting.saturating_add(1);
+                self.silents = self.silents.saturating_add(1);
                 Output {
                     spaces,
                     zeros,
@@ -369,8 +370,8 @@ impl Transducer {
                 }
             }
             Core::Normal(normal) => {
-                let silents = self.waiting;
-                self.waiting = 0;
+                let silents = self.silents;
+                self.silents = 0;
                 Output {
                     spaces,
                     zeros,
@@ -388,13 +389,13 @@ impl Transducer {
         ensures ended { (model : Model) (t out : Text) (items : List Item)
             → IsThrough model self.now t items out → SettlesEnd model t items out result }
         ensures few { IfOk result (λ output.
-            length (output_text output) ≤ 4 * waiting_silents_of self.now) }
+            length (output_text output) ≤ 4 * held_silents_of self.now) }
     {
         match self.scanner.finish() {
             Ok(()) => Ok(Output {
                 spaces: 0,
                 zeros: 0,
-                silents: self.waiting,
+                silents: self.silents,
                 spelling: Spelling::new(),
                 trail: 0,
             }),

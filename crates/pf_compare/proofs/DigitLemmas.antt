@@ -13,9 +13,10 @@ use Rattle.pf_values.specs.meaning.Bases.{number_of, prefix_of}
 use Rattle.pf_values.specs.meaning.Conversions.{base_under, has_capitals}
 use Rattle.pf_values.specs.meaning.Text.{Text, space, zero_digit}
 use Rattle.pf_probes.proofs.Digits.{glyph-gt}
-use Rattle.pf_compare.specs.declared.outlines.SignOrPrefix.{SignOrPrefix}
-use Rattle.pf_compare.specs.declared.outlines.SignOrPrefix.TheVariants as prefixes
-use Rattle.pf_compare.specs.Outlines.{DoTextsDiffer, Lacks, digits_under, kind_digits, sign_or_prefix_text}
+use Rattle.pf_render.specs.declared.integer_parts.SignOrPrefix.{SignOrPrefix}
+use Rattle.pf_render.specs.declared.integer_parts.SignOrPrefix.TheVariants as prefixes
+use Rattle.pf_render.specs.IntegerParts.{digits_under, kind_digits, sign_or_prefix_text}
+use Rattle.pf_compare.specs.Outlines.{DoTextsDiffer, Lacks}
 use Rattle.pf_compare.proofs.FieldLemmas.{lacks_both, lacks_run}
 
 base_above_one : (base : Base) → 2 ≤ number_of base
@@ -28,8 +29,10 @@ pub kind_above_one : (k : Kind) → 2 ≤ number_of (base_under k)
 kind_above_one k = base_above_one (base_under k)
 
 -- the last digit and those before it
-digits_step : (base : ℕ) (upper : Bool) (n : ℕ) → 2 ≤ base → 0 < n → digits_under base upper n ≡ digits_under base upper (n / base) ++ (digit_glyph upper (n % base) ∷ [])
-digits_step base upper n b h = ap (map (digit_glyph upper)) (digits_of_step base n b h) ∙ map-append (digit_glyph upper) (digits_of base (n / base)) (n % base ∷ [])
+digits_step : (base : ℕ) (upper : Bool) (n : ℕ) → 2 ≤ base → 0 < n → digits_under base upper n ≡ digits_under base upper (n / base) ++
+    (digit_glyph upper (n % base) ∷ [])
+digits_step base upper n b h = ap (map (digit_glyph upper)) (digits_of_step base n b h) ∙ map-append (digit_glyph upper) (digits_of base (n / base))
+    (n % base ∷ [])
 
 abbrev last_or : ℕ → Text → ℕ
 last_or d [] = d
@@ -53,7 +56,8 @@ module _ (base other : ℕ) (upper others : Bool) (n m : ℕ) (b : 2 ≤ base) (
       ∙ ap (λ d. digits_under other others (m / other) ++ (d ∷ [])) (sym (last_same e))
       )
 
-  pub both_same : digit_glyph upper (n % base) ≡ digit_glyph others (m % other) → digits_under base upper (n / base) ≡ digits_under other others (m / other) → digits_under base upper n ≡ digits_under other others m
+  pub both_same : digit_glyph upper (n % base) ≡ digit_glyph others (m % other) → digits_under base upper (n / base) ≡ digits_under other others (m / other)
+      → digits_under base upper n ≡ digits_under other others m
   both_same e f =
       digits_step base upper n b h
       ∙ ap (λ t. t ++ (digit_glyph upper (n % base) ∷ [])) f
@@ -69,17 +73,20 @@ pub has_digits : (base : ℕ) (upper : Bool) (n : ℕ) → 2 ≤ base → 0 < n 
 has_digits base upper n b h = λ e. no_last (digits_under base upper (n / base)) (digit_glyph upper (n % base)) (e ∙ digits_step base upper n b h)
 
 -- the same of a number in what a kind makes of it, by the base as it is computed
-module _ (j k : Kind) (base other : ℕ) (e : base ≡ number_of (base_under j)) (f : other ≡ number_of (base_under k)) (b : 2 ≤ base) (c : 2 ≤ other) (n m : ℕ) (h : 0 < n) (g : 0 < m) where
+module _ (j k : Kind) (base other : ℕ) (e : base ≡ number_of (base_under j)) (f : other ≡ number_of (base_under k)) (b : 2 ≤ base) (c : 2 ≤ other) (n m : ℕ)
+    (h : 0 < n) (g : 0 < m) where
   left_same : kind_digits j n ≡ kind_digits k m → digits_under base (has_capitals j) n ≡ digits_under other (has_capitals k) m
   left_same same = ap (λ r. digits_under r (has_capitals j) n) e ∙ same ∙ ap (λ r. digits_under r (has_capitals k) m) (sym f)
 
   pub digits_lead : kind_digits j n ≡ kind_digits k m → kind_digits j (n / base) ≡ kind_digits k (m / other)
-  digits_lead same = ap (λ r. digits_under r (has_capitals j) (n / base)) (sym e) ∙ front_same base other (has_capitals j) (has_capitals k) n m b c h g (left_same same) ∙ ap (λ r. digits_under r (has_capitals k) (m / other)) f
+  digits_lead same = ap (λ r. digits_under r (has_capitals j) (n / base)) (sym e) ∙ front_same base other (has_capitals j) (has_capitals k) n m b c h g
+      (left_same same) ∙ ap (λ r. digits_under r (has_capitals k) (m / other)) f
 
   pub digits_end : kind_digits j n ≡ kind_digits k m → digit_glyph (has_capitals j) (n % base) ≡ digit_glyph (has_capitals k) (m % other)
   digits_end same = last_same base other (has_capitals j) (has_capitals k) n m b c h g (left_same same)
 
-  pub digits_both : digit_glyph (has_capitals j) (n % base) ≡ digit_glyph (has_capitals k) (m % other) → kind_digits j (n / base) ≡ kind_digits k (m / other) → kind_digits j n ≡ kind_digits k m
+  pub digits_both : digit_glyph (has_capitals j) (n % base) ≡ digit_glyph (has_capitals k) (m % other) → kind_digits j (n / base) ≡ kind_digits k (m / other)
+      → kind_digits j n ≡ kind_digits k m
   digits_both last same =
       ap (λ r. digits_under r (has_capitals j) n) (sym e)
       ∙ both_same base other (has_capitals j) (has_capitals k) n m b c h g last
@@ -96,7 +103,8 @@ above_zero m h = grind (arith, nat_tests)
 at_zero : (m : ℕ) → nat_lt 0 m ≡ false → m ≡ 0
 at_zero m h = grind (arith, nat_tests)
 
-left_by : (j k : Kind) (n m : ℕ) (told : Bool) → nat_lt 0 m ≡ told → n ≡ 0 → 2 ≤ number_of (base_under k) → DoTextsDiffer (kind_digits j n) (kind_digits k m) told
+left_by : (j k : Kind) (n m : ℕ) (told : Bool) → nat_lt 0 m ≡ told → n ≡ 0 → 2 ≤ number_of (base_under k) → DoTextsDiffer (kind_digits j n)
+    (kind_digits k m) told
 left_by j k n m true h e b = none_left j k n m e (above_zero m h) b
 left_by j k n m false h e b = ap (kind_digits j) e ∙ ap (kind_digits k) (sym (at_zero m h))
 
@@ -121,7 +129,8 @@ not_zero b h = grind (arith, nat_tests)
 
 after_glyphs : (upper : Bool) (ds : List ℕ) → (0 < length ds → 0 < get_or ds 0 0) → after_zeros (map (digit_glyph upper) ds) ≡ map (digit_glyph upper) ds
 after_glyphs upper [] h = refl
-after_glyphs upper (d ∷ ds) h = ap (λ s. skipped s (digit_glyph upper d ∷ map (digit_glyph upper) ds) (after_zeros (map (digit_glyph upper) ds))) (not_zero (digit_glyph upper d) (glyph-gt upper d (h (omega arith))))
+after_glyphs upper (d ∷ ds) h = ap (λ s. skipped s (digit_glyph upper d ∷ map (digit_glyph upper) ds) (after_zeros (map (digit_glyph upper) ds)))
+    (not_zero (digit_glyph upper d) (glyph-gt upper d (h (omega arith))))
 
 first_digit : (base n : ℕ) → 2 ≤ base → 0 < length (digits_of base n) → 0 < get_or (digits_of base n) 0 0
 first_digit base zero b h = absurd (omega (arith, h))
@@ -131,7 +140,8 @@ after_digits : (base : ℕ) (upper : Bool) (n : ℕ) → 2 ≤ base → after_ze
 after_digits base upper n b = after_glyphs upper (digits_of base n) (first_digit base n b)
 
 -- digits that differ do so behind zeros
-pub differ_behind_zeros : (base other : ℕ) (upper others : Bool) (n m : ℕ) (j k : ℕ) (p : Text) → 2 ≤ base → 2 ≤ other → digits_under base upper n ≢ digits_under other others m
+pub differ_behind_zeros : (base other : ℕ) (upper others : Bool) (n m : ℕ) (j k : ℕ) (p : Text) → 2 ≤ base → 2 ≤ other
+    → digits_under base upper n ≢ digits_under other others m
     → p ++ (replicate j zero_digit ++ digits_under base upper n) ≢ p ++ (replicate k zero_digit ++ digits_under other others m)
 differ_behind_zeros base other upper others n m j k p b c unlike = λ e. unlike (
     sym (after_digits base upper n b)
@@ -156,7 +166,8 @@ not_where_zeros p x t n h l = λ e.
     let k = length p in
     let split : replicate n zero_digit ≡ replicate k zero_digit ++ replicate (n - k) zero_digit
     = ap (λ i. replicate i zero_digit) (omega (arith, l)) ∙ sym (replicate-append-replicate k (n - k) zero_digit) in
-    let front : p ≡ replicate k zero_digit = same_front p (replicate k zero_digit) x (replicate (n - k) zero_digit ++ t) (sym (length-replicate {A = ℕ} k zero_digit))
+    let front : p ≡ replicate k zero_digit = same_front p (replicate k zero_digit) x (replicate (n - k) zero_digit ++ t)
+        (sym (length-replicate {A = ℕ} k zero_digit))
     (e ∙ ap (λ z. z ++ t) split ∙ append_assoc (replicate k zero_digit) (replicate (n - k) zero_digit) t) in
     h (ap after_zeros (front ∙ sym (append-nil (replicate k zero_digit))) ∙ after_run k [])
 
@@ -178,7 +189,8 @@ past_zeros prefixes.Plus h = λ e. absurd cc
 past_zeros prefixes.Space h = λ e. absurd cc
 past_zeros (prefixes.Letters base capitals) h = letters_past_zeros base capitals h
 
-pub prefix_unlike_zeros : (p : SignOrPrefix) (x t : Text) (n : ℕ) → sign_or_prefix_text p ≢ [] → length (sign_or_prefix_text p) ≤ n → sign_or_prefix_text p ++ x ≢ replicate n zero_digit ++ t
+pub prefix_unlike_zeros : (p : SignOrPrefix) (x t : Text) (n : ℕ) → sign_or_prefix_text p ≢ [] → length (sign_or_prefix_text p) ≤ n
+    → sign_or_prefix_text p ++ x ≢ replicate n zero_digit ++ t
 prefix_unlike_zeros p x t n h l = not_where_zeros (sign_or_prefix_text p) x t n (past_zeros p h) l
 
 -- letters and digits are no spaces
@@ -193,5 +205,8 @@ glyphs_lack_space : (upper : Bool) (ds : List ℕ) → Lacks space (map (digit_g
 glyphs_lack_space upper [] = tt
 glyphs_lack_space upper (d ∷ ds) = (above_space (digit_glyph upper d) (glyph_above upper d), glyphs_lack_space upper ds)
 
-pub number_lacks_space : (p : Text) (zeros base : ℕ) (upper : Bool) (n : ℕ) → Lacks space p → Lacks space (p ++ (replicate zeros zero_digit ++ digits_under base upper n))
-number_lacks_space p zeros base upper n h = lacks_both space p _ h (lacks_both space (replicate zeros zero_digit) (digits_under base upper n) (lacks_run space zeros zero_digit (above_space zero_digit (omega arith))) (glyphs_lack_space upper (digits_of base n)))
+pub number_lacks_space : (p : Text) (zeros base : ℕ) (upper : Bool) (n : ℕ) → Lacks space p → Lacks space
+    (p ++ (replicate zeros zero_digit ++ digits_under base upper n))
+number_lacks_space p zeros base upper n h = lacks_both space p _ h
+    (lacks_both space (replicate zeros zero_digit) (digits_under base upper n) (lacks_run space zeros zero_digit (above_space zero_digit (omega arith)))
+    (glyphs_lack_space upper (digits_of base n)))

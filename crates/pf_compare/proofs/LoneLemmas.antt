@@ -17,7 +17,7 @@ use Rattle.pf_values.proofs.PrintsOnce.{Prints-unique, printed-is, printed_text}
 use Rattle.pf_probes.proofs.Probes.{probe_typed}
 use Rattle.pf_text.specs.declared.pieces.Piece.{Piece}
 use Rattle.pf_text.specs.declared.pieces.Pieces.{Pieces}
-use Rattle.pf_text.specs.declared.scanner.Refusal.{Refusal}
+use Rattle.pf_text.specs.declared.refusals.Refusal.{Refusal}
 use Rattle.pf_text.specs.PieceHistory.{NextReturns, NextIs, NextIsPiece, HasGiven, items_of}
 use Rattle.pf_text.proofs.Texts.{Reads-unique}
 use Rattle.pf_compare.specs.declared.differences.LoneDifference.{LoneDifference}
@@ -33,7 +33,8 @@ use Rattle.pf_compare.proofs.TypeListLemmas.{differ_after_front}
 use Rattle.pf_render.specs.Rendering.{DifferFirstAt}
 
 -- one piece more of each
-pub same_more : (xs ys : List Item) (found : Option LoneDifference) (more : List Item) → DifferInOneAtMost xs ys found → DifferInOneAtMost (xs ++ more) (ys ++ more) found
+pub same_more : (xs ys : List Item) (found : Option LoneDifference) (more : List Item) → DifferInOneAtMost xs ys found → DifferInOneAtMost (xs ++ more)
+    (ys ++ more) found
 same_more xs ys None more h = ap (λ l. l ++ more) h
 same_more xs ys (Some difference) more h = record {
   before = h.before;
@@ -43,14 +44,17 @@ same_more xs ys (Some difference) more h = record {
   index_is = h.index_is;
 }
 
-pub followed_more : (old new : Pieces) (t : Text) (xs more : List Item) (found after : Option LoneDifference) (next : Result Piece Refusal) (piece : Piece) → HasFollowed old t xs found → NextReturns old (Some next) new → next ≡ Ok piece
+pub followed_more : (old new : Pieces) (t : Text) (xs more : List Item) (found after : Option LoneDifference) (next : Result Piece Refusal) (piece : Piece)
+    → HasFollowed old t xs found → NextReturns old (Some next) new → next ≡ Ok piece
     → ((ys : List Item) → DifferInOneAtMost xs ys found → DifferInOneAtMost (xs ++ more) (ys ++ items_of piece) after) → HasFollowed new t (xs ++ more) after
 followed_more old new t xs more found after next piece h steps e made =
     let g : NextIsPiece new t h.read h.items piece = subst (λ r. NextIs (Some r) new t h.read h.items) e (steps.next t h.read h.items h.given) in
     record { read = h.read ++ g.more; items = h.items ++ items_of piece; given = g.given; at_most = made h.items h.at_most }
 
-pub index_more : (xs more : List Item) (index count : ℕ) → IsIndexAfter xs index → ((model : Model) → count ≡ length (types model more)) → IsIndexAfter (xs ++ more) (index + count)
-index_more xs more index count h g model = omega (arith, h model, g model, ap length (types-append model xs more), length-append (types model xs) (types model more))
+pub index_more : (xs more : List Item) (index count : ℕ) → IsIndexAfter xs index → ((model : Model) → count ≡ length (types model more)) → IsIndexAfter
+    (xs ++ more) (index + count)
+index_more xs more index count h g model = omega
+    (arith, h model, g model, ap length (types-append model xs more), length-append (types model xs) (types model more))
 
 -- places of a list where one is set
 set_at : {A : Type 0} (xs : List A) (i : ℕ) (x y : A) → slice_get xs i ≡ Some y → slice_get (slice_set xs i x) i ≡ Some x
@@ -71,29 +75,35 @@ module _ (model : Model) (s t : Specification) (after : List Item) where
   type_at (Byte byte ∷ before) = type_at before
   type_at (Directive u ∷ before) = type_at before
 
-  neutral_at : (before : List Item) → slice_get (neutrals (types model (before ++ Directive s ∷ after))) (length (types model before)) ≡ Some (neutral (arg_type model s))
+  neutral_at : (before : List Item) → slice_get (neutrals (types model (before ++ Directive s ∷ after))) (length (types model before)) ≡ Some
+      (neutral (arg_type model s))
   neutral_at [] = refl
   neutral_at (Byte byte ∷ before) = neutral_at before
   neutral_at (Directive u ∷ before) = neutral_at before
 
-  pub one_type_list : (before : List Item) → arg_type model s ≡ arg_type model t → types model (before ++ Directive s ∷ after) ≡ types model (before ++ Directive t ∷ after)
+  pub one_type_list : (before : List Item) → arg_type model s ≡ arg_type model t → types model (before ++ Directive s ∷ after) ≡ types model
+      (before ++ Directive t ∷ after)
   one_type_list [] e = ap (λ type. type ∷ types model after) e
   one_type_list (Byte byte ∷ before) e = one_type_list before e
   one_type_list (Directive u ∷ before) e = ap (λ ts. arg_type model u ∷ ts) (one_type_list before e)
 
   -- what is printed is the same exactly if the one directive prints the same
-  same_all : (before : List Item) (args : List Argument) (n : Argument) → slice_get args (length (types model before)) ≡ Some n → printed_text model s n ≡ printed_text model t n
+  same_all : (before : List Item) (args : List Argument) (n : Argument) → slice_get args (length (types model before)) ≡ Some n
+      → printed_text model s n ≡ printed_text model t n
       → all_printed model (before ++ Directive s ∷ after) args ≡ all_printed model (before ++ Directive t ∷ after) args
   same_all [] [] n at e = refl
-  same_all [] (a ∷ args) n at e = let is : n ≡ a = cc in ap (λ u. u ++ all_printed model after args) (subst (λ m. printed_text model s m ≡ printed_text model t m) is e)
+  same_all [] (a ∷ args) n at e = let is : n ≡ a = cc in ap (λ u. u ++ all_printed model after args)
+      (subst (λ m. printed_text model s m ≡ printed_text model t m) is e)
   same_all (Byte byte ∷ before) args n at e = ap (λ u. byte ∷ u) (same_all before args n at e)
   same_all (Directive u ∷ before) [] n at e = refl
   same_all (Directive u ∷ before) (a ∷ args) n at e = ap (λ v. printed_text model u a ++ v) (same_all before args n at e)
 
   one_printed : (before : List Item) (args : List Argument) (n : Argument) → slice_get args (length (types model before)) ≡ Some n
-      → all_printed model (before ++ Directive s ∷ after) args ≡ all_printed model (before ++ Directive t ∷ after) args → printed_text model s n ≡ printed_text model t n
+      → all_printed model (before ++ Directive s ∷ after) args ≡ all_printed model (before ++ Directive t ∷ after) args
+          → printed_text model s n ≡ printed_text model t n
   one_printed [] [] n at e = absurd (cc)
-  one_printed [] (a ∷ args) n at e = let is : a ≡ n = cc in subst (λ m. printed_text model s m ≡ printed_text model t m) is (append_cancel_right (printed_text model s a) (printed_text model t a) (all_printed model after args) e)
+  one_printed [] (a ∷ args) n at e = let is : a ≡ n = cc in subst (λ m. printed_text model s m ≡ printed_text model t m) is
+      (append_cancel_right (printed_text model s a) (printed_text model t a) (all_printed model after args) e)
   one_printed (Byte byte ∷ before) args n at e = one_printed before args n at (cc)
   one_printed (Directive u ∷ before) [] n at e = absurd (cc)
   one_printed (Directive u ∷ before) (a ∷ args) n at e = one_printed before args n at (append_cancel_left (printed_text model u a) _ _ e)
@@ -127,7 +137,8 @@ module _ (model : Model) (s t : Specification) (after : List Item) where
       typed_second = subst (HasTypes model args) (one_type_list before same_type) typed
 
       prints_same : printed_text model s n ≡ printed_text model t n → PrintTheSame model first_items second_items args
-      prints_same e x y f g = PrintsAll-unique model first_items args x typed f ∙ same_all before args n at e ∙ sym (PrintsAll-unique model second_items args y typed_second g)
+      prints_same e x y f g = PrintsAll-unique model first_items args x typed f ∙ same_all before args n at e ∙ sym
+          (PrintsAll-unique model second_items args y typed_second g)
 
       prints_unlike : printed_text model s n ≢ printed_text model t n → PrintUnlike model first_items second_items args
       prints_unlike differ = (
@@ -141,23 +152,28 @@ module _ (model : Model) (s t : Specification) (after : List Item) where
     neutral_typed : HasTypes model (neutrals (types model first_items)) (types model first_items)
     neutral_typed = probe_typed model (types model first_items) (neutrals (types model first_items)) (inl refl)
 
-    probes_typed : (i k : ℕ) (other : Argument) → IsCandidateAt model (types model first_items) i k other → HasTypes model (probe_at (types model first_items) i other) (types model first_items)
-    probes_typed i k other c = probe_typed model (types model first_items) (probe_at (types model first_items) i other) (inr (i, c.type, other, c.type_is, contains_at (candidates model c.type) k other c.argument_is, refl))
+    probes_typed : (i k : ℕ) (other : Argument) → IsCandidateAt model (types model first_items) i k other → HasTypes model
+        (probe_at (types model first_items) i other) (types model first_items)
+    probes_typed i k other c = probe_typed model (types model first_items) (probe_at (types model first_items) i other)
+        (inr (i, c.type, other, c.type_is, contains_at (candidates model c.type) k other c.argument_is, refl))
 
     neutral_set : (other : Argument) → slice_get (probe_at (types model first_items) place_of other) place_of ≡ Some other
     neutral_set other = set_at (neutrals (types model first_items)) place_of other (neutral (arg_type model s)) (neutral_at before)
 
-    neutral_beside : (i : ℕ) (other : Argument) → i ≢ place_of → slice_get (probe_at (types model first_items) i other) place_of ≡ Some (neutral (arg_type model s))
+    neutral_beside : (i : ℕ) (other : Argument) → i ≢ place_of → slice_get (probe_at (types model first_items) i other) place_of ≡ Some
+        (neutral (arg_type model s))
     neutral_beside i other differ = set_beside (neutrals (types model first_items)) i place_of other differ ∙ neutral_at before
 
     -- a candidate at the place of the directive is one of its type
-    candidate_here : (i k : ℕ) (other : Argument) → i ≡ place_of → IsCandidateAt model (types model first_items) i k other → slice_get (candidates model (arg_type model s)) k ≡ Some other
+    candidate_here : (i k : ℕ) (other : Argument) → i ≡ place_of → IsCandidateAt model (types model first_items) i k other → slice_get
+        (candidates model (arg_type model s)) k ≡ Some other
     candidate_here i k other here c =
         let both : Some c.type ≡ Some (arg_type model s) = sym c.type_is ∙ ap (slice_get (types model first_items)) here ∙ type_at before in
         let is : c.type ≡ arg_type model s = cc in
         subst (λ type. slice_get (candidates model type) k ≡ Some other) is c.argument_is
 
-    alike_texts : (k : ℕ) (other : Argument) → slice_get (candidates model (arg_type model s)) k ≡ Some other → ReplacementsEqual model [] (span_alone s) (span_alone t) other → printed_text model s other ≡ printed_text model t other
+    alike_texts : (k : ℕ) (other : Argument) → slice_get (candidates model (arg_type model s)) k ≡ Some other → ReplacementsEqual model [] (span_alone s)
+        (span_alone t) other → printed_text model s other ≡ printed_text model t other
     alike_texts k other e h = alike_alone same_type other (candidate_has_type model (arg_type model s) k other e) h
 
     module _ (level : ReplacementsEqual model [] (span_alone s) (span_alone t) (neutral (arg_type model s))) where
@@ -167,17 +183,22 @@ module _ (model : Model) (s t : Specification) (after : List Item) where
       all_neutral : PrintTheSame model first_items second_items (neutrals (types model first_items))
       all_neutral = prints_same (neutrals (types model first_items)) neutral_typed (neutral (arg_type model s)) (neutral_at before) neutral_texts
 
-      beside : (i k : ℕ) (other : Argument) → IsCandidateAt model (types model first_items) i k other → i ≢ place_of → PrintTheSame model first_items second_items (probe_at (types model first_items) i other)
-      beside i k other c differ = prints_same (probe_at (types model first_items) i other) (probes_typed i k other c) (neutral (arg_type model s)) (neutral_beside i other differ) neutral_texts
+      beside : (i k : ℕ) (other : Argument) → IsCandidateAt model (types model first_items) i k other → i ≢ place_of
+          → PrintTheSame model first_items second_items (probe_at (types model first_items) i other)
+      beside i k other c differ = prints_same (probe_at (types model first_items) i other) (probes_typed i k other c) (neutral (arg_type model s))
+          (neutral_beside i other differ) neutral_texts
 
-      here : (i k : ℕ) (other : Argument) → IsCandidateAt model (types model first_items) i k other → i ≡ place_of → (slice_get (candidates model (arg_type model s)) k ≡ Some other → ReplacementsEqual model [] (span_alone s) (span_alone t) other)
+      here : (i k : ℕ) (other : Argument) → IsCandidateAt model (types model first_items) i k other → i ≡ place_of →
+          (slice_get (candidates model (arg_type model s)) k ≡ Some other → ReplacementsEqual model [] (span_alone s) (span_alone t) other)
           → PrintTheSame model first_items second_items (probe_at (types model first_items) i other)
       here i k other c at alike =
           let e = candidate_here i k other at c in
           prints_same (probe_at (types model first_items) i other) (probes_typed i k other c) other
-          (subst (λ (j : ℕ). slice_get (probe_at (types model first_items) j other) place_of ≡ Some other) (sym at) (neutral_set other)) (alike_texts k other e (alike e))
+          (subst (λ (j : ℕ). slice_get (probe_at (types model first_items) j other) place_of ≡ Some other) (sym at) (neutral_set other))
+              (alike_texts k other e (alike e))
 
-      anywhere : (i k : ℕ) (other : Argument) → IsCandidateAt model (types model first_items) i k other → (i ≡ place_of → slice_get (candidates model (arg_type model s)) k ≡ Some other → ReplacementsEqual model [] (span_alone s) (span_alone t) other)
+      anywhere : (i k : ℕ) (other : Argument) → IsCandidateAt model (types model first_items) i k other →
+          (i ≡ place_of → slice_get (candidates model (arg_type model s)) k ≡ Some other → ReplacementsEqual model [] (span_alone s) (span_alone t) other)
           → PrintTheSame model first_items second_items (probe_at (types model first_items) i other)
       anywhere i k other c alike = elim (cases_lt i place_of) [
         | inl less ↦ beside i k other c (λ e. absurd (omega (arith, less, e)))
@@ -187,39 +208,46 @@ module _ (model : Model) (s t : Specification) (after : List Item) where
         ]
       ]
 
-    unlike_here : (place : ℕ) (argument : Argument) → slice_get (candidates model (arg_type model s)) place ≡ Some argument → ReplacementsDiffer model [] (span_alone s) (span_alone t) argument
+    unlike_here : (place : ℕ) (argument : Argument) → slice_get (candidates model (arg_type model s)) place ≡ Some argument → ReplacementsDiffer model []
+        (span_alone s) (span_alone t) argument
         → PrintUnlike model first_items second_items (probe_at (types model first_items) place_of argument)
     unlike_here place argument e h =
         prints_unlike (probe_at (types model first_items) place_of argument)
         (probes_typed place_of place argument (record { type = arg_type model s; type_is = type_at before; argument_is = e })) argument (neutral_set argument)
         (unlike_alone same_type argument (candidate_has_type model (arg_type model s) place argument e) h)
 
-    pub apart_here : (place : ℕ) → IsFirstUnlike model [] (span_alone s) (span_alone t) (arg_type model s) place → (args : List Argument) × HasTypes model args (types model first_items) × PrintUnlike model first_items second_items args
+    pub apart_here : (place : ℕ) → IsFirstUnlike model [] (span_alone s) (span_alone t) (arg_type model s) place → (args : List Argument) × HasTypes model args
+        (types model first_items) × PrintUnlike model first_items second_items args
     apart_here place h = (
       probe_at (types model first_items) place_of h.argument,
       probes_typed place_of place h.argument (record { type = arg_type model s; type_is = type_at before; argument_is = h.argument_is }),
       unlike_here place h.argument h.argument_is h.unlike,
     )
 
-    neutral_level : (place : ℕ) → IsFirstUnlike model [] (span_alone s) (span_alone t) (arg_type model s) (suc place) → ReplacementsEqual model [] (span_alone s) (span_alone t) (neutral (arg_type model s))
+    neutral_level : (place : ℕ) → IsFirstUnlike model [] (span_alone s) (span_alone t) (arg_type model s) (suc place) → ReplacementsEqual model []
+        (span_alone s) (span_alone t) (neutral (arg_type model s))
     neutral_level place h = h.earlier 0 (neutral (arg_type model s)) (omega arith) (neutral_first model (arg_type model s))
 
     -- the one candidate that is named
-    argument_is : (place : ℕ) (one other : Argument) → slice_get (candidates model (arg_type model s)) place ≡ Some one → IsCandidateAt model (types model first_items) place_of place other → one ≡ other
+    argument_is : (place : ℕ) (one other : Argument) → slice_get (candidates model (arg_type model s)) place ≡ Some one → IsCandidateAt model
+        (types model first_items) place_of place other → one ≡ other
     argument_is place one other e c = let both : Some one ≡ Some other = sym e ∙ candidate_here place_of place other refl c in cc
 
-    pub found_alone : (place : ℕ) (witness : Witness) → IsFirstUnlike model [] (span_alone s) (span_alone t) (arg_type model s) place → IsWitnessAt model (types model first_items) (record { index = place_of; place = place }) witness
+    pub found_alone : (place : ℕ) (witness : Witness) → IsFirstUnlike model [] (span_alone s) (span_alone t) (arg_type model s) place → IsWitnessAt model
+        (types model first_items) (record { index = place_of; candidate_index = place }) witness
         → FindsWitness model first_items second_items (Some witness)
     found_alone zero witness h w =
         let is = argument_is 0 h.argument w.argument h.argument_is w.candidate in
         let first : Some (neutral (arg_type model s)) ≡ Some h.argument = sym (neutral_first model (arg_type model s)) ∙ h.argument_is in
         let also : h.argument ≡ neutral (arg_type model s) = cc in
         let neutral_args : probe_at (types model first_items) place_of w.argument ≡ neutrals (types model first_items)
-        = ap (λ x. probe_at (types model first_items) place_of x) (sym is ∙ also) ∙ set_neutral (types model first_items) place_of (arg_type model s) (type_at before) in (
+        = ap (λ x. probe_at (types model first_items) place_of x) (sym is ∙ also) ∙ set_neutral (types model first_items) place_of (arg_type model s)
+            (type_at before) in (
           w.types_are,
           inl (record {
             args_are = w.args_are ∙ neutral_args;
-            unlike = subst (PrintUnlike model first_items second_items) (ap (λ x. probe_at (types model first_items) place_of x) is ∙ sym w.args_are) (unlike_here 0 h.argument h.argument_is h.unlike);
+            unlike = subst (PrintUnlike model first_items second_items) (ap (λ x. probe_at (types model first_items) place_of x) is ∙ sym w.args_are)
+                (unlike_here 0 h.argument h.argument_is h.unlike);
             renderings_are = w.renderings_are;
           }),
         )
@@ -234,7 +262,8 @@ module _ (model : Model) (s t : Specification) (after : List Item) where
             argument = w.argument;
             probe = record {
               candidate = w.candidate;
-              unlike = subst (λ x. PrintUnlike model first_items second_items (probe_at (types model first_items) place_of x)) is (unlike_here (suc place) h.argument h.argument_is h.unlike);
+              unlike = subst (λ x. PrintUnlike model first_items second_items (probe_at (types model first_items) place_of x)) is
+                  (unlike_here (suc place) h.argument h.argument_is h.unlike);
               earlier = λ i k other c order. elim order [
                 | inl less ↦ beside level i k other c (λ e. absurd (omega (arith, less, e)))
                 | inr at ↦ here level i k other c at.0 (λ e. h.earlier k other at.1 e)
@@ -273,8 +302,10 @@ pub record AreAlong (first second : Pieces) (f g : Text) (index : ℕ) (found : 
 
 module _ (first new : Pieces) (second later : Pieces) (f g : Text) (index : ℕ) (found : Option LoneDifference) (h : AreAlong first second f g index found) where
   -- one piece more of both
-  pub along_more : (next : Result Piece Refusal) (piece : Piece) (count : ℕ) (after : Option LoneDifference) → NextReturns first (Some next) new → next ≡ Ok piece
-      → ((t : Text) (xs : List Item) → HasFollowed second t xs found → IsIndexAfter xs index → HasFollowed later t (xs ++ items_of piece) after) → ((model : Model) → count ≡ length (types model (items_of piece)))
+  pub along_more : (next : Result Piece Refusal) (piece : Piece) (count : ℕ) (after : Option LoneDifference) → NextReturns first (Some next) new
+      → next ≡ Ok piece
+      → ((t : Text) (xs : List Item) → HasFollowed second t xs found → IsIndexAfter xs index → HasFollowed later t (xs ++ items_of piece) after) →
+          ((model : Model) → count ≡ length (types model (items_of piece)))
       → AreAlong new later f g (index + count) after
   along_more next piece count after steps e made counted =
       let given : NextIsPiece new f h.read h.items piece = subst (λ r. NextIs (Some r) new f h.read h.items) e (steps.next f h.read h.items h.given) in
@@ -287,7 +318,8 @@ module _ (first new : Pieces) (second later : Pieces) (f g : Text) (index : ℕ)
       }
 
 -- the end of both
-pub along_whole : (first new second later : Pieces) (f g : Text) (index : ℕ) (found : Option LoneDifference) → AreAlong first second f g index found → NextReturns first None new → NextReturns second None later → DifferInItems f g (item_difference_of found)
+pub along_whole : (first new second later : Pieces) (f g : Text) (index : ℕ) (found : Option LoneDifference) → AreAlong first second f g index found
+    → NextReturns first None new → NextReturns second None later → DifferInItems f g (item_difference_of found)
 along_whole first new second later f g index found h steps ends = said found (record {
   xs = h.items;
   ys = h.followed.items;
@@ -308,41 +340,51 @@ module _ (model : Model) (xs ys : List Item) (difference : LoneDifference) (h : 
   second_types = ap (types model) h.second_is ∙ types-append model h.before (Directive difference.second ∷ h.after)
 
   pub lone_differ : arg_type model difference.first ≢ arg_type model difference.second → DifferFirstAt (types model xs) (types model ys) difference.index
-  lone_differ differ = differ_after_front (types model h.before) (types model xs) (types model ys) _ _ difference.index first_types second_types (h.index_is model) (λ e. differ (cc))
+  lone_differ differ = differ_after_front (types model h.before) (types model xs) (types model ys) _ _ difference.index first_types second_types
+      (h.index_is model) (λ e. differ (cc))
 
   module _ (same_type : arg_type model difference.first ≡ arg_type model difference.second) where
     pub lone_same_types : types model xs ≡ types model ys
     lone_same_types = first_types ∙ ap (λ type. types model h.before ++ type ∷ types model h.after) same_type ∙ sym second_types
 
     lone_type_at : slice_get (types model xs) difference.index ≡ Some (arg_type model difference.first)
-    lone_type_at = ap (slice_get (types model xs)) (h.index_is model) ∙ ap (λ l. slice_get (types model l) (length (types model h.before))) h.first_is ∙ type_at model difference.first difference.second h.after h.before
+    lone_type_at = ap (slice_get (types model xs)) (h.index_is model) ∙ ap (λ l. slice_get (types model l) (length (types model h.before))) h.first_is
+        ∙ type_at model difference.first difference.second h.after h.before
 
-    pub lone_awaits : (place : ℕ) (args : List OwnedArg) → FindsUnlike model [] (span_alone difference.first) (span_alone difference.second) (arg_type model difference.first) (Some place) → AreNeutral (types model xs) args
-        → AwaitsCandidate model (types model xs) args (arg_type model difference.first) (record { index = difference.index; place = place })
+    pub lone_awaits : (place : ℕ) (args : List OwnedArg) → FindsUnlike model [] (span_alone difference.first) (span_alone difference.second)
+        (arg_type model difference.first) (Some place) → AreNeutral (types model xs) args
+        → AwaitsCandidate model (types model xs) args (arg_type model difference.first) (record { index = difference.index; candidate_index = place })
     lone_awaits place args found neutral = record {
       neutral = neutral;
       candidate = (found.argument, record { type = arg_type model difference.first; type_is = lone_type_at; argument_is = found.argument_is });
       type_is = lone_type_at;
     }
 
-    back_in : (found : Option Witness) → FindsWitness model (h.before ++ Directive difference.first ∷ h.after) (h.before ++ Directive difference.second ∷ h.after) found → FindsWitness model xs ys found
-    back_in found w = subst (λ l. FindsWitness model l ys found) (sym h.first_is) (subst (λ l. FindsWitness model (h.before ++ Directive difference.first ∷ h.after) l found) (sym h.second_is) w)
+    back_in : (found : Option Witness) → FindsWitness model (h.before ++ Directive difference.first ∷ h.after)
+        (h.before ++ Directive difference.second ∷ h.after) found → FindsWitness model xs ys found
+    back_in found w = subst (λ l. FindsWitness model l ys found) (sym h.first_is)
+        (subst (λ l. FindsWitness model (h.before ++ Directive difference.first ∷ h.after) l found) (sym h.second_is) w)
 
-    pub lone_found : (place : ℕ) (witness : Witness) → FindsUnlike model [] (span_alone difference.first) (span_alone difference.second) (arg_type model difference.first) (Some place)
-        → IsWitnessAt model (types model xs) (record { index = difference.index; place = place }) witness → FindsWitness model xs ys (Some witness)
+    pub lone_found : (place : ℕ) (witness : Witness) → FindsUnlike model [] (span_alone difference.first) (span_alone difference.second)
+        (arg_type model difference.first) (Some place)
+        → IsWitnessAt model (types model xs) (record { index = difference.index; candidate_index = place }) witness → FindsWitness model xs ys (Some witness)
     lone_found place witness found w =
-        let there : IsWitnessAt model (types model (h.before ++ Directive difference.first ∷ h.after)) (record { index = difference.index; place = place }) witness
-        = subst (λ l. IsWitnessAt model (types model l) (record { index = difference.index; place = place }) witness) h.first_is w in
+        let there : IsWitnessAt model (types model (h.before ++ Directive difference.first ∷ h.after))
+            (record { index = difference.index; candidate_index = place }) witness
+        = subst (λ l. IsWitnessAt model (types model l) (record { index = difference.index; candidate_index = place }) witness) h.first_is w in
         back_in (Some witness) (found_alone model difference.first difference.second h.after h.before same_type place witness found
-        (subst (λ i. IsWitnessAt model (types model (h.before ++ Directive difference.first ∷ h.after)) (record { index = i; place = place }) witness) (h.index_is model) there))
+        (subst (λ i. IsWitnessAt model (types model (h.before ++ Directive difference.first ∷ h.after))
+            (record { index = i; candidate_index = place }) witness) (h.index_is model) there))
 
     -- they print different texts for some arguments
-    pub lone_apart : (place : ℕ) → AreToldApartAt model difference place → (args : List Argument) × HasTypes model args (types model xs) × PrintUnlike model xs ys args
+    pub lone_apart : (place : ℕ) → AreToldApartAt model difference place → (args : List Argument) × HasTypes model args
+        (types model xs) × PrintUnlike model xs ys args
     lone_apart place found =
         let there = apart_here model difference.first difference.second h.after h.before same_type place found in (
           there.0,
           subst (λ l. HasTypes model there.0 (types model l)) (sym h.first_is) there.1,
-          subst (λ l. PrintUnlike model l ys there.0) (sym h.first_is) (subst (λ l. PrintUnlike model (h.before ++ Directive difference.first ∷ h.after) l there.0) (sym h.second_is) there.2),
+          subst (λ l. PrintUnlike model l ys there.0) (sym h.first_is)
+              (subst (λ l. PrintUnlike model (h.before ++ Directive difference.first ∷ h.after) l there.0) (sym h.second_is) there.2),
         )
 
     -- if they print the same, then the two directives print the same for each candidate
@@ -351,7 +393,8 @@ module _ (model : Model) (xs ys : List Item) (difference : LoneDifference) (h : 
         (subst (λ l. AreAlike model (h.before ++ Directive difference.first ∷ h.after) l) h.second_is (subst (λ l. AreAlike model l ys) h.first_is same))
 
 -- they print the same where the two directives do
-pub lone_lists_alike : (model : Model) (xs ys : List Item) (difference : LoneDifference) → DifferInOne xs ys difference → PrintAlike model (Directive difference.first ∷ []) (Directive difference.second ∷ []) → AreAlike model xs ys
+pub lone_lists_alike : (model : Model) (xs ys : List Item) (difference : LoneDifference) → DifferInOne xs ys difference → PrintAlike model
+    (Directive difference.first ∷ []) (Directive difference.second ∷ []) → AreAlike model xs ys
 lone_lists_alike model xs ys difference h same =
     let first = difference.first in
     let second = difference.second in
@@ -360,7 +403,8 @@ lone_lists_alike model xs ys difference h same =
     subst (λ l. AreAlike model l ys) (sym h.first_is) (subst (λ l. AreAlike model (h.before ++ Directive first ∷ h.after) l) (sym h.second_is) whole)
 
 module _ (model : Model) (f g : Text) (difference : LoneDifference) (h : FormatsDifferInOne f g difference) where
-  pub lone_types : arg_type model difference.first ≢ arg_type model difference.second → (xs ys : List Item) → Reads f xs → Reads g ys → DifferFirstAt (types model xs) (types model ys) difference.index
+  pub lone_types : arg_type model difference.first ≢ arg_type model difference.second → (xs ys : List Item) → Reads f xs → Reads g ys → DifferFirstAt
+      (types model xs) (types model ys) difference.index
   lone_types differ xs ys a b =
       subst (λ l. DifferFirstAt (types model l) (types model ys) difference.index) (Reads-unique f h.xs xs h.accepted_first.reads a)
       (subst (λ l. DifferFirstAt (types model h.xs) (types model l) difference.index) (Reads-unique g h.ys ys h.accepted_second.reads b)

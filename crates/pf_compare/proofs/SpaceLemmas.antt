@@ -19,13 +19,14 @@ use Rattle.pf_values.specs.meaning.Specification.{Specification, width_of}
 use Rattle.pf_values.specs.meaning.Text.{Text, space}
 use Rattle.pf_values.proofs.Printed.{count_of, filled_precision, length-printed_digits, natural_len, natural_of, precision_under, printed_digits, printed_precision}
 use Rattle.pf_values.proofs.PrintsOnce.{value_text}
+use Rattle.pf_render.specs.declared.values.Value.{Value}
+use Rattle.pf_render.specs.Values.{HasSignAndMagnitude}
 use Rattle.pf_compare.specs.declared.predictions.EqualPrintRange.{EqualPrintRange}
-use Rattle.pf_compare.specs.declared.outlines.Value.{Value}
-use Rattle.pf_compare.specs.Outlines.{HasSignAndSize}
 use Rattle.pf_compare.specs.Spaces.{PrintEqualIn, LeavesRoomForSpace, IsInEqualPrintRange, with_space}
 use Rattle.pf_compare.proofs.OutlineLemmas.{printed_number}
 
-same_precision : (b : Bool) (s : Specification) (v : ℤ) → sign_or_prefix s v ≡ sign_or_prefix (with_space s) v → precision_under b s v ≡ precision_under b (with_space s) v
+same_precision : (b : Bool) (s : Specification) (v : ℤ) → sign_or_prefix s v ≡ sign_or_prefix (with_space s) v → precision_under b s v ≡ precision_under b
+    (with_space s) v
 same_precision true s v e = ap (λ (t : Text). filled_precision (width_of s) (length t) (natural_of s (nat_abs v))) e
 same_precision false s v e = refl
 
@@ -35,7 +36,8 @@ same_sign s v e =
     ap (λ t. t ++ printed_digits s (printed_precision s v) (nat_abs v)) e
     ∙ ap (λ p. sign_or_prefix (with_space s) v ++ printed_digits s p (nat_abs v)) (same_precision (is_zero_filled s) s v e)
 
-same_prefix : (a : Alternative) (base : Base) (capitals : Bool) (s : Specification) (v : ℤ) → prefix_under a base capitals s v ≡ prefix_under a base capitals (with_space s) v
+same_prefix : (a : Alternative) (base : Base) (capitals : Bool) (s : Specification) (v : ℤ) → prefix_under a base capitals s v ≡ prefix_under a base capitals
+    (with_space s) v
 same_prefix Undefined base capitals s v = refl
 same_prefix Raised base capitals s v = refl
 same_prefix Prefixed base capitals s v = refl
@@ -66,7 +68,8 @@ in_room : (left : Bool) (width : ℕ) (t : Text) → left ≡ false → length t
 in_room true width t e h = absurd cc
 in_room false width t e h = shifted width t h
 
-natural_signed : (k : Kind) (alt : Bool) (n : ℕ) → k ≡ kinds.Signed → natural_len (raises_precision (alternative_under k) && alt) (number_of (base_under k)) n ≡ count_of 10 n
+natural_signed : (k : Kind) (alt : Bool) (n : ℕ) → k ≡ kinds.Signed → natural_len (raises_precision (alternative_under k) && alt)
+    (number_of (base_under k)) n ≡ count_of 10 n
 natural_signed kinds.Signed alt n e = refl
 natural_signed (kinds.Unsigned base capitals) alt n e = absurd cc
 natural_signed kinds.Char alt n e = absurd cc
@@ -75,7 +78,8 @@ natural_signed kinds.String alt n e = absurd cc
 unfilled : (s : Specification) (v : ℤ) → is_zero_filled s ≡ false → printed_precision s v ≡ precision_of s
 unfilled s v e = ap (λ b. precision_under b s v) e
 
-room_alike : (s : Specification) (n : ℕ) → kind_of s.conv ≡ kinds.Signed → LeavesRoomForSpace s (count_of 10 n) → field s (value_text s (pos n)) ≡ field (with_space s) (value_text (with_space s) (pos n))
+room_alike : (s : Specification) (n : ℕ) → kind_of s.conv ≡ kinds.Signed → LeavesRoomForSpace s (count_of 10 n) → field s (value_text s (pos n)) ≡ field
+    (with_space s) (value_text (with_space s) (pos n))
 room_alike s n e h =
     let one : sign_or_prefix s (pos n) ≡ sign_by s.flags.plus s.flags.space = ap (λ k. front_under k s (pos n)) e in
     let two : sign_or_prefix (with_space s) (pos n) ≡ sign_by s.flags.plus true = ap (λ k. front_under k (with_space s) (pos n)) e in
@@ -83,21 +87,26 @@ room_alike s n e h =
       | inl same ↦ ap (field s) (same_sign s (pos n) (one ∙ same ∙ sym two))
       | inr other ↦
           let digits = printed_digits s (precision_of s) n in
-          let long : length digits ≡ max (precision_of s) (count_of 10 n) = length-printed_digits s (precision_of s) n ∙ ap (max (precision_of s)) (natural_signed (kind_of s.conv) (has s.flags Alt) n e) in
-          let bare : value_text s (pos n) ≡ digits = ap (λ t. t ++ printed_digits s (printed_precision s (pos n)) n) (one ∙ other.0) ∙ ap (λ p. printed_digits s p n) (unfilled s (pos n) h.not_filled) in
-          let spaced : value_text (with_space s) (pos n) ≡ space ∷ digits = ap (λ t. t ++ printed_digits s (printed_precision (with_space s) (pos n)) n) (two ∙ other.1) ∙ ap (λ p. space ∷ printed_digits s p n) (unfilled (with_space s) (pos n) h.not_filled) in
+          let long : length digits ≡ max (precision_of s) (count_of 10 n) = length-printed_digits s (precision_of s) n ∙ ap (max (precision_of s))
+              (natural_signed (kind_of s.conv) (has s.flags Alt) n e) in
+          let bare : value_text s (pos n) ≡ digits = ap (λ t. t ++ printed_digits s (printed_precision s (pos n)) n) (one ∙ other.0) ∙ ap
+              (λ p. printed_digits s p n) (unfilled s (pos n) h.not_filled) in
+          let spaced : value_text (with_space s) (pos n) ≡ space ∷ digits = ap (λ t. t ++ printed_digits s (printed_precision (with_space s) (pos n)) n)
+              (two ∙ other.1) ∙ ap (λ p. space ∷ printed_digits s p n) (unfilled (with_space s) (pos n) h.not_filled) in
           let room = h.room in
           ap (field s) bare ∙ in_room (has s.flags Minus) (width_of s) digits h.right (omega (arith, room, long)) ∙ ap (field s) (sym spaced)
     ]
 
 -- the values that are printed the same with the flag and without it
-spaced_alike : (s : Specification) (v : ℤ) → kind_of s.conv ≡ kinds.Signed → (IsTrue (is_negative v) ⊎ LeavesRoomForSpace s (count_of 10 (nat_abs v))) → field s (value_text s v) ≡ field (with_space s) (value_text (with_space s) v)
+spaced_alike : (s : Specification) (v : ℤ) → kind_of s.conv ≡ kinds.Signed → (IsTrue (is_negative v) ⊎ LeavesRoomForSpace s (count_of 10 (nat_abs v)))
+    → field s (value_text s v) ≡ field (with_space s) (value_text (with_space s) v)
 spaced_alike s (negsuc n) e h = ap (field s) (same_sign s (negsuc n) (minus_sign (kind_of s.conv) s n))
 spaced_alike s (pos n) e (inl h) = absurd cc
 spaced_alike s (pos n) e (inr h) = room_alike s n e h
 
 -- what the values of two directives that are one beside the flag ` ` print
-module _ (s t : Specification) (range : EqualPrintRange) (e : kind_of s.conv ≡ kinds.Signed) (same : with_space s ≡ with_space t) (room : (n : ℕ) → n < range.below → LeavesRoomForSpace s (count_of 10 n)) where
+module _ (s t : Specification) (range : EqualPrintRange) (e : kind_of s.conv ≡ kinds.Signed) (same : with_space s ≡ with_space t)
+    (room : (n : ℕ) → n < range.below → LeavesRoomForSpace s (count_of 10 n)) where
   conv_same : s.conv ≡ t.conv
   conv_same = ap (λ (r : Specification). r.conv) same
 
@@ -108,11 +117,13 @@ module _ (s t : Specification) (range : EqualPrintRange) (e : kind_of s.conv ≡
     room = subst (λ (r : Specification). max (precision_of r) n + 1 ≤ width_of r) same h.room;
   }
 
-  has_case : (v : ℤ) (value : Value) → HasSignAndSize value v → IsInEqualPrintRange range value → IsTrue (is_negative v) ⊎ LeavesRoomForSpace s (count_of 10 (nat_abs v))
+  has_case : (v : ℤ) (value : Value) → HasSignAndMagnitude value v → IsInEqualPrintRange range value → IsTrue (is_negative v) ⊎ LeavesRoomForSpace s
+      (count_of 10 (nat_abs v))
   has_case v value parts (inl h) = inl (subst IsTrue parts.sign h)
-  has_case v value parts (inr h) = inr (subst (λ n. LeavesRoomForSpace s (count_of 10 n)) parts.size (room value.size h))
+  has_case v value parts (inr h) = inr (subst (λ n. LeavesRoomForSpace s (count_of 10 n)) parts.magnitude (room value.magnitude h))
 
-  other_case : (v : ℤ) → IsTrue (is_negative v) ⊎ LeavesRoomForSpace s (count_of 10 (nat_abs v)) → IsTrue (is_negative v) ⊎ LeavesRoomForSpace t (count_of 10 (nat_abs v))
+  other_case : (v : ℤ) → IsTrue (is_negative v) ⊎ LeavesRoomForSpace s (count_of 10 (nat_abs v)) → IsTrue (is_negative v) ⊎ LeavesRoomForSpace t
+      (count_of 10 (nat_abs v))
   other_case v (inl h) = inl h
   other_case v (inr h) = inr (room_same (count_of 10 (nat_abs v)) h)
 
@@ -127,7 +138,8 @@ module _ (s t : Specification) (range : EqualPrintRange) (e : kind_of s.conv ≡
       one ∙ spaced_alike s v e which ∙ ap (λ (r : Specification). field r (value_text r v)) same ∙ sym (spaced_alike t v signed (other_case v which)) ∙ sym two
 
 -- a limit of a directive that isn't filled, to the right of its field
-pub limit_leaves : (s : Specification) (k limit : ℕ) → has s.flags Minus ≡ false → is_zero_filled s ≡ false → precision_of s < width_of s → k + 1 ≤ width_of s → limit ≡ 10 ^ k → (n : ℕ) → n < limit → LeavesRoomForSpace s (count_of 10 n)
+pub limit_leaves : (s : Specification) (k limit : ℕ) → has s.flags Minus ≡ false → is_zero_filled s ≡ false → precision_of s < width_of s → k + 1 ≤ width_of s
+    → limit ≡ 10 ^ k → (n : ℕ) → n < limit → LeavesRoomForSpace s (count_of 10 n)
 limit_leaves s k limit right not_filled less room is n h =
     let few : count_of 10 n ≤ k = length-digits_of-le 10 k n (omega arith) (subst (λ m. n < m) is h) in
     record { right = right; not_filled = not_filled; room = omega (arith, less, room, few) }

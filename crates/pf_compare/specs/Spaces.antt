@@ -9,9 +9,10 @@ use Rattle.pf_values.specs.meaning.Flags.{has, with_flag}
 use Rattle.pf_values.specs.meaning.Normal.{precision_of}
 use Rattle.pf_values.specs.meaning.Printing.{is_zero_filled}
 use Rattle.pf_values.specs.meaning.Specification.{Specification, width_of}
+use Rattle.pf_render.specs.declared.values.Value.{Value}
+use Rattle.pf_render.specs.Values.{IsOfValue}
 use Rattle.pf_compare.specs.declared.predictions.EqualPrintRange.{EqualPrintRange}
-use Rattle.pf_compare.specs.declared.outlines.Value.{Value}
-use Rattle.pf_compare.specs.Outlines.{PredictsDifference, IsOfValue}
+use Rattle.pf_compare.specs.Outlines.{PredictsDifference}
 
 -- a specification with the flag ` ` added
 abbrev pub with_space : Specification → Specification
@@ -25,7 +26,7 @@ pub record LeavesRoomForSpace (s : Specification) (digits : ℕ) : Type 0 where
 
 -- a value in the range: a negative one, or one below the limit
 abbrev pub IsInEqualPrintRange : EqualPrintRange → Value → Type 0
-IsInEqualPrintRange range value = IsTrue value.is_negative ⊎ (value.size < range.below)
+IsInEqualPrintRange range value = IsTrue value.is_negative ⊎ (value.magnitude < range.below)
 
 -- two directives print the same for such values
 abbrev pub PrintEqualIn : Specification → Specification → EqualPrintRange → Type 0

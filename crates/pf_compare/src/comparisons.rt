@@ -17,11 +17,11 @@ use crate::layouts::lay_out;
 use crate::owned_args::OwnedArg;
 use crate::reductions::print_alike;
 use crate::witnesses::{
-    Witness, first_candidate_alone, first_witness, foreseen_candidate, witness_at,
+    Witness, first_candidate_alone, first_witness, predicted_candidate, witness_at,
 };
-use pf_canon::{Side, same_text};
+use pf_canon::same_text;
 use pf_render::{RenderVecFault, render_vec};
-use pf_text::Refusal;
+use pf_text::{Refusal, Side};
 use pf_values::{Arg, Directive, Model};
 use std::alloc::{AllocError, Global};
 use thiserror::Error;
@@ -120,9 +120,11 @@ fn compare_lone(
             renderings: 0,
         });
     }
-    match foreseen_candidate(model, &difference.first, &difference.second) {
-        Some(place) => Ok(compare_at(alloc, model, f, g, difference, place)?),
-        None => compare_unforeseen(alloc, model, f, g, difference),
+    match predicted_candidate(model, &difference.first, &difference.second) {
+        Some(candidate_index) => {
+            Ok(compare_at(alloc, model, f, g, difference, candidate_index)?)
+        }
+        None => compare_unpredicted(alloc, model, f, g, difference),
     }
 }
 
@@ -133,21 +135,21 @@ fn have_different_types(model: Model, first: &Directive, second: &Directive) -> 
     first.arg_type(model) != second.arg_type(model)
 }
 
-// The same where the candidate is known that tells the two directives apart.
+// Compares two formats where the candidate is known that tells their two directives apart.
 fn compare_at(
     alloc: Global,
     model: Model,
     f: &[u8],
     g: &[u8],
     difference: &LoneDifference,
-    place: usize,
+    candidate_index: usize,
 ) -> Result<Comparison, AllocError>
     requires lone { FormatsDifferInOne f.now g.now difference.now }
     requires types { arg_type model difference.now.first ≡ arg_type model difference.now.second }
-    requires found { AreToldApartAt model difference.now place }
+    requires found { AreToldApartAt model difference.now candidate_index }
     ensures { IfOk result (IsComparisonOf model f.now g.now) }
 {
-    match witness_at(alloc, model, f, difference, place) {
+    match witness_at(alloc, model, f, difference, candidate_index) {
         Ok(Witness { args, renderings }) => Ok(Comparison {
             verdict: Verdict::Args(args),
             renderings,
@@ -156,9 +158,9 @@ fn compare_at(
     }
 }
 
-// Compares two formats for which no candidate is foreseen: they are equivalent if the two directives
+// Compares two formats for which no candidate is predicted: they are equivalent if the two directives
 // print the same.
-fn compare_unforeseen(
+fn compare_unpredicted(
     alloc: Global,
     model: Model,
     f: &[u8],
@@ -174,7 +176,9 @@ fn compare_unforeseen(
         return Ok(same_comparison());
     }
     match first_candidate_alone(alloc, model, &difference.first, &difference.second)? {
-        Some(place) => Ok(compare_at(alloc, model, f, g, difference, place)?),
+        Some(candidate_index) => {
+            Ok(compare_at(alloc, model, f, g, difference, candidate_index)?)
+        }
         None => unreachable!(),
     }
 }
@@ -217,13 +221,12 @@ pub enum Verdict {
     Args(Vec<OwnedArg>),
 }
 
-/// A verdict, and the place of the argument that it found among the candidates of its type, counted
-/// from 1.
+/// A verdict, and the number of the candidate that it found in the row of its type, counted from 1.
 #[derive(Debug, Drop)]
 pub struct Comparison {
     /// The verdict.
     pub verdict: Verdict,
-    /// The place: 1 for neutral arguments, and 0 where no arguments are given. At most 17.
+    /// The number of the candidate: 1 for neutral arguments, and 0 where no arguments are given. At most 17.
     pub renderings: u8,
 }
 

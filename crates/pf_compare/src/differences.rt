@@ -44,11 +44,11 @@ pub(crate) fn item_difference(f: &[u8], g: &[u8]) -> ItemDifference
     }
     let mut found = None;
     let mut index = 0;
-    let mut others = Pieces::new(g);
+    let mut second_pieces = Pieces::new(g);
     for piece in Pieces::new(f) {
         match piece {
             Ok(piece) => {
-                if !next_piece_matches(&mut found, index, &piece, &mut others) {
+                if !next_piece_matches(&mut found, index, &piece, &mut second_pieces) {
                     return ItemDifference::Unknown;
                 }
                 index += arg_count(&piece);
@@ -56,7 +56,7 @@ pub(crate) fn item_difference(f: &[u8], g: &[u8]) -> ItemDifference
             Err(_) => return ItemDifference::Unknown,
         }
     }
-    match others.next() {
+    match second_pieces.next() {
         Some(_) => ItemDifference::Unknown,
         None => item_difference_of(found),
     }
@@ -80,10 +80,10 @@ fn diverge_in_directive(f: &[u8], g: &[u8]) -> bool {
 
 // Whether two texts with these last bytes end in the same byte, or each in a letter.
 #[inline(always)]
-fn have_similar_ends(one: Option<&u8>, two: Option<&u8>) -> bool {
-    if let Some(one) = one {
-        if let Some(two) = two {
-            return one == two || (one.is_ascii_alphabetic() && two.is_ascii_alphabetic());
+fn have_similar_ends(first: Option<&u8>, second: Option<&u8>) -> bool {
+    if let Some(first) = first {
+        if let Some(second) = second {
+            return first == second || (first.is_ascii_alphabetic() && second.is_ascii_alphabetic());
         }
     }
     false
@@ -121,15 +121,15 @@ fn next_piece_matches(
     found: &mut Option<LoneDifference>,
     index: usize,
     piece: &Piece<'_>,
-    others: &mut Pieces<'_>,
+    second_pieces: &mut Pieces<'_>,
 ) -> bool
     ensures { IsTrue result → (g : Text) (xs : List Item)
-        → HasFollowed others.old g xs found.old → IsIndexAfter xs index
-        → HasFollowed others.new g (xs ++ items_of piece.now) found.new }
+        → HasFollowed second_pieces.old g xs found.old → IsIndexAfter xs index
+        → HasFollowed second_pieces.new g (xs ++ items_of piece.now) found.new }
 {
-    match others.next() {
+    match second_pieces.next() {
         Some(next) => match next {
-            Ok(other) => match_or_note(found, index, piece, &other),
+            Ok(second) => match_or_note(found, index, piece, &second),
             Err(_) => false,
         },
         None => false,
@@ -140,21 +140,22 @@ fn next_piece_matches(
 fn match_or_note(
     found: &mut Option<LoneDifference>,
     index: usize,
-    one: &Piece<'_>,
-    two: &Piece<'_>,
+    first_piece: &Piece<'_>,
+    second_piece: &Piece<'_>,
 ) -> bool
     ensures { IsTrue result → (xs ys : List Item)
         → DifferInOneAtMost xs ys found.old → IsIndexAfter xs index
-        → DifferInOneAtMost (xs ++ items_of one.now) (ys ++ items_of two.now) found.new }
+        → DifferInOneAtMost (xs ++ items_of first_piece.now) (ys ++ items_of second_piece.now)
+        found.new }
 {
-    if are_equal_pieces(one, two) {
+    if are_equal_pieces(first_piece, second_piece) {
         return true;
     }
     if found.is_some() {
         return false;
     }
-    match as_directive(one) {
-        Some(first) => match as_directive(two) {
+    match as_directive(first_piece) {
+        Some(first) => match as_directive(second_piece) {
             Some(second) => {
                 *found = Some(LoneDifference {
                     index,
@@ -170,13 +171,13 @@ fn match_or_note(
 }
 
 #[inline(always)]
-fn are_equal_pieces(one: &Piece<'_>, two: &Piece<'_>) -> bool
-    ensures { IsTrue result → items_of one.now ≡ items_of two.now }
+fn are_equal_pieces(first: &Piece<'_>, second: &Piece<'_>) -> bool
+    ensures { IsTrue result → items_of first.now ≡ items_of second.now }
 {
-    match one {
-        Piece::Literal(literal) => is_literal(two, literal),
-        Piece::Percent => is_percent(two),
-        Piece::Directive(directive) => is_directive(two, directive),
+    match first {
+        Piece::Literal(literal) => is_literal(second, literal),
+        Piece::Percent => is_percent(second),
+        Piece::Directive(directive) => is_directive(second, directive),
     }
 }
 
@@ -247,12 +248,12 @@ pub(crate) fn first_type_difference(model: Model, f: &[u8], g: &[u8]) -> Option<
         (DifferFirstAt (types model xs) (types model ys)) }
 {
     let mut index = 0;
-    let mut others = Pieces::new(g);
+    let mut second_pieces = Pieces::new(g);
     for piece in Pieces::new(f) {
         match piece {
             Ok(piece) => {
                 if let Some(wanted) = piece.arg_type(model) {
-                    if !is_type(next_type(model, &mut others), wanted) {
+                    if !is_type(next_type(model, &mut second_pieces), wanted) {
                         return Some(index);
                     }
                     index += 1;
@@ -261,7 +262,7 @@ pub(crate) fn first_type_difference(model: Model, f: &[u8], g: &[u8]) -> Option<
             Err(_) => unreachable!(),
         }
     }
-    match next_type(model, &mut others) {
+    match next_type(model, &mut second_pieces) {
         Some(_) => Some(index),
         None => None,
     }

@@ -1,6 +1,6 @@
 //! Whether two directives print different bytes for a candidate, where that is known without
 //! printing them.
-ghost use Rattle.std.specs.Prelude.{◌≡◌, ◌≢◌, ◌-◌, ℕ, [], false, IfSome, IsFalse, IsTrue, MatchBool, replicate, ◌<◌, ◌≤◌, length};
+ghost use Rattle.std.specs.Prelude.{◌≡◌, ◌≢◌, ℕ, [], false, IfSome, IsFalse, IsTrue, MatchBool, replicate, ◌<◌, ◌≤◌, length};
 ghost use Rattle.std.specs.Fmt.{digit_glyph};
 ghost use Rattle.std.specs.Int.Digits.{digits_of};
 ghost use Rattle.pf_values.specs.declared.conversions.Kind.TheVariants as kinds;
@@ -11,13 +11,15 @@ ghost use Rattle.pf_values.specs.meaning.Printing.{Prints};
 ghost use Rattle.pf_values.specs.meaning.Specification.{Specification};
 ghost use Rattle.pf_values.specs.meaning.Text.{Text};
 ghost use Rattle.pf_probes.specs.Candidate.{candidate_argument};
-ghost use Rattle.pf_compare.specs.Outlines.{DoLieApart, DoTextsDiffer, IsUnderKind, PredictsDifference, kind_digits, outline_body, outline_text, sign_or_prefix_text};
+ghost use Rattle.pf_render.specs.IntegerParts.{kind_digits, parts_text, sign_or_prefix_text};
+ghost use Rattle.pf_compare.specs.Outlines.{DoLieApart, DoTextsDiffer, IsUnderKind, PredictsDifference, outline_text};
 ghost use Rattle.pf_compare.specs.RunOutlines.{run_outline_text};
 ghost use Rattle.pf_compare.specs.Spaces.{PrintEqualIn, LeavesRoomForSpace, IsInEqualPrintRange};
 
 use crate::differences::{are_equal_beside_space, are_unlike};
-use crate::outlines::{CountedValue, Outline, RunOutline, SignOrPrefix, Value};
+use crate::outlines::{CountedValue, Outline, RunOutline};
 use pf_probes::Candidate;
+use pf_render::{IntegerParts, SignOrPrefix, Value};
 use pf_values::{Directive, Flag, Kind, Model, ValueKind};
 
 /// Whether two directives print different bytes for a candidate; `None` where only printing them
@@ -77,38 +79,42 @@ fn predict_string(
     ensures { IfSome result
         (PredictsDifference model first.now second.now (String (replicate count byte))) }
 {
-    let one = RunOutline::of_string(first, count);
-    let two = RunOutline::of_string(second, count);
-    runs_differ(&one, &two, byte)
+    let first_run = RunOutline::of_string(first, count);
+    let second_run = RunOutline::of_string(second, count);
+    runs_differ(&first_run, &second_run, byte)
 }
 
 // Whether a byte repeated is different bytes in two outlines. A space isn't told from those around
 // it.
-fn runs_differ(one: &RunOutline, two: &RunOutline, byte: u8) -> Option<bool>
+fn runs_differ(first: &RunOutline, second: &RunOutline, byte: u8) -> Option<bool>
     ensures { IfSome result
-        (DoTextsDiffer (run_outline_text one.now byte) (run_outline_text two.now byte)) }
+        (DoTextsDiffer (run_outline_text first.now byte) (run_outline_text second.now byte)) }
 {
-    if one.len() != two.len() {
+    if first.len() != second.len() {
         return Some(true);
     }
     if byte == b' ' {
         return None;
     }
-    if one.count != two.count {
+    if first.count != second.count {
         return Some(true);
     }
-    Some(lie_apart(usize::from(one.count), one.spaces_before, two.spaces_before))
+    Some(lie_apart(
+        usize::from(first.count),
+        first.spaces_before,
+        second.spaces_before,
+    ))
 }
 
-// Whether two equal texts of `len` bytes lie apart, after `before` and `other` spaces.
+// Whether two equal texts of `len` bytes lie apart, after `first` and `second` spaces.
 #[inline(always)]
-fn lie_apart(len: usize, before: u16, other: u16) -> bool
-    ensures { DoLieApart len before other result }
+fn lie_apart(len: usize, first: u16, second: u16) -> bool
+    ensures { DoLieApart len first second result }
 {
     if len == 0 {
         return false;
     }
-    before != other
+    first != second
 }
 
 #[inline(always)]
@@ -144,15 +150,14 @@ fn predict_number(
     None
 }
 
-// Whether a number is 0, which the one directive prints as a byte: no integer is printed with such a
-// byte.
-fn is_told_by_zero(one: &Directive, other: &Directive, number: i128) -> bool
-    ensures { IsTrue result → (model : Model) (p q : Text) → Prints model one.now (Number number) p
-        → Prints model other.now (Number number) q → p ≢ q }
+// Whether a number is 0, which the first directive prints as NUL: no integer is printed with it.
+fn is_told_by_zero(first: &Directive, second: &Directive, number: i128) -> bool
+    ensures { IsTrue result → (model : Model) (p q : Text) → Prints model first.now (Number number) p
+        → Prints model second.now (Number number) q → p ≢ q }
 {
     if number == 0 {
-        if is_char(one) {
-            return is_integer(other);
+        if is_char(first) {
+            return is_integer(second);
         }
     }
     false
@@ -165,15 +170,15 @@ fn is_char(directive: &Directive) -> bool
     matches!(directive.conv().kind(), Kind::Char)
 }
 
-// The same of two directives that print a byte.
+// Predicts whether a number tells two directives apart that print a byte.
 fn predict_char(model: Model, first: &Directive, second: &Directive, number: i128) -> Option<bool>
     requires first { IsTrue (is_char first.now.conv) }
     requires second { IsTrue (is_char second.now.conv) }
     ensures { IfSome result (PredictsDifference model first.now second.now (Number number)) }
 {
-    let one = RunOutline::of_char(first);
-    let two = RunOutline::of_char(second);
-    runs_differ(&one, &two, u8::of(number))
+    let first_run = RunOutline::of_char(first);
+    let second_run = RunOutline::of_char(second);
+    runs_differ(&first_run, &second_run, u8::of(number))
 }
 
 #[inline(always)]
@@ -186,7 +191,7 @@ fn is_integer(directive: &Directive) -> bool
     }
 }
 
-// Whether a number is in the range in which a directive is known to print what another one does.
+// Whether a number is in the range in which a directive is known to print what a second one does.
 #[inline(always)]
 fn is_in_equal_range(
     model: Model,
@@ -195,9 +200,9 @@ fn is_in_equal_range(
     number: i128,
 ) -> bool
     requires integer { IsFalse (is_text directive.now.conv) }
-    ensures { IsTrue result → (other : Specification)
-        → IfSome equal_range (PrintEqualIn directive.now other)
-        → PredictsDifference model directive.now other (Number number) false }
+    ensures { IsTrue result → (second : Specification)
+        → IfSome equal_range (PrintEqualIn directive.now second)
+        → PredictsDifference model directive.now second (Number number) false }
 {
     match equal_range {
         Some(range) => range.contains(Value::of(model, directive, number)),
@@ -205,7 +210,7 @@ fn is_in_equal_range(
     }
 }
 
-// The same of two directives that print integers.
+// Predicts whether a number tells two directives apart that print integers.
 fn predict_integer(
     model: Model,
     first: &Directive,
@@ -217,130 +222,150 @@ fn predict_integer(
     ensures { IfSome result (PredictsDifference model first.now second.now (Number number)) }
 {
     let counted = CountedValue::of(model, first, number);
-    let one = Outline::of(first, counted);
-    let two = Outline::of(second, counted.for_directive(model, first, second, number));
-    outlines_differ(&one, first.conv().kind(), &two, second.conv().kind())
+    let first_outline = Outline::of(first, counted);
+    let second_outline = Outline::of(second, counted.for_directive(model, first, second, number));
+    outlines_differ(
+        &first_outline,
+        first.conv().kind(),
+        &second_outline,
+        second.conv().kind(),
+    )
 }
 
 // Whether two numbers in their fields are different bytes, with the digits that these kinds give.
-fn outlines_differ(one: &Outline, first: Kind, two: &Outline, second: Kind) -> Option<bool>
-    requires first { IsUnderKind first one.now }
-    requires second { IsUnderKind second two.now }
-    ensures { IfSome result (DoTextsDiffer (outline_text one.now (kind_digits first one.now.size))
-        (outline_text two.now (kind_digits second two.now.size))) }
+fn outlines_differ(
+    first: &Outline,
+    first_kind: Kind,
+    second: &Outline,
+    second_kind: Kind,
+) -> Option<bool>
+    requires first { IsUnderKind first_kind first.now.parts }
+    requires second { IsUnderKind second_kind second.now.parts }
+    ensures { IfSome result
+        (DoTextsDiffer (outline_text first.now (kind_digits first_kind first.now.parts.magnitude))
+        (outline_text second.now (kind_digits second_kind second.now.parts.magnitude))) }
 {
-    if one.len() != two.len() {
+    if first.len() != second.len() {
         return Some(true);
     }
-    match bodies_differ(one, first, two, second) {
+    match parts_differ(&first.parts, first_kind, &second.parts, second_kind) {
         None => None,
         Some(true) => Some(true),
-        Some(false) => Some(lie_apart(one.body_len(), one.spaces_before, two.spaces_before)),
+        Some(false) => Some(lie_apart(
+            first.parts.len(),
+            first.spaces_before,
+            second.spaces_before,
+        )),
     }
 }
 
-// The same of what comes between their spaces. A sign or prefix of one and zeros of the other
-// differ; where it stands beside digits, that isn't told.
-fn bodies_differ(one: &Outline, first: Kind, two: &Outline, second: Kind) -> Option<bool>
-    requires first { IsUnderKind first one.now }
-    requires second { IsUnderKind second two.now }
-    ensures { IfSome result (DoTextsDiffer (outline_body one.now (kind_digits first one.now.size))
-        (outline_body two.now (kind_digits second two.now.size))) }
+// Whether two numbers without their spaces are different bytes. A sign or prefix of one and zeros of
+// the other differ; a sign or prefix beside digits isn't told.
+fn parts_differ(
+    first: &IntegerParts,
+    first_kind: Kind,
+    second: &IntegerParts,
+    second_kind: Kind,
+) -> Option<bool>
+    requires first { IsUnderKind first_kind first.now }
+    requires second { IsUnderKind second_kind second.now }
+    ensures { IfSome result
+        (DoTextsDiffer (parts_text first.now (kind_digits first_kind first.now.magnitude))
+        (parts_text second.now (kind_digits second_kind second.now.magnitude))) }
 {
-    if one.body_len() != two.body_len() {
+    if first.len() != second.len() {
         return Some(true);
     }
-    if have_same_prefix(one.prefix, two.prefix) {
-        return Some(digits_differ(first, one.size, second, two.size));
+    if have_same_prefix(first.prefix, second.prefix) {
+        return Some(digits_differ(first_kind, first.magnitude, second_kind, second.magnitude));
     }
-    if one.prefix.len() == two.prefix.len() {
+    if first.prefix.len() == second.prefix.len() {
         return Some(true);
     }
-    if has_zeros_beside(one, two.prefix) {
+    if has_zeros_beside(first, second.prefix) {
         return Some(true);
     }
-    if has_zeros_beside(two, one.prefix) {
+    if has_zeros_beside(second, first.prefix) {
         return Some(true);
     }
     None
 }
 
-fn have_same_prefix(one: SignOrPrefix, two: SignOrPrefix) -> bool
-    ensures { MatchBool result (sign_or_prefix_text one ≡ sign_or_prefix_text two)
-        (sign_or_prefix_text one ≢ sign_or_prefix_text two) }
+fn have_same_prefix(first: SignOrPrefix, second: SignOrPrefix) -> bool
+    ensures { MatchBool result (sign_or_prefix_text first ≡ sign_or_prefix_text second)
+        (sign_or_prefix_text first ≢ sign_or_prefix_text second) }
 {
-    if one == two {
+    if first == second {
         return true;
     }
-    !are_unlike(one.text(), two.text())
+    !are_unlike(first.text(), second.text())
 }
 
-// Whether a number has no sign or prefix, and zeros where another one has this.
+// Whether a number has no sign or prefix, and zeros where a second one has this.
 #[inline(always)]
-fn has_zeros_beside(outline: &Outline, prefix: SignOrPrefix) -> bool
-    requires { outline.now.count ≤ outline.now.digits }
-    ensures { IsTrue result → (sign_or_prefix_text outline.now.prefix ≡ [])
-        × (length (sign_or_prefix_text prefix) ≤ outline.now.digits - outline.now.count) }
+fn has_zeros_beside(parts: &IntegerParts, prefix: SignOrPrefix) -> bool
+    ensures { IsTrue result → (sign_or_prefix_text parts.now.prefix ≡ [])
+        × (length (sign_or_prefix_text prefix) ≤ parts.now.zeros) }
 {
-    match outline.prefix {
-        SignOrPrefix::Nothing => prefix.len() <= outline.digits - outline.count,
+    match parts.prefix {
+        SignOrPrefix::Nothing => prefix.len() <= parts.zeros,
         _ => false,
     }
 }
 
 // Whether two numbers have different digits, each as its kind gives them.
-fn digits_differ(first: Kind, one: u64, second: Kind, two: u64) -> bool
-    ensures { DoTextsDiffer (kind_digits first one) (kind_digits second two) result }
+fn digits_differ(first_kind: Kind, first: u64, second_kind: Kind, second: u64) -> bool
+    ensures { DoTextsDiffer (kind_digits first_kind first) (kind_digits second_kind second) result }
 {
-    if first == second {
-        if one == two {
+    if first_kind == second_kind {
+        if first == second {
             return false;
         }
     }
-    some_digit_differs(first, one, second, two)
+    some_digit_differs(first_kind, first, second_kind, second)
 }
 
-// The same, digit by digit from the last.
-fn some_digit_differs(first: Kind, one: u64, second: Kind, two: u64) -> bool
-    ensures { DoTextsDiffer (kind_digits first one) (kind_digits second two) result }
+// Whether two numbers have different digits, compared from the last.
+fn some_digit_differs(first_kind: Kind, first: u64, second_kind: Kind, second: u64) -> bool
+    ensures { DoTextsDiffer (kind_digits first_kind first) (kind_digits second_kind second) result }
 {
-    let base = first.base().number();
-    let other = second.base().number();
-    let mut left = one;
-    let mut right = two;
-    while left > 0 {
-        if right == 0 {
+    let first_base = first_kind.base().number();
+    let second_base = second_kind.base().number();
+    let mut first_left = first;
+    let mut second_left = second;
+    while first_left > 0 {
+        if second_left == 0 {
             return true;
         }
         if glyphs_differ(
-            left % base,
-            first.has_capitals(),
-            right % other,
-            second.has_capitals(),
+            first_left % first_base,
+            first_kind.has_capitals(),
+            second_left % second_base,
+            second_kind.has_capitals(),
         ) {
             return true;
         }
-        left /= base;
-        right /= other;
+        first_left /= first_base;
+        second_left /= second_base;
     }
-    right > 0
+    second_left > 0
 }
 
 // Whether two digits are different bytes.
 #[inline(always)]
-fn glyphs_differ(one: u64, capitals: bool, two: u64, others: bool) -> bool
-    requires first { one < 16 }
-    requires second { two < 16 }
-    ensures { MatchBool result (digit_glyph capitals one ≢ digit_glyph others two)
-        (digit_glyph capitals one ≡ digit_glyph others two) }
+fn glyphs_differ(first: u64, first_capitals: bool, second: u64, second_capitals: bool) -> bool
+    requires first { first < 16 }
+    requires second { second < 16 }
+    ensures { MatchBool result (digit_glyph first_capitals first ≢ digit_glyph second_capitals second)
+        (digit_glyph first_capitals first ≡ digit_glyph second_capitals second) }
 {
-    if one != two {
+    if first != second {
         return true;
     }
-    if one < 10 {
+    if first < 10 {
         return false;
     }
-    capitals != others
+    first_capitals != second_capitals
 }
 
 // The greatest power of 10 below 2^64 has this exponent.
@@ -373,7 +398,7 @@ impl EqualPrintRange {
         if value.is_negative {
             return true;
         }
-        value.size < self.below
+        value.magnitude < self.below
     }
 }
 

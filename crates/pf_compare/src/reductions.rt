@@ -19,28 +19,28 @@ pub(crate) fn print_alike(model: Model, first: &Directive, second: &Directive) -
     ensures { MatchBool result (PrintAlike model (item_of first.now ∷ []) (item_of second.now ∷ []))
         (¬ PrintAlikeOnCandidates model first.now second.now) }
 {
-    let one = reduce(model, first);
-    let two = reduce(model, second);
-    have_same_parts(&one, &two)
+    let first_reduced = reduce(model, first);
+    let second_reduced = reduce(model, second);
+    have_same_parts(&first_reduced, &second_reduced)
 }
 
-fn have_same_parts(one: &Reduced, two: &Reduced) -> bool
-    ensures yes { IsTrue result → HaveSameParts one.now two.now }
-    ensures other { IsFalse result → ¬ HaveSameParts one.now two.now }
+fn have_same_parts(first: &Reduced, second: &Reduced) -> bool
+    ensures yes { IsTrue result → HaveSameParts first.now second.now }
+    ensures other { IsFalse result → ¬ HaveSameParts first.now second.now }
 {
-    one.spaces == two.spaces
-        && one.zeros == two.zeros
-        && one.trail == two.trail
-        && are_equal_cores(one.core, two.core)
+    first.spaces == second.spaces
+        && first.zeros == second.zeros
+        && first.trail == second.trail
+        && are_equal_cores(first.core, second.core)
 }
 
-fn are_equal_cores(one: Core, two: Core) -> bool
-    ensures yes { IsTrue result → core_of one ≡ core_of two }
-    ensures other { IsFalse result → core_of one ≢ core_of two }
+fn are_equal_cores(first: Core, second: Core) -> bool
+    ensures yes { IsTrue result → core_of first ≡ core_of second }
+    ensures other { IsFalse result → core_of first ≢ core_of second }
 {
-    match one {
-        Core::Normal(normal) => is_normal_core(two, &normal.directive()),
-        Core::Silent => is_silent(two),
+    match first {
+        Core::Normal(normal) => is_normal_core(second, &normal.directive()),
+        Core::Silent => is_silent(second),
     }
 }
 

@@ -23,7 +23,8 @@ use pf_probes::{Candidate, candidate_row};
 use pf_values::{Arg, ArgType, Directive, Flag, Kind, Length, Model};
 use std::alloc::{AllocError, Global};
 
-/// Arguments for which two formats print different bytes, and their place among the candidates.
+/// Arguments for which two formats print different bytes, and the number of the candidate that is
+/// among them, counted from 1.
 #[derive(Drop)]
 pub(crate) struct Witness {
     pub(crate) args: Vec<OwnedArg>,
@@ -80,18 +81,18 @@ pub(crate) fn witness_at(
     model: Model,
     f: &[u8],
     difference: &LoneDifference,
-    place: usize,
+    candidate_index: usize,
 ) -> Result<Witness, AllocError>
     requires one_type { arg_type model difference.now.first ≡ arg_type model difference.now.second }
     requires first { (xs ys : List Item) × HasItems f.now xs × DifferInOne xs ys difference.now }
-    requires found { AreToldApartAt model difference.now place }
+    requires found { AreToldApartAt model difference.now candidate_index }
     ensures { IfOk result (λ witness. (xs ys : List Item)
         → Reads f.now xs → DifferInOne xs ys difference.now → FindsWitness model xs ys (Some witness)) }
 {
     let args = neutrals_of(alloc, model, f)?;
     let probe = Probe {
         index: difference.index,
-        place,
+        candidate_index,
     };
     with_candidate(alloc, model, args, difference.first.arg_type(model), probe)
 }
@@ -110,19 +111,23 @@ fn with_candidate(
         → IsWitnessAt model ts probe witness) }
 {
     let mut args = args;
-    args[probe.index] = OwnedArg::of(alloc, arg_type, candidate_row(model, arg_type)[probe.place])?;
+    args[probe.index] = OwnedArg::of(
+        alloc,
+        arg_type,
+        candidate_row(model, arg_type)[probe.candidate_index],
+    )?;
     Ok(Witness {
         args,
-        renderings: probe.place as u8 + 1,
+        renderings: probe.candidate_index as u8 + 1,
     })
 }
 
-/// All arguments are neutral, but the one with this index is the candidate of its type with this
-/// place.
+/// All arguments are neutral, except the one with this index: it is the candidate with
+/// `candidate_index` in the row of its type.
 #[derive(Clone, Copy)]
 pub(crate) struct Probe {
     pub(crate) index: usize,
-    pub(crate) place: usize,
+    pub(crate) candidate_index: usize,
 }
 
 /// The first probe for which two formats print different bytes. They print the same for neutral
@@ -148,14 +153,19 @@ pub(crate) fn first_probe(
             &second.spans[index],
         )?;
         match found {
-            Some(place) => return Ok(Some(Probe { index, place })),
+            Some(candidate_index) => {
+                return Ok(Some(Probe {
+                    index,
+                    candidate_index,
+                }));
+            }
             None => index += 1,
         }
     }
     Ok(None)
 }
 
-// The place of the first candidate for which the bytes of two directives, put into their spans, make
+// The index of the first candidate for which the bytes of two directives, put into their spans, make
 // different texts. One directive in one span makes one text for every argument.
 fn first_candidate(
     alloc: Global,
@@ -186,7 +196,7 @@ fn first_candidate(
     )
 }
 
-/// The place of the first candidate for which two directives print different bytes: alone, each is
+/// The index of the first candidate for which two directives print different bytes: alone, each is
 /// put into one span of an empty text.
 pub(crate) fn first_candidate_alone(
     alloc: Global,
@@ -209,9 +219,9 @@ pub(crate) fn first_candidate_alone(
     )
 }
 
-/// The place of the first candidate for which two directives print different bytes, where the first
+/// The index of the first candidate for which two directives print different bytes, where the first
 /// few show it without printing them.
-pub(crate) fn foreseen_candidate(
+pub(crate) fn predicted_candidate(
     model: Model,
     first: &Directive,
     second: &Directive,
@@ -222,12 +232,12 @@ pub(crate) fn foreseen_candidate(
 {
     let row = candidate_row(model, first.arg_type(model));
     let equal_range = EqualPrintRange::of(first, second);
-    let most = foreseen_count(first, second, equal_range, row.len());
-    let mut place = 0;
-    while place < most {
-        match predict(model, first, second, equal_range, row[place]) {
-            Some(true) => return Some(place),
-            Some(false) => place += 1,
+    let most = predicted_count(first, second, equal_range, row.len());
+    let mut index = 0;
+    while index < most {
+        match predict(model, first, second, equal_range, row[index]) {
+            Some(true) => return Some(index),
+            Some(false) => index += 1,
             None => return None,
         }
     }
@@ -236,8 +246,8 @@ pub(crate) fn foreseen_candidate(
 
 // How many candidates to try before the directives are reduced: all if they can't print the same or
 // trying is cheap, none if they are likely to, for example if `+` hides the flag ` `. Otherwise 0 and
-// 1 tell most directives apart, and -1 does if the sign of a number takes the place of a zero.
-fn foreseen_count(
+// 1 tell most directives apart, and -1 does if the sign of a number replaces a zero.
+fn predicted_count(
     first: &Directive,
     second: &Directive,
     equal_range: Option<EqualPrintRange>,
@@ -276,8 +286,8 @@ fn may_be_equivalent(first: &Directive, second: &Directive) -> bool {
 }
 
 // Whether two length modifiers of one type are of numbers of one size.
-fn have_one_size(one: Length, two: Length) -> bool {
-    one == two || !is_narrowing(one) && !is_narrowing(two)
+fn have_one_size(first: Length, second: Length) -> bool {
+    first == second || !is_narrowing(first) && !is_narrowing(second)
 }
 
 // Whether a length modifier makes a number smaller than its type.
@@ -298,17 +308,17 @@ fn span_alone(directive: &Directive) -> DirectiveSpan
 fn are_equal_spans(first: &DirectiveSpan, second: &DirectiveSpan) -> bool
     ensures { IsTrue result → first.now ≡ second.now }
 {
-    have_same_place(first, second) && are_equal(&first.directive, &second.directive)
+    have_same_offsets(first, second) && are_equal(&first.directive, &second.directive)
 }
 
-fn have_same_place(first: &DirectiveSpan, second: &DirectiveSpan) -> bool
+fn have_same_offsets(first: &DirectiveSpan, second: &DirectiveSpan) -> bool
     ensures { IsTrue result
         → (first.now.start ≡ second.now.start) × (first.now.end ≡ second.now.end) }
 {
     first.start == second.start && first.end == second.end
 }
 
-// The place of the first candidate of their type that makes different texts, from a place on before
+// The index of the first candidate of their type that makes different texts, from an index on before
 // which none does. The neutral one is the first.
 fn first_candidate_from(
     alloc: Global,
@@ -328,8 +338,8 @@ fn first_candidate_from(
 {
     let row = candidate_row(model, wanted);
     let equal_range = EqualPrintRange::of(&first.directive, &second.directive);
-    let mut place = from;
-    while place < row.len() {
+    let mut index = from;
+    while index < row.len() {
         if candidate_differs(
             alloc,
             model,
@@ -338,11 +348,11 @@ fn first_candidate_from(
             second,
             equal_range,
             wanted,
-            row[place],
+            row[index],
         )? {
-            return Ok(Some(place));
+            return Ok(Some(index));
         }
-        place += 1;
+        index += 1;
     }
     Ok(None)
 }
@@ -369,7 +379,7 @@ fn candidate_differs(
         (ReplacementsDiffer model whole.now first.now second.now (probes.candidate_argument candidate))
         (ReplacementsEqual model whole.now first.now second.now (probes.candidate_argument candidate))) }
 {
-    if have_same_place(first, second) {
+    if have_same_offsets(first, second) {
         if let Some(told) = predict(
             model,
             &first.directive,
@@ -384,8 +394,9 @@ fn candidate_differs(
     printed_differ(alloc, model, whole, first, second, argument.as_arg())
 }
 
-// The same for an argument, by printing. In one place only the printed bytes are compared, and
-// nothing where both directives print what they print for a neutral argument.
+// Whether the bytes of two directives for an argument, put into their spans, make different texts. It
+// prints them. Where the spans have equal offsets, only the printed bytes are compared, and nothing
+// where both directives print what they print for a neutral argument.
 fn printed_differ(
     alloc: Global,
     model: Model,
@@ -406,7 +417,7 @@ fn printed_differ(
 {
     let x = print(alloc, model, &first.directive, argument)?;
     let y = print(alloc, model, &second.directive, argument)?;
-    if have_same_place(first, second) {
+    if have_same_offsets(first, second) {
         return Ok(are_unlike(&x, &y));
     }
     if is_unchanged(whole, first, &x) {
@@ -443,12 +454,12 @@ fn replaced_differ(
 {
     let from = first.start.min(second.start);
     let to = first.end.max(second.end);
-    let one = replace_span(alloc, &whole[from..to], from, first, x)?;
-    let two = replace_span(alloc, &whole[from..to], from, second, y)?;
-    Ok(are_unlike(&one, &two))
+    let first_part = replace_span(alloc, &whole[from..to], from, first, x)?;
+    let second_part = replace_span(alloc, &whole[from..to], from, second, y)?;
+    Ok(are_unlike(&first_part, &second_part))
 }
 
-// A part of a text that begins at `from`, with these bytes in the place of its span.
+// A part of a text that begins at `from`, with these bytes instead of its span.
 fn replace_span(
     alloc: Global,
     part: &[u8],

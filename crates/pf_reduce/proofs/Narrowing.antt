@@ -5,7 +5,7 @@ use Rattle.std.proofs.lemmas.Bool.{cases_lt}
 use Rattle.pf_values.specs.meaning.Printing.{field_of}
 use Rattle.pf_values.specs.meaning.Text.{Text, space, zero_digit}
 use Rattle.pf_reduce.specs.declared.padding.Padding.{Padding}
-use Rattle.pf_reduce.specs.Padded.{HasNoIdleWidth, IsNarrowedTo, IsPastZeros, IsRightUpTo}
+use Rattle.pf_reduce.specs.Padded.{HasNoIdleWidth, IsNarrowedTo, HasHoistedZeros, IsRightIfUnseen}
 use Rattle.pf_reduce.proofs.Paddings.{at_most_left, at_most_right, past, right_field}
 
 -- a field with nothing around it
@@ -32,7 +32,8 @@ without_idle p least = elim (cases_lt least p.width) [
   | inr few ↦ (
     record p { width = 0 },
     record {
-      same = λ body h. ap (λ t. replicate p.spaces space ++ (replicate p.zeros zero_digit ++ (t ++ replicate p.trail space))) (idle_field p.left p.width body (omega (arith, few, h)));
+      same = λ body h. ap (λ t. replicate p.spaces space ++ (replicate p.zeros zero_digit ++ (t ++ replicate p.trail space)))
+          (idle_field p.left p.width body (omega (arith, few, h)));
       constant = refl;
       left = refl;
       idle = λ h. refl;
@@ -41,23 +42,25 @@ without_idle p least = elim (cases_lt least p.width) [
   )
 ]
 
-pub made_right : (p : Padding) (most : ℕ) → p.width ≤ most → IsRightUpTo p most (record p { left = false })
+pub made_right : (p : Padding) (most : ℕ) → p.width ≤ most → IsRightIfUnseen p most (record p { left = false })
 made_right p most few = record {
-  same = λ body h. ap (λ t. replicate p.spaces space ++ (replicate p.zeros zero_digit ++ (t ++ replicate p.trail space))) (right_field p.left p.width body (h few));
+  same = λ body h. ap (λ t. replicate p.spaces space ++ (replicate p.zeros zero_digit ++ (t ++ replicate p.trail space)))
+      (right_field p.left p.width body (h few));
   constant = refl;
   width = refl;
   wide = λ e. cc;
   right = λ more. absurd (omega (arith, few, more));
 }
 
-pub right_up_to : (p : Padding) (most : ℕ) → (q : Padding) × IsRightUpTo p most q
-right_up_to p most = elim (cases_lt most p.width) [
+pub right_justify_if_unseen : (p : Padding) (most : ℕ) → (q : Padding) × IsRightIfUnseen p most q
+right_justify_if_unseen p most = elim (cases_lt most p.width) [
   | inl more ↦ (p, record { same = λ body h. refl; constant = refl; width = refl; wide = λ e. (e, more); right = λ h. refl })
   | inr few ↦ (record p { left = false }, made_right p most few)
 ]
 
-pub past_zeros : (p : Padding) (count : ℕ) → (p.left ≡ true) ⊎ (p.width ≡ 0) ⊎ (count ≡ 0) → IsPastZeros p count (record p { zeros = p.zeros + count; width = p.width - count })
-past_zeros p count apart = record {
+pub hoist_zeros : (p : Padding) (count : ℕ) → (p.left ≡ true) ⊎ (p.width ≡ 0) ⊎ (count ≡ 0)
+    → HasHoistedZeros p count (record p { zeros = p.zeros + count; width = p.width - count })
+hoist_zeros p count apart = record {
   same = λ body. past p.spaces p.zeros count p.left p.width body (replicate p.trail space) apart;
   constant = omega arith;
   left = refl;

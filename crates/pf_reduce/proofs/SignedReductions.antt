@@ -23,11 +23,11 @@ use Rattle.pf_reduce.specs.declared.padding.Padding.{Padding}
 use Rattle.pf_reduce.specs.declared.signs.Sign.{Sign}
 use Rattle.pf_reduce.specs.declared.signs.Sign.TheVariants as signs
 use Rattle.pf_reduce.specs.Cores.{core_of_parts, kept_precision}
-use Rattle.pf_reduce.specs.Padded.{HasNoIdleWidth, IsNarrowedTo, IsRightUpTo, padding_of, with_padding}
+use Rattle.pf_reduce.specs.Padded.{HasNoIdleWidth, IsNarrowedTo, IsRightIfUnseen, padding_of, with_padding}
 use Rattle.pf_reduce.specs.Signs.{sign_flags, sign_length, sign_of, sign_text}
 use Rattle.pf_reduce.proofs.Carried.{IsReducedAs, Reduction, made}
 use Rattle.pf_reduce.proofs.CarriedIntegers.{width_is}
-use Rattle.pf_reduce.proofs.Narrowing.{narrowed, not_wider, right_up_to, without_idle}
+use Rattle.pf_reduce.proofs.Narrowing.{narrowed, not_wider, right_justify_if_unseen, without_idle}
 use Rattle.pf_reduce.proofs.NormalCores.{kept_signed, normal_signed, some_width, width_within}
 use Rattle.pf_reduce.proofs.Precisions.{filled_right}
 use Rattle.pf_reduce.proofs.SignLemmas.{none_for, space_for}
@@ -35,7 +35,8 @@ use Rattle.pf_reduce.proofs.SignedNumbers.{signed_filled, signed_least, signed_m
 use Rattle.pf_reduce.proofs.UnprefixedNumbers.{digits_text, length-digits_text}
 
 -- filled with zeros
-made_filled : (model : Model) (w : ℕ) (length : Length) → kept_length model length ≡ length → w ≤ MAX_NUMBER → 2 ≤ w → IsNormal model (specification_of (with_flag no_flags Zero) (Some w) None length D)
+made_filled : (model : Model) (w : ℕ) (length : Length) → kept_length model length ≡ length → w ≤ MAX_NUMBER → 2 ≤ w
+    → IsNormal model (specification_of (with_flag no_flags Zero) (Some w) None length D)
 made_filled model w length same few wide = record {
   defined = record { width = some_width w; allowed = rw (width_within w few) refl };
   no_group = refl;
@@ -47,12 +48,15 @@ made_filled model w length same few wide = record {
   form = (record { right = refl; no_precision = refl; width = omega (arith, width_is w, wide) }, refl);
 }
 
-normal_filled : (model : Model) (s : Specification) (p : Padding) → is_signed s.conv ≡ true → p.width ≤ MAX_NUMBER → p.left ≡ false → 2 ≤ p.width → IsNormal model (core_of_parts model s p (with_flag no_flags Zero) None)
-normal_filled model s p signed few right wide = rw (kept_signed s.conv signed, right) (made_filled model p.width (kept_length model s.length) (ap (λ r. r.kept) (kept_row model s.length)) few wide)
+normal_filled : (model : Model) (s : Specification) (p : Padding) → is_signed s.conv ≡ true → p.width ≤ MAX_NUMBER → p.left ≡ false → 2 ≤ p.width
+    → IsNormal model (core_of_parts model s p (with_flag no_flags Zero) None)
+normal_filled model s p signed few right wide = rw (kept_signed s.conv signed, right) (made_filled model p.width (kept_length model s.length)
+    (ap (λ r. r.kept) (kept_row model s.length)) few wide)
 
 -- On the right, in a field for the most digits and a sign, one of two signs is as good as the other.
 pub record ReplacesSign (p : Padding) (sign : Sign) (longest precision digits : ℕ) (new : Sign) : Type 0 where
-  pub same : (negative : Bool) (number : Text) → length number ≤ longest → with_padding p (sign_text sign negative ++ number) ≡ with_padding p (sign_text new negative ++ number)
+  pub same : (negative : Bool) (number : Text) → length number ≤ longest → with_padding p (sign_text sign negative ++ number) ≡ with_padding p
+      (sign_text new negative ++ number)
   pub space : p.left ≡ false → p.width ≡ 1 + longest → new ≡ signs.Space → digits ≤ precision
   pub none : p.left ≡ false → p.width ≡ 1 + longest → new ≡ signs.None → precision < digits
 
@@ -75,8 +79,22 @@ module _ (p : Padding) (longest precision digits : ℕ) where
 
   space_or_none : (sign : Sign) → sign ≢ signs.Plus → p.left ≡ false → longest < p.width → (new : Sign) × ReplacesSign p sign longest precision digits new
   space_or_none sign other right room = elim (cases_lt precision digits) [
-    | inl fewer ↦ (signs.None, record { same = λ negative number few. none_for sign p negative number (no_other sign other) right (omega (arith, few, room)); space = λ right wide is. cc; none = λ right wide is. fewer })
-    | inr enough ↦ (signs.Space, record { same = λ negative number few. space_for sign p negative number (no_other sign other) right (omega (arith, few, room)); space = λ right wide is. enough; none = λ right wide is. cc })
+    | inl fewer ↦ (
+      signs.None,
+      record {
+        same = λ negative number few. none_for sign p negative number (no_other sign other) right (omega (arith, few, room));
+        space = λ right wide is. cc;
+        none = λ right wide is. fewer;
+      },
+    )
+    | inr enough ↦ (
+      signs.Space,
+      record {
+        same = λ negative number few. space_for sign p negative number (no_other sign other) right (omega (arith, few, room));
+        space = λ right wide is. enough;
+        none = λ right wide is. cc;
+      },
+    )
   ]
 
   in_its_field : (sign : Sign) → p.left ≡ false → longest < p.width → (new : Sign) × ReplacesSign p sign longest precision digits new
@@ -91,7 +109,7 @@ module _ (p : Padding) (longest precision digits : ℕ) where
     | inr few ↦ kept_sign sign (inr (λ e. absurd (omega (arith, few, e))))
   ]
 
--- up to which width nobody sees the side
+-- up to which width the side makes no visible difference
 record IsUnseenUpTo (sign : Sign) (precision most : ℕ) : Type 0 where
   plus : sign ≡ signs.Plus → most ≡ 0
   none : sign ≢ signs.Plus → precision ≡ 0 → most ≡ sign_length sign + 1
@@ -114,7 +132,8 @@ three_digits I B32 e = omega arith
 three_digits I B64 e = omega arith
 three_digits _ b e = cc
 
-at_most_two : (sign : Sign) (precision most : ℕ) → (sign ≡ signs.Plus → most ≡ 0) → (sign ≢ signs.Plus → precision ≡ 0 → most ≡ sign_length sign + 1) → (1 ≤ precision → most ≡ 0) → most ≤ 2
+at_most_two : (sign : Sign) (precision most : ℕ) → (sign ≡ signs.Plus → most ≡ 0) → (sign ≢ signs.Plus → precision ≡ 0 → most ≡ sign_length sign + 1)
+    → (1 ≤ precision → most ≡ 0) → most ≤ 2
 at_most_two sign (suc precision) most plus none some = omega (arith, some (omega arith))
 at_most_two signs.Plus zero most plus none some = omega (arith, plus refl)
 at_most_two signs.None zero most plus none some = omega (arith, none (λ e. cc) refl)
@@ -122,14 +141,18 @@ at_most_two signs.Space zero most plus none some = omega (arith, none (λ e. cc)
 
 module _ (model : Model) (s : Specification) (defined : IsDefined s) (signed : is_signed s.conv ≡ true) where
   -- the flag `0` is kept in a field of two bytes or more, where there is no sign
-  pub signed_filled_by : is_zero_filled s ≡ true → sign_length (sign_of s.flags) ≡ 0 → 2 ≤ width_of s → IsReducedAs model s (padding_of s) (with_flag no_flags Zero) None
+  pub signed_filled_by : is_zero_filled s ≡ true → sign_length (sign_of s.flags) ≡ 0 → 2 ≤ width_of s
+      → IsReducedAs model s (padding_of s) (with_flag no_flags Zero) None
   signed_filled_by all none wide =
       let normal = normal_filled model s (padding_of s) signed (width_limit s defined) (filled_right s all) wide in
       record { normal = normal; reduced = signed_filled model s signed all none (refl, normal) }
 
-  pub signed_by : (sign new : Sign) (p d most : ℕ) (a b c q : Padding) → sign ≡ sign_of s.flags → (is_zero_filled s ≡ true → (1 ≤ sign_length sign) ⊎ (width_of s ≤ 1)) → p ≡ effective_precision s (sign_length sign) → d ≡ digits_at_most model s
-      → IsNarrowedTo (padding_of s) (1 + max p d) a → HasNoIdleWidth a (sign_length sign + p) b → ReplacesSign b sign (max p d) p d new → HasNoIdleWidth b (sign_length new + p) c
-      → (new ≡ signs.Plus → most ≡ 0) → (new ≢ signs.Plus → p ≡ 0 → most ≡ sign_length new + 1) → (1 ≤ p → most ≡ 0) → IsRightUpTo c most q → IsReducedAs model s q (sign_flags new) (kept_precision p)
+  pub signed_by : (sign new : Sign) (p d most : ℕ) (a b c q : Padding) → sign ≡ sign_of s.flags
+      → (is_zero_filled s ≡ true → (1 ≤ sign_length sign) ⊎ (width_of s ≤ 1)) → p ≡ effective_precision s (sign_length sign) → d ≡ digits_at_most model s
+      → IsNarrowedTo (padding_of s) (1 + max p d) a → HasNoIdleWidth a (sign_length sign + p) b → ReplacesSign b sign (max p d) p d new
+      → HasNoIdleWidth b (sign_length new + p) c
+      → (new ≡ signs.Plus → most ≡ 0) → (new ≢ signs.Plus → p ≡ 0 → most ≡ sign_length new + 1) → (1 ≤ p → most ≡ 0) → IsRightIfUnseen c most q
+      → IsReducedAs model s q (sign_flags new) (kept_precision p)
   signed_by sign new p d most a b c q sign_is idle p_is d_is narrow field replaced again plus none some right =
       let three = three_digits s.conv (bits_under model s.length) signed in
       let w = width_limit s defined in
@@ -139,17 +162,24 @@ module _ (model : Model) (s : Specification) (defined : IsDefined s) (signed : i
       let left = not_wider b (sign_length new + p) c again in
       let wider_again = left.0 in
       let on_the_right : q.left ≡ false → q.width ≡ 1 + max p d → (b.left ≡ false) × (b.width ≡ 1 + max p d) =
-      λ r wide. (sym (again.left) ∙ sym (right.right (omega (arith, right.width, wide, small, three, d_is))) ∙ r, omega (arith, right.width, wider_again, wider, narrow.width, wide)) in
+      λ r wide. (
+        sym (again.left) ∙ sym (right.right (omega (arith, right.width, wide, small, three, d_is)))
+            ∙ r,
+        omega (arith, right.width, wider_again, wider, narrow.width, wide),
+      ) in
       let normal : IsNormal model (core_of_parts model s q (sign_flags new) (kept_precision p)) =
       normal_signed model s q new p signed (omega (arith, right.width, wider_again, wider, narrow.width, w), omega (arith, p_is, few))
       (λ some. let least = left.1 (omega (arith, right.width, some)) in omega (arith, right.width, least))
       (omega (arith, right.width, wider_again, wider, narrow.width, d_is))
-      (λ r is wide. let at = on_the_right r (omega (arith, wide, d_is)) in let enough = replaced.space at.0 at.1 is in let one = ap sign_length is in let least = left.1 (omega (arith, right.width, wide)) in omega (arith, right.width, wide, enough, one, least, d_is))
+      (λ r is wide. let at = on_the_right r (omega (arith, wide, d_is)) in let enough = replaced.space at.0 at.1 is in let one = ap sign_length is in
+      let least = left.1 (omega (arith, right.width, wide)) in omega (arith, right.width, wide, enough, one, least, d_is))
       (λ r is enough wide. let at = on_the_right r (omega (arith, wide, d_is)) in let fewer = replaced.none at.0 at.1 is in omega (arith, enough, fewer, d_is))
-      (λ l. let wide = (right.wide l).1 in (omega (arith, right.width, wide), λ other zero. let at = none other zero in omega (arith, right.width, wide, at))) in
+      (λ l. let wide = (right.wide l).1 in (omega (arith, right.width, wide), λ other zero. let at = none other zero in omega (arith, right.width, wide, at)))
+      in
       record {
         normal = normal;
-        reduced = signed_reduced model s signed q new p (rw (← sign_is) idle) (rw (← sign_is) p_is) (refl, normal) (omega (arith, right.constant, again.constant, field.constant, narrow.constant, w)) (λ v count.
+        reduced = signed_reduced model s signed q new p (rw (← sign_is) idle) (rw (← sign_is) p_is) (refl, normal)
+            (omega (arith, right.constant, again.constant, field.constant, narrow.constant, w)) (λ v count.
             let number = digits_text D p (nat_abs v) in
             let len = length-digits_text D p (nat_abs v) in
             let before = signed_text sign p v in
@@ -172,8 +202,9 @@ module _ (model : Model) (s : Specification) (defined : IsDefined s) (signed : i
       let (new, replaced) = by_side b (max p d) p d sign b.left refl in
       let (c, again) = without_idle b (sign_length new + p) in
       let (most, unseen) = unseen_up_to new p in
-      let (q, right) = right_up_to c most in
-      made model s q (sign_flags new) (kept_precision p) (signed_by sign new p d most a b c q refl idle refl refl narrow field replaced again unseen.plus unseen.none unseen.some right)
+      let (q, right) = right_justify_if_unseen c most in
+      made model s q (sign_flags new) (kept_precision p) (signed_by sign new p d most a b c q refl idle refl refl narrow field replaced again unseen.plus
+      unseen.none unseen.some right)
 
   by_fill : (filled : Bool) → is_zero_filled s ≡ filled → Reduction model s
   by_fill true all = elim (cases_lt 0 (sign_length (sign_of s.flags))) [

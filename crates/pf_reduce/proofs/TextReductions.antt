@@ -1,5 +1,33 @@
 -- Each directive that prints a byte or a string has a reduction.
-use Rattle.std.proofs.Common.{◌≡◌, ◌≢◌, ℕ, zero, suc, ◌-◌, ◌<◌, ◌≤◌, Bool, true, false, Option, Some, None, [], ◌++◌, length, take, replicate, refl, sym, ap, ◌∙◌, subst, arith, rules, inl}
+use Rattle.std.proofs.Common.{
+  ◌≡◌,
+  ◌≢◌,
+  ℕ,
+  zero,
+  suc,
+  ◌-◌,
+  ◌<◌,
+  ◌≤◌,
+  Bool,
+  true,
+  false,
+  Option,
+  Some,
+  None,
+  [],
+  ◌++◌,
+  length,
+  take,
+  replicate,
+  refl,
+  sym,
+  ap,
+  ◌∙◌,
+  subst,
+  arith,
+  rules,
+  inl,
+}
 use Rattle.std.specs.Prelude.{IfSome}
 use Rattle.std.proofs.lemmas.List.{append-nil, length-take}
 use Rattle.pf_values.specs.declared.conversions.Conv.TheVariants.{C, S}
@@ -28,22 +56,25 @@ use Rattle.pf_reduce.specs.Padded.{constants, padding_of, with_padding}
 use Rattle.pf_reduce.specs.Reducing.{around, core_of}
 use Rattle.pf_reduce.proofs.Carried.{Carries, Reduction, prints_reduced}
 use Rattle.pf_reduce.proofs.CarriedIntegers.{field-padded, kept_kind, kept_type, padded-made, width_is}
-use Rattle.pf_reduce.proofs.Narrowing.{narrowed, right_up_to, without_idle}
+use Rattle.pf_reduce.proofs.Narrowing.{narrowed, right_justify_if_unseen, without_idle}
 use Rattle.pf_reduce.proofs.NormalCores.{some_width, width_within}
 use Rattle.pf_reduce.proofs.TextCores.{normal_string}
 use Rattle.pf_reduce.proofs.UnprefixedNumbers.{one_or_none}
 
 -- what each text that the core prints is in the directive's field
 carried : (model : Model) (s : Specification) (r : Reduced) (k : Kind) → kind_of s.conv ≡ k → kind_of (core_of r.core).conv ≡ k
-    → ((argument : Argument) (body : Text) → PrintsKind model k (core_of r.core) argument body → PrintsKind model k s argument body × (field s body ≡ around r (field (core_of r.core) body)))
+    → ((argument : Argument) (body : Text) → PrintsKind model k (core_of r.core) argument body → PrintsKind model k s argument body
+    × (field s body ≡ around r (field (core_of r.core) body)))
     → Carries model s r
 carried model s r k e f same argument inner typed p =
     let at = same argument p.0 (subst (λ k. PrintsKind model k (core_of r.core) argument p.0) f p.1) in
     (p.0, subst (λ k. PrintsKind model k s argument p.0) (sym e) at.0, ap (around r) p.2 ∙ sym at.1)
 
 -- a core made of parts, in its padding
-text_reduced : (model : Model) (s : Specification) (p : Padding) (precision : Option ℕ) (k : Kind) → kind_of s.conv ≡ k → IsNormal model (core_of_parts model s p no_flags precision) → constants p ≤ MAX_NUMBER
-    → ((argument : Argument) (body : Text) → PrintsKind model k (core_of_parts model s p no_flags precision) argument body → PrintsKind model k s argument body × (with_padding (padding_of s) body ≡ with_padding p body))
+text_reduced : (model : Model) (s : Specification) (p : Padding) (precision : Option ℕ) (k : Kind) → kind_of s.conv ≡ k
+    → IsNormal model (core_of_parts model s p no_flags precision) → constants p ≤ MAX_NUMBER
+    → ((argument : Argument) (body : Text) → PrintsKind model k (core_of_parts model s p no_flags precision) argument body → PrintsKind model k s argument body
+    × (with_padding (padding_of s) body ≡ with_padding p body))
     → Reduction model s
 text_reduced model s p precision k e normal few same =
     let r : Reduced = padded_core model s p no_flags precision in (
@@ -63,7 +94,8 @@ text_reduced model s p precision k e normal few same =
 no_length : (s : Specification) → refused_as s ≡ None → s.conv ≡ C → s.length ≡ lengths.None
 no_length s allowed is = search rules
 
-normal_char : (model : Model) (s : Specification) (p : Padding) → IsDefined s → s.conv ≡ C → p.width ≡ 0 → p.left ≡ false → IsNormal model (core_of_parts model s p no_flags None)
+normal_char : (model : Model) (s : Specification) (p : Padding) → IsDefined s → s.conv ≡ C → p.width ≡ 0 → p.left ≡ false
+    → IsNormal model (core_of_parts model s p no_flags None)
 normal_char model s p defined is none right =
     let length = no_length s defined.allowed is in
     rw (is, length, none, right) (record {
@@ -77,7 +109,8 @@ normal_char model s p defined is none right =
       form = (refl, refl, refl);
     })
 
-one_byte : (model : Model) (s t : Specification) (argument : Argument) (body : Text) → PrintsKind model kinds.Char t argument body → PrintsKind model kinds.Char s argument body × (length body ≡ 1)
+one_byte : (model : Model) (s t : Specification) (argument : Argument) (body : Text) → PrintsKind model kinds.Char t argument body
+    → PrintsKind model kinds.Char s argument body × (length body ≡ 1)
 one_byte model s t (Number n) body h = (h, ap length h.2)
 one_byte model s t (String bytes) body h = absurd h
 
@@ -86,9 +119,10 @@ char_reduction model s defined is =
     let w = width_limit s defined in
     let (a, narrow) = narrowed (has s.flags Minus) (width_of s) 1 in
     let (b, field) = without_idle a 1 in
-    let (q, right) = right_up_to b 0 in
+    let (q, right) = right_justify_if_unseen b 0 in
     let none : b.width ≡ 0 = field.idle (omega (arith, narrow.width)) in
-    let normal = normal_char model s q defined is (omega (arith, right.width, none)) (no_left q.left (λ l. let wide = (right.wide l).1 in omega (arith, wide, none))) in
+    let normal = normal_char model s q defined is (omega (arith, right.width, none)) (no_left q.left
+    (λ l. let wide = (right.wide l).1 in omega (arith, wide, none))) in
     text_reduced model s q None kinds.Char (ap kind_of is) normal (omega (arith, right.constant, field.constant, narrow.constant, w)) (λ argument body h.
     let at = one_byte model s (core_of_parts model s q no_flags None) argument body h in
     let one = at.1 in
@@ -99,7 +133,8 @@ char_reduction model s defined is =
     no_left false h = refl
 
 -- a string
-made_string : (model : Model) (left : Bool) (w : ℕ) (precision : Option ℕ) → w ≤ MAX_NUMBER → is_above_limit precision ≡ false → precision ≢ Some 0 → IfSome precision (λ most. w ≤ most) → (left ≡ true → 1 < w)
+made_string : (model : Model) (left : Bool) (w : ℕ) (precision : Option ℕ) → w ≤ MAX_NUMBER → is_above_limit precision ≡ false → precision ≢ Some 0
+    → IfSome precision (λ most. w ≤ most) → (left ≡ true → 1 < w)
     → IsNormal model (specification_of (with_side left no_flags) (Some w) precision lengths.None S)
 made_string model true w precision few small some most left = record {
   defined = record { width = some_width w; allowed = rw (width_within w few, small) refl };
@@ -122,18 +157,22 @@ made_string model false w precision few small some most left = record {
   form = record { shows_some = some; width = rw (width_is w) most; left = λ l. cc };
 }
 
-printed_string : (model : Model) (s t : Specification) (argument : Argument) (body : Text) → t.precision ≡ s.precision → PrintsKind model kinds.String t argument body → PrintsKind model kinds.String s argument body × ((bytes : Text) × (body ≡ printed_front s.precision bytes))
+printed_string : (model : Model) (s t : Specification) (argument : Argument) (body : Text) → t.precision ≡ s.precision
+    → PrintsKind model kinds.String t argument body → PrintsKind model kinds.String s argument body
+    × ((bytes : Text) × (body ≡ printed_front s.precision bytes))
 printed_string model s t (String bytes) body e h = let same = h ∙ ap (λ o. printed_front o bytes) e in (same, (bytes, same))
 printed_string model s t (Number n) body e h = absurd h
 
 -- a narrower field
 module _ (model : Model) (s : Specification) (defined : IsDefined s) (is : s.conv ≡ S) where
-  in_narrower : (a : Padding) → s.precision ≢ Some 0 → IfSome s.precision (λ most. a.width ≤ most) → a.width ≤ width_of s → constants a ≤ MAX_NUMBER → ((bytes : Text) → with_padding (padding_of s) (printed_front s.precision bytes) ≡ with_padding a (printed_front s.precision bytes)) → Reduction model s
+  in_narrower : (a : Padding) → s.precision ≢ Some 0 → IfSome s.precision (λ most. a.width ≤ most) → a.width ≤ width_of s → constants a ≤ MAX_NUMBER
+      → ((bytes : Text) → with_padding (padding_of s) (printed_front s.precision bytes) ≡ with_padding a (printed_front s.precision bytes)) → Reduction model s
   in_narrower a some most few constant same =
       let w = width_limit s defined in
       let small = (within s defined.allowed).precision in
-      let (q, right) = right_up_to a 1 in
-      let normal = normal_string model s q no_flags s.precision defined.allowed is (made_string model q.left q.width s.precision (omega (arith, right.width, few, w)) small some (rw right.width most) (λ l. let wide = (right.wide l).1 in omega (arith, right.width, wide))) in
+      let (q, right) = right_justify_if_unseen a 1 in
+      let normal = normal_string model s q no_flags s.precision defined.allowed is (made_string model q.left q.width s.precision
+      (omega (arith, right.width, few, w)) small some (rw right.width most) (λ l. let wide = (right.wide l).1 in omega (arith, right.width, wide))) in
       text_reduced model s q s.precision kinds.String (ap kind_of is) normal (omega (arith, right.constant, constant)) (λ argument body h.
       let at = printed_string model s (core_of_parts model s q no_flags s.precision) argument body refl h in
       let bytes = at.1.0 in

@@ -8,7 +8,17 @@ use Rattle.pf_values.specs.declared.models.Model.{Model}
 use Rattle.pf_values.specs.declared.bases.Alternative.{Alternative}
 use Rattle.pf_values.specs.declared.bases.Alternative.TheVariants.{Undefined, Raised, Prefixed}
 use Rattle.pf_values.specs.meaning.Bases.{raises_precision}
-use Rattle.pf_values.specs.meaning.Conversions.{alternative_under, base_of, has_alternative_form, kind_of, is_octal, is_signed, is_text, prints_signed, prints_text}
+use Rattle.pf_values.specs.meaning.Conversions.{
+  alternative_under,
+  base_of,
+  has_alternative_form,
+  kind_of,
+  is_octal,
+  is_signed,
+  is_text,
+  prints_signed,
+  prints_text,
+}
 use Rattle.pf_values.specs.meaning.Defined.{IsDefined}
 use Rattle.pf_values.specs.meaning.Flags.{has, no_flags, with_flag}
 use Rattle.pf_values.specs.meaning.Normal.{IsNormal, digits_at_most}
@@ -21,14 +31,30 @@ use Rattle.pf_values.proofs.Printed.{count_of}
 use Rattle.pf_values.proofs.PrintsOnce.{value_text}
 use Rattle.pf_reduce.specs.declared.padding.Padding.{Padding}
 use Rattle.pf_reduce.specs.Cores.{core_of_parts, kept_precision}
-use Rattle.pf_reduce.specs.Padded.{HasNoIdleWidth, IsNarrowedTo, IsPastZeros, IsRightUpTo, constants, padding_of, with_padding}
+use Rattle.pf_reduce.specs.Padded.{HasNoIdleWidth, IsNarrowedTo, HasHoistedZeros, IsRightIfUnseen, constants, padding_of, with_padding}
 use Rattle.pf_reduce.specs.Prefixes.{is_prefixed, puts_prefix}
 use Rattle.pf_reduce.proofs.Carried.{IsReducedAs, Reduction, made}
-use Rattle.pf_reduce.proofs.Narrowing.{narrowed, not_wider, past_zeros, right_up_to, without_idle}
+use Rattle.pf_reduce.proofs.Narrowing.{narrowed, not_wider, hoist_zeros, right_justify_if_unseen, without_idle}
 use Rattle.pf_reduce.proofs.NormalForms.{normal_filled, normal_octal, normal_prefixed, normal_unprefixed}
 use Rattle.pf_reduce.proofs.PrefixedNumbers.{prefixed_filled, prefixed_reduced, unseen_side}
 use Rattle.pf_reduce.proofs.Precisions.{filled_right}
-use Rattle.pf_reduce.proofs.UnprefixedNumbers.{IsOctal, beyond_most, digits_reduced, digits_text, length-digits_text, length-octal_text, octal, octal_count, octal_reduced, octal_split, octal_text, octal_value, one_or_none, split_zeros, unprefixed_value}
+use Rattle.pf_reduce.proofs.UnprefixedNumbers.{
+  IsOctal,
+  beyond_most,
+  digits_reduced,
+  digits_text,
+  length-digits_text,
+  length-octal_text,
+  octal,
+  octal_count,
+  octal_reduced,
+  octal_split,
+  octal_text,
+  octal_value,
+  one_or_none,
+  split_zeros,
+  unprefixed_value,
+}
 
 -- zeros are constant only where no width is left
 apart : (left : Bool) (w p d a : ℕ) → a ≤ max p d → (a ≤ p → w ≡ 0) → (left ≡ true) ⊎ (w ≡ 0) ⊎ (p - d ≡ 0)
@@ -40,9 +66,11 @@ apart left w p d a few idle = elim (cases_lt d p) [
 -- digits alone, by the steps that narrow the field
 module _ (model : Model) (s : Specification) (defined : IsDefined s) (text : is_text s.conv ≡ false) (sign : is_signed s.conv ≡ false) where
   -- the zeros that are constant are past, and the side is seen
-  pub digits_by : (p z : ℕ) (b c q : Padding) → p ≤ MAX_NUMBER → p - z ≤ digits_at_most model s → constants b + z ≤ MAX_NUMBER → b.width ≤ width_of s → b.width - z ≤ digits_at_most model s → (0 < b.width - z → p - z < b.width - z)
-      → IsPastZeros b z c → IsRightUpTo c 1 q
-      → ((v : ℤ) → count_of (base_of s.conv) (nat_abs v) ≤ digits_at_most model s → with_padding (padding_of s) (value_text s v) ≡ with_padding b (replicate z zero_digit ++ digits_text s.conv (p - z) (nat_abs v)))
+  pub digits_by : (p z : ℕ) (b c q : Padding) → p ≤ MAX_NUMBER → p - z ≤ digits_at_most model s → constants b + z ≤ MAX_NUMBER → b.width ≤ width_of s
+      → b.width - z ≤ digits_at_most model s → (0 < b.width - z → p - z < b.width - z)
+      → HasHoistedZeros b z c → IsRightIfUnseen c 1 q
+      → ((v : ℤ) → count_of (base_of s.conv) (nat_abs v) ≤ digits_at_most model s → with_padding (padding_of s) (value_text s v) ≡ with_padding b
+      (replicate z zero_digit ++ digits_text s.conv (p - z) (nat_abs v)))
       → IsReducedAs model s q no_flags (kept_precision (p - z))
   digits_by p z b c q few fewer constant narrow wide least past right same =
       let w = width_limit s defined in
@@ -53,17 +81,20 @@ module _ (model : Model) (s : Specification) (defined : IsDefined s) (text : is_
       (λ l. let seen = (right.wide l).1 in omega (arith, right.width, seen)) in
       record {
         normal = normal;
-        reduced = digits_reduced model s q (p - z) text sign (refl, normal) (omega (arith, right.constant, past.constant, constant)) (λ v count. same v count ∙ past.same _ ∙ right.same _ (one_or_none _ _));
+        reduced = digits_reduced model s q (p - z) text sign (refl, normal) (omega (arith, right.constant, past.constant, constant))
+            (λ v count. same v count ∙ past.same _ ∙ right.same _ (one_or_none _ _));
       }
 
   pub unprefixed_by : has s.flags Alt ≡ false → (p d z : ℕ) (a b c q : Padding) → p ≡ effective_precision s 0 → d ≡ digits_at_most model s → z ≡ p - d
-      → IsNarrowedTo (padding_of s) (max p d) a → HasNoIdleWidth a p b → IsPastZeros b z c → IsRightUpTo c 1 q → IsReducedAs model s q no_flags (kept_precision (p - z))
+      → IsNarrowedTo (padding_of s) (max p d) a → HasNoIdleWidth a p b → HasHoistedZeros b z c → IsRightIfUnseen c 1 q
+      → IsReducedAs model s q no_flags (kept_precision (p - z))
   unprefixed_by alt p d z a b c q p_is d_is z_is narrow field past right =
       let w = width_limit s defined in
       let few = effective_limit s 0 defined in
       let left = not_wider a p b field in
       let wider = left.0 in
-      digits_by p z b c q (omega (arith, p_is, few)) (omega (arith, d_is, z_is)) (omega (arith, field.constant, narrow.constant, w, few, p_is, z_is)) (omega (arith, wider, narrow.width)) (omega (arith, wider, narrow.width, d_is, z_is))
+      digits_by p z b c q (omega (arith, p_is, few)) (omega (arith, d_is, z_is)) (omega (arith, field.constant, narrow.constant, w, few, p_is, z_is))
+      (omega (arith, wider, narrow.width)) (omega (arith, wider, narrow.width, d_is, z_is))
       (λ some. let least = left.1 (omega (arith, some)) in omega (arith, wider, narrow.width, z_is, least, some)) past right (λ v count.
       let n = nat_abs v in
       let body = digits_text s.conv p n in
@@ -79,17 +110,19 @@ module _ (model : Model) (s : Specification) (defined : IsDefined s) (text : is_
       let d : ℕ = digits_at_most model s in
       let (a, narrow) = narrowed (has s.flags Minus) (width_of s) (max p d) in
       let (b, field) = without_idle a p in
-      let past = past_zeros b (p - d) (apart b.left b.width p d a.width (omega (arith, narrow.width)) field.idle) in
-      let (q, right) = right_up_to (record b { zeros = b.zeros + (p - d); width = b.width - (p - d) }) 1 in
+      let past = hoist_zeros b (p - d) (apart b.left b.width p d a.width (omega (arith, narrow.width)) field.idle) in
+      let (q, right) = right_justify_if_unseen (record b { zeros = b.zeros + (p - d); width = b.width - (p - d) }) 1 in
       made model s q no_flags (kept_precision (p - (p - d))) (unprefixed_by alt p d (p - d) a b _ q refl refl refl narrow field past right)
 
 -- octal digits that begin with 0
-module _ (model : Model) (s : Specification) (defined : IsDefined s) (raises : is_octal s.conv ≡ true) (alt : has s.flags Alt ≡ true) (p d : ℕ) (a b : Padding) (p_is : p ≡ max (effective_precision s 0) 1) (d_is : d ≡ digits_at_most model s)
+module _ (model : Model) (s : Specification) (defined : IsDefined s) (raises : is_octal s.conv ≡ true) (alt : has s.flags Alt ≡ true) (p d : ℕ) (a b : Padding)
+    (p_is : p ≡ max (effective_precision s 0) 1) (d_is : d ≡ digits_at_most model s)
     (narrow : IsNarrowedTo (padding_of s) (max p (d + 1)) a) (field : HasNoIdleWidth a p b) where
   abbrev e : IsOctal s.conv
   e = octal s.conv raises
 
-  in_field : (v : ℤ) → count_of 8 (nat_abs v) ≤ digits_at_most model s → with_padding (padding_of s) (value_text s v) ≡ with_padding b (octal_text p (nat_abs v))
+  in_field : (v : ℤ) → count_of 8 (nat_abs v) ≤ digits_at_most model s → with_padding (padding_of s) (value_text s v) ≡ with_padding b
+      (octal_text p (nat_abs v))
   in_field v count =
       let n = nat_abs v in
       let len = length-octal_text p n in
@@ -106,17 +139,21 @@ module _ (model : Model) (s : Specification) (defined : IsDefined s) (raises : i
       let wider = left.0 in
       let least = left.1 some in
       let normal : IsNormal model (core_of_parts model s b (with_flag no_flags Alt) (kept_precision p)) =
-      normal_octal model s b p raises (omega (arith, wider, narrow.width, w), omega (arith, p_is, few)) right (omega (arith, p_is)) (omega (arith, least, wider, narrow.width, d_is)) least (omega (arith, least, wider, narrow.width, d_is)) in
+      normal_octal model s b p raises (omega (arith, wider, narrow.width, w), omega (arith, p_is, few)) right (omega (arith, p_is))
+      (omega (arith, least, wider, narrow.width, d_is)) least (omega (arith, least, wider, narrow.width, d_is)) in
       record { normal = normal; reduced = octal_reduced model s b p e alt (refl, normal) (omega (arith, field.constant, narrow.constant, w)) in_field }
 
   -- else that is constant
-  pub octal_past_zeros : (z : ℕ) (c q : Padding) → z ≡ 1 + (p - 1 - d) → IsPastZeros b z c → IsRightUpTo c 1 q → IsReducedAs model s q no_flags (kept_precision (p - z))
-  octal_past_zeros z c q z_is past right =
+  pub octal_after_hoisted : (z : ℕ) (c q : Padding) → z ≡ 1 + (p - 1 - d) → HasHoistedZeros b z c → IsRightIfUnseen c 1 q
+      → IsReducedAs model s q no_flags (kept_precision (p - z))
+  octal_after_hoisted z c q z_is past right =
       let w = width_limit s defined in
       let few = effective_limit s 0 defined in
       let left = not_wider a p b field in
       let wider = left.0 in
-      digits_by model s defined (ap prints_text e) (ap prints_signed e) p z b c q (omega (arith, p_is, few)) (omega (arith, d_is, z_is, p_is)) (omega (arith, field.constant, narrow.constant, w, few, p_is, z_is)) (omega (arith, wider, narrow.width)) (omega (arith, wider, narrow.width, d_is, z_is, p_is))
+      digits_by model s defined (ap prints_text e) (ap prints_signed e) p z b c q (omega (arith, p_is, few)) (omega (arith, d_is, z_is, p_is))
+      (omega (arith, field.constant, narrow.constant, w, few, p_is, z_is)) (omega (arith, wider, narrow.width))
+      (omega (arith, wider, narrow.width, d_is, z_is, p_is))
       (λ some. let least = left.1 (omega (arith, some)) in omega (arith, wider, narrow.width, z_is, least, some)) past right (λ v count.
       let fewer = octal_count model s e (nat_abs v) count in
       in_field v fewer ∙ ap (with_padding b) (octal_split s.conv e p d z (nat_abs v) (omega (arith, p_is)) z_is (omega (arith, fewer, d_is))))
@@ -124,9 +161,9 @@ module _ (model : Model) (s : Specification) (defined : IsDefined s) (raises : i
   past_zeros_of : (b.left ≡ true) ⊎ (b.width ≡ 0) → Reduction model s
   past_zeros_of no_spaces =
       let z : ℕ = 1 + (p - 1 - d) in
-      let past = past_zeros b z (elim no_spaces [ inl l ↦ inl l | inr none ↦ inr (inl none) ]) in
-      let (q, right) = right_up_to (record b { zeros = b.zeros + z; width = b.width - z }) 1 in
-      made model s q no_flags (kept_precision (p - z)) (octal_past_zeros z _ q refl past right)
+      let past = hoist_zeros b z (elim no_spaces [ inl l ↦ inl l | inr none ↦ inr (inl none) ]) in
+      let (q, right) = right_justify_if_unseen (record b { zeros = b.zeros + z; width = b.width - z }) 1 in
+      made model s q no_flags (kept_precision (p - z)) (octal_after_hoisted z _ q refl past right)
 
   by_side : (left : Bool) → b.left ≡ left → Reduction model s
   by_side true l = past_zeros_of (inl l)
@@ -155,8 +192,10 @@ module _ (model : Model) (s : Specification) (defined : IsDefined s) (form : is_
       let normal = normal_filled model s (padding_of s) form (width_limit s defined) (filled_right s all) wide in
       record { normal = normal; reduced = prefixed_filled model s form alt all (refl, normal) }
 
-  pub prefixed_by : (p d most : ℕ) (a b q : Padding) → (is_zero_filled s ≡ true → (1 ≤ 0) ⊎ (width_of s ≤ 1)) → p ≡ effective_precision s 0 → d ≡ digits_at_most model s → (p ≡ 0 → most ≡ 3) → (1 ≤ p → most ≡ 0)
-      → IsNarrowedTo (padding_of s) (2 + max p d) a → HasNoIdleWidth a p b → IsRightUpTo b most q → IsReducedAs model s q (with_flag no_flags Alt) (kept_precision p)
+  pub prefixed_by : (p d most : ℕ) (a b q : Padding) → (is_zero_filled s ≡ true → (1 ≤ 0) ⊎ (width_of s ≤ 1)) → p ≡ effective_precision s 0
+      → d ≡ digits_at_most model s → (p ≡ 0 → most ≡ 3) → (1 ≤ p → most ≡ 0)
+      → IsNarrowedTo (padding_of s) (2 + max p d) a → HasNoIdleWidth a p b → IsRightIfUnseen b most q
+      → IsReducedAs model s q (with_flag no_flags Alt) (kept_precision p)
   prefixed_by p d most a b q idle p_is d_is none some narrow field right =
       let w = width_limit s defined in
       let few = effective_limit s 0 defined in
@@ -180,7 +219,7 @@ module _ (model : Model) (s : Specification) (defined : IsDefined s) (form : is_
       let (a, narrow) = narrowed (has s.flags Minus) (width_of s) (2 + max p d) in
       let (b, field) = without_idle a p in
       let (most, none, some) = unseen_up_to p 3 in
-      let (q, right) = right_up_to b most in
+      let (q, right) = right_justify_if_unseen b most in
       made model s q (with_flag no_flags Alt) (kept_precision p) (prefixed_by p d most a b q idle refl refl none some narrow field right)
 
   by_fill : (filled : Bool) → is_zero_filled s ≡ filled → Reduction model s

@@ -1,4 +1,4 @@
--- Texts in a field, within constant padding. This project's own, but for the field.
+-- Texts in a field, within constant padding. This project's own, except the field.
 use Rattle.std.specs.Prelude.{◌≡◌, ℕ, ◌+◌, ◌-◌, ◌<◌, ◌≤◌, min, true, ◌++◌, ◌⊎◌, length, replicate}
 use Rattle.pf_values.specs.declared.flags.Flag.TheVariants.{Minus}
 use Rattle.pf_values.specs.meaning.Flags.{has}
@@ -22,18 +22,18 @@ padding_of s =
 abbrev pub constants : Padding → ℕ
 constants p = p.spaces + (p.zeros + p.trail)
 
--- nobody sees the side of a field: the width is reached, or only spaces are printed
+-- the side of a field makes no visible difference: the width is reached, or only spaces are printed
 abbrev pub IsUnseen : ℕ → Text → Type 0
 IsUnseen width body = (width ≤ length body) ⊎ (body ≡ replicate (length body) space)
 
--- Where at most so many bytes are printed, the spaces beyond are constant.
+-- If at most `most` bytes are printed, the spaces beyond are constant.
 pub record IsNarrowedTo (p : Padding) (most : ℕ) (q : Padding) : Type 0 where
   pub same : (body : Text) → length body ≤ most → with_padding p body ≡ with_padding q body
   pub constant : constants q ≡ p.width - most
   pub left : q.left ≡ p.left
   pub width : q.width ≡ min p.width most
 
--- Where at least so many bytes are printed, a width of no more is none.
+-- If at least `least` bytes are always printed, a width up to that has no effect.
 pub record HasNoIdleWidth (p : Padding) (least : ℕ) (q : Padding) : Type 0 where
   pub same : (body : Text) → least ≤ length body → with_padding p body ≡ with_padding q body
   pub constant : constants q ≡ constants p
@@ -41,19 +41,19 @@ pub record HasNoIdleWidth (p : Padding) (least : ℕ) (q : Padding) : Type 0 whe
   pub idle : p.width ≤ least → q.width ≡ 0
   pub kept : least < p.width → q.width ≡ p.width
 
--- Where so many zeros are printed first, they are constant.
-pub record IsPastZeros (p : Padding) (count : ℕ) (q : Padding) : Type 0 where
+-- If `count` zeros are always printed first, they are constant.
+pub record HasHoistedZeros (p : Padding) (count : ℕ) (q : Padding) : Type 0 where
   pub same : (body : Text)
       → with_padding p (replicate count zero_digit ++ body) ≡ with_padding q body
   pub constant : constants q ≡ constants p + count
   pub left : q.left ≡ p.left
   pub width : q.width ≡ p.width - count
 
--- It is right-justified up to a width of which nobody sees the side.
-pub record IsRightUpTo (p : Padding) (most : ℕ) (q : Padding) : Type 0 where
-  pub same : (body : Text) → (p.width ≤ most → IsUnseen p.width body)
+-- It is right-justified if the width is at most `unseen`, where the side makes no visible difference.
+pub record IsRightIfUnseen (p : Padding) (unseen : ℕ) (q : Padding) : Type 0 where
+  pub same : (body : Text) → (p.width ≤ unseen → IsUnseen p.width body)
       → with_padding p body ≡ with_padding q body
   pub constant : constants q ≡ constants p
   pub width : q.width ≡ p.width
-  pub wide : q.left ≡ true → (p.left ≡ true) × (most < p.width)
-  pub right : most < p.width → q.left ≡ p.left
+  pub wide : q.left ≡ true → (p.left ≡ true) × (unseen < p.width)
+  pub right : unseen < p.width → q.left ≡ p.left

@@ -63,8 +63,8 @@ fn reduce_unprefixed(model: Model, directive: &Directive) -> Reduced
     let padding = Padding::of(directive)
         .with_width_at_most(precision.max(digits))
         .without_idle_width(precision)
-        .past_zeros(zeros)
-        .right_up_to(1);
+        .hoist_zeros(zeros)
+        .right_justify_if_unseen(1);
     let kept = kept_precision(precision - zeros);
     padded_core(model, padding, directive, FlagSet::empty(), kept)
 }
@@ -87,7 +87,7 @@ fn reduce_octal(model: Model, directive: &Directive) -> Reduced
         return padded_core(model, padding, directive, alt, kept_precision(precision));
     }
     let zeros = 1 + (precision - 1).saturating_sub(digits);
-    let padding = padding.past_zeros(zeros).right_up_to(1);
+    let padding = padding.hoist_zeros(zeros).right_justify_if_unseen(1);
     let kept = kept_precision(precision - zeros);
     padded_core(model, padding, directive, FlagSet::empty(), kept)
 }
@@ -107,7 +107,7 @@ fn reduce_prefixed(model: Model, directive: &Directive) -> Reduced
     let padding = Padding::of(directive)
         .with_width_at_most(2 + precision.max(max_digits(model, directive)))
         .without_idle_width(precision)
-        .right_up_to(unseen_width(precision, 3));
+        .right_justify_if_unseen(unseen_width(precision, 3));
     let alt = FlagSet::empty().with(Flag::Alt);
     padded_core(model, padding, directive, alt, kept_precision(precision))
 }
@@ -131,7 +131,7 @@ pub(crate) fn reduce_signed(model: Model, directive: &Directive) -> Reduced
     let sign = sign_in_field(sign, padding, precision, digits);
     let padding = padding
         .without_idle_width(sign.len() + precision)
-        .right_up_to(unseen_signed_width(precision, sign));
+        .right_justify_if_unseen(unseen_signed_width(precision, sign));
     padded_core(
         model,
         padding,
@@ -141,8 +141,8 @@ pub(crate) fn reduce_signed(model: Model, directive: &Directive) -> Reduced
     )
 }
 
-// Whether the flag `0` fills the core's width. Beside a sign, which each number then has, a
-// precision gives the same zeros.
+// Whether the flag `0` fills the core's width. With a sign, which each number then has, a precision
+// gives the same zeros.
 fn keeps_zeros(directive: &Directive, sign: u16) -> bool
     ensures kept { result ≡ true
         → (is_zero_filled directive.now ≡ true) × (sign ≡ 0) × (2 ≤ width_of directive.now) }
@@ -153,8 +153,8 @@ fn keeps_zeros(directive: &Directive, sign: u16) -> bool
 }
 
 // On the right, in a field for the most digits and a sign, a space comes before each number that is
-// not below zero, with the flag space or without. Where all numbers have the same count of digits,
-// the flag does without the field; else the field does without the flag.
+// not below zero, with the flag space or without. If all numbers have as many digits, the flag needs
+// no field; otherwise the field needs no flag.
 fn sign_in_field(sign: Sign, padding: Padding, precision: u16, digits: u16) -> Sign
     requires { max precision digits ≤ MAX_NUMBER }
     ensures same { (negative : Bool) (number : Text) → length number ≤ max precision digits
@@ -180,7 +180,7 @@ fn sign_in_field(sign: Sign, padding: Padding, precision: u16, digits: u16) -> S
     }
 }
 
-// The greatest width at which the side makes no visible difference: with precision 0 the value 0
+// The largest width at which the side makes no visible difference: with precision 0 the value 0
 // prints only spaces, and any other value at least `least` bytes.
 fn unseen_width(precision: u16, least: u16) -> u16
     ensures none { precision ≡ 0 → result ≡ least }
@@ -189,7 +189,8 @@ fn unseen_width(precision: u16, least: u16) -> u16
     if precision == 0 { least } else { 0 }
 }
 
-// The same of a signed number, where the value 0 prints its `+`, if it has one.
+// The largest width at which the side of a signed number makes no visible difference. The value 0
+// prints its `+`, if it has one.
 fn unseen_signed_width(precision: u16, sign: Sign) -> u16
     ensures plus { sign ≡ signs.Plus → result ≡ 0 }
     ensures none { sign ≢ signs.Plus → precision ≡ 0 → result ≡ sign_length sign + 1 }

@@ -17,9 +17,9 @@ pub(crate) struct Padding {
 }
 
 impl Padding {
-    ghost use Rattle.pf_reduce.specs.Padded.{HasNoIdleWidth, IsNarrowedTo, IsPastZeros, IsRightUpTo, constants, padding_of};
+    ghost use Rattle.pf_reduce.specs.Padded.{HasNoIdleWidth, IsNarrowedTo, HasHoistedZeros, IsRightIfUnseen, constants, padding_of};
 
-    /// As the directive says.
+    /// The width and the side that a directive has, with nothing constant around them.
     #[inline(always)]
     pub(crate) fn of(directive: &Directive) -> Padding
         ensures value { result ≡ padding_of directive.now }
@@ -78,12 +78,12 @@ impl Padding {
         !self.left && self.width > 0
     }
 
-    /// If `count` zeros are always printed first, they are constant.
+    /// If `count` zeros are always printed first, moves them out of the field: they are constant.
     #[inline(always)]
-    pub(crate) fn past_zeros(self, count: u16) -> Padding
+    pub(crate) fn hoist_zeros(self, count: u16) -> Padding
         requires apart { (self.left ≡ true) ⊎ (self.width ≡ 0) ⊎ (count ≡ 0) }
         requires room { constants self + count < 2 ^ 16 }
-        ensures { IsPastZeros self count result }
+        ensures { HasHoistedZeros self count result }
     {
         Padding {
             zeros: self.zeros + count,
@@ -92,12 +92,13 @@ impl Padding {
         }
     }
 
-    /// Right-justified up to a width of which nobody sees the side.
+    /// Right-justified, if the width is at most `unseen`: at those widths the side makes no visible
+    /// difference.
     #[inline(always)]
-    pub(crate) fn right_up_to(self, most: u16) -> Padding
-        ensures { IsRightUpTo self most result }
+    pub(crate) fn right_justify_if_unseen(self, unseen: u16) -> Padding
+        ensures { IsRightIfUnseen self unseen result }
     {
-        if self.width > most {
+        if self.width > unseen {
             return self;
         }
         Padding {

@@ -23,7 +23,7 @@ impl Model for Normal {
     ghost inverse = { λ n. record { model = n.model; directive = n.specification } };
 }
 
-/// What is left of a directive beside its constant padding.
+/// The directive that remains without its constant padding.
 #[derive(Clone, Copy, Debug, PartialEq, Eq)]
 pub enum Core {
     /// A normal directive.

@@ -13,7 +13,8 @@ pub(crate) enum Sign {
 }
 
 impl Sign {
-    /// What the flags ask for: beside `+` a space doesn't count (C11 7.21.6.1, paragraph 6).
+    /// The sign that the flags ask for: with `+` the flag space is ignored (C11 7.21.6.1, paragraph
+    /// 6).
     #[inline(always)]
     pub(crate) fn of(flags: FlagSet) -> Sign
         ensures { result ≡ sign_of flags }
@@ -27,7 +28,7 @@ impl Sign {
         }
     }
 
-    /// The flag that asks for it.
+    /// The flag that asks for this sign.
     #[inline(always)]
     pub(crate) fn flags(self) -> FlagSet
         ensures { result ≡ sign_flags self }

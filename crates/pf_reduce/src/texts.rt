@@ -23,7 +23,7 @@ pub(crate) fn reduce_char(model: Model, directive: &Directive) -> Reduced
     let padding = Padding::of(directive)
         .with_width_at_most(1)
         .without_idle_width(1)
-        .right_up_to(0);
+        .right_justify_if_unseen(0);
     padded_core(model, padding, directive, FlagSet::empty(), None)
 }
 
@@ -49,7 +49,7 @@ pub(crate) fn reduce_string(model: Model, directive: &Directive) -> Reduced
             trail: 0,
         };
     }
-    let padding = string_padding(Padding::of(directive), precision).right_up_to(1);
+    let padding = string_padding(Padding::of(directive), precision).right_justify_if_unseen(1);
     padded_core(model, padding, directive, FlagSet::empty(), precision)
 }
 

@@ -1,6 +1,6 @@
 pub mod DigitLemmas
 mod PartLemmas
-mod IntegerLemmas
+pub mod IntegerLemmas
 mod TextLemmas
 mod PrintingLemmas
 mod ItemLemmas

@@ -1,5 +1,6 @@
-pub mod SignedNumbers
+pub mod Values
 pub mod Zeros
+pub mod IntegerParts
 pub mod Parts
 pub mod Counts
 pub mod Matching

@@ -31,7 +31,8 @@ pub fn render_one<W: Write>(
     Ok(())
 }
 
-/// Writes the same, and returns how many bytes that were.
+/// Writes what the directive prints for an argument of its type, and returns how many bytes that
+/// were.
 // Never inlined, so that literal bytes are written without the setup of this function.
 #[inline(never)]
 pub(crate) fn write_argument<W: Write>(

@@ -30,7 +30,7 @@ pub(crate) fn write_field<'a, W: Write>(
     write_three(directive, first, second, third, writer)
 }
 
-// Does the same, however many bytes each part has.
+// Writes a text of three parts in the field of the directive, whatever their lengths.
 #[inline(never)]
 fn write_three<'a, W: Write>(
     directive: &Directive,

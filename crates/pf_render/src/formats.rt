@@ -79,7 +79,7 @@ fn write_cached<W: Write>(
     Ok(())
 }
 
-// Writes the same of a format with more pieces than the cache holds: it is read once more.
+// Writes a format with more pieces than the cache holds: it is read once more.
 #[inline(never)]
 fn write_pieces<W: Write>(
     model: Model,

@@ -1,36 +1,27 @@
 //! The values that directives print for numbers.
-ghost use Rattle.std.specs.Prelude.{◌≡◌, IsFalse, true, false, nat_abs};
-ghost use Rattle.pf_values.specs.meaning.Arguments.{IsConverted, IsValue};
-ghost use Rattle.pf_values.specs.meaning.Conversions.{is_text};
-ghost use Rattle.pf_values.specs.meaning.DataModel.{Bits, bit_count};
-ghost use Rattle.pf_values.specs.meaning.Printing.{is_negative};
+ghost use Rattle.std.specs.Prelude.{◌≡◌, IsFalse, true, false};
+ghost use Rattle.pf_values.specs.meaning.Conversions.{is_signed, is_text};
+ghost use Rattle.pf_values.specs.meaning.DataModel.{Bits, bit_count, bits_under};
+ghost use Rattle.pf_render.specs.Values.{IsOfValue};
 
-use pf_values::{Directive, Kind, ValueKind};
-use std::marker::Model;
+use pf_values::{Directive, Kind, Model, ValueKind};
 
-/// The value that a directive prints for a number, by its sign and its size.
-#[derive(Drop)]
-pub(crate) struct Value {
-    is_negative: bool,
-    size: u64,
-}
-
-impl Model for Value {
-    ghost use Rattle.std.specs.Prelude.{ℤ, ◌<◌, IsTrue};
-    ghost use Rattle.pf_render.specs.SignedNumbers.{signed_number};
-
-    ghost Value = { ℤ };
-
-    ghost view = { λ v. signed_number v.is_negative v.size };
-
-    ghost invariant = { λ v. IsTrue v.is_negative → 0 < v.size };
+/// The value that a directive prints for a number, by its sign and its magnitude.
+#[derive(Clone, Copy)]
+pub struct Value {
+    /// Whether it is below 0.
+    pub is_negative: bool,
+    /// The number without its sign.
+    pub magnitude: u64,
 }
 
 impl Value {
     /// The value of the number in the range that the length modifier and the conversion name.
-    pub(crate) fn of(model: pf_values::Model, directive: &Directive, number: i128) -> Value
+    #[inline(always)]
+    pub fn of(model: Model, directive: &Directive, number: i128) -> Value
         requires integer { IsFalse (is_text directive.now.conv) }
-        ensures { IsValue model directive.now number result }
+        ensures { IsOfValue (is_signed directive.now.conv)
+            (bit_count (bits_under model directive.now.length)) number result }
     {
         match directive.conv().kind() {
             Kind::Signed => Value::of_signed(directive.bits(model), number),
@@ -38,9 +29,10 @@ impl Value {
         }
     }
 
+    #[inline(always)]
     fn of_signed(bits: u8, number: i128) -> Value
         requires { (b : Bits) × (bits ≡ bit_count b) }
-        ensures { IsConverted true bits number result }
+        ensures { IsOfValue true bits number result }
     {
         match bits {
             8 => Value::of_kind::<i8>(number),
@@ -50,9 +42,10 @@ impl Value {
         }
     }
 
+    #[inline(always)]
     fn of_unsigned(bits: u8, number: i128) -> Value
         requires { (b : Bits) × (bits ≡ bit_count b) }
-        ensures { IsConverted false bits number result }
+        ensures { IsOfValue false bits number result }
     {
         match bits {
             8 => Value::of_kind::<u8>(number),
@@ -62,27 +55,14 @@ impl Value {
         }
     }
 
+    #[inline(always)]
     fn of_kind<V: ValueKind>(number: i128) -> Value
-        ensures { IsConverted V.is_signed (bit_count V.bits) number result }
+        ensures { IsOfValue V.is_signed (bit_count V.bits) number result }
     {
         let value = V::of(number);
         Value {
             is_negative: value.is_negative(),
-            size: value.unsigned_abs(),
+            magnitude: value.unsigned_abs(),
         }
-    }
-
-    /// Whether the value is below 0.
-    pub(crate) fn is_negative(&self) -> bool
-        ensures { result ≡ is_negative self.now }
-    {
-        self.is_negative
-    }
-
-    /// The value without its sign.
-    pub(crate) fn size(&self) -> u64
-        ensures { result ≡ nat_abs self.now }
-    {
-        self.size
     }
 }

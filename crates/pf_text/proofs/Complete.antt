@@ -29,6 +29,7 @@ use Rattle.pf_text.specs.Stages.{Between, Opened, Flags, Width, Point, Precision
 use Rattle.pf_text.specs.Letters.{flag_of, modifier_of, conv_of}
 use Rattle.pf_text.specs.States.{next, is_digit, after_flags, after_number, inside, end_at, judged_as}
 use Rattle.pf_text.specs.Fronts.{IsFront, IsAt}
+use Rattle.pf_text.proofs.NumberDigits.{first_above_zero}
 use Rattle.pf_text.proofs.Runs.{Progress, moved, run, run-append}
 
 pub flag_of_byte : (flag : Flag) → flag_of (flag_byte flag) ≡ Some flag
@@ -76,10 +77,6 @@ large n h = grind (arith, nat_tests)
 
 pub fits_le : (n : ℕ) → is_above_limit (Some n) ≡ false → n ≤ MAX_NUMBER
 fits_le n h = grind (arith, nat_tests)
-
-pub first_above_zero : (n d : ℕ) (ds : List ℕ) → 0 < n → AreLeastDigits 10 1 n (d ∷ ds) → 0 < d
-first_above_zero n d [] low h = let one = pow-zero 10 in omega (arith, h.digits.sum)
-first_above_zero n d (e ∷ ds) low h = h.no_more (omega arith)
 
 module _ (items : List Item) where
   abbrev pub On : State → Progress

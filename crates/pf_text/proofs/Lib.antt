@@ -1,4 +1,5 @@
 pub mod Runs
+pub mod NumberDigits
 pub mod Complete
 pub mod Sound
 pub mod Texts
@@ -16,4 +17,5 @@ pub mod SpecificationLemmas
 pub mod PieceTexts
 pub mod SignatureLemmas
 pub mod WholeRunLemmas
+mod KindLemmas
 mod Examples

@@ -36,8 +36,9 @@ use Rattle.pf_text.specs.Stages.{Between, Opened, Flags, Width, Point, Precision
 use Rattle.pf_text.specs.Fronts.{IsAt}
 use Rattle.pf_text.specs.Letters.{modifier_of, conv_of, refused_letter}
 use Rattle.pf_text.specs.States.{Next, next, after_number, end_at, judgement_of}
-use Rattle.pf_text.proofs.Complete.{On, at_flags, at_width, at_point, next-at_flags, digit_is, first_above_zero, run-flags, run-width, run-point, first_width, first_precision, more_width, more_precision, point_step, letter_at_point, run-at, no_test, no_digit, no_high_flag, large}
+use Rattle.pf_text.proofs.Complete.{On, at_flags, at_width, at_point, next-at_flags, digit_is, run-flags, run-width, run-point, first_width, first_precision, more_width, more_precision, point_step, letter_at_point, run-at, no_test, no_digit, no_high_flag, large}
 use Rattle.pf_text.proofs.Runs.{moved, run, run-append, run-refused, front-ok}
+use Rattle.pf_text.proofs.NumberDigits.{first_above_zero}
 use Rattle.pf_text.proofs.Sound.{given_same}
 use Rattle.pf_text.proofs.Texts.{start, state_in, split_last, IsEnded-spelled, run-ended}
 

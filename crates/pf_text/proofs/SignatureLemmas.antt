@@ -9,7 +9,7 @@ use Rattle.pf_values.specs.meaning.Text.{Text}
 use Rattle.pf_values.proofs.ItemTypes.{types-append}
 use Rattle.pf_text.specs.declared.pieces.Piece.{Piece}
 use Rattle.pf_text.specs.declared.pieces.Pieces.{Pieces}
-use Rattle.pf_text.specs.declared.scanner.Refusal.{Refusal}
+use Rattle.pf_text.specs.declared.refusals.Refusal.{Refusal}
 use Rattle.pf_text.specs.PieceHistory.{NextReturns, NextIs, NextIsPiece, NextIsRefusal, HasGiven, items_of}
 use Rattle.pf_text.specs.Signatures.{TakesTypes, TakesManyArguments}
 

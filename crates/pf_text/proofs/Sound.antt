@@ -41,7 +41,7 @@ use Rattle.pf_text.specs.Fronts.{IsFront, IsAt}
 use Rattle.pf_text.specs.History.{IsLiteral}
 use Rattle.pf_text.specs.Letters.{flag_of, modifier_of, conv_of, refused_letter}
 use Rattle.pf_text.specs.States.{Next, next, is_digit, after_flags, flag_or_after, after_number, modifier_or_end, end_at, end_by, judgement_of, judged_as, width_with, precision_with, after_modifier}
-use Rattle.pf_text.proofs.Complete.{first_above_zero}
+use Rattle.pf_text.proofs.NumberDigits.{another_digit, digit_of, digits_push, glyph_push, one_digit}
 
 -- what a step says of the part that the byte goes on with
 abbrev pub LeadsTo : Text → ℕ → State → Step → Type 0
@@ -74,47 +74,8 @@ letter_of byte lengths.T e = let same : 116 ≡ byte = grind (arith, nat_tests) 
 eqb_no : (a b : ℕ) → (a == b) ≡ false → a ≢ b
 eqb_no a b e = grind (arith, nat_tests)
 
--- digits of a number, and one more
-carried : (x q p b d : ℕ) → x * (q * b) + (p * b + d) ≡ (x * q + p) * b + d
-carried x q p b d = grind arith
-
-place_sum-push : (base : ℕ) (ds : List ℕ) (d : ℕ) → place_sum base (ds ++ d ∷ []) ≡ place_sum base ds * base + d
-place_sum-push base [] d = let one = pow-zero base in rw one (omega arith)
-place_sum-push base (x ∷ ds) d =
-    let longer = length_push ds d in
-    let rest = place_sum-push base ds d in
-    rw (longer, rest, add-one, pow-suc) (carried x (base ^ length ds) (place_sum base ds) base d)
-
-pub below-push : (ds : List ℕ) (d : ℕ) → AllByRecursion (λ x. x < 10) ds → d < 10 → AllByRecursion (λ x. x < 10) (ds ++ d ∷ [])
-below-push [] d h small = (small, tt)
-below-push (x ∷ ds) d h small = (h.0, below-push ds d h.1 small)
-
-AreDigits-push : (n d : ℕ) (ds : List ℕ) → d < 10 → AreDigits 10 n ds → AreDigits 10 (10 * n + d) (ds ++ d ∷ [])
-AreDigits-push n d ds small h = record { below = below-push ds d h.below small; sum = place_sum-push 10 ds d ∙ omega (arith, h.sum) }
-
-first_push : (n d : ℕ) (ds : List ℕ) → 0 < n → AreLeastDigits 10 1 n ds → 1 < length (ds ++ d ∷ []) → 0 < get_or (ds ++ d ∷ []) 0 0
-first_push n d [] some h l = absurd (omega (arith, h.enough))
-first_push n d (x ∷ ds) some h l = first_above_zero n x ds some h
-
-another_digit : (n d : ℕ) (ds : List ℕ) → 0 < n → d < 10 → AreLeastDigits 10 1 n ds → AreLeastDigits 10 1 (10 * n + d) (ds ++ d ∷ [])
-another_digit n d ds some small h =
-    record {
-      digits = AreDigits-push n d ds small h.digits;
-      enough = omega (arith, length_push ds d);
-      no_more = first_push n d ds some h;
-    }
-
-one_digit : (n : ℕ) → 0 < n → n < 10 → AreLeastDigits 10 1 n (n ∷ [])
-one_digit n some small = let one = pow-zero 10 in record { digits = record { below = (small, tt); sum = omega arith }; enough = omega arith; no_more = λ _. some }
-
-pub digit_of : (byte : ℕ) → is_digit byte ≡ true → (byte - 48 < 10) × (digit_glyph false (byte - 48) ≡ byte)
-digit_of byte h = (grind (arith, nat_tests), grind (arith, nat_tests))
-
 no_flag_zero : (byte : ℕ) → flag_of byte ≡ None → is_digit byte ≡ true → 48 < byte
 no_flag_zero byte h e = grind (arith, nat_tests)
-
-pub glyph_push : (ds : List ℕ) (byte : ℕ) → is_digit byte ≡ true → map (digit_glyph false) ds ++ byte ∷ [] ≡ map (digit_glyph false) (ds ++ (byte - 48) ∷ [])
-glyph_push ds byte d = let digit = digit_of byte d in ap (λ b. map (digit_glyph false) ds ++ b ∷ []) (sym digit.1) ∙ sym (map_push (digit_glyph false) ds (byte - 48))
 
 pub SpellsWidth-push : (t : Text) (n byte : ℕ) → is_digit byte ≡ true → SpellsWidth t (Some n) → SpellsWidth (t ++ byte ∷ []) (Some (10 * n + (byte - 48)))
 SpellsWidth-push t n byte d h =
@@ -132,7 +93,7 @@ SpellsWidth-one byte d low =
 pub SpellsPrecision-push : (t : Text) (n byte : ℕ) → is_digit byte ≡ true → SpellsPrecision t (Some n) → SpellsPrecision (t ++ byte ∷ []) (Some (10 * n + (byte - 48)))
 SpellsPrecision-push t n byte d h =
     let digit = digit_of byte d in
-    let ds = h.0 in (ds ++ (byte - 48) ∷ [], AreDigits-push n (byte - 48) ds digit.0 h.1, ap (λ u. u ++ byte ∷ []) h.2 ∙ ap (λ u. 46 ∷ u) (glyph_push ds byte d))
+    let ds = h.0 in (ds ++ (byte - 48) ∷ [], digits_push n (byte - 48) ds digit.0 h.1, ap (λ u. u ++ byte ∷ []) h.2 ∙ ap (λ u. 46 ∷ u) (glyph_push ds byte d))
 
 pub SpellsPrecision-point : SpellsPrecision (46 ∷ []) (Some 0)
 SpellsPrecision-point = ([], record { below = tt; sum = refl }, refl)

@@ -19,7 +19,8 @@ use Rattle.pf_text.specs.Letters.{flag_of}
 use Rattle.pf_text.specs.Places.{ContinuesNumber, HasBytes}
 use Rattle.pf_text.specs.States.{is_digit}
 use Rattle.pf_text.proofs.Complete.{digit_is, small}
-use Rattle.pf_text.proofs.Sound.{SpellsPrecision-point, SpellsPrecision-push, SpellsWidth-one, SpellsWidth-push, below-push, byte_of_flag, digit_of, glyph_push}
+use Rattle.pf_text.proofs.NumberDigits.{below-push, digit_of, glyph_push}
+use Rattle.pf_text.proofs.Sound.{SpellsPrecision-point, SpellsPrecision-push, SpellsWidth-one, SpellsWidth-push, byte_of_flag}
 
 pub bytes_none : (t : Text) (at : ℕ) → at ≤ length t → HasBytes t at at []
 bytes_none t at few = record { from = omega arith; within = few; whole = sym (append-nil (take at t)) }

@@ -1,7 +1,7 @@
 -- What single bytes mean in a specification. What is refused is this project's own.
 use Rattle.std.specs.Prelude.{ℕ, ◌==◌, List, [], ◌∷◌, map, filter, Option, find, if◌then◌else◌}
 use Rattle.pf_values.specs.declared.conversions.Conv.{Conv}
-use Rattle.pf_values.specs.declared.conversions.Conv.TheVariants.{D, I, U, O, X, UpperX, B, C, S}
+use Rattle.pf_values.specs.declared.conversions.TheConstants.Conv.{ALL as all_convs}
 use Rattle.pf_values.specs.declared.flags.Flag.{Flag}
 use Rattle.pf_values.specs.declared.flags.FlagSet.{FlagSet}
 use Rattle.pf_values.specs.declared.lengths.Length.{Length}
@@ -38,7 +38,7 @@ modifier_of byte = find (λ l. first_letter l == byte)
 
 -- the conversion that a letter is (C11 7.21.6.1 p8; C23 7.23.6.1 p8 on `b`)
 abbrev pub conv_of : ℕ → Option Conv
-conv_of byte = find (λ conv. conv_letter conv == byte) (D ∷ I ∷ U ∷ O ∷ X ∷ UpperX ∷ B ∷ C ∷ S ∷ [])
+conv_of byte = find (λ conv. conv_letter conv == byte) all_convs
 
 -- why a byte is refused that can't continue a specification, wherever it comes
 abbrev pub refused_letter : ℕ → RefusalKind

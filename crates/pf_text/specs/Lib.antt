@@ -7,5 +7,6 @@ pub mod States
 pub mod History
 pub mod CanonicalRuns
 pub mod PieceHistory
+pub mod Refusals
 pub mod Signatures
 pub mod WholeRuns

@@ -5,8 +5,8 @@ use Rattle.pf_values.specs.declared.types.ArgType.{ArgType}
 use Rattle.pf_values.specs.meaning.Items.{HasItems, Item, Reads, types}
 use Rattle.pf_values.specs.meaning.Refusals.{IsRefusedAt}
 use Rattle.pf_values.specs.meaning.Text.{Text}
-use Rattle.pf_text.specs.declared.signatures.TextFault.{TextFault}
-use Rattle.pf_text.specs.declared.signatures.TextFault.TheVariants.{Memory, Refused}
+use Rattle.pf_text.specs.declared.refusals.TextFault.{TextFault}
+use Rattle.pf_text.specs.declared.refusals.TextFault.TheVariants.{Memory, Refused}
 use Rattle.pf_text.specs.declared.signatures.Signature.{Signature}
 
 -- the types that it holds, in order

@@ -3,7 +3,7 @@ use Rattle.std.specs.Prelude.{List, [], ◌∷◌, take, Result, Ok, Err}
 use Rattle.pf_values.specs.meaning.Items.{HasItems, Item, Byte, Directive}
 use Rattle.pf_values.specs.meaning.Refusals.{IsGoodFront, IsRefusedAt}
 use Rattle.pf_values.specs.meaning.Text.{Text, percent}
-use Rattle.pf_text.specs.declared.scanner.Refusal.{Refusal}
+use Rattle.pf_text.specs.declared.refusals.Refusal.{Refusal}
 use Rattle.pf_text.specs.declared.scanner.Step.{Step}
 use Rattle.pf_text.specs.declared.scanner.Step.TheVariants as steps
 

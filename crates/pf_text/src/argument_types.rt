@@ -3,7 +3,8 @@ ghost use Rattle.std.specs.Prelude.{◌≡◌, ◌≤◌, [], MatchResult};
 ghost use Rattle.pf_text.specs.Signatures.{TakesTypes, FaultForSignature, types_of};
 
 use crate::pieces::Pieces;
-use crate::signatures::{Signature, TextFault};
+use crate::refusals::TextFault;
+use crate::signatures::Signature;
 use pf_values::{ArgType, Model};
 use smallvec::SmallVec;
 use std::alloc::{Allocator, Global};

@@ -1,7 +1,8 @@
 //! Laws. The first three are over the definitions alone: a text has one list of items, or one
 //! refusal, and a spelling is read back. Each is the contract of a function that does nothing. The
 //! others are about whole runs of `Pieces` and of `Scanner`, and their functions make such a run.
-ghost use Rattle.std.specs.Prelude.{◌≡◌, ℕ, List, flat_map, IfOk};
+ghost use Rattle.std.specs.Prelude.{◌≡◌, ◌≤◌, ℕ, List, flat_map, IfOk};
+ghost use Rattle.pf_values.specs.RefusalKinds.{number};
 ghost use Rattle.pf_values.specs.declared.refusals.RefusalKind.{RefusalKind};
 ghost use Rattle.pf_values.specs.meaning.Defined.{IsDefined};
 ghost use Rattle.pf_values.specs.meaning.Items.{Item, Reads};
@@ -13,7 +14,8 @@ ghost use Rattle.pf_text.specs.PieceHistory.{items_of};
 ghost use Rattle.pf_text.specs.WholeRuns.{HasRun, ended_by};
 
 use crate::pieces::{Piece, Pieces};
-use crate::scanner::{Refusal, Scanner, Step};
+use crate::refusals::Refusal;
+use crate::scanner::{Scanner, Step};
 use std::alloc::{AllocError, Global};
 
 /// A text has at most one list of items.
@@ -26,6 +28,11 @@ pub fn reads_once()
 pub fn refused_once()
     ensures { (t : Text) (kind other : RefusalKind) (p q : ℕ) → IsRefusedAt t kind p
         → IsRefusedAt t other q → (kind ≡ other) × (p ≡ q) }
+{}
+
+/// The profile refuses no text for a kind with a number above 18.
+pub fn kinds_of_refusals()
+    ensures { (t : Text) (kind : RefusalKind) (at : ℕ) → IsRefusedAt t kind at → number kind ≤ 18 }
 {}
 
 /// The spelling of a defined specification is read back as it.

@@ -20,9 +20,9 @@ pub fn flag_of(byte: u8) -> Option<Flag>
     }
 }
 
-/// The modifier that a letter begins.
+/// Returns the length modifier of integers that a letter is or begins.
 #[inline(always)]
-pub(crate) fn modifier_of(byte: u8) -> Option<Length>
+pub fn modifier_of(byte: u8) -> Option<Length>
     ensures { result ≡ modifier_of byte }
 {
     match byte {
@@ -35,8 +35,9 @@ pub(crate) fn modifier_of(byte: u8) -> Option<Length>
     }
 }
 
+/// Returns the conversion of the profile that a letter is.
 #[inline(always)]
-pub(crate) fn conv_of(byte: u8) -> Option<Conv>
+pub fn conv_of(byte: u8) -> Option<Conv>
     ensures { result ≡ conv_of byte }
 {
     match byte {

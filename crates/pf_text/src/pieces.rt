@@ -6,7 +6,8 @@ ghost use Rattle.pf_values.specs.meaning.Refusals.{IsRefusedAt};
 ghost use Rattle.pf_values.specs.meaning.Text.{Text};
 ghost use Rattle.pf_text.specs.History.{EndsRun};
 
-use crate::scanner::{Refusal, Scanner, Step};
+use crate::refusals::Refusal;
+use crate::scanner::{Scanner, Step};
 use pf_values::{ArgType, Directive, Model};
 
 /// A piece of a format.

@@ -10,22 +10,12 @@ ghost use Rattle.pf_text.specs.States.{next};
 ghost use Rattle.pf_text.specs.History.{IsAfter, HasRefused, Feeds, Finishes, Passes, TakesDirective, offset_of, refusal_by, refused_by, refusing};
 
 use crate::canonical_runs::{canonical_run_len, count_silents};
+use crate::refusals::Refusal;
 use crate::search::literal_len;
 use crate::specification::directive_at_front;
 use crate::state::{Automaton, Move};
 use pf_values::limits::MAX_TEXT_LEN;
 use pf_values::{Directive, RefusalKind};
-use thiserror::Error;
-
-/// The kind, and the byte at which the text is refused, counted from 0.
-#[derive(Clone, Copy, Debug, PartialEq, Eq, Error)]
-#[error("refused ({kind:?}) at byte {at}")]
-pub struct Refusal {
-    /// Why it is refused.
-    pub kind: RefusalKind,
-    /// Where it is refused.
-    pub at: u64,
-}
 
 /// What one more byte ends (C11 7.21.6.1, paragraphs 3 and 4).
 #[derive(Clone, Copy, Debug, PartialEq, Eq)]

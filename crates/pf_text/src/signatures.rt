@@ -1,22 +1,9 @@
-//! The argument types of formats, and why a text has none.
+//! The argument types of formats.
 ghost use Rattle.std.specs.Prelude.{◌≡◌, ◌↔◌, [], IsTrue, length, slice_get};
 ghost use Rattle.pf_text.specs.Signatures.{types_of};
 
-use crate::scanner::Refusal;
 use pf_values::ArgType;
 use smallvec::SmallVec;
-use thiserror::Error;
-
-/// Why a text has no signature.
-#[derive(Clone, Copy, Debug, PartialEq, Eq, Error)]
-pub enum TextFault {
-    /// The text is refused.
-    #[error("{0}")]
-    Refused(Refusal),
-    /// Memory was refused.
-    #[error("out of memory")]
-    Memory,
-}
 
 /// The types of the arguments that a format takes, in order. Up to eight need no allocation.
 #[derive(Debug, Drop)]

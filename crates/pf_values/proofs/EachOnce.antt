@@ -1,5 +1,5 @@
 -- Each table of all values of a type has each value once.
-use Rattle.std.proofs.Common.{◌≡◌, ◌++◌, ◌∷◌, ◌+◌, ℕ, false, List, nat_eq, take, drop, refl, sym, ◌∙◌}
+use Rattle.std.proofs.Common.{◌≡◌, ◌++◌, ◌∷◌, ◌+◌, ◌-◌, ℕ, false, List, nat_eq, take, drop, refl, sym, ◌∙◌}
 use Rattle.std.specs.Cmp.{IsEquivalence}
 use Rattle.std.specs.List.{list_any}
 use Rattle.std.proofs.lemmas.Bool.{true≢false}
@@ -21,6 +21,7 @@ use Rattle.pf_values.specs.declared.refusals.RefusalKind.{RefusalKind}
 use Rattle.pf_values.specs.declared.refusals.RefusalKind.TheVariants as refusals
 use Rattle.pf_values.specs.declared.refusals.TheConstants.RefusalKind.{ALL as all_refusals}
 use Rattle.pf_values.specs.Laws.{HasEachOnce, OccursOnce}
+use Rattle.pf_values.specs.RefusalKinds.{number}
 
 -- A value is where its place says, and none of the others has that place.
 module _ {A : Type 0} (place : A → ℕ) where
@@ -55,14 +56,7 @@ conversion_place conversions.S = 8
 
 pub each_conversion : HasEachOnce all_conversions
 each_conversion conversions.D = once conversion_place all_conversions conversions.D refl refl
-each_conversion conversions.I = once conversion_place all_conversions conversions.I refl refl
-each_conversion conversions.U = once conversion_place all_conversions conversions.U refl refl
-each_conversion conversions.O = once conversion_place all_conversions conversions.O refl refl
-each_conversion conversions.X = once conversion_place all_conversions conversions.X refl refl
-each_conversion conversions.UpperX = once conversion_place all_conversions conversions.UpperX refl refl
-each_conversion conversions.B = once conversion_place all_conversions conversions.B refl refl
-each_conversion conversions.C = once conversion_place all_conversions conversions.C refl refl
-each_conversion conversions.S = once conversion_place all_conversions conversions.S refl refl
+each_conversion value = once conversion_place all_conversions value refl refl
 
 abbrev length_place : Length → ℕ
 length_place lengths.None = 0
@@ -76,13 +70,7 @@ length_place lengths.T = 7
 
 pub each_length : HasEachOnce all_lengths
 each_length lengths.None = once length_place all_lengths lengths.None refl refl
-each_length lengths.Hh = once length_place all_lengths lengths.Hh refl refl
-each_length lengths.H = once length_place all_lengths lengths.H refl refl
-each_length lengths.L = once length_place all_lengths lengths.L refl refl
-each_length lengths.Ll = once length_place all_lengths lengths.Ll refl refl
-each_length lengths.J = once length_place all_lengths lengths.J refl refl
-each_length lengths.Z = once length_place all_lengths lengths.Z refl refl
-each_length lengths.T = once length_place all_lengths lengths.T refl refl
+each_length value = once length_place all_lengths value refl refl
 
 abbrev flag_place : Flag → ℕ
 flag_place flags.Minus = 0
@@ -94,11 +82,7 @@ flag_place flags.Group = 5
 
 pub each_flag : HasEachOnce all_flags
 each_flag flags.Minus = once flag_place all_flags flags.Minus refl refl
-each_flag flags.Plus = once flag_place all_flags flags.Plus refl refl
-each_flag flags.Space = once flag_place all_flags flags.Space refl refl
-each_flag flags.Alt = once flag_place all_flags flags.Alt refl refl
-each_flag flags.Zero = once flag_place all_flags flags.Zero refl refl
-each_flag flags.Group = once flag_place all_flags flags.Group refl refl
+each_flag value = once flag_place all_flags value refl refl
 
 abbrev model_place : Model → ℕ
 model_place models.Lp64 = 0
@@ -107,45 +91,11 @@ model_place models.Llp64 = 2
 
 pub each_model : HasEachOnce all_models
 each_model models.Lp64 = once model_place all_models models.Lp64 refl refl
-each_model models.Ilp32 = once model_place all_models models.Ilp32 refl refl
-each_model models.Llp64 = once model_place all_models models.Llp64 refl refl
+each_model value = once model_place all_models value refl refl
 
 abbrev refusal_place : RefusalKind → ℕ
-refusal_place refusals.NulByte = 0
-refusal_place refusals.Truncated = 1
-refusal_place refusals.Unexpected = 2
-refusal_place refusals.BadPercent = 3
-refusal_place refusals.Star = 4
-refusal_place refusals.Numbered = 5
-refusal_place refusals.WidthTooLarge = 6
-refusal_place refusals.PrecisionTooLarge = 7
-refusal_place refusals.Float = 8
-refusal_place refusals.Pointer = 9
-refusal_place refusals.Count = 10
-refusal_place refusals.Wide = 11
-refusal_place refusals.AltUndefined = 12
-refusal_place refusals.ZeroUndefined = 13
-refusal_place refusals.GroupUndefined = 14
-refusal_place refusals.PrecisionUndefined = 15
-refusal_place refusals.LengthUndefined = 16
-refusal_place refusals.TooLong = 17
+refusal_place kind = number kind - 1
 
 pub each_refusal : HasEachOnce all_refusals
 each_refusal refusals.NulByte = once refusal_place all_refusals refusals.NulByte refl refl
-each_refusal refusals.Truncated = once refusal_place all_refusals refusals.Truncated refl refl
-each_refusal refusals.Unexpected = once refusal_place all_refusals refusals.Unexpected refl refl
-each_refusal refusals.BadPercent = once refusal_place all_refusals refusals.BadPercent refl refl
-each_refusal refusals.Star = once refusal_place all_refusals refusals.Star refl refl
-each_refusal refusals.Numbered = once refusal_place all_refusals refusals.Numbered refl refl
-each_refusal refusals.WidthTooLarge = once refusal_place all_refusals refusals.WidthTooLarge refl refl
-each_refusal refusals.PrecisionTooLarge = once refusal_place all_refusals refusals.PrecisionTooLarge refl refl
-each_refusal refusals.Float = once refusal_place all_refusals refusals.Float refl refl
-each_refusal refusals.Pointer = once refusal_place all_refusals refusals.Pointer refl refl
-each_refusal refusals.Count = once refusal_place all_refusals refusals.Count refl refl
-each_refusal refusals.Wide = once refusal_place all_refusals refusals.Wide refl refl
-each_refusal refusals.AltUndefined = once refusal_place all_refusals refusals.AltUndefined refl refl
-each_refusal refusals.ZeroUndefined = once refusal_place all_refusals refusals.ZeroUndefined refl refl
-each_refusal refusals.GroupUndefined = once refusal_place all_refusals refusals.GroupUndefined refl refl
-each_refusal refusals.PrecisionUndefined = once refusal_place all_refusals refusals.PrecisionUndefined refl refl
-each_refusal refusals.LengthUndefined = once refusal_place all_refusals refusals.LengthUndefined refl refl
-each_refusal refusals.TooLong = once refusal_place all_refusals refusals.TooLong refl refl
+each_refusal kind = once refusal_place all_refusals kind refl refl

@@ -9,3 +9,4 @@ pub mod Feeds
 pub mod Laws
 pub mod RefusalKinds
 pub mod Settled
+pub mod TypeNumbers

@@ -1,8 +1,8 @@
--- The numbers and the names of the kinds of refusal. This project's own: the standard leaves a
--- wrong specification undefined (C11 7.21.6.1 p9).
-use Rattle.std.specs.Prelude.{ℕ, codes}
+-- The numbers and the names of the kinds of refusal. This project's own: the standards leave a wrong
+-- specification undefined (C11 7.21.6.1 p9, POSIX fprintf).
+use Rattle.std.specs.Prelude.{ℕ, Bool, true, false, codes}
 use Rattle.pf_values.specs.declared.refusals.RefusalKind.{RefusalKind}
-use Rattle.pf_values.specs.declared.refusals.RefusalKind.TheVariants.{NulByte, Truncated, Unexpected, BadPercent, Star, Numbered, WidthTooLarge, PrecisionTooLarge, Float, Pointer, Count, Wide, AltUndefined, ZeroUndefined, GroupUndefined, PrecisionUndefined, LengthUndefined, TooLong}
+use Rattle.pf_values.specs.declared.refusals.RefusalKind.TheVariants.{NulByte, Truncated, Unexpected, BadPercent, Star, Numbered, WidthTooLarge, PrecisionTooLarge, Float, Pointer, Count, Wide, AltUndefined, ZeroUndefined, GroupUndefined, PrecisionUndefined, LengthUndefined, TooLong, CountUndefined, Mixed, MissingArgument, TwoTypes}
 use Rattle.pf_values.specs.meaning.Text.{Text}
 
 -- the number of a kind
@@ -25,6 +25,10 @@ number GroupUndefined = 15
 number PrecisionUndefined = 16
 number LengthUndefined = 17
 number TooLong = 18
+number CountUndefined = 19
+number Mixed = 20
+number MissingArgument = 21
+number TwoTypes = 22
 
 -- its name
 abbrev pub name : RefusalKind → Text
@@ -46,3 +50,16 @@ name GroupUndefined = codes "GroupUndefined"
 name PrecisionUndefined = codes "PrecisionUndefined"
 name LengthUndefined = codes "LengthUndefined"
 name TooLong = codes "TooLong"
+name CountUndefined = codes "CountUndefined"
+name Mixed = codes "Mixed"
+name MissingArgument = codes "MissingArgument"
+name TwoTypes = codes "TwoTypes"
+
+-- the kinds of what the profile alone lacks
+abbrev pub is_profile_alone : RefusalKind → Bool
+is_profile_alone Star = true
+is_profile_alone Float = true
+is_profile_alone Pointer = true
+is_profile_alone Count = true
+is_profile_alone Wide = true
+is_profile_alone _ = false

@@ -111,20 +111,22 @@ impl Conv {
 }
 
 impl Kind {
-    pub(crate) fn is_text(self) -> bool
+    /// Whether it is one byte or a string.
+    pub fn is_text(self) -> bool
         ensures { result ≡ prints_text self }
     {
         matches!(self, Kind::Char | Kind::String)
     }
 
-    pub(crate) fn is_char(self) -> bool
+    /// Whether it is one byte.
+    pub fn is_char(self) -> bool
         ensures { result ≡ prints_char self }
     {
         matches!(self, Kind::Char)
     }
 
-    // In a base whose digits the apostrophe groups.
-    pub(crate) fn is_grouped(self) -> bool
+    /// Whether it is a number in a base whose digits the flag `'` groups (POSIX `fprintf`).
+    pub fn is_grouped(self) -> bool
         ensures { result ≡ prints_grouped self }
     {
         match self {
@@ -134,7 +136,8 @@ impl Kind {
         }
     }
 
-    pub(crate) fn has_alternative_form(self) -> bool
+    /// Whether the flag `#` is defined for it (C11 7.21.6.1, paragraph 6).
+    pub fn has_alternative_form(self) -> bool
         ensures { result ≡ is_defined (alternative_under self) }
     {
         !matches!(self.alternative(), Alternative::Undefined)

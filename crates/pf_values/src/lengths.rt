@@ -1,10 +1,11 @@
 //! Length modifiers.
 ghost use Rattle.std.specs.Prelude.{◌≡◌};
-ghost use Rattle.pf_values.specs.meaning.DataModel.{kept_length};
+ghost use Rattle.pf_values.specs.meaning.DataModel.{kept_length, signed_type, unsigned_type};
 ghost use Rattle.pf_values.specs.meaning.Lengths.{is_long, is_absent, length_letters};
 
 use crate::data_model::length_row;
 use crate::models::Model;
+use crate::types::ArgType;
 
 /// A length modifier (C11 7.21.6.1, paragraph 7).
 #[derive(Clone, Copy, Debug, PartialEq, Eq)]
@@ -62,6 +63,23 @@ impl Length {
         ensures { result ≡ kept_length model self }
     {
         length_row(model, self).kept
+    }
+
+    /// Returns the type of the argument of `d` and `i` under it (C11 7.21.6.1, paragraphs 7 and 8).
+    #[inline(always)]
+    pub fn signed_type(self, model: Model) -> ArgType
+        ensures { result ≡ signed_type model self }
+    {
+        length_row(model, self).signed
+    }
+
+    /// Returns the type of the argument of `u`, `o`, `x`, `X` and `b` under it (C11 7.21.6.1,
+    /// paragraphs 7 and 8).
+    #[inline(always)]
+    pub fn unsigned_type(self, model: Model) -> ArgType
+        ensures { result ≡ unsigned_type model self }
+    {
+        length_row(model, self).unsigned
     }
 
     pub(crate) fn is_absent(self) -> bool

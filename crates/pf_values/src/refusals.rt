@@ -2,10 +2,12 @@
 ghost use Rattle.std.specs.Prelude.{◌≡◌};
 ghost use Rattle.pf_values.specs.RefusalKinds.{name, number};
 
-/// Why a format is refused. Each kind has a number and a name of its own.
+/// Why a format is refused: one of the profile for the kinds up to `TooLong`, and one of the whole
+/// language for those that don't say that the profile lacks something. Each kind has a number and a
+/// name of its own.
 #[derive(Clone, Copy, Debug, PartialEq, Eq)]
 pub enum RefusalKind {
-    /// A zero byte, which a C string can't hold.
+    /// A NUL, which a C string can't hold.
     NulByte,
     /// The text ends inside a conversion specification.
     Truncated,
@@ -13,39 +15,47 @@ pub enum RefusalKind {
     Unexpected,
     /// `%` inside a specification, other than the second byte of `%%`.
     BadPercent,
-    /// `*` in the place of a width or a precision.
+    /// `*` as the field width or the precision, which the profile lacks.
     Star,
-    /// `$` after the digits of a width: a numbered argument.
+    /// The number of an argument, if the format may have none.
     Numbered,
-    /// A width above the limit.
+    /// A field width, or the number of an argument or of one for the width, above the limit.
     WidthTooLarge,
-    /// A precision above the limit.
+    /// A precision, or the number of an argument for it, above the limit.
     PrecisionTooLarge,
-    /// A floating conversion, or the modifier `L`.
+    /// A floating conversion, or the modifier `L`, which the profile lacks.
     Float,
-    /// The conversion `p`.
+    /// The conversion `p`, which the profile lacks.
     Pointer,
-    /// The conversion `n`.
+    /// The conversion `n`, which the profile lacks.
     Count,
-    /// A wide conversion: `C`, `S`, `lc` or `ls`.
+    /// A wide conversion: `C`, `S`, `lc` or `ls`, which the profile lacks.
     Wide,
-    /// `#` with `d i u c s`, which the standard leaves undefined.
+    /// `#` with `d i u c C s S p n`, which the standard leaves undefined.
     AltUndefined,
-    /// `0` with `c s`, which the standard leaves undefined.
+    /// `0` with `c C s S p n`, which the standard leaves undefined.
     ZeroUndefined,
-    /// `'` with `o x X b c s`, which POSIX leaves undefined.
+    /// `'` with `o x X b e E a A c C s S p n`, which POSIX leaves undefined.
     GroupUndefined,
-    /// A precision with `c`, which the standard leaves undefined.
+    /// A precision with `c C p n`, which the standard leaves undefined.
     PrecisionUndefined,
-    /// A length modifier other than `l` with `c s`, which the standard leaves undefined.
+    /// A length modifier that the standard doesn't define for the conversion.
     LengthUndefined,
     /// A byte past the greatest length of a format.
     TooLong,
+    /// A flag, a field width or a precision with `n`, which the standard leaves undefined.
+    CountUndefined,
+    /// Numbered specifications and others in one format.
+    Mixed,
+    /// A numbered format that doesn't use each argument up to its greatest.
+    MissingArgument,
+    /// An argument that is used with two types.
+    TwoTypes,
 }
 
 impl RefusalKind {
     /// All kinds, in the order of their numbers.
-    pub const ALL: [RefusalKind; 18] = [
+    pub const ALL: [RefusalKind; 22] = [
         RefusalKind::NulByte,
         RefusalKind::Truncated,
         RefusalKind::Unexpected,
@@ -64,9 +74,13 @@ impl RefusalKind {
         RefusalKind::PrecisionUndefined,
         RefusalKind::LengthUndefined,
         RefusalKind::TooLong,
+        RefusalKind::CountUndefined,
+        RefusalKind::Mixed,
+        RefusalKind::MissingArgument,
+        RefusalKind::TwoTypes,
     ];
 
-    /// The number of the kind, from 1 to 18.
+    /// Returns the number of the kind, from 1 to 22.
     pub fn number(self) -> u8
         ensures { result ≡ number self }
     {
@@ -89,10 +103,14 @@ impl RefusalKind {
             RefusalKind::PrecisionUndefined => 16,
             RefusalKind::LengthUndefined => 17,
             RefusalKind::TooLong => 18,
+            RefusalKind::CountUndefined => 19,
+            RefusalKind::Mixed => 20,
+            RefusalKind::MissingArgument => 21,
+            RefusalKind::TwoTypes => 22,
         }
     }
 
-    /// The name of the kind, in ASCII.
+    /// Returns the name of the kind, in ASCII.
     pub fn name(self) -> &'static str
         ensures { result.now ≡ name self }
     {
@@ -115,6 +133,10 @@ impl RefusalKind {
             RefusalKind::PrecisionUndefined => "PrecisionUndefined",
             RefusalKind::LengthUndefined => "LengthUndefined",
             RefusalKind::TooLong => "TooLong",
+            RefusalKind::CountUndefined => "CountUndefined",
+            RefusalKind::Mixed => "Mixed",
+            RefusalKind::MissingArgument => "MissingArgument",
+            RefusalKind::TwoTypes => "TwoTypes",
         }
     }
 }

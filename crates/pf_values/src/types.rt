@@ -1,5 +1,6 @@
 //! Argument types.
-ghost use Rattle.std.specs.Prelude.{◌↔◌, IsTrue};
+ghost use Rattle.std.specs.Prelude.{◌≡◌, ◌↔◌, IsTrue};
+ghost use Rattle.pf_values.specs.TypeNumbers.{type_number};
 ghost use Rattle.pf_values.specs.meaning.DataModel.{IsInRange};
 
 use crate::data_model::{fits_signed, fits_unsigned, type_bits};
@@ -26,6 +27,21 @@ pub enum ArgType {
 }
 
 impl ArgType {
+    /// Returns the number of the type, from 1 to 7.
+    pub fn number(self) -> u8
+        ensures { result ≡ type_number self }
+    {
+        match self {
+            ArgType::Int => 1,
+            ArgType::UInt => 2,
+            ArgType::Long => 3,
+            ArgType::ULong => 4,
+            ArgType::LongLong => 5,
+            ArgType::ULongLong => 6,
+            ArgType::Str => 7,
+        }
+    }
+
     /// Whether the number is in the range of the type in this data model (C11 6.2.5). A string has
     /// none.
     pub fn contains(self, model: Model, number: i128) -> bool

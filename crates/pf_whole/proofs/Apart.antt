@@ -9,12 +9,12 @@ use Rattle.pf_values.specs.meaning.Arguments.{Argument, HasTypes}
 use Rattle.pf_values.specs.meaning.Items.{Item, types}
 use Rattle.pf_values.specs.meaning.Printing.{PrintAlike, PrintsAll}
 use Rattle.pf_values.specs.meaning.Text.{Text}
-use Rattle.pf_signatures.specs.declared.types.ArgumentType.{ArgumentType}
-use Rattle.pf_signatures.specs.Specifications.{PosixSpecification}
-use Rattle.pf_signatures.specs.Types.{conversion_type, fetch, star_fetches, widened}
-use Rattle.pf_signatures.specs.Opaque.{SpellsOpaque}
-use Rattle.pf_signatures.specs.Stretches.{Stretches, Before, types_of_opaque, whole_types}
-use Rattle.pf_signatures.proofs.SpecificationsOnce.{one_specification, parts_of}
+use Rattle.pf_posix.specs.declared.types.ArgumentType.{ArgumentType}
+use Rattle.pf_posix.specs.Specifications.{PosixSpecification}
+use Rattle.pf_posix.specs.Types.{conversion_type, fetch, star_fetches, widened}
+use Rattle.pf_posix.specs.Opaque.{SpellsOpaque}
+use Rattle.pf_posix.specs.Stretches.{Stretches, Before, types_of_opaque, whole_types}
+use Rattle.pf_posix.proofs.SpecificationsOnce.{one_specification, parts_of}
 use Rattle.pf_whole.specs.meaning.NormalSpellings.{normal_parts, normal_spelling}
 use Rattle.pf_whole.specs.meaning.Traces.{Ends, Calls, HasTrace, Trace, TraceAlike}
 use Rattle.pf_whole.specs.meaning.WholeArguments.{WholeArgument, Known, HasWholeTypes}

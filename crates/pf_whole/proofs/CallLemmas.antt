@@ -9,7 +9,7 @@ use Rattle.pf_values.specs.meaning.Items.{types}
 use Rattle.pf_whole.specs.Answers.{DifferAtCall}
 use Rattle.pf_whole.specs.Laws.{PlacedCall, placed_calls}
 use Rattle.pf_whole.specs.meaning.NormalSpellings.{normal_spelling}
-use Rattle.pf_signatures.specs.Stretches.{Stretches, Last, Before, types_of_opaque}
+use Rattle.pf_posix.specs.Stretches.{Stretches, Last, Before, types_of_opaque}
 
 -- no call has a lesser index
 abbrev pub AreFrom : ℕ → List PlacedCall → Type 0

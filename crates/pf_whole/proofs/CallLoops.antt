@@ -7,10 +7,10 @@ use Rattle.pf_values.specs.declared.models.Model.{Model}
 use Rattle.pf_values.specs.meaning.Digits.{IsLeastFrom}
 use Rattle.pf_values.specs.meaning.Items.{Item}
 use Rattle.pf_values.specs.meaning.Text.{Text}
-use Rattle.pf_signatures.specs.OpaqueParts.{parts_of_opaque}
-use Rattle.pf_signatures.specs.Specifications.{PosixSpecification}
-use Rattle.pf_signatures.specs.Stretches.{Stretches, Last, Before, ReadsWhole}
-use Rattle.pf_signatures.proofs.ReadOnce.{read_once}
+use Rattle.pf_posix.specs.OpaqueParts.{parts_of_opaque}
+use Rattle.pf_posix.specs.Specifications.{PosixSpecification}
+use Rattle.pf_posix.specs.Stretches.{Stretches, Last, Before, ReadsWhole}
+use Rattle.pf_posix.proofs.ReadOnce.{read_once}
 use Rattle.pf_whole.specs.declared.calls.PlacedDirective.{PlacedDirective}
 use Rattle.pf_whole.specs.declared.calls.Rest.{Rest}
 use Rattle.pf_whole.specs.Answers.{DifferAtCall}

@@ -6,9 +6,9 @@ use Rattle.pf_values.specs.meaning.Items.{Item, Reads}
 use Rattle.pf_values.specs.meaning.Printing.{PrintAlike}
 use Rattle.pf_values.specs.meaning.Text.{Text}
 use Rattle.pf_probes.proofs.Unique.{equivalent_formats_one}
-use Rattle.pf_signatures.specs.Specifications.{PosixSpecification}
-use Rattle.pf_signatures.specs.Stretches.{Stretches, Last, Before, ReadsWhole, whole_types}
-use Rattle.pf_signatures.proofs.ReadOnce.{read_once}
+use Rattle.pf_posix.specs.Specifications.{PosixSpecification}
+use Rattle.pf_posix.specs.Stretches.{Stretches, Last, Before, ReadsWhole, whole_types}
+use Rattle.pf_posix.proofs.ReadOnce.{read_once}
 use Rattle.pf_whole.specs.Laws.{AlikeHaveOneCanonical}
 use Rattle.pf_whole.specs.meaning.Traces.{Ends, Calls, HasTrace, Trace, TraceAlike}
 use Rattle.pf_whole.specs.meaning.WholeCanonical.{IsCanonicalStretch, IsPutTogether}

@@ -3,8 +3,8 @@ use Rattle.std.proofs.Common.{◌≡◌, ℕ, ◌+◌, ◌∷◌, length, refl, 
 use Rattle.pf_values.specs.declared.models.Model.{Model}
 use Rattle.pf_values.specs.meaning.Items.{types}
 use Rattle.pf_values.specs.meaning.Text.{Text}
-use Rattle.pf_signatures.specs.Stretches.{Stretches, Last, Before, ReadsWhole, types_of_opaque}
-use Rattle.pf_signatures.proofs.ReadOnce.{read_once}
+use Rattle.pf_posix.specs.Stretches.{Stretches, Last, Before, ReadsWhole, types_of_opaque}
+use Rattle.pf_posix.proofs.ReadOnce.{read_once}
 use Rattle.pf_whole.specs.Laws.{AlikeCallTheSame, AlikeIsCorresponding, Correspond, PlacedCall, placed_calls}
 use Rattle.pf_whole.specs.meaning.Traces.{AreWholeAlike, TraceAlike}
 use Rattle.pf_whole.proofs.Apart.{one_spelling, rests_alike, spelling_types, stretches_alike}

@@ -8,16 +8,16 @@ use Rattle.pf_values.specs.meaning.Flags.{flag_byte}
 use Rattle.pf_values.specs.meaning.Items.{Byte, Directive, HasItems, Item, Reads, types}
 use Rattle.pf_values.specs.meaning.Text.{Text}
 use Rattle.pf_canon.proofs.TextLemmas.{items_few}
-use Rattle.pf_signatures.specs.declared.types.ArgumentType.{ArgumentType}
-use Rattle.pf_signatures.specs.Items.{HasArguments}
-use Rattle.pf_signatures.specs.Opaque.{SpellsOpaque}
-use Rattle.pf_signatures.specs.Specifications.{Amount, Given, Fetched, PosixSpecification, conversion_letter, modifier_letters}
-use Rattle.pf_signatures.specs.Spelling.{SpellsPosixPrecision, SpellsPosixWidth}
-use Rattle.pf_signatures.specs.Stretches.{Last, Before, ReadsWhole, types_of_opaque}
-use Rattle.pf_signatures.specs.Types.{conversion_type, fetch, fetches, star_fetches, widened}
-use Rattle.pf_signatures.proofs.KeptTypes.{types_are_kept}
-use Rattle.pf_signatures.proofs.SpecificationsOnce.{parts_of}
-use Rattle.pf_signatures.proofs.Unique.{one_list}
+use Rattle.pf_posix.specs.declared.types.ArgumentType.{ArgumentType}
+use Rattle.pf_posix.specs.Items.{HasArguments}
+use Rattle.pf_posix.specs.Opaque.{SpellsOpaque}
+use Rattle.pf_posix.specs.Specifications.{Amount, Given, Fetched, PosixSpecification, conversion_letter, modifier_letters}
+use Rattle.pf_posix.specs.Spelling.{SpellsPosixPrecision, SpellsPosixWidth}
+use Rattle.pf_posix.specs.Stretches.{Last, Before, ReadsWhole, types_of_opaque}
+use Rattle.pf_posix.specs.Types.{conversion_type, fetch, fetches, star_fetches, widened}
+use Rattle.pf_posix.proofs.KeptTypes.{types_are_kept}
+use Rattle.pf_posix.proofs.SpecificationsOnce.{parts_of}
+use Rattle.pf_posix.proofs.Unique.{one_list}
 use Rattle.pf_whole.proofs.TraceLemmas.{length_map}
 
 -- the arguments of a stretch, and of an opaque directive

@@ -31,19 +31,20 @@ use Rattle.pf_text.proofs.ReadBack.{decimal_is, least_digits_are, spelled_read}
 use Rattle.pf_probes.proofs.Telling.{candidate_typed}
 use Rattle.pf_compare.specs.Answers.{IsEarlier}
 use Rattle.pf_compare.proofs.ReductionLemmas.{bytes_canonical}
-use Rattle.pf_signatures.specs.declared.conversions.Conversion.{Conversion}
-use Rattle.pf_signatures.specs.declared.conversions.Conversion.TheVariants.{Profile, Float, UpperC, UpperS, Pointer, Count}
-use Rattle.pf_signatures.specs.declared.conversions.Floating.{Floating}
-use Rattle.pf_signatures.specs.declared.conversions.Floating.TheVariants as floats
-use Rattle.pf_signatures.specs.declared.conversions.Modifier.{Modifier}
-use Rattle.pf_signatures.specs.declared.conversions.Modifier.TheVariants.{Integer, LongDouble}
-use Rattle.pf_signatures.specs.declared.types.ArgumentType.TheVariants.{Int, Double, WideString, PointerToLong}
-use Rattle.pf_signatures.specs.Defined.{IsPosixDefined}
-use Rattle.pf_signatures.specs.Specifications.{Amount, Given, Fetched, PosixSpecification, conversion_letter, modifier_letters}
-use Rattle.pf_signatures.specs.Spelling.{SpellsPosixPrecision, SpellsPosixWidth}
-use Rattle.pf_signatures.specs.Opaque.{SpellsOpaque, is_opaque}
-use Rattle.pf_signatures.specs.Stretches.{Stretches, Last, Before, ReadsWhole, whole_types}
-use Rattle.pf_signatures.proofs.SpecificationsOnce.{made}
+use Rattle.pf_posix.specs.declared.conversions.Conversion.{Conversion}
+use Rattle.pf_posix.specs.declared.conversions.Conversion.TheVariants.{Profile, Float, UpperC, UpperS, Pointer, Count}
+use Rattle.pf_posix.specs.declared.conversions.Floating.{Floating}
+use Rattle.pf_posix.specs.declared.conversions.Floating.TheVariants as floats
+use Rattle.pf_posix.specs.declared.conversions.Modifier.{Modifier}
+use Rattle.pf_posix.specs.declared.conversions.Modifier.TheVariants.{Integer, LongDouble}
+use Rattle.pf_posix.specs.declared.types.ArgumentType.TheVariants.{Double, WideString, PointerToLong}
+use Rattle.pf_posix.specs.Types.{int_type}
+use Rattle.pf_posix.specs.Defined.{IsPosixDefined}
+use Rattle.pf_posix.specs.Specifications.{Amount, Given, Fetched, PosixSpecification, conversion_letter, modifier_letters}
+use Rattle.pf_posix.specs.Spelling.{SpellsPosixPrecision, SpellsPosixWidth}
+use Rattle.pf_posix.specs.Opaque.{SpellsOpaque, is_opaque}
+use Rattle.pf_posix.specs.Stretches.{Stretches, Last, Before, ReadsWhole, whole_types}
+use Rattle.pf_posix.proofs.SpecificationsOnce.{made}
 use Rattle.pf_whole.specs.Answers.{Different, DirectivesDiffer, IsWholeProbe, IsWholeVerdict, StretchesAgree, TellStretches}
 use Rattle.pf_whole.specs.Answers.{TracesTogether, TypesDiffer}
 use Rattle.pf_whole.specs.Laws.{PlacedCall, placed_calls}
@@ -66,7 +67,7 @@ abbrev no_width : WidthText
 no_width = record { amount = None; text = []; spelled = refl }
 
 abbrev star_width : WidthText
-star_width = record { amount = Some (Fetched None); text = codes "*"; spelled = record { digits = []; digits_are = refl; style = refl; whole = refl } }
+star_width = record { amount = Some (Fetched None); text = codes "*"; spelled = record { digits = []; digits_are = refl; numbering = refl; whole = refl } }
 
 width_spelled : (n : ℕ) → 0 < n → n ≤ MAX_NUMBER → SpellsPosixWidth (decimal n) None (Some (Given n))
 width_spelled n some few = record { some = some; numeral = (digits_of 10 n, least_digits_are n some, decimal_is n some (omega (arith, few))); within = few }
@@ -506,7 +507,7 @@ not_alike h =
 -- the types of `%*.*f`, `%ls` and `%zn`, in order
 types_in_order : whole_types Lp64 (Before [] (parts [] star_width star_precision (Integer lengths.None) (Float floats.F))
     (Before [] (parts [] no_width no_precision (Integer lengths.L) (Profile convs.S))
-    (Before [] (parts [] no_width no_precision (Integer lengths.Z) Count) (Last [])))) ≡ Int ∷ Int ∷ Double ∷ WideString ∷ PointerToLong ∷ []
+    (Before [] (parts [] no_width no_precision (Integer lengths.Z) Count) (Last [])))) ≡ int_type ∷ int_type ∷ Double ∷ WideString ∷ PointerToLong ∷ []
 types_in_order = refl
 
 -- the calls of `%*f%p`: that of `%p` begins with the argument of index 2
@@ -731,8 +732,8 @@ no_probe_before : (i k : ℕ) (before : List (Option Argument)) → IsWholeProbe
 no_probe_before zero k before p e = let no = p.in_stretch in cc
 no_probe_before (suc zero) k before p (inl less) = absurd (omega (arith, less))
 no_probe_before (suc zero) k before p (inr (same, less)) =
-    let wide : p.wide ≡ Int = let is = p.wide_is in cc in
-    let type : profile.Int ≡ p.type = let is : narrowed Int ≡ Some p.type = subst (λ w. narrowed w ≡ Some p.type) wide p.type_is in cc in
+    let wide : p.wide ≡ int_type = let is = p.wide_is in cc in
+    let type : profile.Int ≡ p.type = let is : narrowed int_type ≡ Some p.type = subst (λ w. narrowed w ≡ Some p.type) wide p.type_is in cc in
     let found : slice_get (candidates Lp64 profile.Int) k
     ≡ Some p.argument = subst (λ t. slice_get (candidates Lp64 t) k ≡ Some p.argument) (sym type) p.candidate in
     subst (TracesTogether Lp64 (between filled_five) (between five_digits)) (sym p.shown_is) (no_candidate_before k p.argument less found)
@@ -749,7 +750,7 @@ filled_and_digits = (
     place = 6;
     probe = record {
       type = profile.Int;
-      wide = Int;
+      wide = int_type;
       argument = Number
           (negsuc 0);
       in_stretch = refl;

@@ -14,12 +14,11 @@ use Rattle.pf_values.proofs.Alike.{PrintsAll-unique}
 use Rattle.pf_probes.proofs.Probes.{probe_typed}
 use Rattle.pf_compare.proofs.CandidateLemmas.{contains_at}
 use Rattle.pf_compare.specs.Answers.{IsCandidateAt, IsEarlier, PrintTheSame, probe_at}
-use Rattle.pf_signatures.specs.Specifications.{PosixSpecification}
-use Rattle.pf_signatures.specs.Types.{widened}
+use Rattle.pf_posix.specs.Specifications.{PosixSpecification}
+use Rattle.pf_posix.specs.Types.{widened}
 use Rattle.pf_whole.specs.Answers.{AgreeEverywhere, HaveOneShape, IsWholeProbe, ShowsNeutral, ShowsProbe, StretchesAgree, TellSomewhere, TellStretches, neutral_shown}
 use Rattle.pf_whole.specs.Findings.{IsTellingProbe, NeutralAgrees, NeutralTells, ShowsTelling, shown_any, shown_neutrals}
-use Rattle.pf_signatures.specs.Stretches.{Stretches, Last, Before, ReadsWhole, types_of_opaque, whole_types}
-use Rattle.pf_whole.proofs.KnownArguments.{narrowed_is}
+use Rattle.pf_posix.specs.Stretches.{Stretches, Last, Before, ReadsWhole, types_of_opaque, whole_types}
 use Rattle.pf_whole.proofs.Slots.{get_first, get_second, neutral_at, neutrals_shown, none_shown, probe_count, probe_shown, set_first, set_second, typed_at, wide_at}
 use Rattle.pf_whole.proofs.Telling.{telling_is_apart}
 use Rattle.pf_whole.proofs.Together.{agreeing_is_together}
@@ -228,7 +227,7 @@ told_last model a b shown h =
         argument = telling.argument;
         in_stretch = neutral_at ts telling.index candidate.type candidate.type_is;
         wide_is = wide_at ts telling.index candidate.type candidate.type_is;
-        type_is = narrowed_is candidate.type;
+        type_is = refl;
         candidate = candidate.argument_is;
         shown_is = h.1 ∙ ap (map Some) telling.args_are ∙ sym (probe_shown ts telling.index telling.argument);
       };
@@ -259,7 +258,7 @@ told_here model a b s p rest more args shown shown_is telling agrees =
             ∙ neutral_at ts telling.index candidate.type candidate.type_is;
         wide_is = get_first (map widened ts) (types_of_opaque model s ++ whole_types model rest) telling.index (omega (arith, within, wide))
             ∙ wide_at ts telling.index candidate.type candidate.type_is;
-        type_is = narrowed_is candidate.type;
+        type_is = refl;
         candidate = candidate.argument_is;
         shown_is = shown_is ∙ ap (λ l. map Some l ++ own) telling.args_are
             ∙ sym (set_first (shown_neutrals model a) own telling.index (Some telling.argument) (omega (arith, within, first))

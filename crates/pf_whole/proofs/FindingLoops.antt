@@ -8,12 +8,12 @@ use Rattle.pf_values.specs.meaning.Arguments.{Argument}
 use Rattle.pf_values.specs.meaning.Items.{Item, types}
 use Rattle.pf_values.specs.meaning.Printing.{PrintAlike}
 use Rattle.pf_compare.specs.Answers.{PrintTheSame}
-use Rattle.pf_signatures.specs.Specifications.{PosixSpecification}
+use Rattle.pf_posix.specs.Specifications.{PosixSpecification}
 use Rattle.pf_whole.specs.Answers.{neutral_shown}
 use Rattle.pf_whole.specs.Findings.{IsTellingProbe, NeutralAgrees, NeutralTells, ShowsTelling, shown_any, shown_neutrals}
 use Rattle.pf_whole.specs.Laws.{Correspond}
 use Rattle.pf_whole.specs.meaning.NormalSpellings.{normal_spelling}
-use Rattle.pf_signatures.specs.Stretches.{Stretches, Last, Before}
+use Rattle.pf_posix.specs.Stretches.{Stretches, Last, Before}
 use Rattle.pf_whole.proofs.FindingLemmas.{alike_neutrally}
 
 -- what is to be seen of what is left: once a probe is found, that neutral arguments don't tell it apart

@@ -9,12 +9,12 @@ use Rattle.pf_canon.proofs.TextLemmas.{items_few}
 use Rattle.pf_canon.proofs.TransducerLemmas.{most_items}
 use Rattle.pf_values.specs.meaning.Items.{HasItems, Item, Reads}
 use Rattle.pf_values.specs.meaning.Text.{Text}
-use Rattle.pf_signatures.specs.declared.opaque_directives.OpaqueDirective.{OpaqueDirective}
-use Rattle.pf_signatures.specs.declared.stretches.Stretch.{Stretch}
-use Rattle.pf_signatures.specs.Heads.{IsHead, IsPlaced}
-use Rattle.pf_signatures.specs.Opaque.{SpellsOpaque}
-use Rattle.pf_signatures.specs.OpaqueParts.{parts_of_opaque}
-use Rattle.pf_signatures.specs.Stretches.{Stretches, Last, Before, ReadsWhole}
+use Rattle.pf_posix.specs.declared.opaque_directives.OpaqueDirective.{OpaqueDirective}
+use Rattle.pf_posix.specs.declared.stretches.Stretch.{Stretch}
+use Rattle.pf_posix.specs.Heads.{IsHead, IsPlaced}
+use Rattle.pf_posix.specs.Opaque.{SpellsOpaque}
+use Rattle.pf_posix.specs.OpaqueParts.{parts_of_opaque}
+use Rattle.pf_posix.specs.Stretches.{Stretches, Last, Before, ReadsWhole}
 
 -- the bytes of a text between two places
 abbrev pub between : Text → ℕ → ℕ → Text

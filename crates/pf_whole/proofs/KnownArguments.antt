@@ -1,24 +1,16 @@
 -- Arguments of the profile, as arguments of the whole language.
-use Rattle.std.proofs.Common.{◌≡◌, List, [], ◌∷◌, map, refl, sym, ap, ◌∙◌}
-use Rattle.std.specs.Prelude.{Some}
+use Rattle.std.proofs.Common.{◌≡◌, List, [], ◌∷◌, map, refl}
 use Rattle.pf_values.specs.declared.models.Model.{Model}
 use Rattle.pf_values.specs.declared.types.ArgType.{ArgType}
-use Rattle.pf_values.specs.declared.types.ArgType.TheVariants as profile
 use Rattle.pf_values.specs.meaning.Arguments.{Argument, HasTypes}
-use Rattle.pf_signatures.specs.Types.{widened}
-use Rattle.pf_whole.specs.meaning.WholeArguments.{Known, HasNarrowedType, HasWholeTypes, narrowed}
-
-pub narrowed_is : (type : ArgType) → narrowed (widened type) ≡ Some type
-narrowed_is profile.Int = refl
-narrowed_is _ = refl
+use Rattle.pf_posix.specs.Types.{widened}
+use Rattle.pf_whole.specs.meaning.WholeArguments.{Known, HasWholeTypes}
 
 pub widened_once : (a b : List ArgType) → map widened a ≡ map widened b → a ≡ b
 widened_once [] [] e = refl
 widened_once [] (y ∷ b) e = cc
 widened_once (x ∷ a) [] e = cc
 widened_once (x ∷ a) (y ∷ b) e =
-    let wide : widened x ≡ widened y = cc in
-    let some : Some x ≡ Some y = sym (narrowed_is x) ∙ ap narrowed wide ∙ narrowed_is y in
     let rest = widened_once a b (cc) in
     cc
 
@@ -33,7 +25,7 @@ pub known_typed : (model : Model) (args : List Argument) (types : List ArgType) 
 known_typed model [] [] h = tt
 known_typed model [] (type ∷ types) h = absurd h
 known_typed model (argument ∷ args) [] h = absurd h
-known_typed model (argument ∷ args) (type ∷ types) h = (rw (narrowed_is type) h.0, known_typed model args types h.1)
+known_typed model (argument ∷ args) (type ∷ types) h = (h.0, known_typed model args types h.1)
 
 pub typed_known : (model : Model) (args : List Argument) (types : List ArgType) → HasWholeTypes model (map Known args) (map widened types)
     → HasTypes model args types
@@ -41,6 +33,4 @@ typed_known model [] [] h = tt
 typed_known model [] (type ∷ types) h = absurd h
 typed_known model (argument ∷ args) [] h = absurd h
 typed_known model (argument ∷ args) (type ∷ types) h =
-    let same = narrowed_is type in
-    let first : HasNarrowedType model (Known argument) (narrowed (widened type)) = h.0 in
-    (rw same at first, typed_known model args types h.1)
+    (h.0, typed_known model args types h.1)

@@ -17,17 +17,17 @@ use Rattle.pf_values.specs.meaning.Flags.{has}
 use Rattle.pf_values.specs.meaning.Lengths.{is_absent, is_long}
 use Rattle.pf_values.proofs.DataModelLemmas.{kept_row}
 use Rattle.pf_reduce.proofs.CarriedIntegers.{kept_kind}
-use Rattle.pf_signatures.specs.declared.conversions.Conversion.{Conversion}
-use Rattle.pf_signatures.specs.declared.conversions.Conversion.TheVariants.{Profile, Float, UpperC, UpperS, Pointer, Count}
-use Rattle.pf_signatures.specs.declared.conversions.Floating.TheVariants as floats
-use Rattle.pf_signatures.specs.declared.conversions.Modifier.{Modifier}
-use Rattle.pf_signatures.specs.declared.conversions.Modifier.TheVariants.{Integer, LongDouble}
-use Rattle.pf_signatures.specs.Defined.{is_count, takes_alt, takes_modifier, takes_precision, takes_zero}
-use Rattle.pf_signatures.specs.Specifications.{Amount, Given, Fetched, PosixSpecification}
-use Rattle.pf_signatures.specs.Types.{conversion_type, counted_type, integer_length, kind_type, star_fetches, widened}
-use Rattle.pf_signatures.specs.Opaque.{is_opaque, is_outside, is_star}
-use Rattle.pf_signatures.specs.Stretches.{types_of_opaque}
-use Rattle.pf_signatures.proofs.SpecificationsOnce.{same_fields}
+use Rattle.pf_posix.specs.declared.conversions.Conversion.{Conversion}
+use Rattle.pf_posix.specs.declared.conversions.Conversion.TheVariants.{Profile, Float, UpperC, UpperS, Pointer, Count}
+use Rattle.pf_posix.specs.declared.conversions.Floating.TheVariants as floats
+use Rattle.pf_posix.specs.declared.conversions.Modifier.{Modifier}
+use Rattle.pf_posix.specs.declared.conversions.Modifier.TheVariants.{Integer, LongDouble}
+use Rattle.pf_posix.specs.Defined.{is_count, takes_alt, takes_modifier, takes_precision, takes_zero}
+use Rattle.pf_posix.specs.Specifications.{Amount, Given, Fetched, PosixSpecification}
+use Rattle.pf_posix.specs.Types.{conversion_type, counted_type, integer_length, kind_type, star_fetches, widened}
+use Rattle.pf_posix.specs.Opaque.{is_opaque, is_outside, is_star}
+use Rattle.pf_posix.specs.Stretches.{types_of_opaque}
+use Rattle.pf_posix.proofs.SpecificationsOnce.{same_fields}
 use Rattle.pf_whole.specs.meaning.NormalSpellings.{given_precision, integer_modifier, is_amount, is_general, is_given, is_integer, keeps_sign, kept_conversion}
 use Rattle.pf_whole.specs.meaning.NormalSpellings.{kept_flags, kept_modifier, normal_precision, meant_precision, normal_parts}
 

@@ -4,8 +4,8 @@ use Rattle.pf_values.specs.declared.models.Model.{Model}
 use Rattle.pf_values.specs.meaning.Items.{Item}
 use Rattle.pf_values.specs.meaning.Printing.{PrintAlike}
 use Rattle.pf_values.specs.meaning.Text.{Text}
-use Rattle.pf_signatures.specs.Stretches.{Stretches, Last, Before, ReadsWhole}
-use Rattle.pf_signatures.proofs.ReadOnce.{read_once}
+use Rattle.pf_posix.specs.Stretches.{Stretches, Last, Before, ReadsWhole}
+use Rattle.pf_posix.proofs.ReadOnce.{read_once}
 use Rattle.pf_whole.specs.Laws.{OneCanonicalIsAlike}
 use Rattle.pf_whole.specs.meaning.NormalSpellings.{normal_parts, normal_spelling, posix_spelling_of}
 use Rattle.pf_whole.specs.meaning.Traces.{AreWholeAlike, TraceAlike}

@@ -14,11 +14,11 @@ use Rattle.pf_values.specs.meaning.Text.{Text}
 use Rattle.pf_values.proofs.Printed.{IsLeastFrom-unique}
 use Rattle.pf_compare.specs.Answers.{IsEarlier}
 use Rattle.pf_compare.proofs.CandidateLemmas.{candidate_has_type}
-use Rattle.pf_signatures.specs.declared.types.ArgumentType.{ArgumentType}
-use Rattle.pf_signatures.specs.Laws.{IsFirstDifference}
-use Rattle.pf_signatures.specs.Types.{widened}
-use Rattle.pf_signatures.specs.Stretches.{Stretches, Last, Before, types_of_opaque, whole_types}
-use Rattle.pf_signatures.proofs.ReadOnce.{read_once}
+use Rattle.pf_posix.specs.declared.types.ArgumentType.{ArgumentType}
+use Rattle.pf_posix.specs.Laws.{IsFirstDifference}
+use Rattle.pf_posix.specs.Types.{widened}
+use Rattle.pf_posix.specs.Stretches.{Stretches, Last, Before, types_of_opaque, whole_types}
+use Rattle.pf_posix.proofs.ReadOnce.{read_once}
 use Rattle.pf_whole.specs.Answers.{Agrees, DifferAtCall, IsWholeComparisonOf, IsWholeProbe, IsWholeVerdict, ShowsNeutral, ShowsProbe, TracesApart, TracesTogether, WholeVerdict, Same, TypesDiffer, DirectivesDiffer, Different, neutral_shown}
 use Rattle.pf_whole.specs.Laws.{PlacedCall, placed_calls}
 use Rattle.pf_whole.specs.meaning.WholeArguments.{WholeArgument, Known, HasNarrowedType, HasWholeTypes, narrowed}

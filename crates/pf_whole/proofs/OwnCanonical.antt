@@ -7,15 +7,15 @@ use Rattle.pf_values.specs.meaning.Canonical.{IsCanonicalText}
 use Rattle.pf_values.specs.meaning.Items.{Byte, Directive, IsReadAs, Item, Reads}
 use Rattle.pf_values.specs.meaning.Text.{Text}
 use Rattle.pf_text.proofs.Texts.{Reads-unique}
-use Rattle.pf_signatures.specs.Specifications.{PosixSpecification}
-use Rattle.pf_signatures.proofs.Profile.{spelled_here, whole_of}
+use Rattle.pf_posix.specs.Specifications.{PosixSpecification}
+use Rattle.pf_posix.proofs.Profile.{spelled_here, whole_of}
 use Rattle.pf_whole.specs.meaning.NormalSpellings.{normal_parts, normal_spelling}
-use Rattle.pf_signatures.specs.Opaque.{SpellsOpaque}
-use Rattle.pf_signatures.specs.Stretches.{Stretches, Before, ReadsWhole}
+use Rattle.pf_posix.specs.Opaque.{SpellsOpaque}
+use Rattle.pf_posix.specs.Stretches.{Stretches, Before, ReadsWhole}
 use Rattle.pf_whole.specs.meaning.WholeCanonical.{IsCanonicalStretch, IsPutTogether, IsWholeCanonicalOf}
 use Rattle.pf_whole.proofs.OneCanonical.{print_refl, read_back}
-use Rattle.pf_signatures.proofs.ReadOnce.{byte_flat, read_once, same_byte}
-use Rattle.pf_signatures.proofs.SpecificationsOnce.{one_specification, parts_of}
+use Rattle.pf_posix.proofs.ReadOnce.{byte_flat, read_once, same_byte}
+use Rattle.pf_posix.proofs.SpecificationsOnce.{one_specification, parts_of}
 use Rattle.pf_whole.proofs.SpelledNormally.{opaque_normally}
 
 -- two texts of one item that begin the same text

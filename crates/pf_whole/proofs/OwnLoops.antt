@@ -5,11 +5,11 @@ use Rattle.std.proofs.lemmas.List.{append_assoc, drop-drop, length-drop, take-ap
 use Rattle.pf_values.specs.declared.models.Model.{Model}
 use Rattle.pf_values.specs.meaning.Canonical.{IsCanonicalText}
 use Rattle.pf_values.specs.meaning.Text.{Text}
-use Rattle.pf_signatures.specs.declared.opaque_directives.OpaqueDirective.{OpaqueDirective}
-use Rattle.pf_signatures.specs.declared.stretches.Stretch.{Stretch}
-use Rattle.pf_signatures.specs.Heads.{IsHead, IsPlaced}
-use Rattle.pf_signatures.specs.OpaqueParts.{parts_of_opaque}
-use Rattle.pf_signatures.specs.Stretches.{Stretches, Last, Before, ReadsWhole}
+use Rattle.pf_posix.specs.declared.opaque_directives.OpaqueDirective.{OpaqueDirective}
+use Rattle.pf_posix.specs.declared.stretches.Stretch.{Stretch}
+use Rattle.pf_posix.specs.Heads.{IsHead, IsPlaced}
+use Rattle.pf_posix.specs.OpaqueParts.{parts_of_opaque}
+use Rattle.pf_posix.specs.Stretches.{Stretches, Last, Before, ReadsWhole}
 use Rattle.pf_whole.specs.meaning.NormalSpellings.{normal_spelling}
 use Rattle.pf_whole.specs.meaning.WholeCanonical.{IsPutTogether, IsWholeCanonicalOf}
 use Rattle.pf_whole.proofs.HeadLemmas.{before_directive, between}

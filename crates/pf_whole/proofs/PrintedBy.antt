@@ -1,8 +1,8 @@
 -- Alike texts print the same, whatever the calls print.
 use Rattle.std.proofs.Common.{◌≡◌}
 use Rattle.pf_values.specs.declared.models.Model.{Model}
-use Rattle.pf_signatures.specs.Stretches.{whole_types}
-use Rattle.pf_signatures.proofs.ReadOnce.{read_once}
+use Rattle.pf_posix.specs.Stretches.{whole_types}
+use Rattle.pf_posix.proofs.ReadOnce.{read_once}
 use Rattle.pf_whole.specs.Laws.{AlikePrintAlike}
 use Rattle.pf_whole.specs.meaning.WholeArguments.{HasWholeTypes}
 

@@ -7,7 +7,7 @@ use Rattle.pf_values.specs.meaning.Items.{IsAccepted}
 use Rattle.pf_values.specs.meaning.Text.{Text}
 use Rattle.pf_canon.specs.Answers.{IsCanonicalFor}
 use Rattle.pf_canon.specs.Comparison.{AreTextsSame}
-use Rattle.pf_signatures.specs.Stretches.{Last, IsWholeAccepted}
+use Rattle.pf_posix.specs.Stretches.{Last, IsWholeAccepted}
 use Rattle.pf_whole.specs.Answers.{IsWholeCanonicalFor}
 use Rattle.pf_whole.specs.Faults.{AreWholeSame}
 use Rattle.pf_whole.specs.meaning.WholeCanonical.{IsWholeCanonicalOf}

@@ -6,9 +6,9 @@ use Rattle.pf_values.specs.meaning.Items.{Item, types}
 use Rattle.pf_values.specs.meaning.Printing.{PrintAlike}
 use Rattle.pf_values.specs.meaning.Text.{Text}
 use Rattle.pf_text.proofs.Texts.{Reads-unique}
-use Rattle.pf_signatures.specs.Types.{widened}
-use Rattle.pf_signatures.specs.Stretches.{Last}
-use Rattle.pf_signatures.proofs.ReadOnce.{read_once}
+use Rattle.pf_posix.specs.Types.{widened}
+use Rattle.pf_posix.specs.Stretches.{Last}
+use Rattle.pf_posix.proofs.ReadOnce.{read_once}
 use Rattle.pf_whole.specs.Laws.{ProfileCoincides}
 use Rattle.pf_whole.specs.meaning.Traces.{Ends, Calls, HasTrace, PrintsKnown, Trace, TraceAlike}
 use Rattle.pf_whole.specs.meaning.WholeArguments.{WholeArgument, Known, HasWholeTypes}

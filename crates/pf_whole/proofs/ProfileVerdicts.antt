@@ -12,12 +12,11 @@ use Rattle.pf_compare.specs.declared.comparisons.CompareFault.TheVariants as fau
 use Rattle.pf_compare.specs.declared.comparisons.Verdict.TheVariants as compared
 use Rattle.pf_compare.specs.declared.owned_args.OwnedArg.{OwnedArg}
 use Rattle.pf_compare.specs.Owned.{argument_of_owned, type_of_owned}
-use Rattle.pf_signatures.specs.Stretches.{Stretches, Last, ReadsWhole, whole_types}
-use Rattle.pf_signatures.specs.Types.{widened}
-use Rattle.pf_signatures.proofs.ReadOnce.{read_once}
+use Rattle.pf_posix.specs.Stretches.{Stretches, Last, ReadsWhole, whole_types}
+use Rattle.pf_posix.specs.Types.{widened}
+use Rattle.pf_posix.proofs.ReadOnce.{read_once}
 use Rattle.pf_whole.specs.Answers.{HaveOneShape, IsWholeComparisonOf, IsWholeVerdict, WholeVerdict, Same, TypesDiffer, Different, ShowsNeutral}
 use Rattle.pf_whole.specs.Comparisons.{FaultForWholeCompare, HasShownType, ShowsDifference, shown_as}
-use Rattle.pf_whole.specs.declared.verdicts.WholeCompareFault.TheVariants.{Memory}
 use Rattle.pf_whole.specs.Findings.{IsTellingProbe}
 use Rattle.pf_whole.specs.Laws.{Correspond}
 use Rattle.pf_whole.specs.meaning.Traces.{AreWholeAlike}
@@ -25,7 +24,6 @@ use Rattle.pf_whole.specs.meaning.WholeArguments.{narrowed}
 use Rattle.pf_whole.proofs.Corresponding.{alike_is_corresponding}
 use Rattle.pf_whole.proofs.FindingLemmas.{shows_neutral, shows_probe}
 use Rattle.pf_whole.proofs.FindingLoops.{compared_from}
-use Rattle.pf_whole.proofs.KnownArguments.{narrowed_is}
 use Rattle.pf_whole.proofs.ProfileAnswers.{accepted_whole}
 use Rattle.pf_whole.proofs.ProfileTexts.{profile_coincides}
 use Rattle.pf_whole.proofs.ShownLoops.{compared_end, neutral_end, typed_end, typed_from}
@@ -41,7 +39,7 @@ narrowed_again (x ∷ xs) [] zero e = cc
 narrowed_again (x ∷ xs) [] (suc i) e = narrowed_again xs [] i e
 narrowed_again (x ∷ xs) (y ∷ ys) zero e =
     let wide : widened x ≡ widened y = cc in
-    sym (narrowed_is x) ∙ ap narrowed wide ∙ narrowed_is y
+    cc
 narrowed_again (x ∷ xs) (y ∷ ys) (suc i) e = narrowed_again xs ys i e
 
 widened_before : (xs ys : List ArgType) (i k : ℕ) → take i xs ≡ take i ys → k < i → slice_get (map widened xs) k ≡ slice_get (map widened ys) k
@@ -140,7 +138,7 @@ last_shape model t u xs ys a b h g same k l =
     (subst (λ z. HaveOneShape model (Last xs) z) (read_once u (Last ys) b g.reads l) same)
 
 pub shown_memory : (model : Model) (t u : Text) (comparison : Comparison) (args : List OwnedArg) → (h : IsComparisonOf model t u comparison)
-    → comparison.verdict ≢ compared.Same → IsShownVerdict model t u comparison h args → FaultForWholeCompare model t u Memory
+    → comparison.verdict ≢ compared.Same → IsShownVerdict model t u comparison h args → FaultForWholeCompare model t u faults.Memory
 shown_memory model t u comparison args h other is = (
   accepted_whole t (first_accepted model t u comparison h),
   accepted_whole u (second_accepted model t u comparison h),
@@ -148,7 +146,7 @@ shown_memory model t u comparison args h other is = (
   λ a b k l. last_shape model t u h.first h.second a b h.accepted_first h.accepted_second is.0 k l,
 )
 
-pub profile_memory : (model : Model) (t u : Text) → FaultForCompare model t u faults.Memory → FaultForWholeCompare model t u Memory
+pub profile_memory : (model : Model) (t u : Text) → FaultForCompare model t u faults.Memory → FaultForWholeCompare model t u faults.Memory
 profile_memory model t u h =
     let first : IsAccepted t = (h.0.first.items, h.0.first.accepted) in
     let second : IsAccepted u = (h.0.second.items, h.0.second.accepted) in (

@@ -12,13 +12,13 @@ use Rattle.pf_values.specs.meaning.Text.{Text}
 use Rattle.pf_compare.specs.Answers.{PrintUnlike}
 use Rattle.pf_compare.specs.declared.owned_args.OwnedArg.{OwnedArg}
 use Rattle.pf_compare.specs.Owned.{argument_of_owned, type_of_owned}
-use Rattle.pf_signatures.specs.declared.types.ArgumentType.{ArgumentType}
-use Rattle.pf_signatures.specs.declared.stretches.Stretch.{Stretch}
-use Rattle.pf_signatures.specs.Heads.{IsHead}
-use Rattle.pf_signatures.specs.Specifications.{PosixSpecification}
-use Rattle.pf_signatures.specs.Stretches.{Stretches, Last, Before, ReadsWhole, types_of_opaque, whole_types}
-use Rattle.pf_signatures.specs.Types.{widened}
-use Rattle.pf_signatures.proofs.ReadOnce.{read_once}
+use Rattle.pf_posix.specs.declared.types.ArgumentType.{ArgumentType}
+use Rattle.pf_posix.specs.declared.stretches.Stretch.{Stretch}
+use Rattle.pf_posix.specs.Heads.{IsHead}
+use Rattle.pf_posix.specs.Specifications.{PosixSpecification}
+use Rattle.pf_posix.specs.Stretches.{Stretches, Last, Before, ReadsWhole, types_of_opaque, whole_types}
+use Rattle.pf_posix.specs.Types.{widened}
+use Rattle.pf_posix.proofs.ReadOnce.{read_once}
 use Rattle.pf_whole.specs.Answers.{HaveOneShape, neutral_shown}
 use Rattle.pf_whole.specs.Comparisons.{HasShownType, IsShownNext, ShowsDifference, shown_as}
 use Rattle.pf_whole.specs.Findings.{NeutralTells, ShowsTelling, shown_any, shown_neutrals}

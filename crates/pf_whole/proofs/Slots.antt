@@ -5,10 +5,9 @@ use Rattle.pf_values.specs.declared.types.ArgType.{ArgType}
 use Rattle.pf_values.specs.Candidates.{neutral, neutrals}
 use Rattle.pf_values.specs.meaning.Arguments.{Argument}
 use Rattle.pf_compare.specs.Answers.{probe_at}
-use Rattle.pf_signatures.specs.declared.types.ArgumentType.{ArgumentType}
-use Rattle.pf_signatures.specs.Types.{widened}
+use Rattle.pf_posix.specs.declared.types.ArgumentType.{ArgumentType}
+use Rattle.pf_posix.specs.Types.{widened}
 use Rattle.pf_whole.specs.meaning.WholeArguments.{narrowed}
-use Rattle.pf_whole.proofs.KnownArguments.{narrowed_is}
 use Rattle.pf_whole.proofs.TraceLemmas.{length_map}
 
 -- an element of the first of two lists, and one of the second
@@ -44,7 +43,7 @@ pub typed_at : (ts : List ArgType) (i : ℕ) (type : ArgType) (wide : ArgumentTy
 typed_at [] i type wide h g = cc
 typed_at (t ∷ ts) zero type wide h g =
     let same : widened t ≡ wide = cc in
-    sym (narrowed_is t) ∙ ap narrowed same ∙ g
+    ap narrowed same ∙ g
 typed_at (t ∷ ts) (suc i) type wide h g = typed_at ts i type wide h g
 
 pub wide_at : (ts : List ArgType) (i : ℕ) (type : ArgType) → slice_get ts i ≡ Some type → slice_get (map widened ts) i ≡ Some (widened type)

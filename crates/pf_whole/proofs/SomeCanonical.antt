@@ -4,7 +4,7 @@ use Rattle.pf_values.specs.declared.models.Model.{Model}
 use Rattle.pf_values.specs.meaning.Items.{Item, Reads}
 use Rattle.pf_values.specs.meaning.Text.{Text}
 use Rattle.pf_canon.proofs.SomeCanonical.{some_canonical}
-use Rattle.pf_signatures.specs.Stretches.{Stretches, Last, Before, ReadsWhole, IsWholeAccepted}
+use Rattle.pf_posix.specs.Stretches.{Stretches, Last, Before, ReadsWhole, IsWholeAccepted}
 use Rattle.pf_whole.specs.meaning.WholeHeadline.{HasOneWholeCanonical, WholeHeadline}
 use Rattle.pf_whole.specs.meaning.NormalSpellings.{normal_spelling}
 use Rattle.pf_whole.specs.meaning.Traces.{AreWholeAlike}

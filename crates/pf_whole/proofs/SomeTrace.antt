@@ -7,14 +7,13 @@ use Rattle.pf_values.specs.meaning.Arguments.{Argument, HasTypes}
 use Rattle.pf_values.specs.meaning.Items.{Item, types}
 use Rattle.pf_values.specs.meaning.Text.{Text}
 use Rattle.pf_values.proofs.Alike.{all_printed, all_printed-is}
-use Rattle.pf_signatures.specs.declared.types.ArgumentType.{ArgumentType}
-use Rattle.pf_signatures.specs.Specifications.{PosixSpecification}
-use Rattle.pf_signatures.specs.Types.{widened}
-use Rattle.pf_signatures.specs.Stretches.{Stretches, Last, Before, types_of_opaque, whole_types}
+use Rattle.pf_posix.specs.declared.types.ArgumentType.{ArgumentType}
+use Rattle.pf_posix.specs.Specifications.{PosixSpecification}
+use Rattle.pf_posix.specs.Types.{widened}
+use Rattle.pf_posix.specs.Stretches.{Stretches, Last, Before, types_of_opaque, whole_types}
 use Rattle.pf_whole.specs.meaning.NormalSpellings.{normal_spelling}
 use Rattle.pf_whole.specs.meaning.Traces.{Ends, Calls, HasTrace, PrintsKnown, Trace, Call}
 use Rattle.pf_whole.specs.meaning.WholeArguments.{WholeArgument, Known, Other, HasNarrowedType, HasWholeTypes, narrowed}
-use Rattle.pf_whole.proofs.KnownArguments.{narrowed_is}
 
 -- arguments of types of the profile are known
 pub record AreKnown (model : Model) (args : List WholeArgument) (ts : List ArgType) : Type 0 where
@@ -28,13 +27,8 @@ are_known model [] (t ∷ ts) h = absurd h
 are_known model (x ∷ args) [] h = absurd h
 are_known model (Known x ∷ args) (t ∷ ts) h =
     let rest = are_known model args ts h.1 in
-    let wide = narrowed_is t in
-    let first : HasNarrowedType model (Known x) (narrowed (widened t)) = h.0 in
-    record { known = x ∷ rest.known; same = ap (λ l. Known x ∷ l) rest.same; typed = (rw wide at first, rest.typed) }
-are_known model (Other x ∷ args) (t ∷ ts) h =
-    let wide = narrowed_is t in
-    let first : HasNarrowedType model (Other x) (narrowed (widened t)) = h.0 in
-    absurd (rw wide at first)
+    record { known = x ∷ rest.known; same = ap (λ l. Known x ∷ l) rest.same; typed = (h.0, rest.typed) }
+are_known model (Other x ∷ args) (t ∷ ts) h = absurd h.0
 
 -- arguments of two lists of types, one after another
 pub record AreSplit (model : Model) (args : List WholeArgument) (a b : List ArgumentType) : Type 0 where

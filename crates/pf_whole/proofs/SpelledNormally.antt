@@ -9,13 +9,13 @@ use Rattle.pf_values.specs.meaning.Flags.{all_flags, flag_byte, has}
 use Rattle.pf_values.specs.meaning.Text.{Text}
 use Rattle.pf_text.proofs.Complete.{small}
 use Rattle.pf_text.proofs.ReadBack.{decimal_is, least_digits_are, precision_read, set_kept}
-use Rattle.pf_signatures.specs.declared.conversions.Conversion.{Conversion}
-use Rattle.pf_signatures.specs.Defined.{IsPosixDefined, has_any_flag, is_count, takes_precision, takes_zero}
-use Rattle.pf_signatures.specs.Specifications.{Amount, Given, Fetched, PosixSpecification}
-use Rattle.pf_signatures.specs.Spelling.{SpellsPosition, SpellsPosix, SpellsPosixPrecision, SpellsPosixWidth, SpellsUpToPrecision}
-use Rattle.pf_signatures.specs.Opaque.{SpellsOpaque}
-use Rattle.pf_signatures.proofs.DefinedLemmas.{is_defined, no_reason}
-use Rattle.pf_signatures.proofs.SpecificationsOnce.{HasParts, no_number, parts_of}
+use Rattle.pf_posix.specs.declared.conversions.Conversion.{Conversion}
+use Rattle.pf_posix.specs.Defined.{IsPosixDefined, has_any_flag, is_count, takes_precision, takes_zero}
+use Rattle.pf_posix.specs.Specifications.{Amount, Given, Fetched, PosixSpecification}
+use Rattle.pf_posix.specs.Spelling.{SpellsPosition, SpellsPosix, SpellsPosixPrecision, SpellsPosixWidth, SpellsUpToPrecision}
+use Rattle.pf_posix.specs.Opaque.{SpellsOpaque}
+use Rattle.pf_posix.proofs.DefinedLemmas.{is_defined, no_reason}
+use Rattle.pf_posix.proofs.SpecificationsOnce.{HasParts, no_number, parts_of}
 use Rattle.pf_whole.specs.meaning.NormalSpellings.{is_amount, is_general, is_given, is_integer, keeps_sign, kept_conversion, kept_flags, kept_modifier}
 use Rattle.pf_whole.specs.meaning.NormalSpellings.{normal_precision, meant_precision, normal_parts, normal_spelling, posix_precision_spelled}
 use Rattle.pf_whole.specs.meaning.NormalSpellings.{posix_width_spelled}
@@ -32,7 +32,7 @@ width_here t (Some (Given n)) h = record {
   numeral = (digits_of 10 n, least_digits_are n h.some, decimal_is n h.some (omega (arith, h.within)));
   within = h.within;
 }
-width_here t (Some (Fetched number)) h = record { digits = []; digits_are = none_placed number (no_number number h.style); style = h.style; whole = refl }
+width_here t (Some (Fetched number)) h = record { digits = []; digits_are = none_placed number (no_number number h.numbering); numbering = h.numbering; whole = refl }
 
 -- the precision is one that can be spelled
 abbrev IsFew : Option Amount → Type 0
@@ -43,7 +43,7 @@ IsFew (Some (Fetched number)) = is_some number ≡ false
 few_of : (t : Text) (precision : Option Amount) → SpellsPosixPrecision t None precision → IsFew precision
 few_of t None h = tt
 few_of t (Some (Given n)) h = h.1
-few_of t (Some (Fetched number)) h = h.1.style
+few_of t (Some (Fetched number)) h = h.1.numbering
 
 few_kept : (conversion : Conversion) (precision : Option Amount) → IsFew precision → IsFew (normal_precision conversion precision)
 few_kept conversion None h = tt
@@ -58,7 +58,7 @@ precision_here : (precision : Option Amount) → IsFew precision → SpellsPosix
 precision_here None h = refl
 precision_here (Some (Given n)) h = (precision_read (Some n) (small n h), h)
 precision_here (Some (Fetched number)) h =
-    (42 ∷ [], record { digits = []; digits_are = none_placed number (no_number number h); style = h; whole = refl }, refl)
+    (42 ∷ [], record { digits = []; digits_are = none_placed number (no_number number h); numbering = h; whole = refl }, refl)
 
 spelled_normally : (model : Model) (t : Text) (s : PosixSpecification) → HasParts t s → SpellsPosix (normal_spelling model s) (normal_parts model s)
 spelled_normally model t s h =

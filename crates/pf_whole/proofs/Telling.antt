@@ -9,8 +9,8 @@ use Rattle.pf_values.specs.meaning.Items.{Item, types}
 use Rattle.pf_values.specs.meaning.Printing.{PrintsAll}
 use Rattle.pf_values.specs.meaning.Text.{Text}
 use Rattle.pf_values.proofs.Alike.{all_printed, PrintsAll-unique}
-use Rattle.pf_signatures.specs.Types.{widened}
-use Rattle.pf_signatures.specs.Stretches.{Stretches, Last, Before, ReadsWhole, types_of_opaque, whole_types}
+use Rattle.pf_posix.specs.Types.{widened}
+use Rattle.pf_posix.specs.Stretches.{Stretches, Last, Before, ReadsWhole, types_of_opaque, whole_types}
 use Rattle.pf_whole.specs.Answers.{Agrees, CallsGiveShape, HaveOneShape, TellSomewhere, TellStretches, TellingIsApart}
 use Rattle.pf_whole.specs.Laws.{PlacedCall, placed_calls}
 use Rattle.pf_whole.specs.meaning.NormalSpellings.{normal_spelling}

@@ -6,9 +6,9 @@ use Rattle.pf_values.specs.meaning.Arguments.{HasTypes}
 use Rattle.pf_values.specs.meaning.Items.{Item, types}
 use Rattle.pf_values.specs.meaning.Text.{Text}
 use Rattle.pf_values.proofs.Alike.{PrintsAll-unique}
-use Rattle.pf_signatures.specs.Specifications.{PosixSpecification}
-use Rattle.pf_signatures.specs.Types.{widened}
-use Rattle.pf_signatures.specs.Stretches.{Stretches, Last, Before, types_of_opaque, whole_types}
+use Rattle.pf_posix.specs.Specifications.{PosixSpecification}
+use Rattle.pf_posix.specs.Types.{widened}
+use Rattle.pf_posix.specs.Stretches.{Stretches, Last, Before, types_of_opaque, whole_types}
 use Rattle.pf_whole.specs.Laws.{TracesOnce}
 use Rattle.pf_whole.specs.meaning.Traces.{Call, Calls, Ends, HasTrace, IsCallOf, PrintsKnown, Trace}
 use Rattle.pf_whole.specs.meaning.WholeArguments.{WholeArgument, Known, HasWholeTypes}

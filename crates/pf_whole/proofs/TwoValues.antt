@@ -8,7 +8,7 @@ use Rattle.pf_values.specs.meaning.Arguments.{Argument, Number, String}
 use Rattle.pf_values.specs.Candidates.{candidates, neutral}
 use Rattle.pf_probes.proofs.Probes.{neutral_in}
 use Rattle.pf_probes.proofs.Telling.{candidate_typed}
-use Rattle.pf_signatures.specs.declared.types.ArgumentType.{ArgumentType}
+use Rattle.pf_posix.specs.declared.types.ArgumentType.{ArgumentType}
 use Rattle.pf_whole.specs.meaning.WholeArguments.{WholeArgument, Known, Other, HasNarrowedType, HasWholeTypes, narrowed}
 
 -- an argument that is not the neutral one

@@ -4,13 +4,14 @@ use Rattle.std.specs.Prelude.{Option, Some, None}
 use Rattle.pf_values.specs.declared.models.Model.{Model}
 use Rattle.pf_values.specs.meaning.Arguments.{Argument}
 use Rattle.pf_values.specs.meaning.Text.{Text}
-use Rattle.pf_signatures.specs.declared.comparison.FitsRefusal.{FitsRefusal}
-use Rattle.pf_signatures.specs.declared.comparison.FitsRefusal.TheVariants as refusals
-use Rattle.pf_signatures.specs.Laws.{ComparesArgumentTypes, FaultForFits, IsFirstDifference}
-use Rattle.pf_signatures.specs.Stretches.{Stretches, ReadsWhole, IsWholeAccepted, whole_types}
-use Rattle.pf_signatures.proofs.KeptTypes.{types_are_kept}
-use Rattle.pf_signatures.proofs.ReadOnce.{read_once}
-use Rattle.pf_signatures.proofs.Unique.{never_both, one_list}
+use Rattle.pf_text.specs.declared.refusals.Refusal.{Refusal}
+use Rattle.pf_text.specs.declared.refusals.Side.{Side}
+use Rattle.pf_text.specs.declared.refusals.Side.TheVariants as sides
+use Rattle.pf_posix.specs.Laws.{ComparesArgumentTypes, FaultForFits, IsFirstDifference}
+use Rattle.pf_posix.specs.Stretches.{Stretches, ReadsWhole, IsWholeAccepted, whole_types}
+use Rattle.pf_posix.proofs.KeptTypes.{types_are_kept}
+use Rattle.pf_posix.proofs.ReadOnce.{read_once}
+use Rattle.pf_posix.proofs.Unique.{never_both, one_list}
 use Rattle.pf_whole.specs.Answers.{IsWholeComparisonOf, IsWholeVerdict, WholeVerdict, Same, TypesDiffer, DirectivesDiffer, Different, HaveOneShape}
 use Rattle.pf_whole.specs.Calls.{CallsDiffer}
 use Rattle.pf_whole.specs.Comparisons.{ShowsDifference}
@@ -77,8 +78,9 @@ same_verdict model t u h g alike = record {
 }
 
 -- texts that are accepted are compared by their types
-pub fit_anyway : (model : Model) (t u : Text) (refusal : FitsRefusal) → IsWholeAccepted t → IsWholeAccepted u → FaultForFits model t u refusal → ⊥
-fit_anyway model t u (refusals.First refusal) h g fault =
+pub fit_anyway : (model : Model) (t u : Text) (side : Side) (refusal : Refusal) → IsWholeAccepted t → IsWholeAccepted u
+    → FaultForFits model t u (side, refusal) → ⊥
+fit_anyway model t u sides.First refusal h g fault =
     never_both model t (whole_types model h.stretches) refusal.kind refusal.at (types_are_kept model t h.stretches h.reads h.limit) fault
-fit_anyway model t u (refusals.Second refusal) h g fault =
+fit_anyway model t u sides.Second refusal h g fault =
     never_both model u (whole_types model g.stretches) refusal.kind refusal.at (types_are_kept model u g.stretches g.reads g.limit) fault.1

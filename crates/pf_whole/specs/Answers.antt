@@ -13,9 +13,9 @@ use Rattle.pf_values.specs.meaning.Digits.{IsLeastFrom}
 use Rattle.pf_values.specs.meaning.Items.{Item, types}
 use Rattle.pf_values.specs.meaning.Text.{Text}
 use Rattle.pf_compare.specs.Answers.{IsEarlier, PrintTheSame, PrintUnlike}
-use Rattle.pf_signatures.specs.declared.types.ArgumentType.{ArgumentType}
-use Rattle.pf_signatures.specs.Laws.{IsFirstDifference}
-use Rattle.pf_signatures.specs.Stretches.{Stretches, Last, Before, ReadsWhole, IsWholeAccepted, types_of_opaque, whole_types}
+use Rattle.pf_posix.specs.declared.types.ArgumentType.{ArgumentType}
+use Rattle.pf_posix.specs.Laws.{IsFirstDifference}
+use Rattle.pf_posix.specs.Stretches.{Stretches, Last, Before, ReadsWhole, IsWholeAccepted, types_of_opaque, whole_types}
 use Rattle.pf_whole.specs.Laws.{PlacedCall, placed_calls}
 use Rattle.pf_whole.specs.meaning.NormalSpellings.{normal_spelling}
 use Rattle.pf_whole.specs.meaning.Traces.{AreWholeAlike, HasTrace, Trace, TraceAlike}

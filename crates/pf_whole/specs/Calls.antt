@@ -4,13 +4,13 @@ use Rattle.pf_values.specs.declared.models.Model.{Model}
 use Rattle.pf_values.specs.meaning.Digits.{IsLeastFrom}
 use Rattle.pf_values.specs.meaning.Items.{Item, types}
 use Rattle.pf_values.specs.meaning.Text.{Text}
-use Rattle.pf_signatures.specs.Specifications.{PosixSpecification}
-use Rattle.pf_signatures.specs.Stretches.{Stretches, Last, Before, ReadsWhole, types_of_opaque}
+use Rattle.pf_posix.specs.Specifications.{PosixSpecification}
+use Rattle.pf_posix.specs.Stretches.{Stretches, Last, Before, ReadsWhole, types_of_opaque}
 use Rattle.pf_whole.specs.declared.calls.PlacedDirective.{PlacedDirective}
 use Rattle.pf_whole.specs.declared.calls.Rest.{Rest}
 use Rattle.pf_whole.specs.Answers.{DifferAtCall}
 use Rattle.pf_whole.specs.Laws.{placed_calls}
-use Rattle.pf_signatures.specs.OpaqueParts.{parts_of_opaque}
+use Rattle.pf_posix.specs.OpaqueParts.{parts_of_opaque}
 
 -- the first call of what is left of a text, and what is left after it
 pub record IsCallNext (model : Model) (t : Text) (items : List Item) (s : PosixSpecification) (later : Stretches)

@@ -10,21 +10,21 @@ use Rattle.pf_values.specs.meaning.Text.{Text}
 use Rattle.pf_compare.specs.declared.owned_args.OwnedArg.{OwnedArg}
 use Rattle.pf_compare.specs.Answers.{PrintTheSame, PrintUnlike}
 use Rattle.pf_compare.specs.Owned.{argument_of_owned, type_of_owned}
-use Rattle.pf_signatures.specs.declared.types.ArgumentType.{ArgumentType}
-use Rattle.pf_signatures.specs.Types.{widened}
+use Rattle.pf_posix.specs.declared.types.ArgumentType.{ArgumentType}
+use Rattle.pf_posix.specs.Types.{widened}
 use Rattle.pf_whole.specs.declared.verdicts.Difference.{Difference}
 use Rattle.pf_whole.specs.declared.verdicts.Difference.TheVariants as differences
 use Rattle.pf_whole.specs.declared.verdicts.StretchArguments.{StretchArguments}
 use Rattle.pf_whole.specs.declared.verdicts.StretchArguments.TheVariants as shown
-use Rattle.pf_whole.specs.declared.verdicts.WholeCompareFault.{WholeCompareFault}
-use Rattle.pf_whole.specs.declared.verdicts.WholeCompareFault.TheVariants.{Refused, Memory}
+use Rattle.pf_compare.specs.declared.comparisons.CompareFault.{CompareFault}
+use Rattle.pf_compare.specs.declared.comparisons.CompareFault.TheVariants.{Refused, Memory}
 use Rattle.pf_whole.specs.declared.verdicts.WholeVerdict.{WholeVerdict}
 use Rattle.pf_whole.specs.declared.verdicts.WholeVerdict.TheVariants as verdicts
 use Rattle.pf_whole.specs.Answers as answers
 use Rattle.pf_whole.specs.Answers.{HaveOneShape, IsWholeComparisonOf, ShowsNeutral, ShowsProbe}
 use Rattle.pf_whole.specs.Faults.{FaultForWholeSame}
 use Rattle.pf_whole.specs.Findings.{IsTellingProbe}
-use Rattle.pf_signatures.specs.Stretches.{Stretches, ReadsWhole, IsWholeAccepted, whole_types}
+use Rattle.pf_posix.specs.Stretches.{Stretches, ReadsWhole, IsWholeAccepted, whole_types}
 use Rattle.pf_whole.specs.meaning.Traces.{AreWholeAlike}
 
 -- the arguments that are shown
@@ -55,8 +55,8 @@ pub record IsComparison (model : Model) (t u : Text) (verdict : WholeVerdict) : 
 
 -- Why two texts are not compared. Memory can be refused only if both are accepted, have equal types and
 -- calls, and are not alike.
-abbrev pub FaultForWholeCompare : Model → Text → Text → WholeCompareFault → Type 0
-FaultForWholeCompare model t u (Refused refusal) = FaultForWholeSame model t u refusal
+abbrev pub FaultForWholeCompare : Model → Text → Text → CompareFault → Type 0
+FaultForWholeCompare model t u (Refused side refusal) = FaultForWholeSame model t u (side, refusal)
 FaultForWholeCompare model t u Memory = IsWholeAccepted t × IsWholeAccepted u × (¬ AreWholeAlike model t u)
     × ((a b : Stretches) → ReadsWhole t a → ReadsWhole u b → HaveOneShape model a b)
 

@@ -2,25 +2,25 @@
 use Rattle.std.specs.Prelude.{◌≢◌, ◌↔◌, Bool, IsTrue, []}
 use Rattle.pf_values.specs.declared.models.Model.{Model}
 use Rattle.pf_values.specs.meaning.Text.{Text}
-use Rattle.pf_signatures.specs.declared.comparison.FitsRefusal.{FitsRefusal}
-use Rattle.pf_signatures.specs.declared.comparison.FitsRefusal.TheVariants.{First, Second}
-use Rattle.pf_signatures.specs.declared.refusals.SignatureFault.{SignatureFault}
-use Rattle.pf_signatures.specs.declared.refusals.SignatureFault.TheVariants.{Refused, Memory}
-use Rattle.pf_signatures.specs.Stretches.{IsWholeAccepted}
-use Rattle.pf_signatures.specs.Unnumbered.{IsWholeRefusedAt}
+use Rattle.pf_text.specs.declared.refusals.Refusal.{Refusal}
+use Rattle.pf_text.specs.declared.refusals.Side.{Side}
+use Rattle.pf_text.specs.declared.refusals.TextFault.{TextFault}
+use Rattle.pf_text.specs.declared.refusals.TextFault.TheVariants.{Refused, Memory}
+use Rattle.pf_text.specs.Refusals.{RefusesOne}
+use Rattle.pf_posix.specs.Stretches.{IsWholeAccepted}
+use Rattle.pf_posix.specs.Unnumbered.{IsWholeRefusedAt}
 use Rattle.pf_whole.specs.Answers.{IsWholeCanonicalFor}
 use Rattle.pf_whole.specs.meaning.Traces.{AreWholeAlike}
 
 -- why there is no canonical text: memory is wanting only where that has bytes to be kept
-abbrev pub FaultForWholeCanonical : Model → Text → SignatureFault → Type 0
+abbrev pub FaultForWholeCanonical : Model → Text → TextFault → Type 0
 FaultForWholeCanonical model t (Refused refusal) = IsWholeRefusedAt model t refusal.kind refusal.at
 FaultForWholeCanonical model t Memory = (c : Text) × IsWholeCanonicalFor model t c × (c ≢ [])
 
 -- why two texts are not compared: the first is refused, or the first is accepted and the second refused
-abbrev pub FaultForWholeSame : Model → Text → Text → FitsRefusal → Type 0
-FaultForWholeSame model t u (First refusal) = IsWholeRefusedAt model t refusal.kind refusal.at
-FaultForWholeSame model t u (Second refusal) = IsWholeAccepted t
-    × IsWholeRefusedAt model u refusal.kind refusal.at
+abbrev pub FaultForWholeSame : Model → Text → Text → Side × Refusal → Type 0
+FaultForWholeSame model t u fault =
+    RefusesOne IsWholeAccepted (IsWholeRefusedAt model) t u fault.0 fault.1
 
 -- two accepted texts, and whether they are alike
 pub record AreWholeSame (model : Model) (t u : Text) (is : Bool) : Type 0 where

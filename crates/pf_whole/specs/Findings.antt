@@ -6,9 +6,9 @@ use Rattle.pf_values.specs.meaning.Arguments.{Argument}
 use Rattle.pf_values.specs.meaning.Items.{Item, types}
 use Rattle.pf_values.specs.meaning.Printing.{PrintAlike}
 use Rattle.pf_compare.specs.Answers.{IsFirstProbe, PrintTheSame, PrintUnlike, probe_at}
-use Rattle.pf_signatures.specs.Specifications.{PosixSpecification}
+use Rattle.pf_posix.specs.Specifications.{PosixSpecification}
 use Rattle.pf_whole.specs.Answers.{neutral_shown}
-use Rattle.pf_signatures.specs.Stretches.{Stretches, Last, Before, types_of_opaque}
+use Rattle.pf_posix.specs.Stretches.{Stretches, Last, Before, types_of_opaque}
 
 -- neutral arguments of a stretch
 abbrev pub shown_neutrals : Model → List Item → List (Option Argument)

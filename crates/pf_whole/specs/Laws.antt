@@ -5,7 +5,7 @@ use Rattle.pf_values.specs.meaning.Canonical.{IsCanonicalOf}
 use Rattle.pf_values.specs.meaning.Items.{IsAccepted, types}
 use Rattle.pf_values.specs.meaning.Printing.{AreEquivalent, PrintAlike}
 use Rattle.pf_values.specs.meaning.Text.{Text}
-use Rattle.pf_signatures.specs.Stretches.{Stretches, Last, Before, ReadsWhole, types_of_opaque, whole_types}
+use Rattle.pf_posix.specs.Stretches.{Stretches, Last, Before, ReadsWhole, types_of_opaque, whole_types}
 use Rattle.pf_whole.specs.meaning.NormalSpellings.{normal_spelling}
 use Rattle.pf_whole.specs.meaning.Traces.{AreWholeAlike, Call, Calls, Ends, HasTrace, Trace}
 use Rattle.pf_whole.specs.meaning.WholeArguments.{WholeArgument, HasWholeTypes}

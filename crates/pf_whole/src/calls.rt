@@ -1,12 +1,12 @@
 //! The calls that formats make, and the first one that only one of two formats makes.
 ghost use Rattle.std.specs.Prelude.{◌≤◌, ◌≡◌, List, drop, length};
-ghost use Rattle.pf_signatures.specs.declared.types.ArgumentType.{ArgumentType};
-ghost use Rattle.pf_signatures.specs.Items.{HasArguments};
-ghost use Rattle.pf_signatures.specs.Stretches.{IsWholeAccepted, ReadsWhole, Stretches};
+ghost use Rattle.pf_posix.specs.declared.types.ArgumentType.{ArgumentType};
+ghost use Rattle.pf_posix.specs.Items.{HasArguments};
+ghost use Rattle.pf_posix.specs.Stretches.{IsWholeAccepted, ReadsWhole, Stretches};
 ghost use Rattle.pf_whole.specs.Calls.{CallsDiffer, IsNextCall};
 
 use crate::comparison::make_one_call;
-use pf_signatures::{OpaqueDirective, arguments, next_stretch};
+use pf_posix::{OpaqueDirective, arguments, next_stretch};
 use pf_values::Model;
 
 /// A directive that the profile lacks, and the index of the first argument of its call.

@@ -3,17 +3,18 @@ ghost use Rattle.std.specs.Prelude.{◌≡◌, ◌≢◌, [], ◌++◌, IfErr, I
 ghost use Rattle.pf_values.specs.meaning.Items.{HasItems, Item};
 ghost use Rattle.pf_values.specs.meaning.Text.{Text};
 ghost use Rattle.pf_canon.specs.Answers.{IsCanonicalFor};
-ghost use Rattle.pf_signatures.specs.Stretches.{IsWholeAccepted};
+ghost use Rattle.pf_posix.specs.Stretches.{IsWholeAccepted};
 ghost use Rattle.pf_whole.specs.Answers.{IsWholeCanonicalFor};
 ghost use Rattle.pf_whole.specs.Faults.{FaultForWholeCanonical};
-ghost use Rattle.pf_signatures.specs.OpaqueParts.{parts_of_opaque};
+ghost use Rattle.pf_posix.specs.OpaqueParts.{parts_of_opaque};
 ghost use Rattle.pf_whole.specs.meaning.NormalSpellings.{normal_spelling};
 
 use crate::directives::normal_directive;
 use crate::lengths::len_of_stretches;
 use crate::spelling::spell;
-use pf_canon::{CanonFault, append_canonical};
-use pf_signatures::{OpaqueDirective, SignatureFault, check_unnumbered, next_stretch};
+use pf_canon::append_canonical;
+use pf_posix::{OpaqueDirective, check_unnumbered, next_stretch};
+use pf_text::TextFault;
 use pf_values::Model;
 use std::alloc::{AllocError, Global};
 
@@ -21,7 +22,7 @@ use std::alloc::{AllocError, Global};
 /// the profile lacks is replaced by the canonical text that it has as a format of its own, and each of
 /// these directives by its normal spelling. Its room is taken by one growth, and none is taken where
 /// the text is refused or empty.
-pub fn canonical(alloc: Global, model: Model, text: &[u8]) -> Result<Vec<u8>, SignatureFault>
+pub fn canonical(alloc: Global, model: Model, text: &[u8]) -> Result<Vec<u8>, TextFault>
     ensures { MatchResult result (λ c. IsWholeCanonicalFor model text.now c.items)
         (FaultForWholeCanonical model text.now) }
 {
@@ -35,15 +36,15 @@ pub fn canonical_with_room(
     model: Model,
     text: &[u8],
     more: usize,
-) -> Result<Vec<u8>, SignatureFault>
+) -> Result<Vec<u8>, TextFault>
     ensures { MatchResult result (λ c. IsWholeCanonicalFor model text.now c.items)
         (FaultForWholeCanonical model text.now) }
 {
     match pf_canon::canonical_with_room(alloc, model, text, more) {
         Ok(canonical) => Ok(canonical),
         Err(fault) => match fault {
-            CanonFault::Memory => Err(SignatureFault::Memory),
-            CanonFault::Refused(_) => canonical_of_stretches(alloc, model, text, more),
+            TextFault::Memory => Err(TextFault::Memory),
+            TextFault::Refused(_) => canonical_of_stretches(alloc, model, text, more),
         },
     }
 }
@@ -54,16 +55,16 @@ fn canonical_of_stretches(
     model: Model,
     text: &[u8],
     more: usize,
-) -> Result<Vec<u8>, SignatureFault>
+) -> Result<Vec<u8>, TextFault>
     ensures { MatchResult result (λ c. IsWholeCanonicalFor model text.now c.items)
         (FaultForWholeCanonical model text.now) }
 {
     if let Err(refusal) = check_unnumbered(model, text) {
-        return Err(SignatureFault::Refused(refusal));
+        return Err(TextFault::Refused(refusal));
     }
     match put_together(alloc, model, text, more) {
         Ok(out) => Ok(out),
-        Err(AllocError) => Err(SignatureFault::Memory),
+        Err(AllocError) => Err(TextFault::Memory),
     }
 }
 
@@ -114,8 +115,8 @@ fn append_stretch(out: Vec<u8>, model: Model, text: &[u8]) -> Result<Vec<u8>, Al
 {
     match append_canonical(out, model, text) {
         Ok(out) => Ok(out),
-        Err(CanonFault::Memory) => Err(AllocError),
-        Err(CanonFault::Refused(_)) => unreachable!(),
+        Err(TextFault::Memory) => Err(AllocError),
+        Err(TextFault::Refused(_)) => unreachable!(),
     }
 }
 

@@ -2,21 +2,22 @@
 ghost use Rattle.std.specs.Prelude.{◌≡◌, ◌↔◌, IsTrue, List, MatchResult};
 ghost use Rattle.pf_values.specs.meaning.Items.{HasItems, Item};
 ghost use Rattle.pf_values.specs.meaning.Printing.{AreEquivalent};
-ghost use Rattle.pf_signatures.specs.Stretches.{IsWholeAccepted};
+ghost use Rattle.pf_posix.specs.Stretches.{IsWholeAccepted};
 ghost use Rattle.pf_whole.specs.Faults.{AreWholeSame, FaultForWholeSame};
-ghost use Rattle.pf_signatures.specs.OpaqueParts.{parts_of_opaque};
+ghost use Rattle.pf_posix.specs.OpaqueParts.{parts_of_opaque};
 ghost use Rattle.pf_whole.specs.meaning.NormalSpellings.{normal_spelling};
 ghost use Rattle.pf_whole.specs.meaning.Traces.{AreWholeAlike};
 
 use crate::directives::normal_directive;
 use crate::spelling::spell;
-use pf_signatures::{FitsRefusal, OpaqueDirective, check_unnumbered, next_stretch};
+use pf_posix::{OpaqueDirective, check_unnumbered, next_stretch};
+use pf_text::{Refusal, Side};
 use pf_values::Model;
 
 /// Returns whether two formats have equal argument types, print equal bytes for all arguments, and
 /// make the same calls. Where a text is refused, the first text's refusal is returned if it has one. It
 /// takes no memory.
-pub fn same_text(model: Model, first: &[u8], second: &[u8]) -> Result<bool, FitsRefusal>
+pub fn same_text(model: Model, first: &[u8], second: &[u8]) -> Result<bool, (Side, Refusal)>
     ensures { MatchResult result (AreWholeSame model first.now second.now)
         (FaultForWholeSame model first.now second.now) }
 {
@@ -31,15 +32,15 @@ pub(crate) fn same_by_stretches(
     model: Model,
     first: &[u8],
     second: &[u8],
-) -> Result<bool, FitsRefusal>
+) -> Result<bool, (Side, Refusal)>
     ensures { MatchResult result (AreWholeSame model first.now second.now)
         (FaultForWholeSame model first.now second.now) }
 {
     if let Err(refusal) = check_unnumbered(model, first) {
-        return Err(FitsRefusal::First(refusal));
+        return Err((Side::First, refusal));
     }
     if let Err(refusal) = check_unnumbered(model, second) {
-        return Err(FitsRefusal::Second(refusal));
+        return Err((Side::Second, refusal));
     }
     Ok(are_alike(model, first, second))
 }

@@ -4,20 +4,21 @@ ghost use Rattle.pf_values.specs.meaning.Canonical.{IsCanonicalText};
 ghost use Rattle.pf_values.specs.meaning.Items.{HasItems, Item};
 ghost use Rattle.pf_values.specs.meaning.Text.{Text};
 ghost use Rattle.pf_canon.specs.Answers.{IsCanonicalFor};
-ghost use Rattle.pf_signatures.specs.Stretches.{IsWholeAccepted};
-ghost use Rattle.pf_signatures.specs.Unnumbered.{IsWholeRefusedAt};
-ghost use Rattle.pf_signatures.specs.OpaqueParts.{parts_of_opaque};
+ghost use Rattle.pf_posix.specs.Stretches.{IsWholeAccepted};
+ghost use Rattle.pf_posix.specs.Unnumbered.{IsWholeRefusedAt};
+ghost use Rattle.pf_posix.specs.OpaqueParts.{parts_of_opaque};
 ghost use Rattle.pf_whole.specs.Answers.{IsWholeCanonicalFor};
 ghost use Rattle.pf_whole.specs.meaning.NormalSpellings.{normal_spelling};
 ghost use Rattle.pf_whole.specs.meaning.WholeCanonical.{IsWholeCanonicalOf};
 
 use crate::directives::normal_directive;
 use crate::spelling::spell;
-use pf_signatures::{OpaqueDirective, SignatureRefusal, check_unnumbered, next_stretch};
+use pf_posix::{OpaqueDirective, check_unnumbered, next_stretch};
+use pf_text::Refusal;
 use pf_values::Model;
 
 /// Returns how many bytes the canonical text of a format has. It takes no memory.
-pub fn canonical_len(model: Model, text: &[u8]) -> Result<u128, SignatureRefusal>
+pub fn canonical_len(model: Model, text: &[u8]) -> Result<u128, Refusal>
     ensures { MatchResult result
         (λ len. (c : Text) × IsWholeCanonicalFor model text.now c × (len ≡ length c))
         (λ refusal. IsWholeRefusedAt model text.now refusal.kind refusal.at) }
@@ -60,7 +61,7 @@ fn stretch_len(model: Model, text: &[u8]) -> u128
 }
 
 /// Returns whether a format is its own canonical text. It takes no memory.
-pub fn is_canonical(model: Model, text: &[u8]) -> Result<bool, SignatureRefusal>
+pub fn is_canonical(model: Model, text: &[u8]) -> Result<bool, Refusal>
     ensures { MatchResult result
         (λ is. IsWholeAccepted text.now × (IsTrue is ↔ IsWholeCanonicalOf model text.now text.now))
         (λ refusal. IsWholeRefusedAt model text.now refusal.kind refusal.at) }

@@ -15,4 +15,4 @@ pub use canonical_texts::{canonical, canonical_with_room};
 pub use comparison::same_text;
 pub use directives::normal_directive;
 pub use lengths::{canonical_len, is_canonical};
-pub use verdicts::{WholeCompareFault, WholeVerdict, compare};
+pub use verdicts::{WholeVerdict, compare};

@@ -1,13 +1,13 @@
 //! How opaque directives are spelled.
 ghost use Rattle.std.specs.Prelude.{◌≡◌, ◌≤◌, ◌+◌, ◌++◌, decimal};
 ghost use Rattle.arrayvec.specs.ArrayVec.{array_vec_len};
-ghost use Rattle.pf_signatures.specs.Specifications.{modifier_letters};
-ghost use Rattle.pf_signatures.specs.OpaqueParts.{amount_of, parts_of_opaque};
+ghost use Rattle.pf_posix.specs.Specifications.{modifier_letters};
+ghost use Rattle.pf_posix.specs.OpaqueParts.{amount_of, parts_of_opaque};
 ghost use Rattle.pf_whole.specs.meaning.NormalSpellings.{posix_precision_spelled, posix_spelling_of, posix_width_spelled};
 
 use arrayvec::ArrayVec;
 use itoa::Buffer;
-use pf_signatures::{Modifier, OpaqueAmount, OpaqueDirective};
+use pf_posix::{Modifier, OpaqueAmount, OpaqueDirective};
 use pf_text::push_flags;
 
 /// The bytes of a spelling: `%`, six flags, two numbers of five digits, a point, two letters of a

@@ -5,19 +5,17 @@ ghost use Rattle.pf_values.specs.meaning.Items.{HasItems, IsAccepted, Item, Read
 ghost use Rattle.pf_compare.specs.Answers.{IsComparisonOf};
 ghost use Rattle.pf_compare.specs.Witnesses.{AreNeutral};
 ghost use Rattle.pf_compare.specs.declared.owned_args.OwnedArg.{OwnedArg};
-ghost use Rattle.pf_signatures.specs.Stretches.{IsWholeAccepted, ReadsWhole, Stretches, whole_types};
+ghost use Rattle.pf_posix.specs.Stretches.{IsWholeAccepted, ReadsWhole, Stretches, whole_types};
 ghost use Rattle.pf_whole.specs.Answers.{HaveOneShape, neutral_shown};
 ghost use Rattle.pf_whole.specs.Comparisons.{AreShownNext, FaultForWholeCompare, HasShownType, IsComparison, IsDifference, ShowsDifference, shown_as};
-ghost use Rattle.pf_whole.specs.declared.verdicts.WholeCompareFault.TheVariants.{Memory};
 ghost use Rattle.pf_whole.specs.meaning.Traces.{AreWholeAlike};
 
 use crate::calls::{argument_count, first_call_difference};
 use crate::comparison::same_by_stretches;
 use pf_compare::{CompareFault, Comparison, OwnedArg, Verdict, neutrals_of};
-use pf_signatures::{FitsRefusal, fits, next_stretch};
+use pf_posix::{fits, next_stretch};
 use pf_values::Model;
 use std::alloc::{AllocError, Global};
-use thiserror::Error;
 
 /// How two formats of the whole language compare.
 #[derive(Debug, Drop)]
@@ -35,25 +33,6 @@ pub enum WholeVerdict {
     Args(Vec<Option<OwnedArg>>),
 }
 
-/// Why two formats are not compared.
-#[derive(Clone, Copy, Debug, PartialEq, Eq, Error)]
-pub enum WholeCompareFault {
-    /// One of them is refused.
-    #[error("{0}")]
-    Refused(FitsRefusal),
-    /// A growth was refused.
-    #[error("out of memory")]
-    Memory,
-}
-
-impl From<AllocError> for WholeCompareFault {
-    ghost from_gives = { λ _ fault. fault ≡ Memory };
-
-    fn from(_error: AllocError) -> WholeCompareFault {
-        WholeCompareFault::Memory
-    }
-}
-
 /// Compares two formats in a data model. A refused one is answered by its refusal, the first before the
 /// second. Memory is taken only for arguments: if both are accepted, and their argument types and calls
 /// are equal, and they are not alike.
@@ -62,14 +41,14 @@ pub fn compare(
     model: Model,
     first: &[u8],
     second: &[u8],
-) -> Result<WholeVerdict, WholeCompareFault>
+) -> Result<WholeVerdict, CompareFault>
     ensures { MatchResult result (IsComparison model first.now second.now)
         (FaultForWholeCompare model first.now second.now) }
 {
     match pf_compare::compare(alloc, model, first, second) {
         Ok(comparison) => verdict_of_profile(alloc, model, first, second, comparison),
         Err(fault) => match fault {
-            CompareFault::Memory => Err(WholeCompareFault::Memory),
+            CompareFault::Memory => Err(CompareFault::Memory),
             CompareFault::Refused(_, _) => compare_by_stretches(alloc, model, first, second),
         },
     }
@@ -82,7 +61,7 @@ fn verdict_of_profile(
     first: &[u8],
     second: &[u8],
     comparison: Comparison,
-) -> Result<WholeVerdict, WholeCompareFault>
+) -> Result<WholeVerdict, CompareFault>
     requires { IsComparisonOf model first.now second.now comparison }
     ensures { MatchResult result (IsComparison model first.now second.now)
         (FaultForWholeCompare model first.now second.now) }
@@ -113,14 +92,14 @@ fn compare_by_stretches(
     model: Model,
     first: &[u8],
     second: &[u8],
-) -> Result<WholeVerdict, WholeCompareFault>
+) -> Result<WholeVerdict, CompareFault>
     ensures { MatchResult result (IsComparison model first.now second.now)
         (FaultForWholeCompare model first.now second.now) }
 {
     match same_by_stretches(model, first, second) {
         Ok(true) => Ok(WholeVerdict::Same),
         Ok(false) => compare_apart(alloc, model, first, second),
-        Err(refusal) => Err(WholeCompareFault::Refused(refusal)),
+        Err((side, refusal)) => Err(CompareFault::Refused(side, refusal)),
     }
 }
 
@@ -130,7 +109,7 @@ fn compare_apart(
     model: Model,
     first: &[u8],
     second: &[u8],
-) -> Result<WholeVerdict, WholeCompareFault>
+) -> Result<WholeVerdict, CompareFault>
     requires accepted_first { IsWholeAccepted first.now }
     requires accepted_second { IsWholeAccepted second.now }
     requires apart { ¬ AreWholeAlike model first.now second.now }

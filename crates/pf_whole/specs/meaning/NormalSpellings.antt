@@ -11,13 +11,13 @@ use Rattle.pf_values.specs.meaning.DataModel.{kept_length}
 use Rattle.pf_values.specs.meaning.Flags.{has}
 use Rattle.pf_values.specs.meaning.Spelling.{flags_spelled}
 use Rattle.pf_values.specs.meaning.Text.{Text, percent, point, star}
-use Rattle.pf_signatures.specs.declared.conversions.Conversion.{Conversion}
-use Rattle.pf_signatures.specs.declared.conversions.Conversion.TheVariants.{Profile, Float, UpperC, UpperS, Pointer, Count}
-use Rattle.pf_signatures.specs.declared.conversions.Floating.{Floating}
-use Rattle.pf_signatures.specs.declared.conversions.Floating.TheVariants as floats
-use Rattle.pf_signatures.specs.declared.conversions.Modifier.{Modifier}
-use Rattle.pf_signatures.specs.declared.conversions.Modifier.TheVariants.{Integer, LongDouble}
-use Rattle.pf_signatures.specs.Specifications.{Amount, Given, Fetched, PosixSpecification, conversion_letter, modifier_letters}
+use Rattle.pf_posix.specs.declared.conversions.Conversion.{Conversion}
+use Rattle.pf_posix.specs.declared.conversions.Conversion.TheVariants.{Profile, Float, UpperC, UpperS, Pointer, Count}
+use Rattle.pf_posix.specs.declared.conversions.Floating.{Floating}
+use Rattle.pf_posix.specs.declared.conversions.Floating.TheVariants as floats
+use Rattle.pf_posix.specs.declared.conversions.Modifier.{Modifier}
+use Rattle.pf_posix.specs.declared.conversions.Modifier.TheVariants.{Integer, LongDouble}
+use Rattle.pf_posix.specs.Specifications.{Amount, Given, Fetched, PosixSpecification, conversion_letter, modifier_letters}
 
 -- whether the conversion prints an integer: `d i u o x X b` (C11 7.21.6.1 p8; C23 7.23.6.1 p8)
 abbrev pub is_integer : Conversion → Bool

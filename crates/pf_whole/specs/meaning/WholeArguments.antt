@@ -3,11 +3,10 @@ use Rattle.std.specs.Prelude.{Option, Some, None, List, ⊤}
 use Rattle.std.specs.List.{AllZip}
 use Rattle.pf_values.specs.declared.models.Model.{Model}
 use Rattle.pf_values.specs.declared.types.ArgType.{ArgType}
-use Rattle.pf_values.specs.declared.types.ArgType.TheVariants as profile
 use Rattle.pf_values.specs.meaning.Arguments.{Argument, HasType}
 use Rattle.pf_values.specs.meaning.Text.{Text}
-use Rattle.pf_signatures.specs.declared.types.ArgumentType.{ArgumentType}
-use Rattle.pf_signatures.specs.declared.types.ArgumentType.TheVariants.{Int, UInt, Long, ULong, LongLong, ULongLong, Str}
+use Rattle.pf_posix.specs.declared.types.ArgumentType.{ArgumentType}
+use Rattle.pf_posix.specs.declared.types.ArgumentType.TheVariants.{Profile}
 
 -- An argument of a type of the profile is known. Any other is represented by bytes (C11 6.2.6.1 p4),
 -- and no definition depends on which bytes represent which value.
@@ -17,13 +16,7 @@ pub data WholeArgument : Type 0 where
 
 -- the same type in the profile, if the profile has it
 abbrev pub narrowed : ArgumentType → Option ArgType
-narrowed Int = Some profile.Int
-narrowed UInt = Some profile.UInt
-narrowed Long = Some profile.Long
-narrowed ULong = Some profile.ULong
-narrowed LongLong = Some profile.LongLong
-narrowed ULongLong = Some profile.ULongLong
-narrowed Str = Some profile.Str
+narrowed (Profile type) = Some type
 narrowed _ = None
 
 -- a known argument has the type of the profile; any bytes are an argument of another type

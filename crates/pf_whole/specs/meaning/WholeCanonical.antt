@@ -5,7 +5,7 @@ use Rattle.pf_values.specs.meaning.Canonical.{ReadsCanonically}
 use Rattle.pf_values.specs.meaning.Items.{Item}
 use Rattle.pf_values.specs.meaning.Printing.{PrintAlike}
 use Rattle.pf_values.specs.meaning.Text.{Text}
-use Rattle.pf_signatures.specs.Stretches.{Stretches, Last, Before, ReadsWhole}
+use Rattle.pf_posix.specs.Stretches.{Stretches, Last, Before, ReadsWhole}
 use Rattle.pf_whole.specs.meaning.NormalSpellings.{normal_spelling}
 
 -- the canonical text that a stretch has as a format of its own: a canonical text of the profile whose

@@ -1,11 +1,10 @@
 //! What the faults of the libraries say, each once.
-use pf_canon::{CanonFault, CopyFault, Side, SideFault, StreamFault};
+use pf_canon::{CopyFault, SideFault, StreamFault};
 use pf_compare::CompareFault;
 use pf_render::{RenderFault, RenderVecFault, WriteFault};
-use pf_signatures::{ArgumentType, FitsRefusal, SignatureRefusal, SignatureRefusalKind};
-use pf_text::Refusal;
-use pf_values::RefusalKind;
-use pf_whole::WholeCompareFault;
+use pf_posix::ArgumentType;
+use pf_text::{Refusal, Side, TextFault};
+use pf_values::{ArgType, RefusalKind};
 use std::alloc::{AllocError, Global};
 
 const REFUSED: Refusal = Refusal {
@@ -13,13 +12,8 @@ const REFUSED: Refusal = Refusal {
     at: 7,
 };
 
-const NUMBERED: SignatureRefusal = SignatureRefusal {
-    kind: SignatureRefusalKind::Numbered,
-    at: 2,
-};
-
-fn canon_says(alloc: Global) -> Result<bool, AllocError> {
-    let text = format!(in alloc; "{}; {}", CanonFault::Refused(REFUSED), CanonFault::Memory)?;
+fn texts_say(alloc: Global) -> Result<bool, AllocError> {
+    let text = format!(in alloc; "{}; {}", TextFault::Refused(REFUSED), TextFault::Memory)?;
     Ok(text.as_str() == "refused (TooLong) at byte 7; out of memory")
 }
 
@@ -42,12 +36,6 @@ fn comparisons_say(alloc: Global) -> Result<bool, AllocError> {
     let refused = CompareFault::Refused(Side::First, REFUSED);
     let text = format!(in alloc; "{refused}; {}", CompareFault::Memory)?;
     Ok(text.as_str() == "refused (TooLong) at byte 7; out of memory")
-}
-
-fn whole_comparisons_say(alloc: Global) -> Result<bool, AllocError> {
-    let refused = WholeCompareFault::Refused(FitsRefusal::First(NUMBERED));
-    let text = format!(in alloc; "{refused}; {}", WholeCompareFault::Memory)?;
-    Ok(text.as_str() == "first: refused (Numbered) at byte 2; out of memory")
 }
 
 fn renderings_say(alloc: Global) -> Result<bool, AllocError> {
@@ -83,16 +71,15 @@ fn renderings_in_memory_say(alloc: Global) -> Result<bool, AllocError> {
 #[test]
 fn each_fault_has_its_text(rt: HostRuntime) {
     let alloc = rt.alloc();
-    assert!(rt; canon_says(alloc) == Ok(true));
+    assert!(rt; texts_say(alloc) == Ok(true));
     assert!(rt; streams_say(alloc) == Ok(true));
     assert!(rt; copies_say(alloc) == Ok(true));
     assert!(rt; comparisons_say(alloc) == Ok(true));
-    assert!(rt; whole_comparisons_say(alloc) == Ok(true));
     assert!(rt; renderings_say(alloc) == Ok(true));
     assert!(rt; renderings_in_memory_say(alloc) == Ok(true));
 }
 
 #[test]
 fn the_default_type_is_int(rt: HostRuntime) {
-    assert!(rt; ArgumentType::default() == ArgumentType::Int);
+    assert!(rt; ArgumentType::default() == ArgumentType::Profile(ArgType::Int));
 }

@@ -2,7 +2,7 @@
 use exhaustion::{Exhausted, is_all_refused};
 use growths::{Call, each_is_refused};
 use pf_canon::{
-    CanonBytes, CanonFault, Side, canonical_len, canonical_stream, canonical_with_room,
+    CanonBytes, canonical_len, canonical_stream, canonical_with_room,
     is_canonical, same_stream, same_text,
 };
 use pf_compare::{CompareFault, Verdict, compare};
@@ -10,7 +10,7 @@ use pf_literals::{LiteralFault, LiteralKind, LiteralRefusal, decode};
 use pf_probes::candidates;
 use pf_reduce::{is_normal, reduce};
 use pf_render::{RenderVecFault, render, render_one, render_vec};
-use pf_text::{Pieces, Refusal, Scanner, TextFault, check, signature, spell};
+use pf_text::{Pieces, Refusal, Scanner, Side, TextFault, check, signature, spell};
 use pf_values::{Arg, ArgType, Conv, Counted, Directive, FlagSet, Length, Model, RefusalKind};
 use std::alloc::{AllocError, Global};
 
@@ -202,7 +202,7 @@ fn canonical_refuses(alloc: Global, len: usize) -> bool {
         kind: RefusalKind::Truncated,
         at: len as u64 + 1,
     };
-    canonical_with_room(alloc, Model::Lp64, text, 0).err() == Some(CanonFault::Refused(refusal))
+    canonical_with_room(alloc, Model::Lp64, text, 0).err() == Some(TextFault::Refused(refusal))
 }
 
 // Whether the empty text is canonical, and texts of each length are refused.

@@ -1,15 +1,11 @@
-//! What no run of the program shows of `pf_signatures`: each public call once.
-use pf_signatures::laws::{
+//! What no run of the program shows of `pf_posix`: each public call once.
+use pf_posix::laws::{
     accepted_or_refused, accepts_unnumbered, directives_once, judged_unnumbered, never_both,
     profile_types, read_once, refused_for_good, refused_once, refused_unnumbered_once, same_fits,
-    tables_have_each_once, types_are_kept, types_once,
+    kinds_of_refusals, table_has_each_once, types_are_kept, types_once,
 };
-use pf_signatures::{
-    ArgumentType, DirectiveSpan, FitsRefusal, SignatureRefusal, SignatureRefusalKind, arguments,
-    directives, fits,
-};
-use pf_values::Model;
-use std::alloc::{AllocError, Global};
+use pf_posix::{ArgumentType, DirectiveSpan, arguments, directives, fits};
+use pf_values::{ArgType, Model, RefusalKind};
 
 mod callers;
 mod stretches;
@@ -23,33 +19,10 @@ fn are_types_numbered() -> bool {
     true
 }
 
-fn do_kinds_ascend() -> bool {
-    let mut before = 0;
-    for kind in &SignatureRefusalKind::ALL {
-        if kind.number() <= before {
-            return false;
-        }
-        before = kind.number();
-    }
-    true
-}
-
-fn has_texts(alloc: Global) -> Result<bool, AllocError> {
-    let refusal = SignatureRefusal {
-        kind: SignatureRefusalKind::Mixed,
-        at: 4,
-    };
-    let text = format!(in alloc; "{refusal}; {}", FitsRefusal::Second(refusal))?;
-    Ok(text.as_str() == "refused (Mixed) at byte 4; second: refused (Mixed) at byte 4")
-}
-
 #[test]
 fn types_kinds_and_what_they_say(rt: HostRuntime) {
     assert!(rt;
-        are_types_numbered()
-            && do_kinds_ascend()
-            && has_texts(rt.alloc()) == Ok(true)
-            && SignatureRefusalKind::TwoTypes.name() == "TwoTypes"
+        are_types_numbered() && RefusalKind::TwoTypes.name() == "TwoTypes"
     );
     accepted_or_refused();
     never_both();
@@ -64,7 +37,8 @@ fn types_kinds_and_what_they_say(rt: HostRuntime) {
     types_are_kept();
     judged_unnumbered();
     refused_unnumbered_once();
-    tables_have_each_once();
+    table_has_each_once();
+    kinds_of_refusals();
 }
 
 #[test]
@@ -76,7 +50,7 @@ fn no_room_and_some(rt: HostRuntime) {
     ];
     assert!(rt;
         counts == [Ok(3), Ok(2)]
-            && types == [ArgumentType::Str, ArgumentType::Long, ArgumentType::Pointer]
+            && types == [ArgumentType::Profile(ArgType::Str), ArgumentType::Profile(ArgType::Long), ArgumentType::Pointer]
             && fits(Model::Lp64, b"%zu", b"%lu") == Ok(None)
             && fits(Model::Llp64, b"%zu", b"%lu") == Ok(Some(0))
     );
@@ -96,11 +70,11 @@ fn room_for_all_directives_but_one(rt: HostRuntime) {
         argument: 1,
         width_argument: Some(0),
         precision_argument: Some(2),
-        kind: ArgumentType::ULongLong,
+        kind: ArgumentType::Profile(ArgType::ULongLong),
     };
     assert!(rt;
         counts == [Ok(2), Ok(1)]
-            && some[0].kind == ArgumentType::Str
+            && some[0].kind == ArgumentType::Profile(ArgType::Str)
             && all
                 == [
                     hexadecimal,

@@ -1,10 +1,10 @@
 //! `pf_whole`: each public call once, on texts whose answers are written down.
 use crate::whole::are_alike;
-use pf_compare::OwnedArg;
-use pf_signatures::{FitsRefusal, SignatureFault, SignatureRefusal, SignatureRefusalKind};
-use pf_values::Model;
+use pf_compare::{CompareFault, OwnedArg};
+use pf_text::{Refusal, Side, TextFault};
+use pf_values::{Model, RefusalKind};
 use pf_whole::{
-    WholeCompareFault, WholeVerdict, canonical, canonical_len, compare, is_canonical, same_text,
+    WholeVerdict, canonical, canonical_len, compare, is_canonical, same_text,
 };
 use std::alloc::Global;
 
@@ -59,15 +59,15 @@ fn each_two_formats_are_alike_or_not(rt: HostRuntime) {
 
 #[test]
 fn what_is_refused(rt: HostRuntime) {
-    let numbered = SignatureRefusal {
-        kind: SignatureRefusalKind::Numbered,
+    let numbered = Refusal {
+        kind: RefusalKind::Numbered,
         at: 2,
     };
     assert!(rt; canonical_len(Model::Lp64, b"%1$d") == Err(numbered));
-    assert!(rt; same_text(Model::Lp64, b"%f", b"%1$d") == Err(FitsRefusal::Second(numbered)));
+    assert!(rt; same_text(Model::Lp64, b"%f", b"%1$d") == Err((Side::Second, numbered)));
     assert!(rt;
         match canonical(rt.alloc(), Model::Lp64, b"%1$d") {
-            Err(SignatureFault::Refused(refusal)) => refusal == numbered,
+            Err(TextFault::Refused(refusal)) => refusal == numbered,
             _ => false,
         }
     );
@@ -157,13 +157,15 @@ fn the_first_type_or_call_that_differs(rt: HostRuntime) {
 
 #[test]
 fn a_refused_format_is_not_compared(rt: HostRuntime) {
-    let numbered = SignatureRefusal {
-        kind: SignatureRefusalKind::Numbered,
+    let numbered = Refusal {
+        kind: RefusalKind::Numbered,
         at: 2,
     };
     assert!(rt;
         match compare(rt.alloc(), Model::Lp64, b"%1$d", b"%q") {
-            Err(WholeCompareFault::Refused(refusal)) => refusal == FitsRefusal::First(numbered),
+            Err(CompareFault::Refused(side, refusal)) => {
+                (side, refusal) == (Side::First, numbered)
+            }
             _ => false,
         }
     );

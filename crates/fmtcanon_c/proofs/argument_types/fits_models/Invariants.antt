@@ -1,6 +1,6 @@
 use Rattle.std.proofs.Common.{◌≡◌, ◌<◌, ◌≤◌, ◌^◌, take}
 use Rattle.std.specs.List.{AllByRecursion}
-use Rattle.pf_signatures.specs.Items.{IsPosixAccepted}
+use Rattle.pf_posix.specs.Items.{IsPosixAccepted}
 use Rattle.pf_values.specs.declared.models.TheConstants.Model.{ALL}
 use Rattle.fmtcanon_c.specs.Calls.{AreModels}
 use Rattle.fmtcanon_c.specs.Signatures.{Fit}

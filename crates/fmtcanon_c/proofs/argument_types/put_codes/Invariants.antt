@@ -1,10 +1,10 @@
 use Rattle.std.proofs.Common.{length, ◌-◌, ◌≡◌, ◌≤◌, ◌++◌, drop, map, take}
-use Rattle.fmtcanon_c.specs.Buffers.{type_code}
+use Rattle.pf_values.specs.TypeNumbers.{type_number}
 use Rattle.fmtcanon_c.proofs.argument_types.put_codes.Given as goal
 
 -- the codes so far, and the rest of the buffer as it was
 abbrev pub invariant-loop-at : goal.invariant-loop-at
-invariant-loop-at l = (l.at ≤ length l.types) × (l.out ≡ map type_code (take l.at l.types) ++ drop l.at l.fn.out)
+invariant-loop-at l = (l.at ≤ length l.types) × (l.out ≡ map type_number (take l.at l.types) ++ drop l.at l.fn.out)
 
 abbrev pub decreases-loop-at : goal.decreases-loop-at
 decreases-loop-at l = length l.types - l.at

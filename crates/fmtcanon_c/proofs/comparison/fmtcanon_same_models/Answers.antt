@@ -1,6 +1,9 @@
-use Rattle.std.proofs.Common.{◌≡◌, arith, inl, of_z, pos, refl, to_z}
+use Rattle.std.proofs.Common.{◌≡◌, arith, inl, inr, of_z, pos, refl, to_z}
 use Rattle.std.specs.Int.{w64}
 use Rattle.std.proofs.lemmas.Int.{ints}
+use Rattle.pf_values.specs.meaning.Items.{IsAccepted}
+use Rattle.pf_values.specs.meaning.Refusals.{IsRefusedAt}
+use Rattle.fmtcanon_c.proofs.RefusalLemmas.{one_refused}
 use Rattle.fmtcanon_c.proofs.comparison.fmtcanon_same_models.Goals as goal
 
 pub returns-in-Ok : goal.returns-in-Ok
@@ -8,3 +11,10 @@ returns-in-Ok c =
     let code : to_z w64 (of_z w64 c.from.result) ≡ pos c.in-Ok.sum = omega (arith, ints, c.from.ensures) in
     let h = c.in-Ok.ensures in
     inl (h.0, h.1, (c.in-Ok.sum, h.2, code), refl)
+
+pub returns-in-Err : goal.returns-in-Err
+returns-in-Err c =
+    let put = c.put_refusal in
+    let code : to_z w64 (of_z w64 put.result) ≡ put.result = omega (arith, ints) in
+    rw code (inr (one_refused IsAccepted IsRefusedAt c.args.first.now c.args.second.now c.in-Err.side c.in-Err.refusal put.result put.new.error c.in-Err.ensures
+    (record { at_is = put.ensures.at; code_is = put.ensures.code; kind_is = put.ensures.kind; side_is = put.ensures.side })))

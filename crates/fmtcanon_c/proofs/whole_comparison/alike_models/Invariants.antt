@@ -1,5 +1,5 @@
 use Rattle.std.proofs.Common.{◌≡◌, ◌<◌, ◌≤◌, ◌^◌, take}
-use Rattle.pf_signatures.specs.Stretches.{IsWholeAccepted}
+use Rattle.pf_posix.specs.Stretches.{IsWholeAccepted}
 use Rattle.pf_values.specs.declared.models.TheConstants.Model.{ALL}
 use Rattle.pf_whole.specs.meaning.Traces.{AreWholeAlike}
 use Rattle.fmtcanon_c.specs.Calls.{AreModels}

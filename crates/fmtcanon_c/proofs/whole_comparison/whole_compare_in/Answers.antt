@@ -11,5 +11,5 @@ returns-in-Ok c =
 
 pub returns-in-Err : goal.returns-in-Err
 returns-in-Err c =
-    let code : to_z w64 (of_z w64 c.whole_fault_code.result) ≡ c.whole_fault_code.result = omega (arith, ints) in
-    rw code (inr (not_compared c.args.model c.args.first.now c.args.second.now c.args.out.now c.args.comparison.now c.args.error.now c.whole_fault_code.new.error c.whole_fault_code.result c.in-Err.fault c.in-Err.ensures c.whole_fault_code.ensures))
+    let code : to_z w64 (of_z w64 c.fault_code.result) ≡ c.fault_code.result = omega (arith, ints) in
+    rw code (inr (not_compared c.args.model c.args.first.now c.args.second.now c.args.out.now c.args.comparison.now c.args.error.now c.fault_code.new.error c.fault_code.result c.in-Err.fault c.in-Err.ensures c.fault_code.ensures))

@@ -9,8 +9,10 @@ returns-in-Ok-clause-in_step g c model f h k =
 
 pub returns-in-Ok-clause-counts : goal.returns-in-Ok-clause-counts
 returns-in-Ok-clause-counts g c =
-    sides_later g.A.Bytes.kept g.A.Bytes.failed g.B.Bytes.kept g.B.Bytes.failed g.met.A.Bytes.kept_later g.met.A.Bytes.failed_later g.met.B.Bytes.kept_later g.met.B.Bytes.failed_later (Unit {0}) c.fill_second.result
-    c.args.a.now c.fill.new.bytes c.fill_second.new.a c.args.b.now c.args.b.now c.fill_second.new.b c.in-Ok.ensures.counts (g.met.B.Bytes.kept_itself c.args.b.now) c.fill_second.ensures.counts
+    sides_later g.A.ByteSource.kept g.A.ByteSource.failed g.B.ByteSource.kept g.B.ByteSource.failed g.met.A.ByteSource.kept_later
+    g.met.A.ByteSource.failed_later g.met.B.ByteSource.kept_later g.met.B.ByteSource.failed_later (Unit {0}) c.fill_second.result
+    c.args.a.now c.fill.new.bytes c.fill_second.new.a c.args.b.now c.args.b.now c.fill_second.new.b c.in-Ok.ensures.counts
+    (g.met.B.ByteSource.kept_itself c.args.b.now) c.fill_second.ensures.counts
 
 pub returns-in-Err-clause-in_step : goal.returns-in-Err-clause-in_step
 returns-in-Err-clause-in_step g c model f h k =

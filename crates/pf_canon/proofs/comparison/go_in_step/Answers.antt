@@ -1,5 +1,5 @@
 use Rattle.std.proofs.Common.{◌++◌, subst, take}
-use Rattle.pf_canon.specs.Walk.{WalkHasGiven, waits}
+use Rattle.pf_canon.specs.CanonicalSlices.{SlicesHaveGiven, pending_of}
 use Rattle.pf_canon.proofs.ComparisonLemmas.{common_taken}
 use Rattle.pf_canon.proofs.comparison.go_in_step.Goals as goal
 
@@ -10,9 +10,10 @@ loop-count-preserved c = record {
       let first = c.fill.new.self in
       let second = c.fill-in-loop-count.new.self in
       let n = c.in-Some.count in (
-        before.0 ++ take n (waits first),
+        before.0 ++ take n (pending_of first),
         c.skip.ensures.given model f before.0 (c.fill.ensures.given model f before.0 before.1),
-        subst (λ t. WalkHasGiven model c.skip-in-Some.new.self g (before.0 ++ t)) (common_taken (waits first) (waits second) _ _ n c.front.ensures c.front-in-loop-count.ensures c.in-Some.ensures)
+        subst (λ t. SlicesHaveGiven model c.skip-in-Some.new.self g (before.0 ++ t)) (common_taken (pending_of first)
+            (pending_of second) _ _ n c.front.ensures c.front-in-loop-count.ensures c.in-Some.ensures)
             (c.skip-in-Some.ensures.given model g before.0 (c.fill-in-loop-count.ensures.given model g before.0 before.2)),
       );
 }

@@ -4,7 +4,7 @@ use Rattle.pf_canon.proofs.comparison.same_after_common.Goals as goal
 pub returns-in-Err : goal.returns-in-Err
 returns-in-Err c =
     let model = c.args.model in
-    let at = c.walks_of-first.ensures in
+    let at = c.slices_of-first.ensures in
     let step = c.go_in_step-same.ensures model c.args.f.now c.args.g.now at.0 at.1 at.2 in
     c.in-Err.ensures model c.args.f.now step.given step.one
 
@@ -13,7 +13,7 @@ returns-in-Err-finish c =
     let model = c.args.model in
     let f = c.args.f.now in
     let g = c.args.g.now in
-    let at = c.walks_of-first.ensures in
+    let at = c.slices_of-first.ensures in
     let step = c.go_in_step-same.ensures model f g at.0 at.1 at.2 in
     ((c.in_default.ensures model f step.given step.one).whole.0, c.in-Err-finish.ensures model g step.given step.two)
 
@@ -22,6 +22,7 @@ returns c =
     let model = c.args.model in
     let f = c.args.f.now in
     let g = c.args.g.now in
-    let at = c.walks_of-first.ensures in
+    let at = c.slices_of-first.ensures in
     let step = c.go_in_step-same.ensures model f g at.0 at.1 at.2 in
-    told model c.go_in_step-same.new.first c.go_in_step-same.new.second f g c.go_in_step-same.result step (c.in_default.ensures model f step.given step.one) (c.in_default-finish.ensures model g step.given step.two)
+    told model c.go_in_step-same.new.first c.go_in_step-same.new.second f g c.go_in_step-same.result step (c.in_default.ensures model f step.given step.one)
+    (c.in_default-finish.ensures model g step.given step.two)

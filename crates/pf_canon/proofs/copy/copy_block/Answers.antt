@@ -24,7 +24,8 @@ loop-at-preserved g c =
       counts = c.in-Ok.ensures.counts ∙ c.loop-at.invariant.counts;
       copied = λ model front start h.
           let now = rw take_rest at c.in-Ok.ensures.copied model (front ++ take at text) start (c.loop-at.invariant.copied model front start h) in
-          subst (λ t. IsGathered model c.copy_chunk.new.transducer t start (g.W.Write.contents (device_of c.copy_chunk.new.w)) c.copy_chunk.new.waiting.items c.in-Ok.progress.written)
+          subst (λ t. IsGathered model c.copy_chunk.new.transducer t start (g.W.Write.contents (device_of c.copy_chunk.new.w)) c.copy_chunk.new.buffer.items
+          c.in-Ok.progress.written)
           (append_assoc front (take at text) (take len (drop at text)) ∙ ap (λ t. front ++ t) (sym (take-add at len text))) now;
     }
 
@@ -34,8 +35,10 @@ returns-in-Ok-put-clause-copied g c model front start h =
     let text = c.args.text.now in
     let l = c.loop-at in
     let end : length text ≤ l.at = search rules in
-    let gathered = subst (λ u. IsGathered model l.transducer (front ++ u) start (k (device_of l.w)) l.waiting.items l.written) (take_all l.at text end) (l.invariant.copied model front start h) in
-    block_out model k l.w c.put.new.w l.transducer (front ++ text) start l.waiting.items l.written gathered c.in-Ok-put.count (rw c.deref.ensures.0 at c.in-Ok-put.ensures)
+    let gathered = subst (λ u. IsGathered model l.transducer (front ++ u) start (k (device_of l.w)) l.buffer.items l.written) (take_all l.at text end)
+    (l.invariant.copied model front start h) in
+    block_out model k l.w c.put.new.w l.transducer (front ++ text) start l.buffer.items l.written gathered c.in-Ok-put.count
+    (rw c.deref.ensures.0 at c.in-Ok-put.ensures)
 
 pub returns-in-Err-put-clause-copied : goal.returns-in-Err-put-clause-copied
 returns-in-Err-put-clause-copied g c model front start h =
@@ -43,5 +46,7 @@ returns-in-Err-put-clause-copied g c model front start h =
     let text = c.args.text.now in
     let l = c.loop-at in
     let end : length text ≤ l.at = search rules in
-    let gathered = subst (λ u. IsGathered model l.transducer (front ++ u) start (k (device_of l.w)) l.waiting.items l.written) (take_all l.at text end) (l.invariant.copied model front start h) in
-    block_first model k l.w c.put.new.w l.transducer (front ++ text) start l.waiting.items l.written gathered c.in-Err-put.count (rw c.deref.ensures.0 at c.in-Err-put.ensures)
+    let gathered = subst (λ u. IsGathered model l.transducer (front ++ u) start (k (device_of l.w)) l.buffer.items l.written) (take_all l.at text end)
+    (l.invariant.copied model front start h) in
+    block_first model k l.w c.put.new.w l.transducer (front ++ text) start l.buffer.items l.written gathered c.in-Err-put.count
+    (rw c.deref.ensures.0 at c.in-Err-put.ensures)

@@ -9,7 +9,8 @@ abbrev pub invariant-loop-at : goal.invariant-loop-at
 invariant-loop-at g l = record {
   within : l.at ≤ length l.text;
   counts : failures_of l.w ≡ failures_of l.fn.w;
-  copied : ((model : Model) (front : Text) (start : Known) → IsWritten model l.fn.transducer front start (g.W.Write.contents (device_of l.fn.w)) l.fn.written → IsGathered model l.transducer (front ++ take l.at l.text) start (g.W.Write.contents (device_of l.w)) l.waiting.items l.written);
+  copied : ((model : Model) (front : Text) (start : Known) → IsWritten model l.fn.transducer front start (g.W.Write.contents (device_of l.fn.w)) l.fn.written
+      → IsGathered model l.transducer (front ++ take l.at l.text) start (g.W.Write.contents (device_of l.w)) l.buffer.items l.written);
 }
 
 abbrev pub decreases-loop-at : goal.decreases-loop-at

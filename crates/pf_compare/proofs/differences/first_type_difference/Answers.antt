@@ -11,8 +11,9 @@ loop-piece-init c = record {
   bound = omega arith;
   steps = record {
     done = [];
-    first_taken = subst (λ (pieces : Pieces). HasGivenTypes c.args.model pieces c.args.f.now []) (sym c.into_iter-piece-iterator.ensures.into_iter_gives) (record { read = []; items = []; given = c.new-piece-items.ensures; types_are = refl });
-    second_taken = record { read = []; items = []; given = c.new-others.ensures; types_are = refl };
+    first_taken = subst (λ (pieces : Pieces). HasGivenTypes c.args.model pieces c.args.f.now []) (sym c.into_iter-piece-iterator.ensures.into_iter_gives)
+        (record { read = []; items = []; given = c.new-piece-items.ensures; types_are = refl });
+    second_taken = record { read = []; items = []; given = c.new-second_pieces.ensures; types_are = refl };
     count = refl;
   };
 }

@@ -9,4 +9,6 @@ pub returns : goal.returns
 returns c =
     let number : to_z w128 (of_z w128 c.args.number) ≡ c.args.number = omega (arith, ints) in
     let converted = rw number at c.of.ensures in
-    IfSome_then c.runs_differ.result c.runs_differ.ensures (told_of_texts c.args.model c.args.first.now c.args.second.now _ _ _ (λ out h. c.of_char-one.ensures c.args.model c.args.number c.of.result out converted h) (λ out h. c.of_char-two.ensures c.args.model c.args.number c.of.result out converted h))
+    IfSome_then c.runs_differ.result c.runs_differ.ensures (told_of_texts c.args.model c.args.first.now c.args.second.now _ _ _
+    (λ out h. c.of_char-first_run.ensures c.args.model c.args.number c.of.result out converted h)
+    (λ out h. c.of_char-second_run.ensures c.args.model c.args.number c.of.result out converted h))

@@ -2,7 +2,7 @@ use Rattle.std.proofs.Common.{rules}
 use Rattle.pf_compare.proofs.ProbeLemmas.{one_span}
 use Rattle.pf_compare.proofs.witnesses.are_equal_spans.Goals as goal
 
-pub returns-then-have_same_place : goal.returns-then-have_same_place
-returns-then-have_same_place c = λ same.
-    let place = c.have_same_place.ensures (rw c.if-have_same_place.true (search rules)) in
+pub returns-then-have_same_offsets : goal.returns-then-have_same_offsets
+returns-then-have_same_offsets c = λ same.
+    let place = c.have_same_offsets.ensures (rw c.if-have_same_offsets.true (search rules)) in
     one_span c.args.first.now c.args.second.now (c.are_equal.ensures.yes same) place.0 place.1

@@ -4,27 +4,35 @@ use Rattle.pf_compare.proofs.CandidateLemmas.{argument_in, candidate_has_type, c
 use Rattle.pf_compare.proofs.ProbeLemmas.{told_alike, told_unlike, tried_more}
 use Rattle.pf_compare.proofs.witnesses.first_candidate_from.Goals as goal
 
-pub loop-place-init : goal.loop-place-init
-loop-place-init c = c.requires.tried
+pub loop-index-init : goal.loop-index-init
+loop-index-init c = c.requires.tried
 
 pub candidate_differs-requires-clause-typed : goal.candidate_differs-requires-clause-typed
-candidate_differs-requires-clause-typed c = candidate_has_type c.args.model c.args.wanted c.loop-place.place _ (argument_in c.args.model candidate_argument c.candidate_row-row.result.now c.args.wanted c.candidate_row-row.ensures.value c.loop-place.place _ (omega (arith, c.loop-place-test.true)))
+candidate_differs-requires-clause-typed c = candidate_has_type c.args.model c.args.wanted c.loop-index.index _
+    (argument_in c.args.model candidate_argument c.candidate_row-row.result.now c.args.wanted c.candidate_row-row.ensures.value c.loop-index.index _
+    (omega (arith, c.loop-index-test.true)))
 
 pub candidate_differs-requires-clause-held : goal.candidate_differs-requires-clause-held
-candidate_differs-requires-clause-held c = candidate_held c.args.model c.args.wanted c.loop-place.place _ (argument_in c.args.model candidate_argument c.candidate_row-row.result.now c.args.wanted c.candidate_row-row.ensures.value c.loop-place.place _ (omega (arith, c.loop-place-test.true)))
+candidate_differs-requires-clause-held c = candidate_held c.args.model c.args.wanted c.loop-index.index _
+    (argument_in c.args.model candidate_argument c.candidate_row-row.result.now c.args.wanted c.candidate_row-row.ensures.value c.loop-index.index _
+    (omega (arith, c.loop-index-test.true)))
 
 pub returns-then-branch : goal.returns-then-branch
 returns-then-branch c = record {
   argument = _;
-  argument_is = argument_in c.args.model candidate_argument c.candidate_row-row.result.now c.args.wanted c.candidate_row-row.ensures.value c.loop-place.place _ (omega (arith, c.loop-place-test.true));
+  argument_is = argument_in c.args.model candidate_argument c.candidate_row-row.result.now c.args.wanted c.candidate_row-row.ensures.value c.loop-index.index _
+      (omega (arith, c.loop-index-test.true));
   unlike = told_unlike _ _ c.in_ok-candidate_differs.field-0 c.if-branch.true c.in_ok-candidate_differs.ensures;
-  earlier = c.loop-place.invariant;
+  earlier = c.loop-index.invariant;
 }
 
-pub loop-place-preserved : goal.loop-place-preserved
-loop-place-preserved c =
-    tried_more c.args.model c.args.whole.now c.args.first.now c.args.second.now c.args.wanted c.loop-place.place _ (argument_in c.args.model candidate_argument c.candidate_row-row.result.now c.args.wanted c.candidate_row-row.ensures.value c.loop-place.place _ (omega (arith, c.loop-place-test.true)))
-    (told_alike _ _ c.in_ok-candidate_differs.field-0 c.if-branch.false c.in_ok-candidate_differs.ensures) c.loop-place.invariant
+pub loop-index-preserved : goal.loop-index-preserved
+loop-index-preserved c =
+    tried_more c.args.model c.args.whole.now c.args.first.now c.args.second.now c.args.wanted c.loop-index.index _
+        (argument_in c.args.model candidate_argument c.candidate_row-row.result.now c.args.wanted c.candidate_row-row.ensures.value c.loop-index.index _
+        (omega (arith, c.loop-index-test.true)))
+    (told_alike _ _ c.in_ok-candidate_differs.field-0 c.if-branch.false c.in_ok-candidate_differs.ensures) c.loop-index.invariant
 
 pub returns : goal.returns
-returns c = λ k other e. c.loop-place.invariant k other (omega (arith, c.loop-place-test.false, within_row c.args.model candidate_argument c.candidate_row-row.result.now c.args.wanted c.candidate_row-row.ensures.value k other e)) e
+returns c = λ k other e. c.loop-index.invariant k other
+    (omega (arith, c.loop-index-test.false, within_row c.args.model candidate_argument c.candidate_row-row.result.now c.args.wanted c.candidate_row-row.ensures.value k other e)) e

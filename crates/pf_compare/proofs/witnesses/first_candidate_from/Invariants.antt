@@ -2,8 +2,8 @@ use Rattle.std.proofs.Common.{◌-◌, length}
 use Rattle.pf_compare.specs.Layouts.{AreTriedBelow}
 use Rattle.pf_compare.proofs.witnesses.first_candidate_from.Given as goal
 
-abbrev pub invariant-loop-place : goal.invariant-loop-place
-invariant-loop-place l = AreTriedBelow l.model l.whole l.first l.second l.wanted l.place
+abbrev pub invariant-loop-index : goal.invariant-loop-index
+invariant-loop-index l = AreTriedBelow l.model l.whole l.first l.second l.wanted l.index
 
-abbrev pub decreases-loop-place : goal.decreases-loop-place
-decreases-loop-place l = length l.row - l.place
+abbrev pub decreases-loop-index : goal.decreases-loop-index
+decreases-loop-index l = length l.row - l.index

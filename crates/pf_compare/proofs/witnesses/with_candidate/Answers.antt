@@ -10,10 +10,10 @@ pub index_mut-requires : goal.index_mut-requires
 index_mut-requires c = omega (arith, index_within c.args.model c.requires.0 c.args.args.items c.args.arg_type c.args.probe c.requires.1, c.args.args.ok.0)
 
 pub overflow_cast-result : goal.overflow_cast-result
-overflow_cast-result c = omega (arith, place_few c.args.model c.requires.0 c.args.probe.index c.args.probe.place c.requires.1.candidate.0 c.requires.1.candidate.1)
+overflow_cast-result c = omega (arith, place_few c.args.model c.requires.0 c.args.probe.index c.args.probe.candidate_index c.requires.1.candidate.0 c.requires.1.candidate.1)
 
 pub overflow_add-result : goal.overflow_add-result
-overflow_add-result c = omega (arith, place_few c.args.model c.requires.0 c.args.probe.index c.args.probe.place c.requires.1.candidate.0 c.requires.1.candidate.1)
+overflow_add-result c = omega (arith, place_few c.args.model c.requires.0 c.args.probe.index c.args.probe.candidate_index c.requires.1.candidate.0 c.requires.1.candidate.1)
 
 pub returns : goal.returns
 returns c = λ ts h. record {

@@ -7,7 +7,20 @@ use Rattle.pf_values.specs.meaning.Flags.{has}
 use Rattle.pf_values.specs.declared.flags.Flag.TheVariants.{Minus}
 use Rattle.pf_reduce.specs.Signs.{sign_flags}
 use Rattle.pf_reduce.specs.Cores.{with_side}
-use Rattle.pf_reduce.proofs.OwnCores.{no_plus_is, own_field, own_filled_signed, own_number, own_side, seen_sign, sign_len_is, signed_flags, signed_form, signed_number, space_is, unfilled_precision}
+use Rattle.pf_reduce.proofs.OwnCores.{
+  no_plus_is,
+  own_field,
+  own_filled_signed,
+  own_number,
+  own_side,
+  seen_sign,
+  sign_len_is,
+  signed_flags,
+  signed_form,
+  signed_number,
+  space_is,
+  unfilled_precision,
+}
 use Rattle.pf_values.specs.Directives.{effective_precision}
 use Rattle.pf_reduce.specs.Signs.{sign_length, sign_of}
 use Rattle.pf_reduce.proofs.SignedReductions.{signed_by, signed_filled_by}
@@ -18,28 +31,42 @@ padded_core-requires c =
     let sign : c.of-sign.result ≡ sign_of c.args.directive.now.flags = c.of-sign.ensures ∙ ap sign_of c.flags.ensures.value in
     let flags : c.with-flags.result ≡ with_flag no_flags Zero = c.with-flags.ensures ∙ ap (λ f. with_flag f Zero) c.empty.ensures in
     let kept = c.keeps_zeros.ensures.kept c.if-keeps_zeros.true in
-    rw (c.of.ensures.value, flags) (signed_filled_by c.args.model c.args.directive.now c.of.ensures.defined c.requires kept.0 (ap sign_length (sym sign) ∙ sym c.len.ensures ∙ kept.1) kept.2).normal
+    rw (c.of.ensures.value, flags) (signed_filled_by c.args.model c.args.directive.now c.of.ensures.defined c.requires kept.0
+    (ap sign_length (sym sign) ∙ sym c.len.ensures ∙ kept.1) kept.2).normal
 
 pub returns-then-keeps_zeros-clause-same : goal.returns-then-keeps_zeros-clause-same
 returns-then-keeps_zeros-clause-same c =
     let sign : c.of-sign.result ≡ sign_of c.args.directive.now.flags = c.of-sign.ensures ∙ ap sign_of c.flags.ensures.value in
     let flags : c.with-flags.result ≡ with_flag no_flags Zero = c.with-flags.ensures ∙ ap (λ f. with_flag f Zero) c.empty.ensures in
     let kept = c.keeps_zeros.ensures.kept c.if-keeps_zeros.true in
-    rw (c.padded_core.ensures.value, c.of.ensures.value, flags) (signed_filled_by c.args.model c.args.directive.now c.of.ensures.defined c.requires kept.0 (ap sign_length (sym sign) ∙ sym c.len.ensures ∙ kept.1) kept.2).reduced
+    rw (c.padded_core.ensures.value, c.of.ensures.value, flags) (signed_filled_by c.args.model c.args.directive.now c.of.ensures.defined c.requires kept.0
+    (ap sign_length (sym sign) ∙ sym c.len.ensures ∙ kept.1) kept.2).reduced
 
 pub padded_core-requires-2 : goal.padded_core-requires-2
 padded_core-requires-2 c =
     let sign : c.of-sign.result ≡ sign_of c.args.directive.now.flags = c.of-sign.ensures ∙ ap sign_of c.flags.ensures.value in
-    rw (c.flags-2.ensures, c.kept_precision.ensures) (signed_by c.args.model c.args.directive.now c.of-2.ensures.defined c.requires c.of-sign.result c.sign_in_field-sign.result c.effective_precision-precision.result c.max_digits-digits.result c.unseen_signed_width.result _ c.without_idle_width-padding.result _ c.right_up_to-padding.result sign (rw c.len.ensures at c.keeps_zeros.ensures.idle c.if-keeps_zeros.false) (c.effective_precision-precision.ensures.value ∙ ap (effective_precision c.args.directive.now) c.len-2.ensures) c.max_digits-digits.ensures.value
+    rw (c.flags-2.ensures, c.kept_precision.ensures) (signed_by c.args.model c.args.directive.now c.of-2.ensures.defined c.requires c.of-sign.result
+    c.sign_in_field-sign.result c.effective_precision-precision.result c.max_digits-digits.result c.unseen_signed_width.result _
+    c.without_idle_width-padding.result _ c.right_justify_if_unseen-padding.result sign
+    (rw c.len.ensures at c.keeps_zeros.ensures.idle c.if-keeps_zeros.false) (c.effective_precision-precision.ensures.value
+    ∙ ap (effective_precision c.args.directive.now) c.len-2.ensures) c.max_digits-digits.ensures.value
     (rw (c.of-2.ensures.value, c.max.ensures) at c.with_width_at_most.ensures) (rw c.len-3.ensures at c.without_idle_width-padding.ensures)
-    (record { same = c.sign_in_field-sign.ensures.same; space = c.sign_in_field-sign.ensures.space; none = c.sign_in_field-sign.ensures.none }) (rw c.len-4.ensures at c.without_idle_width.ensures) c.unseen_signed_width.ensures.plus c.unseen_signed_width.ensures.none c.unseen_signed_width.ensures.some c.right_up_to-padding.ensures).normal
+    (record { same = c.sign_in_field-sign.ensures.same; space = c.sign_in_field-sign.ensures.space; none = c.sign_in_field-sign.ensures.none })
+    (rw c.len-4.ensures at c.without_idle_width.ensures) c.unseen_signed_width.ensures.plus c.unseen_signed_width.ensures.none
+    c.unseen_signed_width.ensures.some c.right_justify_if_unseen-padding.ensures).normal
 
 pub returns-clause-same : goal.returns-clause-same
 returns-clause-same c =
     let sign : c.of-sign.result ≡ sign_of c.args.directive.now.flags = c.of-sign.ensures ∙ ap sign_of c.flags.ensures.value in
-    rw (c.padded_core-2.ensures.value, c.flags-2.ensures, c.kept_precision.ensures) (signed_by c.args.model c.args.directive.now c.of-2.ensures.defined c.requires c.of-sign.result c.sign_in_field-sign.result c.effective_precision-precision.result c.max_digits-digits.result c.unseen_signed_width.result _ c.without_idle_width-padding.result _ c.right_up_to-padding.result sign (rw c.len.ensures at c.keeps_zeros.ensures.idle c.if-keeps_zeros.false) (c.effective_precision-precision.ensures.value ∙ ap (effective_precision c.args.directive.now) c.len-2.ensures) c.max_digits-digits.ensures.value
+    rw (c.padded_core-2.ensures.value, c.flags-2.ensures, c.kept_precision.ensures) (signed_by c.args.model c.args.directive.now c.of-2.ensures.defined
+    c.requires c.of-sign.result c.sign_in_field-sign.result c.effective_precision-precision.result c.max_digits-digits.result c.unseen_signed_width.result _
+    c.without_idle_width-padding.result _ c.right_justify_if_unseen-padding.result sign
+    (rw c.len.ensures at c.keeps_zeros.ensures.idle c.if-keeps_zeros.false) (c.effective_precision-precision.ensures.value
+    ∙ ap (effective_precision c.args.directive.now) c.len-2.ensures) c.max_digits-digits.ensures.value
     (rw (c.of-2.ensures.value, c.max.ensures) at c.with_width_at_most.ensures) (rw c.len-3.ensures at c.without_idle_width-padding.ensures)
-    (record { same = c.sign_in_field-sign.ensures.same; space = c.sign_in_field-sign.ensures.space; none = c.sign_in_field-sign.ensures.none }) (rw c.len-4.ensures at c.without_idle_width.ensures) c.unseen_signed_width.ensures.plus c.unseen_signed_width.ensures.none c.unseen_signed_width.ensures.some c.right_up_to-padding.ensures).reduced
+    (record { same = c.sign_in_field-sign.ensures.same; space = c.sign_in_field-sign.ensures.space; none = c.sign_in_field-sign.ensures.none })
+    (rw c.len-4.ensures at c.without_idle_width.ensures) c.unseen_signed_width.ensures.plus c.unseen_signed_width.ensures.none
+    c.unseen_signed_width.ensures.some c.right_justify_if_unseen-padding.ensures).reduced
 
 pub returns-then-keeps_zeros-clause-kept : goal.returns-then-keeps_zeros-clause-kept
 returns-then-keeps_zeros-clause-kept c = λ h.
@@ -47,7 +74,8 @@ returns-then-keeps_zeros-clause-kept c = λ h.
     let sign : c.of-sign.result ≡ sign_of s.flags = c.of-sign.ensures ∙ ap sign_of c.flags.ensures.value in
     let flags : c.with-flags.result ≡ with_flag no_flags Zero = c.with-flags.ensures ∙ ap (λ f. with_flag f Zero) c.empty.ensures in
     let kept = c.keeps_zeros.ensures.kept c.if-keeps_zeros.true in
-    rw (c.padded_core.ensures.value, c.of.ensures.value, flags) (own_filled_signed c.args.model s h c.requires (ap sign_length (sym sign) ∙ sym c.len.ensures ∙ kept.1) kept.0)
+    rw (c.padded_core.ensures.value, c.of.ensures.value, flags) (own_filled_signed c.args.model s h c.requires
+    (ap sign_length (sym sign) ∙ sym c.len.ensures ∙ kept.1) kept.0)
 
 pub returns-clause-kept : goal.returns-clause-kept
 returns-clause-kept c = λ h.
@@ -65,23 +93,42 @@ returns-clause-kept c = λ h.
     let few : w ≤ 1 + c.max.result = let most = form.most in omega (arith, full, most) in
     let more : 0 < w → sign_length given + p < w = λ some. let m = form.least some in omega (arith, m, p_is, len) in
     let width : c.of-2.result.width ≡ w = ap (λ q. q.width) c.of-2.ensures.value in
-    let at_most : c.with_width_at_most.result.width ≡ min w (1 + c.max.result) = c.with_width_at_most.ensures.width ∙ ap (λ n. min n (1 + c.max.result)) width in
+    let at_most : c.with_width_at_most.result.width ≡ min w (1 + c.max.result) = c.with_width_at_most.ensures.width
+    ∙ ap (λ n. min n (1 + c.max.result)) width in
     let first = c.without_idle_width-padding in
-    let field : first.result.width ≡ w = own_field w (1 + c.max.result) (c.len-3.result + p) _ _ at_most few (rw c.len-3.ensures more) first.ensures.idle first.ensures.kept in
+    let field : first.result.width ≡ w = own_field w (1 + c.max.result) (c.len-3.result + p) _ _ at_most few
+    (rw c.len-3.ensures more) first.ensures.idle first.ensures.kept in
     let left : first.result.left ≡ has s.flags Minus = first.ensures.left ∙ c.with_width_at_most.ensures.left ∙ ap (λ q. q.left) c.of-2.ensures.value in
     let kept : c.sign_in_field-sign.result ≡ given = c.sign_in_field-sign.ensures.kept
     (λ right is. λ e. form.right_space (sym left ∙ right) (space_is s (sym sign ∙ is)) (omega (arith, e, field, full, c.max.ensures)))
-    (λ right is wide. λ e. form.right_bare (sym left ∙ right) (sym len ∙ ap sign_length is) (omega (arith, wide, d, p_is)) (omega (arith, e, field, full, c.max.ensures))) in
+    (λ right is wide. λ e. form.right_bare (sym left ∙ right) (sym len ∙ ap sign_length is) (omega (arith, wide, d, p_is))
+    (omega (arith, e, field, full, c.max.ensures))) in
     let last = c.without_idle_width in
     let least : c.len-4.result + p ≡ sign_length given + p = ap (λ n. n + p) (c.len-4.ensures ∙ ap sign_length kept) in
-    let again : last.result.width ≡ w = own_field w w (c.len-4.result + p) first.result.width _ (omega (arith, field)) (omega arith) (rw least more) last.ensures.idle last.ensures.kept in
+    let again : last.result.width ≡ w = own_field w w (c.len-4.result + p) first.result.width _ (omega (arith, field)) (omega arith)
+    (rw least more) last.ensures.idle last.ensures.kept in
     let side : last.result.left ≡ has s.flags Minus = last.ensures.left ∙ left in
     let unseen = c.unseen_signed_width in
     let seen : last.result.left ≡ true → unseen.result < last.result.width = λ e.
     let l = form.left (sym side ∙ e) in
-    let b = seen_sign given p w unseen.result (l.0, λ other none. let m = l.1 (no_plus_is s (λ plus. other (sign ∙ plus))) (sym p_is ∙ none) in omega (arith, m, len)) (λ is. unseen.ensures.plus (kept ∙ is)) (λ other none. unseen.ensures.none (λ is. other (sym kept ∙ is)) none ∙ ap (λ u. sign_length u + 1) kept) unseen.ensures.some in
+    let b = seen_sign given p w unseen.result (
+      l.0,
+      λ other none. let m = l.1 (no_plus_is s (λ plus. other (sign ∙ plus))) (sym p_is ∙ none) in
+          omega (arith, m, len),
+    ) (λ is. unseen.ensures.plus (kept ∙ is)) (λ other none. unseen.ensures.none (λ is. other (sym kept ∙ is)) none
+    ∙ ap (λ u. sign_length u + 1) kept) unseen.ensures.some in
     omega (arith, again, b) in
-    rw (c.padded_core-2.ensures.value, c.flags-2.ensures, c.kept_precision.ensures) (own_number c.args.model s c.right_up_to-padding.result (sign_flags c.sign_in_field-sign.result) p h (signed_number s.conv c.requires) (ap (λ u. with_side (has s.flags Minus) (sign_flags u)) (kept ∙ sign) ∙ signed_flags c.args.model s h c.requires form.one_sign forms.1) p_is
-    (omega (arith, c.with_width_at_most.ensures.constant, first.ensures.constant, last.ensures.constant, c.right_up_to-padding.ensures.constant, width, few))
-    (c.right_up_to-padding.ensures.width ∙ again)
-    (own_side _ _ _ unseen.result c.right_up_to-padding.ensures.wide c.right_up_to-padding.ensures.right seen ∙ side))
+    rw (c.padded_core-2.ensures.value, c.flags-2.ensures, c.kept_precision.ensures) (own_number c.args.model s c.right_justify_if_unseen-padding.result
+    (sign_flags c.sign_in_field-sign.result) p h (signed_number s.conv c.requires) (ap (λ u. with_side (has s.flags Minus) (sign_flags u)) (kept ∙ sign)
+    ∙ signed_flags c.args.model s h c.requires form.one_sign forms.1) p_is
+    (omega (
+      arith,
+      c.with_width_at_most.ensures.constant,
+      first.ensures.constant,
+      last.ensures.constant,
+      c.right_justify_if_unseen-padding.ensures.constant,
+      width,
+      few,
+    ))
+    (c.right_justify_if_unseen-padding.ensures.width ∙ again)
+    (own_side _ _ _ unseen.result c.right_justify_if_unseen-padding.ensures.wide c.right_justify_if_unseen-padding.ensures.right seen ∙ side))

@@ -1,4 +1,4 @@
-use Rattle.pf_signatures.proofs.Unique.{never_both}
+use Rattle.pf_posix.proofs.Unique.{never_both}
 use Rattle.pf_whole.proofs.calls.argument_count.Goals as goal
 
 pub unreachable-requires : goal.unreachable-requires

@@ -1,7 +1,7 @@
 use Rattle.std.proofs.Common.{◌≡◌, sym, ap, arith, subst, inl, inr}
 use Rattle.std.specs.Prelude.{Some}
 use Rattle.std.proofs.lemmas.Bool.{cases_lt}
-use Rattle.pf_signatures.specs.OpaqueParts.{parts_of_opaque}
+use Rattle.pf_posix.specs.OpaqueParts.{parts_of_opaque}
 use Rattle.pf_whole.specs.Calls.{CallsDiffer}
 use Rattle.pf_whole.proofs.CallLoops.{both_call, call_at, calls_apart, calls_apart_other, calls_from_start, calls_together, first_goes_on, next_of, placed_same, second_goes_on}
 use Rattle.pf_whole.proofs.calls.first_call_difference.Goals as goal

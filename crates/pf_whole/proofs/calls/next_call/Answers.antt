@@ -1,9 +1,9 @@
 use Rattle.std.proofs.Common.{◌≡◌, ◌+◌, map, sym, ap, ◌∙◌, arith, subst, refl, length}
 use Rattle.std.specs.Prelude.{Some}
 use Rattle.pf_values.specs.meaning.Items.{types}
-use Rattle.pf_signatures.specs.OpaqueParts.{parts_of_opaque}
-use Rattle.pf_signatures.specs.Stretches.{types_of_opaque}
-use Rattle.pf_signatures.specs.Types.{widened}
+use Rattle.pf_posix.specs.OpaqueParts.{parts_of_opaque}
+use Rattle.pf_posix.specs.Stretches.{types_of_opaque}
+use Rattle.pf_posix.specs.Types.{widened}
 use Rattle.pf_whole.specs.declared.calls.PlacedDirective.{PlacedDirective}
 use Rattle.pf_whole.specs.declared.calls.Rest.{Rest}
 use Rattle.pf_whole.specs.Calls.{IsNextCall}

@@ -1,6 +1,6 @@
 use Rattle.std.proofs.Common.{[], ◌++◌, sym, ap, ◌∙◌, arith}
 use Rattle.std.proofs.lemmas.List.{append-nil, append_assoc}
-use Rattle.pf_signatures.specs.OpaqueParts.{parts_of_opaque}
+use Rattle.pf_posix.specs.OpaqueParts.{parts_of_opaque}
 use Rattle.pf_whole.specs.meaning.NormalSpellings.{normal_spelling}
 use Rattle.pf_whole.proofs.HeadLemmas.{at_last, before_directive, between, first_items, goes_further, stretch_has}
 use Rattle.pf_whole.proofs.Loops.{continues_from, ends_with, goes_past}

@@ -1,6 +1,6 @@
 use Rattle.std.proofs.Common.{◌≡◌, ◌++◌, ◌-◌, ◌≤◌, drop, length}
 use Rattle.pf_values.specs.meaning.Text.{Text}
-use Rattle.pf_signatures.specs.Stretches.{ReadsWhole, Stretches}
+use Rattle.pf_posix.specs.Stretches.{ReadsWhole, Stretches}
 use Rattle.pf_whole.proofs.Loops.{Continues}
 use Rattle.pf_whole.proofs.canonical_texts.append_stretches.Given as goal
 

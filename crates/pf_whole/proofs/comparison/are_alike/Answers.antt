@@ -1,5 +1,5 @@
 use Rattle.std.proofs.Common.{arith, refl}
-use Rattle.pf_signatures.specs.OpaqueParts.{parts_of_opaque}
+use Rattle.pf_posix.specs.OpaqueParts.{parts_of_opaque}
 use Rattle.pf_whole.proofs.Corresponding.{alike_is_corresponding}
 use Rattle.pf_whole.proofs.HeadLemmas.{at_last, before_directive, first_items, goes_further, stretch_has}
 use Rattle.pf_whole.proofs.Loops.{both_end, both_go_on, unlike_calls, unlike_stretches}

@@ -1,5 +1,5 @@
 use Rattle.std.proofs.Common.{◌-◌, ◌≤◌, drop, length}
-use Rattle.pf_signatures.specs.Stretches.{ReadsWhole, Stretches}
+use Rattle.pf_posix.specs.Stretches.{ReadsWhole, Stretches}
 use Rattle.pf_whole.proofs.Loops.{Reaches}
 use Rattle.pf_whole.proofs.comparison.are_alike.Given as goal
 

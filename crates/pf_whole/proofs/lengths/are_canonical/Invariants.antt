@@ -1,5 +1,5 @@
 use Rattle.std.proofs.Common.{◌-◌, ◌≤◌, drop, length}
-use Rattle.pf_signatures.specs.Stretches.{ReadsWhole, Stretches}
+use Rattle.pf_posix.specs.Stretches.{ReadsWhole, Stretches}
 use Rattle.pf_whole.proofs.OwnLoops.{OwnFrom}
 use Rattle.pf_whole.proofs.lengths.are_canonical.Given as goal
 

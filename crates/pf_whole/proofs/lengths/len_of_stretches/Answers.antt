@@ -1,5 +1,5 @@
 use Rattle.std.proofs.Common.{◌≡◌, [], ◌++◌, length, length-append, refl, sym, ap, ◌∙◌, arith}
-use Rattle.pf_signatures.specs.OpaqueParts.{parts_of_opaque}
+use Rattle.pf_posix.specs.OpaqueParts.{parts_of_opaque}
 use Rattle.pf_whole.specs.meaning.NormalSpellings.{normal_spelling, posix_spelling_of}
 use Rattle.pf_whole.proofs.HeadLemmas.{at_last, before_directive, between, first_items, goes_further, goes_on_behind, stretch_few, stretch_has}
 use Rattle.pf_whole.proofs.Loops.{continues_from, ends_with, goes_past}

@@ -1,6 +1,6 @@
 use Rattle.std.proofs.Common.{subst}
 use Rattle.std.proofs.lemmas.Result.{err_from_is_err_and}
-use Rattle.pf_signatures.specs.Laws.{ComparesArgumentTypes}
+use Rattle.pf_posix.specs.Laws.{ComparesArgumentTypes}
 use Rattle.pf_whole.proofs.VerdictLemmas.{calls_verdict, fit_anyway, shape_of, shown_verdict, types_verdict}
 use Rattle.pf_whole.proofs.verdicts.compare_apart.Goals as goal
 
@@ -13,7 +13,7 @@ returns-in-Ok-Some c =
     }
 
 pub unreachable-requires : goal.unreachable-requires
-unreachable-requires c = fit_anyway c.args.model c.args.first.now c.args.second.now c.in-Err.field-0 c.requires.accepted_first c.requires.accepted_second c.in-Err.ensures
+unreachable-requires c = fit_anyway c.args.model c.args.first.now c.args.second.now c.in-Err.field-0.0 c.in-Err.field-0.1 c.requires.accepted_first c.requires.accepted_second c.in-Err.ensures
 
 pub returns-in-Some : goal.returns-in-Some
 returns-in-Some c =

@@ -1,6 +1,6 @@
 use Rattle.std.proofs.Common.{◌++◌, false, None, Some, map, replicate, sym, ap, ◌∙◌, arith, subst, inl, inr}
-use Rattle.pf_signatures.specs.OpaqueParts.{parts_of_opaque}
-use Rattle.pf_signatures.specs.Stretches.{Before, Last, types_of_opaque}
+use Rattle.pf_posix.specs.OpaqueParts.{parts_of_opaque}
+use Rattle.pf_posix.specs.Stretches.{Before, Last, types_of_opaque}
 use Rattle.std.proofs.lemmas.Result.{IfOk-weaker}
 use Rattle.pf_whole.specs.Answers.{HaveOneShape, ShowsNeutral}
 use Rattle.pf_whole.specs.Comparisons.{AreShownNext, shown_as}

@@ -1,5 +1,5 @@
 use Rattle.std.proofs.Common.{◌-◌, ◌≤◌, drop, length}
-use Rattle.pf_signatures.specs.Stretches.{ReadsWhole, Stretches}
+use Rattle.pf_posix.specs.Stretches.{ReadsWhole, Stretches}
 use Rattle.pf_whole.specs.Answers.{HaveOneShape}
 use Rattle.pf_whole.specs.Comparisons.{shown_as}
 use Rattle.pf_whole.proofs.FindingLoops.{IsComparedUpTo}

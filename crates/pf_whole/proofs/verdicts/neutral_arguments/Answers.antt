@@ -1,7 +1,7 @@
 use Rattle.std.proofs.Common.{◌++◌, None, replicate, refl, sym, ap, ◌∙◌, arith, subst}
-use Rattle.pf_signatures.specs.OpaqueParts.{parts_of_opaque}
-use Rattle.pf_signatures.specs.Stretches.{types_of_opaque}
-use Rattle.pf_signatures.proofs.ReadOnce.{read_once}
+use Rattle.pf_posix.specs.OpaqueParts.{parts_of_opaque}
+use Rattle.pf_posix.specs.Stretches.{types_of_opaque}
+use Rattle.pf_posix.proofs.ReadOnce.{read_once}
 use Rattle.pf_whole.proofs.CountLemmas.{counted, opaque_args}
 use Rattle.pf_whole.proofs.HeadLemmas.{at_last, before_directive, between, between_few, first_items, goes_further, stretch_has}
 use Rattle.pf_whole.proofs.ShownLoops.{AreShownNeutrally, IsNeutralUpTo, IsTypedUpTo, neutral_end, neutral_past, typed_end, typed_from, typed_past}

@@ -1,5 +1,5 @@
 use Rattle.std.proofs.Common.{◌-◌, ◌≤◌, drop, length}
-use Rattle.pf_signatures.specs.Stretches.{ReadsWhole, Stretches}
+use Rattle.pf_posix.specs.Stretches.{ReadsWhole, Stretches}
 use Rattle.pf_whole.proofs.ShownLoops.{IsNeutralUpTo, IsTypedUpTo}
 use Rattle.pf_whole.proofs.verdicts.neutral_arguments.Given as goal
 

@@ -1,7 +1,7 @@
 use Rattle.std.proofs.Common.{sym, subst}
 use Rattle.std.proofs.lemmas.Result.{err_from_is_err_and}
 use Rattle.std.specs.List.{AllZip}
-use Rattle.pf_signatures.specs.Stretches.{whole_types}
+use Rattle.pf_posix.specs.Stretches.{whole_types}
 use Rattle.pf_whole.specs.Answers.{Different, IsWholeComparisonOf}
 use Rattle.pf_whole.specs.Comparisons.{HasShownType, shown_as}
 use Rattle.pf_whole.proofs.ProfileVerdicts.{profile_same, profile_shown, profile_typed, profile_types, shown_memory}

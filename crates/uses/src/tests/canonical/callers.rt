@@ -1,10 +1,11 @@
 //! Callers of `canonical` and `same_text`, as CALLING.md of `pf_canon` has them.
-use pf_canon::{CanonFault, canonical, same_text};
+use pf_canon::{canonical, same_text};
+use pf_text::TextFault;
 use pf_values::Model;
 use std::alloc::Global;
 
 /// Returns whether two formats mean the same, by their canonical texts.
-fn mean_the_same(alloc: Global, first: &[u8], second: &[u8]) -> Result<bool, CanonFault> {
+fn mean_the_same(alloc: Global, first: &[u8], second: &[u8]) -> Result<bool, TextFault> {
     let first = canonical(alloc, Model::Lp64, first)?;
     let second = canonical(alloc, Model::Lp64, second)?;
     Ok(first.as_slice() == second.as_slice())

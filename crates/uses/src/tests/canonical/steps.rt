@@ -1,7 +1,7 @@
 //! Two texts that are compared as streams. `tests/canonical_rows.py` compares many in memory.
 use super::devices::{feed_that_fails, whole};
-use pf_canon::{Side, SideFault, StreamFault, same_stream, same_text};
-use pf_text::Refusal;
+use pf_canon::{SideFault, StreamFault, same_stream, same_text};
+use pf_text::{Refusal, Side};
 use pf_values::devices::Feed;
 use pf_values::{Counted, Model};
 

@@ -1,8 +1,9 @@
 //! Calls that make one allocation, of a known length: each is out of memory when none is free, and succeeds when one block
 //! of that length is.
 use super::exhaustion::{Exhausted, is_all_refused};
-use pf_canon::{CanonFault, canonical, canonical_with_room};
+use pf_canon::{canonical, canonical_with_room};
 use pf_literals::{LiteralFault, decode, encode};
+use pf_text::TextFault;
 use pf_values::Model;
 use std::alloc::{AllocError, Global};
 
@@ -50,7 +51,7 @@ fn outcome_of(alloc: Global, call: &Call<'_>) -> Seen {
 fn canonical_seen(alloc: Global, format: &[u8], text: &[u8]) -> Seen {
     match canonical(alloc, Model::Lp64, format) {
         Ok(found) => answer_of(found.as_slice() == text),
-        Err(CanonFault::Memory) => Seen::Memory,
+        Err(TextFault::Memory) => Seen::Memory,
         Err(_) => Seen::Wrong,
     }
 }
@@ -62,7 +63,7 @@ fn with_room_seen(alloc: Global, format: &[u8], text: &[u8], more: usize) -> See
             let mut found = found;
             answer_of(found.as_slice() == text && found.push(b'\n').is_ok())
         }
-        Err(CanonFault::Memory) => Seen::Memory,
+        Err(TextFault::Memory) => Seen::Memory,
         Err(_) => Seen::Wrong,
     }
 }

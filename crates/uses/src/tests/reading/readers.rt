@@ -1,5 +1,7 @@
 //! What `Scanner` and `Pieces` return.
-use pf_text::laws::{reads_once, refused_once, whole_run_of_pieces, whole_run_of_steps};
+use pf_text::laws::{
+    kinds_of_refusals, reads_once, refused_once, whole_run_of_pieces, whole_run_of_steps,
+};
 use pf_text::{Piece, Pieces, Refusal, Scanner, Step};
 use pf_values::{Conv, Directive, FlagSet, Length, RefusalKind};
 use std::alloc::Global;
@@ -59,6 +61,7 @@ fn whole_runs_up_to_a_refusal(rt: HostRuntime) {
     };
     assert!(rt; are_right);
     reads_once();
+    kinds_of_refusals();
     refused_once();
 }
 

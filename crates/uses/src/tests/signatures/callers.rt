@@ -1,10 +1,10 @@
-//! The callers in CALLING.md of `pf_signatures`.
+//! The callers in CALLING.md of `pf_posix`.
 ghost use Rattle.std.specs.Prelude.{◌≡◌, IsTrue, List};
-ghost use Rattle.pf_signatures.specs.declared.types.ArgumentType.{ArgumentType as ArgumentTypeOf};
-ghost use Rattle.pf_signatures.specs.Items.{HasArguments};
+ghost use Rattle.pf_posix.specs.declared.types.ArgumentType.{ArgumentType as ArgumentTypeOf};
+ghost use Rattle.pf_posix.specs.Items.{HasArguments};
 
-use pf_signatures::{ArgumentType, arguments, fits};
-use pf_values::Model;
+use pf_posix::{ArgumentType, arguments, fits};
+use pf_values::{ArgType, Model};
 
 /// Whether a translated format is known to take just the arguments of the one in the program.
 fn may_translate(model: Model, original: &[u8], translated: &[u8]) -> bool
@@ -21,7 +21,7 @@ fn may_translate(model: Model, original: &[u8], translated: &[u8]) -> bool
 
 /// The type of the first argument of a format, if it takes one.
 fn first_type(model: Model, format: &[u8]) -> Option<ArgumentType> {
-    let mut types = [ArgumentType::Int];
+    let mut types = [ArgumentType::Profile(ArgType::Int)];
     match arguments(model, format, &mut types) {
         Ok(0) => None,
         Ok(_) => Some(types[0]),

@@ -1,13 +1,14 @@
 //! Formats without numbered arguments: whether one is accepted, and its stretches.
 ghost use Rattle.std.specs.Prelude.{IsTrue, List};
 ghost use Rattle.pf_values.specs.meaning.Items.{Item, Reads};
-ghost use Rattle.pf_signatures.specs.Stretches.{IsWholeAccepted, Last};
+ghost use Rattle.pf_posix.specs.Stretches.{IsWholeAccepted, Last};
 
-use pf_signatures::{
-    Conversion, Floating, Modifier, OpaqueAmount, OpaqueDirective, SignatureRefusal,
-    SignatureRefusalKind, Stretch, check_unnumbered, next_stretch,
+use pf_posix::{
+    Conversion, Floating, Modifier, OpaqueAmount, OpaqueDirective, Stretch, check_unnumbered,
+    next_stretch,
 };
-use pf_values::{Flag, FlagSet, Length, Model};
+use pf_text::Refusal;
+use pf_values::{Flag, FlagSet, Length, Model, RefusalKind};
 
 /// Whether a format is known to be accepted without numbered arguments.
 fn has_stretches(model: Model, format: &[u8]) -> bool
@@ -30,8 +31,8 @@ fn is_one_stretch(format: &[u8]) -> bool
     }
 }
 
-fn is_refused(format: &[u8], kind: SignatureRefusalKind, at: u64) -> bool {
-    check_unnumbered(Model::Lp64, format) == Err(SignatureRefusal { kind, at })
+fn is_refused(format: &[u8], kind: RefusalKind, at: u64) -> bool {
+    check_unnumbered(Model::Lp64, format) == Err(Refusal { kind, at })
 }
 
 #[test]
@@ -41,15 +42,15 @@ fn formats_without_numbers(rt: HostRuntime) {
             && !is_one_stretch(b"%d of %-8.*s%%")
             && has_stretches(Model::Llp64, b"%*.*f%% %2s%zn")
             && !has_stretches(Model::Lp64, b"%1$d")
-            && is_refused(b"%1$d", SignatureRefusalKind::Numbered, 2)
-            && is_refused(b"%d%f%12$", SignatureRefusalKind::Numbered, 7)
-            && is_refused(b"%*1$d", SignatureRefusalKind::Mixed, 2)
+            && is_refused(b"%1$d", RefusalKind::Numbered, 2)
+            && is_refused(b"%d%f%12$", RefusalKind::Numbered, 7)
+            && is_refused(b"%*1$d", RefusalKind::Mixed, 2)
             && is_refused(
                 b"%-*.3i%0*.3d%+*u%lC",
-                SignatureRefusalKind::LengthUndefined,
+                RefusalKind::LengthUndefined,
                 18
             )
-            && is_refused(b"%d%-1$d", SignatureRefusalKind::Unexpected, 5)
+            && is_refused(b"%d%-1$d", RefusalKind::Unexpected, 5)
     );
 }
 

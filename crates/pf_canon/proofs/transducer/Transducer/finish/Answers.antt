@@ -6,10 +6,11 @@ use Rattle.pf_canon.proofs.transducer.Transducer.finish.Goals as goal
 
 pub returns-in-Ok-clause-ended : goal.returns-in-Ok-clause-ended
 returns-in-Ok-clause-ended c model t out items h =
-    ended model t out c.args.self.now.waiting items (c.in-Ok.ensures.finished t items h.after) h.made _ (ap (λ bytes. whole_text 0 0 c.args.self.now.waiting bytes 0) c.new.ensures)
+    ended model t out c.args.self.now.silents items (c.in-Ok.ensures.finished t items h.after) h.made _
+    (ap (λ bytes. whole_text 0 0 c.args.self.now.silents bytes 0) c.new.ensures)
 
 pub returns-in-Ok-clause-few : goal.returns-in-Ok-clause-few
-returns-in-Ok-clause-few c = rw c.new.ensures (omega (arith, length-whole 0 0 c.args.self.now.waiting [] 0))
+returns-in-Ok-clause-few c = rw c.new.ensures (omega (arith, length-whole 0 0 c.args.self.now.silents [] 0))
 
 pub returns-in-Err-clause-ended : goal.returns-in-Err-clause-ended
 returns-in-Err-clause-ended c model t out items h = c.in-Err.ensures.finished t items h.after

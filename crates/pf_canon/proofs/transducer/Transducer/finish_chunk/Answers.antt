@@ -12,8 +12,11 @@ loop-at-init c =
       within = c.pass_silents-at.ensures.within.1;
       few = c.pass_silents-at.ensures.few;
       through = λ model t out items h.
-          let s = c.pass_silents-at.ensures.kept model t _ items h in
-          (s.0, subst (λ scanner. IsThrough model (record passed { scanner = scanner }) (t ++ take c.pass_silents-at.result c.args.text.now) s.0 (out ++ take c.args.verbatim_len c.args.text.now)) (sym c.in_default.ensures.within) s.1);
+          let s = c.pass_silents-at.ensures.kept model t _ items h in (
+            s.0,
+            subst (λ scanner. IsThrough model (record passed { scanner = scanner }) (t ++ take c.pass_silents-at.result c.args.text.now) s.0
+                (out ++ take c.args.verbatim_len c.args.text.now)) (sym c.in_default.ensures.within) s.1,
+          );
     }
 
 pub returns-in-Some-clause-fed : goal.returns-in-Some-clause-fed
@@ -21,7 +24,7 @@ returns-in-Some-clause-fed c model t out items h =
     let at = c.pass_silents-at.result in
     let s = c.pass_silents-at.ensures.kept model t _ items h in
     let taken = rw take_rest at c.in-Some.ensures.passed (t ++ take at c.args.text.now) s.0 s.1.after in
-    c.end_directive.ensures.fed model t out s.0 (record { before = c.pass_silents-at.new.self; through = s.1; model_is = refl; waiting = refl; takes = taken })
+    c.end_directive.ensures.fed model t out s.0 (record { before = c.pass_silents-at.new.self; through = s.1; model_is = refl; held = refl; takes = taken })
 
 pub loop-at-preserved : goal.loop-at-preserved
 loop-at-preserved c =
@@ -38,8 +41,11 @@ loop-at-preserved c =
       through = λ model t out items h.
           let now = i.through model t out items h in
           let takes = rw c.in-Ok-More.field-0-is at c.in-Ok-More.ensures.fed (t ++ take at text) now.0 now.1.after in
-          let o = out ++ take c.args.verbatim_len text in
-          (now.0, subst (λ u. IsThrough model new u now.0 o) (one_more t text at _ (drop_more text at 0 c.loop-at-test.true)) (inside model c.loop-at.self new (t ++ take at text) o now.0 _ now.1 refl refl takes));
+          let o = out ++ take c.args.verbatim_len text in (
+            now.0,
+            subst (λ u. IsThrough model new u now.0 o) (one_more t text at _ (drop_more text at 0 c.loop-at-test.true))
+                (inside model c.loop-at.self new (t ++ take at text) o now.0 _ now.1 refl refl takes),
+          );
     }
 
 pub returns-in-Ok : goal.returns-in-Ok
@@ -50,8 +56,18 @@ returns-in-Ok c =
     record {
       fed = λ model t out items h.
           let now = i.through model t out items h in
-          let fed : HasScannedByte model (record c.loop-at.self { scanner = c.feed.new.self }) t now.0 (out ++ take c.args.verbatim_len text) text at c.in-Ok.step =
-          record { before = c.loop-at.self; byte = get_or text at 0; first = drop_more text at 0 c.loop-at-test.true; through = now.1; model_is = refl; waiting = refl; takes = c.in-Ok.ensures.fed (t ++ take at text) now.0 now.1.after } in
+          let fed : HasScannedByte model (record c.loop-at.self { scanner = c.feed.new.self }) t now.0
+          (out ++ take c.args.verbatim_len text) text at c.in-Ok.step =
+          record {
+            before = c.loop-at.self;
+            byte = get_or text at 0;
+            first = drop_more text at 0 c.loop-at-test.true;
+            through = now.1;
+            model_is = refl;
+            held =
+                refl;
+            takes = c.in-Ok.ensures.fed (t ++ take at text) now.0 now.1.after;
+          } in
           c.end_chunk.ensures.fed model t out now.0 fed;
       within = c.end_chunk.ensures.within;
       verbatim_len = c.end_chunk.ensures.verbatim_len;
@@ -65,7 +81,8 @@ returns-in-Err c =
     record {
       fed = λ model t out items h.
           let before = c.loop-at.invariant.through model t out items h in
-          refused_in model c.loop-at.self (record c.loop-at.self { scanner = c.feed.new.self }) t out text before.0 c.args.verbatim_len at _ c.in-Err.refusal (drop_more text at 0 c.loop-at-test.true) before.1 (c.in-Err.ensures.fed (t ++ take at text) before.0 before.1.after);
+          refused_in model c.loop-at.self (record c.loop-at.self { scanner = c.feed.new.self }) t out text before.0 c.args.verbatim_len at _ c.in-Err.refusal
+          (drop_more text at 0 c.loop-at-test.true) before.1 (c.in-Err.ensures.fed (t ++ take at text) before.0 before.1.after);
       within = (let verbatim_len = c.loop-at.invariant.verbatim_len in omega (arith, verbatim_len, c.loop-at-test.true));
       verbatim_len = tt;
       few = tt;
@@ -76,7 +93,8 @@ returns c =
     let i = c.loop-at.invariant in
     let verbatim_len = i.verbatim_len in
     record {
-      fed = λ model t out items h. let now = i.through model t out items h in all_inside model c.loop-at.self t out c.args.text.now now.0 c.args.verbatim_len c.loop-at.at now.1;
+      fed = λ model t out items h. let now = i.through model t out items h in all_inside model c.loop-at.self t out c.args.text.now now.0 c.args.verbatim_len
+          c.loop-at.at now.1;
       within = record { some = omega (arith, c.requires.some, c.loop-at-test.false); verbatim_len = verbatim_len; start = omega arith; len = i.within };
       verbatim_len = refl;
       few =

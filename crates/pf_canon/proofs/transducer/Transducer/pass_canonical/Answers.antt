@@ -15,10 +15,11 @@ loop-len-preserved c =
     let then = rw take_rest at run.ensures.within in
     record {
       within = omega (arith, first, then, i.within, length-drop len text, length-drop (len + directive.result) text);
-      none = run.ensures.waiting ∙ directive.ensures.none;
+      none = run.ensures.held ∙ directive.ensures.none;
       through = λ model items h.
           let now = i.through model items h in
-          let a = verbatim_more model text len directive.result directive.new.self (rw take_rest at directive.ensures.kept model (take len text) (take len text) now.0 now.1) in
+          let a = verbatim_more model text len directive.result directive.new.self (rw take_rest at directive.ensures.kept model (take len text)
+          (take len text) now.0 now.1) in
           verbatim_more model text (len + directive.result) run.result run.new.self (rw take_rest at run.ensures.kept model _ _ a.0 a.1);
     }
 
@@ -28,6 +29,7 @@ returns-then-directive_len-eq0-clause-kept c model items h =
     let len = c.loop-len.len in
     let directive = c.pass_normal-directive_len in
     let now = c.loop-len.invariant.through model items h in
-    let a = verbatim_more model text len directive.result directive.new.self (rw take_rest at directive.ensures.kept model (take len text) (take len text) now.0 now.1) in
+    let a = verbatim_more model text len directive.result directive.new.self (rw take_rest at directive.ensures.kept model (take len text)
+    (take len text) now.0 now.1) in
     let none : len + directive.result ≡ len = omega (arith, c.if-directive_len-eq0.true) in
     (a.0, subst (λ n. IsThrough model directive.new.self (take n text) a.0 (take n text)) none a.1)

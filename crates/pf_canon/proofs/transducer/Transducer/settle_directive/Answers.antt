@@ -11,13 +11,15 @@ pub returns-in-Silent-clause-settles : goal.returns-in-Silent-clause-settles
 returns-in-Silent-clause-settles c out items rest room h =
     let r = c.reduce-spaces in
     let s = c.args.directive.now in
-    rw c.new.ensures (silent_settled c.args.self.now.model s r.result out c.args.self.now.waiting c.saturating_add-self.result items rest c.in-Silent.is (omega (arith, c.saturating_add-self.ensures)) r.ensures.same (kept_items c.args.self.now.model s r.result r.ensures.kept r.ensures.silent) h)
+    rw c.new.ensures (silent_settled c.args.self.now.model s r.result out c.args.self.now.silents c.saturating_add-self.result items rest c.in-Silent.is
+    (omega (arith, c.saturating_add-self.ensures)) r.ensures.same (kept_items c.args.self.now.model s r.result r.ensures.kept r.ensures.silent) h)
 
 pub returns-in-Normal-clause-settles : goal.returns-in-Normal-clause-settles
 returns-in-Normal-clause-settles c out items rest room h =
     let r = c.reduce-spaces in
     let s = c.args.directive.now in
-    rw (c.spell.ensures.bytes, c.directive.ensures.value) (normal_settled c.args.self.now.model s c.in-Normal.normal r.result out c.args.self.now.waiting items rest c.in-Normal.is r.ensures.same (kept_items c.args.self.now.model s r.result r.ensures.kept r.ensures.silent) h)
+    rw (c.spell.ensures.bytes, c.directive.ensures.value) (normal_settled c.args.self.now.model s c.in-Normal.normal r.result out c.args.self.now.silents items
+    rest c.in-Normal.is r.ensures.same (kept_items c.args.self.now.model s r.result r.ensures.kept r.ensures.silent) h)
 
 pub returns-in-Normal-clause-few : goal.returns-in-Normal-clause-few
 returns-in-Normal-clause-few c =
@@ -26,4 +28,4 @@ returns-in-Normal-clause-few c =
     let few = same.few in
     let normal : IsNormal c.in-Normal.normal.model c.directive.result = rw c.directive.ensures.value c.directive.ensures.normal in
     let short = length-spelled c.directive.result normal.defined in
-    rw c.spell.ensures.bytes (omega (arith, few, short, length-whole r.spaces r.zeros c.args.self.now.waiting (spelling_of c.directive.result) r.trail))
+    rw c.spell.ensures.bytes (omega (arith, few, short, length-whole r.spaces r.zeros c.args.self.now.silents (spelling_of c.directive.result) r.trail))

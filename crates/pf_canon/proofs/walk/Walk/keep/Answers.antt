@@ -1,9 +1,0 @@
-use Rattle.std.proofs.Common.{◌++◌, ◌∙◌, ap}
-use Rattle.pf_canon.specs.Output.{pending_text}
-use Rattle.pf_canon.proofs.WalkLemmas.{none_both}
-use Rattle.pf_canon.proofs.walk.Walk.keep.Goals as goal
-
-pub returns-in-Output-clause-waits : goal.returns-in-Output-clause-waits
-returns-in-Output-clause-waits c =
-    let w = c.args.self.now in
-    rw (c.in-Output.is, c.requires.item) (ap (λ t. t ++ pending_text c.of-self.result) (none_both w.bytes.now (pending_text w.output) c.requires.none).0 ∙ c.of-self.ensures)

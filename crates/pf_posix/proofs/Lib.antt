@@ -1,0 +1,41 @@
+pub mod Digits
+pub mod Judging
+pub mod Agreeing
+pub mod Reasons
+pub mod Wording
+pub mod Soundness
+pub mod Within
+pub mod Bounds
+pub mod TypeLists
+pub mod Telling
+pub mod WalkLemmas
+pub mod TwoByteLemmas
+pub mod OrderLemmas
+pub mod TableLemmas
+pub mod Running
+pub mod Reaching
+pub mod Following
+pub mod Unique
+mod ListLemmas
+pub mod StepLemmas
+pub mod DifferenceLemmas
+pub mod Profile
+pub mod EachOnce
+pub mod DefinedLemmas
+pub mod Spans
+pub mod SpecificationsOnce
+pub mod ReadOnce
+pub mod KeptTypes
+pub mod Narrowed
+pub mod UnnumberedLemmas
+pub mod UnnumberedEnds
+pub mod PartLemmas
+pub mod StretchLemmas
+mod KindLemmas
+mod Examples
+pub mod SpecificationBytes
+pub mod StarLemmas
+pub mod DirectiveTypes
+pub mod DirectiveLemmas
+pub mod DirectiveSteps
+pub mod DirectivesOnce

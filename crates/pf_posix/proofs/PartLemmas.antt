@@ -1,0 +1,529 @@
+-- The parts of a specification at a place of a text, one after another.
+use Rattle.std.proofs.Common.{◌≡◌, ℕ, ◌+◌, ◌-◌, ◌*◌, ◌<◌, ◌≤◌, Bool, true, false, ◌||◌, List, [], ◌∷◌, ◌++◌, drop, get_or, length, map, refl, sym, ap, ◌∙◌}
+use Rattle.std.proofs.Common.{arith, subst}
+use Rattle.std.specs.Prelude.{Option, Some, None, IsSomeAnd, MatchOption, fold, is_some, ◌==◌}
+use Rattle.std.specs.Fmt.{digit_glyph}
+use Rattle.std.specs.Int.Digits.{number_from_digits_after}
+use Rattle.std.specs.List.{AllByRecursion}
+use Rattle.std.proofs.lemmas.Bool.{eqb-true}
+use Rattle.std.proofs.lemmas.Bool.Decides.{nat_tests}
+use Rattle.std.proofs.lemmas.Int.Digits.{number_after_ge}
+use Rattle.std.proofs.Math.ListN.{get_or-eq_default}
+use Rattle.std.proofs.lemmas.List.{drop_more, get_or-drop, length-drop}
+use Rattle.pf_values.specs.declared.flags.Flag.{Flag}
+use Rattle.pf_values.specs.declared.flags.Flag.TheVariants.{Minus, Plus, Space, Alt, Zero, Group}
+use Rattle.pf_values.specs.declared.flags.FlagSet.{FlagSet}
+use Rattle.pf_values.specs.declared.lengths.Length.TheVariants as lengths
+use Rattle.pf_values.specs.declared.limits.TheConstants.{MAX_NUMBER}
+use Rattle.pf_values.specs.meaning.Digits.{AreDigits, AreLeastDigits}
+use Rattle.pf_values.specs.meaning.Flags.{flag_byte, flag_set, no_flags, with_flag}
+use Rattle.pf_values.specs.meaning.Text.{Text}
+use Rattle.pf_values.proofs.Numerals.{number_after-place_sum}
+use Rattle.pf_text.specs.Letters.{flag_of}
+use Rattle.pf_text.specs.States.{is_digit}
+use Rattle.pf_text.proofs.Complete.{digit_is, flag_of_byte}
+use Rattle.pf_text.proofs.Sound.{byte_of_flag}
+use Rattle.pf_posix.specs.declared.conversions.Conversion.{Conversion}
+use Rattle.pf_posix.specs.declared.conversions.Modifier.{Modifier}
+use Rattle.pf_posix.specs.declared.conversions.Modifier.TheVariants.{Integer, LongDouble}
+use Rattle.pf_posix.specs.declared.opaque_directives.OpaqueAmount.{OpaqueAmount}
+use Rattle.pf_posix.specs.declared.opaque_directives.OpaqueAmount.TheVariants as amounts
+use Rattle.pf_posix.specs.Letters.{conversion_of, is_first_digit, length_modifier_of}
+use Rattle.pf_posix.specs.OpaqueParts.{amount_of, parts_of_opaque}
+use Rattle.pf_posix.specs.PartsInText.{BeginsOutside, ConversionIs, DigitsAre, FlagsAre, IsAfterPoint, ModifierGoesOn, ModifierIs, PrecisionIs}
+use Rattle.pf_posix.specs.PartsInText.{SpecificationIs, WidthIs, is_flag, is_precision, is_width, second_modifier}
+use Rattle.pf_posix.specs.Specifications.{Amount, Given, Fetched, PosixSpecification, conversion_letter, modifier_letters}
+use Rattle.pf_posix.specs.Spelling.{SpellsPosition, SpellsPosix, SpellsPosixPrecision}
+use Rattle.pf_text.proofs.NumberDigits.{first_above_zero}
+use Rattle.pf_posix.proofs.Reaching.{letter_tests}
+use Rattle.pf_posix.proofs.SpecificationsOnce.{HasParts, after_flags_outside, after_precision_outside, after_width_outside, longer, no_number, parts_of}
+use Rattle.pf_posix.proofs.SpecificationsOnce.{same_fields}
+
+-- the byte at a place, and what comes after it
+pub head_at : (t : Text) (at byte : ℕ) (rest : Text) → drop at t ≡ byte ∷ rest → get_or t at 0 ≡ byte
+head_at t at byte rest e =
+    let here : at + 0 ≡ at = omega arith in
+    ap (λ n. get_or t n 0) (sym here) ∙ sym (get_or-drop at t 0 0) ∙ ap (λ u. get_or u 0 0) e
+
+pub inside_at : (t : Text) (at byte : ℕ) (rest : Text) → drop at t ≡ byte ∷ rest → at < length t
+inside_at t at byte rest e = omega (arith, ap length e, length-drop at t)
+
+pub tail_at : (t : Text) (at byte : ℕ) (rest : Text) → drop at t ≡ byte ∷ rest → drop (at + 1) t ≡ rest
+tail_at t at byte rest e =
+    let split = sym (drop_more t at 0 (inside_at t at byte rest e)) ∙ e in
+    cc
+
+-- past the end there is no byte
+pub nothing_at : (t : Text) (at byte : ℕ) (rest : Text) → length t ≤ at → drop at t ≡ byte ∷ rest → ⊥
+nothing_at t at byte rest over e = omega (arith, over, inside_at t at byte rest e)
+
+-- flags
+abbrev pub FlagsLeft : Text → ℕ → ℕ → FlagSet → Type 0
+FlagsLeft t start at set = (flags : List Flag) (rest : Text) → BeginsOutside is_flag rest → drop start t ≡ map flag_byte flags ++ rest
+    → (later : List Flag) × (drop at t ≡ map flag_byte later ++ rest) × (fold with_flag set later ≡ flag_set flags)
+
+flag_is : (flag : Flag) → is_flag (flag_byte flag) ≡ true
+flag_is Minus = refl
+flag_is Plus = refl
+flag_is Space = refl
+flag_is Alt = refl
+flag_is Zero = refl
+flag_is Group = refl
+
+byte_is_flag : (byte : ℕ) (flag : Flag) → flag_of byte ≡ Some flag → is_flag byte ≡ true
+byte_is_flag byte flag e = ap is_flag (byte_of_flag byte flag e) ∙ flag_is flag
+
+-- what is refused as a first byte is not the first byte
+no_first : (p : ℕ → Bool) (byte : ℕ) (more rest : Text) → BeginsOutside p rest → byte ∷ more ≡ rest → p byte ≡ true → ⊥
+no_first p byte more rest o e h = let no : false ≡ true = sym (subst (BeginsOutside p) (sym e) o) ∙ h in cc
+
+module _ (t : Text) (start : ℕ) where
+  pub flags_begin : FlagsLeft t start start no_flags
+  flags_begin = λ flags rest o e. (flags, e, refl)
+
+  module _ (at : ℕ) (set : FlagSet) (h : FlagsLeft t start at set) where
+    pub flags_step : (flag : Flag) → at < length t → flag_of (get_or t at 0) ≡ Some flag → FlagsLeft t start (at + 1) (with_flag set flag)
+    flags_step flag less f flags rest o e = let l = h flags rest o e in go l.0 l.1 l.2 where
+      byte : ℕ
+      byte = get_or t at 0
+
+      here : drop at t ≡ byte ∷ drop (at + 1) t
+      here = drop_more t at 0 less
+
+      go : (later : List Flag) → drop at t ≡ map flag_byte later ++ rest → fold with_flag set later ≡ flag_set flags
+          → (later : List Flag) × (drop (at + 1) t ≡ map flag_byte later ++ rest) × (fold with_flag (with_flag set flag) later ≡ flag_set flags)
+      go [] x y = absurd (no_first is_flag byte (drop (at + 1) t) rest o (sym here ∙ x) (byte_is_flag byte flag f))
+      go (g ∷ later) x y =
+          let first = head_at t at (flag_byte g) (map flag_byte later ++ rest) x in
+          let same : Some flag ≡ Some g = sym f ∙ ap flag_of first ∙ flag_of_byte g in
+          let flag_is : flag ≡ g = cc in
+          (later, tail_at t at (flag_byte g) (map flag_byte later ++ rest) x, ap (λ k. fold with_flag (with_flag set k) later) flag_is ∙ y)
+
+    pub flags_end : flag_of (get_or t at 0) ≡ None → FlagsAre t start set at
+    flags_end f flags rest o e = let l = h flags rest o e in go l.0 l.1 l.2 where
+      go : (later : List Flag) → drop at t ≡ map flag_byte later ++ rest → fold with_flag set later ≡ flag_set flags
+          → (set ≡ flag_set flags) × (drop at t ≡ rest)
+      go [] x y = (y, x)
+      go (g ∷ later) x y =
+          let first = head_at t at (flag_byte g) (map flag_byte later ++ rest) x in
+          let no : None ≡ Some g = sym f ∙ ap flag_of first ∙ flag_of_byte g in cc
+
+    pub flags_all : length t ≤ at → FlagsAre t start set at
+    flags_all over flags rest o e = let l = h flags rest o e in go l.0 l.1 l.2 where
+      go : (later : List Flag) → drop at t ≡ map flag_byte later ++ rest → fold with_flag set later ≡ flag_set flags
+          → (set ≡ flag_set flags) × (drop at t ≡ rest)
+      go [] x y = (y, x)
+      go (g ∷ later) x y = absurd (nothing_at t at (flag_byte g) (map flag_byte later ++ rest) over x)
+
+-- digits
+abbrev pub DigitsLeft : Text → ℕ → ℕ → ℕ → ℕ → Type 0
+DigitsLeft t start first at number = (digits : List ℕ) (rest : Text) → AllByRecursion (λ d. d < 10) digits → BeginsOutside is_digit rest
+    → number_from_digits_after 10 first digits ≤ MAX_NUMBER → drop start t ≡ map (digit_glyph false) digits ++ rest
+    → (later : List ℕ) × AllByRecursion (λ d. d < 10) later × (drop at t ≡ map (digit_glyph false) later ++ rest)
+    × (number_from_digits_after 10 number later ≡ number_from_digits_after 10 first digits)
+
+module _ (t : Text) (start first : ℕ) where
+  pub digits_begin : DigitsLeft t start first start first
+  digits_begin = λ digits rest below o few e. (digits, below, e, refl)
+
+  module _ (at number : ℕ) (h : DigitsLeft t start first at number) where
+    abbrev byte : ℕ
+    byte = get_or t at 0
+
+    next : (d : ℕ) → d < 10 → byte ≡ digit_glyph false d → 10 * number + (byte - 48) ≡ number * 10 + d
+    next d low e = let digit : byte - 48 ≡ d = ap (λ b. b - 48) e ∙ (digit_is d low).1 in omega (arith, digit)
+
+    pub digits_step : at < length t → is_digit byte ≡ true → DigitsLeft t start first (at + 1) (10 * number + (byte - 48))
+    digits_step less f digits rest below o few e = let l = h digits rest below o few e in go l.0 l.1 l.2 l.3 where
+      go : (later : List ℕ) → AllByRecursion (λ d. d < 10) later → drop at t ≡ map (digit_glyph false) later ++ rest
+          → number_from_digits_after 10 number later ≡ number_from_digits_after 10 first digits
+          → (later : List ℕ) × AllByRecursion (λ d. d < 10) later × (drop (at + 1) t ≡ map (digit_glyph false) later ++ rest)
+          × (number_from_digits_after 10 (10 * number + (byte - 48)) later ≡ number_from_digits_after 10 first digits)
+      go [] b x y = absurd (no_first is_digit byte (drop (at + 1) t) rest o (sym (drop_more t at 0 less) ∙ x) f)
+      go (d ∷ later) b x y =
+          let head = head_at t at (digit_glyph false d) (map (digit_glyph false) later ++ rest) x in (
+            later,
+            b.1,
+            tail_at t at (digit_glyph false d) (map (digit_glyph false) later ++ rest) x,
+            ap (λ n. number_from_digits_after 10 n later)
+                (next d b.0 head) ∙ y,
+          )
+
+    pub digits_over : at < length t → is_digit byte ≡ true → MAX_NUMBER < 10 * number + (byte - 48) → DigitsAre t start first None
+    digits_over less f over digits rest below o few e = let l = h digits rest below o few e in go l.0 l.1 l.2 l.3 where
+      go : (later : List ℕ) → AllByRecursion (λ d. d < 10) later → drop at t ≡ map (digit_glyph false) later ++ rest
+          → number_from_digits_after 10 number later ≡ number_from_digits_after 10 first digits → ⊥
+      go [] b x y = no_first is_digit byte (drop (at + 1) t) rest o (sym (drop_more t at 0 less) ∙ x) f
+      go (d ∷ later) b x y =
+          let head = head_at t at (digit_glyph false d) (map (digit_glyph false) later ++ rest) x in
+          let more = number_after_ge 10 (number * 10 + d) later (omega arith) in
+          let whole : number_from_digits_after 10 (number * 10 + d) later ≡ number_from_digits_after 10 first digits = y in
+          omega (arith, over, next d b.0 head, more, whole, few)
+
+    done : (digits : List ℕ) (rest : Text) → ((d : ℕ) (more : Text) → d < 10 → drop at t ≡ digit_glyph false d ∷ more → ⊥)
+        → (later : List ℕ) × AllByRecursion (λ d. d < 10) later × (drop at t ≡ map (digit_glyph false) later ++ rest)
+        × (number_from_digits_after 10 number later ≡ number_from_digits_after 10 first digits)
+        → (number ≡ number_from_digits_after 10 first digits) × (drop at t ≡ rest)
+    done digits rest never l = go l.0 l.1 l.2 l.3 where
+      go : (later : List ℕ) → AllByRecursion (λ d. d < 10) later → drop at t ≡ map (digit_glyph false) later ++ rest
+          → number_from_digits_after 10 number later ≡ number_from_digits_after 10 first digits
+          → (number ≡ number_from_digits_after 10 first digits) × (drop at t ≡ rest)
+      go [] b x y = (y, x)
+      go (d ∷ later) b x y = absurd (never d (map (digit_glyph false) later ++ rest) b.0 x)
+
+    pub digits_end : is_digit byte ≡ false → DigitsAre t start first (Some (number, at))
+    digits_end f digits rest below o few e = done digits rest (λ d more low x.
+        let no : true ≡ false = sym (digit_is d low).0 ∙ ap is_digit (sym (head_at t at (digit_glyph false d) more x)) ∙ f in cc) (h digits rest below o few e)
+
+    pub digits_all : length t ≤ at → DigitsAre t start first (Some (number, at))
+    digits_all over digits rest below o few e =
+        done digits rest (λ d more low x. nothing_at t at (digit_glyph false d) more over x) (h digits rest below o few e)
+
+-- widths
+outside_digit : (rest : Text) → BeginsOutside is_width rest → BeginsOutside is_digit rest
+outside_digit [] o = tt
+outside_digit (byte ∷ rest) o = go (is_digit byte) o where
+  go : (b : Bool) → (b || byte == 42) ≡ false → b ≡ false
+  go true e = cc
+  go false e = refl
+
+outside_precision : (rest : Text) → BeginsOutside is_precision rest → BeginsOutside is_digit rest
+outside_precision [] o = tt
+outside_precision (byte ∷ rest) o = go (is_digit byte) (byte == 42) o where
+  go : (b c : Bool) → (b || c || byte == 46) ≡ false → b ≡ false
+  go true c e = cc
+  go false true e = cc
+  go false false e = refl
+
+star_digits : (number : Option ℕ) (digits : Text) → SpellsPosition digits number → is_some number ≡ false → digits ≡ []
+star_digits None digits h e = h
+star_digits (Some n) digits h e = cc
+
+-- what the code makes of a number, and of what comes after a point
+abbrev pub as_width : Option (ℕ × ℕ) → Option (Option OpaqueAmount × ℕ)
+as_width None = None
+as_width (Some front) = Some (Some (amounts.Number front.0), front.1)
+
+abbrev pub as_amount : Option (ℕ × ℕ) → Option (OpaqueAmount × ℕ)
+as_amount None = None
+as_amount (Some front) = Some (amounts.Number front.0, front.1)
+
+abbrev pub as_precision : Option (OpaqueAmount × ℕ) → Option (Option OpaqueAmount × ℕ)
+as_precision None = None
+as_precision (Some front) = Some (Some front.0, front.1)
+
+-- a number begins with a digit from 1 on, and neither it nor a star is another byte
+first_is : (d : ℕ) → 0 < d → d < 10 → is_first_digit (digit_glyph false d) ≡ true
+first_is d low high = grind (arith, nat_tests)
+
+digit_no_star : (d : ℕ) → d < 10 → (digit_glyph false d == 42) ≡ false
+digit_no_star d high = grind (arith, nat_tests)
+
+bool_no : {b : Bool} → b ≡ true → b ≡ false → ⊥
+bool_no h g = let no : true ≡ false = sym h ∙ g in cc
+
+-- the test of a byte where the text goes on with another one
+tested : (p : ℕ → Bool) (t : Text) (at byte : ℕ) (more : Text) (b : Bool) → p (get_or t at 0) ≡ b → drop at t ≡ byte ∷ more → p byte ≡ b
+tested p t at byte more b h e = ap p (sym (head_at t at byte more e)) ∙ h
+
+module _ (t : Text) (start : ℕ) where
+  abbrev byte_here : ℕ
+  byte_here = get_or t start 0
+
+  -- no width
+  pub width_none : (byte_here == 42) ≡ false → is_first_digit byte_here ≡ false → WidthIs t start (Some (None, start))
+  width_none star digit text rest None h o e = (refl, e ∙ ap (λ u. u ++ rest) h)
+  width_none star digit text rest (Some (Given n)) h o e = go h.numeral.0 h.numeral.1 h.numeral.2 where
+    go : (ds : List ℕ) → AreLeastDigits 10 1 n ds → text ≡ map (digit_glyph false) ds → (None ≡ Some (Given n)) × (drop start t ≡ rest)
+    go [] l w = absurd (omega (arith, l.enough))
+    go (d ∷ ds) l w =
+        let there = tested is_first_digit t start (digit_glyph false d) (map (digit_glyph false) ds ++ rest) false digit (e ∙ ap (λ u. u ++ rest) w) in
+        absurd (bool_no (first_is d (first_above_zero n d ds h.some l) l.digits.below.0) there)
+  width_none star digit text rest (Some (Fetched number)) h o e =
+      let no : true ≡ false = tested (λ b. b == 42) t start 42 (h.digits ++ rest) false star (e ∙ ap (λ u. u ++ rest) h.whole) in cc
+
+  -- `*`
+  pub width_star : (byte_here == 42) ≡ true → start < length t → WidthIs t start (Some (Some amounts.Star, start + 1))
+  width_star star less text rest None h o e =
+      let is : byte_here ≡ 42 = eqb-true byte_here 42 star in
+      absurd (no_first is_width byte_here (drop (start + 1) t) rest o (sym (drop_more t start 0 less) ∙ e ∙ ap (λ u. u ++ rest) h) (ap is_width is))
+  width_star star less text rest (Some (Given n)) h o e = go h.numeral.0 h.numeral.1 h.numeral.2 where
+    go : (ds : List ℕ) → AreLeastDigits 10 1 n ds → text ≡ map (digit_glyph false) ds → (Some (Fetched None) ≡ Some (Given n)) × (drop (start + 1) t ≡ rest)
+    go [] l w = absurd (omega (arith, l.enough))
+    go (d ∷ ds) l w =
+        absurd (bool_no (tested (λ b. b == 42) t start (digit_glyph false d) (map (digit_glyph false) ds ++ rest) true star (e ∙ ap (λ u. u ++ rest) w))
+        (digit_no_star d l.digits.below.0))
+  width_star star less text rest (Some (Fetched number)) h o e =
+      let none = no_number number h.numbering in
+      let digits = star_digits number h.digits h.digits_are h.numbering in
+      (ap (λ k. Some (Fetched k)) (sym none), tail_at t start 42 rest (e ∙ ap (λ u. u ++ rest) (h.whole ∙ ap (λ u. 42 ∷ u) digits)))
+
+  -- a number
+  pub width_given : (result : Option (ℕ × ℕ)) → start < length t → is_first_digit byte_here ≡ true → DigitsAre t (start + 1) (byte_here - 48) result
+      → WidthIs t start (as_width result)
+  width_given result less first h text rest None w o e =
+      absurd (no_first is_width byte_here (drop (start + 1) t) rest o (sym (drop_more t start 0 less) ∙ e ∙ ap (λ u. u ++ rest) w)
+      (is_digit_too byte_here first)) where
+        is_digit_too : (other : ℕ) → is_first_digit other ≡ true → is_width other ≡ true
+        is_digit_too other f = let digit : is_digit other ≡ true = grind (arith, nat_tests) in rw digit refl
+  width_given result less first h text rest (Some (Fetched number)) w o e =
+      let no : false ≡ true = tested is_first_digit t start 42 (w.digits ++ rest) true first (e ∙ ap (λ u. u ++ rest) w.whole) in cc
+  width_given result less first h text rest (Some (Given n)) w o e = go w.numeral.0 w.numeral.1 w.numeral.2 where
+    go : (ds : List ℕ) → AreLeastDigits 10 1 n ds → text ≡ map (digit_glyph false) ds
+        → IsSomeAnd (as_width result) (λ front. (amount_of front.0 ≡ Some (Given n)) × (drop front.1 t ≡ rest))
+    go [] l s = absurd (omega (arith, l.enough))
+    go (d ∷ ds) l s =
+        let there = e ∙ ap (λ u. u ++ rest) s in
+        let low = l.digits.below.0 in
+        let head : byte_here - 48 ≡ d = ap (λ b. b - 48) (head_at t start (digit_glyph false d) (map (digit_glyph false) ds ++ rest) there)
+        ∙ (digit_is d low).1 in
+        let value : number_from_digits_after 10 (byte_here - 48) ds ≡ n = ap (λ k. number_from_digits_after 10 k ds) head ∙ number_is n d ds l in
+        given_by result n value (h ds rest l.digits.below.1 (outside_digit rest o) (omega (arith, value, w.within))
+        (tail_at t start (digit_glyph false d) (map (digit_glyph false) ds ++ rest) there)) where
+          number_is : (n d : ℕ) (ds : List ℕ) → AreLeastDigits 10 1 n (d ∷ ds) → number_from_digits_after 10 d ds ≡ n
+          number_is n d ds l = omega (arith, number_after-place_sum 10 d ds, l.digits.sum)
+
+          given_by : (result : Option (ℕ × ℕ)) (n : ℕ) {m : ℕ} → m ≡ n → IsSomeAnd result (λ front. (front.0 ≡ m) × (drop front.1 t ≡ rest))
+              → IsSomeAnd (as_width result) (λ front. (amount_of front.0 ≡ Some (Given n)) × (drop front.1 t ≡ rest))
+          given_by None n v g = g
+          given_by (Some front) n v g = (ap (λ k. Some (Given k)) (g.0 ∙ v), g.1)
+
+  -- no precision
+  pub precision_none : (byte_here == 46) ≡ false → PrecisionIs t start (Some (None, start))
+  precision_none point text rest None h o e = (refl, e ∙ ap (λ u. u ++ rest) h)
+  precision_none point text rest (Some (Given n)) h o e =
+      let no : true ≡ false = tested (λ b. b == 46) t start 46 (map (digit_glyph false) h.0.0 ++ rest) false point (e ∙ ap (λ u. u ++ rest) h.0.2) in cc
+  precision_none point text rest (Some (Fetched number)) h o e =
+      let no : true ≡ false = tested (λ b. b == 46) t start 46 (h.0 ++ rest) false point (e ∙ ap (λ u. u ++ rest) h.2) in cc
+
+  -- a point, and what comes after it
+  pub precision_given : (result : Option (OpaqueAmount × ℕ)) → start < length t → (byte_here == 46) ≡ true → IsAfterPoint t (start + 1) result
+      → PrecisionIs t start (as_precision result)
+  precision_given result less point h text rest precision p o e = go precision p where
+    is : byte_here ≡ 46
+    is = eqb-true byte_here 46 point
+
+    some_by : (result : Option (OpaqueAmount × ℕ)) (precision : Option Amount)
+        → IsSomeAnd result (λ front. (amount_of (Some front.0) ≡ precision) × (drop front.1 t ≡ rest))
+        → IsSomeAnd (as_precision result) (λ front. (amount_of front.0 ≡ precision) × (drop front.1 t ≡ rest))
+    some_by None precision g = g
+    some_by (Some front) precision g = g
+
+    split : (more : Text) → text ≡ 46 ∷ more → drop (start + 1) t ≡ more ++ rest
+    split more w = tail_at t start 46 (more ++ rest) (e ∙ ap (λ u. u ++ rest) w)
+
+    go : (precision : Option Amount) → SpellsPosixPrecision text None precision
+        → IsSomeAnd (as_precision result) (λ front. (amount_of front.0 ≡ precision) × (drop front.1 t ≡ rest))
+    go None p = absurd (no_first is_precision byte_here (drop (start + 1) t) rest o (sym (drop_more t start 0 less) ∙ e ∙ ap (λ u. u ++ rest) p)
+        (ap is_precision is))
+    go (Some (Given n)) p =
+        some_by result (Some (Given n))
+        (h (map (digit_glyph false) p.0.0) rest (Some (Given n)) ((p.0.0, p.0.1, refl), p.1) o (split (map (digit_glyph false) p.0.0) p.0.2))
+    go (Some (Fetched number)) p = some_by result (Some (Fetched number)) (h p.0 rest (Some (Fetched number)) (p.0, p.1, refl) o (split p.0 p.2))
+
+  point_tail : (a b : Text) → 46 ∷ a ≡ 46 ∷ b → a ≡ b
+  point_tail a b e = cc
+
+  pub point_star : (byte_here == 42) ≡ true → start < length t → IsAfterPoint t start (Some (amounts.Star, start + 1))
+  point_star star less text rest None h o e = cc
+  point_star star less text rest (Some (Given n)) h o e = go h.0.0 h.0.1 (point_tail _ _ h.0.2) where
+    is : byte_here ≡ 42
+    is = eqb-true byte_here 42 star
+
+    go : (ds : List ℕ) → AreDigits 10 n ds → text ≡ map (digit_glyph false) ds → (Some (Fetched None) ≡ Some (Given n)) × (drop (start + 1) t ≡ rest)
+    go [] l w = absurd (no_first is_precision byte_here (drop (start + 1) t) rest o (sym (drop_more t start 0 less) ∙ e ∙ ap (λ u. u ++ rest) w)
+        (ap is_precision is))
+    go (d ∷ ds) l w =
+        absurd (bool_no (tested (λ b. b == 42) t start (digit_glyph false d) (map (digit_glyph false) ds ++ rest) true star (e ∙ ap (λ u. u ++ rest) w))
+        (digit_no_star d l.below.0))
+  point_star star less text rest (Some (Fetched number)) h o e =
+      let s = h.1 in
+      let none = no_number number s.numbering in
+      let digits = star_digits number s.digits s.digits_are s.numbering in
+      (ap (λ k. Some (Fetched k)) (sym none), tail_at t start 42 rest (e ∙ ap (λ u. u ++ rest) (point_tail _ _ h.2 ∙ s.whole ∙ ap (λ u. 42 ∷ u) digits)))
+
+  pub point_given : (result : Option (ℕ × ℕ)) → (byte_here == 42) ≡ false → DigitsAre t start 0 result → IsAfterPoint t start (as_amount result)
+  point_given result star h text rest None p o e = cc
+  point_given result star h text rest (Some (Fetched number)) p o e =
+      let no : true ≡ false = tested (λ b. b == 42) t start 42 (p.1.digits ++ rest) false star (e ∙ ap (λ u. u ++ rest) (point_tail _ _ p.2 ∙ p.1.whole)) in cc
+  point_given result star h text rest (Some (Given n)) p o e =
+      let ds = p.0.0 in
+      let value : number_from_digits_after 10 0 ds ≡ n = omega (arith, number_after-place_sum 10 0 ds, p.0.1.sum) in
+      given_by result n value (h ds rest p.0.1.below (outside_precision rest o) (omega (arith, value, p.1))
+      (e ∙ ap (λ u. u ++ rest) (point_tail _ _ p.0.2))) where
+        given_by : (result : Option (ℕ × ℕ)) (n : ℕ) {m : ℕ} → m ≡ n → IsSomeAnd result (λ front. (front.0 ≡ m) × (drop front.1 t ≡ rest))
+            → IsSomeAnd (as_amount result) (λ front. (amount_of (Some front.0) ≡ Some (Given n)) × (drop front.1 t ≡ rest))
+        given_by None n v g = g
+        given_by (Some front) n v g = (ap (λ k. Some (Given k)) (g.0 ∙ v), g.1)
+
+-- modifiers
+some_letter : (modifier : Modifier) (c : ℕ) (rest : Text) → (byte : ℕ) × (more : Text) × (modifier_letters modifier ++ c ∷ rest ≡ byte ∷ more)
+some_letter modifier c rest = go (modifier_letters modifier) where
+  go : (letters : Text) → (byte : ℕ) × (more : Text) × (letters ++ c ∷ rest ≡ byte ∷ more)
+  go [] = (c, rest, refl)
+  go (letter ∷ letters) = (letter, letters ++ c ∷ rest, refl)
+
+-- the letter before a place, and what comes after it there
+abbrev MeansSecond : Text → ℕ → Modifier → Option Modifier → Modifier → ℕ → Text → Type 0
+MeansSecond t start first second modifier c rest = MatchOption second ((first ≡ modifier) × (drop start t ≡ c ∷ rest))
+    (λ two. (two ≡ modifier) × (drop (start + 1) t ≡ c ∷ rest))
+
+module _ (t : Text) (start : ℕ) (first : Modifier) where
+  alone : (modifier : Modifier) (c : ℕ) (rest : Text) → first ≡ modifier → drop start t ≡ c ∷ rest → second_modifier modifier c ≡ None
+      → MeansSecond t start first (second_modifier first (get_or t start 0)) modifier c rest
+  alone modifier c rest m e none =
+      let second : second_modifier first (get_or t start 0) ≡ None = ap (λ k. second_modifier k (get_or t start 0)) m
+      ∙ ap (second_modifier modifier) (head_at t start c rest e) ∙ none in
+      rw second (m, e)
+
+  doubled : (modifier one : Modifier) (letter c : ℕ) (rest : Text) → first ≡ one → drop start t ≡ letter ∷ (c ∷ rest)
+      → second_modifier one letter ≡ Some modifier
+      → MeansSecond t start first (second_modifier first (get_or t start 0)) modifier c rest
+  doubled modifier one letter c rest m e some =
+      let second : second_modifier first (get_or t start 0) ≡ Some modifier =
+      ap (λ k. second_modifier k (get_or t start 0)) m ∙ ap (second_modifier one) (head_at t start letter (c ∷ rest) e) ∙ some in
+      rw second (refl, tail_at t start letter (c ∷ rest) e)
+
+  same_modifier : (letter byte : ℕ) (one : Modifier) → length_modifier_of letter ≡ Some first → letter ≡ byte → length_modifier_of byte ≡ Some one → first ≡ one
+  same_modifier letter byte one f e k = let same : Some first ≡ Some one = sym f ∙ ap length_modifier_of e ∙ k in cc
+
+  goes_on : (letter : ℕ) (modifier : Modifier) (conversion : Conversion) (rest : Text) → length_modifier_of letter ≡ Some first
+      → letter ∷ drop start t ≡ modifier_letters modifier ++ conversion_letter conversion ∷ rest
+      → MeansSecond t start first (second_modifier first (get_or t start 0)) modifier (conversion_letter conversion) rest
+  goes_on letter (Integer lengths.None) conversion rest f e =
+      let same : letter ≡ conversion_letter conversion = cc in
+      let no : Some first ≡ None = sym f ∙ ap length_modifier_of same ∙ (letter_tests conversion).modifier in cc
+  goes_on letter LongDouble conversion rest f e = alone LongDouble _ rest (same_modifier letter 76 LongDouble f (cc) refl) (cc) refl
+  goes_on letter (Integer lengths.Hh) conversion rest f e =
+      doubled (Integer lengths.Hh) (Integer lengths.H) 104 _ rest (same_modifier letter 104 (Integer lengths.H) f (cc) refl) (cc) refl
+  goes_on letter (Integer lengths.H) conversion rest f e =
+      let other = (letter_tests conversion).no_h in
+      alone (Integer lengths.H) _ rest (same_modifier letter 104 (Integer lengths.H) f (cc) refl) (cc) (rw other refl)
+  goes_on letter (Integer lengths.L) conversion rest f e =
+      let other = (letter_tests conversion).no_l in
+      alone (Integer lengths.L) _ rest (same_modifier letter 108 (Integer lengths.L) f (cc) refl) (cc) (rw other refl)
+  goes_on letter (Integer lengths.Ll) conversion rest f e =
+      doubled (Integer lengths.Ll) (Integer lengths.L) 108 _ rest (same_modifier letter 108 (Integer lengths.L) f (cc) refl) (cc) refl
+  goes_on letter (Integer lengths.J) conversion rest f e = alone (Integer lengths.J) _ rest (same_modifier letter 106 (Integer lengths.J) f (cc) refl) (cc) refl
+  goes_on letter (Integer lengths.Z) conversion rest f e = alone (Integer lengths.Z) _ rest (same_modifier letter 122 (Integer lengths.Z) f (cc) refl) (cc) refl
+  goes_on letter (Integer lengths.T) conversion rest f e = alone (Integer lengths.T) _ rest (same_modifier letter 116 (Integer lengths.T) f (cc) refl) (cc) refl
+
+  pub second_read : (two : Modifier) → second_modifier first (get_or t start 0) ≡ Some two → ModifierGoesOn t start first two (start + 1)
+  second_read two s letter modifier conversion rest f e =
+      subst (λ o. MeansSecond t start first o modifier (conversion_letter conversion) rest) s (goes_on letter modifier conversion rest f e)
+
+  pub first_read : second_modifier first (get_or t start 0) ≡ None → ModifierGoesOn t start first first start
+  first_read s letter modifier conversion rest f e =
+      subst (λ o. MeansSecond t start first o modifier (conversion_letter conversion) rest) s (goes_on letter modifier conversion rest f e)
+
+  pub first_at_end : length t ≤ start → ModifierGoesOn t start first first start
+  first_at_end over = first_read (none first) where
+    nothing : get_or t start 0 ≡ 0
+    nothing = get_or-eq_default t 0 over
+
+    zero : (first : Modifier) → second_modifier first 0 ≡ None
+    zero (Integer lengths.H) = refl
+    zero (Integer _) = refl
+    zero LongDouble = refl
+
+    none : (first : Modifier) → second_modifier first (get_or t start 0) ≡ None
+    none first = ap (second_modifier first) nothing ∙ zero first
+
+module _ (t : Text) (start : ℕ) where
+  pub modifier_none : length_modifier_of (get_or t start 0) ≡ None → ModifierIs t start (Integer lengths.None) start
+  modifier_none f modifier conversion rest e = go modifier e where
+    no : (letter : ℕ) (more : Text) (one : Modifier) → drop start t ≡ letter ∷ more → length_modifier_of letter ≡ Some one → ⊥
+    no letter more one e k = let none : None ≡ Some one = sym f ∙ ap length_modifier_of (head_at t start letter more e) ∙ k in cc
+
+    go : (modifier : Modifier) → drop start t ≡ modifier_letters modifier ++ conversion_letter conversion ∷ rest
+        → (Integer lengths.None ≡ modifier) × (drop start t ≡ conversion_letter conversion ∷ rest)
+    go (Integer lengths.None) e = (refl, e)
+    go LongDouble e = absurd (no 76 _ LongDouble e refl)
+    go (Integer lengths.Hh) e = absurd (no 104 _ (Integer lengths.H) e refl)
+    go (Integer lengths.H) e = absurd (no 104 _ (Integer lengths.H) e refl)
+    go (Integer lengths.L) e = absurd (no 108 _ (Integer lengths.L) e refl)
+    go (Integer lengths.Ll) e = absurd (no 108 _ (Integer lengths.L) e refl)
+    go (Integer lengths.J) e = absurd (no 106 _ (Integer lengths.J) e refl)
+    go (Integer lengths.Z) e = absurd (no 122 _ (Integer lengths.Z) e refl)
+    go (Integer lengths.T) e = absurd (no 116 _ (Integer lengths.T) e refl)
+
+  pub modifier_at_end : length t ≤ start → ModifierIs t start (Integer lengths.None) start
+  modifier_at_end over modifier conversion rest e =
+      let s = some_letter modifier (conversion_letter conversion) rest in
+      absurd (nothing_at t start s.0 s.1 over (e ∙ s.2))
+
+  pub modifier_some : (first result : Modifier) (stop : ℕ) → start < length t → length_modifier_of (get_or t start 0) ≡ Some first
+      → ModifierGoesOn t (start + 1) first result stop
+      → ModifierIs t start result stop
+  modifier_some first result stop less f h modifier conversion rest e = h (get_or t start 0) modifier conversion rest f (sym (drop_more t start 0 less) ∙ e)
+
+  pub conversion_none : length t ≤ start → ConversionIs t start None
+  conversion_none over conversion rest e = absurd (nothing_at t start (conversion_letter conversion) rest over e)
+
+  pub conversion_read : (result : Option Conversion) → result ≡ conversion_of (get_or t start 0) → ConversionIs t start result
+  conversion_read result r conversion rest e = r ∙ ap conversion_of (head_at t start (conversion_letter conversion) rest e)
+      ∙ (letter_tests conversion).conversion_is
+
+-- a whole specification
+module _ (t : Text) (start : ℕ) (set : FlagSet) (a : ℕ) (f : FlagsAre t (start + 1) set a) where
+  -- what each part leaves of the text
+  module _ (text rest : Text) (s : PosixSpecification) (spelled : SpellsPosix text s) (unnumbered : s.position ≡ None) (e : drop start t ≡ text ++ rest) where
+    parts : HasParts text s
+    parts = parts_of text s spelled unnumbered
+
+    abbrev ending : Text
+    ending = modifier_letters s.modifier ++ conversion_letter s.conversion ∷ rest
+
+    behind_percent : drop (start + 1) t ≡ map flag_byte parts.flags ++ (parts.width ++ (parts.precision ++ ending))
+    behind_percent = tail_at t start 37 (map flag_byte parts.flags ++ (parts.width ++ (parts.precision ++ ending)))
+        (e ∙ ap (λ u. u ++ rest) parts.whole
+        ∙ ap (λ u. 37 ∷ u) (longer (map flag_byte parts.flags) parts.width parts.precision (modifier_letters s.modifier) (conversion_letter s.conversion) rest))
+
+    flags_there : (set ≡ flag_set parts.flags) × (drop a t ≡ parts.width ++ (parts.precision ++ ending))
+    flags_there = f parts.flags (parts.width ++ (parts.precision ++ ending)) (after_flags_outside text s parts rest) behind_percent
+
+    width_there : (result : Option (Option OpaqueAmount × ℕ)) → WidthIs t a result
+        → IsSomeAnd result (λ front. (amount_of front.0 ≡ s.width) × (drop front.1 t ≡ parts.precision ++ ending))
+    width_there result h = h parts.width (parts.precision ++ ending) s.width parts.width_is (after_width_outside text s parts rest) flags_there.1
+
+    module _ (width : Option OpaqueAmount) (b : ℕ) (w : WidthIs t a (Some (width, b))) where
+      precision_there : (result : Option (Option OpaqueAmount × ℕ)) → PrecisionIs t b result
+          → IsSomeAnd result (λ front. (amount_of front.0 ≡ s.precision) × (drop front.1 t ≡ ending))
+      precision_there result h = h parts.precision ending s.precision parts.precision_is (after_precision_outside s rest) (width_there (Some (width, b)) w).1
+
+      module _ (precision : Option OpaqueAmount) (c : ℕ) (p : PrecisionIs t b (Some (precision, c))) (modifier : Modifier) (d : ℕ)
+          (m : ModifierIs t c modifier d) where
+        modifier_there : (modifier ≡ s.modifier) × (drop d t ≡ conversion_letter s.conversion ∷ rest)
+        modifier_there = m s.modifier s.conversion rest (precision_there (Some (precision, c)) p).1
+
+        conversion_there : (result : Option Conversion) → ConversionIs t d result → result ≡ Some s.conversion
+        conversion_there result h = h s.conversion rest modifier_there.1
+
+        all_there : (conversion : Conversion) → ConversionIs t d (Some conversion)
+            → (parts_of_opaque (record { flags = set; width = width; precision = precision; modifier = modifier; conversion = conversion }) ≡ s)
+            × (drop (d + 1) t ≡ rest)
+        all_there conversion h =
+            let same : Some conversion ≡ Some s.conversion = conversion_there (Some conversion) h in
+            let is : conversion ≡ s.conversion = cc in (
+              same_fields _ s (sym unnumbered) (flags_there.0 ∙ sym parts.set_is) (width_there (Some (width, b)) w).0
+                  (precision_there (Some (precision, c)) p).0 modifier_there.0 is,
+              tail_at t d (conversion_letter s.conversion) rest modifier_there.1,
+            )
+
+  pub no_width_there : WidthIs t a None → SpecificationIs t start None
+  no_width_there w text rest s spelled unnumbered e = width_there text rest s spelled unnumbered e None w
+
+  module _ (width : Option OpaqueAmount) (b : ℕ) (w : WidthIs t a (Some (width, b))) where
+    pub no_precision_there : PrecisionIs t b None → SpecificationIs t start None
+    no_precision_there p text rest s spelled unnumbered e = precision_there text rest s spelled unnumbered e width b w None p
+
+    module _ (precision : Option OpaqueAmount) (c : ℕ) (p : PrecisionIs t b (Some (precision, c))) (modifier : Modifier) (d : ℕ)
+        (m : ModifierIs t c modifier d) where
+      pub no_conversion_there : ConversionIs t d None → SpecificationIs t start None
+      no_conversion_there h text rest s spelled unnumbered e =
+          let no : None ≡ Some s.conversion = conversion_there text rest s spelled unnumbered e width b w precision c p modifier d m None h in cc
+
+      pub specification_there : (conversion : Conversion) → ConversionIs t d (Some conversion)
+          → SpecificationIs t start (Some (record { flags = set; width = width; precision = precision; modifier = modifier; conversion = conversion }, d + 1))
+      specification_there conversion h text rest s spelled unnumbered e =
+          all_there text rest s spelled unnumbered e width b w precision c p modifier d m conversion h

@@ -1,0 +1,225 @@
+-- A table of numbered arguments.
+use Rattle.std.proofs.Common.{◌≡◌, ◌≢◌, ℕ, zero, suc, ◌+◌, ◌-◌, ◌<◌, ◌≤◌, max, Bool, true, false, List, [], ◌∷◌, ◌++◌, length, get_or, set, refl, sym, ap, ◌∙◌, arith, subst, inl, inr, Ok, Err, Result}
+use Rattle.std.specs.Prelude.{Option, Some, None, ◌⊎◌, unwrap_or, if◌then◌else◌, ◌==◌, MatchBool, MatchResult, is_some}
+use Rattle.std.specs.List.{AllByRecursion}
+use Rattle.std.proofs.lemmas.Bool.{cases_eq, eqb-true, ne_eqb}
+use Rattle.std.proofs.lemmas.Bool.Decides.{nat_tests}
+use Rattle.std.proofs.lemmas.List.{get_or-set_other, get_or-set_same, length-set}
+use Rattle.pf_values.specs.declared.models.Model.{Model}
+use Rattle.pf_values.specs.meaning.Text.{Text}
+use Rattle.pf_posix.specs.declared.fetches.Fetch.{Fetch}
+use Rattle.pf_values.specs.declared.refusals.RefusalKind.{RefusalKind}
+use Rattle.pf_values.specs.declared.refusals.RefusalKind.TheVariants.{MissingArgument, TwoTypes}
+use Rattle.pf_text.specs.declared.refusals.Refusal.{Refusal}
+use Rattle.pf_posix.specs.declared.partial_specification.Numbering.TheVariants.{Undecided, Numbered}
+use Rattle.pf_posix.specs.declared.tables.Table.{Table}
+use Rattle.pf_posix.specs.declared.tables.TheConstants.{ROOM}
+use Rattle.pf_posix.specs.declared.types.ArgumentType.{ArgumentType}
+use Rattle.pf_posix.specs.Types.{int_type}
+use Rattle.pf_posix.specs.TypeNumbers.{number_of_type}
+use Rattle.pf_posix.specs.Readings.{Fault, Fetches, FetchTrace, Refused, Takes, Whole, conflicts, greatest, is_number, listed, fetch_trace, verdict_after, verdict, wanted_at}
+use Rattle.pf_posix.specs.Refusals.{Follows, HasGap, IsOneType, IsPosixRefusedAt, numbering_by}
+use Rattle.pf_posix.specs.Tabled.{IsTabled, TableHolds}
+use Rattle.pf_posix.specs.Types.{AreNumbered, IsFetched, fetch}
+use Rattle.pf_posix.specs.Items.{HasArguments}
+use Rattle.pf_posix.proofs.Agreeing.{all_push, conflicts_no, conflicts_not, one_type_push, same_type}
+use Rattle.pf_posix.proofs.Bounds.{reading_bounded}
+use Rattle.pf_posix.proofs.Soundness.{Tells, told}
+use Rattle.pf_posix.proofs.Telling.{accepted, missing, seen_within, told_taken}
+use Rattle.pf_posix.proofs.TypeLists.{fetched_none, fetched_some, gap_is, length_listed, numbered_types, wanted_one}
+use Rattle.pf_posix.proofs.Within.{IsBounded, IsWithin}
+
+wanted_push : (place : ℕ) (seen : List Fetch) (f : Fetch) (type : ArgumentType) → wanted_at place seen ≡ Some type → wanted_at place (seen ++ f ∷ []) ≡ Some type
+wanted_push place [] f type e = cc
+wanted_push place (g ∷ seen) f type e = go (is_number g.number (place + 1)) e (wanted_push place seen f type) where
+  go : (b : Bool) → (if b then Some g.wanted else wanted_at place seen) ≡ Some type → (wanted_at place seen ≡ Some type → wanted_at place (seen ++ f ∷ []) ≡ Some type)
+      → (if b then Some g.wanted else wanted_at place (seen ++ f ∷ [])) ≡ Some type
+  go true e rest = e
+  go false e rest = rest e
+
+wanted_new : (place : ℕ) (seen : List Fetch) (f : Fetch) → wanted_at place seen ≡ None → wanted_at place (seen ++ f ∷ []) ≡ (if is_number f.number (place + 1) then Some f.wanted else None)
+wanted_new place [] f e = refl
+wanted_new place (g ∷ seen) f e = go (is_number g.number (place + 1)) e (wanted_new place seen f) where
+  go : (b : Bool) → (if b then Some g.wanted else wanted_at place seen) ≡ None → (wanted_at place seen ≡ None → wanted_at place (seen ++ f ∷ []) ≡ (if is_number f.number (place + 1) then Some f.wanted else None))
+      → (if b then Some g.wanted else wanted_at place (seen ++ f ∷ [])) ≡ (if is_number f.number (place + 1) then Some f.wanted else None)
+  go true e rest = cc
+  go false e rest = rest e
+
+wanted_other : (place : ℕ) (seen : List Fetch) (f : Fetch) → is_number f.number (place + 1) ≡ false → wanted_at place (seen ++ f ∷ []) ≡ wanted_at place seen
+wanted_other place seen f other = go (wanted_at place seen) refl where
+  go : (o : Option ArgumentType) → wanted_at place seen ≡ o → wanted_at place (seen ++ f ∷ []) ≡ wanted_at place seen
+  go None e = wanted_new place seen f e ∙ rw other (sym e)
+  go (Some type) e = wanted_push place seen f type e ∙ sym e
+
+greatest_push : (seen : List Fetch) (f : Fetch) → greatest (seen ++ f ∷ []) ≡ max (greatest seen) (unwrap_or f.number 0)
+greatest_push [] f = omega arith
+greatest_push (g ∷ seen) f = let rest = greatest_push seen f in omega (arith, rest)
+
+-- what wasn't fetched doesn't conflict
+none_same : (place : ℕ) (seen : List Fetch) (f : Fetch) → f.number ≡ Some (place + 1) → ¬ IsFetched place seen → AllByRecursion (IsOneType f) seen
+none_same place [] f n none = tt
+none_same place (g ∷ seen) f n none = ((λ m a b. let same : Some m ≡ Some (place + 1) = sym a ∙ n in absurd (none (inl (b ∙ same)))), none_same place seen f n (λ h. none (inr h)))
+
+-- and what was fetched with this type doesn't
+all_same : (place : ℕ) (all seen : List Fetch) (f : Fetch) → f.number ≡ Some (place + 1) → wanted_at place all ≡ Some f.wanted → AllByRecursion (λ g. AllByRecursion (IsOneType g) all) seen → AllByRecursion (IsOneType f) seen
+all_same place all [] f n e h = tt
+all_same place all (g ∷ seen) f n e h = ((λ m a b. let same : Some m ≡ Some (place + 1) = sym a ∙ n in wanted_one place all g h.0 (b ∙ same) f.wanted e), all_same place all seen f n e h.1)
+
+module _ (table : Table) (seen : List Fetch) (h : TableHolds table seen) (place : ℕ) (wanted : ArgumentType) (room : place < ROOM) where
+  abbrev f : Fetch
+  f = fetch (Some (place + 1)) wanted
+
+  count_is : max table.count (place + 1) ≡ greatest (seen ++ f ∷ [])
+  count_is = omega (arith, h.count, greatest_push seen f)
+
+  few : max table.count (place + 1) ≤ ROOM
+  few = omega (arith, h.room, room)
+
+  -- the argument has its type already
+  module _ (e : wanted_at place seen ≡ Some wanted) where
+    clear : AllByRecursion (IsOneType f) seen
+    clear = all_same place seen seen f refl e h.one_type
+
+    pub kept_again : (conflicts seen f ≡ false) × TableHolds (record table { count = max table.count (place + 1) }) (seen ++ f ∷ [])
+    kept_again = (conflicts_not seen f clear, record { full = h.full; types = λ p less. h.types p less ∙ at p (cases_eq p place); count = count_is; room = few; one_type = one_type_push seen f h.one_type clear }) where
+      at : (p : ℕ) → ((p ≡ place) ⊎ (p ≢ place)) → wanted_at p seen ≡ wanted_at p (seen ++ f ∷ [])
+      at p (inl q) = let here : wanted_at p seen ≡ Some wanted = ap (λ k. wanted_at k seen) q ∙ e in here ∙ sym (wanted_push p seen f wanted here)
+      at p (inr q) = let other = ne_eqb (place + 1) (p + 1) (λ same. q (omega (arith, same))) in sym (wanted_other p seen f other)
+
+  -- it has another one
+  pub other_type : (there : ArgumentType) → wanted_at place seen ≡ Some there → there ≢ wanted → conflicts seen f ≡ true
+  other_type there e other = go (conflicts seen f) refl where
+    go : (b : Bool) → conflicts seen f ≡ b → b ≡ true
+    go true c = refl
+    go false c = absurd (other (wanted_one place seen f (conflicts_no seen f c) refl there e))
+
+  -- it has none yet
+  module _ (e : wanted_at place seen ≡ None) where
+    unlike : AllByRecursion (IsOneType f) seen
+    unlike = none_same place seen f refl (fetched_none place seen e)
+
+    pub kept_new : (conflicts seen f ≡ false) × TableHolds (record { types = set table.types place (Some wanted); count = max table.count (place + 1) }) (seen ++ f ∷ [])
+    kept_new = (conflicts_not seen f unlike, record { full = length-set table.types place (Some wanted) ∙ h.full; types = λ p less. at p less (cases_eq p place); count = count_is; room = few; one_type = one_type_push seen f h.one_type unlike }) where
+      at : (p : ℕ) → p < ROOM → ((p ≡ place) ⊎ (p ≢ place)) → get_or (set table.types place (Some wanted)) p None ≡ wanted_at p (seen ++ f ∷ [])
+      at p less (inl q) =
+          let yes : is_number (Some (place + 1)) (place + 1) ≡ true = grind (arith, nat_tests) in
+          ap (λ k. get_or (set table.types place (Some wanted)) k None) q ∙ get_or-set_same table.types place (Some wanted) None (omega (arith, h.full, room))
+          ∙ sym (ap (λ k. wanted_at k (seen ++ f ∷ [])) q ∙ wanted_new place seen f e ∙ rw yes refl)
+      at p less (inr q) =
+          let other = ne_eqb (place + 1) (p + 1) (λ same. q (omega (arith, same))) in
+          get_or-set_other table.types place p (Some wanted) None q ∙ h.types p less ∙ sym (wanted_other p seen f other)
+
+  -- an argument that is there with a type
+  pub told_some : (there : ArgumentType) (a b : ℕ) → get_or table.types place None ≡ Some there → a ≡ number_of_type there → b ≡ number_of_type wanted
+      → MatchBool (a == b) ((conflicts seen f ≡ false) × TableHolds (record table { count = max table.count (place + 1) }) (seen ++ f ∷ [])) (conflicts seen f ≡ true)
+  told_some there a b e x y = go (a == b) refl where
+    here : wanted_at place seen ≡ Some there
+    here = sym (h.types place room) ∙ e
+
+    go : (c : Bool) → (a == b) ≡ c → MatchBool c ((conflicts seen f ≡ false) × TableHolds (record table { count = max table.count (place + 1) }) (seen ++ f ∷ [])) (conflicts seen f ≡ true)
+    go true c = kept_again (here ∙ ap Some (same_type there wanted (sym x ∙ eqb-true a b c ∙ y)))
+    go false c = other_type there here (λ same. eqb_no a b c (x ∙ ap number_of_type same ∙ sym y)) where
+      eqb_no : (a b : ℕ) → (a == b) ≡ false → a ≢ b
+      eqb_no a b e = grind (arith, nat_tests)
+
+pub listed_push : (seen : List Fetch) (from n : ℕ) → listed seen from (suc n) ≡ listed seen from n ++ unwrap_or (wanted_at (from + n) seen) int_type ∷ []
+listed_push seen from zero = let same : from ≡ from + 0 = omega arith in ap (λ k. unwrap_or (wanted_at k seen) int_type ∷ []) same
+listed_push seen from (suc n) =
+    let same : from + 1 + n ≡ from + suc n = omega arith in
+    ap (λ l. unwrap_or (wanted_at from seen) int_type ∷ l) (listed_push seen (from + 1) n ∙ ap (λ k. listed seen (from + 1) n ++ unwrap_or (wanted_at k seen) int_type ∷ []) same)
+
+pub listed_more : (table : Table) (seen : List Fetch) (place : ℕ) → TableHolds table seen → place < ROOM → listed seen 0 place ++ unwrap_or (get_or table.types place None) int_type ∷ [] ≡ listed seen 0 (place + 1)
+listed_more table seen place h less =
+    let next : suc place ≡ place + 1 = omega arith in
+    let same : 0 + place ≡ place = omega arith in
+    ap (λ o. listed seen 0 place ++ unwrap_or o int_type ∷ []) (h.types place less) ∙ ap (λ k. listed seen 0 place ++ unwrap_or (wanted_at k seen) int_type ∷ []) (sym same) ∙ sym (listed_push seen 0 place) ∙ ap (listed seen 0) next
+
+pub length_of_listed : (seen : List Fetch) (place : ℕ) → place ≡ length (listed seen 0 place)
+length_of_listed seen place = sym (length_listed seen 0 place)
+
+-- a numbered format, read one argument after another
+pub record IsByNumber (model : Model) (t : Text) (seen : List Fetch) (f : Fetch) (at : ℕ) (left : FetchTrace) : Type 0 where
+  pub verdict_is : verdict model t ≡ verdict_after seen (Fetches f at left)
+  pub within : IsWithin f
+  pub number : numbering_by f.number ≡ Numbered
+  pub numbered : AllByRecursion (λ g. numbering_by g.number ≡ Numbered) seen
+  pub bounded : IsBounded Numbered left
+
+pub first_by_number : (model : Model) (t : Text) (f : Fetch) (at : ℕ) (left : FetchTrace) → numbering_by f.number ≡ Numbered → fetch_trace model t ≡ Fetches f at left → IsByNumber model t [] f at left
+first_by_number model t f at left n e =
+    let bounded = subst (IsBounded Undecided) e (reading_bounded model t) in
+    record { verdict_is = ap (verdict_after []) e; within = bounded.0; number = n; numbered = tt; bounded = subst (λ s. IsBounded s left) n bounded.2 }
+
+module _ (model : Model) (t : Text) (seen : List Fetch) (f : Fetch) (at : ℕ) (left : FetchTrace) (h : IsByNumber model t seen f at left) where
+  pub conflict_refused : conflicts seen f ≡ true → IsPosixRefusedAt model t TwoTypes at
+  conflict_refused c = let e : verdict model t ≡ Refused TwoTypes at = h.verdict_is ∙ rw c refl in subst (Tells model t) e (told model t)
+
+  module _ (c : conflicts seen f ≡ false) where
+    goes_on : verdict model t ≡ verdict_after (seen ++ f ∷ []) left
+    goes_on = h.verdict_is ∙ rw c refl
+
+    pub all_numbered : AllByRecursion (λ g. numbering_by g.number ≡ Numbered) (seen ++ f ∷ [])
+    all_numbered = all_push _ seen f h.numbered h.number
+
+    pub next_by_number : (g : Fetch) (place : ℕ) (rest : FetchTrace) → left ≡ Fetches g place rest → IsByNumber model t (seen ++ f ∷ []) g place rest
+    next_by_number g place rest e =
+        let bounded = subst (IsBounded Numbered) e h.bounded in
+        let n = follows g.number bounded.1 in
+        record { verdict_is = goes_on ∙ ap (verdict_after (seen ++ f ∷ [])) e; within = bounded.0; number = n; numbered = all_numbered; bounded = subst (λ s. IsBounded s rest) n bounded.2 } where
+          follows : (o : Option ℕ) → Follows Numbered (Some (numbering_by o)) → numbering_by o ≡ Numbered
+          follows o (inl e) = cc
+          follows o (inr e) = sym e
+
+    pub end_by_number : left ≡ Whole → verdict model t ≡ Takes (seen ++ f ∷ [])
+    end_by_number e = goes_on ∙ ap (verdict_after (seen ++ f ∷ [])) e
+
+    pub refused_by_number : (kind : RefusalKind) (place : ℕ) → left ≡ Fault kind place → IsPosixRefusedAt model t kind place
+    refused_by_number kind place e = subst (Tells model t) (goes_on ∙ ap (verdict_after (seen ++ f ∷ [])) e) (told model t)
+
+pub same_fetch : (f : Fetch) (m : ℕ) → numbering_by f.number ≡ Numbered → IsWithin f → m ≡ unwrap_or f.number 1 → fetch (Some (m - 1 + 1)) f.wanted ≡ f
+same_fetch f m n w e = go f.number refl n where
+  go : (o : Option ℕ) → f.number ≡ o → numbering_by o ≡ Numbered → fetch (Some (m - 1 + 1)) f.wanted ≡ f
+  go None x n = cc
+  go (Some k) x n =
+      let value : m ≡ k = e ∙ ap (λ o. unwrap_or o 1) x in
+      let some = (w k x).0 in
+      let same : m - 1 + 1 ≡ k = omega (arith, value, some) in
+      ap (λ j. fetch (Some j) f.wanted) same ∙ ap (λ o. fetch o f.wanted) (sym x)
+
+pub numbered_of : (o : Option ℕ) → is_some o ≡ true → numbering_by o ≡ Numbered
+numbered_of None e = cc
+numbered_of (Some n) e = refl
+
+-- the end of a text
+pub finished : (model : Model) (t : Text) (table : Table) (seen : List Fetch) (at : ℕ) (r : Result (Unit {0}) Refusal) → verdict model t ≡ Takes seen → AllByRecursion (λ g. numbering_by g.number ≡ Numbered) seen → TableHolds table seen → at ≡ length t
+    → MatchResult r (λ _. (place : ℕ) → place < table.count → IsFetched place seen) (λ refusal. (refusal ≡ record { kind = MissingArgument; at = at }) × HasGap seen)
+    → MatchResult r (λ _. IsTabled model t table) (λ refusal. IsPosixRefusedAt model t refusal.kind refusal.at)
+finished model t table seen at (Ok done) v n k e h = record { seen = seen; verdict_is = v; kept = k; numbered = n; all = h }
+finished model t table seen at (Err refusal) v n k e h =
+    subst (λ r. IsPosixRefusedAt model t r.kind r.at) (sym h.0) (subst (IsPosixRefusedAt model t MissingArgument) (sym e) (missing model t seen (told_taken model t seen v) h.1))
+
+pub tabled_types : (model : Model) (t : Text) (table : Table) (h : IsTabled model t table) → HasArguments model t (listed h.seen 0 table.count)
+tabled_types model t table h =
+    let taken = told_taken model t h.seen h.verdict_is in
+    let count = h.kept.count in
+    accepted model t h.seen taken (listed h.seen 0 table.count) (inr (subst (λ n. AreNumbered h.seen (listed h.seen 0 n)) (sym count) (numbered_types h.seen taken.agreed (seen_within model t h.seen taken) h.numbered (λ p less. h.all p (omega (arith, less, count))))))
+
+-- a place that is empty, and one that isn't
+module _ (table : Table) (seen : List Fetch) (h : TableHolds table seen) (place : ℕ) (room : place < ROOM) where
+  at_place : get_or table.types place None ≡ wanted_at place seen
+  at_place = h.types place room
+
+  pub none_there : place < table.count → is_some (get_or table.types place None) ≡ false → HasGap seen
+  none_there less e = gap_is seen place (omega (arith, less, h.count)) (fetched_none place seen (sym at_place ∙ none_of _ e)) where
+    none_of : (o : Option ArgumentType) → is_some o ≡ false → o ≡ None
+    none_of None e = refl
+    none_of (Some type) e = cc
+
+  pub one_more : ((p : ℕ) → p < place → IsFetched p seen) → is_some (get_or table.types place None) ≡ true → (p : ℕ) → p < place + 1 → IsFetched p seen
+  one_more all some p less = elim (cases_eq p place) [
+    | inl e ↦ subst (λ k. IsFetched k seen) (sym e) (here (wanted_at place seen) refl)
+    | inr e ↦ all p (omega arith)
+  ] where
+    here : (o : Option ArgumentType) → wanted_at place seen ≡ o → IsFetched place seen
+    here None e = let no : is_some (get_or table.types place None) ≡ false = ap is_some (at_place ∙ e) in cc
+    here (Some type) e = fetched_some place seen type e

@@ -1,0 +1,5 @@
+use Rattle.pf_posix.proofs.UnnumberedEnds.{judged}
+use Rattle.pf_posix.proofs.laws.judged_unnumbered.Goals as goal
+
+pub returns : goal.returns
+returns c = judged

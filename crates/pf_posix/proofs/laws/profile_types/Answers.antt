@@ -1,0 +1,5 @@
+use Rattle.pf_posix.proofs.Profile.{profile_types}
+use Rattle.pf_posix.proofs.laws.profile_types.Goals as goal
+
+pub returns : goal.returns
+returns c = profile_types

@@ -1,0 +1,5 @@
+use Rattle.pf_posix.proofs.Profile.{profile_fits}
+use Rattle.pf_posix.proofs.laws.same_fits.Goals as goal
+
+pub returns : goal.returns
+returns c = profile_fits

@@ -1,0 +1,5 @@
+use Rattle.pf_posix.proofs.EachOnce.{each_type}
+use Rattle.pf_posix.proofs.laws.table_has_each_once.Goals as goal
+
+pub returns : goal.returns
+returns c = each_type

@@ -1,0 +1,26 @@
+-- The first stretch of a text from a place on, and the opaque directive after it.
+use Rattle.std.specs.Prelude.{◌≡◌, ℕ, ◌-◌, ◌<◌, ◌≤◌, drop, take, length, None, IsSome, IsSomeAnd}
+use Rattle.pf_values.specs.meaning.Items.{Reads}
+use Rattle.pf_values.specs.meaning.Text.{Text}
+use Rattle.pf_posix.specs.declared.stretches.Stretch.{Stretch}
+use Rattle.pf_posix.specs.Opaque.{SpellsOpaque}
+use Rattle.pf_posix.specs.OpaqueParts.{parts_of_opaque}
+use Rattle.pf_posix.specs.Stretches.{Stretches, Last, Before, ReadsWhole}
+
+-- The stretch begins the text from this place on, which is read so. Its items are read from its bytes;
+-- the last stretch ends the text, and each other one ends where its opaque directive begins.
+abbrev pub IsHead : Text → ℕ → Stretches → Stretch → Type 0
+IsHead t from (Last items) stretch = (stretch.opaque ≡ None) × (stretch.end ≡ length t)
+    × Reads (take (stretch.end - from) (drop from t)) items
+IsHead t from (Before items s rest) stretch =
+    IsSomeAnd stretch.opaque (λ directive. parts_of_opaque directive ≡ s)
+    × Reads (take (stretch.end - from) (drop from t)) items
+    × SpellsOpaque (take (stretch.after - stretch.end) (drop stretch.end t)) s
+    × ReadsWhole (drop stretch.after t) rest
+
+-- the places of a stretch are in the text, and a directive has some bytes
+pub record IsPlaced (t : Text) (from : ℕ) (stretch : Stretch) : Type 0 where
+  pub begins : from ≤ stretch.end
+  pub ends : stretch.end ≤ stretch.after
+  pub within : stretch.after ≤ length t
+  pub further : IsSome stretch.opaque → stretch.end < stretch.after

@@ -1,0 +1,61 @@
+-- What the laws say, and what the calls answer.
+use Rattle.std.specs.Prelude.{◌≡◌, ◌≢◌, ℕ, ◌<◌, List, [], ◌∷◌, length, slice_get, ◌⊎◌, Option, Some, None}
+use Rattle.pf_values.specs.declared.models.Model.{Model}
+use Rattle.pf_values.specs.meaning.Text.{Text}
+use Rattle.pf_text.specs.declared.refusals.Side.{Side}
+use Rattle.pf_values.specs.declared.refusals.RefusalKind.{RefusalKind}
+use Rattle.pf_text.specs.declared.refusals.Refusal.{Refusal}
+use Rattle.pf_text.specs.declared.refusals.TextFault.{TextFault}
+use Rattle.pf_text.specs.declared.refusals.TextFault.TheVariants as faults
+use Rattle.pf_posix.specs.declared.types.ArgumentType.{ArgumentType}
+use Rattle.pf_text.specs.Refusals.{RefusesOne}
+use Rattle.pf_posix.specs.Items.{HasArguments, IsPosixAccepted}
+use Rattle.pf_posix.specs.Refusals.{IsPosixRefusedAt}
+
+-- a text is accepted, or refused
+abbrev pub IsAcceptedOrRefused : Model → Text → Type 0
+IsAcceptedOrRefused model t =
+    ((types : List ArgumentType) × HasArguments model t types)
+    ⊎ ((kind : RefusalKind) × (at : ℕ) × IsPosixRefusedAt model t kind at)
+
+-- elements at the front of a slice, as many as there is room for, and then what was there
+abbrev pub filled : {X : Type 0} → List X → List X → List X
+filled [] more = []
+filled (o ∷ old) [] = o ∷ old
+filled (o ∷ old) (x ∷ more) = x ∷ filled old more
+
+-- a text has so many types, and the first of them are at the front of a slice, as many as there is
+-- room for; the rest of the slice is as it was
+pub record HasCount (model : Model) (t : Text) (old new : List ArgumentType)
+    (count : ℕ) : Type 0 where
+  pub types : List ArgumentType
+  pub accepted : HasArguments model t types
+  pub count_is : count ≡ length types
+  pub front : new ≡ filled old types
+
+-- two lists are equal, or an index is the least at which they differ, which may be the length of the
+-- shorter one
+abbrev pub IsFirstDifference : List ArgumentType → List ArgumentType → Option ℕ → Type 0
+IsFirstDifference types others None = types ≡ others
+IsFirstDifference types others (Some index) =
+    (slice_get types index ≢ slice_get others index)
+    × ((k : ℕ) → k < index → slice_get types k ≡ slice_get others k)
+
+-- two texts are accepted, and this is where their types differ
+pub record ComparesArgumentTypes (model : Model) (first second : Text) (index : Option ℕ) : Type 0 where
+  pub types : List ArgumentType
+  pub others : List ArgumentType
+  pub first_accepted : HasArguments model first types
+  pub second_accepted : HasArguments model second others
+  pub difference : IsFirstDifference types others index
+
+-- one of two texts is refused, and the first of them that is
+abbrev pub FaultForFits : Model → Text → Text → Side × Refusal → Type 0
+FaultForFits model first second fault =
+    RefusesOne (IsPosixAccepted model) (IsPosixRefusedAt model) first second fault.0 fault.1
+
+-- why there is no list of types: want of memory only where a text is accepted and takes arguments
+abbrev pub FaultForArguments : Model → Text → TextFault → Type 0
+FaultForArguments model t (faults.Refused refusal) = IsPosixRefusedAt model t refusal.kind refusal.at
+FaultForArguments model t faults.Memory =
+    (types : List ArgumentType) × HasArguments model t types × (types ≢ [])

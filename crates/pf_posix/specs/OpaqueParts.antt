@@ -1,0 +1,23 @@
+-- The parts of an opaque directive, as the code holds them.
+use Rattle.std.specs.Prelude.{Option, Some, None}
+use Rattle.pf_posix.specs.Specifications.{Amount, Given, Fetched, PosixSpecification}
+use Rattle.pf_posix.specs.declared.opaque_directives.OpaqueDirective.{OpaqueDirective}
+use Rattle.pf_posix.specs.declared.opaque_directives.OpaqueAmount.{OpaqueAmount}
+use Rattle.pf_posix.specs.declared.opaque_directives.OpaqueAmount.TheVariants as amounts
+
+-- the width or precision that the code's value is
+abbrev pub amount_of : Option OpaqueAmount → Option Amount
+amount_of None = None
+amount_of (Some (amounts.Number n)) = Some (Given n)
+amount_of (Some amounts.Star) = Some (Fetched None)
+
+-- the specification with the directive's parts
+abbrev pub parts_of_opaque : OpaqueDirective → PosixSpecification
+parts_of_opaque d = record {
+  position = None;
+  flags = d.flags;
+  width = amount_of d.width;
+  precision = amount_of d.precision;
+  modifier = d.modifier;
+  conversion = d.conversion;
+}

@@ -1,0 +1,104 @@
+-- What the parts of a specification without numbers are from a place of a text on, as the code reads
+-- them. Each says what is answered if the part is spelled there, and nothing that could belong to the
+-- part comes after it. No public contract names these.
+use Rattle.std.specs.Prelude.{◌≡◌, ℕ, ◌<◌, ◌≤◌, Bool, false, ◌||◌, ◌==◌, List, [], ◌∷◌, ◌++◌, drop, map, Option, Some, None, IsSomeAnd, if◌then◌else◌, ⊤}
+use Rattle.std.specs.Fmt.{digit_glyph}
+use Rattle.std.specs.Int.Digits.{number_from_digits_after}
+use Rattle.std.specs.List.{AllByRecursion}
+use Rattle.pf_values.specs.declared.flags.Flag.{Flag}
+use Rattle.pf_values.specs.declared.flags.FlagSet.{FlagSet}
+use Rattle.pf_values.specs.declared.lengths.Length.TheVariants as lengths
+use Rattle.pf_values.specs.declared.limits.TheConstants.{MAX_NUMBER}
+use Rattle.pf_values.specs.meaning.Flags.{flag_byte, flag_set}
+use Rattle.pf_values.specs.meaning.Text.{Text, point, star}
+use Rattle.pf_text.specs.States.{is_digit}
+use Rattle.pf_posix.specs.declared.conversions.Conversion.{Conversion}
+use Rattle.pf_posix.specs.declared.conversions.Modifier.{Modifier}
+use Rattle.pf_posix.specs.declared.conversions.Modifier.TheVariants.{Integer}
+use Rattle.pf_posix.specs.declared.opaque_directives.OpaqueAmount.{OpaqueAmount}
+use Rattle.pf_posix.specs.declared.opaque_directives.OpaqueDirective.{OpaqueDirective}
+use Rattle.pf_posix.specs.Letters.{length_modifier_of}
+use Rattle.pf_posix.specs.OpaqueParts.{amount_of, parts_of_opaque}
+use Rattle.pf_posix.specs.Specifications.{Amount, PosixSpecification, conversion_letter, modifier_letters}
+use Rattle.pf_posix.specs.Spelling.{SpellsPosix, SpellsPosixPrecision, SpellsPosixWidth}
+
+-- the test refuses the first byte, if there is one
+abbrev pub BeginsOutside : (ℕ → Bool) → Text → Type 0
+BeginsOutside p [] = ⊤
+BeginsOutside p (byte ∷ t) = p byte ≡ false
+
+-- the bytes of each part
+abbrev pub is_flag : ℕ → Bool
+is_flag byte =
+    byte == 45 || byte == 43 || byte == 32 || byte == 35 || byte == 48 || byte == 39
+
+abbrev pub is_width : ℕ → Bool
+is_width byte = is_digit byte || byte == star
+
+abbrev pub is_precision : ℕ → Bool
+is_precision byte = is_digit byte || byte == star || byte == point
+
+-- flags
+abbrev pub FlagsAre : Text → ℕ → FlagSet → ℕ → Type 0
+FlagsAre t start set stop = (flags : List Flag) (rest : Text) → BeginsOutside is_flag rest
+    → drop start t ≡ map flag_byte flags ++ rest → (set ≡ flag_set flags) × (drop stop t ≡ rest)
+
+-- digits that go on with a number, which stays within the limit
+abbrev pub DigitsAre : Text → ℕ → ℕ → Option (ℕ × ℕ) → Type 0
+DigitsAre t start first result = (digits : List ℕ) (rest : Text)
+    → AllByRecursion (λ d. d < 10) digits → BeginsOutside is_digit rest
+    → number_from_digits_after 10 first digits ≤ MAX_NUMBER
+    → drop start t ≡ map (digit_glyph false) digits ++ rest
+    → IsSomeAnd result (λ front. (front.0 ≡ number_from_digits_after 10 first digits)
+    × (drop front.1 t ≡ rest))
+
+-- a width, or none
+abbrev pub WidthIs : Text → ℕ → Option (Option OpaqueAmount × ℕ) → Type 0
+WidthIs t start result = (text rest : Text) (width : Option Amount)
+    → SpellsPosixWidth text None width → BeginsOutside is_width rest → drop start t ≡ text ++ rest
+    → IsSomeAnd result (λ front. (amount_of front.0 ≡ width) × (drop front.1 t ≡ rest))
+
+-- a precision, or none
+abbrev pub PrecisionIs : Text → ℕ → Option (Option OpaqueAmount × ℕ) → Type 0
+PrecisionIs t start result = (text rest : Text) (precision : Option Amount)
+    → SpellsPosixPrecision text None precision → BeginsOutside is_precision rest
+    → drop start t ≡ text ++ rest
+    → IsSomeAnd result (λ front. (amount_of front.0 ≡ precision) × (drop front.1 t ≡ rest))
+
+-- what comes after the point of a precision
+abbrev pub IsAfterPoint : Text → ℕ → Option (OpaqueAmount × ℕ) → Type 0
+IsAfterPoint t start result = (text rest : Text) (precision : Option Amount)
+    → SpellsPosixPrecision (point ∷ text) None precision → BeginsOutside is_precision rest
+    → drop start t ≡ text ++ rest
+    → IsSomeAnd result (λ front. (amount_of (Some front.0) ≡ precision) × (drop front.1 t ≡ rest))
+
+-- the modifier of two letters that this byte ends, if it does (C11 7.21.6.1 p7)
+abbrev pub second_modifier : Modifier → ℕ → Option Modifier
+second_modifier (Integer lengths.H) byte = if byte == 104 then Some (Integer lengths.Hh) else None
+second_modifier (Integer lengths.L) byte = if byte == 108 then Some (Integer lengths.Ll) else None
+second_modifier _ byte = None
+
+-- a modifier that begins with the letter before this place, before a conversion
+abbrev pub ModifierGoesOn : Text → ℕ → Modifier → Modifier → ℕ → Type 0
+ModifierGoesOn t start first result stop =
+    (letter : ℕ) (modifier : Modifier) (conversion : Conversion) (rest : Text)
+    → length_modifier_of letter ≡ Some first
+    → letter ∷ drop start t ≡ modifier_letters modifier ++ conversion_letter conversion ∷ rest
+    → (result ≡ modifier) × (drop stop t ≡ conversion_letter conversion ∷ rest)
+
+-- a modifier, or none, before a conversion
+abbrev pub ModifierIs : Text → ℕ → Modifier → ℕ → Type 0
+ModifierIs t start result stop = (modifier : Modifier) (conversion : Conversion) (rest : Text)
+    → drop start t ≡ modifier_letters modifier ++ conversion_letter conversion ∷ rest
+    → (result ≡ modifier) × (drop stop t ≡ conversion_letter conversion ∷ rest)
+
+-- a conversion
+abbrev pub ConversionIs : Text → ℕ → Option Conversion → Type 0
+ConversionIs t at result = (conversion : Conversion) (rest : Text)
+    → drop at t ≡ conversion_letter conversion ∷ rest → result ≡ Some conversion
+
+-- a whole specification
+abbrev pub SpecificationIs : Text → ℕ → Option (OpaqueDirective × ℕ) → Type 0
+SpecificationIs t start result = (text rest : Text) (s : PosixSpecification)
+    → SpellsPosix text s → s.position ≡ None → drop start t ≡ text ++ rest
+    → IsSomeAnd result (λ front. (parts_of_opaque front.0 ≡ s) × (drop front.1 t ≡ rest))

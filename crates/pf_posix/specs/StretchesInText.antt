@@ -1,0 +1,33 @@
+-- Stretches as the code goes through them. No public contract names these.
+use Rattle.std.specs.Prelude.{◌≡◌, ℕ, ◌<◌, ◌≤◌, List, [], ◌∷◌, ◌++◌, drop, length}
+use Rattle.pf_values.specs.meaning.Items.{Item, Reads}
+use Rattle.pf_values.specs.meaning.Text.{Text}
+use Rattle.pf_posix.specs.declared.stretches.Found.{Found}
+use Rattle.pf_posix.specs.declared.stretches.Found.TheVariants as found
+use Rattle.pf_posix.specs.Opaque.{SpellsOpaque}
+use Rattle.pf_posix.specs.OpaqueParts.{parts_of_opaque}
+use Rattle.pf_posix.specs.Stretches.{Stretches, Last, Before, ReadsWhole}
+
+-- an item before the first stretch, which has it then
+abbrev pub push : Item → Stretches → Stretches
+push item (Last items) = Last (item ∷ items)
+push item (Before items s rest) = Before (item ∷ items) s rest
+
+-- the same of several items
+abbrev pub push_all : List Item → Stretches → Stretches
+push_all [] rest = rest
+push_all (item ∷ items) rest = push item (push_all items rest)
+
+-- the text from a place on is read as stretches, and begins with these items or this directive
+abbrev pub IsFound : Text → ℕ → Stretches → Found → Type 0
+IsFound t at left (found.Items stop) = (items : List Item) × (bytes : Text) × (later : Stretches)
+    × Reads bytes items × ReadsWhole (drop stop t) later × (drop at t ≡ bytes ++ drop stop t)
+    × (left ≡ push_all items later)
+IsFound t at left (found.Opaque directive stop) = (bytes : Text) × (later : Stretches)
+    × SpellsOpaque bytes (parts_of_opaque directive) × ReadsWhole (drop stop t) later
+    × (drop at t ≡ bytes ++ drop stop t) × (left ≡ Before [] (parts_of_opaque directive) later)
+
+-- where that ends, which is behind the place
+abbrev pub EndsBehind : Text → ℕ → Found → Type 0
+EndsBehind t at (found.Items stop) = (at < stop) × (stop ≤ length t)
+EndsBehind t at (found.Opaque directive stop) = (at < stop) × (stop ≤ length t)

@@ -1,0 +1,137 @@
+//! The argument types of a format, in a slice or in a vector.
+ghost use Rattle.std.specs.Prelude.{◌≡◌, ◌<◌, ◌≤◌, ℕ, None, length, MatchResult, ◌+◌, IsTrue, is_some, IfErr, IfOk};
+ghost use Rattle.pf_posix.specs.Laws.{HasCount, FaultForArguments};
+ghost use Rattle.pf_posix.specs.Readings.{Fetches, fetch_trace};
+ghost use Rattle.pf_posix.specs.Refusals.{IsPosixRefusedAt};
+ghost use Rattle.pf_posix.specs.Types.{fetch};
+ghost use Rattle.pf_posix.specs.Walks.{trace_left};
+ghost use Rattle.pf_posix.specs.Items.{HasArguments};
+
+use crate::fetches::Fetch;
+use crate::reader::{NextFetch, Reader};
+use crate::tables::{Table, put};
+use crate::types::ArgumentType;
+use pf_text::{Refusal, TextFault};
+use pf_values::{ArgType, Model};
+use std::alloc::{AllocError, Global};
+
+/// Returns how many arguments a format of the whole language takes in a data model (C11 7.21.6.1,
+/// paragraphs 3 to 9; POSIX fprintf on numbered arguments). Their types, as many as `out` has room
+/// for, are put at its front, and the rest of `out` is as it was. If the format is refused, `out` has
+/// the same length, and its contents are unspecified.
+pub fn arguments(model: Model, text: &[u8], out: &mut [ArgumentType]) -> Result<u64, Refusal>
+    ensures types { MatchResult result
+        (λ count. HasCount model text.now out.old out.new count)
+        (λ refusal. IsPosixRefusedAt model text.now refusal.kind refusal.at) }
+    ensures length { length out.new ≡ length out.old }
+{
+    let mut reader = Reader::new();
+    match reader.next_fetch(model, text) {
+        NextFetch::End => Ok(0),
+        NextFetch::Refused(refusal) => Err(refusal),
+        NextFetch::Fetched(first) => match first.number {
+            None => in_order(model, text, reader, first.wanted, out),
+            Some(_) => by_number(model, text, reader, first, out),
+        },
+    }
+}
+
+// The types of a format that isn't numbered, of which the first argument was read.
+fn in_order(
+    model: Model,
+    text: &[u8],
+    after_first: Reader,
+    first: ArgumentType,
+    out: &mut [ArgumentType],
+) -> Result<u64, Refusal>
+    requires within { after_first.at ≤ length text.now }
+    requires some { 0 < after_first.at }
+    requires first { (at : ℕ)
+        × (fetch_trace model text.now ≡ Fetches (fetch None first) at (trace_left model text.now after_first)) }
+    ensures types { MatchResult result
+        (λ count. HasCount model text.now out.old out.new count)
+        (λ refusal. IsPosixRefusedAt model text.now refusal.kind refusal.at) }
+    ensures length { length out.new ≡ length out.old }
+{
+    let mut reader = after_first;
+    put(out, 0, first);
+    let mut count: usize = 1;
+    loop {
+        match reader.next_fetch(model, text) {
+            NextFetch::Fetched(fetch) => {
+                put(out, count, fetch.wanted);
+                count += 1;
+            }
+            NextFetch::End => return Ok(count as u64),
+            NextFetch::Refused(refusal) => return Err(refusal),
+        }
+    }
+}
+
+// The types of a numbered format, of which the first argument was read.
+#[inline(never)]
+fn by_number(
+    model: Model,
+    text: &[u8],
+    after_first: Reader,
+    first: Fetch,
+    out: &mut [ArgumentType],
+) -> Result<u64, Refusal>
+    requires within { after_first.at ≤ length text.now }
+    requires number { IsTrue (is_some first.number) }
+    requires first { (at : ℕ) × (after_first.at ≡ at + 1)
+        × (fetch_trace model text.now ≡ Fetches first at (trace_left model text.now after_first)) }
+    ensures types { MatchResult result
+        (λ count. HasCount model text.now out.old out.new count)
+        (λ refusal. IsPosixRefusedAt model text.now refusal.kind refusal.at) }
+    ensures length { length out.new ≡ length out.old }
+{
+    let mut table = Table::new();
+    table.fill(model, text, after_first, first)?;
+    table.copy_front(out);
+    let count = table.count();
+    Ok(count as u64)
+}
+
+/// The types of the arguments that a format of the whole language takes in a data model, as
+/// `arguments` has them. The format is read twice: the room is taken by one growth, of their
+/// number, and none is taken where it takes no argument.
+pub fn arguments_vec(
+    alloc: Global,
+    model: Model,
+    text: &[u8],
+) -> Result<Vec<ArgumentType>, TextFault>
+    ensures { MatchResult result (λ types. HasArguments model text.now types.items)
+        (FaultForArguments model text.now) }
+{
+    let count = match arguments(model, text, &mut []) {
+        Ok(count) => count,
+        Err(refusal) => return Err(TextFault::Refused(refusal)),
+    };
+    let mut types = match room_for(alloc, ArgumentType::Profile(ArgType::Int), count) {
+        Ok(types) => types,
+        Err(AllocError) => return Err(TextFault::Memory),
+    };
+    match arguments(model, text, &mut types) {
+        Ok(_) => Ok(types),
+        Err(refusal) => Err(TextFault::Refused(refusal)),
+    }
+}
+
+/// Returns a vector of `count` copies of `blank`. For 0 it takes no memory.
+pub(crate) fn room_for<T: Copy + Drop>(
+    alloc: Global,
+    blank: T,
+    count: u64,
+) -> Result<Vec<T>, AllocError>
+    ensures room { IfOk result (λ room. length room.items ≡ count) }
+    ensures some { IfErr result (λ _. 0 < count) }
+{
+    if count == 0 {
+        return Ok(Vec::new(alloc));
+    }
+    match usize::try_from(count) {
+        Ok(count) => Vec::from_elem(alloc, blank, count),
+        Err(_) => Err(AllocError),
+    }
+}

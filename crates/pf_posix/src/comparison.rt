@@ -1,0 +1,92 @@
+//! Whether two formats take the same arguments.
+ghost use Rattle.std.specs.Prelude.{◌≡◌, ◌≤◌, List, length, ◌⊎◌, MatchResult};
+ghost use Rattle.pf_posix.specs.declared.tables.TheConstants.{ROOM as MOST};
+ghost use Rattle.pf_posix.specs.declared.types.ArgumentType.{ArgumentType as ArgumentTypeOf};
+ghost use Rattle.pf_posix.specs.Laws.{ComparesArgumentTypes, FaultForFits, IsFirstDifference, filled};
+ghost use Rattle.pf_posix.specs.Steps.{AreFew, DifferAt};
+
+use crate::argument_types::arguments;
+use crate::pairs::{InStepResult, compare_in_step};
+use crate::tables::ROOM;
+use crate::types::ArgumentType;
+use pf_text::{Refusal, Side};
+use pf_values::{ArgType, Model};
+
+/// Whether the second format takes just the arguments of the first (C11 7.21.6.1, paragraph 3;
+/// POSIX fprintf on numbered arguments): `None` where the lists of their types are equal, else the
+/// least index from 0 at which they differ, which is the length of the shorter one where that is a
+/// prefix of the other. Where both are refused, the refusal is that of the first.
+pub fn fits(model: Model, first: &[u8], second: &[u8]) -> Result<Option<u64>, (Side, Refusal)>
+    ensures { MatchResult result (ComparesArgumentTypes model first.now second.now)
+        (FaultForFits model first.now second.now) }
+{
+    match compare_in_step(model, first, second) {
+        InStepResult::Equal => Ok(None),
+        InStepResult::Differ(index) => by_step(model, first, second, index),
+        InStepResult::Other => by_tables(model, first, second),
+    }
+}
+
+// The index at which two formats differ, unless one is refused.
+fn by_step(
+    model: Model,
+    first: &[u8],
+    second: &[u8],
+    index: u64,
+) -> Result<Option<u64>, (Side, Refusal)>
+    requires { DifferAt model first.now second.now index }
+    ensures { MatchResult result (ComparesArgumentTypes model first.now second.now)
+        (FaultForFits model first.now second.now) }
+{
+    match arguments(model, first, &mut []) {
+        Err(refusal) => Err((Side::First, refusal)),
+        Ok(_) => match arguments(model, second, &mut []) {
+            Err(refusal) => Err((Side::Second, refusal)),
+            Ok(_) => Ok(Some(index)),
+        },
+    }
+}
+
+// The same by the lists of their types, where one of the formats is refused or numbered.
+#[inline(never)]
+fn by_tables(model: Model, first: &[u8], second: &[u8]) -> Result<Option<u64>, (Side, Refusal)>
+    requires { AreFew model first.now second.now }
+    ensures { MatchResult result (ComparesArgumentTypes model first.now second.now)
+        (FaultForFits model first.now second.now) }
+{
+    let mut types = [ArgumentType::Profile(ArgType::Int); ROOM];
+    let mut others = [ArgumentType::Profile(ArgType::Int); ROOM];
+    match arguments(model, first, &mut types) {
+        Err(refusal) => Err((Side::First, refusal)),
+        Ok(count) => match arguments(model, second, &mut others) {
+            Err(refusal) => Err((Side::Second, refusal)),
+            Ok(second_count) => Ok(difference(&types, count, &others, second_count)),
+        },
+    }
+}
+
+// The first index at which two lists differ. Slices hold their first types, and all of one list's.
+fn difference(
+    types: &[ArgumentType],
+    count: u64,
+    others: &[ArgumentType],
+    second_count: u64,
+) -> Option<u64>
+    requires room { length types.now ≡ MOST }
+    requires same_room { length others.now ≡ MOST }
+    ensures { (a b start from : List ArgumentTypeOf) → types.now ≡ filled start a
+        → others.now ≡ filled from b → count ≡ length a → second_count ≡ length b
+        → (length a ≤ MOST) ⊎ (length b ≤ MOST) → IsFirstDifference a b result }
+{
+    let mut index: usize = 0;
+    while index < ROOM && (index as u64) < count && (index as u64) < second_count {
+        if types[index].number() != others[index].number() {
+            return Some(index as u64);
+        }
+        index += 1;
+    }
+    if count == second_count {
+        return None;
+    }
+    Some(index as u64)
+}

@@ -1,0 +1,110 @@
+//! Laws of the definitions: a text has one list of argument types, or is refused for one reason and
+//! at one place.
+ghost use Rattle.std.specs.Prelude.{◌≡◌, ◌≢◌, false, ◌++◌, ◌<◌, ℕ, List, None, length, map};
+ghost use Rattle.pf_values.specs.declared.models.Model.{Model as model_of_data};
+ghost use Rattle.pf_values.specs.meaning.Items.{HasItems, IsAccepted, Item, types};
+ghost use Rattle.pf_values.specs.meaning.Printing.{AreEquivalent};
+ghost use Rattle.pf_values.specs.Laws.{HasEachOnce};
+ghost use Rattle.pf_values.specs.meaning.Text.{Text};
+ghost use Rattle.pf_values.specs.RefusalKinds.{is_profile_alone};
+ghost use Rattle.pf_values.specs.declared.refusals.RefusalKind.{RefusalKind};
+ghost use Rattle.pf_values.specs.declared.refusals.RefusalKind.TheVariants.{Numbered};
+ghost use Rattle.pf_posix.specs.declared.types.ArgumentType.{ArgumentType};
+ghost use Rattle.pf_posix.specs.declared.types.TheConstants.ArgumentType.{ALL as every_type};
+ghost use Rattle.pf_posix.specs.declared.directive_spans.DirectiveSpan.{DirectiveSpan};
+ghost use Rattle.pf_posix.specs.Directives.{HasDirectives};
+ghost use Rattle.pf_posix.specs.Items.{HasArguments};
+ghost use Rattle.pf_posix.specs.Laws.{ComparesArgumentTypes, IsAcceptedOrRefused};
+ghost use Rattle.pf_posix.specs.Refusals.{IsPosixRefusedAt};
+ghost use Rattle.pf_posix.specs.Types.{widened};
+ghost use Rattle.pf_posix.specs.Unnumbered.{AcceptsUnnumbered, IsJudged, IsReadOnce, IsWholeRefusedAt, TypesAreKept};
+
+/// A text is accepted, or refused.
+pub fn accepted_or_refused()
+    ensures { (model : model_of_data) (t : Text) → IsAcceptedOrRefused model t }
+{}
+
+/// No text is both accepted and refused.
+pub fn never_both()
+    ensures { (model : model_of_data) (t : Text) (types : List ArgumentType)
+        (kind : RefusalKind) (at : ℕ) → HasArguments model t types
+        → IsPosixRefusedAt model t kind at → ⊥ }
+{}
+
+/// An accepted text has one list of types.
+pub fn types_once()
+    ensures { (model : model_of_data) (t : Text) (types others : List ArgumentType)
+        → HasArguments model t types → HasArguments model t others → types ≡ others }
+{}
+
+/// An accepted text has one list of conversion specifications.
+pub fn directives_once()
+    ensures { (model : model_of_data) (t : Text) (directives others : List DirectiveSpan)
+        → HasDirectives model t directives → HasDirectives model t others → directives ≡ others }
+{}
+
+/// A text is refused for one reason at one place.
+pub fn refused_once()
+    ensures { (model : model_of_data) (t : Text) (kind other : RefusalKind) (p q : ℕ)
+        → IsPosixRefusedAt model t kind p → IsPosixRefusedAt model t other q → (kind ≡ other) × (p ≡ q) }
+{}
+
+/// A text that is refused before its end is refused so whatever bytes follow.
+pub fn refused_for_good()
+    ensures { (model : model_of_data) (t more : Text) (kind : RefusalKind) (at : ℕ)
+        → IsPosixRefusedAt model t kind at → at < length t → IsPosixRefusedAt model (t ++ more) kind at }
+{}
+
+/// What the profile accepts is accepted here, with the same types.
+pub fn profile_types()
+    ensures { (model : model_of_data) (t : Text) (items : List Item) → HasItems t items
+        → HasArguments model t (map widened (types model items)) }
+{}
+
+/// Two texts of the profile that are equivalent take the same arguments here.
+pub fn same_fits()
+    ensures { (model : model_of_data) (t u : Text) → IsAccepted t → IsAccepted u
+        → AreEquivalent model t u → ComparesArgumentTypes model t u None }
+{}
+
+/// A text is read as one list of stretches and opaque directives at most.
+pub fn read_once()
+    ensures { (t : Text) → IsReadOnce t }
+{}
+
+/// A text is accepted as stretches and opaque directives exactly if it is read with no numbered
+/// specification, and it is within the limit.
+pub fn accepts_unnumbered()
+    ensures { (t : Text) → AcceptsUnnumbered t }
+{}
+
+/// What is accepted so has arguments of the types of its stretches and opaque directives.
+pub fn types_are_kept()
+    ensures { (model : model_of_data) → TypesAreKept model }
+{}
+
+/// Where arguments may have no numbers, a text is accepted or refused, and never both.
+pub fn judged_unnumbered()
+    ensures { (model : model_of_data) (t : Text) → IsJudged model t }
+{}
+
+/// Where arguments may have no numbers, a text is refused for one reason at one place.
+pub fn refused_unnumbered_once()
+    ensures { (model : model_of_data) (t : Text) (kind other : RefusalKind) (p q : ℕ)
+        → IsWholeRefusedAt model t kind p → IsWholeRefusedAt model t other q
+        → (kind ≡ other) × (p ≡ q) }
+{}
+
+/// No text is refused for what the profile alone lacks; nor for the number of an argument, if
+/// arguments may have numbers.
+pub fn kinds_of_refusals()
+    ensures numbered { (model : model_of_data) (t : Text) (kind : RefusalKind) (at : ℕ)
+        → IsPosixRefusedAt model t kind at → (is_profile_alone kind ≡ false) × (kind ≢ Numbered) }
+    ensures unnumbered { (model : model_of_data) (t : Text) (kind : RefusalKind) (at : ℕ)
+        → IsWholeRefusedAt model t kind at → is_profile_alone kind ≡ false }
+{}
+
+/// `ArgumentType::ALL` has each type exactly once.
+pub fn table_has_each_once()
+    ensures { HasEachOnce every_type }
+{}

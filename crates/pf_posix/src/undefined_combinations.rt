@@ -1,0 +1,128 @@
+//! Which specifications the standards leave undefined (C11 7.21.6.1, paragraphs 4 to 9).
+ghost use Rattle.std.specs.Prelude.{◌≡◌};
+ghost use Rattle.pf_posix.specs.declared.conversions.Modifier.TheVariants.{Integer};
+ghost use Rattle.pf_posix.specs.Defined.{has_any_flag, takes_alt, takes_group, takes_modifier, takes_precision, takes_zero, undefined_as, is_count};
+
+use crate::conversions::{Conversion, Floating, Modifier};
+use crate::partial_specification::PartialSpecification;
+use pf_values::{Conv, Flag, FlagSet, Length, RefusalKind};
+
+/// The first kind, in the order of numbers, for which a specification is undefined, if it is.
+#[inline(always)]
+pub(crate) fn undefined_as(
+    parts: PartialSpecification,
+    modifier: Modifier,
+    conversion: Conversion,
+) -> Option<RefusalKind>
+    ensures { result ≡ undefined_as parts.flags parts.width parts.precision modifier conversion }
+{
+    if parts.flags.has(Flag::Alt) && !takes_alt(conversion) {
+        return Some(RefusalKind::AltUndefined);
+    }
+    if parts.flags.has(Flag::Zero) && !takes_zero(conversion) {
+        return Some(RefusalKind::ZeroUndefined);
+    }
+    if parts.flags.has(Flag::Group) && !takes_group(conversion) {
+        return Some(RefusalKind::GroupUndefined);
+    }
+    if parts.precision && !takes_precision(conversion) {
+        return Some(RefusalKind::PrecisionUndefined);
+    }
+    if !takes_modifier(conversion, modifier) {
+        return Some(RefusalKind::LengthUndefined);
+    }
+    if is_count(conversion) && (has_any_flag(parts.flags) || parts.width || parts.precision) {
+        return Some(RefusalKind::CountUndefined);
+    }
+    None
+}
+
+#[inline(always)]
+fn takes_alt(conversion: Conversion) -> bool
+    ensures { result ≡ takes_alt conversion }
+{
+    match conversion {
+        Conversion::Profile(conv) => conv.kind().has_alternative_form(),
+        Conversion::Float(_) => true,
+        _ => false,
+    }
+}
+
+#[inline(always)]
+fn takes_zero(conversion: Conversion) -> bool
+    ensures { result ≡ takes_zero conversion }
+{
+    match conversion {
+        Conversion::Profile(conv) => !conv.kind().is_text(),
+        Conversion::Float(_) => true,
+        _ => false,
+    }
+}
+
+#[inline(always)]
+fn takes_group(conversion: Conversion) -> bool
+    ensures { result ≡ takes_group conversion }
+{
+    match conversion {
+        Conversion::Profile(conv) => conv.kind().is_grouped(),
+        Conversion::Float(floating) => matches!(
+            floating,
+            Floating::F | Floating::UpperF | Floating::G | Floating::UpperG
+        ),
+        _ => false,
+    }
+}
+
+#[inline(always)]
+fn takes_precision(conversion: Conversion) -> bool
+    ensures { result ≡ takes_precision conversion }
+{
+    match conversion {
+        Conversion::Profile(conv) => !conv.kind().is_char(),
+        Conversion::Float(_) => true,
+        Conversion::UpperS => true,
+        _ => false,
+    }
+}
+
+#[inline(always)]
+fn takes_modifier(conversion: Conversion, modifier: Modifier) -> bool
+    ensures { result ≡ takes_modifier conversion modifier }
+{
+    match modifier {
+        Modifier::LongDouble => matches!(conversion, Conversion::Float(_)),
+        Modifier::Integer(length) => takes_length(conversion, length),
+    }
+}
+
+#[inline(always)]
+fn takes_length(conversion: Conversion, length: Length) -> bool
+    ensures { result ≡ takes_modifier conversion (Integer length) }
+{
+    match conversion {
+        Conversion::Profile(Conv::C | Conv::S) => matches!(length, Length::None | Length::L),
+        Conversion::Profile(_) => true,
+        Conversion::Float(_) => matches!(length, Length::None | Length::L),
+        Conversion::Count => true,
+        _ => matches!(length, Length::None),
+    }
+}
+
+#[inline(always)]
+fn is_count(conversion: Conversion) -> bool
+    ensures { result ≡ is_count conversion }
+{
+    matches!(conversion, Conversion::Count)
+}
+
+#[inline(always)]
+fn has_any_flag(set: FlagSet) -> bool
+    ensures { result ≡ has_any_flag set }
+{
+    set.has(Flag::Minus)
+        || set.has(Flag::Plus)
+        || set.has(Flag::Space)
+        || set.has(Flag::Alt)
+        || set.has(Flag::Zero)
+        || set.has(Flag::Group)
+}

@@ -1,5 +1,0 @@
-use Rattle.pf_signatures.proofs.Telling.{one_of_both}
-use Rattle.pf_signatures.proofs.laws.accepted_or_refused.Goals as goal
-
-pub returns : goal.returns
-returns c = one_of_both

@@ -1,5 +1,0 @@
-use Rattle.pf_signatures.proofs.Unique.{refused_longer}
-use Rattle.pf_signatures.proofs.laws.refused_for_good.Goals as goal
-
-pub returns : goal.returns
-returns c = refused_longer

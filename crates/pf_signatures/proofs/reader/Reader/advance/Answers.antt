@@ -1,9 +1,0 @@
-use Rattle.std.proofs.Common.{arith}
-use Rattle.pf_signatures.specs.Stages.{posix_state_of}
-use Rattle.pf_signatures.proofs.WalkLemmas.{too_long}
-use Rattle.pf_signatures.proofs.reader.Reader.advance.Goals as goal
-
-pub returns-then-self-ge-MAX_TEXT_LEN-clause-next : goal.returns-then-self-ge-MAX_TEXT_LEN-clause-next
-returns-then-self-ge-MAX_TEXT_LEN-clause-next c =
-    let self = c.args.self.now in
-    rw (c.refused.ensures) (too_long c.args.model self.style c.args.text.now (posix_state_of self.automaton) self.at c.requires (omega (arith, c.if-self-ge-MAX_TEXT_LEN.true)))
