@@ -55,9 +55,17 @@ def is_running(process):
         return False
 
 
+def last_use(entry):
+    """Returns when an entry was used last; 0 if another run has just removed it."""
+    try:
+        return entry.stat().st_mtime
+    except OSError:
+        return 0
+
+
 def remove_oldest(entries, most):
     """Removes all but the entries that were used last."""
-    for entry in sorted(entries, key=lambda it: it.stat().st_mtime, reverse=True)[most:]:
+    for entry in sorted(entries, key=last_use, reverse=True)[most:]:
         # Renamed first, so that no run takes half of it.
         gone = entry.with_name(f"gone-{os.getpid()}-{entry.name}")
         try:
@@ -99,15 +107,18 @@ class Kept:
     def proof(self, crate, key):
         """Returns the folder with what a check of the crate proved under this checksum, or None."""
         found = self.folder / "proofs" / f"{crate}-{key}"
-        if self.anew or not found.is_dir():
+        if self.anew:
             return None
-        os.utime(found)
-        return found
+        try:
+            os.utime(found)
+            return found
+        except OSError:
+            return None
 
     def newest_proof(self, crate):
         """Returns the folder with what the last check of the crate proved, whatever its sources were, or None."""
         found = [] if self.anew else [it for it in (self.folder / "proofs").glob(f"{crate}-*") if it.is_dir()]
-        return max(found, key=lambda it: it.stat().st_mtime, default=None)
+        return max(found, key=last_use, default=None)
 
     def keep_proof(self, crate, key, out):
         """Keeps what a check of the crate proved, which is in the folder `out`, and returns where it is."""

@@ -269,6 +269,12 @@ class Keeping(unittest.TestCase):
         kept.sweep()
         self.assertEqual([it.name for part in ["work", "proofs"] for it in (folder / part).iterdir()], [f"{os.getpid()}-y"])
 
+    @in_folder
+    def test_what_another_run_has_just_removed(self, folder):
+        toy_crates.write(folder, {"a/file": "", "b/file": ""})
+        os.utime(folder / "a", (1, 1))
+        remove_oldest([folder / "gone", folder / "a", folder / "b"], 1)
+        self.assertEqual([it.name for it in folder.iterdir()], ["b"])
 
     @in_folder
     def test_no_cache_folder(self, folder):

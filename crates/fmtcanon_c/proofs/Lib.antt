@@ -2,7 +2,7 @@ pub mod CodeLemmas
 pub mod ComparingLemmas
 mod RefusalLemmas
 mod SamenessLemmas
-mod SignatureLemmas
+mod ArgumentTypeLemmas
 pub mod WholeComparingLemmas
 mod WholeLemmas
 mod HeaderLemmas

@@ -5,6 +5,6 @@ pub mod Models
 pub mod Words
 pub mod Calls
 pub mod Literals
-pub mod Signatures
+pub mod ArgumentTypes
 pub mod Whole
 pub mod WholeComparisons

@@ -8,7 +8,7 @@ ghost use Rattle.pf_posix.specs.Items.{IsPosixAccepted};
 ghost use Rattle.pf_posix.specs.TypeNumbers.{number_of_type};
 ghost use Rattle.pf_posix.specs.Laws.{FaultForFits};
 ghost use Rattle.pf_values.specs.declared.models.TheConstants.Model.{ALL};
-ghost use Rattle.fmtcanon_c.specs.Signatures.{AnswersFit, AnswersFitModels, Fit, PutsArguments, StopsFitsIn};
+ghost use Rattle.fmtcanon_c.specs.ArgumentTypes.{AnswersFit, AnswersFitModels, Fit, PutsArguments, StopsFitsIn};
 
 use crate::interface::{CError, NO_MEMORY, NO_MODEL, model_of, put_refusal};
 use pf_posix::{ArgumentType, arguments_vec, fits};

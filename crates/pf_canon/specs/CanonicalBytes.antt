@@ -180,7 +180,7 @@ module _ {B : Type 0} (kept failed : B → B → Type 0) where
   CountsFault (Some (Err fault)) old new = FaultCounts fault old new
   CountsFault r old new = kept old new
 
-  -- a failure was counted where reading on ended with one
+  -- a failure was counted if the result of reading on is one
   abbrev pub CountsDrain : {E : Type 0} → Result E StreamFault → B → B → Type 0
   CountsDrain (Ok done) old new = kept old new
   CountsDrain (Err fault) old new = FaultCounts fault old new

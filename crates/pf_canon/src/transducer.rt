@@ -16,8 +16,8 @@ use pf_reduce::{Core, Reduced, is_normal, reduce};
 use pf_text::{Refusal, Scanner, Spelling, Step, spell};
 use pf_values::{Directive, Model};
 
-/// A data model, the scanner's state inside the current item, and the number of `%.0s` that are not
-/// yet written, since they are written before the next byte or directive alone.
+/// A data model, the scanner's state inside the current item, and the number of `%.0s` not yet
+/// written: literal bytes that follow them are written first.
 #[derive(Clone, Copy, Debug)]
 pub(crate) struct Transducer {
     model: Model,

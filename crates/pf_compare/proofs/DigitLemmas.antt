@@ -1,5 +1,33 @@
 -- The digits of two numbers, and zeros before them.
-use Rattle.std.proofs.Common.{◌≡◌, ◌≢◌, ℕ, zero, suc, ◌-◌, ◌/◌, ◌%◌, ◌<◌, ◌≤◌, Bool, true, false, List, [], ◌∷◌, ◌++◌, length, get_or, map, replicate, nat_eq, refl, sym, ap, ◌∙◌, arith}
+use Rattle.std.proofs.Common.{
+  ◌≡◌,
+  ◌≢◌,
+  ℕ,
+  zero,
+  suc,
+  ◌-◌,
+  ◌/◌,
+  ◌%◌,
+  ◌<◌,
+  ◌≤◌,
+  Bool,
+  true,
+  false,
+  List,
+  [],
+  ◌∷◌,
+  ◌++◌,
+  length,
+  get_or,
+  map,
+  replicate,
+  nat_eq,
+  refl,
+  sym,
+  ap,
+  ◌∙◌,
+  arith,
+}
 use Rattle.std.specs.Prelude.{nat_lt}
 use Rattle.std.specs.Fmt.{digit_glyph}
 use Rattle.std.specs.Int.Digits.{digits_of}
@@ -167,7 +195,7 @@ not_where_zeros p x t n h l = λ e.
     let split : replicate n zero_digit ≡ replicate k zero_digit ++ replicate (n - k) zero_digit
     = ap (λ i. replicate i zero_digit) (omega (arith, l)) ∙ sym (replicate-append-replicate k (n - k) zero_digit) in
     let front : p ≡ replicate k zero_digit = same_front p (replicate k zero_digit) x (replicate (n - k) zero_digit ++ t)
-        (sym (length-replicate {A = ℕ} k zero_digit))
+    (sym (length-replicate {A = ℕ} k zero_digit))
     (e ∙ ap (λ z. z ++ t) split ∙ append_assoc (replicate k zero_digit) (replicate (n - k) zero_digit) t) in
     h (ap after_zeros (front ∙ sym (append-nil (replicate k zero_digit))) ∙ after_run k [])
 

@@ -1,5 +1,30 @@
 -- Two formats that differ in one directive alone.
-use Rattle.std.proofs.Common.{◌≡◌, ◌≢◌, ℕ, zero, suc, ◌+◌, List, [], ◌∷◌, ◌++◌, length, refl, sym, ap, ◌∙◌, subst, arith, Some, None, Option, Ok, Result, inl, inr}
+use Rattle.std.proofs.Common.{
+  ◌≡◌,
+  ◌≢◌,
+  ℕ,
+  zero,
+  suc,
+  ◌+◌,
+  List,
+  [],
+  ◌∷◌,
+  ◌++◌,
+  length,
+  refl,
+  sym,
+  ap,
+  ◌∙◌,
+  subst,
+  arith,
+  Some,
+  None,
+  Option,
+  Ok,
+  Result,
+  inl,
+  inr,
+}
 use Rattle.std.specs.Prelude.{slice_get, slice_set}
 use Rattle.std.proofs.lemmas.Bool.{cases_lt}
 use Rattle.std.proofs.lemmas.List.{append_assoc, append_cancel_left, append_cancel_right, length-append}
@@ -25,7 +50,19 @@ use Rattle.pf_compare.specs.declared.owned_args.OwnedArg.{OwnedArg}
 use Rattle.pf_compare.specs.declared.witnesses.Witness.{Witness}
 use Rattle.pf_compare.specs.Answers.{HaveSameTypes, IsCandidateAt, PrintTheSame, PrintUnlike, probe_at}
 use Rattle.pf_compare.specs.Layouts.{ReplacementsEqual, ReplacementsDiffer, FindsUnlike, IsFirstUnlike}
-use Rattle.pf_compare.specs.Lone.{AreToldApartAt, DifferInItems, DifferInOne, DifferInOneAtMost, FormatsDifferInOne, FormatsDifferInOneAtMost, HasFollowed, item_difference_of, IsIndexAfter, PrintAlikeOnCandidates, span_alone}
+use Rattle.pf_compare.specs.Lone.{
+  AreToldApartAt,
+  DifferInItems,
+  DifferInOne,
+  DifferInOneAtMost,
+  FormatsDifferInOne,
+  FormatsDifferInOneAtMost,
+  HasFollowed,
+  item_difference_of,
+  IsIndexAfter,
+  PrintAlikeOnCandidates,
+  span_alone,
+}
 use Rattle.pf_compare.specs.Witnesses.{AreNeutral, AwaitsCandidate, FindsWitness, IsWitnessAt}
 use Rattle.pf_compare.proofs.CandidateLemmas.{candidate_has_type, contains_at}
 use Rattle.pf_compare.proofs.ProbeLemmas.{neutral_first, set_neutral}
@@ -100,7 +137,7 @@ module _ (model : Model) (s t : Specification) (after : List Item) where
 
   one_printed : (before : List Item) (args : List Argument) (n : Argument) → slice_get args (length (types model before)) ≡ Some n
       → all_printed model (before ++ Directive s ∷ after) args ≡ all_printed model (before ++ Directive t ∷ after) args
-          → printed_text model s n ≡ printed_text model t n
+      → printed_text model s n ≡ printed_text model t n
   one_printed [] [] n at e = absurd (cc)
   one_printed [] (a ∷ args) n at e = let is : a ≡ n = cc in subst (λ m. printed_text model s m ≡ printed_text model t m) is
       (append_cancel_right (printed_text model s a) (printed_text model t a) (all_printed model after args) e)
@@ -195,7 +232,7 @@ module _ (model : Model) (s t : Specification) (after : List Item) where
           let e = candidate_here i k other at c in
           prints_same (probe_at (types model first_items) i other) (probes_typed i k other c) other
           (subst (λ (j : ℕ). slice_get (probe_at (types model first_items) j other) place_of ≡ Some other) (sym at) (neutral_set other))
-              (alike_texts k other e (alike e))
+          (alike_texts k other e (alike e))
 
       anywhere : (i k : ℕ) (other : Argument) → IsCandidateAt model (types model first_items) i k other →
           (i ≡ place_of → slice_get (candidates model (arg_type model s)) k ≡ Some other → ReplacementsEqual model [] (span_alone s) (span_alone t) other)
@@ -242,7 +279,7 @@ module _ (model : Model) (s t : Specification) (after : List Item) where
         let also : h.argument ≡ neutral (arg_type model s) = cc in
         let neutral_args : probe_at (types model first_items) place_of w.argument ≡ neutrals (types model first_items)
         = ap (λ x. probe_at (types model first_items) place_of x) (sym is ∙ also) ∙ set_neutral (types model first_items) place_of (arg_type model s)
-            (type_at before) in (
+        (type_at before) in (
           w.types_are,
           inl (record {
             args_are = w.args_are ∙ neutral_args;
@@ -305,7 +342,7 @@ module _ (first new : Pieces) (second later : Pieces) (f g : Text) (index : ℕ)
   pub along_more : (next : Result Piece Refusal) (piece : Piece) (count : ℕ) (after : Option LoneDifference) → NextReturns first (Some next) new
       → next ≡ Ok piece
       → ((t : Text) (xs : List Item) → HasFollowed second t xs found → IsIndexAfter xs index → HasFollowed later t (xs ++ items_of piece) after) →
-          ((model : Model) → count ≡ length (types model (items_of piece)))
+      ((model : Model) → count ≡ length (types model (items_of piece)))
       → AreAlong new later f g (index + count) after
   along_more next piece count after steps e made counted =
       let given : NextIsPiece new f h.read h.items piece = subst (λ r. NextIs (Some r) new f h.read h.items) e (steps.next f h.read h.items h.given) in
@@ -370,11 +407,11 @@ module _ (model : Model) (xs ys : List Item) (difference : LoneDifference) (h : 
         → IsWitnessAt model (types model xs) (record { index = difference.index; candidate_index = place }) witness → FindsWitness model xs ys (Some witness)
     lone_found place witness found w =
         let there : IsWitnessAt model (types model (h.before ++ Directive difference.first ∷ h.after))
-            (record { index = difference.index; candidate_index = place }) witness
+        (record { index = difference.index; candidate_index = place }) witness
         = subst (λ l. IsWitnessAt model (types model l) (record { index = difference.index; candidate_index = place }) witness) h.first_is w in
         back_in (Some witness) (found_alone model difference.first difference.second h.after h.before same_type place witness found
         (subst (λ i. IsWitnessAt model (types model (h.before ++ Directive difference.first ∷ h.after))
-            (record { index = i; candidate_index = place }) witness) (h.index_is model) there))
+        (record { index = i; candidate_index = place }) witness) (h.index_is model) there))
 
     -- they print different texts for some arguments
     pub lone_apart : (place : ℕ) → AreToldApartAt model difference place → (args : List Argument) × HasTypes model args

@@ -1,5 +1,34 @@
 -- Directives that differ in the flag ` ` at most.
-use Rattle.std.proofs.Common.{◌≡◌, ℕ, ◌+◌, ◌-◌, ◌^◌, ◌<◌, ◌≤◌, max, Bool, true, false, [], ◌∷◌, ◌++◌, length, replicate, refl, sym, ap, ◌∙◌, subst, arith, ℤ, pos, negsuc, ◌⊎◌, inl, inr}
+use Rattle.std.proofs.Common.{
+  ◌≡◌,
+  ℕ,
+  ◌+◌,
+  ◌-◌,
+  ◌^◌,
+  ◌<◌,
+  ◌≤◌,
+  max,
+  Bool,
+  true,
+  false,
+  [],
+  ◌∷◌,
+  ◌++◌,
+  length,
+  replicate,
+  refl,
+  sym,
+  ap,
+  ◌∙◌,
+  subst,
+  arith,
+  ℤ,
+  pos,
+  negsuc,
+  ◌⊎◌,
+  inl,
+  inr,
+}
 use Rattle.std.specs.Prelude.{IsFalse, IsTrue, nat_abs, codes, ◌&&◌, if◌then◌else◌}
 use Rattle.std.proofs.lemmas.Int.Digits.{length-digits_of-le}
 use Rattle.std.proofs.lemmas.List.{append_assoc, replicate-append-replicate}
@@ -17,7 +46,16 @@ use Rattle.pf_values.specs.meaning.Normal.{precision_of}
 use Rattle.pf_values.specs.meaning.Printing.{field, field_of, front_under, is_negative, is_zero_filled, padding, prefix_under, sign_or_prefix}
 use Rattle.pf_values.specs.meaning.Specification.{Specification, width_of}
 use Rattle.pf_values.specs.meaning.Text.{Text, space}
-use Rattle.pf_values.proofs.Printed.{count_of, filled_precision, length-printed_digits, natural_len, natural_of, precision_under, printed_digits, printed_precision}
+use Rattle.pf_values.proofs.Printed.{
+  count_of,
+  filled_precision,
+  length-printed_digits,
+  natural_len,
+  natural_of,
+  precision_under,
+  printed_digits,
+  printed_precision,
+}
 use Rattle.pf_values.proofs.PrintsOnce.{value_text}
 use Rattle.pf_render.specs.declared.values.Value.{Value}
 use Rattle.pf_render.specs.Values.{HasSignAndMagnitude}
@@ -88,11 +126,11 @@ room_alike s n e h =
       | inr other ↦
           let digits = printed_digits s (precision_of s) n in
           let long : length digits ≡ max (precision_of s) (count_of 10 n) = length-printed_digits s (precision_of s) n ∙ ap (max (precision_of s))
-              (natural_signed (kind_of s.conv) (has s.flags Alt) n e) in
+          (natural_signed (kind_of s.conv) (has s.flags Alt) n e) in
           let bare : value_text s (pos n) ≡ digits = ap (λ t. t ++ printed_digits s (printed_precision s (pos n)) n) (one ∙ other.0) ∙ ap
-              (λ p. printed_digits s p n) (unfilled s (pos n) h.not_filled) in
+          (λ p. printed_digits s p n) (unfilled s (pos n) h.not_filled) in
           let spaced : value_text (with_space s) (pos n) ≡ space ∷ digits = ap (λ t. t ++ printed_digits s (printed_precision (with_space s) (pos n)) n)
-              (two ∙ other.1) ∙ ap (λ p. space ∷ printed_digits s p n) (unfilled (with_space s) (pos n) h.not_filled) in
+          (two ∙ other.1) ∙ ap (λ p. space ∷ printed_digits s p n) (unfilled (with_space s) (pos n) h.not_filled) in
           let room = h.room in
           ap (field s) bare ∙ in_room (has s.flags Minus) (width_of s) digits h.right (omega (arith, room, long)) ∙ ap (field s) (sym spaced)
     ]

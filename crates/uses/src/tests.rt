@@ -14,9 +14,9 @@ mod comparisons;
 mod faults;
 mod literals;
 mod memory;
+mod posix;
 mod printing;
 mod reading;
-mod signatures;
 mod values;
 mod whole;
 

@@ -1,6 +1,6 @@
 use Rattle.std.proofs.Common.{inl, inr, refl, subst}
 use Rattle.pf_posix.specs.Laws.{ComparesArgumentTypes}
-use Rattle.fmtcanon_c.proofs.SignatureLemmas.{they_differ}
+use Rattle.fmtcanon_c.proofs.ArgumentTypeLemmas.{they_differ}
 use Rattle.fmtcanon_c.proofs.argument_types.fits_in.Goals as goal
 
 pub returns-in-Ok-Some : goal.returns-in-Ok-Some

@@ -4,9 +4,9 @@ use Rattle.std.proofs.lemmas.Result.{err_from_is_err_and}
 use Rattle.pf_values.specs.declared.models.Model.{Model}
 use Rattle.pf_values.specs.declared.models.Model.TheVariants.{Lp64}
 use Rattle.pf_values.specs.declared.models.TheConstants.Model.{ALL}
-use Rattle.fmtcanon_c.specs.Signatures.{Fit}
+use Rattle.fmtcanon_c.specs.ArgumentTypes.{Fit}
 use Rattle.fmtcanon_c.proofs.SamenessLemmas.{added, one_more_weight, passed}
-use Rattle.fmtcanon_c.proofs.SignatureLemmas.{accepted_more, fits_not, fits_so, stops_at}
+use Rattle.fmtcanon_c.proofs.ArgumentTypeLemmas.{accepted_more, fits_not, fits_so, stops_at}
 use Rattle.fmtcanon_c.proofs.argument_types.fits_models.Goals as goal
 
 pub loop-model-preserved : goal.loop-model-preserved

@@ -3,7 +3,7 @@ use Rattle.std.specs.List.{AllByRecursion}
 use Rattle.pf_posix.specs.Items.{IsPosixAccepted}
 use Rattle.pf_values.specs.declared.models.TheConstants.Model.{ALL}
 use Rattle.fmtcanon_c.specs.Calls.{AreModels}
-use Rattle.fmtcanon_c.specs.Signatures.{Fit}
+use Rattle.fmtcanon_c.specs.ArgumentTypes.{Fit}
 use Rattle.fmtcanon_c.proofs.SamenessLemmas.{weight_after}
 use Rattle.fmtcanon_c.proofs.argument_types.fits_models.Given as goal
 

@@ -1,7 +1,7 @@
 use Rattle.std.proofs.Common.{subst}
 use Rattle.std.proofs.lemmas.Bool.{false≢true}
 use Rattle.pf_posix.specs.Laws.{ComparesArgumentTypes}
-use Rattle.fmtcanon_c.proofs.SignatureLemmas.{they_differ}
+use Rattle.fmtcanon_c.proofs.ArgumentTypeLemmas.{they_differ}
 use Rattle.fmtcanon_c.proofs.argument_types.is_fit.Goals as goal
 
 pub returns-in-Ok-Some : goal.returns-in-Ok-Some

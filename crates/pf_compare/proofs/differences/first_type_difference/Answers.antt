@@ -22,8 +22,10 @@ pub returns-then-not-is_type : goal.returns-then-not-is_type
 returns-then-not-is_type c =
     let s = c.loop-piece.invariant.steps in
     λ xs ys a b.
-    differ_here c.args.model c.next.new.self c.next_type.new.pieces c.args.f.now c.args.g.now s.done c.loop-piece.index c.in-Some-arg_type.wanted c.next_type.result xs ys s.count
-    (taken_more c.args.model c.loop-piece.piece-iterator c.next.new.self c.args.f.now s.done s.first_taken c.in-Some.piece c.in-Some.ensures.steps c.in-Ok.piece _ c.in-Ok.is c.in-Some-arg_type.ensures)
+    differ_here c.args.model c.next.new.self c.next_type.new.pieces c.args.f.now c.args.g.now s.done c.loop-piece.index c.in-Some-arg_type.wanted
+    c.next_type.result xs ys s.count
+    (taken_more c.args.model c.loop-piece.piece-iterator c.next.new.self c.args.f.now s.done s.first_taken c.in-Some.piece c.in-Some.ensures.steps
+    c.in-Ok.piece _ c.in-Ok.is c.in-Some-arg_type.ensures)
     (c.next_type.ensures c.args.g.now s.done c.requires.second s.second_taken) (c.is_type.ensures.other (rw c.if-not-is_type.true (search rules))) a b
 
 pub loop-piece-preserved-in-Some-arg_type : goal.loop-piece-preserved-in-Some-arg_type
@@ -34,8 +36,10 @@ loop-piece-preserved-in-Some-arg_type c =
       can = tt;
       finite = tt;
       bound = omega (arith, c.loop-piece.invariant.bound, less);
-      steps = stepped c.args.model c.next.new.self c.next_type.new.pieces c.args.f.now c.args.g.now s.done c.loop-piece.index c.in-Some-arg_type.wanted c.next_type.result s.count
-          (taken_more c.args.model c.loop-piece.piece-iterator c.next.new.self c.args.f.now s.done s.first_taken c.in-Some.piece c.in-Some.ensures.steps c.in-Ok.piece _ c.in-Ok.is c.in-Some-arg_type.ensures)
+      steps = stepped c.args.model c.next.new.self c.next_type.new.pieces c.args.f.now c.args.g.now s.done c.loop-piece.index c.in-Some-arg_type.wanted
+          c.next_type.result s.count
+          (taken_more c.args.model c.loop-piece.piece-iterator c.next.new.self c.args.f.now s.done s.first_taken c.in-Some.piece c.in-Some.ensures.steps
+          c.in-Ok.piece _ c.in-Ok.is c.in-Some-arg_type.ensures)
           (c.next_type.ensures c.args.g.now s.done c.requires.second s.second_taken) (c.is_type.ensures.yes (rw c.if-not-is_type.false (search rules)));
     }
 
@@ -49,7 +53,8 @@ loop-piece-preserved c =
       bound = omega (arith, c.loop-piece.invariant.bound, less);
       steps = record {
         done = s.done;
-        first_taken = taken_same c.args.model c.loop-piece.piece-iterator c.next.new.self c.args.f.now s.done s.first_taken c.in-Some.piece c.in-Some.ensures.steps c.in-Ok.piece c.in-Ok.is c.in_default.ensures;
+        first_taken = taken_same c.args.model c.loop-piece.piece-iterator c.next.new.self c.args.f.now s.done s.first_taken c.in-Some.piece
+            c.in-Some.ensures.steps c.in-Ok.piece c.in-Ok.is c.in_default.ensures;
         second_taken = s.second_taken;
         count = s.count;
       };
@@ -58,7 +63,8 @@ loop-piece-preserved c =
 pub unreachable-requires : goal.unreachable-requires
 unreachable-requires c =
     let s = c.loop-piece.invariant.steps in
-    not_refused c.args.model c.loop-piece.piece-iterator c.next.new.self c.args.f.now s.done s.first_taken c.in-Some.piece c.in-Some.ensures.steps c.requires.first c.in-Err.field-0 c.in-Err.is
+    not_refused c.args.model c.loop-piece.piece-iterator c.next.new.self c.args.f.now s.done s.first_taken c.in-Some.piece c.in-Some.ensures.steps
+    c.requires.first c.in-Err.field-0 c.in-Err.is
 
 pub returns-in-Some-next_type : goal.returns-in-Some-next_type
 returns-in-Some-next_type c =

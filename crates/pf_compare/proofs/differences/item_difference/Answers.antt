@@ -20,12 +20,14 @@ loop-piece-preserved c =
       can = tt;
       finite = tt;
       bound = omega (arith, c.loop-piece.invariant.bound, less, c.arg_count-index.ensures.few);
-      along = along_more c.loop-piece.piece-iterator c.next.new.self c.loop-piece.second_pieces c.next_piece_matches.new.second_pieces c.args.f.now c.args.g.now c.loop-piece.index c.loop-piece.found c.loop-piece.invariant.along
+      along = along_more c.loop-piece.piece-iterator c.next.new.self c.loop-piece.second_pieces c.next_piece_matches.new.second_pieces c.args.f.now
+          c.args.g.now c.loop-piece.index c.loop-piece.found c.loop-piece.invariant.along
           c.in-Some.piece c.in-Ok.piece c.arg_count-index.result c.next_piece_matches.new.found c.in-Some.ensures.steps c.in-Ok.is
-              (c.next_piece_matches.ensures (rw c.if-not-next_piece_matches.false (search rules))) c.arg_count-index.ensures.value;
+          (c.next_piece_matches.ensures (rw c.if-not-next_piece_matches.false (search rules))) c.arg_count-index.ensures.value;
     }
 
 pub returns-in-None-next : goal.returns-in-None-next
 returns-in-None-next c =
     rw c.item_difference_of.ensures
-        (along_whole c.loop-piece.piece-iterator c.next.new.self c.loop-piece.second_pieces c.next-2.new.self c.args.f.now c.args.g.now c.loop-piece.index c.loop-piece.found c.loop-piece.invariant.along c.in-None.ensures.steps c.in-None-next.ensures.steps)
+    (along_whole c.loop-piece.piece-iterator c.next.new.self c.loop-piece.second_pieces c.next-2.new.self c.args.f.now c.args.g.now c.loop-piece.index
+    c.loop-piece.found c.loop-piece.invariant.along c.in-None.ensures.steps c.in-None-next.ensures.steps)

@@ -29,10 +29,15 @@ returns-then-branch c = record {
 pub loop-index-preserved : goal.loop-index-preserved
 loop-index-preserved c =
     tried_more c.args.model c.args.whole.now c.args.first.now c.args.second.now c.args.wanted c.loop-index.index _
-        (argument_in c.args.model candidate_argument c.candidate_row-row.result.now c.args.wanted c.candidate_row-row.ensures.value c.loop-index.index _
-        (omega (arith, c.loop-index-test.true)))
+    (argument_in c.args.model candidate_argument c.candidate_row-row.result.now c.args.wanted c.candidate_row-row.ensures.value c.loop-index.index _
+    (omega (arith, c.loop-index-test.true)))
     (told_alike _ _ c.in_ok-candidate_differs.field-0 c.if-branch.false c.in_ok-candidate_differs.ensures) c.loop-index.invariant
 
 pub returns : goal.returns
 returns c = λ k other e. c.loop-index.invariant k other
-    (omega (arith, c.loop-index-test.false, within_row c.args.model candidate_argument c.candidate_row-row.result.now c.args.wanted c.candidate_row-row.ensures.value k other e)) e
+    (omega (
+      arith,
+      c.loop-index-test.false,
+      within_row c.args.model candidate_argument c.candidate_row-row.result.now c.args.wanted
+          c.candidate_row-row.ensures.value k other e,
+    )) e

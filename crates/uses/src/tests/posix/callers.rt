@@ -30,7 +30,7 @@ fn first_type(model: Model, format: &[u8]) -> Option<ArgumentType> {
 }
 
 #[test]
-fn callers_of_signatures(rt: HostRuntime) {
+fn callers_of_argument_types(rt: HostRuntime) {
     let model = Model::Lp64;
     let answers = [
         may_translate(model, b"%s of %d", b"%2$d/%1$s"),

@@ -13,7 +13,7 @@ use Rattle.pf_posix.proofs.Agreeing.{all_push}
 use Rattle.pf_posix.proofs.Unique.{one_list}
 use Rattle.pf_values.specs.declared.models.Model.{Model}
 use Rattle.pf_values.specs.meaning.Text.{Text}
-use Rattle.fmtcanon_c.specs.Signatures.{Fit, StopsFitsIn}
+use Rattle.fmtcanon_c.specs.ArgumentTypes.{Fit, StopsFitsIn}
 
 module _ (model : Model) (f g : Text) where
   pub they_differ : (index : ℕ) → ComparesArgumentTypes model f g (Some index) → ¬ Fit model f g
