@@ -50,6 +50,7 @@ verdict_pushed IsIn models i d few lines ends answer out end h name name_is new 
     let model = get_or models i d in
     let next : suc i ≡ i + 1 = omega arith in
     let front : take i models ++ model ∷ [] ≡ take (i + 1) models = sym (take-suc models i d few) ∙ ap (λ n. take n models) next in
-    let text : new ≡ out ++ (line (model_name model) ++ lines) = new_is ∙ ap (λ n. out ++ line n ++ lines) name_is ∙ append_assoc out (line (model_name model)) lines in
+    let text : new ≡ out ++ (line (model_name model) ++ lines) = new_is ∙ ap (λ n. out ++ line n ++ lines) name_is ∙ append_assoc out
+    (line (model_name model)) lines in
     rw text (rw ended_is (subst (λ ms. IsAnswerInEach IsIn ms (out ++ (line (model_name model) ++ lines)) (ending_with end ends)) front
     (one_more_model IsIn model lines ends answer (take i models) out end h)))

@@ -1,27 +1,25 @@
 -- What holds of the bytes of a format that is given.
 use Rattle.std.proofs.Common.{◌≡◌, ℕ, ◌≤◌, List, ◌∷◌, ◌++◌, Option, None, Some, ap, arith, length, length-append, map, subst, sym, unwrap_or}
 use Rattle.std.specs.Prelude.{MatchOption, ⊤}
-use Rattle.pf_canon.specs.declared.faults.Side.TheVariants as sides
+use Rattle.pf_text.specs.declared.refusals.Side.TheVariants as sides
 use Rattle.pf_literals.specs.Answers.{HasNoPlace, IsPlaceOf}
 use Rattle.pf_literals.specs.Sources.{IsSourceOf}
 use Rattle.pf_literals.proofs.HasPlaceLemmas.{has_place}
-use Rattle.pf_signatures.specs.declared.refusals.SignatureRefusal.{SignatureRefusal}
-use Rattle.pf_signatures.specs.declared.refusals.SignatureRefusalKind.{SignatureRefusalKind}
-use Rattle.pf_signatures.specs.declared.refusals.SignatureRefusalKind.TheVariants as kinds
-use Rattle.pf_signatures.specs.Refusals.{IsPosixRefusedAt}
-use Rattle.pf_signatures.specs.Unnumbered.{IsNumberedAt, IsWholeRefusedAt}
-use Rattle.pf_text.specs.declared.scanner.Refusal.{Refusal}
+use Rattle.pf_posix.specs.Refusals.{IsPosixRefusedAt}
+use Rattle.pf_posix.specs.Unnumbered.{IsNumberedAt, IsWholeRefusedAt}
+use Rattle.pf_text.specs.declared.refusals.Refusal.{Refusal}
 use Rattle.pf_values.specs.declared.models.Model.{Model}
 use Rattle.pf_values.specs.declared.refusals.RefusalKind.{RefusalKind}
+use Rattle.pf_values.specs.declared.refusals.RefusalKind.TheVariants as kinds
 use Rattle.pf_values.specs.meaning.Refusals.{IsRefusedAt}
 use Rattle.pf_values.specs.meaning.Text.{Text, dollar, percent}
-use Rattle.fmtcanon.specs.Languages.{Language, Profile, Numbered, RefusesInProfile, RefusesText, Unnumbered}
+use Rattle.fmtcanon.specs.Languages.{Language, Profile, Numbered, RefusesText, Unnumbered}
 use Rattle.fmtcanon.specs.Answers.{IsFormatFault, IsPairFault, IsGivenFault, IsGivenPairFault, IsOneFault, IsRefusalOfFirst, IsFaultInTexts, IsFaultInText, side_of}
 use Rattle.fmtcanon.specs.FormatArguments.{IsArgumentFault}
 use Rattle.fmtcanon.specs.Formats.{HoldsFormat, IsFormat, IsOffsetInText}
 use Rattle.fmtcanon.specs.Questions.{language_of_format}
 use Rattle.fmtcanon.specs.declared.outcome.Fault.{Fault}
-use Rattle.fmtcanon.specs.declared.outcome.Fault.TheVariants.{Refused, RefusedWhole, BadLiteral, BadWord, WrongCount, WrongType, Memory}
+use Rattle.fmtcanon.specs.declared.outcome.Fault.TheVariants.{Refused, BadLiteral, BadWord, WrongCount, WrongType, Memory}
 use Rattle.fmtcanon.specs.declared.formats.GivenFormat.{GivenFormat}
 use Rattle.fmtcanon.specs.declared.formats.Notation.TheVariants.{Literals}
 use Rattle.fmtcanon.specs.declared.questions.OneQuestion.{OneQuestion}
@@ -34,7 +32,7 @@ refused_within bytes kind at h =
     let both = length-append h.front h.rest in
     omega (arith, place, split, both)
 
-posix_within : (model : Model) (bytes : Text) (kind : SignatureRefusalKind) (at : ℕ) → IsPosixRefusedAt model bytes kind at → at ≤ length bytes
+posix_within : (model : Model) (bytes : Text) (kind : RefusalKind) (at : ℕ) → IsPosixRefusedAt model bytes kind at → at ≤ length bytes
 posix_within model bytes kind at h =
     let place = h.place in
     let split = ap length h.split in
@@ -49,7 +47,7 @@ numbered_within bytes at h =
     let both = length-append front (dollar ∷ h.rest) in
     omega (arith, place, split, both)
 
-unnumbered_within : (model : Model) (bytes : Text) (kind : SignatureRefusalKind) (at : ℕ) → IsWholeRefusedAt model bytes kind at → at ≤ length bytes
+unnumbered_within : (model : Model) (bytes : Text) (kind : RefusalKind) (at : ℕ) → IsWholeRefusedAt model bytes kind at → at ≤ length bytes
 unnumbered_within model bytes kinds.Numbered at h = numbered_within bytes at h.0
 unnumbered_within model bytes kind at h = posix_within model bytes kind at h.0
 
@@ -72,8 +70,6 @@ offset_in_literals given index at found is place e bytes gives within =
 abbrev pub IsOfBytes : Text → Fault → Type 0
 IsOfBytes bytes (Refused None refusal) = refusal.at ≤ length bytes
 IsOfBytes bytes (Refused (Some side) refusal) = ⊥
-IsOfBytes bytes (RefusedWhole None refusal) = refusal.at ≤ length bytes
-IsOfBytes bytes (RefusedWhole (Some side) refusal) = ⊥
 IsOfBytes bytes (BadLiteral side refusal) = ⊥
 IsOfBytes bytes (BadWord index) = ⊤
 IsOfBytes bytes (WrongCount wanted given) = ⊤
@@ -89,11 +85,6 @@ given_fault IsFault given bytes (Refused None refusal) reported of gives h (at, 
     subst (IsGivenFault IsFault given) (sym is)
     (record { bytes = bytes; gives = gives; at = refusal.at; holds = h; offset_is = offset_is })
 given_fault IsFault given bytes (Refused (Some side) refusal) reported of gives h is = absurd (of (Refused (Some side) refusal) h)
-given_fault IsFault given bytes (RefusedWhole None refusal) reported of gives h (at, is, of_offset) =
-    let offset_is = of_offset bytes gives (of (RefusedWhole None refusal) h) in
-    subst (IsGivenFault IsFault given) (sym is)
-    (record { bytes = bytes; gives = gives; at = refusal.at; holds = h; offset_is = offset_is })
-given_fault IsFault given bytes (RefusedWhole (Some side) refusal) reported of gives h is = absurd (of (RefusedWhole (Some side) refusal) h)
 given_fault IsFault given bytes (BadLiteral side refusal) reported of gives h is = absurd (of (BadLiteral side refusal) h)
 given_fault IsFault given bytes (BadWord index) reported of gives h is = subst (IsGivenFault IsFault given) (sym is) (bytes, gives, h)
 given_fault IsFault given bytes (WrongCount wanted had) reported of gives h is = subst (IsGivenFault IsFault given) (sym is) (bytes, gives, h)
@@ -101,24 +92,16 @@ given_fault IsFault given bytes (WrongType index) reported of gives h is = subst
 given_fault IsFault given bytes Memory reported of gives h is = subst (IsGivenFault IsFault given) (sym is) tt
 
 -- in each language a refusal is within the bytes
-refusal_within : (language : Language) (bytes : Text) (refusal : Refusal) → RefusesInProfile language bytes refusal
-    → refusal.at ≤ length bytes
-refusal_within Profile bytes refusal h = refused_within bytes refusal.kind refusal.at h
-refusal_within Numbered bytes refusal h = absurd h
-refusal_within Unnumbered bytes refusal h = absurd h
-
-whole_within : (language : Language) (model : Model) (bytes : Text) (refusal : SignatureRefusal)
-    → RefusesText language model bytes refusal → refusal.at ≤ length bytes
-whole_within Profile model bytes refusal h = absurd h
-whole_within Numbered model bytes refusal h = posix_within model bytes refusal.kind refusal.at h
-whole_within Unnumbered model bytes refusal h = unnumbered_within model bytes refusal.kind refusal.at h
+refusal_within : (language : Language) (model : Model) (bytes : Text) (refusal : Refusal)
+    → RefusesText language model bytes refusal.kind refusal.at → refusal.at ≤ length bytes
+refusal_within Profile model bytes refusal h = refused_within bytes refusal.kind refusal.at h
+refusal_within Numbered model bytes refusal h = posix_within model bytes refusal.kind refusal.at h
+refusal_within Unnumbered model bytes refusal h = unnumbered_within model bytes refusal.kind refusal.at h
 
 format_of_bytes : (language : Language) (model : Model) (bytes : Text) (fault : Fault)
     → IsFormatFault language model bytes fault → IsOfBytes bytes fault
-format_of_bytes language model bytes (Refused None refusal) h = refusal_within language bytes refusal h
+format_of_bytes language model bytes (Refused None refusal) h = refusal_within language model bytes refusal h
 format_of_bytes language model bytes (Refused (Some side) refusal) h = h
-format_of_bytes language model bytes (RefusedWhole None refusal) h = whole_within language model bytes refusal h
-format_of_bytes language model bytes (RefusedWhole (Some side) refusal) h = h
 format_of_bytes language model bytes (BadLiteral side refusal) h = h
 format_of_bytes language model bytes (BadWord index) h = tt
 format_of_bytes language model bytes (WrongCount wanted given) h = tt
@@ -129,7 +112,6 @@ arguments_of_bytes : (model : Model) (words : List Text) (bytes : Text) (fault :
     → IsArgumentFault model bytes words fault → IsOfBytes bytes fault
 arguments_of_bytes model words bytes (Refused None refusal) h = refused_within bytes refusal.kind refusal.at h
 arguments_of_bytes model words bytes (Refused (Some side) refusal) h = h
-arguments_of_bytes model words bytes (RefusedWhole side refusal) h = absurd h
 arguments_of_bytes model words bytes (BadLiteral side refusal) h = h
 arguments_of_bytes model words bytes (BadWord index) h = tt
 arguments_of_bytes model words bytes (WrongCount wanted given) h = tt
@@ -153,19 +135,9 @@ module _ (language : Language) (model : Model) (first second : GivenFormat) (fir
         gives = g;
         at = refusal.at;
         holds = h;
-        offset_is = of_offset first_bytes g (refusal_within language first_bytes refusal h);
+        offset_is = of_offset first_bytes g (refusal_within language model first_bytes refusal h);
       })
   first_refused (Refused (Some sides.Second) refusal) reported h is = absurd h
-  first_refused (RefusedWhole None refusal) reported h is = absurd h
-  first_refused (RefusedWhole (Some sides.First) refusal) reported h (at, is, of_offset) =
-      subst (IsGivenPairFault language model first second) (sym is) (record {
-        bytes = first_bytes;
-        gives = g;
-        at = refusal.at;
-        holds = h;
-        offset_is = of_offset first_bytes g (whole_within language model first_bytes refusal h);
-      })
-  first_refused (RefusedWhole (Some sides.Second) refusal) reported h is = absurd h
   first_refused (BadLiteral side refusal) reported h is = absurd h
   first_refused (BadWord index) reported h is = absurd h
   first_refused (WrongCount wanted given) reported h is = absurd h
@@ -186,21 +158,7 @@ module _ (language : Language) (model : Model) (first second : GivenFormat) (fir
           gives = h;
           at = refusal.at;
           holds = hinders.1;
-          offset_is = of_offset second_bytes h (refusal_within language second_bytes refusal hinders.1);
-        },
-      )
-  pair_fault second_bytes h (RefusedWhole None refusal) reported hinders is = absurd hinders
-  pair_fault second_bytes h (RefusedWhole (Some sides.First) refusal) reported hinders is =
-      first_refused (RefusedWhole (Some sides.First) refusal) reported hinders is
-  pair_fault second_bytes h (RefusedWhole (Some sides.Second) refusal) reported hinders (at, is, of_offset) =
-      subst (IsGivenPairFault language model first second) (sym is) (
-        (first_bytes, g, hinders.0),
-        record {
-          bytes = second_bytes;
-          gives = h;
-          at = refusal.at;
-          holds = hinders.1;
-          offset_is = of_offset second_bytes h (whole_within language model second_bytes refusal hinders.1);
+          offset_is = of_offset second_bytes h (refusal_within language model second_bytes refusal hinders.1);
         },
       )
   pair_fault second_bytes h (BadLiteral side refusal) reported hinders is = absurd hinders

@@ -22,25 +22,37 @@ use Rattle.fmtcanon.proofs.RecordTexts.{all_more}
 
 module _ (asked : RecordQuestion) where
   -- more records come that have no reply
-  pub are_more : (records more : List Text) (replies : List Reply) (others : List Text) → AreReplies asked records replies others → AreReplies asked (records ++ more) replies (others ++ more)
+  pub are_more : (records more : List Text) (replies : List Reply) (others : List Text) → AreReplies asked records replies others
+      → AreReplies asked (records ++ more) replies (others ++ more)
   are_more records more replies others h = record { each = h.each; to = ap (λ r. r ++ more) h.to ∙ append_assoc _ others more }
 
   -- the last record and those before it without a reply have one now
-  pub are_added : (whole : List Text) (rest : Text) (replies : List Reply) (first : List Text) (reply : Reply) → AreReplies asked whole replies first → IsReply asked reply → reply.formats ≡ first ++ rest ∷ []
+  pub are_added : (whole : List Text) (rest : Text) (replies : List Reply) (first : List Text) (reply : Reply) → AreReplies asked whole replies first
+      → IsReply asked reply → reply.formats ≡ first ++ rest ∷ []
       → AreReplies asked (whole ++ rest ∷ []) (replies ++ reply ∷ []) []
   are_added whole rest replies first reply h is about =
       let f = λ (r : Reply). r.formats in
       record {
         each = all_more (IsReply asked) replies reply h.each is;
-        to = ap (λ r. r ++ rest ∷ []) h.to ∙ append_assoc (flat_map f replies) first (rest ∷ []) ∙ ap (λ r. flat_map f replies ++ r) (sym about) ∙ flat_map_more f [] replies reply ∙ sym (append-nil (flat_map f (replies ++ reply ∷ [])));
+        to =
+            ap (λ r. r ++ rest ∷ []) h.to ∙ append_assoc (flat_map f replies) first (rest ∷ []) ∙ ap (λ r. flat_map f replies ++ r) (sym about)
+            ∙ flat_map_more f [] replies reply ∙ sym (append-nil (flat_map f (replies ++ reply ∷ [])));
       }
 
-  module _ {W : Type 0} (contents : W → Known) (start now : Counted W) (records : List Text) (replies : List Reply) (others : List Text) (are : AreReplies asked records replies others) where
+  module _ {W : Type 0} (contents : W → Known) (start now : Counted W) (records : List Text) (replies : List Reply) (others : List Text)
+      (are : AreReplies asked records replies others) where
     -- nothing waits, and the writer was flushed
-    pub out_all : (r : Replies) (greatest : ℕ) → HasSaid contents r start now replies → waiting_text r ≡ [] → is_flushed now ≡ true → greatest ≡ r.greatest → RepliesAll asked contents start now records others greatest
+    pub out_all : (r : Replies) (greatest : ℕ) → HasSaid contents r start now replies → waiting_text r ≡ [] → is_flushed now ≡ true
+        → greatest ≡ r.greatest → RepliesAll asked contents start now records others greatest
     out_all r greatest h none flushed e =
         let all = h.has.bytes ∙ ap (λ w. h.sent ++ w) none ∙ append-nil h.sent in
-        record { replies = replies; are = are; greatest_is = e ∙ h.has.greatest; writes = subst (WritesAll contents start now) (sym all) h.writes; flushed = flushed }
+        record {
+          replies = replies;
+          are = are;
+          greatest_is = e ∙ h.has.greatest;
+          writes = subst (WritesAll contents start now) (sym all) h.writes;
+          flushed = flushed;
+        }
 
     pub out_first : (count : ℕ) → HasSaidFirst contents start now replies count → RepliesFirst asked contents start now records count
     out_first count h = record { replies = replies; others = others; are = are; written = h.written; writes = h.writes; count_is = h.count_is }
@@ -163,7 +175,8 @@ module _ (asked : RecordQuestion) where
     stopped_more a records more (Write count) h = (h.0, h.1 ++ more, are_more records more h.0 h.1 h.2, h.3)
 
     -- to stop is one way to end
-    pub stopped_at_end : (records : List Text) (outcome : Outcome) → RecordsEndEarly asked contents start now records outcome → RecordsFinish asked contents start now records outcome
+    pub stopped_at_end : (records : List Text) (outcome : Outcome) → RecordsEndEarly asked contents start now records outcome
+        → RecordsFinish asked contents start now records outcome
     stopped_at_end records (outcomes.Failed faults.Memory) h = h
     stopped_at_end records (outcomes.Write count) h = h
     stopped_at_end records _ h = absurd h

@@ -24,7 +24,8 @@ min-more a b m = omega arith
 
 module _ {W : Type 0} (contents : W → Known) (start old now : Counted W) (r : Replies) (replies : List Reply) (h : HasSaid contents r start old replies) where
   -- all that waited went out
-  pub said_all : (new : Replies) → WritesAll contents old now (waiting_text r) → waiting_text new ≡ [] → new.greatest ≡ r.greatest → new.written ≡ count_of (r.written + length (waiting_text r)) → HasSaid contents new start now replies
+  pub said_all : (new : Replies) → WritesAll contents old now (waiting_text r) → waiting_text new ≡ [] → new.greatest ≡ r.greatest
+      → new.written ≡ count_of (r.written + length (waiting_text r)) → HasSaid contents new start now replies
   said_all new writes none greatest count =
       let sent = h.sent ++ waiting_text r in
       record {
@@ -36,12 +37,15 @@ module _ {W : Type 0} (contents : W → Known) (start old now : Counted W) (r : 
         has = record {
           bytes = h.has.bytes ∙ sym (ap (λ w. sent ++ w) none ∙ append-nil sent);
           greatest = greatest ∙ h.has.greatest;
-          count = count ∙ ap (λ n. count_of (n + length (waiting_text r))) h.has.count ∙ min-more (length h.sent) (length (waiting_text r)) _ ∙ ap count_of (sym (length-append h.sent (waiting_text r)));
+          count =
+              count ∙ ap (λ n. count_of (n + length (waiting_text r))) h.has.count ∙ min-more (length h.sent) (length (waiting_text r)) _ ∙ ap
+              count_of (sym (length-append h.sent (waiting_text r)));
         };
       }
 
   -- the first bytes of it did
-  pub said_first : (n count : ℕ) → WritesFirst contents old now (waiting_text r) n → count ≡ count_of (r.written + n) → HasSaidFirst contents start now replies count
+  pub said_first : (n count : ℕ) → WritesFirst contents old now (waiting_text r) n → count ≡ count_of (r.written + n)
+      → HasSaidFirst contents start now replies count
   said_first n count writes e =
       let more = WritesFirst-more contents start old now h.sent (waiting_text r) [] n h.writes writes in
       record {
@@ -51,7 +55,8 @@ module _ {W : Type 0} (contents : W → Known) (start old now : Counted W) (r : 
       }
 
 -- all of it did, and then the flush failed
-pub said_unflushed : {W : Type 0} (contents : W → Known) (start old now : Counted W) (r : Replies) (replies : List Reply) → HasSaid contents r start old replies → waiting_text r ≡ [] → Keeps (contents (device_of old)) (contents (device_of now)) → HasFailed old now
+pub said_unflushed : {W : Type 0} (contents : W → Known) (start old now : Counted W) (r : Replies) (replies : List Reply)
+    → HasSaid contents r start old replies → waiting_text r ≡ [] → Keeps (contents (device_of old)) (contents (device_of now)) → HasFailed old now
     → HasSaidFirst contents start now replies r.written
 said_unflushed contents start old now r replies h none kept failed =
     let all : replies_text replies ≡ h.sent = h.has.bytes ∙ ap (λ w. h.sent ++ w) none ∙ append-nil h.sent in
@@ -59,24 +64,32 @@ said_unflushed contents start old now r replies h none kept failed =
     record {
       written = length h.sent;
       writes = record {
-        appended = subst (Appends _ _) (sym (ap (take (length h.sent)) all ∙ take_all (length h.sent) h.sent (omega arith))) (Appends-kept _ (contents (device_of old)) _ h.sent h.writes.appended kept);
+        appended =
+            subst (Appends _ _) (sym (ap (take (length h.sent)) all ∙ take_all (length h.sent) h.sent (omega arith)))
+            (Appends-kept _ (contents (device_of old)) _ h.sent h.writes.appended kept);
         within = omega (arith, ap length all);
         failed = rw (← same) failed;
       };
       count_is = h.has.count;
     }
 
-module _ (asked : RecordQuestion) (formats : List Text) (sent : Text) (replies : List Reply) (old new : Replies) (h : HasReplies old sent replies) (same : new.written ≡ old.written) (question : Question) (about : IsAbout question asked formats) (said : Text) (outcome : Outcome) (says : RunWrites question said outcome) (status : ℕ) (is : status ≡ status_of outcome) where
+module _ (asked : RecordQuestion) (formats : List Text) (sent : Text) (replies : List Reply) (old new : Replies) (h : HasReplies old sent replies)
+    (same : new.written ≡ old.written) (question : Question) (about : IsAbout question asked formats) (said : Text) (outcome : Outcome)
+    (says : RunWrites question said outcome) (status : ℕ) (is : status ≡ status_of outcome) where
   -- a reply was added, or none
-  pub reply_added : {E : Type 0} (r : Result (Unit {0}) E) → OnOk r (waiting_text new ≡ waiting_text old ++ reply_bytes status said) → OnOk r (new.greatest ≡ max old.greatest status) → OnErr r (waiting_text new ≡ waiting_text old) → OnErr r (new.greatest ≡ old.greatest)
-      → MatchResult r (λ _. (reply : Reply) × IsReply asked reply × (reply.formats ≡ formats) × HasReplies new sent (replies ++ reply ∷ [])) (λ _. HasReplies new sent replies)
+  pub reply_added : {E : Type 0} (r : Result (Unit {0}) E) → OnOk r (waiting_text new ≡ waiting_text old ++ reply_bytes status said)
+      → OnOk r (new.greatest ≡ max old.greatest status) → OnErr r (waiting_text new ≡ waiting_text old) → OnErr r (new.greatest ≡ old.greatest)
+      → MatchResult r (λ _. (reply : Reply) × IsReply asked reply × (reply.formats ≡ formats) × HasReplies new sent (replies ++ reply ∷ []))
+      (λ _. HasReplies new sent replies)
   reply_added (Ok done) bytes greatest none stays =
       let reply : Reply = record { formats = formats; status = status; bytes = reply_bytes status said } in (
         reply,
         record { question = question; about = about; said = said; outcome = outcome; says = says; status = is; bytes = refl },
         refl,
         record {
-          bytes = sym (flat_map_more (λ (r : Reply). r.bytes) [] replies reply) ∙ ap (λ t. t ++ reply.bytes) h.bytes ∙ append_assoc sent (waiting_text old) reply.bytes ∙ ap (λ t. sent ++ t) (sym bytes);
+          bytes =
+              sym (flat_map_more (λ (r : Reply). r.bytes) [] replies reply) ∙ ap (λ t. t ++ reply.bytes) h.bytes ∙ append_assoc sent
+              (waiting_text old) reply.bytes ∙ ap (λ t. sent ++ t) (sym bytes);
           greatest = greatest ∙ ap (λ n. max n reply.status) h.greatest ∙ sym (fold-append (λ n (r : Reply). max n r.status) 0 replies (reply ∷ []));
           count = same ∙ h.count;
         },

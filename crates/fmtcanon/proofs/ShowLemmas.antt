@@ -12,7 +12,7 @@ use Rattle.pf_text.proofs.Unique.{same_whole}
 use Rattle.pf_text.specs.declared.pieces.Piece.{Piece}
 use Rattle.pf_text.specs.declared.pieces.Piece.TheVariants as pieces
 use Rattle.pf_text.specs.declared.pieces.Pieces.{Pieces}
-use Rattle.pf_text.specs.declared.scanner.Refusal.{Refusal}
+use Rattle.pf_text.specs.declared.refusals.Refusal.{Refusal}
 use Rattle.pf_text.specs.History.{EndsRun, IsLiteral}
 use Rattle.pf_text.specs.PieceHistory.{NextReturns, NextIs, NextIsPiece, NextIsRefusal, HasGiven, IsPieceBefore, items_of}
 use Rattle.pf_values.specs.declared.limits.TheConstants.{MAX_TEXT_LEN}

@@ -6,7 +6,7 @@ use Rattle.pf_values.specs.declared.counted.Counted.{Counted}
 use Rattle.pf_values.specs.declared.models.Model.{Model}
 use Rattle.pf_values.specs.Counting.{Known, failures_after, failures_of}
 use Rattle.pf_values.specs.meaning.Text.{Text}
-use Rattle.pf_text.specs.declared.scanner.Refusal.{Refusal}
+use Rattle.pf_text.specs.declared.refusals.Refusal.{Refusal}
 use Rattle.pf_canon.specs.Copy.{CopyStops, ReadCounts, SettledOut, WriteCounts}
 use Rattle.pf_canon.specs.declared.faults.CopyFault.{CopyFault}
 use Rattle.pf_canon.specs.declared.faults.CopyFault.TheVariants as faults

@@ -4,12 +4,13 @@ use Rattle.std.specs.List.{AllByRecursion}
 use Rattle.pf_values.specs.declared.models.Model.{Model}
 use Rattle.pf_values.specs.meaning.Text.{Text}
 use Rattle.pf_canon.specs.Answers.{IsCanonicalFor}
-use Rattle.pf_canon.specs.declared.faults.Side.{Side}
-use Rattle.pf_canon.specs.declared.faults.Side.TheVariants as sides
+use Rattle.pf_text.specs.Refusals.{RefusesOne}
+use Rattle.pf_text.specs.declared.refusals.Side.{Side}
+use Rattle.pf_text.specs.declared.refusals.Side.TheVariants as sides
 use Rattle.fmtcanon.specs.declared.answer.Ending.{Ending}
 use Rattle.fmtcanon.specs.declared.answer.Ending.TheVariants as endings
 use Rattle.fmtcanon.specs.declared.outcome.Fault.{Fault}
-use Rattle.fmtcanon.specs.declared.outcome.Fault.TheVariants.{Refused, RefusedWhole, BadLiteral, BadWord, WrongCount, WrongType, Memory}
+use Rattle.fmtcanon.specs.declared.outcome.Fault.TheVariants.{Refused, BadLiteral, BadWord, WrongCount, WrongType, Memory}
 use Rattle.fmtcanon.specs.declared.formats.GivenFormat.{GivenFormat}
 use Rattle.fmtcanon.specs.declared.formats.Notation.{Notation}
 use Rattle.fmtcanon.specs.declared.questions.FormatQuestion.{FormatQuestion}
@@ -21,7 +22,7 @@ use Rattle.fmtcanon.specs.declared.questions.Question.TheVariants.{One, Two}
 use Rattle.fmtcanon.specs.ArgumentLines.{HasArgumentLines}
 use Rattle.fmtcanon.specs.FormatArguments.{IsArgumentFault, IsPrinted}
 use Rattle.fmtcanon.specs.Formats.{HoldsAt, HoldsOf, IsFormat, IsNoFormat, IsOffsetInText, written_in}
-use Rattle.fmtcanon.specs.Languages.{Language, AcceptsText, RefusesInProfile, RefusesText}
+use Rattle.fmtcanon.specs.Languages.{Language, AcceptsText, RefusesText}
 use Rattle.fmtcanon.specs.Lines.{line}
 use Rattle.fmtcanon.specs.Models.{asked_models}
 use Rattle.fmtcanon.specs.PairAnswers.{IsPairAnswerIn}
@@ -60,30 +61,21 @@ IsAnswer (Two question models first second) out ending = (first_bytes second_byt
 
 -- why the bytes of a format have no answer: they are refused, or memory was
 abbrev pub IsFormatFault : Language → Model → Text → Fault → Type 0
-IsFormatFault language model format (Refused None refusal) = RefusesInProfile language format refusal
-IsFormatFault language model format (RefusedWhole None refusal) =
-    RefusesText language model format refusal
+IsFormatFault language model format (Refused None refusal) =
+    RefusesText language model format refusal.kind refusal.at
 IsFormatFault language model format Memory = ⊤
 IsFormatFault language model format _ = ⊥
 
 -- the refusal of the first of two
 abbrev pub IsRefusalOfFirst : Language → Model → Text → Fault → Type 0
 IsRefusalOfFirst language model first (Refused (Some sides.First) refusal) =
-    RefusesInProfile language first refusal
-IsRefusalOfFirst language model first (RefusedWhole (Some sides.First) refusal) =
-    RefusesText language model first refusal
+    RefusesText language model first refusal.kind refusal.at
 IsRefusalOfFirst language model first _ = ⊥
 
 -- why two have none: the refusal of the first, otherwise of the second
 abbrev pub IsPairFault : Language → Model → Text → Text → Fault → Type 0
-IsPairFault language model first second (Refused (Some sides.First) refusal) =
-    RefusesInProfile language first refusal
-IsPairFault language model first second (Refused (Some sides.Second) refusal) =
-    AcceptsText language model first × RefusesInProfile language second refusal
-IsPairFault language model first second (RefusedWhole (Some sides.First) refusal) =
-    RefusesText language model first refusal
-IsPairFault language model first second (RefusedWhole (Some sides.Second) refusal) =
-    AcceptsText language model first × RefusesText language model second refusal
+IsPairFault language model first second (Refused (Some side) refusal) =
+    RefusesOne (AcceptsText language model) (RefusesText language model) first second side refusal
 IsPairFault language model first second Memory = ⊤
 IsPairFault language model first second _ = ⊥
 
@@ -109,9 +101,6 @@ abbrev pub IsGivenFault : (Text → Fault → Type 0) → GivenFormat → Fault 
 IsGivenFault IsFault given (Refused None refusal) = HoldsAt given
     (λ bytes at. IsFault bytes (Refused None (record refusal { at = at }))) refusal.at
 IsGivenFault IsFault given (Refused (Some side) refusal) = ⊥
-IsGivenFault IsFault given (RefusedWhole None refusal) = HoldsAt given
-    (λ bytes at. IsFault bytes (RefusedWhole None (record refusal { at = at }))) refusal.at
-IsGivenFault IsFault given (RefusedWhole (Some side) refusal) = ⊥
 IsGivenFault IsFault given (BadLiteral None refusal) = IsNoFormat given refusal
 IsGivenFault IsFault given (BadLiteral (Some side) refusal) = ⊥
 IsGivenFault IsFault given (BadWord index) = HoldsOf given (λ bytes. IsFault bytes (BadWord index))
@@ -129,11 +118,6 @@ IsGivenPairFault language model first second (Refused (Some sides.First) refusal
 IsGivenPairFault language model first second (Refused (Some sides.Second) refusal) =
     HoldsOf first (AcceptsText language model)
     × IsGivenFault (IsFormatFault language model) second (Refused None refusal)
-IsGivenPairFault language model first second (RefusedWhole (Some sides.First) refusal) =
-    IsGivenFault (IsFormatFault language model) first (RefusedWhole None refusal)
-IsGivenPairFault language model first second (RefusedWhole (Some sides.Second) refusal) =
-    HoldsOf first (AcceptsText language model)
-    × IsGivenFault (IsFormatFault language model) second (RefusedWhole None refusal)
 IsGivenPairFault language model first second (BadLiteral (Some sides.First) refusal) =
     IsNoFormat first refusal
 IsGivenPairFault language model first second (BadLiteral (Some sides.Second) refusal) =
@@ -164,7 +148,6 @@ IsQuestionFault (Two question models first second) fault =
 -- the side that is refused
 abbrev pub side_of : Fault → Option Side
 side_of (Refused side refusal) = side
-side_of (RefusedWhole side refusal) = side
 side_of (BadLiteral side refusal) = None
 side_of (BadWord index) = None
 side_of (WrongCount wanted given) = None
@@ -180,8 +163,6 @@ IsOffsetOfByte given at reported = (bytes : Text) → IsFormat given bytes → a
 abbrev pub IsFaultInText : GivenFormat → Fault → Fault → Type 0
 IsFaultInText given (Refused side refusal) reported = (at : ℕ)
     × (reported ≡ Refused side (record refusal { at = at })) × IsOffsetOfByte given refusal.at at
-IsFaultInText given (RefusedWhole side refusal) reported = (at : ℕ)
-    × (reported ≡ RefusedWhole side (record refusal { at = at })) × IsOffsetOfByte given refusal.at at
 IsFaultInText given (BadLiteral side refusal) reported = reported ≡ BadLiteral side refusal
 IsFaultInText given (BadWord index) reported = reported ≡ BadWord index
 IsFaultInText given (WrongCount wanted had) reported = reported ≡ WrongCount wanted had

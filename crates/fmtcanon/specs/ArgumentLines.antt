@@ -1,25 +1,20 @@
 -- The argument types of formats in the whole language, as lines, and whether one format takes the
 -- arguments of another. This project's own.
 use Rattle.std.specs.Prelude.{◌≡◌, ℕ, List, ◌++◌, Option, Some, None, codes, decimal, flat_map}
-use Rattle.pf_signatures.specs.declared.types.ArgumentType.{ArgumentType}
-use Rattle.pf_signatures.specs.declared.types.ArgumentType.TheVariants.{Int, UInt, Long, ULong, LongLong, ULongLong, Str, Double, LongDouble, WideChar, WideString, Pointer, PointerToSChar, PointerToShort, PointerToInt, PointerToLong, PointerToLongLong}
-use Rattle.pf_signatures.specs.Items.{HasArguments}
-use Rattle.pf_signatures.specs.Laws.{ComparesArgumentTypes}
+use Rattle.pf_posix.specs.declared.types.ArgumentType.{ArgumentType}
+use Rattle.pf_posix.specs.declared.types.ArgumentType.TheVariants.{Profile, Double, LongDouble, WideChar, WideString, Pointer, PointerToSChar, PointerToShort, PointerToInt, PointerToLong, PointerToLongLong}
+use Rattle.pf_posix.specs.Items.{HasArguments}
+use Rattle.pf_posix.specs.Laws.{ComparesArgumentTypes}
 use Rattle.pf_values.specs.declared.models.Model.{Model}
 use Rattle.pf_values.specs.meaning.Text.{Text}
 use Rattle.fmtcanon.specs.declared.answer.Ending.{Ending}
 use Rattle.fmtcanon.specs.declared.answer.Ending.TheVariants as endings
 use Rattle.fmtcanon.specs.Lines.{line}
+use Rattle.fmtcanon.specs.TypeLines.{type_name}
 
 -- a type in words
 abbrev pub argument_name : ArgumentType → Text
-argument_name Int = codes "int"
-argument_name UInt = codes "unsigned int"
-argument_name Long = codes "long"
-argument_name ULong = codes "unsigned long"
-argument_name LongLong = codes "long long"
-argument_name ULongLong = codes "unsigned long long"
-argument_name Str = codes "string"
+argument_name (Profile type) = type_name type
 argument_name Double = codes "double"
 argument_name LongDouble = codes "long double"
 argument_name WideChar = codes "wide character"

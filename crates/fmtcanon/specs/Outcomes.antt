@@ -16,7 +16,6 @@ status_of_ending endings.Different = 1
 -- 2 if a format is refused or literals are wrong, 3 for invalid arguments, 4 if memory was refused
 abbrev pub status_of_fault : Fault → ℕ
 status_of_fault (faults.Refused side refusal) = 2
-status_of_fault (faults.RefusedWhole side refusal) = 2
 status_of_fault (faults.BadLiteral side refusal) = 2
 status_of_fault (faults.BadWord index) = 3
 status_of_fault (faults.WrongCount wanted given) = 3

@@ -6,14 +6,12 @@ use Rattle.pf_values.specs.RefusalKinds.{name, number}
 use Rattle.pf_values.specs.meaning.Text.{Text}
 use Rattle.pf_literals.specs.declared.faults.LiteralRefusal.{LiteralRefusal}
 use Rattle.pf_literals.specs.Kinds as literals
-use Rattle.pf_signatures.specs.declared.refusals.SignatureRefusal.{SignatureRefusal}
-use Rattle.pf_signatures.specs.Kinds as signatures
-use Rattle.pf_text.specs.declared.scanner.Refusal.{Refusal}
-use Rattle.pf_canon.specs.declared.faults.Side.{Side}
-use Rattle.pf_canon.specs.declared.faults.Side.TheVariants as sides
+use Rattle.pf_text.specs.declared.refusals.Refusal.{Refusal}
+use Rattle.pf_text.specs.declared.refusals.Side.{Side}
+use Rattle.pf_text.specs.declared.refusals.Side.TheVariants as sides
 use Rattle.fmtcanon.specs.Lines.{line}
 use Rattle.fmtcanon.specs.declared.outcome.Fault.{Fault}
-use Rattle.fmtcanon.specs.declared.outcome.Fault.TheVariants.{Refused, RefusedWhole, BadLiteral, BadWord, WrongCount, WrongType, Memory}
+use Rattle.fmtcanon.specs.declared.outcome.Fault.TheVariants.{Refused, BadLiteral, BadWord, WrongCount, WrongType, Memory}
 use Rattle.fmtcanon.specs.declared.outcome.Outcome.{Outcome}
 use Rattle.fmtcanon.specs.declared.outcome.Outcome.TheVariants.{Written, Failed, Answered, NoSecond, Usage, Misplaced, Read, Write}
 
@@ -32,10 +30,6 @@ abbrev pub refusal_words : Option Side → Refusal → Text
 refusal_words side refusal =
     fault_words side (codes "refused ") (number refusal.kind) (name refusal.kind) refusal.at
 
-abbrev pub whole_words : Option Side → SignatureRefusal → Text
-whole_words side refusal = fault_words side (codes "refused ")
-    (signatures.signature_kind_number refusal.kind) (signatures.signature_kind_name refusal.kind) refusal.at
-
 abbrev pub literal_words : Option Side → LiteralRefusal → Text
 literal_words side refusal = fault_words side (codes "literal ")
     (literals.literal_kind_number refusal.kind) (literals.literal_kind_name refusal.kind) refusal.at
@@ -43,7 +37,6 @@ literal_words side refusal = fault_words side (codes "literal ")
 -- the line about a fault
 abbrev pub fault_text : Fault → Text
 fault_text (Refused side refusal) = line (refusal_words side refusal)
-fault_text (RefusedWhole side refusal) = line (whole_words side refusal)
 fault_text (BadLiteral side refusal) = line (literal_words side refusal)
 fault_text (BadWord index) =
     line (codes "argument " ++ decimal index ++ codes ": " ++ codes "not an argument")

@@ -1,9 +1,8 @@
 //! The answer to a question.
 ghost use Rattle.std.specs.Prelude.{◌≡◌, ◌≤◌, Err, IfErr, MatchResult, Ok, IfOk, MatchOption, Some, map};
-ghost use Rattle.fmtcanon.specs.Answers.{IsAnswer, IsQuestionFault, HasAnswer, HasCanonicalLine, HasOneAnswer, IsFormatFault, IsGivenFault, IsGivenPairFault, IsGivenPairFaultIn, IsFaultInTexts, IsFaultInText, IsOneFault, IsRefusalOfFirst, side_of};
+ghost use Rattle.fmtcanon.specs.Answers.{IsAnswer, IsQuestionFault, HasAnswer, HasCanonicalLine, HasOneAnswer, IsFormatFault, IsGivenFault, IsGivenPairFault, IsGivenPairFaultIn, IsFaultInTexts, IsFaultInText, IsOneFault, side_of};
 ghost use Rattle.fmtcanon.specs.declared.answer.Ending.TheVariants.{Done};
-ghost use Rattle.fmtcanon.specs.declared.outcome.Fault.TheVariants.{RefusedWhole};
-ghost use Rattle.pf_canon.specs.declared.faults.Side.TheVariants as sides;
+ghost use Rattle.pf_text.specs.declared.refusals.Side.TheVariants as sides;
 ghost use Rattle.pf_values.specs.meaning.Text.{Text};
 ghost use Rattle.fmtcanon.specs.Faults.{of_literal};
 ghost use Rattle.fmtcanon.specs.FormatArguments.{IsArgumentFault, IsPrinted};
@@ -20,16 +19,15 @@ use crate::arguments::arguments_for;
 use crate::formats::{GivenFormat, Notation};
 use crate::models::Models;
 use crate::outcome::Fault;
-use crate::pairs::pair_answer;
+use crate::pairs::{pair_answer, refusal_of_first};
 use crate::questions::{FormatQuestion, OneQuestion, PairQuestion, Question};
 use crate::show_lines::show_lines;
 use crate::type_lines::{type_lines, whole_type_lines};
 use crate::whole::whole_canonical_line;
-use pf_canon::{Side, canonical_with_room};
+use pf_canon::canonical_with_room;
 use pf_literals::LiteralFault;
 use pf_render::{RenderVecFault, render_vec};
-use pf_signatures::{SignatureRefusal, arguments, check_unnumbered};
-use pf_text::{Refusal, check};
+use pf_text::{Refusal, Side};
 use pf_values::Model;
 use std::alloc::{AllocError, Global};
 
@@ -213,39 +211,6 @@ fn refused(
     }
 }
 
-// The refusal of the bytes of the first of two formats.
-fn refusal_of_first(asked: PairQuestion, model: Model, bytes: &[u8]) -> Option<Fault>
-    ensures { MatchOption result (AcceptsText (language_of asked) model bytes.now)
-        (IsRefusalOfFirst (language_of asked) model bytes.now) }
-{
-    match asked {
-        PairQuestion::Fits => match arguments(model, bytes, &mut []) {
-            Ok(_) => None,
-            Err(refusal) => Some(first_refused_whole(refusal)),
-        },
-        PairQuestion::Same => match check(bytes) {
-            Ok(()) => None,
-            Err(refusal) => Some(Fault::Refused {
-                side: Some(Side::First),
-                refusal,
-            }),
-        },
-        PairQuestion::WholeSame => match check_unnumbered(model, bytes) {
-            Ok(()) => None,
-            Err(refusal) => Some(first_refused_whole(refusal)),
-        },
-    }
-}
-
-fn first_refused_whole(refusal: SignatureRefusal) -> Fault
-    ensures { result ≡ RefusedWhole (Some sides.First) refusal }
-{
-    Fault::RefusedWhole {
-        side: Some(Side::First),
-        refusal,
-    }
-}
-
 // A fault of the bytes of a format, as a fault of the format that is given.
 fn fault_in_text(format: &GivenFormat<'_>, fault: Fault) -> Fault
     ensures { IsFaultInText format.now fault result }
@@ -254,13 +219,6 @@ fn fault_in_text(format: &GivenFormat<'_>, fault: Fault) -> Fault
         Fault::Refused { side, refusal } => Fault::Refused {
             side,
             refusal: Refusal {
-                kind: refusal.kind,
-                at: format.offset_of(refusal.at),
-            },
-        },
-        Fault::RefusedWhole { side, refusal } => Fault::RefusedWhole {
-            side,
-            refusal: SignatureRefusal {
                 kind: refusal.kind,
                 at: format.offset_of(refusal.at),
             },
@@ -286,7 +244,6 @@ fn side_of(fault: Fault) -> Option<Side>
 {
     match fault {
         Fault::Refused { side, .. } => side,
-        Fault::RefusedWhole { side, .. } => side,
         _ => None,
     }
 }

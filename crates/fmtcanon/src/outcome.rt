@@ -3,24 +3,20 @@ ghost use Rattle.std.specs.Prelude.{◌≡◌, ◌≤◌, ◌+◌, ◌++◌, Non
 ghost use Rattle.arrayvec.specs.ArrayString.{array_string_len};
 ghost use Rattle.pf_values.specs.Counting.{Writes};
 ghost use Rattle.pf_literals.specs.Kinds as literals;
-ghost use Rattle.pf_signatures.specs.Kinds as signatures;
 ghost use Rattle.pf_values.specs.RefusalKinds.{name};
-ghost use Rattle.fmtcanon.specs.Faults.{of_alike, of_canonical, of_comparison, of_literal, of_pair, of_signature, of_text};
+ghost use Rattle.fmtcanon.specs.Faults.{of_comparison, of_literal, of_text};
 ghost use Rattle.fmtcanon.specs.Lines.{line};
 ghost use Rattle.fmtcanon.specs.Outcomes.{status_of, status_of_fault};
-ghost use Rattle.fmtcanon.specs.Reports.{WritesReport, fault_text, fault_words, literal_words, refusal_words, side_words, report_text, whole_words};
-ghost use Rattle.fmtcanon.specs.declared.outcome.Fault.TheVariants.{Memory};
+ghost use Rattle.fmtcanon.specs.Reports.{WritesReport, fault_text, fault_words, literal_words, refusal_words, side_words, report_text};
+ghost use Rattle.fmtcanon.specs.declared.outcome.Fault.TheVariants.{Memory, Refused};
 
 use crate::answer::Ending;
 use arrayvec::ArrayString;
 use itoa::Buffer;
-use pf_canon::{CanonFault, Side};
 use pf_compare::CompareFault;
 use pf_literals::{LiteralFault, LiteralKind, LiteralRefusal};
-use pf_signatures::{FitsRefusal, SignatureFault, SignatureRefusal, SignatureRefusalKind};
-use pf_text::{Refusal, TextFault};
+use pf_text::{Refusal, Side, TextFault};
 use pf_values::{Counted, RefusalKind, ShortWrite, write_bytes};
-use pf_whole::WholeCompareFault;
 use std::alloc::AllocError;
 use std::io::Write;
 
@@ -73,13 +69,6 @@ pub enum Fault {
         /// Why, and where.
         refusal: Refusal,
     },
-    /// A format of the whole language is refused.
-    RefusedWhole {
-        /// Which one, where there are two.
-        side: Option<Side>,
-        /// Why, and where.
-        refusal: SignatureRefusal,
-    },
     /// The literals that give a format are wrong.
     BadLiteral {
         /// Which format, where there are two.
@@ -109,13 +98,20 @@ impl Fault {
         ensures digit { status_of_fault self.now ≤ 9 }
     {
         match self {
-            Fault::Refused { .. } | Fault::RefusedWhole { .. } | Fault::BadLiteral { .. } => 2,
+            Fault::Refused { .. } | Fault::BadLiteral { .. } => 2,
             Fault::BadWord(_) | Fault::WrongCount { .. } | Fault::WrongType(_) => 3,
             Fault::Memory => 4,
         }
     }
 
-    /// That of literals which give a format, the only one or this one of two.
+    /// Returns the refusal of a format, the only one or this one of two.
+    pub fn refused(side: Option<Side>, refusal: Refusal) -> Fault
+        ensures { result ≡ Refused side refusal }
+    {
+        Fault::Refused { side, refusal }
+    }
+
+    /// Returns the fault of literals that give a format, the only one or this one of two.
     pub fn of_literal(side: Option<Side>, fault: LiteralFault) -> Fault
         ensures { result ≡ of_literal side fault }
     {
@@ -139,25 +135,8 @@ impl From<TextFault> for Fault {
 
     fn from(error: TextFault) -> Fault {
         match error {
-            TextFault::Refused(refusal) => Fault::Refused {
-                side: None,
-                refusal,
-            },
+            TextFault::Refused(refusal) => Fault::refused(None, refusal),
             TextFault::Memory => Fault::Memory,
-        }
-    }
-}
-
-impl From<CanonFault> for Fault {
-    ghost from_gives = { λ error fault. fault ≡ of_canonical error };
-
-    fn from(error: CanonFault) -> Fault {
-        match error {
-            CanonFault::Refused(refusal) => Fault::Refused {
-                side: None,
-                refusal,
-            },
-            CanonFault::Memory => Fault::Memory,
         }
     }
 }
@@ -167,10 +146,7 @@ impl From<CompareFault> for Fault {
 
     fn from(error: CompareFault) -> Fault {
         match error {
-            CompareFault::Refused(side, refusal) => Fault::Refused {
-                side: Some(side),
-                refusal,
-            },
+            CompareFault::Refused(side, refusal) => Fault::refused(Some(side), refusal),
             CompareFault::Memory => Fault::Memory,
         }
     }
@@ -181,48 +157,6 @@ impl From<LiteralFault> for Fault {
 
     fn from(error: LiteralFault) -> Fault {
         Fault::of_literal(None, error)
-    }
-}
-
-impl From<SignatureFault> for Fault {
-    ghost from_gives = { λ error fault. fault ≡ of_signature error };
-
-    fn from(error: SignatureFault) -> Fault {
-        match error {
-            SignatureFault::Refused(refusal) => Fault::RefusedWhole {
-                side: None,
-                refusal,
-            },
-            SignatureFault::Memory => Fault::Memory,
-        }
-    }
-}
-
-impl From<FitsRefusal> for Fault {
-    ghost from_gives = { λ error fault. fault ≡ of_pair error };
-
-    fn from(error: FitsRefusal) -> Fault {
-        match error {
-            FitsRefusal::First(refusal) => Fault::RefusedWhole {
-                side: Some(Side::First),
-                refusal,
-            },
-            FitsRefusal::Second(refusal) => Fault::RefusedWhole {
-                side: Some(Side::Second),
-                refusal,
-            },
-        }
-    }
-}
-
-impl From<WholeCompareFault> for Fault {
-    ghost from_gives = { λ error fault. fault ≡ of_alike error };
-
-    fn from(error: WholeCompareFault) -> Fault {
-        match error {
-            WholeCompareFault::Refused(refusal) => Fault::from(refusal),
-            WholeCompareFault::Memory => Fault::Memory,
-        }
     }
 }
 
@@ -267,7 +201,6 @@ pub fn fault_line(fault: &Fault) -> Line
 {
     match fault {
         Fault::Refused { side, refusal } => refusal_line(*side, refusal),
-        Fault::RefusedWhole { side, refusal } => whole_line(*side, refusal),
         Fault::BadLiteral { side, refusal } => literal_line(*side, refusal),
         Fault::BadWord(index) => bad_argument_line(*index, "not an argument"),
         Fault::WrongCount { wanted, given } => count_line(*wanted, *given),
@@ -293,19 +226,6 @@ fn refusal_line(side: Option<Side>, refusal: &Refusal) -> Line
         "refused ",
         number,
         kind_name(refusal.kind),
-        refusal.at,
-    )
-}
-
-fn whole_line(side: Option<Side>, refusal: &SignatureRefusal) -> Line
-    ensures { result.bytes ≡ line (whole_words side refusal.now) }
-{
-    let number = refusal.kind.number();
-    fault_line_of(
-        side,
-        "refused ",
-        number,
-        whole_name(refusal.kind),
         refusal.at,
     )
 }
@@ -394,13 +314,6 @@ fn side_name(side: Option<Side>) -> &'static str
 
 fn kind_name(kind: RefusalKind) -> &'static str
     ensures name { result.now ≡ name kind }
-    ensures short { length result.now ≤ 18 }
-{
-    kind.name()
-}
-
-fn whole_name(kind: SignatureRefusalKind) -> &'static str
-    ensures name { result.now ≡ signatures.signature_kind_name kind }
     ensures short { length result.now ≤ 18 }
 {
     kind.name()

@@ -1,6 +1,7 @@
 //! Answers about two formats, in one data model after another.
-ghost use Rattle.std.specs.Prelude.{◌≡◌, ◌++◌, IfOk, MatchResult};
-ghost use Rattle.fmtcanon.specs.Answers.{IsPairFault, IsPairFaultIn};
+ghost use Rattle.std.specs.Prelude.{◌≡◌, ◌++◌, IfOk, MatchOption, MatchResult};
+ghost use Rattle.fmtcanon.specs.Answers.{IsPairFault, IsPairFaultIn, IsRefusalOfFirst};
+ghost use Rattle.fmtcanon.specs.Languages.{AcceptsText};
 ghost use Rattle.fmtcanon.specs.Lines.{line};
 ghost use Rattle.fmtcanon.specs.Models.{asked_models};
 ghost use Rattle.fmtcanon.specs.PairAnswers.{IsAnswerInEach, IsPairAnswer, IsPairAnswerIn, ending_with};
@@ -12,6 +13,8 @@ use crate::models::{Models, name_of};
 use crate::outcome::Fault;
 use crate::questions::PairQuestion;
 use crate::whole::{alike_in, fit_in};
+use pf_posix::{arguments, check_unnumbered};
+use pf_text::{Side, check};
 use pf_values::Model;
 use std::alloc::{AllocError, Global};
 
@@ -72,6 +75,27 @@ fn pair_answer_in(
         PairQuestion::Fits => fit_in(alloc, model, first, second),
         PairQuestion::Same => comparison_in(alloc, model, first, second),
         PairQuestion::WholeSame => alike_in(alloc, model, first, second),
+    }
+}
+
+/// Returns the refusal of the bytes of the first of two formats, if it is refused.
+pub fn refusal_of_first(question: PairQuestion, model: Model, bytes: &[u8]) -> Option<Fault>
+    ensures { MatchOption result (AcceptsText (language_of question) model bytes.now)
+        (IsRefusalOfFirst (language_of question) model bytes.now) }
+{
+    match question {
+        PairQuestion::Fits => match arguments(model, bytes, &mut []) {
+            Ok(_) => None,
+            Err(refusal) => Some(Fault::refused(Some(Side::First), refusal)),
+        },
+        PairQuestion::Same => match check(bytes) {
+            Ok(()) => None,
+            Err(refusal) => Some(Fault::refused(Some(Side::First), refusal)),
+        },
+        PairQuestion::WholeSame => match check_unnumbered(model, bytes) {
+            Ok(()) => None,
+            Err(refusal) => Some(Fault::refused(Some(Side::First), refusal)),
+        },
     }
 }
 

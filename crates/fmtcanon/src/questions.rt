@@ -1,7 +1,6 @@
 //! Questions about formats: what is asked, times the formats that it is asked about.
-ghost use Rattle.std.specs.Prelude.{◌≢◌, ◌≡◌, ◌∷◌, [], MatchOption, codes, length, option_map};
-ghost use Rattle.fmtcanon.specs.Models.{model_in, models_in};
-ghost use Rattle.fmtcanon.specs.Options.{notation_in, rows_in};
+ghost use Rattle.std.specs.Prelude.{◌≢◌, ◌∷◌, [], MatchOption, codes, length, option_map};
+ghost use Rattle.fmtcanon.specs.Options.{rows_in};
 ghost use Rattle.fmtcanon.specs.Questions.{IsAbout, IsAsked, IsAskedOfOne, IsAskedOfTwo, IsNoQuestionName, formats_of, formats_wanted};
 
 use crate::formats::{GivenFormat, Notation};

@@ -2,7 +2,7 @@
 ghost use Rattle.std.specs.Prelude.{◌≡◌, ◌<◌, ◌++◌, ◌∷◌, [], List, MatchOption, MatchResult, OnOk, length};
 ghost use Rattle.pf_values.specs.meaning.Text.{Text};
 ghost use Rattle.fmtcanon.specs.Questions.{IsAbout, formats_wanted};
-ghost use Rattle.fmtcanon.specs.RecordRuns.{AddsReply, HasAsked, HasFirst, HasReplies, HasSaid, HasStopped, RecordsEndEarly, RecordsFinish, WritesReplies, waiting_text};
+ghost use Rattle.fmtcanon.specs.RecordRuns.{AddsReply, HasAsked, HasFirst, HasReplies, HasSaid, HasStopped, RecordsEndEarly, RecordsFinish, WritesReplies};
 ghost use Rattle.fmtcanon.specs.Records.{Reply};
 
 use crate::outcome::{Fault, Outcome};

@@ -6,7 +6,7 @@ ghost use Rattle.fmtcanon.specs.ArgumentLines.{HasArgumentLines, argument_line, 
 ghost use Rattle.fmtcanon.specs.TypeLines.{HasTypeLines, type_line, type_name};
 
 use crate::outcome::Fault;
-use pf_signatures::{ArgumentType, arguments_vec};
+use pf_posix::{ArgumentType, arguments_vec};
 use pf_text::signature;
 use pf_values::{ArgType, Model};
 use std::alloc::{AllocError, Global};
@@ -71,13 +71,7 @@ pub fn argument_name(argument_type: ArgumentType) -> &'static str
     ensures { result.now ≡ argument_name argument_type }
 {
     match argument_type {
-        ArgumentType::Int => "int",
-        ArgumentType::UInt => "unsigned int",
-        ArgumentType::Long => "long",
-        ArgumentType::ULong => "unsigned long",
-        ArgumentType::LongLong => "long long",
-        ArgumentType::ULongLong => "unsigned long long",
-        ArgumentType::Str => "string",
+        ArgumentType::Profile(arg_type) => type_name(arg_type),
         ArgumentType::Double => "double",
         ArgumentType::LongDouble => "long double",
         ArgumentType::WideChar => "wide character",

@@ -12,7 +12,7 @@ use crate::formats::Notation;
 use crate::outcome::Fault;
 use crate::show_lines::push_decimal;
 use pf_compare::OwnedArg;
-use pf_signatures::fits;
+use pf_posix::fits;
 use pf_values::Model;
 use pf_whole::{WholeVerdict, canonical_with_room, compare};
 use std::alloc::{AllocError, Global};
@@ -39,7 +39,10 @@ pub fn fit_in(alloc: Global, model: Model, first: &[u8], second: &[u8]) -> Resul
         (λ answer. IsFitAnswer model first.now second.now answer.bytes.items answer.ending)
         (IsPairFault Numbered model first.now second.now) }
 {
-    let index = fits(model, first, second)?;
+    let index = match fits(model, first, second) {
+        Ok(index) => index,
+        Err((side, refusal)) => return Err(Fault::refused(Some(side), refusal)),
+    };
     Ok(Answer {
         bytes: fit_line(alloc, index)?,
         ending: fit_ending(index),

@@ -8,7 +8,8 @@ use Rattle.fmtcanon.specs.Models.{model_in, model_of_value, models_in, models_of
 use Rattle.fmtcanon.specs.Options.{rows_in}
 
 -- what is made of the first value of an argument
-pub value_of_row : {A : Type 0} (f : Option Text → A) (id : Text) (inner : ArgMatches) (found o : Option (Bor Text)) → option_map (λ s. s.now) found ≡ first_value (found_of inner) id
+pub value_of_row : {A : Type 0} (f : Option Text → A) (id : Text) (inner : ArgMatches) (found o : Option (Bor Text))
+    → option_map (λ s. s.now) found ≡ first_value (found_of inner) id
     → found ≡ o → f (option_map (λ s. s.now) o) ≡ f (first_of id (rows_in inner))
 value_of_row f id inner found o e is = ap f (ap (option_map (λ s. s.now)) (sym is) ∙ e ∙ first_value-rows (found_of inner) id)
 

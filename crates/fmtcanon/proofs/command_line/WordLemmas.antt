@@ -47,7 +47,8 @@ module _ (P : Text → Type 0) where
   found p words [] q each e = absurd (cc)
   found p words (s ∷ ss) q each e = picked (p s) s (find p ss) words q each.0 (found p words ss q each.1) e
 
-  at_entered : (subs : List Shape) (a : App) → (built a).subs ≡ subs → (stop : Option (Text × List Text)) (q : Text × List Row) → AllByRecursion (λ s. P s.name) subs
+  at_entered : (subs : List Shape) (a : App) → (built a).subs ≡ subs → (stop : Option (Text × List Text)) (q : Text × List Row)
+      → AllByRecursion (λ s. P s.name) subs
       → entered (built a) stop ≡ Some q → P q.0
   at_entered subs a same None q each e = absurd (cc)
   at_entered subs a same (Some p) q each e =
@@ -57,7 +58,8 @@ module _ (P : Text → Type 0) where
 at_asked : (P : Text → Type 0) (app : App) (words : List Text) (name : Text) (rows : List Row) → ((one both : ValueParser) → AtEach one both P) → IsCommand app
     → subcommand_of app words ≡ Some (name, rows) → P name
 at_asked P app words name rows each h e =
-    at_entered P _ app (ap (λ a. (built a).subs) h.is) (walk (built app).top.rules (names_of (built app)) nothing_held (argument_words app words)).stopped (name, rows) (each _ _) e
+    at_entered P _ app (ap (λ a. (built a).subs) h.is) (walk (built app).top.rules (names_of (built app)) nothing_held
+    (argument_words app words)).stopped (name, rows) (each _ _) e
 
 all_pass : {X : Type 0} (p : X → Bool) (xs : List X) → list_all p xs ≡ true → AllByRecursion (λ x. p x ≡ true) xs
 all_pass p [] h = tt

@@ -9,4 +9,5 @@ use Rattle.fmtcanon.proofs.pairs.pair_answer_in_each.Given as goal
 abbrev pub invariant-loop-model : goal.invariant-loop-model
 invariant-loop-model l =
     IsAnswerInEach (λ model. IsPairAnswer l.question model l.first l.second) (take l.model-index l.models) l.bytes.items l.ending
-    × AllByRecursion (λ model. AcceptsText (language_of l.question) model l.first × AcceptsText (language_of l.question) model l.second) (take l.model-index l.models)
+    × AllByRecursion (λ model. AcceptsText (language_of l.question) model l.first × AcceptsText (language_of l.question) model l.second)
+    (take l.model-index l.models)

@@ -12,7 +12,12 @@ abbrev same : Option Text → Option Text
 same o = o
 
 pub returns-in-None-clause-ok : goal.returns-in-None-clause-ok
-returns-in-None-clause-ok c = (refl, sym c.if-is_set.ensures, none_there (rows_in c.args.inner.now) (value_of_row same (codes "F") c.args.inner.now c.get_str.result _ c.get_str.ensures c.in-None.is))
+returns-in-None-clause-ok c = (
+  refl,
+  sym c.if-is_set.ensures,
+  none_there (rows_in c.args.inner.now)
+      (value_of_row same (codes "F") c.args.inner.now c.get_str.result _ c.get_str.ensures c.in-None.is),
+)
 
 pub returns-in-Some-clause-err : goal.returns-in-Some-clause-err
 returns-in-Some-clause-err c =

@@ -14,12 +14,14 @@ use Rattle.fmtcanon.proofs.task.named_task.Goals as goal
 -- the argument that the command wants is there
 present : (words : List Text) (name command id : Text) (inner : ArgMatches) → Names words name (rows_in inner) → name ≡ command → IsWanted command id
     → is_some (first_value (found_of inner) id) ≡ true
-present words name command id inner names e wants = ap is_some (first_value-rows (found_of inner) id) ∙ value_given words name command id (rows_in inner) names e wants
+present words name command id inner names e wants =
+    ap is_some (first_value-rows (found_of inner) id) ∙ value_given words name command id (rows_in inner) names e wants
 
 value : (inner : ArgMatches) (id text : Text) → Some text ≡ first_value (found_of inner) id → HasValue (rows_in inner) id text
 value inner id text e = sym (e ∙ first_value-rows (found_of inner) id)
 
-values : (inner : ArgMatches) (id : Text) (texts : List Text) → texts ≡ unwrap_or (option_map raw_values (matched_of (found_of inner) id)) [] → HasAllValues (rows_in inner) id texts
+values : (inner : ArgMatches) (id : Text) (texts : List Text) → texts ≡ unwrap_or (option_map raw_values (matched_of (found_of inner) id)) []
+    → HasAllValues (rows_in inner) id texts
 values inner id texts e = e ∙ ap (λ o. unwrap_or o []) (raw_values-rows (found_of inner) id)
 
 pub value_of-requires : goal.value_of-requires
@@ -47,7 +49,20 @@ returns-in-Some c = record {
 
 pub returns-in-Ok : goal.returns-in-Ok
 returns-in-Ok c = record {
-  ok = λ words names. (_, rows_in c.args.inner.now, names, (c.in-format.is, c.notation_of.ensures, c.model_of.ensures, value c.args.inner.now _ _ (ap (λ t. Some t) c.as_bytes.ensures.value ∙ c.value_of.ensures), values c.args.inner.now _ _ c.in-Ok.ensures));
+  ok =
+      λ words names. (
+        _,
+        rows_in c.args.inner.now,
+        names,
+        (
+          c.in-format.is,
+          c.notation_of.ensures,
+          c.model_of.ensures,
+          value c.args.inner.now _ _
+              (ap (λ t. Some t) c.as_bytes.ensures.value ∙ c.value_of.ensures),
+          values c.args.inner.now _ _ c.in-Ok.ensures,
+        ),
+      );
   err = tt;
 }
 

@@ -20,11 +20,15 @@ returns-in-None c =
     let inner = c.args.inner.now in
     let first = ap (λ t. Some t) c.as_bytes.ensures.value ∙ value_of_row same (codes "F") inner c.get_str.result _ c.get_str.ensures c.in-Some.is in
     let second = value_of_row same (codes "G") inner c.get_str-2.result _ c.get_str-2.ensures c.in-None.is in
-    subst (λ formats. MatchOption c.about.result (length formats ≢ formats_wanted c.args.asked) (λ question. IsAbout question c.args.asked formats)) (formats_are (rows_in inner) _ _ first second) c.about.ensures
+    subst (λ formats. MatchOption c.about.result (length formats ≢ formats_wanted c.args.asked) (λ question. IsAbout question c.args.asked formats))
+    (formats_are (rows_in inner) _ _ first second) c.about.ensures
 
 pub returns-in-Some-get_str : goal.returns-in-Some-get_str
 returns-in-Some-get_str c =
     let inner = c.args.inner.now in
-    let first = ap (λ t. Some t) c.as_bytes-in-Some-get_str.ensures.value ∙ value_of_row same (codes "F") inner c.get_str.result _ c.get_str.ensures c.in-Some.is in
-    let second = ap (λ t. Some t) c.as_bytes-in-Some-get_str-2.ensures.value ∙ value_of_row same (codes "G") inner c.get_str-2.result _ c.get_str-2.ensures c.in-Some-get_str.is in
-    subst (λ formats. MatchOption c.about-in-Some-get_str.result (length formats ≢ formats_wanted c.args.asked) (λ question. IsAbout question c.args.asked formats)) (formats_are (rows_in inner) _ _ first second) c.about-in-Some-get_str.ensures
+    let first = ap (λ t. Some t) c.as_bytes-in-Some-get_str.ensures.value ∙ value_of_row same (codes "F") inner c.get_str.result _ c.get_str.ensures
+    c.in-Some.is in
+    let second = ap (λ t. Some t) c.as_bytes-in-Some-get_str-2.ensures.value ∙ value_of_row same (codes "G") inner c.get_str-2.result _
+    c.get_str-2.ensures c.in-Some-get_str.is in
+    subst (λ formats. MatchOption c.about-in-Some-get_str.result (length formats ≢ formats_wanted c.args.asked)
+    (λ question. IsAbout question c.args.asked formats)) (formats_are (rows_in inner) _ _ first second) c.about-in-Some-get_str.ensures

@@ -19,7 +19,8 @@ use Rattle.fmtcanon.proofs.command_line.WordLemmas.{free_command, simple_command
 use Rattle.std.proofs.lemmas.Result.{IfErr-weaker, IfOk-weaker}
 use Rattle.fmtcanon.proofs.task.task_of.Goals as goal
 
-answered : (app : App) (words : List Text) (k : ErrorKind) (r : NoTask) → IsCommand app → (takes app words ≡ true → k ≡ kind.OutOfMemory) → (k ≡ kind.OutOfMemory) ⊎ IsAmong k (fault_of app words) → IsAnsweredBy k r → IsNoTaskOf words r
+answered : (app : App) (words : List Text) (k : ErrorKind) (r : NoTask) → IsCommand app → (takes app words ≡ true → k ≡ kind.OutOfMemory)
+    → (k ≡ kind.OutOfMemory) ⊎ IsAmong k (fault_of app words) → IsAnsweredBy k r → IsNoTaskOf words r
 answered app words k (Usage m) is f g h = (λ taken. h (f (taken app is)), (app, is, k, h, elim g [ inl none ↦ absurd (h none) | inr among ↦ among ]))
 answered app words k Misplaced is f g h = absurd h
 answered app words k Memory is f g h = tt
@@ -64,15 +65,20 @@ unreachable-requires c =
 
 pub named_task-requires : goal.named_task-requires
 named_task-requires c =
-    let ok = c.in-Ok-try_get_matches_from in
-    (texts c.args.words.now, named _ _ ok.matches _ c.in-Some.inner.now c.in-Ok.ensures ok.ensures.matches ok.ensures.kinds c.in-Some.ensures.name c.in-Some.ensures.rows)
+    let ok = c.in-Ok-try_get_matches_from in (
+      texts c.args.words.now,
+      named _ _ ok.matches _ c.in-Some.inner.now c.in-Ok.ensures ok.ensures.matches ok.ensures.kinds c.in-Some.ensures.name
+          c.in-Some.ensures.rows,
+    )
 
 pub returns-clause-ok : goal.returns-clause-ok
 returns-clause-ok c =
     let ok = c.in-Ok-try_get_matches_from in
-    IfOk-weaker c.named_task.result _ _ (λ task h. h _ (named _ _ ok.matches _ c.in-Some.inner.now c.in-Ok.ensures ok.ensures.matches ok.ensures.kinds c.in-Some.ensures.name c.in-Some.ensures.rows)) c.named_task.ensures.ok
+    IfOk-weaker c.named_task.result _ _ (λ task h. h _ (named _ _ ok.matches _ c.in-Some.inner.now c.in-Ok.ensures ok.ensures.matches ok.ensures.kinds
+    c.in-Some.ensures.name c.in-Some.ensures.rows)) c.named_task.ensures.ok
 
 pub returns-clause-err : goal.returns-clause-err
 returns-clause-err c =
     let ok = c.in-Ok-try_get_matches_from in
-    IfErr-weaker c.named_task.result _ _ (λ fault h. h _ (named _ _ ok.matches _ c.in-Some.inner.now c.in-Ok.ensures ok.ensures.matches ok.ensures.kinds c.in-Some.ensures.name c.in-Some.ensures.rows)) c.named_task.ensures.err
+    IfErr-weaker c.named_task.result _ _ (λ fault h. h _ (named _ _ ok.matches _ c.in-Some.inner.now c.in-Ok.ensures ok.ensures.matches
+    ok.ensures.kinds c.in-Some.ensures.name c.in-Some.ensures.rows)) c.named_task.ensures.err
