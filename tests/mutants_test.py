@@ -24,7 +24,7 @@ sys.path.insert(0, str(Path(__file__).resolve().parent))
 
 import rattle_functions  # noqa: E402
 import toy_crates  # noqa: E402
-from kept import MOST_PROOFS, Checksums, Kept, cache_folder  # noqa: E402
+from kept import MOST_PROOFS, Checksums, Kept, cache_folder, remove_oldest  # noqa: E402
 from mutant_files import Mutant, Pair, batches, functions_at, mutants_of, read_pairs  # noqa: E402
 from mutants import Trial  # noqa: E402
 from proofs import SCRIPTS  # noqa: E402

@@ -291,12 +291,16 @@ fn parts_differ(
     None
 }
 
+#[inline(always)]
 fn have_same_prefix(first: SignOrPrefix, second: SignOrPrefix) -> bool
     ensures { MatchBool result (sign_or_prefix_text first ≡ sign_or_prefix_text second)
         (sign_or_prefix_text first ≢ sign_or_prefix_text second) }
 {
-    if first == second {
-        return true;
+    // Most numbers have neither.
+    if let SignOrPrefix::Nothing = first {
+        if let SignOrPrefix::Nothing = second {
+            return true;
+        }
     }
     !are_unlike(first.text(), second.text())
 }

@@ -1,12 +1,9 @@
 -- Digits of a number, and one more.
-use Rattle.std.proofs.Common.{◌≡◌, ℕ, ◌+◌, ◌-◌, ◌*◌, ◌^◌, ◌<◌, ◌≤◌, true, false, List, [], ◌∷◌, ◌++◌, map, length, sym, ap, ◌∙◌, arith, get_or, add-one}
-use Rattle.std.specs.Fmt.{digit_glyph}
-use Rattle.std.specs.List.{AllByRecursion}
-use Rattle.std.proofs.Math.Nat.{pow-zero, pow-suc}
+use Rattle.std.proofs.Common.{◌≡◌, ℕ, ◌+◌, ◌-◌, ◌*◌, ◌<◌, ◌≤◌, true, [], ◌∷◌, ◌++◌, length, sym, ap, ◌∙◌, arith}
+use Rattle.std.proofs.Math.Nat.{pow-zero}
 use Rattle.std.proofs.lemmas.Bool.Decides.{nat_tests}
-use Rattle.std.proofs.lemmas.List.{length_push, map_push}
+use Rattle.std.proofs.lemmas.List.{length_push}
 use Rattle.pf_values.specs.declared.limits.TheConstants.{MAX_NUMBER}
-use Rattle.pf_values.specs.meaning.Digits.{AreDigits, AreLeastDigits, place_sum}
 use Rattle.pf_values.specs.meaning.Text.{Text}
 use Rattle.pf_text.specs.States.{is_digit}
 use Rattle.pf_text.proofs.NumberDigits.{another_digit, digit_of, digits_push, glyph_push, one_digit}

@@ -1,9 +1,7 @@
 -- A text that is gone through for its specifications: what one more byte makes of it.
-use Rattle.std.proofs.Common.{◌≡◌, ◌≢◌, ℕ, ◌+◌, ◌-◌, ◌<◌, ◌≤◌, Bool, true, false, List, [], ◌∷◌, ◌++◌, length, get_or, drop, take, refl, sym, ap, ap₂, ◌∙◌, arith, subst, inl, inr, Ok, Err, length-append}
-use Rattle.std.specs.Prelude.{Option, Some, None, nat_le, if◌then◌else◌}
-use Rattle.std.specs.List.{AllByRecursion}
-use Rattle.std.proofs.lemmas.List.{append_assoc, append-nil, drop_more, length_push}
-use Rattle.std.proofs.Math.Seq.{take-append_seam}
+use Rattle.std.proofs.Common.{◌≡◌, ◌≢◌, ℕ, ◌+◌, Bool, true, false, List, [], ◌∷◌, ◌++◌, length, refl, sym, ap, ap₂, ◌∙◌, arith, Ok, Err, length-append}
+use Rattle.std.specs.Prelude.{Some, None, nat_le, if◌then◌else◌}
+use Rattle.std.proofs.lemmas.List.{append_assoc, append-nil}
 use Rattle.pf_values.specs.declared.limits.TheConstants.{MAX_TEXT_LEN}
 use Rattle.pf_values.specs.declared.models.Model.{Model}
 use Rattle.pf_values.specs.meaning.Text.{Text}
@@ -12,22 +10,15 @@ use Rattle.pf_posix.specs.declared.fetches.Fetch.{Fetch}
 use Rattle.pf_values.specs.declared.refusals.RefusalKind.{RefusalKind}
 use Rattle.pf_values.specs.declared.refusals.RefusalKind.TheVariants.{TooLong, TwoTypes}
 use Rattle.pf_posix.specs.declared.partial_specification.Numbering.{Numbering}
-use Rattle.pf_posix.specs.DirectiveWalks.{earlier_index, has_star_precision, last_index, precision_star, width_star}
-use Rattle.pf_posix.specs.Directives.{HasDirectives, argument_index, directive_between, directives_from, star_index}
+use Rattle.pf_posix.specs.Directives.{directive_between, directives_from}
 use Rattle.pf_posix.specs.Fronts.{IsStateAfter}
-use Rattle.pf_posix.specs.Items.{Byte, HasArguments, SpellsPosixItem, ReadsPosix, Specification, PosixItem, fetched}
-use Rattle.pf_posix.specs.Readings.{Fault, FetchTrace, Refused, Takes, Verdict, conflicts, moved, trace_at_end, trace_from, verdict, verdict_after}
-use Rattle.pf_posix.specs.Refusals.{Follows, IsGoodPosixFront, numbering_by, numbering_in, numbering_of}
-use Rattle.pf_posix.specs.Specifications.{Amount, Given, Fetched, PosixSpecification}
+use Rattle.pf_posix.specs.Items.{Byte, SpellsPosixItem, ReadsPosix, Specification, PosixItem, fetched}
+use Rattle.pf_posix.specs.Readings.{Refused, Takes, conflicts, moved, trace_from, verdict_after}
+use Rattle.pf_posix.specs.Refusals.{Follows, numbering_by, numbering_in}
 use Rattle.pf_posix.specs.Stages.{PosixState, Between, Opened, First, Flags, Digits, Star, StarDigits, Placed, Point, Modified}
 use Rattle.pf_posix.specs.States.{PosixStep, posix_step}
-use Rattle.pf_posix.specs.Types.{HaveTypes, conversion_type, fetch, fetches, star_fetches}
-use Rattle.pf_posix.proofs.Agreeing.{agreed_push, numbering_push}
-use Rattle.pf_posix.proofs.DirectiveTypes.{all_typed}
-use Rattle.pf_posix.proofs.Judging.{Arrives, Brings, Judges, judge}
-use Rattle.pf_posix.proofs.Soundness.{fetched_append}
-use Rattle.pf_posix.proofs.StarLemmas.{comes_by_star, star_told}
-use Rattle.pf_posix.proofs.Unique.{types_of_verdict}
+use Rattle.pf_posix.specs.Types.{fetches}
+use Rattle.pf_posix.proofs.Judging.{Arrives, Brings}
 
 -- the specification that an item is, if it is one
 abbrev pub spans_of : Model → ℕ → ℕ → Text → PosixItem → List DirectiveSpan

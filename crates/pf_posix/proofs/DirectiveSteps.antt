@@ -1,5 +1,5 @@
 -- What one more byte makes of a walk through an accepted text.
-use Rattle.std.proofs.Common.{◌≡◌, ◌≢◌, ℕ, ◌+◌, ◌-◌, ◌<◌, ◌≤◌, Bool, false, List, [], ◌∷◌, ◌++◌, length, get_or, drop, take, refl, sym, ap, ◌∙◌, arith, subst, inl, inr, Ok, Err, Result, length-append}
+use Rattle.std.proofs.Common.{◌≡◌, ◌≢◌, ℕ, ◌+◌, ◌-◌, ◌<◌, ◌≤◌, false, List, [], ◌∷◌, ◌++◌, length, get_or, drop, take, refl, sym, ap, ◌∙◌, arith, subst, inl, inr, Ok, Err, Result, length-append}
 use Rattle.std.specs.Prelude.{Option, Some, None, ◌⊎◌, MatchOption}
 use Rattle.std.proofs.lemmas.List.{append_assoc, append-nil, drop_more, length_push}
 use Rattle.std.proofs.Math.ListN.{drop_of_length-le}
@@ -21,12 +21,12 @@ use Rattle.pf_posix.specs.Fronts.{IsStateAfter}
 use Rattle.pf_posix.specs.Moves.{posix_step_by}
 use Rattle.pf_posix.specs.Items.{Byte, HasArguments, ReadsPosix, Specification, fetched}
 use Rattle.pf_posix.specs.Readings.{Takes, conflicts, trace_at_end, trace_from, verdict_after}
-use Rattle.pf_posix.specs.Refusals.{Follows, IsGoodPosixFront, numbering_by, numbering_in, numbering_of}
+use Rattle.pf_posix.specs.Refusals.{Follows, numbering_by, numbering_in, numbering_of}
 use Rattle.pf_posix.specs.Specifications.{Amount, Given, Fetched, PosixSpecification}
 use Rattle.pf_posix.specs.Spelling.{SpellsPosix}
 use Rattle.pf_posix.specs.Stages.{PosixState, Between, Opened, First, Flags, Digits, Star, StarDigits, Placed, Point, Modified, posix_state_of}
 use Rattle.pf_posix.specs.States.{PosixStep, posix_step}
-use Rattle.pf_posix.specs.Types.{HaveTypes, conversion_type, fetches, star_fetches}
+use Rattle.pf_posix.specs.Types.{HaveTypes, fetches, star_fetches}
 use Rattle.pf_posix.proofs.Agreeing.{agreed_none, agreed_push, numbering_push}
 use Rattle.pf_posix.proofs.DirectiveLemmas.{arrived, brought, fetched_left, not_refused, passed_left, pushed}
 use Rattle.pf_posix.proofs.DirectiveTypes.{all_typed}

@@ -7,10 +7,9 @@ use Rattle.pf_values.specs.declared.models.Model.{Model}
 use Rattle.pf_values.specs.meaning.Text.{Text}
 use Rattle.pf_posix.specs.declared.fetches.Fetch.{Fetch}
 use Rattle.pf_posix.specs.declared.types.ArgumentType.{ArgumentType}
-use Rattle.pf_posix.specs.Types.{int_type}
 use Rattle.pf_posix.specs.Directives.{TakesFrom, TakesInt, argument_index, directives_from, star_index}
 use Rattle.pf_posix.specs.Items.{Byte, Specification, PosixItem, ReadsPosix, fetched}
-use Rattle.pf_posix.specs.Specifications.{Amount, Given, Fetched, PosixSpecification}
+use Rattle.pf_posix.specs.Specifications.{Amount, Given, Fetched}
 use Rattle.pf_posix.specs.Types.{HaveTypes, HasTypeIn, conversion_type, fetch, fetches, star_fetches}
 
 -- each fetch has its type at its index

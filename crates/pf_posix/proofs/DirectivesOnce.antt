@@ -1,9 +1,8 @@
 -- A text has one list of specifications.
-use Rattle.std.proofs.Common.{◌≡◌, ◌≢◌, ℕ, ◌+◌, ◌<◌, Bool, true, false, List, [], ◌∷◌, ◌++◌, length, refl, sym, ap, ap₂, ◌∙◌, arith, subst, inl, Ok, Err, Result}
-use Rattle.std.specs.Prelude.{Option, Some, None, ◌==◌, MatchBool}
+use Rattle.std.proofs.Common.{◌≡◌, ◌≢◌, ℕ, ◌+◌, ◌<◌, Bool, true, false, List, [], ◌∷◌, ◌++◌, length, refl, sym, ap, ap₂, ◌∙◌, arith, inl, Ok, Err}
+use Rattle.std.specs.Prelude.{Some, None, ◌==◌, MatchBool}
 use Rattle.std.specs.Fmt.{digit_glyph}
 use Rattle.std.specs.List.{AllByRecursion}
-use Rattle.std.proofs.lemmas.Bool.{eqb-true}
 use Rattle.std.proofs.lemmas.Bool.Decides.{nat_tests}
 use Rattle.std.proofs.lemmas.List.{append_assoc}
 use Rattle.pf_values.specs.declared.flags.Flag.{Flag}
@@ -19,7 +18,7 @@ use Rattle.pf_posix.specs.declared.fetches.Fetch.{Fetch}
 use Rattle.pf_posix.specs.declared.partial_specification.Numbering.TheVariants.{Undecided}
 use Rattle.pf_posix.specs.Defined.{IsPosixDefined}
 use Rattle.pf_posix.specs.DirectiveWalks.{has_star_precision}
-use Rattle.pf_posix.specs.Directives.{HasDirectives, directive_between, directives_from}
+use Rattle.pf_posix.specs.Directives.{HasDirectives, directives_from}
 use Rattle.pf_posix.specs.Items.{Byte, SpellsPosixItem, ReadsPosix, Specification, PosixItem}
 use Rattle.pf_posix.specs.Letters.{conversion_of}
 use Rattle.pf_posix.specs.Specifications.{PosixSpecification, conversion_letter, modifier_letters}

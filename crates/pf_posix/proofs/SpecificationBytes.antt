@@ -1,9 +1,8 @@
 -- What holds of each byte of a specification before its conversion.
-use Rattle.std.proofs.Common.{◌≡◌, ℕ, ◌<◌, false, List, [], ◌∷◌, ◌++◌, map, refl, sym, ap, ◌∙◌, subst}
+use Rattle.std.proofs.Common.{◌≡◌, ℕ, ◌<◌, false, List, [], ◌∷◌, ◌++◌, map, sym, ap, ◌∙◌, subst}
 use Rattle.std.specs.Prelude.{Option, Some, None}
 use Rattle.std.specs.Fmt.{digit_glyph}
 use Rattle.std.specs.List.{AllByRecursion}
-use Rattle.std.proofs.lemmas.List.{append_assoc}
 use Rattle.pf_values.specs.declared.flags.Flag.{Flag}
 use Rattle.pf_values.specs.declared.flags.FlagSet.{FlagSet}
 use Rattle.pf_values.specs.meaning.Flags.{flag_byte}

@@ -4,7 +4,6 @@ use Rattle.std.specs.Prelude.{Option, Some, None, fold, nat_lt, ◌==◌}
 use Rattle.std.specs.Fmt.{digit_glyph}
 use Rattle.std.specs.List.{AllByRecursion}
 use Rattle.std.specs.Int.Digits.{number_from_digits_after}
-use Rattle.std.proofs.Math.Nat.{pow-zero}
 use Rattle.std.proofs.lemmas.Bool.Decides.{nat_tests}
 use Rattle.std.proofs.lemmas.Int.Digits.{number_after_ge}
 use Rattle.pf_values.specs.declared.limits.TheConstants.{MAX_NUMBER}

@@ -4,7 +4,7 @@ use Rattle.std.specs.Prelude.{MatchBool}
 use Rattle.std.proofs.lemmas.Bool.{false≢true}
 use Rattle.pf_values.specs.declared.limits.TheConstants.{MAX_TEXT_LEN}
 use Rattle.pf_values.specs.declared.refusals.RefusalKind.{RefusalKind}
-use Rattle.pf_values.specs.declared.refusals.RefusalKind.TheVariants.{NulByte, Truncated, TooLong, CountUndefined, Mixed, MissingArgument, TwoTypes}
+use Rattle.pf_values.specs.declared.refusals.RefusalKind.TheVariants.{NulByte, TooLong, CountUndefined, Mixed, MissingArgument, TwoTypes}
 use Rattle.pf_values.specs.RefusalKinds.{number}
 use Rattle.pf_values.specs.meaning.Defined.{breaks, undefined_kinds}
 use Rattle.pf_values.specs.meaning.Refusals.{HasCause, HasReason, IsRefusedAt, IsRefusedByte}

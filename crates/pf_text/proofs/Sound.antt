@@ -1,9 +1,6 @@
 -- What the automaton takes is spelled so, and what it refuses has its reason.
-use Rattle.std.proofs.Common.{◌≡◌, ◌≢◌, ℕ, zero, suc, ◌+◌, ◌-◌, ◌*◌, ◌^◌, ◌<◌, Bool, true, false, List, [], ◌∷◌, ◌++◌, map, length, refl, sym, ap, ◌∙◌, arith, get_or, subst, add-one, inl, inr, Ok, Err}
+use Rattle.std.proofs.Common.{◌≡◌, ◌≢◌, ℕ, zero, suc, ◌+◌, ◌-◌, ◌*◌, ◌<◌, Bool, true, false, List, [], ◌∷◌, ◌++◌, map, length, refl, sym, ap, ◌∙◌, arith, subst, inl, inr, Ok, Err}
 use Rattle.std.specs.Prelude.{Option, Some, None, nat_lt, ◌==◌, if◌then◌else◌, find}
-use Rattle.std.specs.Fmt.{digit_glyph}
-use Rattle.std.specs.List.{AllByRecursion}
-use Rattle.std.proofs.Math.Nat.{pow-zero, pow-suc}
 use Rattle.std.proofs.lemmas.Bool.{eqb-true}
 use Rattle.std.proofs.lemmas.Bool.Decides.{nat_tests}
 use Rattle.std.proofs.lemmas.Grind.{fold-append}
@@ -18,7 +15,6 @@ use Rattle.pf_values.specs.declared.refusals.RefusalKind.{RefusalKind}
 use Rattle.pf_values.specs.declared.refusals.RefusalKind.TheVariants.{NulByte, Truncated, Unexpected, BadPercent, Star, Numbered, WidthTooLarge, PrecisionTooLarge, Float, TooLong}
 use Rattle.pf_values.specs.meaning.Conversions.{conv_letter}
 use Rattle.pf_values.specs.meaning.Defined.{is_above_limit, refused_as, breaks, first_broken, undefined_kinds}
-use Rattle.pf_values.specs.meaning.Digits.{AreDigits, AreLeastDigits, place_sum}
 use Rattle.pf_values.specs.meaning.Flags.{with_flag, no_flags, flag_byte}
 use Rattle.pf_values.specs.meaning.Items.{Byte, Directive, IsReadAs}
 use Rattle.pf_values.specs.meaning.Lengths.{length_letters}

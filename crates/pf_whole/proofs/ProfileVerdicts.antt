@@ -20,7 +20,6 @@ use Rattle.pf_whole.specs.Comparisons.{FaultForWholeCompare, HasShownType, Shows
 use Rattle.pf_whole.specs.Findings.{IsTellingProbe}
 use Rattle.pf_whole.specs.Laws.{Correspond}
 use Rattle.pf_whole.specs.meaning.Traces.{AreWholeAlike}
-use Rattle.pf_whole.specs.meaning.WholeArguments.{narrowed}
 use Rattle.pf_whole.proofs.Corresponding.{alike_is_corresponding}
 use Rattle.pf_whole.proofs.FindingLemmas.{shows_neutral, shows_probe}
 use Rattle.pf_whole.proofs.FindingLoops.{compared_from}

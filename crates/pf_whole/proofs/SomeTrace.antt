@@ -13,7 +13,7 @@ use Rattle.pf_posix.specs.Types.{widened}
 use Rattle.pf_posix.specs.Stretches.{Stretches, Last, Before, types_of_opaque, whole_types}
 use Rattle.pf_whole.specs.meaning.NormalSpellings.{normal_spelling}
 use Rattle.pf_whole.specs.meaning.Traces.{Ends, Calls, HasTrace, PrintsKnown, Trace, Call}
-use Rattle.pf_whole.specs.meaning.WholeArguments.{WholeArgument, Known, Other, HasNarrowedType, HasWholeTypes, narrowed}
+use Rattle.pf_whole.specs.meaning.WholeArguments.{WholeArgument, Known, Other, HasWholeTypes}
 
 -- arguments of types of the profile are known
 pub record AreKnown (model : Model) (args : List WholeArgument) (ts : List ArgType) : Type 0 where

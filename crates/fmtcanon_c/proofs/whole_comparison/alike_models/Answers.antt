@@ -35,4 +35,4 @@ loop-model-preserved c =
 pub returns-in_err-same_text : goal.returns-in_err-same_text
 returns-in_err-same_text c =
     let p = err_from_is_err_and c.from_residual.result c.from_residual.ensures.1 in
-    rw (p.1, p.2) (refused_first c.args.first.now c.args.second.now c.loop-model.model-index c.in_err-same_text.field-0 c.loop-model.invariant.accepted c.in_err-same_text.ensures)
+    rw (p.1, p.2) (refused_first c.args.first.now c.args.second.now c.loop-model.model-index c.in_err-same_text.field-0.0 c.loop-model.invariant.accepted c.in_err-same_text.ensures)
