@@ -1,8 +1,8 @@
 //! What the faults of the libraries say, each once.
 use pf_canon::{CopyFault, SideFault, StreamFault};
 use pf_compare::CompareFault;
-use pf_render::{RenderFault, RenderVecFault, WriteFault};
 use pf_posix::ArgumentType;
+use pf_render::{RenderFault, RenderVecFault, WriteFault};
 use pf_text::{Refusal, Side, TextFault};
 use pf_values::{ArgType, RefusalKind};
 use std::alloc::{AllocError, Global};

@@ -2,8 +2,8 @@
 use exhaustion::{Exhausted, is_all_refused};
 use growths::{Call, each_is_refused};
 use pf_canon::{
-    CanonBytes, canonical_len, canonical_stream, canonical_with_room,
-    is_canonical, same_stream, same_text,
+    CanonBytes, canonical_len, canonical_stream, canonical_with_room, is_canonical, same_stream,
+    same_text,
 };
 use pf_compare::{CompareFault, Verdict, compare};
 use pf_literals::{LiteralFault, LiteralKind, LiteralRefusal, decode};

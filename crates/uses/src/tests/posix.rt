@@ -1,8 +1,8 @@
 //! What no run of the program shows of `pf_posix`: each public call once.
 use pf_posix::laws::{
-    accepted_or_refused, accepts_unnumbered, directives_once, judged_unnumbered, never_both,
-    profile_types, read_once, refused_for_good, refused_once, refused_unnumbered_once, same_fits,
-    kinds_of_refusals, table_has_each_once, types_are_kept, types_once,
+    accepted_or_refused, accepts_unnumbered, directives_once, judged_unnumbered, kinds_of_refusals,
+    never_both, profile_types, read_once, refused_for_good, refused_once, refused_unnumbered_once,
+    same_fits, table_has_each_once, types_are_kept, types_once,
 };
 use pf_posix::{ArgumentType, DirectiveSpan, arguments, directives, fits};
 use pf_values::{ArgType, Model, RefusalKind};
@@ -21,9 +21,7 @@ fn are_types_numbered() -> bool {
 
 #[test]
 fn types_kinds_and_what_they_say(rt: HostRuntime) {
-    assert!(rt;
-        are_types_numbered() && RefusalKind::TwoTypes.name() == "TwoTypes"
-    );
+    assert!(rt; are_types_numbered() && RefusalKind::TwoTypes.name() == "TwoTypes");
     accepted_or_refused();
     never_both();
     types_once();
@@ -50,7 +48,12 @@ fn no_room_and_some(rt: HostRuntime) {
     ];
     assert!(rt;
         counts == [Ok(3), Ok(2)]
-            && types == [ArgumentType::Profile(ArgType::Str), ArgumentType::Profile(ArgType::Long), ArgumentType::Pointer]
+            && types
+                == [
+                    ArgumentType::Profile(ArgType::Str),
+                    ArgumentType::Profile(ArgType::Long),
+                    ArgumentType::Pointer
+                ]
             && fits(Model::Lp64, b"%zu", b"%lu") == Ok(None)
             && fits(Model::Llp64, b"%zu", b"%lu") == Ok(Some(0))
     );

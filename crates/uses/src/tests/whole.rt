@@ -3,9 +3,7 @@ use crate::whole::are_alike;
 use pf_compare::{CompareFault, OwnedArg};
 use pf_text::{Refusal, Side, TextFault};
 use pf_values::{Model, RefusalKind};
-use pf_whole::{
-    WholeVerdict, canonical, canonical_len, compare, is_canonical, same_text,
-};
+use pf_whole::{WholeVerdict, canonical, canonical_len, compare, is_canonical, same_text};
 use std::alloc::Global;
 
 // A format, and its canonical text in LP64.

@@ -45,11 +45,7 @@ fn formats_without_numbers(rt: HostRuntime) {
             && is_refused(b"%1$d", RefusalKind::Numbered, 2)
             && is_refused(b"%d%f%12$", RefusalKind::Numbered, 7)
             && is_refused(b"%*1$d", RefusalKind::Mixed, 2)
-            && is_refused(
-                b"%-*.3i%0*.3d%+*u%lC",
-                RefusalKind::LengthUndefined,
-                18
-            )
+            && is_refused(b"%-*.3i%0*.3d%+*u%lC", RefusalKind::LengthUndefined, 18)
             && is_refused(b"%d%-1$d", RefusalKind::Unexpected, 5)
     );
 }
