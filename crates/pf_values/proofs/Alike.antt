@@ -38,7 +38,7 @@ PrintsAll-unique model (Directive s ∷ items) (argument ∷ args) out h g =
     let rest = PrintsAll-unique model items args g.1 h.1 g.3 in
     g.4 ∙ ap (λ t. t ++ g.1) first ∙ ap (λ t. printed_text model s argument ++ t) rest
 
--- the same types, and the same bytes
+-- two lists of items take arguments of equal types, and print equal bytes for all of them
 pub record AreAlike (model : Model) (a b : List Item) : Type 0 where
   pub same_types : types model a ≡ types model b
   pub same_bytes : (args : List Argument) → HasTypes model args (types model a) → all_printed model a args ≡ all_printed model b args

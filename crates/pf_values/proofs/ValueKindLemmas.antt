@@ -30,7 +30,7 @@ to_z-is B16 v h = grind (arith, nat_tests)
 to_z-is B32 v h = grind (arith, nat_tests)
 to_z-is B64 v h = grind (arith, nat_tests)
 
--- the same bits are the value in the signed range
+-- a number that was converted to an unsigned type is, read as a signed number of as many bits, its value in the signed type
 pub signed-converted : (bits : Bits) (a b : ℤ) (v : ℕ) (w : ℤ) → b ≡ a → IsConverted false (bit_count bits) b (pos v) → w ≡ to_z (width_for bits) v → IsConverted true (bit_count bits) a w
 signed-converted bits a b v w d h e =
     let unsigned : IsConverted false (bit_count bits) a (pos v) = rw (← d) h in

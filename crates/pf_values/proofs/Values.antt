@@ -12,7 +12,7 @@ abbrev pub wrapped : ℕ → ℤ → ℕ
 wrapped modulus (pos n) = n % modulus
 wrapped modulus (negsuc n) = modulus - 1 - n % modulus
 
--- the same number in the range that begins half of the modulus below 0
+-- a remainder as a number of the range that begins half of the modulus below 0
 abbrev pub signed_from : ℕ → ℕ → ℤ
 signed_from half n = if nat_lt n half then pos n else negsuc (2 * half - 1 - n)
 

@@ -66,6 +66,6 @@ module _ {W : Type 0} (contents : W → Known) (old new : Counted W) (bytes : Te
   WritesUpTo written (Ok done) = WritesAll
   WritesUpTo written (Err fault) = WritesFirst (written fault) × (written fault < length bytes)
 
-  -- the same of a call that answers a `ShortWrite`
+  -- what was written by a call whose error is a `ShortWrite`
   abbrev pub Writes : Result (Unit {0}) ShortWrite → Type 0
   Writes result = WritesUpTo (λ short. short.written) result

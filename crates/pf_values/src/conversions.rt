@@ -94,6 +94,7 @@ impl Conv {
     }
 
     /// What it prints.
+    #[inline(always)]
     pub fn kind(self) -> Kind
         ensures { result ≡ kind_of self }
     {

@@ -29,6 +29,7 @@ pub(crate) struct LengthRow {
 }
 
 /// The row of a length modifier.
+#[inline(always)]
 pub(crate) fn length_row(model: Model, length: Length) -> LengthRow
     ensures kept { result.kept ≡ kept_length model length }
     ensures bits { result.bits ≡ bit_count (bits_under model length) }
@@ -47,6 +48,7 @@ pub(crate) fn length_row(model: Model, length: Length) -> LengthRow
 }
 
 // The row of the modifier that names the types of a rank.
+#[inline(always)]
 fn row_of_rank(model: Model, rank: Rank) -> LengthRow
     ensures kept { result.kept ≡ (row_of_rank model rank).kept }
     ensures bits { result.bits ≡ bit_count (row_of_rank model rank).bits }
@@ -60,6 +62,7 @@ fn row_of_rank(model: Model, rank: Rank) -> LengthRow
     }
 }
 
+#[inline(always)]
 fn columns(kept: Length, bits: u8, signed: ArgType, unsigned: ArgType) -> LengthRow
     ensures { result ≡ record { kept = kept; bits = bits; signed = signed; unsigned = unsigned } }
 {

@@ -27,6 +27,7 @@ impl Model {
     pub const ALL: [Model; 3] = [Model::Lp64, Model::Ilp32, Model::Llp64];
 
     /// The bits of a long.
+    #[inline(always)]
     pub fn long_bits(self) -> u8
         ensures { result ≡ bit_count (long_bits self) }
     {
@@ -37,6 +38,7 @@ impl Model {
     }
 
     // The rank of `size_t` with its signed type, and of `ptrdiff_t` with its unsigned one.
+    #[inline(always)]
     pub(crate) fn size_rank(self) -> Rank
         ensures { result ≡ size_rank self }
     {
@@ -48,6 +50,7 @@ impl Model {
     }
 
     // The rank of `intmax_t` and `uintmax_t`.
+    #[inline(always)]
     pub(crate) fn greatest_rank(self) -> Rank
         ensures { result ≡ greatest_rank self }
     {

@@ -28,6 +28,7 @@ pub enum ArgType {
 
 impl ArgType {
     /// Returns the number of the type, from 1 to 7.
+    #[inline(always)]
     pub fn number(self) -> u8
         ensures { result ≡ type_number self }
     {

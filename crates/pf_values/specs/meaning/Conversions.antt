@@ -107,7 +107,7 @@ has_capitals (kinds.Unsigned base capitals) = capitals
 has_capitals kinds.Char = false
 has_capitals kinds.String = false
 
--- the same of conversions
+-- the classes of conversions, by what they print
 abbrev pub is_text : Conv → Bool
 is_text conv = prints_text (kind_of conv)
 
