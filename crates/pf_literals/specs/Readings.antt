@@ -14,7 +14,7 @@ pub data SourceReading : Type 0 where
   Whole : (bytes places : List ℕ) (close : ℕ) → SourceReading
   Fault : (kind : LiteralKind) (at : ℕ) → SourceReading
 
--- the same behind other bytes
+-- what is read, with bytes before it
 abbrev pub prefixed : List ℕ → List ℕ → SourceReading → SourceReading
 prefixed bytes places (Whole more others close) = Whole (bytes ++ more) (places ++ others) close
 prefixed bytes places (Fault kind at) = Fault kind at

@@ -22,7 +22,7 @@ finished_numeric notation count number =
     if number == 0 then Invalid ZeroByte 0 else
     Character number (before_digits notation + count)
 
--- the same, where the text ends behind the digits
+-- a numeric escape sequence where the text ends after its digits: more could follow
 abbrev pub numeric_at_end : Notation → ℕ → ℕ → Token
 numeric_at_end notation count number =
     if number == 0 && not (is_full notation count)

@@ -9,7 +9,7 @@ use crate::faults::LiteralFault;
 use std::alloc::{AllocError, Allocator, Global};
 
 /// The bytes that a source of string literals denotes (C11 6.4.5, paragraphs 4 to 6), without
-/// the zero byte behind them. Their room is taken by one growth of the source's length, and none is
+/// the null character after them. Their room is taken by one growth of the source's length, and none is
 /// taken where there are no bytes.
 pub fn decode(alloc: Global, source: &[u8]) -> Result<Vec<u8>, LiteralFault>
     ensures { MatchResult result
@@ -18,7 +18,7 @@ pub fn decode(alloc: Global, source: &[u8]) -> Result<Vec<u8>, LiteralFault>
     decode_in(alloc, source)
 }
 
-// The same, on any allocator.
+// What `decode` returns, on any allocator.
 pub(crate) fn decode_in<A: Allocator>(alloc: A, source: &[u8]) -> Result<Vec<u8, A>, LiteralFault>
     ensures { MatchResult result
         (λ v. IsSourceOf source.now v.items) (FaultForDecode source.now) }

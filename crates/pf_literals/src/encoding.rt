@@ -6,8 +6,8 @@ use crate::encoded_parts::EncodedPart;
 use crate::search::verbatim_len;
 use std::alloc::{AllocError, Allocator, Global};
 
-/// The one string literal of some bytes. A zero byte is written as `\000`, and of what has one no C
-/// string is made: `decode` refuses that literal. The room for it is taken by one growth of its
+/// The one string literal of some bytes. A null character is written as `\000`; `decode` refuses such a
+/// literal, since a C string would end there. The room for it is taken by one growth of its
 /// length.
 pub fn encode(alloc: Global, text: &[u8]) -> Result<Vec<u8>, AllocError>
     ensures { IfOk result (λ v. v.items ≡ encoding text.now) }
@@ -22,7 +22,7 @@ pub fn encoded_len(text: &[u8]) -> u128
     written_len(text, 0) + 2
 }
 
-// The same as `encode`, on any allocator.
+// What `encode` returns, on any allocator.
 pub(crate) fn encode_in<A: Allocator>(alloc: A, text: &[u8]) -> Result<Vec<u8, A>, AllocError>
     ensures { IfOk result (λ v. v.items ≡ encoding text.now) }
 {

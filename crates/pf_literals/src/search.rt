@@ -25,7 +25,7 @@ pub(crate) fn verbatim_len(text: &[u8]) -> usize
     search(text)
 }
 
-// The same. It is never inlined, so that the program has the search only once.
+// The search from the first byte on. It is never inlined, so that the program has it only once.
 #[inline(never)]
 fn search(text: &[u8]) -> usize
     ensures within { result ≤ length text.now }
@@ -45,7 +45,7 @@ fn search(text: &[u8]) -> usize
     verbatim_len_from(text, at)
 }
 
-// The same, where the first bytes are known to be verbatim.
+// The search behind bytes that are known to be verbatim.
 fn verbatim_len_from(text: &[u8], seen: usize) -> usize
     requires room { LANES ≤ length text.now }
     requires within { seen ≤ length text.now }
@@ -87,7 +87,7 @@ fn is_special(byte: u8) -> bool
     byte < b' ' || byte == 127 || byte == b'"' || byte == b'\\' || byte == b'?'
 }
 
-// The same, where all but the last few bytes are known to be verbatim: the last vector overlaps
+// The search where all but the last few bytes are known to be verbatim: the last vector overlaps
 // bytes that were tested.
 #[inline(always)]
 fn verbatim_at_end(text: &[u8], seen: usize) -> usize

@@ -154,7 +154,7 @@ fn begins_trigraph(byte: u8, rest: &[u8]) -> bool
     byte == b'?' && ends_trigraph(rest)
 }
 
-// The same, where the byte is no letter of a simple escape sequence.
+// A numeric escape sequence, or one that is invalid, by the byte after the backslash.
 fn numeric_escape(byte: u8, text: &[u8], rest: &[u8]) -> Token
     requires { text.now ≡ byte ∷ rest.now }
     ensures { result ≡ escape_by_letter None byte rest.now }
@@ -224,7 +224,7 @@ fn finished_numeric(notation: Notation, count: usize, number: u16) -> Token
     Token::Character(number as u8, notation.before_digits() + count)
 }
 
-// The same, where the text ends behind the digits.
+// A numeric escape sequence where the text ends after its digits: more could follow.
 fn numeric_at_end(notation: Notation, count: usize, number: u16) -> Token
     requires few { number ≤ 255 }
     requires within { count + 2 < usize.MAX }
