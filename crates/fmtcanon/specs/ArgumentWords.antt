@@ -25,7 +25,7 @@ abbrev pub negated_if : Bool → ℤ → ℤ
 negated_if true n = neg_ℤ n
 negated_if false n = n
 
--- the same after a `-` or none
+-- decimal digits, after a `-` if the number is below 0
 pub record SpellsNumber (t : Text) (number : ℤ) : Type 0 where
   pub is_negative : Bool
   pub unsigned : Text

@@ -163,7 +163,8 @@ pub(crate) fn put_bytes(out: &mut [u8], bytes: &[u8])
     }
 }
 
-/// The same for bytes and a zero after them.
+/// Puts bytes and a null character after them at the front of a buffer that has room for them, and leaves
+/// any other as it is.
 pub(crate) fn put_string(out: &mut [u8], bytes: &[u8])
     ensures { out.new ≡ put (bytes.now ++ 0 ∷ []) out.old }
 {
