@@ -2,7 +2,7 @@
 use Rattle.std.proofs.Common.{◌≡◌, ℕ, ◌≤◌, List, ◌∷◌, ◌++◌, Option, None, Some, ap, arith, length, length-append, map, subst, sym, unwrap_or}
 use Rattle.std.specs.Prelude.{MatchOption, ⊤}
 use Rattle.pf_text.specs.declared.refusals.Side.TheVariants as sides
-use Rattle.pf_literals.specs.Answers.{HasNoPlace, IsPlaceOf}
+use Rattle.pf_literals.specs.Answers.{HasNoOffset, IsOffsetOf}
 use Rattle.pf_literals.specs.Sources.{IsSourceOf}
 use Rattle.pf_literals.proofs.HasPlaceLemmas.{has_place}
 use Rattle.pf_posix.specs.Refusals.{IsPosixRefusedAt}
@@ -52,19 +52,19 @@ unnumbered_within model bytes kinds.Numbered at h = numbered_within bytes at h.0
 unnumbered_within model bytes kind at h = posix_within model bytes kind at h.0
 
 offset_there : (text bytes : Text) (index : ℕ) (found : Option ℕ)
-    → MatchOption found (HasNoPlace text index) (IsPlaceOf text index) → IsSourceOf text bytes → index ≤ length bytes
-    → IsPlaceOf text index (unwrap_or found index)
+    → MatchOption found (HasNoOffset text index) (IsOffsetOf text index) → IsSourceOf text bytes → index ≤ length bytes
+    → IsOffsetOf text index (unwrap_or found index)
 offset_there text bytes index None none is within = let there = has_place text bytes index is within in absurd (none there.0 there.1)
 offset_there text bytes index (Some at) place is within = place
 
 -- the offset of a byte in literals
 pub offset_in_literals : (given : GivenFormat) (index at : ℕ) (found : Option ℕ) → given.notation ≡ Literals
-    → MatchOption found (HasNoPlace given.text.now index) (IsPlaceOf given.text.now index) → at ≡ unwrap_or found index
+    → MatchOption found (HasNoOffset given.text.now index) (IsOffsetOf given.text.now index) → at ≡ unwrap_or found index
     → (bytes : Text) → IsFormat given bytes → index ≤ length bytes → IsOffsetInText given.notation given.text.now index at
 offset_in_literals given index at found is place e bytes gives within =
     let text = given.text.now in
     let there = offset_there text bytes index found place (subst (λ n. HoldsFormat n text bytes) is gives) within in
-    subst (λ n. IsOffsetInText n text index at) (sym is) (subst (IsPlaceOf text index) (sym e) there)
+    subst (λ n. IsOffsetInText n text index at) (sym is) (subst (IsOffsetOf text index) (sym e) there)
 
 -- the offset of a fault is within the bytes, and no fault of literals is one of bytes
 abbrev pub IsOfBytes : Text → Fault → Type 0

@@ -3,7 +3,7 @@ use Rattle.std.specs.Prelude.{◌≡◌, ℕ, ⊤}
 use Rattle.pf_literals.specs.declared.faults.LiteralFault.{LiteralFault}
 use Rattle.pf_literals.specs.declared.faults.LiteralFault.TheVariants.{Refused, Memory}
 use Rattle.pf_literals.specs.declared.faults.LiteralRefusal.{LiteralRefusal}
-use Rattle.pf_literals.specs.Answers.{IsPlaceOf}
+use Rattle.pf_literals.specs.Answers.{IsOffsetOf}
 use Rattle.pf_literals.specs.Encoding.{encoding}
 use Rattle.pf_literals.specs.Faults.{IsFaultAt}
 use Rattle.pf_literals.specs.Laws.{AreCStringBytes}
@@ -23,7 +23,7 @@ HoldsFormat Literals text bytes = IsSourceOf text bytes
 -- the offset in the text of a byte that it gives, or of the end of the bytes
 abbrev pub IsOffsetInText : Notation → Text → ℕ → ℕ → Type 0
 IsOffsetInText Bytes text index at = at ≡ index
-IsOffsetInText Literals text index at = IsPlaceOf text index at
+IsOffsetInText Literals text index at = IsOffsetOf text index at
 
 -- the text gives no bytes, for this reason
 abbrev pub HoldsNoFormat : Notation → Text → LiteralRefusal → Type 0

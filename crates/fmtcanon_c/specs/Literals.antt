@@ -1,7 +1,7 @@
 -- What the calls about string literals answer. This project's own.
 use Rattle.std.specs.Prelude.{◌≡◌, ◌≢◌, ◌⊎◌, ◌≤◌, ◌<◌, ◌^◌, ℕ, ◌+◌, ℤ, pos, neg_ℤ, [], ◌∷◌, ◌++◌, length}
 use Rattle.pf_literals.specs.declared.faults.LiteralKind.{LiteralKind}
-use Rattle.pf_literals.specs.Answers.{HasNoPlace, IsPlaceOf}
+use Rattle.pf_literals.specs.Answers.{HasNoOffset, IsOffsetOf}
 use Rattle.pf_literals.specs.Elements.{Bytes}
 use Rattle.pf_literals.specs.Encoding.{encoding}
 use Rattle.pf_literals.specs.Faults.{IsFaultAt}
@@ -45,5 +45,5 @@ IsPlaceCode at code =
 -- the place of a byte, or of the last closing quote behind them; or there is none
 abbrev pub AnswersPlace : Text → ℕ → ℤ → Type 0
 AnswersPlace t index code =
-    ((at : ℕ) × IsPlaceOf t index at × IsPlaceCode at code)
-    ⊎ (HasNoPlace t index × (code ≡ NO_PLACE))
+    ((at : ℕ) × IsOffsetOf t index at × IsPlaceCode at code)
+    ⊎ (HasNoOffset t index × (code ≡ NO_PLACE))

@@ -1,15 +1,15 @@
--- Sources with their bytes and places, texts that are none, and literals of texts, each by the whole definition, as the reader
+-- Sources with their bytes and offsets, texts that are none, and literals of texts, each by the whole definition, as the reader
 -- and the definitions compute. docs/DEFINITIONS.md goes through them.
 use Rattle.std.proofs.Common.{◌≡◌, ◌∷◌, [], List, ℕ, codes, refl}
 use Rattle.pf_literals.specs.declared.faults.LiteralKind.TheVariants.{NoLiteral, Unterminated, BadEscape, EscapeTooLarge, ZeroByte, Trigraph}
 use Rattle.pf_literals.specs.Elements.{Bytes}
 use Rattle.pf_literals.specs.Encoding.{encoding}
 use Rattle.pf_literals.specs.Faults.{IsFaultAt}
-use Rattle.pf_literals.specs.Sources.{HasPlaces, IsSourceOf}
+use Rattle.pf_literals.specs.Sources.{HasOffsets, IsSourceOf}
 use Rattle.pf_literals.proofs.Unique.{read_faulty, read_whole}
 
 abbrev IsReadAs : Bytes → Bytes → List ℕ → ℕ → Type 0
-IsReadAs t bytes found close = IsSourceOf t bytes × HasPlaces t found close
+IsReadAs t bytes found close = IsSourceOf t bytes × HasOffsets t found close
 
 empty : IsReadAs (codes "\"\"") [] [] 1
 empty = read_whole _ [] [] 1 refl

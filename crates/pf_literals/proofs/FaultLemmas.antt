@@ -129,7 +129,7 @@ refused_longer t more kind at f less =
     let front = f.front ++ flat_map literal_text f.literals ++ open_text f.begun in
     let long = ap length f.whole in
     let parts = length-append front f.rest in
-    let both = open_longer f.literals f.begun f.rest more kind f.on f.elements_are f.cause (omega (arith, less, long, parts, f.place)) in
+    let both = open_longer f.literals f.begun f.rest more kind f.on f.elements_are f.cause (omega (arith, less, long, parts, f.offset)) in
     record {
       front = f.front;
       literals = f.literals;
@@ -141,7 +141,7 @@ refused_longer t more kind at f less =
       elements_are = both.0;
       whole = ap (λ r. r ++ more) f.whole ∙ append_assoc front f.rest more;
       cause = both.1;
-      place = f.place;
+      offset = f.offset;
     }
 
 -- a text that ends in a literal is closed by a quote, behind a digit where one is wanted
@@ -288,4 +288,4 @@ fault_goes_on t kind at f there =
     let front = f.front ++ flat_map literal_text f.literals ++ open_text f.begun in
     let long = ap length f.whole in
     let parts = length-append front f.rest in
-    ends_begun t f.front f.literals f.begun f.rest kind f.on f.front_white f.each f.elements_are f.whole f.cause (omega (arith, there, long, parts, f.place))
+    ends_begun t f.front f.literals f.begun f.rest kind f.on f.front_white f.each f.elements_are f.whole f.cause (omega (arith, there, long, parts, f.offset))

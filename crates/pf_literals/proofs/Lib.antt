@@ -8,8 +8,8 @@ pub mod Unique
 pub mod FaultLemmas
 pub mod WalkLemmas
 pub mod DecodingLemmas
-pub mod PlaceLemmas
-pub mod HasPlaceLemmas
+pub mod OffsetLemmas
+pub mod HasOffsetLemmas
 pub mod EncodingLemmas
 pub mod EncodingReadLemmas
 mod Examples

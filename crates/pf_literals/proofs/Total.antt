@@ -122,7 +122,7 @@ by_outside t (Good front [] clear each e) =
         elements_are = tt;
         whole = e ∙ sym (append-nil (front ++ [])) ∙ sym (append-nil (front ++ [] ++ []));
         cause = (refl, refl, inl (refl, refl));
-        place = refl;
+        offset = refl;
       },
     )
 by_outside t (Good front (l ∷ literals) clear each e) =
@@ -142,7 +142,7 @@ by_outside t (Bad front literals begun rest kind on clear each open_ cause e) =
         elements_are = open_;
         whole = e;
         cause = cause literals;
-        place = refl;
+        offset = refl;
       },
     )
 

@@ -4,30 +4,30 @@ use Rattle.std.specs.Prelude.{◌⊎◌}
 use Rattle.pf_literals.specs.declared.faults.LiteralKind.{LiteralKind}
 use Rattle.pf_literals.specs.declared.faults.LiteralKind.TheVariants.{NoLiteral}
 use Rattle.pf_literals.specs.Elements.{Bytes}
-use Rattle.pf_literals.specs.Sources.{HasPlaces, IsSourceOf, literal_bytes, places}
+use Rattle.pf_literals.specs.Sources.{HasOffsets, IsSourceOf, literal_bytes, offsets}
 use Rattle.pf_literals.specs.Faults.{IsFaultAt}
 use Rattle.pf_literals.specs.Readings.{Fault, SourceReading, Whole, source_reading}
 use Rattle.pf_literals.proofs.Complete.{read_from-fault, read_from-source}
 use Rattle.pf_literals.proofs.Total.{IsSettled, settled}
 
 bytes_in : SourceReading → Bytes
-bytes_in (Whole bytes places close) = bytes
+bytes_in (Whole bytes offsets close) = bytes
 bytes_in (Fault kind at) = []
 
-places_in : SourceReading → List ℕ
-places_in (Whole bytes places close) = places
-places_in (Fault kind at) = []
+offsets_in : SourceReading → List ℕ
+offsets_in (Whole bytes offsets close) = offsets
+offsets_in (Fault kind at) = []
 
 close_in : SourceReading → ℕ
-close_in (Whole bytes places close) = close
+close_in (Whole bytes offsets close) = close
 close_in (Fault kind at) = 0
 
 kind_in : SourceReading → LiteralKind
-kind_in (Whole bytes places close) = NoLiteral
+kind_in (Whole bytes offsets close) = NoLiteral
 kind_in (Fault kind at) = kind
 
 at_in : SourceReading → ℕ
-at_in (Whole bytes places close) = 0
+at_in (Whole bytes offsets close) = 0
 at_in (Fault kind at) = at
 
 pub one_source : (t bytes others : Bytes) → IsSourceOf t bytes → IsSourceOf t others → bytes ≡ others
@@ -51,13 +51,13 @@ source_or_fault t = go (settled t) where
   go (inr h) = inr h
 
 -- what is read says which it is
-pub read_whole : (t bytes found : Bytes) (close : ℕ) → source_reading t ≡ Whole bytes found close → IsSourceOf t bytes × HasPlaces t found close
-unfolding bytes_in places_in close_in
+pub read_whole : (t bytes found : Bytes) (close : ℕ) → source_reading t ≡ Whole bytes found close → IsSourceOf t bytes × HasOffsets t found close
+unfolding bytes_in offsets_in close_in
 read_whole t bytes found close e = go (settled t) where
-  go : IsSettled t → IsSourceOf t bytes × HasPlaces t found close
+  go : IsSettled t → IsSourceOf t bytes × HasOffsets t found close
   go (inl (ls, s)) =
       let same = sym e ∙ read_from-source t ls s in
-      ((ls, s, ap bytes_in same), record { literals = ls; source = s; places_are = ap places_in same; close_is = ap close_in same })
+      ((ls, s, ap bytes_in same), record { literals = ls; source = s; offsets_are = ap offsets_in same; close_is = ap close_in same })
   go (inr (kind, at, h)) = absurd (whole_no_fault bytes found close kind at (sym e ∙ read_from-fault t kind at h))
 
 pub read_faulty : (t : Bytes) (kind : LiteralKind) (at : ℕ) → source_reading t ≡ Fault kind at → IsFaultAt t kind at

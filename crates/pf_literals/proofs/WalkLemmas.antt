@@ -8,8 +8,8 @@ use Rattle.std.proofs.lemmas.List.{drop-drop, drop_all, drop_more, length-drop, 
 use Rattle.pf_literals.specs.declared.faults.LiteralKind.{LiteralKind}
 use Rattle.pf_literals.specs.declared.notations.Notation.{Notation}
 use Rattle.pf_literals.specs.declared.notations.Notation.TheVariants.{Octal, Hexadecimal}
-use Rattle.pf_literals.specs.declared.tokens.Place.{Place}
-use Rattle.pf_literals.specs.declared.tokens.Place.TheVariants.{Before, Inside, Behind}
+use Rattle.pf_literals.specs.declared.tokens.Context.{Context}
+use Rattle.pf_literals.specs.declared.tokens.Context.TheVariants.{Before, Inside, Behind}
 use Rattle.pf_literals.specs.declared.tokens.Token.{Token}
 use Rattle.pf_literals.specs.declared.tokens.Token.TheVariants.{Character, Invalid}
 use Rattle.pf_literals.specs.Elements.{Bytes, base, digit_value, ends_trigraph, has_more_digits, is_full, is_line_end, simple_byte}
@@ -68,49 +68,49 @@ outside-fits : (text : Bytes) → Fits (length text) (token_outside text)
 outside-fits [] = omega arith
 outside-fits (byte ∷ rest) = fits-if _ (byte == 34) _ _ tt (fits-if _ (is_white byte) _ _ tt (omega arith))
 
-pub turn-fits : (place : Place) (text : Bytes) → Fits (length text) (token_at place text)
+pub turn-fits : (context : Context) (text : Bytes) → Fits (length text) (token_at context text)
 turn-fits Before text = outside-fits text
 turn-fits Inside text = token_inside-fits text
 turn-fits (Behind close) text = outside-fits text
 
 -- bytes that are passed over, of a text that has so many
-read_from-past : (place : Place) (n at : ℕ) (rest : Bytes) → n ≤ length rest → read_from place n at rest ≡ read_from place 0 (at + n) (drop n rest)
-read_from-past place n at rest few =
+read_from-past : (context : Context) (n at : ℕ) (rest : Bytes) → n ≤ length rest → read_from context n at rest ≡ read_from context 0 (at + n) (drop n rest)
+read_from-past context n at rest few =
     let long = length-take-le n rest few in
-    ap (read_from place n at) (sym (take-append-drop n rest))
-    ∙ ap (λ k. read_from place k at (take n rest ++ drop n rest)) (sym long)
-    ∙ read_from-skip place (take n rest) (drop n rest) at
-    ∙ ap (λ k. read_from place 0 (at + k) (drop n rest)) long
+    ap (read_from context n at) (sym (take-append-drop n rest))
+    ∙ ap (λ k. read_from context k at (take n rest ++ drop n rest)) (sym long)
+    ∙ read_from-skip context (take n rest) (drop n rest) at
+    ∙ ap (λ k. read_from context 0 (at + k) (drop n rest)) long
 
--- what is read from a place of a text on
-abbrev pub from : Bytes → Place → ℕ → SourceReading
-from t place at = read_from place 0 at (drop at t)
+-- what is read from a byte of a text on
+abbrev pub from : Bytes → Context → ℕ → SourceReading
+from t context at = read_from context 0 at (drop at t)
 
-module _ (t : Bytes) (place : Place) (at : ℕ) (less : at < length t) where
+module _ (t : Bytes) (context : Context) (at : ℕ) (less : at < length t) where
   here : Bytes
   here = drop (at + 1) t
 
-  pub turned : (next : Token) → token_at place (drop at t) ≡ next → from t place at ≡ after_token at place next (λ p skip. read_from p skip (at + 1) (drop (at + 1) t))
+  pub turned : (next : Token) → token_at context (drop at t) ≡ next → from t context at ≡ after_token at context next (λ p skip. read_from p skip (at + 1) (drop (at + 1) t))
   turned next e =
       let split = drop_more t at 0 less in
-      ap (read_from place 0 at) split
-      ∙ ap (λ n. after_token at place n (λ p skip. read_from p skip (at + 1) (drop (at + 1) t))) (ap (token_at place) (sym split) ∙ e)
+      ap (read_from context 0 at) split
+      ∙ ap (λ n. after_token at context n (λ p skip. read_from p skip (at + 1) (drop (at + 1) t))) (ap (token_at context) (sym split) ∙ e)
 
-  pub gave : (value len : ℕ) → token_at place (drop at t) ≡ Character value len → from t place at ≡ prefixed (value ∷ []) (at ∷ []) (from t place (at + len))
+  pub gave : (value len : ℕ) → token_at context (drop at t) ≡ Character value len → from t context at ≡ prefixed (value ∷ []) (at ∷ []) (from t context (at + len))
   gave value len e =
-      let fits : (0 < len) × (len ≤ length (drop at t)) = subst (Fits (length (drop at t))) e (turn-fits place (drop at t)) in
+      let fits : (0 < len) × (len ≤ length (drop at t)) = subst (Fits (length (drop at t))) e (turn-fits context (drop at t)) in
       let long = length-drop at t in
       let rest = length-drop (at + 1) t in
       let there : at + 1 + (len - 1) ≡ at + len = omega (arith, fits.0) in
       turned (Character value len) e
       ∙ ap (prefixed (value ∷ []) (at ∷ [])) (
-      read_from-past place (len - 1) (at + 1) (drop (at + 1) t) (omega (arith, fits.1, long, rest))
-      ∙ ap (read_from place 0 (at + 1 + (len - 1))) (drop-drop (len - 1) (at + 1) t)
-      ∙ ap (λ n. from t place n) there
+      read_from-past context (len - 1) (at + 1) (drop (at + 1) t) (omega (arith, fits.1, long, rest))
+      ∙ ap (read_from context 0 (at + 1 + (len - 1))) (drop-drop (len - 1) (at + 1) t)
+      ∙ ap (λ n. from t context n) there
       )
 
-pub over : (t : Bytes) (place : Place) (at : ℕ) → length t ≤ at → from t place at ≡ reading_at_end place at
-over t place at all = ap (read_from place 0 at) (drop_all at t all)
+pub over : (t : Bytes) (context : Context) (at : ℕ) → length t ≤ at → from t context at ≡ reading_at_end context at
+over t context at all = ap (read_from context 0 at) (drop_all at t all)
 
 -- a byte of a run
 special_tests : (byte : ℕ) → is_special byte ≡ false
@@ -144,14 +144,14 @@ ran t at len few verbatim =
     )
 
 -- what a turn takes is there, in the whole text
-pub gives_within : (t : Bytes) (place : Place) (at value len : ℕ) → token_at place (drop at t) ≡ Character value len → at < length t → (0 < len) × (at + len ≤ length t)
-gives_within t place at value len e less =
-    let fits : (0 < len) × (len ≤ length (drop at t)) = subst (Fits (length (drop at t))) e (turn-fits place (drop at t)) in
+pub gives_within : (t : Bytes) (context : Context) (at value len : ℕ) → token_at context (drop at t) ≡ Character value len → at < length t → (0 < len) × (at + len ≤ length t)
+gives_within t context at value len e less =
+    let fits : (0 < len) × (len ≤ length (drop at t)) = subst (Fits (length (drop at t))) e (turn-fits context (drop at t)) in
     let long = length-drop at t in
     (fits.0, omega (arith, fits.1, long))
 
-pub stops_within : (t : Bytes) (place : Place) (at on : ℕ) (kind : LiteralKind) → token_at place (drop at t) ≡ Invalid kind on → at < length t → at + on ≤ length t
-stops_within t place at on kind e less =
-    let fits : on ≤ length (drop at t) = subst (Fits (length (drop at t))) e (turn-fits place (drop at t)) in
+pub stops_within : (t : Bytes) (context : Context) (at on : ℕ) (kind : LiteralKind) → token_at context (drop at t) ≡ Invalid kind on → at < length t → at + on ≤ length t
+stops_within t context at on kind e less =
+    let fits : on ≤ length (drop at t) = subst (Fits (length (drop at t))) e (turn-fits context (drop at t)) in
     let long = length-drop at t in
     omega (arith, fits, long)

@@ -98,4 +98,4 @@ pub record IsFaultAt (t : Bytes) (kind : LiteralKind) (at : ℕ) : Type 0 where
   pub elements_are : AreOpen begun rest
   pub whole : t ≡ front ++ flat_map literal_text literals ++ open_text begun ++ rest
   pub cause : IsFaultCause literals begun rest kind on
-  pub place : at ≡ length (front ++ flat_map literal_text literals ++ open_text begun) + on
+  pub offset : at ≡ length (front ++ flat_map literal_text literals ++ open_text begun) + on

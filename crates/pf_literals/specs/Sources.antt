@@ -44,16 +44,16 @@ abbrev pub IsSourceOf : Bytes → Bytes → Type 0
 IsSourceOf t bytes = (literals : List StringLiteral) × IsSource t literals × (bytes ≡ literal_bytes literals)
 
 -- where each element begins, if the first one begins at `at`
-abbrev pub element_places : ℕ → List Element → List ℕ
-element_places at [] = []
-element_places at (element ∷ elements) =
-    at ∷ element_places (at + length (written element)) elements
+abbrev pub element_offsets : ℕ → List Element → List ℕ
+element_offsets at [] = []
+element_offsets at (element ∷ elements) =
+    at ∷ element_offsets (at + length (written element)) elements
 
 -- where each element of some literals begins, if the first of these begins at `at`
-abbrev pub places : ℕ → List StringLiteral → List ℕ
-places at [] = []
-places at (l ∷ literals) =
-    element_places (at + 1) l.elements ++ places (at + length (literal_text l)) literals
+abbrev pub offsets : ℕ → List StringLiteral → List ℕ
+offsets at [] = []
+offsets at (l ∷ literals) =
+    element_offsets (at + 1) l.elements ++ offsets (at + length (literal_text l)) literals
 
 -- where the last of some literals closes, or `before` if there are none
 abbrev pub close_of : ℕ → ℕ → List StringLiteral → ℕ
@@ -61,10 +61,10 @@ close_of before at [] = before
 close_of before at (l ∷ literals) =
     close_of (at + 1 + length (flat_map written l.elements)) (at + length (literal_text l)) literals
 
--- Where the bytes of a source come from: each byte from the place where its element begins; and the
--- place of the last closing quote.
-pub record HasPlaces (t : Bytes) (found : List ℕ) (close : ℕ) : Type 0 where
+-- Where the bytes of a source come from: each byte from the offset at which its element begins; and the
+-- offset of the last closing quote.
+pub record HasOffsets (t : Bytes) (found : List ℕ) (close : ℕ) : Type 0 where
   pub literals : List StringLiteral
   pub source : IsSource t literals
-  pub places_are : found ≡ places (length source.front) literals
+  pub offsets_are : found ≡ offsets (length source.front) literals
   pub close_is : close ≡ close_of 0 (length source.front) literals

@@ -3,8 +3,8 @@ use Rattle.std.specs.Prelude.{ℕ, ◌+◌, ◌*◌, ◌&&◌, not, nat_lt, ◌=
 use Rattle.pf_literals.specs.declared.faults.LiteralKind.TheVariants.{NoLiteral, Unterminated, BadEscape, EscapeTooLarge, ZeroByte, Trigraph}
 use Rattle.pf_literals.specs.declared.notations.Notation.{Notation}
 use Rattle.pf_literals.specs.declared.notations.Notation.TheVariants.{Octal, Hexadecimal}
-use Rattle.pf_literals.specs.declared.tokens.Place.{Place}
-use Rattle.pf_literals.specs.declared.tokens.Place.TheVariants.{Inside}
+use Rattle.pf_literals.specs.declared.tokens.Context.{Context}
+use Rattle.pf_literals.specs.declared.tokens.Context.TheVariants.{Inside}
 use Rattle.pf_literals.specs.declared.tokens.Token.{Token}
 use Rattle.pf_literals.specs.declared.tokens.Token.TheVariants.{White, OpenQuote, CloseQuote, Character, Invalid}
 use Rattle.pf_literals.specs.Elements.{Bytes, backslash, base, digit_value, ends_trigraph, has_more_digits, hexadecimal_letter, is_full, is_line_end, question, quote, simple_byte}
@@ -71,6 +71,6 @@ token_outside (byte ∷ rest) =
     if is_white byte then White else
     Invalid NoLiteral 0
 
-abbrev pub token_at : Place → Bytes → Token
+abbrev pub token_at : Context → Bytes → Token
 token_at Inside text = token_inside text
 token_at _ text = token_outside text

@@ -13,7 +13,7 @@ is_special byte =
 abbrev pub IsVerbatim : Bytes → Type 0
 IsVerbatim bytes = AllByRecursion (λ byte. is_special byte ≡ false) bytes
 
--- the bytes of a text from one place up to another are verbatim
+-- the bytes of a text from one offset up to another are verbatim
 abbrev pub IsVerbatimBetween : Bytes → ℕ → ℕ → Type 0
 IsVerbatimBetween text from to =
     (k : ℕ) → from ≤ k → k < to → is_special (slice_index text k) ≡ false

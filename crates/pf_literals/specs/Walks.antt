@@ -14,21 +14,21 @@ use Rattle.pf_literals.specs.Readings.{Fault, HasNoFault, SourceReading, Whole, 
 
 -- what is read from a cursor on
 abbrev pub reading_left : Bytes → Cursor → SourceReading
-reading_left t cursor = read_from cursor.place 0 cursor.at (drop cursor.at t)
+reading_left t cursor = read_from cursor.context 0 cursor.at (drop cursor.at t)
 
 -- the bytes of a part, and where each comes from
 abbrev pub part_bytes : SourcePart → Bytes
 part_bytes (Verbatim verbatim at) = verbatim.now
 part_bytes (Byte value at) = value ∷ []
 
-abbrev pub part_places : SourcePart → List ℕ
-part_places (Verbatim verbatim at) = range_with_len at (length verbatim.now)
-part_places (Byte value at) = at ∷ []
+abbrev pub part_offsets : SourcePart → List ℕ
+part_offsets (Verbatim verbatim at) = range_with_len at (length verbatim.now)
+part_offsets (Byte value at) = at ∷ []
 
 -- what comes next, between a cursor before it and behind it
 abbrev pub IsNextPart : Bytes → Cursor → NextPart → Cursor → Type 0
 IsNextPart t old (nexts.Given part) new =
-    reading_left t old ≡ prefixed (part_bytes part) (part_places part) (reading_left t new)
+    reading_left t old ≡ prefixed (part_bytes part) (part_offsets part) (reading_left t new)
 IsNextPart t old (nexts.End close) new = reading_left t old ≡ Whole [] [] close
 IsNextPart t old (nexts.Refused refusal) new = reading_left t old ≡ Fault refusal.kind refusal.at
 
@@ -49,8 +49,8 @@ abbrev pub IsDecodingFault : Bytes → Cursor → LiteralFault → Type 0
 IsDecodingFault t cursor (Refused refusal) = reading_left t cursor ≡ Fault refusal.kind refusal.at
 IsDecodingFault t cursor Memory = HasNoFault (reading_left t cursor)
 
--- a place that was found, if the rest of the text is read
-abbrev pub IsFoundPlace : Bytes → Cursor → ℕ → Option ℕ → Type 0
-IsFoundPlace t cursor at (Some there) = (there ≡ at) × HasNoFault (reading_left t cursor)
-IsFoundPlace t cursor at None =
-    (kind : LiteralKind) × (place : ℕ) × (reading_left t cursor ≡ Fault kind place)
+-- an offset that was found, if the rest of the text is read
+abbrev pub IsFoundOffset : Bytes → Cursor → ℕ → Option ℕ → Type 0
+IsFoundOffset t cursor at (Some there) = (there ≡ at) × HasNoFault (reading_left t cursor)
+IsFoundOffset t cursor at None =
+    (kind : LiteralKind) × (context : ℕ) × (reading_left t cursor ≡ Fault kind context)

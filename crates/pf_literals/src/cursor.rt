@@ -7,7 +7,7 @@ ghost use Rattle.pf_literals.specs.Readings.{Fault, HasNoFault, source_reading};
 
 use crate::faults::{LiteralKind, LiteralRefusal};
 use crate::search::verbatim_len;
-use crate::tokens::{Place, Token, token_at};
+use crate::tokens::{Context, Token, token_at};
 
 /// A part of a source that denotes bytes.
 #[derive(Clone, Copy, Debug)]
@@ -29,11 +29,11 @@ pub(crate) enum NextPart<'a> {
     Refused(LiteralRefusal),
 }
 
-/// The place up to which a source was read.
+/// The offset up to which a source was read, and what is there.
 #[derive(Clone, Copy, Debug)]
 pub(crate) struct Cursor {
     at: usize,
-    place: Place,
+    context: Context,
 }
 
 impl Cursor {
@@ -43,7 +43,7 @@ impl Cursor {
     {
         Cursor {
             at: 0,
-            place: Place::Before,
+            context: Context::Before,
         }
     }
 
@@ -97,10 +97,10 @@ impl Cursor {
         ensures further { MatchOption result (self.new ≡ self.old)
             (λ part. AdvancesCursor source.now self.old (NextPart.Given part) self.new) }
     {
-        match self.place {
-            Place::Inside => {}
-            Place::Before => return None,
-            Place::Behind(_) => return None,
+        match self.context {
+            Context::Inside => {}
+            Context::Before => return None,
+            Context::Behind(_) => return None,
         }
         let at = self.at;
         let rest = &source[at..];
@@ -121,18 +121,18 @@ impl Cursor {
             (λ next. AdvancesCursor source.now self.old next self.new) }
     {
         let at = self.at;
-        match token_at(self.place, &source[at..]) {
+        match token_at(self.context, &source[at..]) {
             Token::White => {
                 self.at += 1;
                 None
             }
             Token::OpenQuote => {
-                self.place = Place::Inside;
+                self.context = Context::Inside;
                 self.at += 1;
                 None
             }
             Token::CloseQuote => {
-                self.place = Place::Behind(at);
+                self.context = Context::Behind(at);
                 self.at += 1;
                 None
             }
@@ -149,10 +149,10 @@ impl Cursor {
         ensures next { (t : Bytes) → length t ≤ self.old.at → IsNextPart t self.old result self.new }
         ensures further { (t : Bytes) (from : Cursor) → AdvancesCursor t from result self.new }
     {
-        match self.place {
-            Place::Before => refused(LiteralKind::NoLiteral, self.at),
-            Place::Inside => refused(LiteralKind::Unterminated, self.at),
-            Place::Behind(close) => NextPart::End(close),
+        match self.context {
+            Context::Before => refused(LiteralKind::NoLiteral, self.at),
+            Context::Inside => refused(LiteralKind::Unterminated, self.at),
+            Context::Behind(close) => NextPart::End(close),
         }
     }
 }

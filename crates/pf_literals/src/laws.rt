@@ -3,13 +3,13 @@
 ghost use Rattle.std.specs.Prelude.{◌≡◌, ◌++◌, ◌-◌, ◌<◌, ◌≤◌, ℕ, Some, length, slice_get};
 ghost use Rattle.pf_literals.specs.declared.faults.LiteralKind.{LiteralKind};
 ghost use Rattle.pf_literals.specs.declared.faults.TheConstants.LiteralKind.{ALL as kinds};
-ghost use Rattle.pf_literals.specs.Answers.{IsPlaceOf};
+ghost use Rattle.pf_literals.specs.Answers.{IsOffsetOf};
 ghost use Rattle.pf_literals.specs.Elements.{Bytes};
 ghost use Rattle.pf_literals.specs.Encoding.{encoding};
 ghost use Rattle.pf_literals.specs.Faults.{IsFaultAt};
 ghost use Rattle.pf_literals.specs.Kinds.{literal_kind_number};
 ghost use Rattle.pf_literals.specs.Laws.{CanGoOn, IsReadOrRefused, AreCStringBytes};
-ghost use Rattle.pf_literals.specs.Sources.{HasPlaces, IsSourceOf};
+ghost use Rattle.pf_literals.specs.Sources.{HasOffsets, IsSourceOf};
 
 /// The table of kinds is in the order of their numbers.
 pub fn kinds_in_order()
@@ -22,20 +22,21 @@ pub fn bytes_once()
         → bytes ≡ others }
 {}
 
-/// A source has one list of places of its bytes, and one place of its last quote.
-pub fn places_once()
-    ensures { (t found others : Bytes) (close last : ℕ) → HasPlaces t found close
-        → HasPlaces t others last → (found ≡ others) × (close ≡ last) }
+/// A source has one list of offsets of its bytes, and one offset of its last quote.
+pub fn offsets_once()
+    ensures { (t found others : Bytes) (close last : ℕ) → HasOffsets t found close
+        → HasOffsets t others last → (found ≡ others) × (close ≡ last) }
 {}
 
-/// A source has a place for each of its bytes, and one behind them, and each is less than its length.
-pub fn places_there()
+/// Each byte of a source has an offset, and so does the last closing quote after them; each is less than the
+/// length of the source.
+pub fn offsets_there()
     ensures there { (t bytes : Bytes) (index : ℕ) → IsSourceOf t bytes → index ≤ length bytes
-        → (at : ℕ) × IsPlaceOf t index at }
-    ensures within { (t : Bytes) (index at : ℕ) → IsPlaceOf t index at → at < length t }
+        → (at : ℕ) × IsOffsetOf t index at }
+    ensures within { (t : Bytes) (index at : ℕ) → IsOffsetOf t index at → at < length t }
 {}
 
-/// A text that is no source is refused for one reason and at one place.
+/// A text that is no source is refused for one reason and at one offset.
 pub fn refused_once()
     ensures { (t : Bytes) (kind other : LiteralKind) (p q : ℕ) → IsFaultAt t kind p
         → IsFaultAt t other q → (kind ≡ other) × (p ≡ q) }

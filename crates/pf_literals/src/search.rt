@@ -128,9 +128,9 @@ fn verbatim_in_vector(text: &[u8], at: usize) -> usize
     let special = (bytes ^ u8x16::splat(2)).simd_lt(u8x16::splat(33))
         | (bytes | u8x16::splat(64)).simd_eq(u8x16::splat(127))
         | bytes.simd_eq(u8x16::splat(b'\\'));
-    let places = special.to_bitmask();
-    if places == 0 {
+    let offsets = special.to_bitmask();
+    if offsets == 0 {
         return LANES;
     }
-    places.trailing_zeros() as usize
+    offsets.trailing_zeros() as usize
 }

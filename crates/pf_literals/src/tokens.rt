@@ -9,7 +9,7 @@ use crate::notations::Notation;
 
 /// Where in a source the rest of a text begins.
 #[derive(Clone, Copy, Debug, PartialEq, Eq)]
-pub(crate) enum Place {
+pub(crate) enum Context {
     /// Before the first literal.
     Before,
     /// In a literal.
@@ -34,13 +34,13 @@ pub(crate) enum Token {
 }
 
 /// The token at the front of a text, which has a byte at least.
-pub(crate) fn token_at(place: Place, text: &[u8]) -> Token
-    ensures { result ≡ token_at place text.now }
+pub(crate) fn token_at(context: Context, text: &[u8]) -> Token
+    ensures { result ≡ token_at context text.now }
 {
-    match place {
-        Place::Before => token_outside(text),
-        Place::Inside => token_inside(text),
-        Place::Behind(_) => token_outside(text),
+    match context {
+        Context::Before => token_outside(text),
+        Context::Inside => token_inside(text),
+        Context::Behind(_) => token_outside(text),
     }
 }
 

@@ -1,7 +1,7 @@
 //! `pf_literals`: the lengths of literals, the texts of faults, and each law once.
 use pf_literals::laws::{
     bytes_once, encoded_is_read, encoded_once, end_goes_on, kinds_in_order, never_both,
-    places_once, places_there, read_or_refused, refused_for_good, refused_once,
+    offsets_once, offsets_there, read_or_refused, refused_for_good, refused_once,
 };
 use pf_literals::{LiteralFault, LiteralKind, LiteralRefusal, encoded_len};
 use std::alloc::{AllocError, Global};
@@ -37,8 +37,8 @@ fn each_literal_has_its_length(rt: HostRuntime) {
     end_goes_on();
     encoded_is_read();
     encoded_once();
-    places_once();
-    places_there();
+    offsets_once();
+    offsets_there();
     kinds_in_order();
 }
 

@@ -1,5 +1,5 @@
 use Rattle.std.proofs.Common.{◌++◌}
-use Rattle.pf_literals.specs.Walks.{part_bytes, part_places}
+use Rattle.pf_literals.specs.Walks.{part_bytes, part_offsets}
 use Rattle.pf_literals.proofs.DecodingLemmas.{all_read, appended, hindered, refused}
 use Rattle.pf_literals.proofs.decoding.append_all.Goals as goal
 
@@ -8,8 +8,8 @@ loop-part-preserved g c =
     let t = c.args.source.now in
     let i = c.loop-part.invariant in
     let part = c.in-Given.part in (
-      i.0 ++ part_places part,
-      appended t c.loop-part.out.items i.0 _ i.1 (part_bytes part) (part_places part) c.append.new.out.items _ c.in-Given.ensures.next c.in-Ok.ensures,
+      i.0 ++ part_offsets part,
+      appended t c.loop-part.out.items i.0 _ i.1 (part_bytes part) (part_offsets part) c.append.new.out.items _ c.in-Given.ensures.next c.in-Ok.ensures,
     )
 
 pub returns-in-End : goal.returns-in-End
@@ -26,5 +26,5 @@ pub returns-in-Err : goal.returns-in-Err
 returns-in-Err g c =
     let i = c.loop-part.invariant in
     let part = c.in-Given.part in
-    hindered c.args.source.now c.loop-part.out.items i.0 (part_bytes part) (part_places part) _ c.next_part.new.self c.fault_of.result i.1
+    hindered c.args.source.now c.loop-part.out.items i.0 (part_bytes part) (part_offsets part) _ c.next_part.new.self c.fault_of.result i.1
     c.in-Given.ensures.next c.in-Given.ensures.further.2 c.fault_of.ensures

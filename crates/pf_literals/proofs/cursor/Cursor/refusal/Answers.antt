@@ -1,6 +1,6 @@
 use Rattle.std.proofs.Common.{◌++◌, [], ap, sym, ◌∙◌}
 use Rattle.pf_literals.specs.Readings.{prefixed}
-use Rattle.pf_literals.specs.Walks.{part_bytes, part_places}
+use Rattle.pf_literals.specs.Walks.{part_bytes, part_offsets}
 use Rattle.pf_literals.proofs.Complete.{prefixed-none, prefixed-prefixed}
 use Rattle.pf_literals.proofs.cursor.Cursor.refusal.Goals as goal
 
@@ -12,6 +12,6 @@ loop-refusal-preserved c =
     let i = c.loop-refusal.invariant in
     let part = c.in-Given.field-0 in (
       i.0 ++ part_bytes part,
-      i.1 ++ part_places part,
-      i.2 ∙ ap (prefixed i.0 i.1) c.in-Given.ensures.next ∙ prefixed-prefixed i.0 (part_bytes part) i.1 (part_places part) _,
+      i.1 ++ part_offsets part,
+      i.2 ∙ ap (prefixed i.0 i.1) c.in-Given.ensures.next ∙ prefixed-prefixed i.0 (part_bytes part) i.1 (part_offsets part) _,
     )

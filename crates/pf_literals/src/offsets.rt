@@ -1,7 +1,7 @@
 //! Where in a source each of its bytes comes from.
 ghost use Rattle.std.specs.Prelude.{◌≡◌, ◌<◌, length, MatchOption, slice_get};
-ghost use Rattle.pf_literals.specs.Answers.{HasNoPlace, IsPlaceOf};
-ghost use Rattle.pf_literals.specs.Walks.{IsFoundPlace, PartEndsBy, part_places};
+ghost use Rattle.pf_literals.specs.Answers.{HasNoOffset, IsOffsetOf};
+ghost use Rattle.pf_literals.specs.Walks.{IsFoundOffset, PartEndsBy, part_offsets};
 
 use crate::cursor::{Cursor, NextPart, SourcePart};
 
@@ -9,26 +9,26 @@ use crate::cursor::{Cursor, NextPart, SourcePart};
 /// for the number of bytes, the offset of the last closing quote. `None` for a greater index, and if
 /// the text is not a source.
 pub fn source_offset(source: &[u8], index: u64) -> Option<u64>
-    ensures { MatchOption result (HasNoPlace source.now index) (IsPlaceOf source.now index) }
+    ensures { MatchOption result (HasNoOffset source.now index) (IsOffsetOf source.now index) }
 {
     let mut cursor = Cursor::new();
     let mut left = index;
     loop {
         match cursor.next_part(source) {
-            NextPart::Given(part) => match place_in(part, left) {
+            NextPart::Given(part) => match offset_in(part, left) {
                 Some(at) => return if_accepted(cursor, source, at),
                 None => left -= len_of(part),
             },
-            NextPart::End(close) => return last_place(close, left),
+            NextPart::End(close) => return last_offset(close, left),
             NextPart::Refused(_) => return None,
         }
     }
 }
 
-// The place of a byte of a part.
-fn place_in(part: SourcePart, index: u64) -> Option<u64>
+// The offset of a byte of a part.
+fn offset_in(part: SourcePart, index: u64) -> Option<u64>
     requires { PartEndsBy part usize.MAX }
-    ensures { result ≡ slice_get (part_places part.entry) index }
+    ensures { result ≡ slice_get (part_offsets part.entry) index }
 {
     if index >= len_of(part) {
         return None;
@@ -40,7 +40,7 @@ fn place_in(part: SourcePart, index: u64) -> Option<u64>
 }
 
 fn len_of(part: SourcePart) -> u64
-    ensures { result ≡ length (part_places part.entry) }
+    ensures { result ≡ length (part_offsets part.entry) }
 {
     match part {
         SourcePart::Verbatim(verbatim, _) => verbatim.len() as u64,
@@ -48,8 +48,8 @@ fn len_of(part: SourcePart) -> u64
     }
 }
 
-// The place of the last closing quote, where no byte is left to pass over.
-fn last_place(close: usize, index: u64) -> Option<u64>
+// The offset of the last closing quote, if no byte is left to pass over.
+fn last_offset(close: usize, index: u64) -> Option<u64>
     ensures { MatchOption result (0 < index) (λ at. (index ≡ 0) × (at ≡ close)) }
 {
     if index == 0 {
@@ -58,9 +58,9 @@ fn last_place(close: usize, index: u64) -> Option<u64>
     None
 }
 
-// The place, if the rest of the text is not refused.
+// The offset, if the rest of the text is not refused.
 fn if_accepted(cursor: Cursor, source: &[u8], at: u64) -> Option<u64>
-    ensures { IsFoundPlace source.now cursor at result }
+    ensures { IsFoundOffset source.now cursor at result }
 {
     match cursor.refusal(source) {
         Some(_) => None,

@@ -7,11 +7,11 @@ use Rattle.std.proofs.lemmas.List.FromFn.{get_or-range_with_len, length-range_wi
 use Rattle.std.proofs.lemmas.Option.{slice_get-get_or, slice_get_within}
 use Rattle.pf_literals.specs.declared.cursor.Cursor.{Cursor}
 use Rattle.pf_literals.specs.declared.faults.LiteralKind.{LiteralKind}
-use Rattle.pf_literals.specs.Answers.{HasNoPlace, IsPlaceOf}
+use Rattle.pf_literals.specs.Answers.{HasNoOffset, IsOffsetOf}
 use Rattle.pf_literals.specs.Elements.{Bytes}
 use Rattle.pf_literals.specs.Readings.{Fault, HasNoFault, SourceReading, Whole, prefixed, source_reading}
-use Rattle.pf_literals.specs.Sources.{HasPlaces, literal_bytes}
-use Rattle.pf_literals.specs.Walks.{IsFoundPlace}
+use Rattle.pf_literals.specs.Sources.{HasOffsets, literal_bytes}
+use Rattle.pf_literals.specs.Walks.{IsFoundOffset}
 use Rattle.pf_literals.specs.Walks.{reading_left as rest_of}
 use Rattle.pf_literals.proofs.Complete.{read_from-source}
 use Rattle.pf_literals.proofs.DecodingLemmas.{all_read, moved}
@@ -31,35 +31,35 @@ get_front [] ys n x e = absurd (cc)
 get_front (y ∷ xs) ys zero x e = e
 get_front (y ∷ xs) ys (suc n) x e = get_front xs ys n x e
 
--- the places of a source are those that are read
-places_read : (t : Bytes) (found : List ℕ) (close : ℕ) → HasPlaces t found close → (bytes : List ℕ) × (source_reading t ≡ Whole bytes found close)
-places_read t found close h = (
+-- the offsets of a source are those that are read
+offsets_read : (t : Bytes) (found : List ℕ) (close : ℕ) → HasOffsets t found close → (bytes : List ℕ) × (source_reading t ≡ Whole bytes found close)
+offsets_read t found close h = (
   literal_bytes h.literals,
-  read_from-source t h.literals h.source ∙ ap₂ (λ p c. Whole (literal_bytes h.literals) p c) (sym h.places_are) (sym h.close_is),
+  read_from-source t h.literals h.source ∙ ap₂ (λ p c. Whole (literal_bytes h.literals) p c) (sym h.offsets_are) (sym h.close_is),
 )
 
-same_places : (bytes found : List ℕ) (close : ℕ) (others there : List ℕ) (last : ℕ) → Whole bytes found close ≡ Whole others there last → (found ≡ there) × (close ≡ last)
-same_places bytes found close others there last e = (cc, cc)
+same_offsets : (bytes found : List ℕ) (close : ℕ) (others there : List ℕ) (last : ℕ) → Whole bytes found close ≡ Whole others there last → (found ≡ there) × (close ≡ last)
+same_offsets bytes found close others there last e = (cc, cc)
 
-pub one_place : (t found others : List ℕ) (close last : ℕ) → HasPlaces t found close → HasPlaces t others last → (found ≡ others) × (close ≡ last)
-one_place t found others close last h g =
-    let a = places_read t found close h in
-    let b = places_read t others last g in
-    same_places a.0 found close b.0 others last (sym a.1 ∙ b.1)
+pub one_offset : (t found others : List ℕ) (close last : ℕ) → HasOffsets t found close → HasOffsets t others last → (found ≡ others) × (close ≡ last)
+one_offset t found others close last h g =
+    let a = offsets_read t found close h in
+    let b = offsets_read t others last g in
+    same_offsets a.0 found close b.0 others last (sym a.1 ∙ b.1)
 
-pub no_place : (t : Bytes) (index at : ℕ) (kind : LiteralKind) → source_reading t ≡ Fault kind at → HasNoPlace t index
-no_place t index at kind e there (found, close, h, is) = let whole = sym e ∙ (places_read t found close h).1 in absurd (cc)
+pub no_offset : (t : Bytes) (index at : ℕ) (kind : LiteralKind) → source_reading t ≡ Fault kind at → HasNoOffset t index
+no_offset t index at kind e there (found, close, h, is) = let whole = sym e ∙ (offsets_read t found close h).1 in absurd (cc)
 
 module _ (t : Bytes) (bytes found : List ℕ) (old : SourceReading) (so_far : source_reading t ≡ prefixed bytes found old) where
   -- a fault behind
-  pub none_behind : (index at : ℕ) (kind : LiteralKind) → old ≡ Fault kind at → HasNoPlace t index
-  none_behind index at kind e = no_place t index at kind (so_far ∙ ap (prefixed bytes found) e)
+  pub none_behind : (index at : ℕ) (kind : LiteralKind) → old ≡ Fault kind at → HasNoOffset t index
+  none_behind index at kind e = no_offset t index at kind (so_far ∙ ap (prefixed bytes found) e)
 
   module _ (close : ℕ) (e : old ≡ Whole [] [] close) where
-    abbrev known : HasPlaces t found close
+    abbrev known : HasOffsets t found close
     known = (all_read t bytes found old so_far close e).1
 
-    last_is : (index left at : ℕ) → index ≡ length found + left → left ≡ 0 → at ≡ close → IsPlaceOf t index at
+    last_is : (index left at : ℕ) → index ≡ length found + left → left ≡ 0 → at ≡ close → IsOffsetOf t index at
     last_is index left at all none there = (
       found,
       close,
@@ -67,33 +67,33 @@ module _ (t : Bytes) (bytes found : List ℕ) (old : SourceReading) (so_far : so
       ap (slice_get (found ++ close ∷ [])) (all ∙ ap (λ n. length found + n) none) ∙ get_behind found (close ∷ []) 0 ∙ ap Some (sym there),
     )
 
-    none_at_end : (index left : ℕ) → index ≡ length found + left → 0 < left → HasNoPlace t index
+    none_at_end : (index left : ℕ) → index ≡ length found + left → 0 < left → HasNoOffset t index
     none_at_end index left all some at (others, last, h, is) =
-        let same = (one_place t others found last close h known).0 in
+        let same = (one_offset t others found last close h known).0 in
         let few = slice_get_within (others ++ last ∷ []) index at is in
         let long = length-append others (last ∷ []) in
         let as_long = ap length same in
         omega (arith, few, long, as_long, all, some)
 
     pub at_end : (index left : ℕ) (result : Option ℕ) → index ≡ length found + left → MatchOption result (0 < left) (λ at. (left ≡ 0) × (at ≡ close))
-        → MatchOption result (HasNoPlace t index) (IsPlaceOf t index)
+        → MatchOption result (HasNoOffset t index) (IsOffsetOf t index)
     at_end index left None all some = none_at_end index left all some
     at_end index left (Some at) all h = last_is index left at all h.0 h.1
 
-  -- a place that is found in what comes next
-  found_there : (more others : List ℕ) (new : SourceReading) (index left at : ℕ) → old ≡ prefixed more others new → index ≡ length found + left → slice_get others left ≡ Some at → HasNoFault new → IsPlaceOf t index at
+  -- an offset that is found in what comes next
+  found_there : (more others : List ℕ) (new : SourceReading) (index left at : ℕ) → old ≡ prefixed more others new → index ≡ length found + left → slice_get others left ≡ Some at → HasNoFault new → IsOffsetOf t index at
   found_there more others new index left at e all is (rest, last, close, whole) =
       let all_found = found ++ others ++ last in
       let known = read_whole t (bytes ++ more ++ rest) all_found close (moved t bytes found old so_far more others new e ∙ ap (prefixed (bytes ++ more) (found ++ others)) whole) in
       let there : slice_get (found ++ others) index ≡ Some at = ap (slice_get (found ++ others)) all ∙ get_behind found others left ∙ is in
       (all_found, close, known.1, get_front all_found (close ∷ []) index at (get_front (found ++ others) last index at there))
 
-  none_there : (more others : List ℕ) (new : SourceReading) (index at : ℕ) (kind : LiteralKind) → old ≡ prefixed more others new → new ≡ Fault kind at → HasNoPlace t index
-  none_there more others new index at kind e stop = no_place t index at kind (moved t bytes found old so_far more others new e ∙ ap (prefixed (bytes ++ more) (found ++ others)) stop)
+  none_there : (more others : List ℕ) (new : SourceReading) (index at : ℕ) (kind : LiteralKind) → old ≡ prefixed more others new → new ≡ Fault kind at → HasNoOffset t index
+  none_there more others new index at kind e stop = no_offset t index at kind (moved t bytes found old so_far more others new e ∙ ap (prefixed (bytes ++ more) (found ++ others)) stop)
 
   pub there_or_not : (more others : List ℕ) (cursor : Cursor) (index left at : ℕ) (result : Option ℕ) → old ≡ prefixed more others (rest_of t cursor) → index ≡ length found + left
-      → Some at ≡ slice_get others left → IsFoundPlace t cursor at result → MatchOption result (HasNoPlace t index) (IsPlaceOf t index)
-  there_or_not more others cursor index left at None e all is (kind, place, stop) = none_there more others (rest_of t cursor) index place kind e stop
+      → Some at ≡ slice_get others left → IsFoundOffset t cursor at result → MatchOption result (HasNoOffset t index) (IsOffsetOf t index)
+  there_or_not more others cursor index left at None e all is (kind, context, stop) = none_there more others (rest_of t cursor) index context kind e stop
   there_or_not more others cursor index left at (Some there) e all is (same, whole) =
       found_there more others (rest_of t cursor) index left there e all (sym is ∙ ap Some (sym same)) whole
 
