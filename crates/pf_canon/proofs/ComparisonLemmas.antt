@@ -34,6 +34,8 @@ use Rattle.std.proofs.Math.Seq.{take-add}
 use Rattle.std.proofs.lemmas.List.{take-append-le, append-nil, append_assoc, append_cancel_left, length-append, length-take, take-append-drop, take-take}
 use Rattle.std.specs.Prelude.{MatchBool, ◌⊎◌}
 use Rattle.std.specs.Io.KnownBytes.{Consumes}
+use Rattle.pf_canon.proofs.SomeCanonical.{some_canonical}
+use Rattle.pf_values.specs.meaning.Items.{IsAccepted}
 use Rattle.pf_values.specs.meaning.Text.{Text}
 use Rattle.pf_values.specs.declared.models.Model.{Model}
 use Rattle.pf_values.specs.Counting.{Known}
@@ -328,12 +330,14 @@ told model first second f g false step h k =
     apart_told model f g step.given (pending_of first) (pending_of second) h.more k.more step.so (λ none. h.ended (step.one_ended none))
     (λ none. k.ended (step.two_ended none)) h.whole k.whole
 
--- a text and itself
-pub told_itself : (model : Model) (t c : Text) → IsAcceptedAs model t c → AreTextsSame model t t true
-told_itself model t c h = record {
-  first = h.0;
-  second = h.0;
-  first_canonical = (c, h.1);
-  second_canonical = (c, h.1);
-  same = (λ _. equivalent_by model t t c h.1.equivalent h.1.equivalent, λ _. refl);
-}
+-- an accepted text and itself
+pub told_itself : (model : Model) (t : Text) → IsAccepted t → AreTextsSame model t t true
+told_itself model t h =
+    let own = some_canonical model t h.0 h.1.reads in
+    record {
+      first = h;
+      second = h;
+      first_canonical = own;
+      second_canonical = own;
+      same = (λ _. equivalent_by model t t own.0 own.1.equivalent own.1.equivalent, λ _. refl);
+    }

@@ -1,6 +1,7 @@
 //! Two texts, compared in step.
 ghost use Rattle.std.specs.Prelude.{◌≡◌, ◌≤◌, Some, Err, IfOk, IfSome, MatchResult, ◌≢◌, [], MatchBool};
 ghost use Rattle.pf_values.specs.Counting.{HasFailed, Known, device_of, failures_of};
+ghost use Rattle.pf_values.specs.declared.models.Model.{Model as ModelOf};
 ghost use Rattle.pf_values.specs.meaning.Text.{Text};
 ghost use Rattle.pf_canon.specs.Comparison.{AreCommon, AreTextsSame, CountsBehind, CountsSides, EndsBoth, HaveCommon, IsFilledInStep, IsInStep, StopsSide, TextStops};
 ghost use Rattle.pf_canon.specs.CanonicalBytes.{AnswerLeaves, History, IsFilled, pending_in, units};
@@ -10,7 +11,7 @@ use crate::canonical_bytes::{ByteSource, ByteTransducer};
 use crate::canonical_slices::{CanonicalSlices, finish_rest};
 use crate::faults::{SideFault, StreamFault};
 use crate::transducer::Transducer;
-use pf_text::{Refusal, Side};
+use pf_text::{Refusal, Side, check};
 use pf_values::{Counted, Model};
 use std::io::Read;
 
@@ -20,64 +21,68 @@ use std::io::Read;
 /// the second text is not read further. It takes no memory.
 pub fn same_stream<R: Read, S: Read>(
     model: Model,
-    r: &mut Counted<R>,
-    s: &mut Counted<S>,
+    first: &mut Counted<R>,
+    second: &mut Counted<S>,
 ) -> Result<bool, SideFault>
     ensures compared { MatchResult result
-        (EndsBoth model (R.remaining (device_of r.old)) (R.remaining (device_of r.new))
-        (S.remaining (device_of s.old)) (S.remaining (device_of s.new)))
-        (StopsSide model (R.remaining (device_of r.old)) (R.remaining (device_of r.new))
-        (S.remaining (device_of s.old)) (S.remaining (device_of s.new))) }
+        (EndsBoth model (R.remaining (device_of first.old)) (R.remaining (device_of first.new))
+        (S.remaining (device_of second.old)) (S.remaining (device_of second.new)))
+        (StopsSide model (R.remaining (device_of first.old)) (R.remaining (device_of first.new))
+        (S.remaining (device_of second.old)) (S.remaining (device_of second.new))) }
     ensures counts { CountsSides (λ old new. failures_of new ≡ failures_of old) HasFailed
-        (λ old new. failures_of new ≡ failures_of old) HasFailed result r.old r.new s.old s.new }
+        (λ old new. failures_of new ≡ failures_of old) HasFailed result first.old first.new second.old second.new }
 {
-    same_bytes(model, r, s)
+    same_bytes(model, first, second)
 }
 
 /// Whether two formats have equal types in this data model, and print equal bytes for all
 /// arguments. Where a text is refused, the first text's refusal is returned if it has one. It takes
 /// no memory.
-pub fn same_text(model: Model, f: &[u8], g: &[u8]) -> Result<bool, (Side, Refusal)>
-    ensures { MatchResult result (AreTextsSame model f.now g.now) (TextStops f.now g.now) }
+pub fn same_text(model: Model, first: &[u8], second: &[u8]) -> Result<bool, (Side, Refusal)>
+    ensures { MatchResult result (AreTextsSame model first.now second.now) (TextStops first.now second.now) }
 {
-    if are_equal(f, g) {
-        return same_itself(model, f);
+    if are_equal(first, second) {
+        return same_itself(first);
     }
-    let common = common_len(f, g);
-    if common == 0 && f.first() != g.first() {
-        if let Some(answer) = compare_verbatim(model, f, g) {
+    let common = common_len(first, second);
+    if common == 0 && first.first() != second.first() {
+        if let Some(answer) = compare_verbatim(model, first, second) {
             return answer;
         }
     }
-    same_after_common(model, f, g, common)
+    same_after_common(model, first, second, common)
 }
 
-// Compares a text with itself, by reading it once.
-fn same_itself(model: Model, text: &[u8]) -> Result<bool, (Side, Refusal)>
-    ensures { MatchResult result (AreTextsSame model text.now text.now)
+// Compares a text with itself: it is accepted, or refused.
+fn same_itself(text: &[u8]) -> Result<bool, (Side, Refusal)>
+    ensures { (model : ModelOf) → MatchResult result (AreTextsSame model text.now text.now)
         (TextStops text.now text.now) }
 {
-    match finish_rest(Transducer::new(model), text) {
+    match check(text) {
         Ok(()) => Ok(true),
         Err(refusal) => Err((Side::First, refusal)),
     }
 }
 
 // Compares two texts if already their verbatim bytes differ.
-fn compare_verbatim(model: Model, f: &[u8], g: &[u8]) -> Option<Result<bool, (Side, Refusal)>>
+fn compare_verbatim(
+    model: Model,
+    first: &[u8],
+    second: &[u8],
+) -> Option<Result<bool, (Side, Refusal)>>
     ensures { IfSome result (λ answer.
-        MatchResult answer (AreTextsSame model f.now g.now) (TextStops f.now g.now)) }
+        MatchResult answer (AreTextsSame model first.now second.now) (TextStops first.now second.now)) }
 {
-    let (first, first_len) = Transducer::after_verbatim(model, f);
-    let (second, second_len) = Transducer::after_verbatim(model, g);
+    let (first_rest, first_len) = Transducer::after_verbatim(model, first);
+    let (second_rest, second_len) = Transducer::after_verbatim(model, second);
     let both = first_len.min(second_len);
-    if are_equal(&f[..both], &g[..both]) {
+    if are_equal(&first[..both], &second[..both]) {
         return None;
     }
-    if let Err(refusal) = finish_rest(first, &f[first_len..]) {
+    if let Err(refusal) = finish_rest(first_rest, &first[first_len..]) {
         return Some(Err((Side::First, refusal)));
     }
-    if let Err(refusal) = finish_rest(second, &g[second_len..]) {
+    if let Err(refusal) = finish_rest(second_rest, &second[second_len..]) {
         return Some(Err((Side::Second, refusal)));
     }
     Some(Ok(false))
@@ -86,19 +91,19 @@ fn compare_verbatim(model: Model, f: &[u8], g: &[u8]) -> Option<Result<bool, (Si
 // Compares two texts whose first `common` bytes are equal. These are read once.
 fn same_after_common(
     model: Model,
-    f: &[u8],
-    g: &[u8],
+    first: &[u8],
+    second: &[u8],
     common: usize,
 ) -> Result<bool, (Side, Refusal)>
-    requires { AreCommon f.now g.now common }
-    ensures { MatchResult result (AreTextsSame model f.now g.now) (TextStops f.now g.now) }
+    requires { AreCommon first.now second.now common }
+    ensures { MatchResult result (AreTextsSame model first.now second.now) (TextStops first.now second.now) }
 {
-    let (mut first, mut second) = slices_of(model, f, g, common);
-    let same = go_in_step(&mut first, &mut second);
-    if let Err(refusal) = first.finish() {
+    let (mut first_slices, mut second_slices) = slices_of(model, first, second, common);
+    let same = go_in_step(&mut first_slices, &mut second_slices);
+    if let Err(refusal) = first_slices.finish() {
         return Err((Side::First, refusal));
     }
-    if let Err(refusal) = second.finish() {
+    if let Err(refusal) = second_slices.finish() {
         return Err((Side::Second, refusal));
     }
     Ok(same)
@@ -108,18 +113,18 @@ fn same_after_common(
 #[inline(always)]
 fn slices_of<'a>(
     model: Model,
-    f: &'a [u8],
-    g: &'a [u8],
+    first: &'a [u8],
+    second: &'a [u8],
     common: usize,
 ) -> (CanonicalSlices<'a>, CanonicalSlices<'a>)
-    requires { AreCommon f.now g.now common }
-    ensures { (given : Text) × SlicesHaveGiven model result.0 f.now given
-        × SlicesHaveGiven model result.1 g.now given }
+    requires { AreCommon first.now second.now common }
+    ensures { (given : Text) × SlicesHaveGiven model result.0 first.now given
+        × SlicesHaveGiven model result.1 second.now given }
 {
-    let (transducer, at) = Transducer::after_chunks(model, &f[..common]);
-    let first = CanonicalSlices::new(transducer, &f[at..]);
-    let second = CanonicalSlices::new(transducer, &g[at..]);
-    (first, second)
+    let (transducer, at) = Transducer::after_chunks(model, &first[..common]);
+    let first_slices = CanonicalSlices::new(transducer, &first[at..]);
+    let second_slices = CanonicalSlices::new(transducer, &second[at..]);
+    (first_slices, second_slices)
 }
 
 // Gives the bytes that two canonical texts have in common, and returns whether both ended there.

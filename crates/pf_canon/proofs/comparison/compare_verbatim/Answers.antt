@@ -9,7 +9,7 @@ use Rattle.pf_canon.proofs.comparison.compare_verbatim.Goals as goal
 
 pub returns-in-Err : goal.returns-in-Err
 returns-in-Err c =
-    let f = c.args.f.now in
+    let f = c.args.first.now in
     let n = c.after_verbatim-first_len.result.1 in
     let run = after_verbatim c.args.model c.after_verbatim-first_len.result.0 f n c.after_verbatim-first_len.ensures.model
     c.after_verbatim-first_len.ensures.kept in
@@ -18,8 +18,8 @@ returns-in-Err c =
 
 pub returns-in-Err-finish_rest : goal.returns-in-Err-finish_rest
 returns-in-Err-finish_rest c =
-    let f = c.args.f.now in
-    let g = c.args.g.now in
+    let f = c.args.first.now in
+    let g = c.args.second.now in
     let n = c.after_verbatim-first_len.result.1 in
     let m = c.after_verbatim-second_len.result.1 in
     let one = after_verbatim c.args.model c.after_verbatim-first_len.result.0 f n c.after_verbatim-first_len.ensures.model
@@ -34,8 +34,8 @@ returns-in-Err-finish_rest c =
 
 pub returns : goal.returns
 returns c =
-    let f = c.args.f.now in
-    let g = c.args.g.now in
+    let f = c.args.first.now in
+    let g = c.args.second.now in
     let n = c.after_verbatim-first_len.result.1 in
     let m = c.after_verbatim-second_len.result.1 in
     let one = after_verbatim c.args.model c.after_verbatim-first_len.result.0 f n c.after_verbatim-first_len.ensures.model
