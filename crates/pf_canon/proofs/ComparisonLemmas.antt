@@ -1,45 +1,14 @@
 -- Two texts that are compared.
-use Rattle.std.proofs.Common.{
-  Some,
-  ◌≡◌,
-  ℕ,
-  ◌+◌,
-  ◌≤◌,
-  ◌++◌,
-  length,
-  take,
-  drop,
-  sym,
-  ap,
-  ◌∙◌,
-  ◌≢◌,
-  ◌<◌,
-  Bool,
-  true,
-  false,
-  [],
-  ◌∷◌,
-  List,
-  None,
-  Result,
-  Ok,
-  Err,
-  refl,
-  subst,
-  arith,
-  inl,
-  inr,
-}
+use Rattle.std.proofs.Common.{Some, ◌≡◌, ℕ, ◌+◌, ◌≤◌, ◌++◌, length, take, drop, sym, ap, ◌∙◌, ◌≢◌, ◌<◌, Bool, true, false, [], ◌∷◌, None, Result, Ok, Err, refl, subst, arith, inl, inr}
 use Rattle.std.proofs.Math.Seq.{take-add}
-use Rattle.std.proofs.lemmas.List.{take-append-le, append-nil, append_assoc, append_cancel_left, length-append, length-take, take-append-drop, take-take}
-use Rattle.std.specs.Prelude.{MatchBool, ◌⊎◌}
+use Rattle.std.proofs.lemmas.List.{take-append-le, append-nil, append_assoc, append_cancel_left, length-append, length-take, take-append-drop}
+use Rattle.std.specs.Prelude.{◌⊎◌}
 use Rattle.std.specs.Io.KnownBytes.{Consumes}
 use Rattle.pf_canon.proofs.SomeCanonical.{some_canonical}
 use Rattle.pf_values.specs.meaning.Items.{IsAccepted}
 use Rattle.pf_values.specs.meaning.Text.{Text}
 use Rattle.pf_values.specs.declared.models.Model.{Model}
 use Rattle.pf_values.specs.Counting.{Known}
-use Rattle.pf_values.specs.meaning.Items.{Item}
 use Rattle.pf_probes.proofs.Unique.{equivalent_formats_one}
 use Rattle.pf_canon.specs.Output.{IsFrontOf}
 use Rattle.pf_canon.specs.Comparison.{
@@ -67,7 +36,7 @@ use Rattle.pf_canon.proofs.ByteTransducerLemmas.{ending, fault_later, read_in, r
 use Rattle.pf_canon.proofs.EquivalentTexts.{equivalent_by}
 use Rattle.pf_canon.proofs.SliceLemmas.{none_both}
 use Rattle.pf_canon.specs.declared.transducer.Transducer.{Transducer}
-use Rattle.pf_canon.specs.Transducer.{IsThrough, IsUpTo}
+use Rattle.pf_canon.specs.Transducer.{IsUpTo}
 use Rattle.pf_canon.specs.CanonicalSlices.{AreApart, GoInStep, IsMidway, IsTakenWhole, IsAcceptedAs, pending_of}
 use Rattle.pf_canon.specs.declared.canonical_slices.CanonicalSlices.{CanonicalSlices}
 
@@ -268,19 +237,6 @@ begun_both model r f g out common at both same h = (
       (take common f) out common at (sym both.same) same h,
 )
 
-pub told_other : (A B : Type 0) (b : Bool) → b ≡ false → MatchBool b A B → B
-told_other A B false e h = h
-told_other A B true e h = absurd cc
-
--- the transducer took verbatim bytes
-pub after_verbatim : (model : Model) (r : Transducer) (t : Text) (n : ℕ) → r.model ≡ model → IsUpTo r t n (take n t) → (items : List Item)
-    × IsThrough model r (take n t) items (take n t)
-after_verbatim model r t n e h = (h.1, subst (λ m. IsThrough m r (take n t) h.1 (take n t)) e h.2)
-
-verbatim_front : (t more : Text) (n both : ℕ) → both ≤ n → n ≤ length t → take both (take n t ++ more) ≡ take both t
-verbatim_front t more n both h within =
-    take-append-le both (take n t) more (omega (arith, h, within, length-take n t)) ∙ take-take both n t h
-
 -- their canonical texts differ
 unlike_told : (model : Model) (f g c d : Text) → c ≢ d → IsAcceptedAs model f c → IsAcceptedAs model g d → AreTextsSame model f g false
 unlike_told model f g c d unlike h k = record {
@@ -290,13 +246,6 @@ unlike_told model f g c d unlike h k = record {
   second_canonical = (d, k.1);
   same = (λ is. absurd (cc), λ e. absurd (unlike (equivalent_formats_one model f g c d e h.1 k.1)));
 }
-
--- their verbatim bytes differ
-pub verbatim_differ : (model : Model) (f g more other : Text) (n m both : ℕ) → both ≤ n → both ≤ m → n ≤ length f → m ≤ length g → take both f ≢ take both g
-    → IsAcceptedAs model f (take n f ++ more) → IsAcceptedAs model g (take m g ++ other) → AreTextsSame model f g false
-verbatim_differ model f g more other n m both first second within also apart h k =
-    unlike_told model f g (take n f ++ more) (take m g ++ other) (λ e. apart (sym (verbatim_front f more n both first within) ∙ ap (take both) e
-    ∙ verbatim_front g other m both second also)) h k
 
 module _ (model : Model) (f g given w v : Text) where
   -- both canonical texts are equal

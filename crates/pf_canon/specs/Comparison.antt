@@ -1,7 +1,7 @@
 -- What two texts that are compared have come to. This project's own.
 use Rattle.std.specs.Prelude.{◌≡◌, ◌≢◌, ℕ, [], ◌++◌, length, take, Option, Some, None, ◌⊎◌, ◌≤◌, ◌<◌, Bool, ◌∷◌, Result, Ok, Err, ◌↔◌, IsTrue}
 use Rattle.std.specs.Io.KnownBytes.{Consumes, IsAtEnd}
-use Rattle.pf_values.specs.meaning.Text.{Text}
+use Rattle.pf_values.specs.meaning.Text.{Text, percent}
 use Rattle.pf_values.specs.declared.models.Model.{Model}
 use Rattle.pf_values.specs.meaning.Canonical.{IsCanonicalOf}
 use Rattle.pf_values.specs.Counting.{Known}
@@ -33,6 +33,14 @@ HaveCommon t u (Some count) =
     × (count ≡ 0 → (t ≡ []) × (u ≡ []))
 HaveCommon t u None =
     ((t ≢ []) ⊎ (u ≢ [])) × ((t ≡ []) ⊎ (u ≡ []) ⊎ ((x y : Text) → t ++ x ≢ u ++ y))
+
+-- Two texts begin with ordinary characters that differ, or one does and the other is empty
+-- (C11 7.21.6.1 p3).
+abbrev pub BeginApart : Text → Text → Type 0
+BeginApart [] [] = ⊥
+BeginApart [] (y ∷ u) = y ≢ percent
+BeginApart (x ∷ t) [] = x ≢ percent
+BeginApart (x ∷ t) (y ∷ u) = (x ≢ y) × (x ≢ percent) × (y ≢ percent)
 
 -- a text has a canonical text
 abbrev pub HasCanonical : Model → Text → Type 0

@@ -8,7 +8,8 @@ ghost use Rattle.pf_canon.specs.CanonicalBytes.{AnswerLeaves, History, IsFilled,
 ghost use Rattle.pf_canon.specs.CanonicalSlices.{AreApart, GoInStep, SlicesHaveGiven};
 
 use crate::canonical_bytes::{ByteSource, ByteTransducer};
-use crate::canonical_slices::{CanonicalSlices, finish_rest};
+use crate::canonical_slices::CanonicalSlices;
+use crate::early_difference::differ_after;
 use crate::faults::{SideFault, StreamFault};
 use crate::transducer::Transducer;
 use pf_text::{Refusal, Side, check};
@@ -44,11 +45,9 @@ pub fn same_text(model: Model, first: &[u8], second: &[u8]) -> Result<bool, (Sid
     if are_equal(first, second) {
         return same_itself(first);
     }
-    let common = common_len(first, second);
-    if common == 0 && first.first() != second.first() {
-        if let Some(answer) = compare_verbatim(model, first, second) {
-            return answer;
-        }
+    let common = common_bytes(first, second);
+    if differ_after(first, second, common) {
+        return Ok(false);
     }
     same_after_common(model, first, second, common)
 }
@@ -62,30 +61,6 @@ fn same_itself(text: &[u8]) -> Result<bool, (Side, Refusal)>
         Ok(()) => Ok(true),
         Err(refusal) => Err((Side::First, refusal)),
     }
-}
-
-// Compares two texts if already their verbatim bytes differ.
-fn compare_verbatim(
-    model: Model,
-    first: &[u8],
-    second: &[u8],
-) -> Option<Result<bool, (Side, Refusal)>>
-    ensures { IfSome result (λ answer.
-        MatchResult answer (AreTextsSame model first.now second.now) (TextStops first.now second.now)) }
-{
-    let (first_rest, first_len) = Transducer::after_verbatim(model, first);
-    let (second_rest, second_len) = Transducer::after_verbatim(model, second);
-    let both = first_len.min(second_len);
-    if are_equal(&first[..both], &second[..both]) {
-        return None;
-    }
-    if let Err(refusal) = finish_rest(first_rest, &first[first_len..]) {
-        return Some(Err((Side::First, refusal)));
-    }
-    if let Err(refusal) = finish_rest(second_rest, &second[second_len..]) {
-        return Some(Err((Side::Second, refusal)));
-    }
-    Some(Ok(false))
 }
 
 // Compares two texts whose first `common` bytes are equal. These are read once.
@@ -275,19 +250,8 @@ fn drain_both<A: ByteSource, B: ByteSource>(
 // How many bytes are compared at once.
 const LANES: usize = 16;
 
-/// How many bytes two texts begin with in common. A few aren't worth being taken by themselves,
-/// where the first text goes on.
-pub(crate) fn common_len(x: &[u8], y: &[u8]) -> usize
-    ensures { AreCommon x.now y.now result }
-{
-    let common = common_bytes(x, y);
-    if common < LANES.min(x.len()) {
-        return 0;
-    }
-    common
-}
-
-fn common_bytes(x: &[u8], y: &[u8]) -> usize
+/// How many bytes two texts begin with in common.
+pub(crate) fn common_bytes(x: &[u8], y: &[u8]) -> usize
     ensures { AreCommon x.now y.now result }
 {
     let most = x.len().min(y.len());

@@ -7,6 +7,7 @@ mod canonical_texts;
 mod chunk;
 mod comparison;
 mod copy;
+mod early_difference;
 mod faults;
 pub mod laws;
 pub mod limits;
