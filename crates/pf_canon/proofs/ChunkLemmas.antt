@@ -33,7 +33,7 @@ use Rattle.std.proofs.Common.{
   inr,
 }
 use Rattle.std.proofs.Math.Seq.{take-add}
-use Rattle.std.proofs.lemmas.List.{append-nil, append_assoc, length-append, length-drop, length-take, length-take-le, take_all, take-append-drop}
+use Rattle.std.proofs.lemmas.List.{append-nil, append_assoc, length-append, length-take, length-take-le, take_all, take-append-drop}
 use Rattle.pf_values.specs.declared.models.Model.{Model}
 use Rattle.pf_values.specs.declared.refusals.RefusalKind.{RefusalKind}
 use Rattle.pf_values.specs.meaning.Items.{Item, Byte, Directive, Reads}
@@ -57,9 +57,9 @@ use Rattle.pf_canon.specs.Making.{IsMaking}
 use Rattle.pf_canon.specs.Output.{output_text}
 use Rattle.pf_canon.specs.Transducer.{
   GrowsByChunk,
-  HasScannedDirective,
   HasScannedByte,
   IsThrough,
+  TakesDirective,
   TakesVerbatim,
   TakesText,
   RefusesChunk,
@@ -163,29 +163,47 @@ fed_made model r new t out text items verbatim_len at step output f same scanner
           (sym (first_alone text at f.byte f.first)) g.through));
     }
 
--- and so has a directive that was taken whole
-pub directive_made : (model : Model) (r new : Transducer) (t out text : Text) (items : List Item) (verbatim_len at len : ℕ) (d : Specification)
-    (output : Output) → 0 < len → at + len ≤ length text → (f : HasScannedDirective model r t items (out ++ take verbatim_len text) text at len d)
-    → new.model ≡ r.model → new.scanner ≡ r.scanner
+-- a directive that was taken whole
+pub directive_taken : (model : Model) (r new : Transducer) (t out text : Text) (items : List Item) (len : ℕ) (d : Specification) (output : Output) → 0 < len
+    → len ≤ length text → IsThrough model r t items out → new.model ≡ r.model → scanned.TakesDirective t items text len new.scanner d
     → ((out : Text) (items rest : List Item) → SettlesDirective r.model d items rest out r.silents output new.silents) → new.silents ≤ r.silents + 1
     → length (output_text output) + 4 * new.silents ≤ 4 * r.silents + most_len (Directive d ∷ [])
-    → GrowsByChunk model t out text (record { verbatim_len = verbatim_len; start = at; len = at + len; item_output = outputs.Output output }) new
-directive_made model r new t out text items verbatim_len at len d output some within f same scanner settles one short =
-    let w = f.held in
-    let o = out ++ take verbatim_len text in
-    let bytes = take len (drop at text) in
+    → TakesDirective model t out text len (output_text output) new
+directive_taken model r new t out text items len d output some within h same takes settles one short =
     let more = items ++ Directive d ∷ [] in
-    let long : 1 ≤ length bytes = omega (arith, some, within, length-drop at text, length-take len (drop at text)) in
-    let whole : (t ++ take at text) ++ bytes ≡ t ++ take (at + len) text = append_assoc t (take at text) bytes
-    ∙ ap (λ u. t ++ u) (sym (take-add at len text)) in
-    let g = directive_grown model f.before new (t ++ take at text) bytes o (output_text output) items d f.through (same ∙ f.model_is)
-    (rw scanner f.takes.after) long
-    (rw (f.model_is ∙ f.through.model_is, w) at settles o more []) (omega (arith, one, w)) (rw w at short) in
+    let long : 1 ≤ length (take len text) = omega (arith, some, within, length-take len text) in
     record {
       items = more;
-      through = subst (IsThrough model new (t ++ take (at + len) text) more)
-          (append_assoc out (take verbatim_len text) (output_text output)) (subst (λ u. IsThrough model new u more (o ++ output_text output)) whole g);
+      through = directive_grown model r new t (take len text) out (output_text output) items d h same takes.after long (rw h.model_is at settles out more [])
+          one short;
     }
+
+-- a chunk that ends with a directive
+pub directive_made : (model : Model) (new : Transducer) (t out text : Text) (verbatim_len at len : ℕ) (output : Output)
+    → TakesDirective model (t ++ take at text) (out ++ take verbatim_len text) (drop at text) len (output_text output) new
+    → GrowsByChunk model t out text (record { verbatim_len = verbatim_len; start = at; len = at + len; item_output = outputs.Output output }) new
+directive_made model new t out text verbatim_len at len output h =
+    let o = out ++ take verbatim_len text in
+    let whole : (t ++ take at text) ++ take len (drop at text) ≡ t ++ take (at + len) text =
+    append_assoc t (take at text) (take len (drop at text)) ∙ ap (λ u. t ++ u) (sym (take-add at len text)) in
+    record {
+      items = h.items;
+      through = subst (IsThrough model new (t ++ take (at + len) text) h.items) (append_assoc out (take verbatim_len text) (output_text output))
+          (subst (λ u. IsThrough model new u h.items (o ++ output_text output)) whole h.through);
+    }
+
+-- verbatim bytes and a directive that were taken one after another
+pub items_taken : (model : Model) (mid new : Transducer) (text out settled : Text) (at run len : ℕ)
+    → TakesVerbatim model (take at text) out (drop at text) run mid
+    → ((t out : Text) (items : List Item) → IsThrough model mid t items out → TakesDirective model t out (drop (at + run) text) len settled new)
+    → (now : List Item) × IsThrough model new (take (at + run + len) text) now (out ++ (take run (drop at text) ++ settled))
+items_taken model mid new text out settled at run len v d =
+    let mid_through = subst (λ u. IsThrough model mid u v.items (out ++ take run (drop at text))) (sym (take-add at run text)) v.through in
+    let h = d (take (at + run) text) (out ++ take run (drop at text)) v.items mid_through in (
+      h.items,
+      subst (IsThrough model new (take (at + run + len) text) h.items) (append_assoc out (take run (drop at text)) settled)
+          (subst (λ u. IsThrough model new u h.items ((out ++ take run (drop at text)) ++ settled)) (sym (take-add (at + run) len text)) h.through),
+    )
 
 -- and a normal directive that is spelled as it should be is verbatim
 pub normal_kept : (model : Model) (old new : Transducer) (t out text : Text) (items : List Item) (len : ℕ) (d : Specification) → 0 < len → len ≤ length text

@@ -176,15 +176,11 @@ pub record HasScannedByte (model : Model) (r : Transducer) (t : Text) (items : L
   pub held : r.silents ≡ before.silents
   pub takes : scanned.Takes (t ++ take at text) items byte step r.scanner
 
--- The scanner took the text up to the offset `at`, and then `len` bytes more, which are a directive.
--- Nothing is settled by that yet.
-pub record HasScannedDirective (model : Model) (r : Transducer) (t : Text) (items : List Item)
-    (out text : Text) (at len : ℕ) (d : Specification) : Type 0 where
-  pub before : Transducer
-  pub through : IsThrough model before (t ++ take at text) items out
-  pub model_is : r.model ≡ before.model
-  pub held : r.silents ≡ before.silents
-  pub takes : scanned.TakesDirective (t ++ take at text) items (drop at text) len r.scanner d
+-- the first `len` bytes of a text were taken, which are a directive that settles `settled`
+pub record TakesDirective (model : Model) (t out text : Text) (len : ℕ) (settled : Text)
+    (new : Transducer) : Type 0 where
+  pub items : List Item
+  pub through : IsThrough model new (t ++ take len text) items (out ++ settled)
 
 -- a text was taken to its end, or is refused, and this is what its whole items settle
 abbrev pub TakesText : Model → Text → Text → Result Transducer Refusal → Type 0

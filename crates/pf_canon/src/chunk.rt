@@ -1,5 +1,5 @@
 //! A text taken chunk by chunk, and what each chunk settles put into a sink.
-ghost use Rattle.std.specs.Prelude.{◌++◌, MatchResult};
+ghost use Rattle.std.specs.Prelude.{◌≡◌, ◌++◌, MatchResult};
 ghost use Rattle.pf_values.specs.meaning.Refusals.{IsRefusedAt};
 ghost use Rattle.pf_values.specs.meaning.Text.{Text};
 ghost use Rattle.pf_canon.specs.Answers.{IsCanonicalFor};
@@ -34,7 +34,7 @@ pub(crate) struct ChunkRefusal {
 
 /// Takes the chunks of a text from `at` on and then its end, and puts what they settle.
 pub(crate) fn put_chunks<S: Sink>(
-    mut transducer: Transducer,
+    transducer: Transducer,
     text: &[u8],
     at: usize,
     sink: &mut S,
@@ -44,7 +44,7 @@ pub(crate) fn put_chunks<S: Sink>(
         × IsCanonicalFor (data_model_of transducer) text.now (out ++ more))
         (λ refusal. IsRefusedAt text.now refusal.kind refusal.at) }
 {
-    let mut at = at;
+    let (mut transducer, mut at) = put_items(transducer, text, at, sink);
     while at < text.len() {
         let rest = &text[at..];
         let chunk = match transducer.feed_chunk(rest) {
@@ -61,6 +61,37 @@ pub(crate) fn put_chunks<S: Sink>(
         }
         Err(refusal) => Err(refusal),
     }
+}
+
+// Takes verbatim bytes and whole directives of a text from `from` on as long as these follow each other,
+// and puts what they settle. Returns the transducer that took them, and the offset after them. Most
+// texts have nothing else.
+#[inline(always)]
+fn put_items<S: Sink>(
+    mut transducer: Transducer,
+    text: &[u8],
+    from: usize,
+    sink: &mut S,
+) -> (Transducer, usize)
+    ensures { (out : Text) → IsUpTo transducer text.now from out
+        → (more : Text) × S.given sink.old sink.new more
+        × (data_model_of result.0 ≡ data_model_of transducer)
+        × IsUpTo result.0 text.now result.1 (out ++ more) }
+{
+    let mut at = from;
+    while at < text.len() {
+        let run = transducer.pass_verbatim(&text[at..]);
+        sink.put(&text[at..at + run]);
+        at += run;
+        match transducer.take_directive(&text[at..]) {
+            Some((output, len)) => {
+                output.put(sink);
+                at += len;
+            }
+            None => break,
+        }
+    }
+    (transducer, at)
 }
 
 impl Chunk {

@@ -1,5 +1,5 @@
 //! A transducer of formats: it is fed a byte, a chunk or the end, and returns what that settles.
-ghost use Rattle.std.specs.Prelude.{◌≡◌, ◌+◌, ◌*◌, ◌<◌, ◌≤◌, ℕ, List, [], ◌∷◌, ◌++◌, length, take, IfOk, IsTrue, MatchResult, OnOk};
+ghost use Rattle.std.specs.Prelude.{◌≡◌, ◌+◌, ◌*◌, ◌<◌, ◌≤◌, ℕ, List, [], ◌∷◌, ◌++◌, length, take, IfOk, IfSome, IsTrue, MatchOption, MatchResult, OnOk};
 ghost use Rattle.pf_values.specs.declared.limits.TheConstants.{MAX_TEXT_LEN};
 ghost use Rattle.pf_values.specs.meaning.Items.{Item};
 ghost use Rattle.pf_values.specs.meaning.Spelling.{spelling_of};
@@ -8,7 +8,7 @@ ghost use Rattle.pf_text.specs.History.{offset_of};
 ghost use Rattle.pf_canon.specs.Answers.{most_len};
 ghost use Rattle.pf_canon.specs.declared.limits.TheConstants.{MAX_DIRECTIVE_LEN};
 ghost use Rattle.pf_canon.specs.Output.{output_text};
-ghost use Rattle.pf_canon.specs.Transducer.{SettlesEnd, GrowsByChunk, HasScannedDirective, HasScannedByte, IsChunkWithin, IsThrough, IsUpTo, TakesVerbatim, TakesText, Settles, TakesByte, SettlesDirective, TakesChunk, chunk_output_text, byte_output_text, data_model_of, more_of, scanner_of, held_silents_of};
+ghost use Rattle.pf_canon.specs.Transducer.{SettlesEnd, GrowsByChunk, HasScannedByte, IsChunkWithin, IsThrough, IsUpTo, TakesVerbatim, TakesText, Settles, TakesByte, SettlesDirective, TakesChunk, TakesDirective, chunk_output_text, byte_output_text, data_model_of, more_of, scanner_of, held_silents_of};
 
 use crate::chunk::{Chunk, ChunkRefusal};
 use crate::output::{Output, StepOutput};
@@ -170,8 +170,13 @@ impl Transducer {
             ≤ 4 * held_silents_of self.old + MAX_DIRECTIVE_LEN * chunk.len) }
     {
         let mut at = self.pass_silents(text, verbatim_len);
-        if let Some((directive, len)) = self.scanner.pass_directive(&text[at..]) {
-            return Ok(self.end_directive(text, verbatim_len, at, len, &directive));
+        if let Some((output, len)) = self.take_directive(&text[at..]) {
+            return Ok(Chunk {
+                verbatim_len,
+                start: at,
+                len: at + len,
+                item_output: StepOutput::Output(output),
+            });
         }
         while at < text.len() {
             match self.scanner.feed(text[at]) {
@@ -271,34 +276,21 @@ impl Transducer {
         }
     }
 
-    // The chunk that ends with a directive, which the scanner took as `len` bytes from `at` on.
+    /// Takes the whole directive at the front of a text, and returns what it settles and how many bytes
+    /// it has. It takes none where `Scanner::pass_directive` doesn't.
     #[inline(always)]
-    fn end_directive(
-        &mut self,
-        text: &[u8],
-        verbatim_len: usize,
-        at: usize,
-        len: usize,
-        directive: &Directive,
-    ) -> Chunk
-        requires verbatim_len { verbatim_len ≤ at }
-        requires some { 0 < len }
-        requires len { at + len ≤ length text.now }
+    pub(crate) fn take_directive(&mut self, text: &[u8]) -> Option<(Output, usize)>
         ensures fed { (model : Model) (t out : Text) (items : List Item)
-            → HasScannedDirective model self.old t items (out ++ take verbatim_len text.now)
-            text.now at len directive.now → GrowsByChunk model t out text.now result self.new }
-        ensures within { IsChunkWithin result text.now }
-        ensures verbatim_len { result.verbatim_len ≡ verbatim_len }
-        ensures len { result.len ≡ at + len }
-        ensures few { length (chunk_output_text result text.now) + 4 * held_silents_of self.new
-            ≤ 4 * held_silents_of self.old + (verbatim_len + MAX_DIRECTIVE_LEN) }
+            → IsThrough model self.old t items out
+            → IfSome result (λ front.
+            TakesDirective model t out text.now front.1 (output_text front.0) self.new) }
+        ensures within { MatchOption result (self.new ≡ self.old)
+            (λ front. (0 < front.1) × (front.1 ≤ length text.now)) }
+        ensures few { IfSome result (λ front. length (output_text front.0) + 4 * held_silents_of self.new
+            ≤ 4 * held_silents_of self.old + MAX_DIRECTIVE_LEN) }
     {
-        Chunk {
-            verbatim_len,
-            start: at,
-            len: at + len,
-            item_output: StepOutput::Output(self.settle_directive(directive)),
-        }
+        let (directive, len) = self.scanner.pass_directive(text)?;
+        Some((self.settle_directive(&directive), len))
     }
 
     /// A transducer that took a text after what this one took, or why that is refused.

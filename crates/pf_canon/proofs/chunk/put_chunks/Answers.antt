@@ -1,5 +1,5 @@
-use Rattle.std.proofs.Common.{◌+◌, ◌≤◌, [], ◌++◌, arith, length, take, drop, refl, subst}
-use Rattle.std.proofs.lemmas.List.{append-nil, append_assoc, length-drop, take_all, take_rest}
+use Rattle.std.proofs.Common.{◌+◌, ◌≤◌, ◌++◌, arith, length, take, drop, refl, subst}
+use Rattle.std.proofs.lemmas.List.{append_assoc, length-drop, take_all, take_rest}
 use Rattle.pf_canon.specs.Answers.{IsCanonicalFor}
 use Rattle.pf_canon.specs.Output.{output_text}
 use Rattle.pf_canon.specs.Transducer.{IsThrough, chunk_output_text}
@@ -7,7 +7,12 @@ use Rattle.pf_canon.proofs.TextLemmas.{all_built, built_more, refused_at}
 use Rattle.pf_canon.proofs.chunk.put_chunks.Goals as goal
 
 pub loop-at-init : goal.loop-at-init
-loop-at-init g c = record { through = λ out up. ([], g.met.S.Sink.laws.none c.args.sink.now, up.0, up.1, rw (append-nil out) up.2) }
+loop-at-init g c = record {
+  through = λ out up.
+      let i = c.put_items-at.ensures out up in
+      let now = c.put_items-at.result in
+      (i.0, i.1, i.3.0, i.3.1, subst (λ m. IsThrough m now.0 (take now.1 c.args.text.now) i.3.1 (out ++ i.0)) i.2 i.3.2);
+}
 
 pub loop-at-preserved : goal.loop-at-preserved
 loop-at-preserved g c = record {

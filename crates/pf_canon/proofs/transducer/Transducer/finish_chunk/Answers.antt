@@ -1,21 +1,20 @@
 use Rattle.std.proofs.Common.{[], arith, get_or, refl, ◌++◌, sym, take, subst}
 use Rattle.std.proofs.lemmas.List.{drop_more, length-append, length-take-le, take_rest}
 use Rattle.pf_canon.specs.Transducer.{HasScannedByte, IsThrough}
-use Rattle.pf_canon.proofs.ChunkLemmas.{all_inside, inside, one_more, refused_in}
+use Rattle.pf_canon.proofs.ChunkLemmas.{all_inside, directive_made, inside, one_more, refused_in}
 use Rattle.pf_canon.proofs.transducer.Transducer.finish_chunk.Goals as goal
 
 pub loop-at-init : goal.loop-at-init
 loop-at-init c =
-    let passed = c.pass_silents-at.new.self in
     record {
       verbatim_len = c.pass_silents-at.ensures.within.0;
       within = c.pass_silents-at.ensures.within.1;
-      few = c.pass_silents-at.ensures.few;
+      few = rw (sym c.in_default.ensures.within) at c.pass_silents-at.ensures.few;
       through = λ model t out items h.
           let s = c.pass_silents-at.ensures.kept model t _ items h in (
             s.0,
-            subst (λ scanner. IsThrough model (record passed { scanner = scanner }) (t ++ take c.pass_silents-at.result c.args.text.now) s.0
-                (out ++ take c.args.verbatim_len c.args.text.now)) (sym c.in_default.ensures.within) s.1,
+            subst (λ r. IsThrough model r (t ++ take c.pass_silents-at.result c.args.text.now) s.0 (out ++ take c.args.verbatim_len c.args.text.now))
+                (sym c.in_default.ensures.within) s.1,
           );
     }
 
@@ -23,8 +22,8 @@ pub returns-in-Some-clause-fed : goal.returns-in-Some-clause-fed
 returns-in-Some-clause-fed c model t out items h =
     let at = c.pass_silents-at.result in
     let s = c.pass_silents-at.ensures.kept model t _ items h in
-    let taken = rw take_rest at c.in-Some.ensures.passed (t ++ take at c.args.text.now) s.0 s.1.after in
-    c.end_directive.ensures.fed model t out s.0 (record { before = c.pass_silents-at.new.self; through = s.1; model_is = refl; held = refl; takes = taken })
+    directive_made model c.take_directive.new.self t out c.args.text.now c.args.verbatim_len at c.in-Some.len c.in-Some.output
+    (rw take_rest at c.in-Some.ensures.fed model (t ++ take at c.args.text.now) (out ++ take c.args.verbatim_len c.args.text.now) s.0 s.1)
 
 pub loop-at-preserved : goal.loop-at-preserved
 loop-at-preserved c =
