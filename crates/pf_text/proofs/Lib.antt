@@ -11,6 +11,8 @@ pub mod ReadBack
 pub mod LiteralLemmas
 pub mod CanonicalRunLemmas
 mod SearchLemmas
+mod MarkLemmas
+mod PlainLemmas
 pub mod PieceLemmas
 pub mod DirectiveLemmas
 pub mod SpecificationLemmas

@@ -48,9 +48,9 @@ fn directive_of_conv(conv: Conv) -> Option<(Directive, usize)>
     }
 }
 
-// The directive at the front of a text that begins with `%`.
+/// The directive at the front of a text that begins with `%`.
 #[inline(always)]
-fn directive_of_parts(text: &[u8]) -> Option<(Directive, usize)>
+pub(crate) fn directive_of_parts(text: &[u8]) -> Option<(Directive, usize)>
     requires { (1 ≤ length text.now) × (take 1 text.now ≡ percent ∷ []) }
     ensures { MatchOption result ⊤ (λ front. (0 < front.1) × (front.1 ≤ length text.now)
         × IsReadAs (take front.1 text.now) (items.Directive front.0)) }
