@@ -13,6 +13,7 @@ pub mod CanonicalRunLemmas
 mod SearchLemmas
 mod MarkLemmas
 mod PlainLemmas
+mod TypedLemmas
 pub mod PieceLemmas
 pub mod DirectiveLemmas
 pub mod SpecificationLemmas

@@ -9,6 +9,7 @@ mod letters;
 mod marks;
 mod pieces;
 mod plain;
+mod plain_types;
 mod refusals;
 mod scanner;
 mod search;
